@@ -1,0 +1,75 @@
+//! A group of registers, each of which keeps the bits of its mask.
+ghost use Rattle.std.specs.Prelude.{◌≡◌, ◌<◌, ◌≤◌, slice_index, slice_set, replicate, bit_and};
+ghost use Rattle.vga_bits.specs.Bits.{is_set, field as field_of};
+
+use std::marker::Model;
+
+/// N registers of a byte each. A register keeps the bits of its mask and reads the others as 0.
+///
+/// Contracts see a record of two lists: `masks`, and `values`, what each register holds.
+#[derive(Drop)]
+pub struct RegFile<const N: usize> {
+    masks: [u8; N],
+    values: [u8; N],
+}
+
+impl<const N: usize> Model for RegFile<N> {
+    ghost use Rattle.vga_bits.specs.RegFile.{Registers};
+
+    ghost Value = { Registers };
+
+    ghost view = { λ r. record { masks = r.masks; values = r.values } };
+}
+
+impl<const N: usize> RegFile<N> {
+    /// All registers 0, under these masks.
+    pub fn new(masks: [u8; N]) -> RegFile<N>
+        ensures masks { result.masks ≡ masks.entry }
+        ensures zeros { result.values ≡ replicate N 0 }
+    {
+        RegFile {
+            masks,
+            values: [0; N],
+        }
+    }
+
+    /// What register `i` holds; `i` is below N.
+    pub fn read(&self, i: usize) -> u8
+        requires { i < N }
+        ensures { result ≡ slice_index self.now.values i }
+    {
+        self.values[i]
+    }
+
+    /// Register `i`, below N, keeps the bits of `v` under its mask. The others stay.
+    pub fn write(&mut self, i: usize, v: u8)
+        requires { i < N }
+        ensures masks { self.new.masks ≡ self.old.masks }
+        ensures values { self.new.values ≡ slice_set self.old.values i (bit_and v (slice_index self.old.masks i)) }
+    {
+        let register = &mut self.values[i];
+        *register = v & self.masks[i];
+    }
+
+    /// Whether bit `b`, 0 to 7, of register `i` is 1.
+    pub fn bit(&self, i: usize, b: u32) -> bool
+        requires register { i < N }
+        requires place { b < 8 }
+        ensures { result ≡ is_set (slice_index self.now.values i) b }
+    {
+        (self.read(i) >> b) & 1 == 1
+    }
+
+    /// Bits `hi` to `lo` of register `i` as a number, where `lo` is at most `hi` and `hi` at most 7.
+    #[tactic(auto, using(crate::proofs::BitLemmas::field_mask))]
+    pub fn field(&self, i: usize, hi: u32, lo: u32) -> u8
+        requires register { i < N }
+        requires high { hi < 8 }
+        requires low { lo ≤ hi }
+        ensures { result ≡ field_of (slice_index self.now.values i) hi lo }
+    {
+        let shifted = self.read(i) >> lo;
+        let kept = 7 - (hi - lo);
+        shifted & (0xFF >> kept)
+    }
+}

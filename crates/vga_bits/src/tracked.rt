@@ -1,0 +1,113 @@
+//! A reader or a writer that remembers whether a call failed.
+ghost use Rattle.std.specs.Prelude.{◌≡◌, ◌||◌, is_err, false};
+ghost use Rattle.std.specs.Io.{ReadsAtMost, WritesAtMost};
+ghost use Rattle.std.specs.Io.KnownBytes.{ReadConsumes, WriteAppends, Keeps};
+ghost use Rattle.vga_bits.specs.Tracked.{inner_of, has_failed, write_fails, Writes};
+
+use super::fault::Fault;
+use std::io;
+use std::io::{Read, Write};
+
+/// A reader or a writer that knows whether one of its calls has failed.
+///
+/// Contracts see two things of it: the reader or writer itself, and whether a call has failed.
+#[derive(Drop)]
+pub struct Tracked<T> {
+    inner: T,
+    has_failed: bool,
+}
+
+impl<T> Tracked<T> {
+    /// A reader or writer of which no call has failed yet.
+    pub fn new(inner: T) -> Tracked<T>
+        ensures inner { inner_of result ≡ inner }
+        ensures failed { has_failed result ≡ false }
+    {
+        Tracked {
+            inner,
+            has_failed: false,
+        }
+    }
+
+    /// The reader or writer itself.
+    pub fn into_inner(self) -> T
+        ensures { result ≡ inner_of self }
+    {
+        let Tracked {
+            inner,
+            has_failed: _,
+        } = self;
+        inner
+    }
+
+    /// Whether a call has answered an error or, for a write of some bytes, has taken none of them.
+    pub fn failed(&self) -> bool
+        ensures { result ≡ has_failed self.now }
+    {
+        let Tracked { has_failed, .. } = self;
+        *has_failed
+    }
+}
+
+impl<T: Read> Read for Tracked<T> {
+    ghost remaining = { λ t. T.remaining (inner_of t) };
+
+    fn read(&mut self, buf: &mut [u8]) -> io::Result<usize>
+        ensures bound { ReadsAtMost result buf.new }
+        ensures bytes { ReadConsumes (T.remaining (inner_of self.old)) (T.remaining (inner_of self.new)) result buf.new }
+        ensures failed { has_failed self.new ≡ (has_failed self.old || is_err result) }
+    {
+        let answer = self.inner.read(buf);
+        if answer.is_err() {
+            self.has_failed = true;
+        }
+        answer
+    }
+}
+
+impl<T: Write> Write for Tracked<T> {
+    ghost contents = { λ t. T.contents (inner_of t) };
+
+    fn write(&mut self, buf: &[u8]) -> io::Result<usize>
+        ensures bound { WritesAtMost result buf.now }
+        ensures bytes { WriteAppends (T.contents (inner_of self.old)) (T.contents (inner_of self.new)) result buf.now }
+        ensures failed { has_failed self.new ≡ (has_failed self.old || write_fails result buf.now) }
+    {
+        let answer = self.inner.write(buf);
+        match &answer {
+            Ok(0) if !buf.is_empty() => self.has_failed = true,
+            Err(_) => self.has_failed = true,
+            Ok(_) => {}
+        }
+        answer
+    }
+
+    fn flush(&mut self) -> io::Result<()>
+        ensures bytes { Keeps (T.contents (inner_of self.old)) (T.contents (inner_of self.new)) }
+        ensures failed { has_failed self.new ≡ (has_failed self.old || is_err result) }
+    {
+        let answer = self.inner.flush();
+        if answer.is_err() {
+            self.has_failed = true;
+        }
+        answer
+    }
+}
+
+/// Writes all the bytes, by as many calls as the writer needs. It fails, with `WriteFault`, only where
+/// the writer does, which then has a front of the bytes.
+#[tactic(auto, using(crate::proofs::WritingLemmas::written_none, crate::proofs::WritingLemmas::written_more, crate::proofs::WritingLemmas::written_all, crate::proofs::WritingLemmas::written_front, crate::proofs::WritingLemmas::written_front_nothing))]
+pub fn write_whole<W: Write>(out: &mut Tracked<W>, bytes: &[u8]) -> Result<(), Fault>
+    requires { has_failed out.old ≡ false }
+    ensures { Writes (W.contents (inner_of out.old)) (W.contents (inner_of out.new)) (has_failed out.new) result bytes.now }
+{
+    let mut rest = bytes;
+    while !rest.is_empty() {
+        match out.write(rest) {
+            Ok(0) => return Err(Fault::WriteFault),
+            Ok(n) => rest = rest.split_at(n).1,
+            Err(_) => return Err(Fault::WriteFault),
+        }
+    }
+    Ok(())
+}
