@@ -1,0 +1,11 @@
+//! The display memory: four planes of 65,536 bytes, and the latches that hold one byte of each.
+#![tactic(auto)]
+
+pub mod latch;
+pub mod planes;
+
+pub use latch::Latch;
+pub use planes::{PlaneSet, Planes};
+
+#[cfg(test)]
+mod tests;
