@@ -1,0 +1,104 @@
+//! The place of an address, and the planes that a write there reaches.
+ghost use Rattle.std.specs.Prelude.{◌≡◌, ◌<◌, IsTrue};
+ghost use Rattle.std.specs.Option.{SomeIff};
+ghost use Rattle.vga_bits.specs.Bits.{is_set};
+ghost use Rattle.vga_host.specs.Address.{window_start, window_len, is_decoded, window_offset, plane_offset, is_addressed, is_reached};
+
+use super::Host;
+use super::fields::is_memory_enabled;
+use vga_planes::PlaneSet;
+
+impl Host {
+    /// The window's first address, and how many it has.
+    fn window(&self) -> (u32, u32)
+        ensures start { result.0 ≡ window_start self.now }
+        ensures len { result.1 ≡ window_len self.now }
+    {
+        match self.memory_map() {
+            0 => (0xA0000, 0x20000),
+            1 => (0xA0000, 0x10000),
+            2 => (0xB0000, 0x8000),
+            _ => (0xB8000, 0x8000),
+        }
+    }
+
+    /// Whether the display memory has an address; `misc` is the miscellaneous output register.
+    pub fn decodes(&self, address: u32, misc: u8) -> bool
+        ensures { result ≡ is_decoded self.now misc address }
+    {
+        let (start, len) = self.window();
+        is_memory_enabled(misc) && start <= address && address < start + len
+    }
+
+    /// The offset of an address in the window, where it is decoded.
+    pub(super) fn decoded(&self, address: u32, misc: u8) -> Option<u16>
+        ensures { SomeIff result (IsTrue (is_decoded self.now misc address)) (window_offset self.now address) }
+    {
+        if !self.decodes(address, misc) {
+            return None;
+        }
+        let (start, _) = self.window();
+        Some(((address - start) % 65536) as u16)
+    }
+
+    /// The offset in each plane of a place in the window.
+    pub(super) fn plane_offset(&self, place: u16) -> u16
+        ensures { result ≡ plane_offset self.now place }
+    {
+        if self.is_chain_four() {
+            place / 4 * 4
+        } else if self.is_chain_odd_even() {
+            place / 2 * 2
+        } else {
+            place
+        }
+    }
+
+    /// Whether the address bits let a write at a place in the window through to a plane.
+    fn is_addressed(&self, place: u16, plane: usize) -> bool
+        requires { plane < 4 }
+        ensures { result ≡ is_addressed self.now place plane }
+    {
+        let place = place as usize;
+        if self.is_chain_four() {
+            plane == place % 4
+        } else {
+            self.is_odd_even_off() || plane % 2 == place % 2
+        }
+    }
+
+    /// Whether a write at a place in the window reaches a plane.
+    fn is_reached(&self, place: u16, plane: usize) -> bool
+        requires { plane < 4 }
+        ensures { result ≡ is_reached self.now place plane }
+    {
+        self.is_in_map_mask(plane) && self.is_addressed(place, plane)
+    }
+
+    /// The planes that a write at a place in the window reaches.
+    pub(super) fn reached(&self, place: u16) -> PlaneSet
+        ensures plane0 { is_set result 0 ≡ is_reached self.now place 0 }
+        ensures plane1 { is_set result 1 ≡ is_reached self.now place 1 }
+        ensures plane2 { is_set result 2 ≡ is_reached self.now place 2 }
+        ensures plane3 { is_set result 3 ≡ is_reached self.now place 3 }
+    {
+        plane_set(
+            self.is_reached(place, 0),
+            self.is_reached(place, 1),
+            self.is_reached(place, 2),
+            self.is_reached(place, 3),
+        )
+    }
+}
+
+/// The set of the planes whose flags are true.
+fn plane_set(plane0: bool, plane1: bool, plane2: bool, plane3: bool) -> PlaneSet
+    ensures plane0 { is_set result 0 ≡ plane0 }
+    ensures plane1 { is_set result 1 ≡ plane1 }
+    ensures plane2 { is_set result 2 ≡ plane2 }
+    ensures plane3 { is_set result 3 ≡ plane3 }
+{
+    let low = u8::from(plane0) + 2 * u8::from(plane1);
+    let high = 4 * u8::from(plane2) + 8 * u8::from(plane3);
+    low + high
+}

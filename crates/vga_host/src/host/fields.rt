@@ -1,0 +1,176 @@
+//! The fields of the registers that the host path looks at, in the order of the registers.
+ghost use Rattle.std.specs.Prelude.{◌≡◌, ◌==◌, ◌<◌, ℕ};
+ghost use Rattle.std.specs.Int.{bit_at};
+ghost use Rattle.vga_host.specs.Fields.{is_memory_enabled as is_memory_enabled_of, is_eight_dots, is_in_map_mask, is_odd_even_off, is_chain_four, set_reset, is_set_reset_enabled, colour_compare, rotate_count, function_select, read_map_select, read_map_pair, write_mode, is_read_compare, is_odd_even_read, is_chain_odd_even, memory_map, is_compared, bit_mask};
+
+use super::Host;
+
+/// The sequencer's registers with fields that are looked at.
+mod sequencer {
+    pub(super) const CLOCKING_MODE: usize = 1;
+
+    pub(super) const MAP_MASK: usize = 2;
+
+    pub(super) const MEMORY_MODE: usize = 4;
+}
+
+/// The graphics controller's registers.
+mod graphics {
+    pub(super) const SET_RESET: usize = 0;
+
+    pub(super) const ENABLE_SET_RESET: usize = 1;
+
+    pub(super) const COLOUR_COMPARE: usize = 2;
+
+    pub(super) const DATA_ROTATE: usize = 3;
+
+    pub(super) const READ_MAP_SELECT: usize = 4;
+
+    pub(super) const GRAPHICS_MODE: usize = 5;
+
+    pub(super) const MISCELLANEOUS: usize = 6;
+
+    pub(super) const COLOUR_DONT_CARE: usize = 7;
+
+    pub(super) const BIT_MASK: usize = 8;
+}
+
+/// Whether the miscellaneous output register lets the display memory answer the processor.
+pub(super) fn is_memory_enabled(misc: u8) -> bool
+    ensures { result ≡ is_memory_enabled_of misc }
+{
+    (misc >> 1) & 1 == 1
+}
+
+impl Host {
+    /// Whether a character has eight dots, and not nine.
+    pub fn is_eight_dots(&self) -> bool
+        ensures { result ≡ is_eight_dots self.now }
+    {
+        self.seq.bit(sequencer::CLOCKING_MODE, 0)
+    }
+
+    /// Whether the map mask lets plane `plane` be written.
+    pub(super) fn is_in_map_mask(&self, plane: usize) -> bool
+        requires { plane < 4 }
+        ensures { result ≡ is_in_map_mask self.now plane }
+    {
+        self.seq.bit(sequencer::MAP_MASK, plane as u32)
+    }
+
+    /// Whether even and odd addresses are not kept apart on writes.
+    pub(super) fn is_odd_even_off(&self) -> bool
+        ensures { result ≡ is_odd_even_off self.now }
+    {
+        self.seq.bit(sequencer::MEMORY_MODE, 2)
+    }
+
+    /// Whether the two low bits of an address pick the plane.
+    pub(super) fn is_chain_four(&self) -> bool
+        ensures { result ≡ is_chain_four self.now }
+    {
+        self.seq.bit(sequencer::MEMORY_MODE, 3)
+    }
+
+    /// Whether the set/reset bit of a plane is 1.
+    pub(super) fn is_set_reset(&self, plane: usize) -> bool
+        requires { plane < 4 }
+        ensures { result ≡ (set_reset self.now plane == 1) }
+    {
+        self.gfx.bit(graphics::SET_RESET, plane as u32)
+    }
+
+    /// Whether, in write mode 0, a plane takes its set/reset bit.
+    pub(super) fn is_set_reset_enabled(&self, plane: usize) -> bool
+        requires { plane < 4 }
+        ensures { result ≡ is_set_reset_enabled self.now plane }
+    {
+        self.gfx.bit(graphics::ENABLE_SET_RESET, plane as u32)
+    }
+
+    /// Whether the bit that a plane is compared with is 1.
+    pub(super) fn is_colour_compare(&self, plane: usize) -> bool
+        requires { plane < 4 }
+        ensures { result ≡ (colour_compare self.now plane == 1) }
+    {
+        self.gfx.bit(graphics::COLOUR_COMPARE, plane as u32)
+    }
+
+    /// By how many places, 0 to 7, the byte written is rotated right.
+    pub(super) fn rotate_count(&self) -> u8
+        ensures { result ≡ rotate_count self.now }
+    {
+        self.gfx.field(graphics::DATA_ROTATE, 2, 0)
+    }
+
+    /// How data and latch are combined: 0 the data, 1 AND, 2 OR, 3 XOR.
+    pub(super) fn function_select(&self) -> u8
+        ensures { result ≡ function_select self.now }
+    {
+        self.gfx.field(graphics::DATA_ROTATE, 4, 3)
+    }
+
+    /// The plane that is read, 0 to 3.
+    pub(super) fn read_map_select(&self) -> u8
+        ensures { result ≡ read_map_select self.now }
+    {
+        self.gfx.field(graphics::READ_MAP_SELECT, 1, 0)
+    }
+
+    /// The pair of planes that is read where even and odd addresses are kept apart: 0 or 1.
+    pub(super) fn read_map_pair(&self) -> u8
+        ensures { result ≡ read_map_pair self.now }
+    {
+        self.gfx.field(graphics::READ_MAP_SELECT, 1, 1)
+    }
+
+    /// The write mode, 0 to 3.
+    pub(super) fn write_mode(&self) -> u8
+        ensures { result ≡ write_mode self.now }
+    {
+        self.gfx.field(graphics::GRAPHICS_MODE, 1, 0)
+    }
+
+    /// Whether a read compares colours.
+    pub(super) fn is_read_compare(&self) -> bool
+        ensures { result ≡ is_read_compare self.now }
+    {
+        self.gfx.bit(graphics::GRAPHICS_MODE, 3)
+    }
+
+    /// Whether even and odd addresses are kept apart on reads.
+    pub(super) fn is_odd_even_read(&self) -> bool
+        ensures { result ≡ is_odd_even_read self.now }
+    {
+        self.gfx.bit(graphics::GRAPHICS_MODE, 4)
+    }
+
+    /// Whether the lowest bit of an address picks a plane and not an offset.
+    pub(super) fn is_chain_odd_even(&self) -> bool
+        ensures { result ≡ is_chain_odd_even self.now }
+    {
+        self.gfx.bit(graphics::MISCELLANEOUS, 1)
+    }
+
+    /// Which addresses the display memory has, 0 to 3.
+    pub(super) fn memory_map(&self) -> u8
+        ensures { result ≡ memory_map self.now }
+    {
+        self.gfx.field(graphics::MISCELLANEOUS, 3, 2)
+    }
+
+    /// Whether a plane is compared.
+    pub(super) fn is_compared(&self, plane: usize) -> bool
+        requires { plane < 4 }
+        ensures { result ≡ is_compared self.now plane }
+    {
+        self.gfx.bit(graphics::COLOUR_DONT_CARE, plane as u32)
+    }
+
+    /// The bit mask: bit i of each plane may change where its bit i is 1.
+    pub(super) fn bit_mask(&self) -> u8
+        ensures { (i : ℕ) → bit_at result i ≡ bit_mask self.now i }
+    {
+        self.gfx.read(graphics::BIT_MASK)
+    }
+}
