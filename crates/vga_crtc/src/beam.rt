@@ -1,0 +1,119 @@
+//! The beam, and how it moves.
+ghost use Rattle.std.specs.Prelude.{◌≡◌, ◌⊎◌};
+
+use crate::registers::Registers;
+
+/// Where the beam is, and what it counts.
+#[derive(Clone, Copy, Debug, PartialEq, Eq)]
+pub struct Beam {
+    /// The number of the frame, 0 to 31.
+    pub frame: u8,
+    /// The line of the frame, 0 to 1024.
+    pub line: u16,
+    /// The character of the line, 0 to 259.
+    pub character: u16,
+    /// The dot of the character, 0 to 8.
+    pub dot: u8,
+    /// The counter of the first character of this line.
+    pub base: u16,
+    /// The scan line of the row of characters, 0 to 31.
+    pub scan: u8,
+    /// Under double scan, whether this line is the second of its scan line.
+    pub half: bool,
+    /// Whether line compare was reached in this frame.
+    pub split: bool,
+}
+
+impl Beam {
+    ghost use Rattle.vga_crtc.specs.Crtc.{first_dot};
+    ghost use Rattle.vga_crtc.specs.Beam.{IsBeam, started, next_row, next_line, dot};
+
+    /// The first dot of a frame, with nothing taken yet.
+    pub(crate) fn first_dot(frame: u8) -> Beam
+        ensures { result ≡ first_dot frame }
+    {
+        Beam {
+            frame,
+            line: 0,
+            character: 0,
+            dot: 0,
+            base: 0,
+            scan: 0,
+            half: false,
+            split: false,
+        }
+    }
+
+    /// Takes the start address and the first scan line, if a frame begins here.
+    pub(crate) fn take_start(&mut self, registers: &Registers)
+        requires { IsBeam self.old }
+        ensures value { self.new ≡ started registers.now self.old }
+        ensures place { IsBeam self.new }
+    {
+        if self.character == 0 && self.dot == 0 && self.line == 0 {
+            self.base = registers
+                .start_address()
+                .wrapping_add(registers.byte_panning() as u16);
+            self.scan = registers.preset_row_scan();
+            self.half = false;
+            self.split = false;
+        }
+    }
+
+    /// Counts a line that ends.
+    fn count_line(&mut self, registers: &Registers)
+        requires { IsBeam self.old }
+        ensures value { self.new ≡ next_row registers.now self.old }
+        ensures place { IsBeam self.new }
+    {
+        if self.line == registers.line_compare() {
+            self.base = 0;
+            self.scan = 0;
+            self.half = false;
+            self.split = true;
+        } else if registers.is_double_scan() && !self.half {
+            self.half = true;
+        } else if self.scan < registers.maximum_scan_line() {
+            self.half = false;
+            self.scan += 1;
+        } else {
+            self.half = false;
+            self.scan = 0;
+            self.base = self.base.wrapping_add(2 * registers.offset() as u16);
+        }
+    }
+
+    /// Moves to the first dot of the next line.
+    fn end_line(&mut self, registers: &Registers)
+        requires { IsBeam self.old }
+        ensures value { self.new ≡ next_line registers.now self.old }
+        ensures place { IsBeam self.new }
+    {
+        if self.line + 1 < registers.vertical_total() + 2 {
+            self.character = 0;
+            self.dot = 0;
+            self.count_line(registers);
+            self.line += 1;
+        } else {
+            *self = Beam::first_dot((self.frame + 1) % 32);
+        }
+    }
+
+    /// Moves by one dot, of a character `cw` dots wide.
+    pub(crate) fn step_dot(&mut self, registers: &Registers, cw: u8)
+        requires width { (cw ≡ 8) ⊎ (cw ≡ 9) }
+        requires place { IsBeam self.old }
+        ensures value { self.new ≡ dot cw registers.now self.old }
+        ensures place { IsBeam self.new }
+    {
+        self.take_start(registers);
+        if self.dot + 1 < cw {
+            self.dot += 1;
+        } else if self.character + 1 < registers.horizontal_total() as u16 + 5 {
+            self.dot = 0;
+            self.character += 1;
+        } else {
+            self.end_line(registers);
+        }
+    }
+}

@@ -1,0 +1,75 @@
+//! Dots, lines and frames.
+ghost use Rattle.std.specs.Prelude.{◌≡◌, ◌≤◌, ◌⊎◌};
+ghost use Rattle.vga_crtc.specs.Beam.{after_start, after_dot, after_dots};
+ghost use Rattle.vga_crtc.specs.Raster.{dots_in_line, dots_in_frame, IsLineTaken};
+
+use super::Crtc;
+
+impl Crtc {
+    /// Takes the start of a frame, if the beam is there: the start address with byte panning, and the
+    /// first scan line. Elsewhere nothing happens.
+    #[tactic(auto, unfolding(crate::specs::Beam::after_start))]
+    pub fn take_start(&mut self)
+        ensures { self.new ≡ after_start self.old }
+    {
+        self.beam.take_start(&self.registers);
+    }
+
+    /// Moves the beam by one dot; a character is `cw` dots wide, 8 or 9. Where a frame begins, its start
+    /// is taken first, so it makes no difference whether `take_start` was called before.
+    #[tactic(auto, unfolding(crate::specs::Beam::after_start, crate::specs::Beam::after_dot))]
+    pub fn step_dot(&mut self, cw: u8)
+        requires { (cw ≡ 8) ⊎ (cw ≡ 9) }
+        ensures moved { self.new ≡ after_dot self.old cw }
+        ensures started { self.new ≡ after_dot (after_start self.old) cw }
+    {
+        self.beam.step_dot(&self.registers, cw);
+    }
+
+    /// How many dots, at least one, lead to the next line; a character is `cw` dots wide, 8 or 9.
+    #[tactic(auto, unfolding(crate::specs::Raster::dots_in_line))]
+    pub fn dots_in_line(&self, cw: u8) -> u32
+        requires { (cw ≡ 8) ⊎ (cw ≡ 9) }
+        ensures value { result ≡ dots_in_line cw self.now.registers self.now.beam }
+        ensures at_most { result ≤ 2340 }
+    {
+        let characters = self.registers.horizontal_total() as u32 + 5;
+        let after = characters.saturating_sub(self.beam.character as u32 + 1);
+        after * cw as u32 + cw.saturating_sub(self.beam.dot + 1) as u32 + 1
+    }
+
+    /// How many dots, at least one, lead to the next frame; a character is `cw` dots wide, 8 or 9.
+    #[tactic(auto, unfolding(crate::specs::Raster::dots_in_frame))]
+    pub fn dots_in_frame(&self, cw: u8) -> u32
+        requires { (cw ≡ 8) ⊎ (cw ≡ 9) }
+        ensures value { result ≡ dots_in_frame cw self.now.registers self.now.beam }
+        ensures at_most { result ≤ 2398500 }
+    {
+        let line = (self.registers.horizontal_total() as u32 + 5) * cw as u32;
+        let lines = self.registers.vertical_total() + 2;
+        let after = lines.saturating_sub(self.beam.line + 1) as u32;
+        after * line + self.dots_in_line(cw)
+    }
+
+    /// Moves the beam by `n` dots, one at a time; a character is `cw` dots wide, 8 or 9.
+    #[tactic(auto, unfolding(crate::specs::Beam::after_dot, crate::specs::Beam::after_dots), using(crate::proofs::Dots::dots_none, crate::proofs::Dots::dots_more))]
+    fn step_dots(&mut self, cw: u8, n: u32)
+        requires { (cw ≡ 8) ⊎ (cw ≡ 9) }
+        ensures { self.new ≡ after_dots self.old cw n }
+    {
+        for _ in 0..n {
+            self.step_dot(cw);
+        }
+    }
+
+    /// Moves the beam dot by dot, at least one, until it is at the first dot of a line again; a character
+    /// is `cw` dots wide, 8 or 9.
+    #[tactic(auto, using(crate::proofs::Ends::line_taken))]
+    pub fn step_line(&mut self, cw: u8)
+        requires { (cw ≡ 8) ⊎ (cw ≡ 9) }
+        ensures { IsLineTaken cw self.old self.new }
+    {
+        let left = self.dots_in_line(cw);
+        self.step_dots(cw, left);
+    }
+}
