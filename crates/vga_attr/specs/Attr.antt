@@ -1,0 +1,57 @@
+-- The attribute controller: registers, index, and the flip-flop of its port.
+-- From the IBM PS/2 Hardware Interface Technical Reference, Video Subsystems, "Attribute Controller Registers"; which
+-- reserved bits a register keeps, and what the palette address source does to writes, is this adapter's choice.
+use Rattle.std.specs.Prelude.{ℕ, ◌&&◌, nat_lt, if◌then◌else◌, Bool, true, false, List, [], ◌∷◌, replicate, slice_index, slice_set, bit_and}
+use Rattle.vga_bits.specs.Bits.{is_set, field}
+
+pub record AttrState : Type 0 where
+  pub registers : List ℕ
+  pub index : ℕ
+  pub is_data : Bool
+
+-- the attribute controller at power-on: all is 0, and the next write is an index
+abbrev pub power_on_attr : AttrState
+power_on_attr = record { registers = replicate 21 0; index = 0; is_data = false }
+
+-- the bits that the registers keep: the sixteen of the palette, mode control, overscan, colour plane enable,
+-- horizontal panning, colour select
+abbrev pub attr_masks : List ℕ
+attr_masks =
+    0x3F ∷ 0x3F ∷ 0x3F ∷ 0x3F ∷ 0x3F ∷ 0x3F ∷ 0x3F ∷ 0x3F ∷ 0x3F ∷ 0x3F ∷ 0x3F ∷ 0x3F ∷ 0x3F ∷ 0x3F ∷ 0x3F ∷ 0x3F
+    ∷ 0xEF ∷ 0xFF ∷ 0x3F ∷ 0x0F ∷ 0x0F ∷ []
+
+-- the register that the index names
+abbrev pub register_of : AttrState → ℕ
+register_of a = field a.index 4 0
+
+-- whether the palette address source keeps a register from writes: a palette register, while the source is 1
+abbrev pub is_locked : AttrState → ℕ → Bool
+is_locked a i = nat_lt i 16 && is_set a.index 5
+
+-- whether a write is refused: it is data, and the index names no register
+abbrev pub is_refused_write : AttrState → Bool
+is_refused_write a = a.is_data && nat_lt 20 (register_of a)
+
+-- the registers after data is written
+abbrev pub registers_after : AttrState → ℕ → List ℕ
+registers_after a v =
+    if is_locked a (register_of a) then a.registers
+    else slice_set a.registers (register_of a) (bit_and v (slice_index attr_masks (register_of a)))
+
+-- the attribute controller after a write: data for the register of the index, or a new index; the next write is the other
+abbrev pub after_write : AttrState → ℕ → AttrState
+after_write a v =
+    if a.is_data then record a { registers = registers_after a v; is_data = false }
+    else record a { index = bit_and v 0x3F; is_data = true }
+
+-- whether a read of the register of the index is refused: there is none
+abbrev pub is_refused_read : AttrState → Bool
+is_refused_read a = nat_lt 20 (register_of a)
+
+-- the register of the index
+abbrev pub register_value : AttrState → ℕ
+register_value a = slice_index a.registers (register_of a)
+
+-- input status 1 is read: the next write is an index
+abbrev pub after_reset : AttrState → AttrState
+after_reset a = record a { is_data = false }

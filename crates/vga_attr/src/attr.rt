@@ -1,0 +1,141 @@
+//! The attribute controller's registers, its index, and the flip-flop of port 3C0.
+ghost use Rattle.std.specs.Prelude.{◌≡◌, ◌<◌, ◌↔◌, IsTrue, OnOk, IfOk, IfErr, IsErr, slice_index};
+
+mod fields;
+
+use std::marker::Model;
+use vga_bits::{Refusal, RegFile};
+
+/// The bits that the registers keep, from register 0.
+const MASKS: [u8; 21] = [
+    0x3F, 0x3F, 0x3F, 0x3F, 0x3F, 0x3F, 0x3F, 0x3F, 0x3F, 0x3F, 0x3F, 0x3F, 0x3F, 0x3F, 0x3F, 0x3F,
+    0xEF, 0xFF, 0x3F, 0x0F, 0x0F,
+];
+
+/// The bits that the index keeps: the register's number, and the palette address source.
+const INDEX_MASK: u8 = 0x3F;
+
+/// How many registers there are, and how many of them are the palette's.
+const REGISTERS: u8 = 21;
+
+const PALETTE_REGISTERS: u8 = 16;
+
+/// The attribute controller.
+///
+/// Contracts see one record: the registers, the index with the palette address source, and whether the
+/// next write is data.
+#[derive(Drop)]
+pub struct Attr {
+    registers: RegFile<21>,
+    index: u8,
+    is_data: bool,
+}
+
+impl Model for Attr {
+    ghost use Rattle.std.specs.Prelude.{◌≡◌, ◌<◌};
+    ghost use Rattle.vga_attr.specs.Attr.{AttrState};
+    ghost use Rattle.vga_attr.specs.declared.attr.TheConstants.{MASKS};
+
+    ghost Value = { AttrState };
+
+    ghost view = { λ a. record { registers = a.registers.values; index = a.index; is_data = a.is_data } };
+
+    ghost invariant = { λ a. a.registers.masks ≡ MASKS };
+}
+
+impl Attr {
+    ghost use Rattle.vga_attr.specs.Attr.{power_on_attr, register_of, is_refused_write, registers_after, after_write, is_refused_read, register_value, after_reset};
+
+    /// The attribute controller at power-on: registers and index are 0, and the next write is an index.
+    pub fn new() -> Attr
+        ensures { result ≡ power_on_attr }
+    {
+        Attr {
+            registers: RegFile::new(MASKS),
+            index: 0,
+            is_data: false,
+        }
+    }
+
+    /// The register that the index names, 0 to 31.
+    fn register(&self) -> u8
+        ensures { result ≡ register_of self.now }
+    {
+        self.index & 0x1F
+    }
+
+    /// Writes data for the register of the index, where there is one and it is not locked.
+    fn write_data(&mut self, v: u8) -> Result<(), Refusal>
+        ensures refused { IsErr result ↔ IsTrue (is_refused_read self.old) }
+        ensures ok { OnOk result (self.new ≡ record self.old { registers = registers_after self.old v }) }
+        ensures err { IfErr result (λ e. (e ≡ Refusal.NotInProfile) × (self.new ≡ self.old)) }
+    {
+        let i = self.register();
+        if i >= REGISTERS {
+            return Err(Refusal::NotInProfile);
+        }
+        if i >= PALETTE_REGISTERS || !self.is_palette_shown() {
+            self.registers.write(i as usize, v);
+        }
+        Ok(())
+    }
+
+    /// Writes a byte to the port: an index and data in turn. Data for a palette register changes nothing
+    /// while the palette address source is 1. Data for a register that does not exist is refused with
+    /// `NotInProfile`, and then changes nothing: the next write is data still.
+    pub fn write(&mut self, v: u8) -> Result<(), Refusal>
+        ensures refused { IsErr result ↔ IsTrue (is_refused_write self.old) }
+        ensures ok { OnOk result (self.new ≡ after_write self.old v) }
+        ensures err { IfErr result (λ e. (e ≡ Refusal.NotInProfile) × (self.new ≡ self.old)) }
+    {
+        if self.is_data {
+            self.write_data(v)?;
+        } else {
+            self.index = v & INDEX_MASK;
+        }
+        self.is_data = !self.is_data;
+        Ok(())
+    }
+
+    /// The register of the index. It is refused with `NotInProfile` where there is none.
+    pub fn read_register(&self) -> Result<u8, Refusal>
+        ensures refused { IsErr result ↔ IsTrue (is_refused_read self.now) }
+        ensures ok { IfOk result (λ v. v ≡ register_value self.now) }
+        ensures err { IfErr result (λ e. e ≡ Refusal.NotInProfile) }
+    {
+        let i = self.register();
+        if i >= REGISTERS {
+            return Err(Refusal::NotInProfile);
+        }
+        Ok(self.registers.read(i as usize))
+    }
+
+    /// The index, with the palette address source as bit 5.
+    pub fn read_index(&self) -> u8
+        ensures { result ≡ self.now.index }
+    {
+        self.index
+    }
+
+    /// Makes the next write an index, as reading input status 1 does.
+    pub fn to_index(&mut self)
+        ensures { self.new ≡ after_reset self.old }
+    {
+        self.is_data = false;
+    }
+
+    /// What register `i`, 0 to 20, holds.
+    pub fn regs(&self, i: usize) -> u8
+        requires { i < 21 }
+        ensures { result ≡ slice_index self.now.registers i }
+    {
+        self.registers.read(i)
+    }
+
+    /// Whether the next write is data.
+    pub fn is_data(&self) -> bool
+        ensures { result ≡ self.now.is_data }
+    {
+        self.is_data
+    }
+}
