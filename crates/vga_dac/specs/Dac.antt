@@ -1,0 +1,72 @@
+-- The DAC: its entries, and the sequence of bytes that writes and reads them.
+-- From the IBM PS/2 Hardware Interface Technical Reference, Video Subsystems, "Video Digital-to-Analog Converter".
+-- That there is one index and one counter for both directions is this adapter's choice.
+use Rattle.std.specs.Prelude.{ℕ, ◌+◌, ◌%◌, List, [], ◌∷◌, replicate, slice_index, slice_set, bit_and}
+use Rattle.vga_dac.specs.declared.component.Component.{Component}
+use Rattle.vga_dac.specs.declared.component.Component.TheVariants.{Red, Green, Blue}
+
+pub record DacState : Type 0 where
+  pub reds : List ℕ
+  pub greens : List ℕ
+  pub blues : List ℕ
+  pub index : ℕ
+  pub component : Component
+  pub waiting_red : ℕ
+  pub waiting_green : ℕ
+  pub mask : ℕ
+
+-- n values 0. It is opaque, since a list of 256 values would be written out in every goal.
+unfoldable pub zeros : ℕ → List ℕ
+zeros n = replicate n 0
+
+-- the DAC at power-on: all is 0, but the mask is FF
+abbrev pub power_on_dac : DacState
+power_on_dac = record { reds = zeros 256; greens = zeros 256; blues = zeros 256; index = 0; component = Red; waiting_red = 0; waiting_green = 0; mask = 0xFF }
+
+-- red, green and blue of entry i
+abbrev pub entry_of : DacState → ℕ → List ℕ
+entry_of d i = slice_index d.reds i ∷ slice_index d.greens i ∷ slice_index d.blues i ∷ []
+
+-- an index is written, for writing or for reading: red is next
+abbrev pub after_index : DacState → ℕ → DacState
+after_index d v = record d { index = v; component = Red }
+
+-- the component after this one
+abbrev pub next_component : Component → Component
+next_component Red = Green
+next_component Green = Blue
+next_component Blue = Red
+
+-- the index after a byte of this component: after blue the next one, modulo 256
+abbrev pub next_index : Component → ℕ → ℕ
+next_index Red i = i
+next_index Green i = i
+next_index Blue i = (i + 1) % 256
+
+-- a component of entry i
+abbrev pub component_of : DacState → Component → ℕ → ℕ
+component_of d Red i = slice_index d.reds i
+component_of d Green i = slice_index d.greens i
+component_of d Blue i = slice_index d.blues i
+
+-- what a read of a component answers: that of the counter, of the entry of the index
+abbrev pub read_value : DacState → ℕ
+read_value d = component_of d d.component d.index
+
+-- what a byte moves: the counter, and after blue the index
+abbrev pub after_read : DacState → DacState
+after_read d = record d { component = next_component d.component; index = next_index d.component d.index }
+
+-- what a value does where it is this component: red and green wait, and blue stores the three in the entry
+abbrev pub taken : DacState → Component → ℕ → DacState
+taken d Red value = record d { waiting_red = value }
+taken d Green value = record d { waiting_green = value }
+taken d Blue value = record d {
+  reds = slice_set d.reds d.index d.waiting_red;
+  greens = slice_set d.greens d.index d.waiting_green;
+  blues = slice_set d.blues d.index value;
+}
+
+-- the DAC after a component is written: six bits of it are kept
+abbrev pub after_write : DacState → ℕ → DacState
+after_write d v = after_read (taken d d.component (bit_and v 0x3F))

@@ -1,0 +1,168 @@
+//! The 256 entries, with the index, the component counter and what waits for a write to be whole.
+ghost use Rattle.std.specs.Prelude.{◌≡◌};
+
+use super::component::Component;
+use std::marker::Model;
+
+/// The bits that a component keeps.
+const COMPONENT_MASK: u8 = 0x3F;
+
+/// How many entries there are.
+const ENTRIES: usize = 256;
+
+/// The DAC: what a colour's number means.
+///
+/// Contracts see one record: a list of 256 values for each component, the index, the component that the
+/// next byte is, the red and green that wait, and the mask.
+#[derive(Drop)]
+pub struct Dac {
+    reds: [u8; 256],
+    greens: [u8; 256],
+    blues: [u8; 256],
+    index: u8,
+    component: Component,
+    waiting_red: u8,
+    waiting_green: u8,
+    mask: u8,
+}
+
+impl Model for Dac {
+    ghost use Rattle.vga_dac.specs.Dac.{DacState};
+
+    ghost Value = { DacState };
+
+    ghost view = { λ d. record { reds = d.reds; greens = d.greens; blues = d.blues; index = d.index; component = d.component; waiting_red = d.waiting_red; waiting_green = d.waiting_green; mask = d.mask } };
+}
+
+ghost use Rattle.vga_dac.specs.Dac.{zeros as zeros_of};
+
+/// So many values 0.
+#[tactic(auto, unfolding(crate::specs::Dac::zeros))]
+fn zeros<const N: usize>() -> [u8; N]
+    ensures { result ≡ zeros_of N }
+{
+    [0; N]
+}
+
+impl Dac {
+    ghost use Rattle.vga_dac.specs.Dac.{power_on_dac, after_index, after_write, read_value, after_read, entry_of};
+
+    /// The DAC at power-on: all entries black, the index 0, red next, nothing waiting, the mask FF.
+    pub fn new() -> Dac
+        ensures { result ≡ power_on_dac }
+    {
+        Dac {
+            reds: zeros::<ENTRIES>(),
+            greens: zeros::<ENTRIES>(),
+            blues: zeros::<ENTRIES>(),
+            index: 0,
+            component: Component::Red,
+            waiting_red: 0,
+            waiting_green: 0,
+            mask: 0xFF,
+        }
+    }
+
+    /// Sets the index for writing, and red as the next component.
+    pub fn write_index(&mut self, v: u8)
+        ensures { self.new ≡ after_index self.old v }
+    {
+        self.index = v;
+        self.component = Component::Red;
+    }
+
+    /// Sets the index for reading, and red as the next component. There is one index for both.
+    pub fn set_read_index(&mut self, v: u8)
+        ensures { self.new ≡ after_index self.old v }
+    {
+        self.write_index(v);
+    }
+
+    /// The index.
+    pub fn read_index(&self) -> u8
+        ensures { result ≡ self.now.index }
+    {
+        self.index
+    }
+
+    /// Goes on to the next component, and after blue to the next entry; after 255 that is 0.
+    fn go_on(&mut self)
+        ensures { self.new ≡ after_read self.old }
+    {
+        if self.component == Component::Blue {
+            self.index = self.index.wrapping_add(1);
+        }
+        self.component = self.component.next();
+    }
+
+    /// Writes the next component, of which six bits are kept. Red and green wait; blue stores all three
+    /// in the entry of the index.
+    pub fn write_component(&mut self, v: u8)
+        ensures { self.new ≡ after_write self.old v }
+    {
+        let value = v & COMPONENT_MASK;
+        match self.component {
+            Component::Red => self.waiting_red = value,
+            Component::Green => self.waiting_green = value,
+            Component::Blue => {
+                let at = self.index as usize;
+                self.reds[at] = self.waiting_red;
+                self.greens[at] = self.waiting_green;
+                self.blues[at] = value;
+            }
+        }
+        self.go_on();
+    }
+
+    /// Reads the next component of the entry of the index.
+    pub fn read_component(&mut self) -> u8
+        ensures value { result ≡ read_value self.old }
+        ensures after { self.new ≡ after_read self.old }
+    {
+        let at = self.index as usize;
+        let value = match self.component {
+            Component::Red => self.reds[at],
+            Component::Green => self.greens[at],
+            Component::Blue => self.blues[at],
+        };
+        self.go_on();
+        value
+    }
+
+    /// Sets the mask that each colour's number passes on its way to an entry.
+    pub fn set_mask(&mut self, v: u8)
+        ensures { self.new ≡ record self.old { mask = v } }
+    {
+        self.mask = v;
+    }
+
+    /// The mask.
+    pub fn mask(&self) -> u8
+        ensures { result ≡ self.now.mask }
+    {
+        self.mask
+    }
+
+    /// Red, green and blue of entry `i`, 0 to 63 each.
+    pub fn entry(&self, i: u8) -> [u8; 3]
+        ensures { result ≡ entry_of self.now i }
+    {
+        let at = i as usize;
+        [self.reds[at], self.greens[at], self.blues[at]]
+    }
+
+    /// The component that the next byte is.
+    pub fn component(&self) -> Component
+        ensures { result ≡ self.now.component }
+    {
+        self.component
+    }
+
+    /// The red and the green that wait for blue.
+    pub fn waiting(&self) -> (u8, u8)
+        ensures red { result.0 ≡ self.now.waiting_red }
+        ensures green { result.1 ≡ self.now.waiting_green }
+    {
+        (self.waiting_red, self.waiting_green)
+    }
+}

@@ -1,0 +1,12 @@
+//! The digital-to-analogue converter: 256 colours, and the sequence of bytes by which they are written
+//! and read.
+#![tactic(auto)]
+
+pub mod component;
+pub mod dac;
+
+pub use component::Component;
+pub use dac::Dac;
+
+#[cfg(test)]
+mod tests;
