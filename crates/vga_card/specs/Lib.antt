@@ -1,0 +1,5 @@
+pub mod Card
+pub mod Port
+pub mod Cycles
+pub mod Words
+pub mod Dots
