@@ -1,0 +1,7 @@
+pub mod Script
+pub mod Decode
+pub mod Answer
+pub mod Step
+pub mod Report
+pub mod Reading
+pub mod Run

@@ -1,0 +1,46 @@
+-- What a run answers.
+use Rattle.std.specs.Prelude.{ℕ, ◌≡◌, ◌≢◌, ◌≤◌, Bool, true, false, List, length, Option, Some, IsOkUnless, Result, Ok, Err}
+use Rattle.std.specs.Io.KnownBytes.{Appends}
+use Rattle.vga_bits.specs.Tracked.{AppendsFront}
+use Rattle.vga_bits.specs.declared.fault.Fault.{Fault}
+use Rattle.vga_bits.specs.declared.fault.Fault.TheVariants.{FontSize, TooLong, ReadFault, WriteFault, OutOfMemory}
+use Rattle.vga_run.specs.declared.step.Step.{Step}
+use Rattle.vga_run.specs.Script.{Spells}
+use Rattle.vga_run.specs.Decode.{IsFault}
+use Rattle.vga_run.specs.Report.{report_of}
+use Rattle.vga_run.specs.Reading.{script_limit, IsInput, IsTooLong}
+
+-- how many bytes a font file has
+abbrev pub fonts_len : ℕ
+fonts_len = 9728
+
+-- the input spells a script of these steps
+abbrev pub InputSpells : Option (List ℕ) → List Step → Type 0
+InputSpells input steps = (bytes : List ℕ) × IsInput input bytes × Spells bytes steps
+
+-- the input spells no script, and this is its first fault
+abbrev pub InputHasFault : Option (List ℕ) → Fault → Type 0
+InputHasFault input fault = (bytes : List ℕ) × IsInput input bytes × IsFault bytes fault
+
+-- What a run answers, over fonts of so many bytes, a reader that has this input, and a writer that holds what is
+-- before and after: it has written the report of the input's script, or there is a fault, the first in order.
+abbrev pub RunAnswers : ℕ → Option (List ℕ) → Option (List ℕ) → Option (List ℕ) → Result Unit Fault → Type 0
+RunAnswers fonts input before after (Ok u) = (fonts ≡ fonts_len) × ((steps : List Step) × InputSpells input steps × Appends before after (report_of steps))
+RunAnswers fonts input before after (Err FontSize) = fonts ≢ fonts_len
+RunAnswers fonts input before after (Err ReadFault) = fonts ≡ fonts_len
+RunAnswers fonts input before after (Err TooLong) = (fonts ≡ fonts_len) × IsTooLong input
+RunAnswers fonts input before after (Err WriteFault) = (fonts ≡ fonts_len) × ((steps : List Step) × InputSpells input steps × AppendsFront before after (report_of steps))
+RunAnswers fonts input before after (Err OutOfMemory) = fonts ≡ fonts_len
+RunAnswers fonts input before after (Err fault) = (fonts ≡ fonts_len) × InputHasFault input fault
+
+-- the answer is WriteFault
+abbrev pub is_write_fault : {A : Type 0} → Result A Fault → Bool
+is_write_fault (Err WriteFault) = true
+is_write_fault _ = false
+
+-- Over fonts of the right size, bytes that spell a script are run, unless memory runs out or the reader or the writer
+-- fails.
+abbrev pub RunsGoodScripts : ℕ → Option (List ℕ) → Bool → Bool → Result Unit Fault → Type 0
+RunsGoodScripts fonts input read_failed write_failed result =
+    (bytes : List ℕ) (steps : List Step) → fonts ≡ fonts_len → input ≡ Some bytes → length bytes ≤ script_limit → Spells bytes steps
+    → read_failed ≡ false → write_failed ≡ false → IsOkUnless result OutOfMemory

@@ -1,0 +1,87 @@
+//! A run of a script.
+ghost use Rattle.std.specs.Prelude.{◌≡◌, ◌≢◌, ◌+◌, length, false, IfErr};
+ghost use Rattle.vga_bits.specs.declared.fault.Fault.TheVariants.{WriteFault};
+ghost use Rattle.vga_bits.specs.Tracked.{inner_of, has_failed};
+ghost use Rattle.vga_run.specs.Reading.{TakesAtMost, is_read_fault, script_limit};
+ghost use Rattle.vga_run.specs.Run.{RunAnswers, RunsGoodScripts, fonts_len, is_write_fault};
+
+use super::decode::decode;
+use super::reading::read_script;
+use super::report::write_report;
+use std::alloc::Global;
+use std::io::{Read, Write};
+use vga_bits::{Fault, Tracked};
+use vga_card::Card;
+
+/// How many bytes a font file has.
+const FONTS_LEN: usize = 9728;
+
+/// Runs a script from power-on, writes its report and nothing else, and flushes the writer. The reader
+/// and the writer must not have failed before.
+///
+/// A fault ends the run. Of several the first in this order is answered:
+///
+/// - `FontSize`: `fonts`, the font file, has not 9,728 bytes. Nothing is read.
+/// - `ReadFault`: the reader failed.
+/// - `TooLong`: the reader had more than 16,777,216 bytes. One more is read.
+/// - `BadMagic`, `BadVersion`, `BadStep`, `Truncated`: the bytes are no script.
+/// - `WriteFault`: the writer failed, and has a front of the report.
+///
+/// `OutOfMemory` comes where a request for memory was refused. Each fault but `WriteFault` comes
+/// before the first byte is written.
+pub fn run<R: Read, W: Write>(
+    alloc: Global,
+    script: &mut Tracked<R>,
+    fonts: &[u8],
+    out: &mut Tracked<W>,
+) -> Result<(), Fault>
+    requires reader { has_failed script.old ≡ false }
+    requires writer { has_failed out.old ≡ false }
+
+    // The report of the script that was read, or the first fault.
+    ensures answer { RunAnswers (length fonts.now) (R.remaining (inner_of script.old))
+        (W.contents (inner_of out.old)) (W.contents (inner_of out.new)) result }
+    // A fault comes only where there is one.
+    ensures runs { RunsGoodScripts (length fonts.now) (R.remaining (inner_of script.old))
+        (has_failed script.new) (has_failed out.new) result }
+
+    // The reader and the writer fail exactly where the answer says so.
+    ensures read_failed { has_failed script.new ≡ is_read_fault result }
+    ensures write_failed { has_failed out.new ≡ is_write_fault result }
+
+    // What is read, and what is left untouched.
+    ensures taken { TakesAtMost (script_limit + 1) (R.remaining (inner_of script.old))
+        (R.remaining (inner_of script.new)) }
+    ensures unread { length fonts.now ≢ fonts_len → script.new ≡ script.old }
+    ensures unwritten { IfErr result (λ e. e ≢ WriteFault → out.new ≡ out.old) }
+{
+    run_steps(alloc, script, fonts, out)
+}
+
+/// What `run` does.
+#[tactic(auto, using(crate::proofs::RunLemmas::report_answers))]
+fn run_steps<R: Read, W: Write>(
+    alloc: Global,
+    script: &mut Tracked<R>,
+    fonts: &[u8],
+    out: &mut Tracked<W>,
+) -> Result<(), Fault>
+    requires reader { has_failed script.old ≡ false }
+    requires writer { has_failed out.old ≡ false }
+    ensures answer { RunAnswers (length fonts.now) (R.remaining (inner_of script.old))
+        (W.contents (inner_of out.old)) (W.contents (inner_of out.new)) result }
+    ensures read_failed { has_failed script.new ≡ is_read_fault result }
+    ensures write_failed { has_failed out.new ≡ is_write_fault result }
+    ensures taken { TakesAtMost (script_limit + 1) (R.remaining (inner_of script.old))
+        (R.remaining (inner_of script.new)) }
+    ensures unread { length fonts.now ≢ fonts_len → script.new ≡ script.old }
+    ensures unwritten { IfErr result (λ e. e ≢ WriteFault → out.new ≡ out.old) }
+{
+    if fonts.len() != FONTS_LEN {
+        return Err(Fault::FontSize);
+    }
+    let bytes = read_script(alloc, script)?;
+    let steps = decode(alloc, bytes.as_slice())?;
+    let mut card = Card::new(alloc)?;
+    write_report(out, &mut card, steps.as_slice())
+}
