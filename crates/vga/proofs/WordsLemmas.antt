@@ -1,0 +1,70 @@
+-- From the matches of the command line to the job that they ask for.
+use Rattle.std.proofs.Common.{◌≡◌, ◌≢◌, ◌∙◌, List, [], Option, Some, None, Result, Ok, Err, Bool, true, false, IsErrAnd, if◌then◌else◌, refl, inl, inr, ap, subst, option_map, codes}
+use Rattle.std.proofs.lemmas.Result.{err_from_is_err_and}
+use Rattle.clap.specs.Words.{App, HasKind, HasMatchesOf, Row, Text, fault_of, first_of, first_value, is_simple, is_simple_and_free, kind_of, rows_of, subcommand_of, subcommand_name_of, subcommand_rows_of}
+use Rattle.clap.specs.declared.error.Error.{Error}
+use Rattle.clap.specs.declared.error.kind.ErrorKind.TheVariants as kind
+use Rattle.clap.specs.declared.parser.matches.ArgMatches.{ArgMatches}
+use Rattle.clap.specs.declared.parser.matches.Found.{Found}
+use Rattle.clap.proofs.OnLiterals.{clap_on_literals}
+use Rattle.clap.proofs.WalkLemmas.{first_value-rows}
+use Rattle.vga.specs.Failure.{failure_of, is_out_of_memory, out_of_memory}
+use Rattle.vga.specs.Words.{Finds, JobAnswers, asked, asked_of, command_line, run_asked}
+use Rattle.vga.specs.declared.failure.Failure.{Failure}
+use Rattle.vga.specs.declared.failure.Failure.TheVariants.{Words, Fault}
+use Rattle.vga.specs.declared.words_error.WordsError.TheVariants.{Refused, Missing}
+use Rattle.vga.specs.declared.job.Job.{Job}
+
+-- the first value of an argument, as `get_str` gives it
+pub first_value_rows : (f : Found) (id : Text) → first_value f id ≡ first_of id (rows_of f)
+first_value_rows = first_value-rows
+
+-- a value whose two parts are these is the pair of them
+pair_of : {X A B : Type 0} (o : Option X) (f : X → A) (g : X → B) (a : A) (b : B) → Some a ≡ option_map f o
+    → Some b ≡ option_map (λ (p : A × B). p.1) (option_map {U = A × B} (λ x. (f x, g x)) o) → option_map {U = A × B} (λ x. (f x, g x)) o ≡ Some (a, b)
+pair_of None f g a b first second = cc
+pair_of (Some x) f g a b first second = cc
+
+-- where the command is `run`, what is asked for is what its own matches ask for
+pub run_is_asked : (m : ArgMatches) (name : Text) (rows : List Row) → Some name ≡ subcommand_name_of m → Some rows ≡ option_map (λ p. p.1) (subcommand_rows_of m)
+    → name ≡ codes "run" → asked_of (subcommand_rows_of m) ≡ run_asked rows
+run_is_asked m name rows named has is_run = ap asked_of (pair_of _ _ _ name rows named has ∙ ap (λ (n : Text). Some (n, rows)) is_run)
+
+-- the command line is one of which the parser says when it fails
+is_known : is_simple_and_free command_line ≡ true
+unfolding clap_on_literals
+is_known = refl
+
+-- and what it finds
+is_plain : is_simple command_line ≡ true
+unfolding clap_on_literals
+is_plain = refl
+
+-- what `job` answers where the parser fails
+pub refusal_answers : (app : App) (words : List Text) (error : Error) (result : Result Job Failure) → app ≡ command_line
+    → (is_simple_and_free app ≡ true → HasKind (fault_of app words) error) → IsErrAnd result (λ f. f ≡ failure_of error) → JobAnswers words result
+refusal_answers app words error result ours kinds is =
+    let has : HasKind (fault_of command_line words) error = subst (λ (a : App). is_simple_and_free a ≡ true → HasKind (fault_of a words) error) ours kinds is_known in
+    let exit = err_from_is_err_and result is in
+    rw (exit.1, exit.2) (go (is_out_of_memory (kind_of error)) refl has)
+  where
+    go : (memory : Bool) → is_out_of_memory (kind_of error) ≡ memory → HasKind (fault_of command_line words) error
+        → JobAnswers words (Err (if memory then out_of_memory else Words (Refused error)))
+    go true is has = refl
+    go false is has =
+        let other : kind_of error ≢ kind.OutOfMemory = λ same. let bad : is_out_of_memory (kind_of error) ≡ true = ap is_out_of_memory same in cc in
+        (other, elim has [ inl same ↦ absurd (other same) | inr among ↦ among ])
+
+-- what `job` answers where the parser gives matches
+pub matches_answer : (app : App) (words : List Text) (m : ArgMatches) (result : Result Job Failure) → app ≡ command_line
+    → (is_simple_and_free app ≡ true → fault_of app words ≡ []) → HasMatchesOf app words m → Finds (asked_of (subcommand_rows_of m)) result → JobAnswers words result
+matches_answer app words m result ours kinds matches found =
+    let passes : fault_of command_line words ≡ [] = subst (λ (a : App). is_simple_and_free a ≡ true → fault_of a words ≡ []) ours kinds is_known in
+    let met : subcommand_rows_of m ≡ subcommand_of command_line words = (subst (λ (a : App). HasMatchesOf a words m) ours matches is_plain).1 in
+    go result passes (subst (λ (o : Option (Text × List Row)). Finds (asked_of o) result) met found)
+  where
+    go : (r : Result Job Failure) → fault_of command_line words ≡ [] → Finds (asked words) r → JobAnswers words r
+    go (Ok job) passes found = (passes, found)
+    go (Err (Words (Refused error))) passes found = let bad : Words (Refused error) ≡ Words Missing = found.1 in cc
+    go (Err (Words Missing)) passes found = (passes, found.0)
+    go (Err (Fault fault)) passes found = let bad : Fault fault ≡ Words Missing = found.1 in cc

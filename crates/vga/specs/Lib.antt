@@ -1,0 +1,6 @@
+pub mod Failure
+pub mod Job
+pub mod Lines
+pub mod Reading
+pub mod Status
+pub mod Words

@@ -1,0 +1,39 @@
+//! The lines that the program itself writes on standard error.
+ghost use Rattle.std.specs.Prelude.{◌≡◌, ◌≤◌, length, codes};
+ghost use Rattle.vga_bits.specs.Fault.{fault_name};
+ghost use Rattle.vga.specs.Lines.{line_of};
+
+use arrayvec::ArrayString;
+use vga_bits::Fault;
+
+/// Room for `vga: `, the longest name of a fault, which has 34 bytes, and a newline.
+const LINE_LEN: usize = 40;
+
+/// A line that the program writes of itself, with its newline.
+pub type Line = ArrayString<LINE_LEN>;
+
+/// The line with this text, of at most 34 bytes.
+fn line(text: &str) -> Line
+    requires { length text.now ≤ 34 }
+    ensures { result.bytes ≡ line_of text.now }
+{
+    let mut line = Line::new();
+    line.push_str("vga: ");
+    line.push_str(text);
+    line.push_str("\n");
+    line
+}
+
+/// The line of a fault, as `vga: F1 FontSize`.
+pub fn fault_line(fault: &Fault) -> Line
+    ensures { result.bytes ≡ line_of (fault_name fault.now) }
+{
+    line(fault.name().as_str())
+}
+
+/// The line of words that lack a command or a path.
+pub fn missing_line() -> Line
+    ensures { result.bytes ≡ line_of (codes "Missing") }
+{
+    line("Missing")
+}
