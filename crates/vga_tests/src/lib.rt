@@ -1,0 +1,7 @@
+//! Tests that compare crates with plain, slow models of the register table.
+#![tactic(auto)]
+
+#[cfg(test)]
+mod host_path;
+#[cfg(test)]
+mod plain_host;
