@@ -1,0 +1,105 @@
+#!/usr/bin/env python3
+"""Times the built program on scripts that this makes.
+
+    python3 bench.py [PROGRAM]
+
+PROGRAM is ../crates/vga/out/vga where nothing is said. Each script is written to a temporary folder
+and run with the report thrown away; the best of three runs counts. Where strace is installed, the
+calls of the system are counted too.
+"""
+import os
+import shutil
+import struct
+import subprocess
+import sys
+import tempfile
+import time
+
+HERE = os.path.dirname(os.path.abspath(__file__))
+FONT = os.path.join(HERE, "..", "fonts", "zaklimot.fnt")
+HEADER = b"VGAS\x01"
+MOST_BYTES = 16_777_216
+MOST_DOTS = 16_777_216
+
+
+def out(port, value):
+    return struct.pack("<BHB", 0x01, port, value)
+
+
+def inp(port):
+    return struct.pack("<BH", 0x03, port)
+
+
+def put(address, value):
+    return struct.pack("<BIB", 0x05, address, value)
+
+
+def get(address):
+    return struct.pack("<BI", 0x07, address)
+
+
+def advance(dots):
+    return struct.pack("<BI", 0x0A, dots)
+
+
+# Memory on, all addresses alike, all planes written, all bits let through.
+MEMORY = out(0x3C2, 0x03) + b"".join(
+    out(index, number) + out(index + 1, value)
+    for index, number, value in [(0x3C4, 4, 0x06), (0x3C4, 2, 0x0F), (0x3CE, 8, 0xFF)]
+)
+
+
+def puts():
+    """As many writes to display memory as a script may have."""
+    count = (MOST_BYTES - len(HEADER) - len(MEMORY)) // len(put(0, 0))
+    steps = b"".join(put(0xA0000 + i * 7 % 65536, i % 256) for i in range(count))
+    return MEMORY + steps, count + 7, "steps"
+
+
+def cycles():
+    """Two million cycles of all kinds, a register write, a port read, a write and a read of memory in turn."""
+    turn = out(0x3CF, 0xF0) + inp(0x3CC) + put(0xA1234, 0x5A) + get(0xA1234)
+    return MEMORY + turn * 500_000, 2_000_007, "steps"
+
+
+def dots():
+    """The most dots that one step may advance, one at a time."""
+    return advance(MOST_DOTS), MOST_DOTS, "dots"
+
+
+def seconds(program, script):
+    best = None
+    for _ in range(3):
+        begin = time.perf_counter()
+        subprocess.run([program, "run", script, "--fonts", FONT], stdout=subprocess.DEVNULL, check=True)
+        took = time.perf_counter() - begin
+        best = took if best is None else min(best, took)
+    return best
+
+
+def system_calls(program, script):
+    if shutil.which("strace") is None:
+        return ""
+    traced = subprocess.run(
+        ["strace", "-c", "-f", program, "run", script, "--fonts", FONT],
+        stdout=subprocess.DEVNULL, stderr=subprocess.PIPE, text=True)
+    lines = [line.split() for line in traced.stderr.splitlines() if line.rstrip().endswith("total")]
+    numbers = [word for word in lines[-1] if word.isdigit()] if lines else []
+    return f", {numbers[1]} calls of the system" if len(numbers) > 1 else ""
+
+
+def main():
+    program = sys.argv[1] if len(sys.argv) > 1 else os.path.join(HERE, "..", "crates", "vga", "out", "vga")
+    with tempfile.TemporaryDirectory() as folder:
+        for script in (puts, cycles, dots):
+            steps, count, what = script()
+            path = os.path.join(folder, script.__name__ + ".bin")
+            with open(path, "wb") as file:
+                file.write(HEADER + steps)
+            took = seconds(program, path)
+            calls = system_calls(program, path)
+            print(f"{script.__name__}: {count:,} {what} in {took:.2f} s, {count / took / 1e6:.1f} million a second{calls}")
+
+
+if __name__ == "__main__":
+    main()
