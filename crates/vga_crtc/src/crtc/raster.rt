@@ -1,5 +1,5 @@
 //! Dots, lines and frames.
-ghost use Rattle.std.specs.Prelude.{◌≡◌, ◌≤◌, ◌⊎◌};
+ghost use Rattle.std.specs.Prelude.{ℕ, ◌≡◌, ◌≤◌, ◌⊎◌};
 ghost use Rattle.vga_crtc.specs.Beam.{after_start, after_dot, after_dots};
 ghost use Rattle.vga_crtc.specs.Raster.{dots_in_line, dots_in_frame, IsLineTaken};
 
@@ -7,21 +7,21 @@ use super::Crtc;
 
 impl Crtc {
     /// Takes the start of a frame, if the beam is there: the start address with byte panning, and the
-    /// first scan line. Elsewhere nothing happens.
+    /// first scan line. Elsewhere nothing happens. A dot leads to the same place after this as without.
     #[tactic(auto, unfolding(crate::specs::Beam::after_start))]
     pub fn take_start(&mut self)
-        ensures { self.new ≡ after_start self.old }
+        ensures started { self.new ≡ after_start self.old }
+        ensures again { (cw : ℕ) → after_dot self.new cw ≡ after_dot self.old cw }
     {
         self.beam.take_start(&self.registers);
     }
 
     /// Moves the beam by one dot; a character is `cw` dots wide, 8 or 9. Where a frame begins, its start
-    /// is taken first, so it makes no difference whether `take_start` was called before.
-    #[tactic(auto, unfolding(crate::specs::Beam::after_start, crate::specs::Beam::after_dot))]
+    /// is taken first.
+    #[tactic(auto, unfolding(crate::specs::Beam::after_dot))]
     pub fn step_dot(&mut self, cw: u8)
         requires { (cw ≡ 8) ⊎ (cw ≡ 9) }
-        ensures moved { self.new ≡ after_dot self.old cw }
-        ensures started { self.new ≡ after_dot (after_start self.old) cw }
+        ensures { self.new ≡ after_dot self.old cw }
     {
         self.beam.step_dot(&self.registers, cw);
     }
