@@ -1,7 +1,7 @@
-//! The fields of the registers that the host path looks at, in the order of the registers.
-ghost use Rattle.std.specs.Prelude.{◌≡◌, ◌==◌, ◌<◌, ℕ};
+//! The fields of the sequencer's and the graphics controller's registers, in the order of the registers.
+ghost use Rattle.std.specs.Prelude.{◌≡◌, ◌==◌, ◌<◌, ◌⊎◌, ℕ};
 ghost use Rattle.std.specs.Int.{bit_at};
-ghost use Rattle.vga_host.specs.Fields.{is_memory_enabled as is_memory_enabled_of, is_eight_dots, is_in_map_mask, is_odd_even_off, is_chain_four, set_reset, is_set_reset_enabled, colour_compare, rotate_count, function_select, read_map_select, read_map_pair, write_mode, is_read_compare, is_odd_even_read, is_chain_odd_even, memory_map, is_compared, bit_mask};
+ghost use Rattle.vga_host.specs.Fields.{is_memory_enabled as is_memory_enabled_of, is_eight_dots, character_width, is_screen_off, character_map_a, character_map_b, is_shift_256, is_graphics, is_256_colours, is_in_map_mask, is_odd_even_off, is_chain_four, set_reset, is_set_reset_enabled, colour_compare, rotate_count, function_select, read_map_select, read_map_pair, write_mode, is_read_compare, is_odd_even_read, is_chain_odd_even, memory_map, is_compared, bit_mask};
 
 use super::Host;
 
@@ -10,6 +10,8 @@ mod sequencer {
     pub(super) const CLOCKING_MODE: usize = 1;
 
     pub(super) const MAP_MASK: usize = 2;
+
+    pub(super) const CHARACTER_MAP_SELECT: usize = 3;
 
     pub(super) const MEMORY_MODE: usize = 4;
 }
@@ -50,12 +52,45 @@ impl Host {
         self.seq.bit(sequencer::CLOCKING_MODE, 0)
     }
 
+    /// How many dots a character has: 8 or 9.
+    pub fn character_width(&self) -> u8
+        ensures value { result ≡ character_width self.now }
+        ensures known { (result ≡ 8) ⊎ (result ≡ 9) }
+    {
+        if self.is_eight_dots() { 8 } else { 9 }
+    }
+
+    /// Whether the screen is off.
+    pub fn is_screen_off(&self) -> bool
+        ensures { result ≡ is_screen_off self.now }
+    {
+        self.seq.bit(sequencer::CLOCKING_MODE, 5)
+    }
+
     /// Whether the map mask lets plane `plane` be written.
     pub(super) fn is_in_map_mask(&self, plane: usize) -> bool
         requires { plane < 4 }
         ensures { result ≡ is_in_map_mask self.now plane }
     {
         self.seq.bit(sequencer::MAP_MASK, plane as u32)
+    }
+
+    /// The map, 0 to 7, of the characters whose attribute has bit 3.
+    pub fn character_map_a(&self) -> u8
+        ensures value { result ≡ character_map_a self.now }
+        ensures below { result < 8 }
+    {
+        let low = self.seq.field(sequencer::CHARACTER_MAP_SELECT, 3, 2);
+        low + 4 * self.seq.field(sequencer::CHARACTER_MAP_SELECT, 5, 5)
+    }
+
+    /// The map, 0 to 7, of all other characters.
+    pub fn character_map_b(&self) -> u8
+        ensures value { result ≡ character_map_b self.now }
+        ensures below { result < 8 }
+    {
+        let low = self.seq.field(sequencer::CHARACTER_MAP_SELECT, 1, 0);
+        low + 4 * self.seq.field(sequencer::CHARACTER_MAP_SELECT, 4, 4)
     }
 
     /// Whether even and odd addresses are not kept apart on writes.
@@ -143,6 +178,27 @@ impl Host {
         ensures { result ≡ is_odd_even_read self.now }
     {
         self.gfx.bit(graphics::GRAPHICS_MODE, 4)
+    }
+
+    /// Whether the shift registers make bytes of 256 colours.
+    fn is_shift_256(&self) -> bool
+        ensures { result ≡ is_shift_256 self.now }
+    {
+        self.gfx.bit(graphics::GRAPHICS_MODE, 6)
+    }
+
+    /// Whether dots come from the planes, and not from glyphs of characters.
+    pub fn is_graphics(&self) -> bool
+        ensures { result ≡ is_graphics self.now }
+    {
+        self.gfx.bit(graphics::MISCELLANEOUS, 0)
+    }
+
+    /// Whether dots are bytes of 256 colours.
+    pub fn is_256_colours(&self) -> bool
+        ensures { result ≡ is_256_colours self.now }
+    {
+        self.is_graphics() && self.is_shift_256()
     }
 
     /// Whether the lowest bit of an address picks a plane and not an offset.
