@@ -24,6 +24,21 @@ fn a_register_keeps_the_bits_of_its_mask(rt: HostRuntime) {
 }
 
 #[test]
+fn bytes_are_copied_cleared_and_set(rt: HostRuntime) -> Result<(), Fail> {
+    let alloc = rt.alloc();
+    let mut copy = Bytes::copy(alloc, b"VGA")?;
+    copy.set(1, b'C');
+    assert_eq!(rt; copy.as_slice(), b"VCA".as_slice());
+    let zeros = Bytes::zeros(alloc, 3)?;
+    assert_eq!(rt; zeros.as_slice(), [0, 0, 0].as_slice());
+    let none = Bytes::zeros(alloc, 0)?;
+    assert!(rt; none.as_slice().is_empty());
+    let kept = Bytes::from_vec(vec![in alloc; 7; 2]?);
+    assert_eq!(rt; kept.as_slice(), [7, 7].as_slice());
+    Ok(())
+}
+
+#[test]
 fn refusals_have_their_numbers_and_names(rt: HostRuntime) -> Result<(), Fail> {
     let names = [
         (Refusal::NotDecoded, "E1 NotDecoded"),

@@ -1,0 +1,66 @@
+//! Bytes that contracts see as a list.
+ghost use Rattle.std.specs.Prelude.{◌≡◌, ◌<◌, IfOk, IsOkUnless, length, slice_set, replicate};
+
+use super::fault::Fault;
+use std::alloc::Global;
+use std::marker::Model;
+
+/// Some bytes, which contracts see as their list.
+#[derive(Drop)]
+pub struct Bytes {
+    items: Vec<u8>,
+}
+
+impl Model for Bytes {
+    ghost use Rattle.std.specs.Prelude.{ℕ, List};
+
+    ghost Value = { List ℕ };
+
+    ghost view = { λ bytes. bytes.items.items };
+}
+
+impl Bytes {
+    /// The bytes of a vector, with no copy.
+    pub fn from_vec(items: Vec<u8>) -> Bytes
+        ensures { result ≡ items.items }
+    {
+        Bytes { items }
+    }
+
+    /// A copy of the bytes of a slice. It fails with `OutOfMemory` alone.
+    pub fn copy(alloc: Global, bytes: &[u8]) -> Result<Bytes, Fault>
+        ensures copied { IfOk result (λ copy. copy ≡ bytes.now) }
+        ensures err { IsOkUnless result Fault.OutOfMemory }
+    {
+        match Vec::from_slice(alloc, bytes) {
+            Ok(items) => Ok(Bytes { items }),
+            Err(_) => Err(Fault::OutOfMemory),
+        }
+    }
+
+    /// So many bytes, each 0. It fails with `OutOfMemory` alone.
+    pub fn zeros(alloc: Global, len: usize) -> Result<Bytes, Fault>
+        ensures zeros { IfOk result (λ bytes. bytes ≡ replicate len 0) }
+        ensures err { IsOkUnless result Fault.OutOfMemory }
+    {
+        match vec![in alloc; 0; len] {
+            Ok(items) => Ok(Bytes { items }),
+            Err(_) => Err(Fault::OutOfMemory),
+        }
+    }
+
+    /// Puts the byte `value` at place `i`, below the length. The others stay.
+    pub fn set(&mut self, i: usize, value: u8)
+        requires { i < length self.old }
+        ensures { self.new ≡ slice_set self.old i value }
+    {
+        self.items[i] = value;
+    }
+
+    /// The bytes.
+    pub fn as_slice(&self) -> &[u8]
+        ensures { result.now ≡ self.now }
+    {
+        self.items.as_slice()
+    }
+}
