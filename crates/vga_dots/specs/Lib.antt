@@ -1,0 +1,4 @@
+pub mod SourceDot
+pub mod Text
+pub mod Graphics
+pub mod Colour

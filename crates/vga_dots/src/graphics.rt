@@ -1,0 +1,56 @@
+//! Graphics: the four bits, or the byte, of a dot from the planes.
+ghost use Rattle.std.specs.Prelude.{◌≡◌, ◌<◌};
+ghost use Rattle.std.specs.Int.{bit_at};
+ghost use Rattle.vga_dots.specs.Graphics.{plane_bits as bits_of_planes, planar_nibble as nibble_of_planes, packed_byte as byte_of_planes};
+
+use crate::source_dot::{SourceDot, fetch_address};
+use vga_crtc::Crtc;
+use vga_host::Host;
+
+/// Bit `i`, 0 to 7, of a byte, as 0 or 1.
+fn bit(byte: u8, i: u8) -> u8
+    requires { i < 8 }
+    ensures value { result ≡ bit_at byte i }
+    ensures below { result < 2 }
+{
+    (byte >> i) & 1
+}
+
+/// Bit `i`, 0 to 7, of each plane's byte at a place, plane 0 lowest.
+#[tactic(auto, unfolding(crate::specs::Graphics::plane_bits))]
+fn plane_bits(host: &Host, address: u16, i: u8) -> u8
+    requires { i < 8 }
+    ensures { result ≡ bits_of_planes host.now address i }
+{
+    let planes = host.planes();
+    bit(planes.byte(0, address), i)
+        + 2 * bit(planes.byte(1, address), i)
+        + 4 * bit(planes.byte(2, address), i)
+        + 8 * bit(planes.byte(3, address), i)
+}
+
+/// The four bits of a dot in 16 colours.
+#[tactic(auto, unfolding(crate::specs::Graphics::planar_nibble))]
+pub(crate) fn planar_nibble(host: &Host, crtc: &Crtc, source: SourceDot) -> u8
+    ensures { result ≡ nibble_of_planes host.now crtc.now source }
+{
+    if source.dot < 8 {
+        let address = fetch_address(crtc.registers(), source.counter);
+        plane_bits(host, address, 7 - source.dot)
+    } else {
+        0
+    }
+}
+
+/// The byte of a dot in 256 colours.
+#[tactic(auto, unfolding(crate::specs::Graphics::packed_byte))]
+pub(crate) fn packed_byte(host: &Host, crtc: &Crtc, source: SourceDot) -> u8
+    ensures { result ≡ byte_of_planes host.now crtc.now source }
+{
+    if source.dot < 8 {
+        let address = fetch_address(crtc.registers(), source.counter);
+        host.planes().byte((source.dot / 2) as usize, address)
+    } else {
+        0
+    }
+}

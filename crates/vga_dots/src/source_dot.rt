@@ -1,0 +1,72 @@
+//! Where the dot at the beam comes from.
+ghost use Rattle.std.specs.Prelude.{◌≡◌, ◌<◌, ◌≤◌};
+ghost use Rattle.vga_dots.specs.SourceDot.{panned as panned_dots, source_at as source_of_dot, source_dot, fetch_address as fetch_address_of};
+
+use vga_attr::Attr;
+use vga_crtc::{Crtc, Registers};
+use vga_host::Host;
+
+/// A dot of a character: the character's counter, and the dot's number, 0 to 8.
+#[derive(Clone, Copy, PartialEq, Eq, Debug)]
+pub struct SourceDot {
+    pub counter: u16,
+    pub dot: u8,
+}
+
+/// By how many dots, 0 to 8, the picture is panned to the left.
+#[tactic(auto, unfolding(crate::specs::SourceDot::panned))]
+fn panned(host: &Host, crtc: &Crtc, attr: &Attr) -> u8
+    ensures value { result ≡ panned_dots host.now crtc.now attr.now }
+    ensures few { result < 9 }
+{
+    let panning = attr.panning();
+    if crtc.beam().split && attr.is_panning_reset() {
+        0
+    } else if host.is_256_colours() {
+        panning & 6
+    } else if host.is_eight_dots() {
+        panning % 8
+    } else if panning == 8 {
+        0
+    } else {
+        panning % 8 + 1
+    }
+}
+
+impl SourceDot {
+    /// Where the dot at the beam comes from: the beam's character, or the next one.
+    #[tactic(auto, unfolding(crate::specs::SourceDot::source_dot))]
+    pub(crate) fn at_beam(host: &Host, crtc: &Crtc, attr: &Attr) -> SourceDot
+        ensures { result ≡ source_dot host.now crtc.now attr.now }
+    {
+        let beam = crtc.beam();
+        let width = host.character_width();
+        let dot = beam.dot + panned(host, crtc, attr);
+        if dot < width {
+            SourceDot {
+                counter: beam.base.wrapping_add(beam.character),
+                dot,
+            }
+        } else {
+            SourceDot {
+                counter: beam.base.wrapping_add(beam.character + 1),
+                dot: dot - width,
+            }
+        }
+    }
+}
+
+/// The place in each plane that a counter addresses.
+#[tactic(auto, unfolding(crate::specs::SourceDot::fetch_address))]
+pub(crate) fn fetch_address(registers: &Registers, counter: u16) -> u16
+    ensures { result ≡ fetch_address_of registers.now counter }
+{
+    if registers.is_double_word() {
+        counter.wrapping_mul(4)
+    } else if registers.is_byte_mode() {
+        counter
+    } else {
+        let wrapped = if registers.is_address_wrap() { 15 } else { 13 };
+        counter.wrapping_mul(2) + (counter >> wrapped & 1)
+    }
+}

@@ -1,0 +1,172 @@
+//! Text: the four bits of a dot of a character with its attribute.
+ghost use Rattle.std.specs.Prelude.{◌≡◌, ◌<◌};
+ghost use Rattle.vga_bits.specs.Bits.{is_set, field};
+ghost use Rattle.vga_dots.specs.Text.{cell_at as cell_of_place, map_start as start_of_map, character_map as map_of_cell, glyph_row as row_of_glyph, is_glyph_dot as is_dot_of_glyph, is_underlined as is_underlined_cell, is_blinked_away as is_blinked_cell, is_cursor_at as is_cursor_of, is_foreground as is_foreground_dot, background as background_of, cell_nibble as nibble_of_cell, text_nibble as nibble_of_text};
+
+use crate::source_dot::{SourceDot, fetch_address};
+use vga_attr::Attr;
+use vga_crtc::Crtc;
+use vga_host::Host;
+
+/// The planes of text.
+const CHARACTERS: usize = 0;
+
+const ATTRIBUTES: usize = 1;
+
+const GLYPHS: usize = 2;
+
+/// How many bytes a glyph has in its map.
+const GLYPH_BYTES: u16 = 32;
+
+/// The bits of an attribute that tell an underlined one.
+const UNDERLINE_BITS: u8 = 0x77;
+
+/// A character and its attribute.
+#[derive(Clone, Copy, PartialEq, Eq, Debug)]
+pub struct Cell {
+    pub character: u8,
+    pub attribute: u8,
+}
+
+/// The character and the attribute at a place.
+#[tactic(auto, unfolding(crate::specs::Text::cell_at))]
+fn cell_at(host: &Host, address: u16) -> Cell
+    ensures { result ≡ cell_of_place host.now address }
+{
+    let planes = host.planes();
+    Cell {
+        character: planes.byte(CHARACTERS, address),
+        attribute: planes.byte(ATTRIBUTES, address),
+    }
+}
+
+/// Bit `i`, 0 to 7, of an attribute or of a glyph's row.
+fn is_one(byte: u8, i: u8) -> bool
+    requires { i < 8 }
+    ensures { result ≡ is_set byte i }
+{
+    (byte >> i) & 1 == 1
+}
+
+/// Where a character map, 0 to 7, begins in its plane.
+fn map_start(map: u8) -> u16
+    requires { map < 8 }
+    ensures { result ≡ start_of_map map }
+{
+    16384 * (map % 4) as u16 + 8192 * (map / 4) as u16
+}
+
+/// The map, 0 to 7, of a cell's character.
+fn character_map(host: &Host, cell: Cell) -> u8
+    ensures value { result ≡ map_of_cell host.now cell }
+    ensures below { result < 8 }
+{
+    if is_one(cell.attribute, 3) {
+        host.character_map_a()
+    } else {
+        host.character_map_b()
+    }
+}
+
+/// The row of a cell's glyph at a scan line, 0 to 31.
+#[tactic(auto, unfolding(crate::specs::Text::glyph_row))]
+fn glyph_row(host: &Host, cell: Cell, scan: u8) -> u8
+    requires { scan < 32 }
+    ensures { result ≡ row_of_glyph host.now cell scan }
+{
+    let start = map_start(character_map(host, cell));
+    let place = start + GLYPH_BYTES * cell.character as u16 + scan as u16;
+    host.planes().byte(GLYPHS, place)
+}
+
+/// Whether dot `i` of a row is of its glyph.
+#[tactic(auto, unfolding(crate::specs::Text::is_glyph_dot))]
+fn is_glyph_dot(attr: &Attr, character: u8, row: u8, i: u8) -> bool
+    ensures { result ≡ is_dot_of_glyph attr.now character row i }
+{
+    if i < 8 {
+        is_one(row, 7 - i)
+    } else {
+        attr.is_line_graphics() && 0xC0 <= character && character <= 0xDF && is_one(row, 0)
+    }
+}
+
+/// Whether a cell is underlined at the beam's scan line.
+#[tactic(auto, unfolding(crate::specs::Text::is_underlined))]
+fn is_underlined(crtc: &Crtc, attr: &Attr, cell: Cell) -> bool
+    ensures { result ≡ is_underlined_cell crtc.now attr.now cell }
+{
+    attr.is_monochrome()
+        && cell.attribute & UNDERLINE_BITS == 1
+        && crtc.beam().scan == crtc.registers().underline_location()
+}
+
+/// Whether a cell is blinked away in the beam's frame.
+#[tactic(auto, unfolding(crate::specs::Text::is_blinked_away))]
+fn is_blinked_away(crtc: &Crtc, attr: &Attr, cell: Cell) -> bool
+    ensures { result ≡ is_blinked_cell crtc.now attr.now cell }
+{
+    attr.is_blink() && is_one(cell.attribute, 7) && 16 <= crtc.beam().frame
+}
+
+/// Whether the cursor is shown at a counter.
+#[tactic(auto, unfolding(crate::specs::Text::is_cursor_at))]
+fn is_cursor_at(crtc: &Crtc, counter: u16) -> bool
+    ensures { result ≡ is_cursor_of crtc.now counter }
+{
+    let registers = crtc.registers();
+    let beam = crtc.beam();
+    counter == registers.cursor_location()
+        && !registers.is_cursor_off()
+        && registers.cursor_start() <= beam.scan
+        && beam.scan <= registers.cursor_end()
+        && beam.frame % 16 < 8
+}
+
+/// Whether a dot has its cell's foreground: by cursor, blink and underline, or else by the glyph.
+#[tactic(auto, unfolding(crate::specs::Text::is_foreground))]
+fn is_foreground(host: &Host, crtc: &Crtc, attr: &Attr, source: SourceDot, cell: Cell) -> bool
+    ensures { result ≡ is_foreground_dot host.now crtc.now attr.now source cell }
+{
+    if is_cursor_at(crtc, source.counter) {
+        true
+    } else if is_blinked_away(crtc, attr, cell) {
+        false
+    } else if is_underlined(crtc, attr, cell) {
+        true
+    } else {
+        let row = glyph_row(host, cell, crtc.beam().scan);
+        is_glyph_dot(attr, cell.character, row, source.dot)
+    }
+}
+
+/// The four bits of a cell's background.
+fn background(attr: &Attr, cell: Cell) -> u8
+    ensures { result ≡ background_of attr.now cell }
+{
+    if attr.is_blink() {
+        (cell.attribute >> 4) % 8
+    } else {
+        cell.attribute >> 4
+    }
+}
+
+/// The four bits of a dot of a cell.
+fn cell_nibble(host: &Host, crtc: &Crtc, attr: &Attr, source: SourceDot, cell: Cell) -> u8
+    ensures { result ≡ nibble_of_cell host.now crtc.now attr.now source cell }
+{
+    if is_foreground(host, crtc, attr, source, cell) {
+        cell.attribute % 16
+    } else {
+        background(attr, cell)
+    }
+}
+
+/// The four bits of a dot of text.
+#[tactic(auto, unfolding(crate::specs::Text::text_nibble))]
+pub(crate) fn text_nibble(host: &Host, crtc: &Crtc, attr: &Attr, source: SourceDot) -> u8
+    ensures { result ≡ nibble_of_text host.now crtc.now attr.now source }
+{
+    let cell = cell_at(host, fetch_address(crtc.registers(), source.counter));
+    cell_nibble(host, crtc, attr, source, cell)
+}
