@@ -1,5 +1,9 @@
+pub mod Picture
+pub mod Canvas
 pub mod Card
 pub mod Port
 pub mod Cycles
 pub mod Words
 pub mod Dots
+pub mod Frames
+pub mod Valid

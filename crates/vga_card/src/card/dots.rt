@@ -1,33 +1,72 @@
 //! Dots of the adapter's clock.
-ghost use Rattle.std.specs.Prelude.{◌≡◌, ◌≤◌, ◌↔◌, ◌⊎◌, IsOk, OnOk, IfErr};
-ghost use Rattle.vga_card.specs.Dots.{character_width, dot, dots};
+ghost use Rattle.std.specs.Prelude.{◌≡◌, ◌≤◌, ◌↔◌, ◌++◌, IsOk, OnOk, IfErr};
+ghost use Rattle.vga_crtc.specs.Beam.{is_first_dot as is_first_dot_of};
+ghost use Rattle.vga_card.specs.Dots.{fresh_dots, display_dot, dot, dots, most_dots};
+ghost use Rattle.vga_card.specs.Valid.{fresh_count, IsDrawnTo};
 
 use super::Card;
+use crate::canvas::Canvas;
+use vga_attr::Attr;
 use vga_bits::Refusal;
+use vga_crtc::{Beam, Crtc};
+use vga_dac::Dac;
+use vga_dots::dot_colour;
+use vga_host::Host;
 
 /// The most dots that one step may advance.
-const MOST_DOTS: u32 = 16777216;
+const MOST_DOTS: u32 = 16_777_216;
+
+/// Whether the beam is at the first dot of a frame.
+pub(super) fn is_first_dot(beam: Beam) -> bool
+    ensures { result ≡ is_first_dot_of beam }
+{
+    beam.character == 0 && beam.dot == 0 && beam.line == 0
+}
+
+/// Takes away the dots of the frame before, where a frame begins.
+fn clear_at_first_dot(beam: Beam, canvas: &mut Canvas)
+    ensures dots { canvas.new.dots ≡ fresh_dots beam canvas.old.dots }
+    ensures line { canvas.new.line ≡ fresh_count beam canvas.old.line }
+    ensures width { canvas.new.width ≡ fresh_count beam canvas.old.width }
+{
+    if is_first_dot(beam) {
+        canvas.clear();
+    }
+}
+
+/// Adds the dot at the beam, if it is a display dot. Where a frame begins, its start is to be taken first.
+#[tactic(auto, unfolding(crate::specs::Dots::display_dot))]
+fn draw_dot(host: &Host, crtc: &Crtc, attr: &Attr, dac: &Dac, canvas: &mut Canvas)
+    requires { IsDrawnTo crtc.now.beam 0 canvas.old.line canvas.old.width }
+    ensures dots { canvas.new.dots ≡ canvas.old.dots ++ display_dot host.now crtc.now attr.now dac.now }
+    ensures place { IsDrawnTo crtc.now.beam 1 canvas.new.line canvas.new.width }
+{
+    if crtc.is_display() {
+        canvas.add(crtc.beam().line, dot_colour(host, crtc, attr, dac));
+    }
+}
 
 impl Card {
-    /// How many dots a character has: 8 or 9.
-    fn character_width(&self) -> u8
-        ensures value { result ≡ character_width self.now }
-        ensures known { (result ≡ 8) ⊎ (result ≡ 9) }
-    {
-        if self.host.is_eight_dots() { 8 } else { 9 }
-    }
-
     /// Takes one dot.
     fn take_dot(&mut self)
         ensures { self.new ≡ dot self.old }
     {
-        let width = self.character_width();
+        let width = self.host.character_width();
+        clear_at_first_dot(self.crtc.beam(), &mut self.canvas);
+        self.crtc.take_start();
+        draw_dot(
+            &self.host,
+            &self.crtc,
+            &self.attr,
+            &self.dac,
+            &mut self.canvas,
+        );
         self.crtc.step_dot(width);
     }
 
     /// Takes so many dots.
     #[tactic(auto, using(crate::proofs::DotLemmas::dots_none, crate::proofs::DotLemmas::dots_more))]
-    fn take_dots(&mut self, n: u32)
+    pub(super) fn take_dots(&mut self, n: u32)
         ensures { self.new ≡ dots n self.old }
     {
         for taken in 0..n {
@@ -35,10 +74,11 @@ impl Card {
         }
     }
 
-    /// Lets the clock run for `n` dots, at most 16,777,216. Registers and memory stay. It is refused
-    /// with `TooFar`, and then changes nothing, where there are more.
+    /// Lets the clock run for `n` dots, at most 16,777,216: the display dots among them join the picture
+    /// of their frame. Registers and memory stay. It is refused with `TooFar`, and then changes nothing,
+    /// where there are more.
     pub fn advance(&mut self, n: u32) -> Result<(), Refusal>
-        ensures few { IsOk result ↔ (n ≤ 16777216) }
+        ensures few { IsOk result ↔ (n ≤ most_dots) }
         ensures ok { OnOk result (self.new ≡ dots n self.old) }
         ensures err { IfErr result (λ e. (e ≡ Refusal.TooFar) × (self.new ≡ self.old)) }
     {

@@ -1,0 +1,160 @@
+-- Frames: their end, and what is drawn on the way.
+use Rattle.std.proofs.Common.{◌≡◌, ℕ, zero, suc, ◌+◌, ◌-◌, ◌%◌, ◌<◌, ◌≤◌, ⊎_elim, refl, sym, ap, subst, ◌∙◌, arith, Bool, true, false, List, [], ◌∷◌, ◌++◌, append_assoc, length, replicate, Some, None}
+use Rattle.std.specs.Prelude.{if◌then◌else◌, ◌==◌, ◌&&◌}
+use Rattle.std.proofs.lemmas.Bool.Decides.{nat_tests}
+use Rattle.std.proofs.lemmas.Bool.{cases_order}
+use Rattle.std.proofs.lemmas.List.{length-replicate}
+use Rattle.vga_host.specs.Host.{HostState}
+use Rattle.vga_crtc.specs.declared.beam.Beam.{Beam}
+use Rattle.vga_crtc.specs.Crtc.{CrtcState, first_dot}
+use Rattle.vga_crtc.specs.Beam.{is_first_dot, after_start, after_dot, after_dots, dots as beam_dots}
+use Rattle.vga_crtc.specs.Raster.{dots_in_line, dots_in_frame, IsFrameStart}
+use Rattle.vga_crtc.proofs.Ends.{frame_ends}
+use Rattle.vga_attr.specs.Attr.{AttrState}
+use Rattle.vga_dac.specs.Dac.{DacState}
+use Rattle.vga_card.specs.Picture.{Dot, lines_of, lines_from, all_are, runs, shape, shape_of}
+use Rattle.vga_card.specs.Canvas.{positive}
+use Rattle.vga_card.specs.Card.{CardState}
+use Rattle.vga_card.specs.Dots.{character_width, fresh, display_dot, dot, dots}
+use Rattle.vga_card.specs.Frames.{frame_count, frame, EndsFirst, collect, display_dot_at, DrawsPlaces}
+use Rattle.vga_card.proofs.DotLemmas.{dots_more, dots_split}
+use Rattle.vga_card.proofs.ShapeLemmas.{runs_are}
+
+-- ---- what dots leave
+
+-- dots move the beam alone
+dots_crtc : (n : ℕ) (c : CardState) → (dots n c).crtc ≡ after_dots c.crtc (character_width c) n
+unfolding dots dot after_dot after_dots beam_dots
+dots_crtc zero c = refl
+dots_crtc (suc n) c = dots_crtc n (dot c)
+
+dots_host : (n : ℕ) (c : CardState) → (dots n c).host ≡ c.host
+unfolding dots dot
+dots_host zero c = refl
+dots_host (suc n) c = dots_host n (dot c)
+
+dots_attr : (n : ℕ) (c : CardState) → (dots n c).attr ≡ c.attr
+unfolding dots dot
+dots_attr zero c = refl
+dots_attr (suc n) c = dots_attr n (dot c)
+
+dots_dac : (n : ℕ) (c : CardState) → (dots n c).dac ≡ c.dac
+unfolding dots dot
+dots_dac zero c = refl
+dots_dac (suc n) c = dots_dac n (dot c)
+
+beam_after : (n : ℕ) (c : CardState) → (dots n c).crtc.beam ≡ beam_dots (character_width c) c.crtc.registers n c.crtc.beam
+unfolding after_dots
+beam_after n c = ap (λ (x : CrtcState). x.beam) (dots_crtc n c)
+
+-- ---- the end of a frame
+
+wide : (v : Bool) → 0 < (if v then 8 else 9)
+wide true = omega arith
+wide false = omega arith
+
+some_dots : (cw : ℕ) (r : List ℕ) (b : Beam) → 0 < dots_in_frame cw r b
+unfolding dots_in_frame dots_in_line
+some_dots cw r b = omega arith
+
+first_dot_is : (b : Beam) (f : ℕ) → b ≡ first_dot f → IsFrameStart b
+first_dot_is b f e = record { line = ap (λ (x : Beam). x.line) e; character = ap (λ (x : Beam). x.character) e; dot = ap (λ (x : Beam). x.dot) e }
+
+pub frame_ends_first : (c : CardState) → EndsFirst c
+frame_ends_first c =
+    let w = character_width c in
+    let r = c.crtc.registers in
+    let b = c.crtc.beam in
+    let ends = frame_ends w r b (wide _) in
+    record {
+      some = some_dots w r b;
+      there = first_dot_is (dots (frame_count c) c).crtc.beam ((b.frame + 1) % 32) (beam_after (frame_count c) c ∙ ends.next);
+      first = λ m lo hi start. ends.first m lo hi (subst IsFrameStart (beam_after m c) start);
+    }
+
+-- the dots that are left after n dots of a frame, with these, are the frame's
+frame_left : (c : CardState) (n : ℕ) → n < frame_count c → n + frame_count (dots n c) ≡ frame_count c
+frame_left c n within =
+    let all = frame_count c in
+    let left = frame_count (dots n c) in
+    let ends = frame_ends_first c in
+    let later = frame_ends_first (dots n c) in
+    let at : (m : ℕ) → (dots (n + m) c).crtc.beam ≡ (dots m (dots n c)).crtc.beam = λ m. ap (λ (x : CardState). x.crtc.beam) (dots_split n m c) in
+    let whole : n + (all - n) ≡ all = omega arith in
+    ⊎_elim
+    (λ (here : n + left ≡ all). here)
+    (⊎_elim
+    (λ (before : n + left < all). absurd (ends.first (n + left) (omega (arith, later.some)) before (subst IsFrameStart (sym (at left)) later.there)))
+    (λ (beyond : all < n + left). absurd (later.first (all - n) (omega arith) (omega arith) (subst IsFrameStart (ap (λ k. (dots k c).crtc.beam) (sym whole) ∙ at (all - n)) ends.there))))
+    (cases_order (n + left) all)
+
+-- a frame goes on after some of its dots
+pub frame_goes_on : (c : CardState) (n : ℕ) → n < frame_count c → frame (dots n c) ≡ frame c
+frame_goes_on c n within = sym (dots_split n (frame_count (dots n c)) c) ∙ ap (λ k. dots k c) (frame_left c n within)
+
+-- ---- what is drawn on the way
+
+dot_drawn : (c : CardState) → (dot c).drawn ≡ fresh c ++ display_dot c.host (after_start c.crtc) c.attr c.dac
+unfolding dot
+dot_drawn c = refl
+
+-- the dot that joins after n others
+joins : (n : ℕ) (c : CardState) → display_dot (dots n c).host (after_start (dots n c).crtc) (dots n c).attr (dots n c).dac ≡ display_dot_at c n
+joins n c =
+    let d = dots n c in
+    ap (λ (x : HostState). display_dot x (after_start d.crtc) d.attr d.dac) (dots_host n c)
+    ∙ ap (λ (x : CrtcState). display_dot c.host (after_start x) d.attr d.dac) (dots_crtc n c)
+    ∙ ap (λ (x : AttrState). display_dot c.host (after_start (after_dots c.crtc (character_width c) n)) x d.dac) (dots_attr n c)
+    ∙ ap (λ (x : DacState). display_dot c.host (after_start (after_dots c.crtc (character_width c) n)) c.attr x) (dots_dac n c)
+
+dots_none : (c : CardState) → dots 0 c ≡ c
+unfolding dots
+dots_none c = refl
+
+is_away : (v : Bool) → (v ≡ true → ⊥) → v ≡ false
+is_away true h = absurd (h refl)
+is_away false h = refl
+
+start_is : (b : Beam) → is_first_dot b ≡ true → IsFrameStart b
+start_is b h = record { line = grind (arith, nat_tests); character = grind (arith, nat_tests); dot = grind (arith, nat_tests) }
+
+draws_more : (c : CardState) (n : ℕ) → suc n ≤ frame_count c → (dots (suc n) c).drawn ≡ fresh c ++ collect (display_dot_at c) (suc n)
+draws_more c zero hi =
+    let e : 1 ≡ 0 + 1 = omega arith in
+    ap (λ k. (dots k c).drawn) e ∙ ap (λ (x : CardState). x.drawn) (dots_more 0 c ∙ ap dot (dots_none c)) ∙ dot_drawn c
+    ∙ ap (λ (x : CardState). fresh c ++ display_dot x.host (after_start x.crtc) x.attr x.dac) (sym (dots_none c)) ∙ ap (λ x. fresh c ++ x) (joins 0 c)
+draws_more c (suc n) hi =
+    let ends = frame_ends_first c in
+    let e : suc (suc n) ≡ suc n + 1 = omega arith in
+    let d = dots (suc n) c in
+    let away : is_first_dot d.crtc.beam ≡ false = is_away (is_first_dot d.crtc.beam) (λ h. ends.first (suc n) (omega arith) (omega arith) (start_is d.crtc.beam h)) in
+    ap (λ k. (dots k c).drawn) e ∙ ap (λ (x : CardState). x.drawn) (dots_more (suc n) c) ∙ dot_drawn d
+    ∙ ap (λ v. (if v then [] else d.drawn) ++ display_dot d.host (after_start d.crtc) d.attr d.dac) away
+    ∙ ap (λ x. d.drawn ++ x) (joins (suc n) c)
+    ∙ ap (λ x. x ++ display_dot_at c (suc n)) (draws_more c n (omega arith))
+    ∙ append_assoc (fresh c) (collect (display_dot_at c) (suc n)) (display_dot_at c (suc n))
+
+pub dots_are_places : (c : CardState) → DrawsPlaces c
+dots_are_places c zero lo hi = absurd (omega arith)
+dots_are_places c (suc n) lo hi = draws_more c n hi
+
+-- ---- rows of one width
+
+same_widths : (w h : ℕ) → all_are w (replicate h w) ≡ true
+same_widths w zero = refl
+same_widths w (suc h) =
+    let t : (w == w) ≡ true = grind (arith, nat_tests) in
+    ap (λ v. v && all_are w (replicate h w)) t ∙ same_widths w h
+
+positive_widths : (w h : ℕ) → positive (replicate h (suc w)) ≡ replicate h (suc w)
+positive_widths w zero = refl
+positive_widths w (suc h) = ap (λ x. suc w ∷ x) (positive_widths w h)
+
+pub regular_shape : (width height : ℕ) (drawn : List Dot) → 0 < width → 0 < height → lines_of drawn ≡ lines_from 0 (replicate height width) → shape drawn ≡ Some (record { width = width; height = height })
+regular_shape zero height drawn p q e = absurd (omega arith)
+regular_shape (suc w) zero drawn p q e = absurd (omega arith)
+regular_shape (suc w) (suc h) drawn p q e =
+    let z : length (replicate h (suc w)) + 1 ≡ suc h = omega (arith, length-replicate h (suc w)) in
+    ap (λ x. shape_of (runs x)) e ∙ ap shape_of (runs_are 0 (replicate (suc h) (suc w)) ∙ positive_widths w (suc h))
+    ∙ ap (λ v. if v then Some (record { width = suc w; height = length (replicate h (suc w)) + 1 }) else None) (same_widths (suc w) h)
+    ∙ ap (λ n. Some (record { width = suc w; height = n })) z

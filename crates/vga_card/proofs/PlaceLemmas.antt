@@ -1,0 +1,80 @@
+-- What is drawn before the beam, as the beam moves.
+use Rattle.std.proofs.Common.{◌≡◌, ℕ, ◌<◌, ⊎_elim, refl, sym, ap, ◌∙◌, arith, Bool, true, false, List, Result, Ok, Err}
+use Rattle.std.specs.Prelude.{◌==◌, not, if◌then◌else◌, slice_index, slice_set, bit_and, OnOk, IfErr}
+use Rattle.std.proofs.lemmas.Bool.Decides.{nat_tests}
+use Rattle.vga_bits.specs.declared.refusal.Refusal.{Refusal}
+use Rattle.vga_bits.specs.declared.refusal.Refusal.TheVariants.{NotInProfile}
+use Rattle.vga_crtc.specs.declared.beam.Beam.{Beam}
+use Rattle.vga_crtc.specs.Crtc.{CrtcState}
+use Rattle.vga_crtc.specs.Beam.{is_first_dot, dot, after_start, after_dot}
+use Rattle.vga_crtc.specs.Ports.{kept_bits, is_write_protected, protected_overflow, after_out}
+use Rattle.vga_crtc.specs.Raster.{IsFrameStart, IsNextDot, IsNextCharacter, IsNextLine, IsNextPlace}
+use Rattle.vga_crtc.proofs.Moves.{dot_moves, started_place}
+use Rattle.vga_card.specs.Valid.{fresh_count, IsDrawnTo}
+
+-- taking the start of a frame does not move the beam
+pub drawn_started : (crtc : CrtcState) (more line width : ℕ) → IsDrawnTo crtc.beam more line width → IsDrawnTo (after_start crtc).beam more line width
+unfolding after_start
+drawn_started crtc more line width is =
+    let place = started_place crtc.registers crtc.beam in
+    record {
+      below = omega (arith, is.below, place.line);
+      few = λ e. omega (arith, is.few (e ∙ place.line), place.character, place.dot);
+    }
+
+drawn_unstarted : (crtc : CrtcState) (more line width : ℕ) → IsDrawnTo (after_start crtc).beam more line width → IsDrawnTo crtc.beam more line width
+unfolding after_start
+drawn_unstarted crtc more line width is =
+    let place = started_place crtc.registers crtc.beam in
+    record {
+      below = omega (arith, is.below, place.line);
+      few = λ e. omega (arith, is.few (e ∙ sym place.line), place.character, place.dot);
+    }
+
+-- at the first dot of a frame nothing is drawn
+is_first : (b : Beam) → IsFrameStart b → is_first_dot b ≡ true
+is_first b start = let line = start.line in let character = start.character in let dot = start.dot in grind (arith, nat_tests)
+
+decided : (v : Bool) (b : Beam) (line width : ℕ) → (v ≡ false → IsDrawnTo b 0 line width) → IsDrawnTo b 0 (if v then 0 else line) (if v then 0 else width)
+decided true b line width h = record { below = omega arith; few = λ e. omega arith }
+decided false b line width h = h refl
+
+elsewhere : (b : Beam) → is_first_dot b ≡ false → ¬ IsFrameStart b
+elsewhere b away start = let here = is_first b start in absurd (cc)
+
+-- one dot more is drawn, and the beam moves past it
+drawn_moves : (cw : ℕ) (r : List ℕ) (b m : Beam) (line width : ℕ) → b.dot < 9 → IsNextPlace cw r b m → IsDrawnTo b 1 line width → is_first_dot m ≡ false → IsDrawnTo m 0 line width
+drawn_moves cw r b m line width within next is away =
+    ⊎_elim
+    (λ (a : IsNextDot cw b m). record { below = omega (arith, a.line, is.below); few = λ e. omega (arith, is.few (e ∙ a.line), a.character, a.dot) })
+    (⊎_elim
+    (λ (a : IsNextCharacter r b m). record { below = omega (arith, a.line, is.below); few = λ e. omega (arith, is.few (e ∙ a.line), a.character, a.dot) })
+    (⊎_elim
+    (λ (a : IsNextLine r b m). record { below = omega (arith, a.line, is.below); few = λ e. absurd (omega (arith, e, a.line, is.below)) })
+    (λ (start : IsFrameStart m). absurd (elsewhere m away start))))
+    next
+
+pub card_moves : (crtc : CrtcState) (cw line width : ℕ) → crtc.beam.dot < 9 → IsDrawnTo (after_start crtc).beam 1 line width → IsDrawnTo (after_dot crtc cw).beam 0 (fresh_count (after_dot crtc cw).beam line) (fresh_count (after_dot crtc cw).beam width)
+unfolding after_dot
+card_moves crtc cw line width within is =
+    let r = crtc.registers in
+    let m : Beam = dot cw r crtc.beam in
+    decided (is_first_dot m) m line width (drawn_moves cw r crtc.beam m line width within (dot_moves cw r crtc.beam) (drawn_unstarted crtc 1 line width is))
+
+-- ---- a write to a port of the CRT controller does not move the beam
+
+kept_if : (v : Bool) (old x y : CrtcState) → x.beam ≡ old.beam → y.beam ≡ old.beam → (if v then x else y).beam ≡ old.beam
+kept_if true old x y h k = h
+kept_if false old x y h k = k
+
+out_keeps : (crtc : CrtcState) (at_data : Bool) (v : ℕ) → (after_out crtc at_data v).beam ≡ crtc.beam
+unfolding after_out
+out_keeps crtc false v = refl
+out_keeps crtc true v =
+    let written : CrtcState = record crtc { registers = slice_set crtc.registers crtc.index (bit_and v (slice_index kept_bits crtc.index)) } in
+    let overflowed : CrtcState = record crtc { registers = slice_set crtc.registers 7 (protected_overflow crtc v) } in
+    kept_if (not (is_write_protected crtc)) crtc written (if crtc.index == 7 then overflowed else crtc) refl (kept_if (crtc.index == 7) crtc overflowed crtc refl refl)
+
+pub beam_kept : (crtc new : CrtcState) (at_data : Bool) (v : ℕ) (answer : Result (Unit {0}) Refusal) → OnOk answer (new ≡ after_out crtc at_data v) → IfErr answer (λ e. (e ≡ NotInProfile) × (new ≡ crtc)) → new.beam ≡ crtc.beam
+beam_kept crtc new at_data v (Ok u) done refused = ap (λ (c : CrtcState). c.beam) done ∙ out_keeps crtc at_data v
+beam_kept crtc new at_data v (Err e) done refused = ap (λ (c : CrtcState). c.beam) refused.1

@@ -1,0 +1,147 @@
+//! The dots that were drawn of the frame under way.
+ghost use Rattle.std.specs.Prelude.{◌≡◌, ℕ, ◌+◌, ◌*◌, ◌<◌, ◌≤◌, [], ◌∷◌, ◌++◌, length, slice_index, IfOk, IfSome, IsOkUnless};
+ghost use Rattle.vga_planes.specs.Planes.{zeros};
+ghost use Rattle.vga_card.specs.Picture.{Dot, bytes_of, shape, rows};
+ghost use Rattle.vga_card.specs.Canvas.{DotPut, IsSmallShape, empty_sheet, widest, width_with};
+
+use crate::shape::{Shape, count_rows};
+use std::alloc::Global;
+use std::marker::Model;
+use vga_bits::Fault;
+
+/// How many dots a frame can have: 1,024 lines of 256 characters of 9 dots.
+const DOTS: usize = 2_359_296;
+
+/// How many lines of a frame can have a dot.
+const LINES: usize = 1_024;
+
+/// The dots in order in one buffer, three bytes each, and how many of them each line has.
+///
+/// Contracts see the list of the dots, the last line with one, and how many that line has.
+#[derive(Drop)]
+pub(crate) struct Canvas {
+    buffer: Vec<u8>,
+    widths: Vec<u32>,
+    used: usize,
+    line: u16,
+}
+
+impl Model for Canvas {
+    ghost use Rattle.std.specs.Prelude.{slice_index};
+    ghost use Rattle.vga_card.specs.Canvas.{Sheet, IsCanvas, stored_dots};
+
+    ghost Value = { Sheet };
+
+    ghost view = { λ c. record { dots = stored_dots c.widths.items c.buffer.items; line = c.line; width = slice_index c.widths.items c.line } };
+
+    ghost invariant = { λ c. IsCanvas c.buffer.items c.widths.items c.used c.line };
+}
+
+/// So many bytes 0.
+#[tactic(auto, unfolding(vga_planes::specs::Planes::zeros))]
+fn zero_bytes(alloc: Global, len: usize) -> Result<Vec<u8>, Fault>
+    ensures items { IfOk result (λ v. v.items ≡ zeros len) }
+    ensures err { IsOkUnless result Fault.OutOfMemory }
+{
+    match vec![in alloc; 0; len] {
+        Ok(bytes) => Ok(bytes),
+        Err(_) => Err(Fault::OutOfMemory),
+    }
+}
+
+/// So many widths 0.
+#[tactic(auto, unfolding(vga_planes::specs::Planes::zeros))]
+fn zero_widths(alloc: Global, len: usize) -> Result<Vec<u32>, Fault>
+    ensures items { IfOk result (λ v. v.items ≡ zeros len) }
+    ensures err { IsOkUnless result Fault.OutOfMemory }
+{
+    match vec![in alloc; 0; len] {
+        Ok(widths) => Ok(widths),
+        Err(_) => Err(Fault::OutOfMemory),
+    }
+}
+
+/// Makes all widths 0.
+fn clear_widths(widths: &mut [u32])
+    ensures { (j : ℕ) → slice_index widths.new j ≡ 0 }
+{
+    widths.fill(0);
+}
+
+/// Writes the three bytes of dot `i`.
+fn put_dot(buffer: &mut [u8], i: usize, colour: [u8; 3])
+    requires { 3 * i + 3 ≤ length buffer.old }
+    ensures { DotPut buffer.old buffer.new i colour }
+{
+    buffer[3 * i] = colour[0];
+    buffer[3 * i + 1] = colour[1];
+    buffer[3 * i + 2] = colour[2];
+}
+
+impl Canvas {
+    /// No dots, with room for the largest frame: no later call takes memory. It fails with
+    /// `OutOfMemory` alone.
+    pub(crate) fn new(alloc: Global) -> Result<Canvas, Fault>
+        ensures ok { IfOk result (λ canvas. canvas ≡ empty_sheet) }
+        ensures err { IsOkUnless result Fault.OutOfMemory }
+    {
+        let buffer = zero_bytes(alloc, 3 * DOTS)?;
+        let widths = zero_widths(alloc, LINES)?;
+        Ok(Canvas {
+            buffer,
+            widths,
+            used: 0,
+            line: 0,
+        })
+    }
+
+    /// Adds a dot, in red, green and blue, to the last line or to one after it. A line is below 1,024
+    /// and has at most 2,304 dots.
+    pub(crate) fn add(&mut self, line: u16, colour: [u8; 3])
+        requires lines { line < 1024 }
+        requires after { self.old.line ≤ line }
+        requires room { line ≡ self.old.line → self.old.width < widest }
+        ensures dots { self.new.dots ≡ self.old.dots ++ (record { line = line; colour = colour }) ∷ [] }
+        ensures line { self.new.line ≡ line }
+        ensures width { self.new.width ≡ width_with self.old line }
+    {
+        put_dot(self.buffer.as_mut_slice(), self.used, colour);
+        let width = &mut self.widths[line as usize];
+        *width += 1;
+        self.used += 1;
+        self.line = line;
+    }
+
+    /// Takes all dots away.
+    pub(crate) fn clear(&mut self)
+        ensures { self.new ≡ empty_sheet }
+    {
+        clear_widths(self.widths.as_mut_slice());
+        self.used = 0;
+        self.line = 0;
+    }
+
+    /// How many rows there are: lines with a dot.
+    pub(crate) fn rows(&self) -> u16
+        ensures { result ≡ rows self.now.dots }
+    {
+        count_rows(self.widths.as_slice())
+    }
+
+    /// The shape of the picture, at most 2,304 by 1,024, or `None` where two rows differ in width.
+    pub(crate) fn shape(&self) -> Option<Shape>
+        ensures value { result ≡ shape self.now.dots }
+        ensures few { IfSome result IsSmallShape }
+        ensures area { IfSome result (λ shape. length self.now.dots ≡ shape.width * shape.height) }
+    {
+        Shape::of_widths(self.widths.as_slice())
+    }
+
+    /// Red, green and blue of each dot in turn.
+    pub(crate) fn bytes(&self) -> &[u8]
+        ensures value { result.now ≡ bytes_of self.now.dots }
+        ensures len { length result.now ≡ 3 * length self.now.dots }
+    {
+        &self.buffer.as_slice()[..3 * self.used]
+    }
+}
