@@ -1,0 +1,9 @@
+//! What the video BIOS knows of its modes, and the data that it keeps.
+#![tactic(auto)]
+
+pub mod bda;
+
+pub use bda::Bda;
+
+#[cfg(test)]
+mod tests;
