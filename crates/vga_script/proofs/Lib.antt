@@ -1,0 +1,16 @@
+pub mod OptionLemmas
+pub mod NameLemmas
+pub mod WordLemmas
+pub mod NumberLemmas
+pub mod ShownLemmas
+pub mod ReadingLemmas
+pub mod LineLemmas
+pub mod AssembleLemmas
+pub mod FieldLemmas
+pub mod DecodeLemmas
+pub mod GrammarLemmas
+pub mod FaultLemmas
+pub mod ScriptLemmas
+pub mod TextLemmas
+pub mod PrintLemmas
+pub mod PrintedLemmas

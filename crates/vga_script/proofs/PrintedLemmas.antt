@@ -1,0 +1,358 @@
+-- The printed text of steps spells them.
+use Rattle.std.proofs.Common.{◌≡◌, ℕ, zero, suc, ◌+◌, ◌*◌, ◌/◌, ◌%◌, ◌^◌, ◌<◌, ◌≤◌, Bool, true, false, not, ◌||◌, cond, nat_lt, List, [], ◌∷◌, ◌++◌, length, filter, refl, sym, ap, ◌∙◌, subst, arith, inl, inr, codes, decimal, slice_index, append_assoc, length-append}
+use Rattle.std.specs.Char.{digit_value}
+use Rattle.std.specs.Int.{IsInRange as IsWithin}
+use Rattle.std.specs.List.{slice_split, join_with_byte, before_first, position_or_len, AllByRecursion, list_all}
+use Rattle.std.specs.Str.Parse.{AllDigits, digits_value}
+use Rattle.std.proofs.lemmas.Bool.Decides.{nat_tests}
+use Rattle.std.proofs.lemmas.Fmt.{decimal_is_IsNumeral, decimal_nonempty}
+use Rattle.std.proofs.lemmas.Str.Parse.{digit_from_value}
+use Rattle.vga_script.proofs.OptionLemmas.{and_ok, lt_test}
+use Rattle.hex.specs.Hex.{IsBytes, encode_with, encode_upper, upper_digits}
+use Rattle.hex.proofs.HexLemmas.{decode_of-encode_upper, length-encode_with}
+use Rattle.std.proofs.lemmas.Int.Digits.{digits_push, digits_value_push}
+use Rattle.std.proofs.lemmas.List.{take_all}
+use Rattle.std.proofs.lemmas.List.Splits.{slice_split_at, slice_split_none}
+use Rattle.std.proofs.lemmas.List.Sums.{position_or_len_is}
+use Rattle.std.proofs.lemmas.List.Elements.{All-from_recursion}
+use Rattle.std.proofs.Math.Nat.{pow-suc}
+use Rattle.vga_script.specs.declared.keyword.Keyword.{Keyword}
+use Rattle.vga_script.specs.declared.keyword.Keyword.TheVariants as keyword
+use Rattle.vga_script.specs.declared.step.Step.{Step}
+use Rattle.vga_script.specs.declared.step.Step.TheVariants.{Out, OutWord, In, InWord, Put, PutWord, Get, GetWord, Int, Advance, Frame, Show}
+use Rattle.vga_script.specs.declared.shown.Shown.{Shown}
+use Rattle.vga_script.specs.declared.shown.Shown.TheVariants as shown
+use Rattle.vga_script.specs.Words.{is_blank, is_semicolon, is_newline, has_bytes, words_in, words, lines, lowered, IsNumeral, IsHex}
+use Rattle.vga_script.specs.Text.{name_of, keyword_of, shown_name, SpellsHex, SpellsTwoHex, SpellsRegister, SpellsBlock, SpellsShown, SpellsFields, SpellsLine, SpellsLines, SpellsText}
+use Rattle.vga_script.specs.Shown.{IsShownInRange}
+use Rattle.vga_script.specs.Step.{IsBlock, IsInRange, AreInRange}
+use Rattle.vga_script.specs.Printing.{hex_digit, hex, port_text, address_text, block_words, shown_field_words, field_words, printed_words, line_of, printed}
+
+-- ---- digits
+
+-- a byte that stands within a word
+abbrev is_plain : ℕ → Bool
+is_plain c = not (is_blank c || is_semicolon c || is_newline c)
+
+abbrev AllPlain : List ℕ → Type 0
+AllPlain [] = Unit {0}
+AllPlain (c ∷ cs) = (is_plain c ≡ true) × AllPlain cs
+
+-- two plain texts one after the other
+plain-append : (a b : List ℕ) → AllPlain a → AllPlain b → AllPlain (a ++ b)
+plain-append [] b p q = q
+plain-append (c ∷ cs) b (p, ps) q = (p, plain-append cs b ps q)
+
+-- a digit is read back, and plain
+digit_back : (d : ℕ) → d < 16 → digit_value (hex_digit d) ≡ d
+digit_back d small = grind (arith, nat_tests)
+
+digit_plain : (d : ℕ) → d < 16 → is_plain (hex_digit d) ≡ true
+digit_plain d small = grind (arith, nat_tests)
+
+digit_below : (n : ℕ) → n % 16 < 16
+digit_below n = omega arith
+
+-- the digits of a number are plain, so many, and read back
+plain_hex : (k n : ℕ) → AllPlain (hex k n)
+unfolding hex
+plain_hex zero n = tt
+plain_hex (suc k) n = plain-append (hex k (n / 16)) (hex_digit (n % 16) ∷ []) (plain_hex k (n / 16)) (digit_plain (n % 16) (digit_below n), tt)
+
+length-hex : (k n : ℕ) → length (hex k n) ≡ k
+unfolding hex
+length-hex zero n = refl
+length-hex (suc k) n = let l = length-append (hex k (n / 16)) (hex_digit (n % 16) ∷ []) in let r = length-hex k (n / 16) in omega arith
+
+digits_hex : (k n : ℕ) → AllDigits 16 (hex k n)
+unfolding hex
+digits_hex zero n = tt
+digits_hex (suc k) n =
+    let back = digit_back (n % 16) (digit_below n) in
+    digits_push 16 (hex k (n / 16)) (hex_digit (n % 16)) (digits_hex k (n / 16)) (rw back (digit_below n))
+
+quotient : (n p : ℕ) → n < p * 16 → n / 16 < p
+quotient n p h = omega arith
+
+parts : (n : ℕ) → n / 16 * 16 + n % 16 ≡ n
+parts n = omega arith
+
+value_hex : (k n : ℕ) → n < 16 ^ k → digits_value 16 (hex k n) ≡ n
+unfolding hex
+value_hex zero n small = let none : n ≡ 0 = omega arith in sym none
+value_hex (suc k) n small =
+    let power : 16 ^ suc k ≡ 16 ^ k * 16 = pow-suc 16 k in
+    let front = value_hex k (n / 16) (quotient n (16 ^ k) (rw power at small)) in
+    digits_value_push 16 (hex k (n / 16)) (hex_digit (n % 16)) ∙ rw (front, digit_back (n % 16) (digit_below n)) (parts n)
+
+-- so they spell it
+spells_exact : (k n : ℕ) → 0 < k → n < 16 ^ k → IsHex k (hex k n) n
+spells_exact k n some small =
+    let l = length-hex k n in
+    (omega arith, (omega arith, digits_hex k n, sym (value_hex k n small)))
+
+wider : (j k n : ℕ) (w : List ℕ) → j ≤ k → IsHex j w n → IsHex k w n
+wider j k n w le (short, numeral) = (omega arith, numeral)
+
+-- a choice of two texts
+pick : (b : Bool) (x y : List ℕ) (P : List ℕ → Type 0) → (b ≡ true → P x) → P y → P (cond b x y)
+pick true x y P p q = p refl
+pick false x y P p q = q
+
+shorter_address : (k n : ℕ) → 0 < k → k ≤ 8 → n < 16 ^ k → IsHex 8 (hex k n) n × AllPlain (hex k n)
+shorter_address k n some le small = (wider k 8 n (hex k n) le (spells_exact k n some small), plain_hex k n)
+
+-- the digits of a port and of an address spell it
+spells_port : (port : ℕ) → port < 2 ^ 16 → IsHex 4 (port_text port) port × AllPlain (port_text port)
+unfolding port_text
+spells_port port small =
+    pick (nat_lt port 0x1000) (hex 3 port) (hex 4 port) (λ w. IsHex 4 w port × AllPlain w)
+    (λ t. let lt = lt_test _ _ t in (wider 3 4 port (hex 3 port) (omega arith) (spells_exact 3 port (omega arith) (omega arith)), plain_hex 3 port))
+    (spells_exact 4 port (omega arith) (omega arith), plain_hex 4 port)
+
+spells_address : (address : ℕ) → address < 2 ^ 32 → IsHex 8 (address_text address) address × AllPlain (address_text address)
+unfolding address_text
+spells_address address small =
+    let P : List ℕ → Type 0 = λ w. IsHex 8 w address × AllPlain w in
+    let last : P (hex 8 address) = (spells_exact 8 address (omega arith) (omega arith), plain_hex 8 address) in
+    let seven : P (cond (nat_lt address 0x1000_0000) (hex 7 address) (hex 8 address)) = pick (nat_lt address 0x1000_0000) (hex 7 address) (hex 8 address) P (λ t. shorter_address 7 address (omega arith) (omega arith) (lt_test _ _ t)) last in
+    let six : P (cond (nat_lt address 0x100_0000) (hex 6 address) (cond (nat_lt address 0x1000_0000) (hex 7 address) (hex 8 address))) =
+    pick (nat_lt address 0x100_0000) (hex 6 address) (cond (nat_lt address 0x1000_0000) (hex 7 address) (hex 8 address)) P (λ t. shorter_address 6 address (omega arith) (omega arith) (lt_test _ _ t)) seven in
+    pick (nat_lt address 0x10_0000) (hex 5 address) (cond (nat_lt address 0x100_0000) (hex 6 address) (cond (nat_lt address 0x1000_0000) (hex 7 address) (hex 8 address))) P (λ t. shorter_address 5 address (omega arith) (omega arith) (lt_test _ _ t)) six
+
+-- ---- words and lines of a printed line
+
+-- words that a blank parts
+abbrev AreWords : List (List ℕ) → Type 0
+AreWords [] = Unit {0}
+AreWords (w ∷ ws) = (0 < length w) × AllPlain w × AreWords ws
+
+-- no byte of a plain text passes a test that no plain byte passes
+none_pass : (p : ℕ → Bool) → ((c : ℕ) → is_plain c ≡ true → p c ≡ false) → (w : List ℕ) → AllPlain w → AllByRecursion (λ c. p c ≡ false) w
+none_pass p h [] all = tt
+none_pass p h (c ∷ cs) (first, others) = (h c first, none_pass p h cs others)
+
+-- a plain byte is no blank, semicolon or newline
+none_of : (a b c : Bool) → not (a || b || c) ≡ true → (a ≡ false) × (b ≡ false) × (c ≡ false)
+none_of true b c e = absurd (cc)
+none_of false true c e = absurd (cc)
+none_of false false true e = absurd (cc)
+none_of false false false e = (refl, refl, refl)
+
+plain_blank : (c : ℕ) → is_plain c ≡ true → is_blank c ≡ false
+plain_blank c e = (none_of (is_blank c) (is_semicolon c) (is_newline c) e).0
+
+plain_semicolon : (c : ℕ) → is_plain c ≡ true → is_semicolon c ≡ false
+plain_semicolon c e = (none_of (is_blank c) (is_semicolon c) (is_newline c) e).1
+
+plain_newline : (c : ℕ) → is_plain c ≡ true → is_newline c ≡ false
+plain_newline c e = (none_of (is_blank c) (is_semicolon c) (is_newline c) e).2
+
+-- words that are joined by spaces are cut into themselves
+split_join : (w : List ℕ) (ws : List (List ℕ)) → AreWords (w ∷ ws) → slice_split is_blank (join_with_byte 32 (w ∷ ws)) ≡ w ∷ ws
+split_join w [] (some, all, more) = slice_split_none is_blank w (All-from_recursion (λ c. is_blank c ≡ false) w (none_pass is_blank plain_blank w all))
+split_join w (v ∷ vs) (some, all, more) =
+    slice_split_at is_blank w 32 (join_with_byte 32 (v ∷ vs)) (All-from_recursion (λ c. is_blank c ≡ false) w (none_pass is_blank plain_blank w all)) refl
+    ∙ ap (λ (l : List (List ℕ)). w ∷ l) (split_join v vs more)
+
+-- and none is dropped
+keep_words : (ws : List (List ℕ)) → AreWords ws → filter has_bytes ws ≡ ws
+keep_words [] h = refl
+keep_words ([] ∷ ws) (some, all, more) = absurd (omega arith)
+keep_words ((c ∷ cs) ∷ ws) (some, all, more) = ap (λ (l : List (List ℕ)). (c ∷ cs) ∷ l) (keep_words ws more)
+
+none_append : (p : ℕ → Bool) (a b : List ℕ) → AllByRecursion (λ c. p c ≡ false) a → AllByRecursion (λ c. p c ≡ false) b → AllByRecursion (λ c. p c ≡ false) (a ++ b)
+none_append p [] b none more = more
+none_append p (c ∷ cs) b (first, others) more = (first, none_append p cs b others more)
+
+-- the joined words have no byte that passes, where no plain byte and no blank does
+join_none : (p : ℕ → Bool) → ((c : ℕ) → is_plain c ≡ true → p c ≡ false) → p 32 ≡ false → (ws : List (List ℕ)) → AreWords ws → AllByRecursion (λ c. p c ≡ false) (join_with_byte 32 ws)
+join_none p h blank [] all = tt
+join_none p h blank (w ∷ []) (some, all, more) = none_pass p h w all
+join_none p h blank (w ∷ v ∷ vs) (some, all, more) =
+    none_append p w (32 ∷ join_with_byte 32 (v ∷ vs)) (none_pass p h w all) (blank, join_none p h blank (v ∷ vs) more)
+
+before_none : (p : ℕ → Bool) (xs : List ℕ) → AllByRecursion (λ c. p c ≡ false) xs → before_first p xs ≡ xs
+before_none p xs none =
+    let all = All-from_recursion (λ c. p c ≡ false) xs none in
+    let place = position_or_len_is p xs (length xs) 0 (omega arith) (λ k h. all k 0 h) (λ h. absurd (omega arith)) in
+    take_all (position_or_len p xs) xs (omega arith)
+
+-- so the words of a printed line are its words
+words_join : (ws : List (List ℕ)) → AreWords ws → words (join_with_byte 32 ws) ≡ ws
+words_join [] h = refl
+words_join (w ∷ ws) h =
+    ap words_in (before_none is_semicolon (join_with_byte 32 (w ∷ ws)) (join_none is_semicolon plain_semicolon refl (w ∷ ws) h))
+    ∙ ap (filter has_bytes) (split_join w ws h) ∙ keep_words (w ∷ ws) h
+
+-- and its line ends at its newline
+lines_join : (ws : List (List ℕ)) (rest : List ℕ) → AreWords ws → lines ((join_with_byte 32 ws ++ 10 ∷ []) ++ rest) ≡ join_with_byte 32 ws ∷ lines rest
+lines_join ws rest h =
+    ap lines (append_assoc (join_with_byte 32 ws) (10 ∷ []) rest)
+    ∙ slice_split_at is_newline (join_with_byte 32 ws) 10 rest (All-from_recursion (λ c. is_newline c ≡ false) (join_with_byte 32 ws) (join_none is_newline plain_newline refl ws h)) refl
+
+-- ---- the words of a step
+
+-- text that passes a test is plain
+test_plain : (w : List ℕ) → list_all is_plain w ≡ true → AllPlain w
+test_plain [] e = tt
+test_plain (c ∷ cs) e = let t = and_ok (is_plain c) (list_all is_plain cs) e in (t.0, test_plain cs t.1)
+
+-- decimal digits are plain, and spell their number
+plain_digit : (c : ℕ) → IsWithin 48 57 c → is_plain c ≡ true
+plain_digit c (low, high) = grind (arith, nat_tests)
+
+plain_digits : (w : List ℕ) → AllDigits 10 w → AllPlain w
+plain_digits [] all = tt
+plain_digits (c ∷ cs) (first, others) = (plain_digit c (digit_from_value c first), plain_digits cs others)
+
+spells_decimal_text : (n : ℕ) → n < 2 ^ 64 → IsNumeral 10 (decimal n) n × AllPlain (decimal n)
+spells_decimal_text n small =
+    let d = decimal_is_IsNumeral n small in
+    ((decimal_nonempty n small, d.0.1, sym d.1), plain_digits (decimal n) d.0.1)
+
+-- every digit of a block is plain, as is a digit that is not there
+plain_at : (digits : List ℕ) (d : ℕ) → AllPlain digits → is_plain (slice_index digits d) ≡ true
+plain_at [] d all = refl
+plain_at (c ∷ cs) zero (first, others) = first
+plain_at (c ∷ cs) (suc d) (first, others) = plain_at cs d others
+
+plain_upper : (d : ℕ) → is_plain (slice_index upper_digits d) ≡ true
+plain_upper d = plain_at upper_digits d (test_plain upper_digits refl)
+
+plain_bytes : (bytes : List ℕ) → AllPlain (encode_upper bytes)
+unfolding encode_with
+plain_bytes [] = tt
+plain_bytes (b ∷ bs) = (plain_upper (b / 16), (plain_upper (b % 16), plain_bytes bs))
+
+bytes_fit : (bytes : List ℕ) → AllByRecursion (λ byte. byte < 2 ^ 8) bytes → IsBytes bytes
+bytes_fit [] all i = omega arith
+bytes_fit (b ∷ bs) (first, others) zero = first
+bytes_fit (b ∷ bs) (first, others) (suc i) = bytes_fit bs others i
+
+-- the words of a block are words, and spell it
+spells_block_words : (block : List ℕ) → IsBlock block → SpellsBlock (block_words block) block
+spells_block_words [] fits = inl (refl, refl)
+spells_block_words (b ∷ bs) (short, all) = inr (codes "block", encode_upper (b ∷ bs), refl, refl, omega arith, short, decode_of-encode_upper (b ∷ bs) (bytes_fit (b ∷ bs) all))
+
+some_hex : (k n : ℕ) → 0 < k → 0 < length (hex k n)
+some_hex k n some = let l = length-hex k n in omega arith
+
+block_are_words : (block : List ℕ) → AreWords (block_words block)
+block_are_words [] = tt
+block_are_words (b ∷ bs) =
+    let l = length-encode_with upper_digits (b ∷ bs) in
+    (omega arith, test_plain (codes "block") refl, (omega arith, plain_bytes (b ∷ bs), tt))
+
+-- a register is a word, and spells its value
+register_word : (name : List ℕ) (v : ℕ) (ws : List (List ℕ)) → 0 < length name → list_all is_plain name ≡ true → AreWords ws → AreWords ((name ++ hex 4 v) ∷ ws)
+register_word name v ws some plain more =
+    let l = length-append name (hex 4 v) in
+    (omega arith, plain-append name (hex 4 v) (test_plain name plain) (plain_hex 4 v), more)
+
+register_text : (name : List ℕ) (v : ℕ) → lowered name ≡ name → v < 2 ^ 16 → SpellsRegister name ((name ++ hex 4 v) ∷ []) v
+register_text name v lower small = inr (name, hex 4 v, refl, lower, spells_exact 4 v (omega arith) (omega arith))
+
+-- the words of a step's fields are words, and spell its fields
+abbrev Prints : Step → Type 0
+Prints s = AreWords (field_words s) × SpellsFields (field_words s) s
+
+-- a port, and an address
+port_prints : (port : ℕ) → port < 2 ^ 16 → AreWords (port_text port ∷ []) × SpellsHex 4 (port_text port ∷ []) port
+port_prints port small = let p = spells_port port small in ((p.0.1.0, p.1, tt), (port_text port, refl, p.0))
+
+address_prints : (address : ℕ) → address < 2 ^ 32 → AreWords (address_text address ∷ []) × SpellsHex 8 (address_text address ∷ []) address
+address_prints address small = let p = spells_address address small in ((p.0.1.0, p.1, tt), (address_text address, refl, p.0))
+
+-- a value of k digits behind a word
+value_prints : (most k n v : ℕ) (word : List ℕ) → IsHex most word n × AllPlain word → 0 < k → v < 16 ^ k
+    → AreWords (word ∷ hex k v ∷ []) × SpellsTwoHex most k (word ∷ hex k v ∷ []) n v
+value_prints most k n v word p some small =
+    ((p.0.1.0, p.1, (some_hex k v some, plain_hex k v, tt)), (word, hex k v, refl, p.0, spells_exact k v some small))
+
+-- what is shown
+shown_prints : (what : Shown) → IsShownInRange what → AreWords (shown_name what ∷ shown_field_words what) × SpellsShown (shown_name what ∷ shown_field_words what) what
+shown_prints shown.Registers fits = ((omega arith, test_plain (codes "regs") refl, tt), (codes "regs", [], refl, refl, refl))
+shown_prints (shown.Dac index) fits = (
+  (omega arith, test_plain (codes "dac") refl, (some_hex 2 index (omega arith), plain_hex 2 index, tt)),
+  (codes "dac", hex 2 index ∷ [], refl, refl, (hex 2 index, refl, spells_exact 2 index (omega arith) (omega arith))),
+)
+shown_prints shown.Beam fits = ((omega arith, test_plain (codes "beam") refl, tt), (codes "beam", [], refl, refl, refl))
+shown_prints shown.Latches fits = ((omega arith, test_plain (codes "latches") refl, tt), (codes "latches", [], refl, refl, refl))
+shown_prints (shown.Plane plane offset count) (four, some, most, within) =
+    let d = spells_decimal_text count (omega arith) in
+    let fields = hex 1 plane ∷ hex 4 offset ∷ decimal count ∷ [] in (
+      (omega arith, test_plain (codes "plane") refl, (some_hex 1 plane (omega arith), plain_hex 1 plane, (some_hex 4 offset (omega arith), plain_hex 4 offset, (d.0.0, d.1, tt)))),
+      (
+        codes "plane",
+        fields,
+        refl,
+        refl,
+        (hex 1 plane, hex 4 offset, decimal count, refl, spells_exact 1 plane (omega arith) (omega arith), spells_exact 4 offset (omega arith) (omega arith), d.0, (four, some, most, within)),
+      ),
+    )
+shown_prints shown.BiosData fits = ((omega arith, test_plain (codes "bda") refl, tt), (codes "bda", [], refl, refl, refl))
+
+-- in each step
+fields_print : (s : Step) → IsInRange s → Prints s
+fields_print (Out port value) (hp, hv) = value_prints 4 2 port value (port_text port) (spells_port port hp) (omega arith) (omega arith)
+fields_print (OutWord port value) (hp, hv) = value_prints 4 4 port value (port_text port) (spells_port port hp) (omega arith) (omega arith)
+fields_print (In port) hp = port_prints port hp
+fields_print (InWord port) hp = port_prints port hp
+fields_print (Put address value) (ha, hv) = value_prints 8 2 address value (address_text address) (spells_address address ha) (omega arith) (omega arith)
+fields_print (PutWord address value) (ha, hv) = value_prints 8 4 address value (address_text address) (spells_address address ha) (omega arith) (omega arith)
+fields_print (Get address) ha = address_prints address ha
+fields_print (GetWord address) ha = address_prints address ha
+fields_print (Int ax bx cx dx block) (ha, hb, hc, hd, hx) = (
+  register_word (codes "ax=") ax ((codes "bx=" ++ hex 4 bx) ∷ (codes "cx=" ++ hex 4 cx) ∷ (codes "dx=" ++ hex 4 dx) ∷ block_words block) (omega arith) refl
+      (register_word (codes "bx=") bx ((codes "cx=" ++ hex 4 cx) ∷ (codes "dx=" ++ hex 4 dx) ∷ block_words block) (omega arith) refl
+      (register_word (codes "cx=") cx ((codes "dx=" ++ hex 4 dx) ∷ block_words block) (omega arith) refl
+      (register_word (codes "dx=") dx (block_words block) (omega arith) refl (block_are_words block)))),
+  (
+    (codes "ax=" ++ hex 4 ax) ∷ [],
+    (codes "bx=" ++ hex 4 bx) ∷ [],
+    (codes "cx=" ++ hex 4 cx) ∷ [],
+    (codes "dx=" ++ hex 4 dx) ∷ [],
+    block_words block,
+    refl,
+    register_text (codes "ax=") ax refl ha,
+    register_text (codes "bx=") bx refl hb,
+    register_text (codes "cx=") cx refl hc,
+    register_text (codes "dx=") dx refl hd,
+    spells_block_words block hx,
+  ),
+)
+fields_print (Advance dots) h = let d = spells_decimal_text dots (omega arith) in ((d.0.0, d.1, tt), (decimal dots, refl, d.0, h))
+fields_print Frame h = (tt, refl)
+fields_print (Show what) h = shown_prints what h
+
+-- a name is a word, in lower case
+name_prints : (k : Keyword) → (0 < length (name_of k)) × (list_all is_plain (name_of k) ≡ true) × (lowered (name_of k) ≡ name_of k)
+name_prints keyword.Out = (omega arith, refl, refl)
+name_prints keyword.OutWord = (omega arith, refl, refl)
+name_prints keyword.In = (omega arith, refl, refl)
+name_prints keyword.InWord = (omega arith, refl, refl)
+name_prints keyword.Put = (omega arith, refl, refl)
+name_prints keyword.PutWord = (omega arith, refl, refl)
+name_prints keyword.Get = (omega arith, refl, refl)
+name_prints keyword.GetWord = (omega arith, refl, refl)
+name_prints keyword.Int = (omega arith, refl, refl)
+name_prints keyword.Advance = (omega arith, refl, refl)
+name_prints keyword.Frame = (omega arith, refl, refl)
+name_prints keyword.Show = (omega arith, refl, refl)
+
+-- the printed words of a step are words, and spell it
+step_words : (s : Step) → IsInRange s → AreWords (printed_words s) × SpellsLine (printed_words s) (s ∷ [])
+step_words s fits =
+    let n = name_prints (keyword_of s) in
+    let f = fields_print s fits in
+    ((n.0, test_plain (name_of (keyword_of s)) n.1, f.0), (s, refl, n.2, f.1))
+
+-- the printed text of steps spells them
+pub printed_spells : (steps : List Step) → AreInRange steps → SpellsText (printed steps) steps
+unfolding line_of
+printed_spells [] all = ([], [], refl, refl, refl)
+printed_spells (s ∷ steps) (first, others) =
+    let w = step_words s first in
+    subst (λ (l : List (List ℕ)). SpellsLines l (s ∷ steps)) (sym (lines_join (printed_words s) (printed steps) w.0))
+    (s ∷ [], steps, refl, subst (λ (l : List (List ℕ)). SpellsLine l (s ∷ [])) (sym (words_join (printed_words s) w.0)) w.1, printed_spells steps others)

@@ -1,0 +1,12 @@
+use Rattle.std.proofs.Common.{refl}
+use Rattle.std.specs.Fmt.{digits}
+use Rattle.vga_script.specs.Printing.{line_of, hex}
+use Rattle.vga_script.proofs.worked_examples.steps_in_print.Goals as goal
+
+pub returns-clause-advance : goal.returns-clause-advance
+unfolding line_of digits
+returns-clause-advance c = refl
+
+pub returns-clause-plane : goal.returns-clause-plane
+unfolding line_of digits hex
+returns-clause-plane c = refl

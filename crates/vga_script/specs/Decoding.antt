@@ -1,0 +1,82 @@
+-- The first fault of bytes that are too long, or spell no script.
+use Rattle.std.specs.Prelude.{ℕ, ◌≡◌, ◌≢◌, ◌<◌, ◌≤◌, ◌+◌, ◌==◌, ◌⊎◌, if◌then◌else◌, List, [], ◌∷◌, ◌++◌, length, ◌^◌, drop, Option, None, Some}
+use Rattle.byteorder.specs.Endian.{little_number}
+use Rattle.vga_bits.specs.declared.fault.Fault.{Fault}
+use Rattle.vga_bits.specs.declared.fault.Fault.TheVariants.{BadMagic, BadVersion, BadStep, Truncated, TooLong}
+use Rattle.vga_script.specs.declared.step.Step.{Step}
+use Rattle.vga_script.specs.declared.step.Step.TheVariants.{Show}
+use Rattle.vga_script.specs.declared.shown.Shown.TheVariants as shown
+use Rattle.vga_script.specs.Shown.{IsShownInRange, kind_registers, kind_dac, kind_beam, kind_latches, kind_plane, kind_bios_data}
+use Rattle.vga_script.specs.Spelling.{script_limit, magic, version, opcode_out, opcode_out_word, opcode_in, opcode_in_word, opcode_put, opcode_put_word, opcode_get, opcode_get_word, opcode_int, opcode_advance, opcode_frame, opcode_show, spelling, Spells}
+
+-- How many bytes say what is shown, of which these are the first: the kind, where it is one, and its fields. Where not
+-- even the kind is there, that one is missing.
+abbrev pub shown_len : List ℕ → Option ℕ
+shown_len [] = Some 1
+shown_len (kind ∷ rest) =
+    if kind == kind_registers then Some 1
+    else if kind == kind_dac then Some 2
+    else if kind == kind_beam then Some 1
+    else if kind == kind_latches then Some 1
+    else if kind == kind_plane then Some 6
+    else if kind == kind_bios_data then Some 1
+    else None
+
+-- How many bytes of fields belong to an opcode, where it is one, of which these bytes follow it. Those of a call of the
+-- BIOS are four registers, the length of the block, which bytes that are not there leave 0, and the block.
+abbrev pub fields_len : ℕ → List ℕ → Option ℕ
+fields_len opcode rest =
+    if opcode == opcode_out then Some 3
+    else if opcode == opcode_out_word then Some 4
+    else if opcode == opcode_in then Some 2
+    else if opcode == opcode_in_word then Some 2
+    else if opcode == opcode_put then Some 5
+    else if opcode == opcode_put_word then Some 6
+    else if opcode == opcode_get then Some 4
+    else if opcode == opcode_get_word then Some 4
+    else if opcode == opcode_int then Some (10 + little_number 2 (drop 8 rest))
+    else if opcode == opcode_advance then Some 4
+    else if opcode == opcode_frame then Some 0
+    else if opcode == opcode_show then shown_len rest
+    else None
+
+-- the bytes begin with no opcode, or with a look of no kind
+abbrev pub StartsWithNoOpcode : List ℕ → Type 0
+StartsWithNoOpcode bytes = (opcode : ℕ) × (rest : List ℕ) × (bytes ≡ opcode ∷ rest) × (fields_len opcode rest ≡ None)
+
+-- The bytes begin with a whole look at a plane that is out of range: at none of the four, at no bytes or more than 256,
+-- or past its end. Its offset and its count fit two bytes, since larger numbers are spelled as smaller ones are.
+abbrev pub StartsOutOfRange : List ℕ → Type 0
+StartsOutOfRange bytes =
+    (plane : ℕ) × (offset : ℕ) × (count : ℕ) × (rest : List ℕ) × (offset < 2 ^ 16) × (count < 2 ^ 16)
+    × (bytes ≡ spelling (Show (shown.Plane plane offset count)) ++ rest) × (IsShownInRange (shown.Plane plane offset count) → ⊥)
+
+-- the bytes begin with what is no step, however they go on
+abbrev pub StartsWithBadStep : List ℕ → Type 0
+StartsWithBadStep bytes = StartsWithNoOpcode bytes ⊎ StartsOutOfRange bytes
+
+-- the bytes begin with an opcode, and end before the last byte of its fields
+abbrev pub StartsWithCutStep : List ℕ → Type 0
+StartsWithCutStep bytes =
+    (opcode : ℕ) × (rest : List ℕ) × (needed : ℕ) × (bytes ≡ opcode ∷ rest) × (fields_len opcode rest ≡ Some needed) × (length rest < needed)
+
+-- The bytes before this offset spell a script, and the rest stand from there on.
+pub record SpellsUpTo (bytes : List ℕ) (offset : ℕ) (rest : List ℕ) : Type 0 where
+  pub front : List ℕ
+  pub steps : List Step
+  pub whole : bytes ≡ front ++ rest
+  pub good : Spells front steps
+  pub place : offset ≡ length front
+
+-- The first fault of bytes that spell no script, in the order of reading: they do not begin with the letters, nothing or
+-- another version follows these, or after good steps there is a bad step or one that is cut off.
+abbrev pub IsSpellingFault : List ℕ → Fault → Type 0
+IsSpellingFault bytes BadMagic = (rest : List ℕ) → bytes ≢ magic ++ rest
+IsSpellingFault bytes BadVersion = (other : ℕ) × (rest : List ℕ) × (bytes ≡ magic ++ other ∷ rest) × (other ≢ version)
+IsSpellingFault bytes (BadStep at) = (rest : List ℕ) × SpellsUpTo bytes at rest × StartsWithBadStep rest
+IsSpellingFault bytes (Truncated at) = ((bytes ≡ magic) × (at ≡ 4)) ⊎ ((rest : List ℕ) × SpellsUpTo bytes at rest × StartsWithCutStep rest)
+IsSpellingFault bytes _ = ⊥
+
+-- the first fault of some bytes: they are too long, before all others, or they spell no script
+abbrev pub IsFault : List ℕ → Fault → Type 0
+IsFault bytes fault = ((fault ≡ TooLong) × (script_limit < length bytes)) ⊎ ((length bytes ≤ script_limit) × IsSpellingFault bytes fault)

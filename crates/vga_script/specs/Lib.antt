@@ -1,0 +1,10 @@
+pub mod Shown
+pub mod Step
+pub mod Spelling
+pub mod Decoding
+pub mod Words
+pub mod Text
+pub mod Reading
+pub mod Printing
+pub mod Script
+pub mod Examples

@@ -1,0 +1,76 @@
+-- The printed text of a script: a line for each step.
+use Rattle.std.specs.Prelude.{ℕ, ◌+◌, ◌/◌, ◌%◌, zero, suc, nat_lt, if◌then◌else◌, List, [], ◌∷◌, ◌++◌, codes, decimal}
+use Rattle.std.specs.List.{join_with_byte, flat_map}
+use Rattle.hex.specs.Hex.{encode_upper}
+use Rattle.vga_script.specs.declared.step.Step.{Step}
+use Rattle.vga_script.specs.declared.step.Step.TheVariants.{Out, OutWord, In, InWord, Put, PutWord, Get, GetWord, Int, Advance, Frame, Show}
+use Rattle.vga_script.specs.declared.shown.Shown.{Shown}
+use Rattle.vga_script.specs.declared.shown.Shown.TheVariants as shown
+use Rattle.vga_script.specs.Text.{name_of, keyword_of, shown_name}
+
+-- a digit below 16, in upper case: 0 to 9, and A to F
+abbrev pub hex_digit : ℕ → ℕ
+hex_digit n = if nat_lt n 10 then 48 + n else 55 + n
+
+-- the last so many hexadecimal digits of a number
+unfoldable pub hex : ℕ → ℕ → List ℕ
+hex zero n = []
+hex (suc digits) n = hex digits (n / 16) ++ hex_digit (n % 16) ∷ []
+
+-- the digits of a port, at least three
+unfoldable pub port_text : ℕ → List ℕ
+port_text port = if nat_lt port 0x1000 then hex 3 port else hex 4 port
+
+-- the digits of an address, at least five
+unfoldable pub address_text : ℕ → List ℕ
+address_text address =
+    if nat_lt address 0x10_0000 then hex 5 address
+    else if nat_lt address 0x100_0000 then hex 6 address
+    else if nat_lt address 0x1000_0000 then hex 7 address
+    else hex 8 address
+
+-- the words of a block: its name, and two digits in upper case for each byte; an empty one has none
+abbrev pub block_words : List ℕ → List (List ℕ)
+block_words [] = []
+block_words (byte ∷ bytes) = codes "block" ∷ encode_upper (byte ∷ bytes) ∷ []
+
+-- the words that follow the name of what is shown
+abbrev pub shown_field_words : Shown → List (List ℕ)
+shown_field_words shown.Registers = []
+shown_field_words (shown.Dac index) = hex 2 index ∷ []
+shown_field_words shown.Beam = []
+shown_field_words shown.Latches = []
+shown_field_words (shown.Plane plane offset count) = hex 1 plane ∷ hex 4 offset ∷ decimal count ∷ []
+shown_field_words shown.BiosData = []
+
+-- the words that follow a step's name
+abbrev pub field_words : Step → List (List ℕ)
+field_words (Out port value) = port_text port ∷ hex 2 value ∷ []
+field_words (OutWord port value) = port_text port ∷ hex 4 value ∷ []
+field_words (In port) = port_text port ∷ []
+field_words (InWord port) = port_text port ∷ []
+field_words (Put address value) = address_text address ∷ hex 2 value ∷ []
+field_words (PutWord address value) = address_text address ∷ hex 4 value ∷ []
+field_words (Get address) = address_text address ∷ []
+field_words (GetWord address) = address_text address ∷ []
+field_words (Int ax bx cx dx block) =
+    (codes "ax=" ++ hex 4 ax) ∷ (codes "bx=" ++ hex 4 bx) ∷ (codes "cx=" ++ hex 4 cx) ∷ (codes "dx=" ++ hex 4 dx) ∷ block_words block
+field_words (Advance dots) = decimal dots ∷ []
+field_words Frame = []
+field_words (Show what) = shown_name what ∷ shown_field_words what
+
+-- the words of a step
+abbrev pub printed_words : Step → List (List ℕ)
+printed_words step = name_of (keyword_of step) ∷ field_words step
+
+-- a line of these words, with one space between two of them, and a newline
+unfoldable pub line_of : List (List ℕ) → List ℕ
+line_of words = join_with_byte 0x20 words ++ 0x0A ∷ []
+
+-- the line of a step
+abbrev pub printed_line : Step → List ℕ
+printed_line step = line_of (printed_words step)
+
+-- the printed text of these steps
+abbrev pub printed : List Step → List ℕ
+printed steps = flat_map printed_line steps

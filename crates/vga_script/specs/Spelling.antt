@@ -1,0 +1,105 @@
+-- What a script is in bytes: the letters VGAS, the version, and the steps one after the other.
+use Rattle.std.specs.Prelude.{ℕ, ◌≡◌, List, [], ◌∷◌, ◌++◌, length}
+use Rattle.std.specs.List.{flat_map}
+use Rattle.byteorder.specs.Endian.{little_bytes}
+use Rattle.vga_script.specs.declared.step.Step.{Step}
+use Rattle.vga_script.specs.declared.step.Step.TheVariants.{Out, OutWord, In, InWord, Put, PutWord, Get, GetWord, Int, Advance, Frame, Show}
+use Rattle.vga_script.specs.Shown.{shown_spelling}
+use Rattle.vga_script.specs.Step.{IsInRange}
+
+-- how many bytes a script may have, and a text that spells one
+abbrev pub script_limit : ℕ
+script_limit = 16777216
+
+-- the letters VGAS
+abbrev pub magic : List ℕ
+magic = 0x56 ∷ 0x47 ∷ 0x41 ∷ 0x53 ∷ []
+
+-- the one version
+abbrev pub version : ℕ
+version = 1
+
+-- what stands before the steps: the letters and the version
+abbrev pub header : List ℕ
+header = magic ++ version ∷ []
+
+-- the opcode of a write of a byte to a port
+abbrev pub opcode_out : ℕ
+opcode_out = 0x01
+
+-- the opcode of a write of a word to a port
+abbrev pub opcode_out_word : ℕ
+opcode_out_word = 0x02
+
+-- the opcode of a read of a byte from a port
+abbrev pub opcode_in : ℕ
+opcode_in = 0x03
+
+-- the opcode of a read of a word from a port
+abbrev pub opcode_in_word : ℕ
+opcode_in_word = 0x04
+
+-- the opcode of a write of a byte to an address
+abbrev pub opcode_put : ℕ
+opcode_put = 0x05
+
+-- the opcode of a write of a word to an address
+abbrev pub opcode_put_word : ℕ
+opcode_put_word = 0x06
+
+-- the opcode of a read of a byte from an address
+abbrev pub opcode_get : ℕ
+opcode_get = 0x07
+
+-- the opcode of a read of a word from an address
+abbrev pub opcode_get_word : ℕ
+opcode_get_word = 0x08
+
+-- the opcode of a call of the video BIOS
+abbrev pub opcode_int : ℕ
+opcode_int = 0x09
+
+-- the opcode of an advance of the clock
+abbrev pub opcode_advance : ℕ
+opcode_advance = 0x0A
+
+-- the opcode of a frame that is drawn
+abbrev pub opcode_frame : ℕ
+opcode_frame = 0x0B
+
+-- the opcode of a look at the adapter
+abbrev pub opcode_show : ℕ
+opcode_show = 0x0C
+
+-- the bytes of a step: its opcode, and its fields, each with the low byte first; a block has its length before it
+abbrev pub spelling : Step → List ℕ
+spelling (Out port value) = opcode_out ∷ (little_bytes 2 port ++ value ∷ [])
+spelling (OutWord port value) = opcode_out_word ∷ (little_bytes 2 port ++ little_bytes 2 value)
+spelling (In port) = opcode_in ∷ little_bytes 2 port
+spelling (InWord port) = opcode_in_word ∷ little_bytes 2 port
+spelling (Put address value) = opcode_put ∷ (little_bytes 4 address ++ value ∷ [])
+spelling (PutWord address value) = opcode_put_word ∷ (little_bytes 4 address ++ little_bytes 2 value)
+spelling (Get address) = opcode_get ∷ little_bytes 4 address
+spelling (GetWord address) = opcode_get_word ∷ little_bytes 4 address
+spelling (Int ax bx cx dx block) =
+    opcode_int ∷ (little_bytes 2 ax ++ (little_bytes 2 bx ++ (little_bytes 2 cx ++ (little_bytes 2 dx ++ (little_bytes 2 (length block) ++ block)))))
+spelling (Advance dots) = opcode_advance ∷ little_bytes 4 dots
+spelling Frame = opcode_frame ∷ []
+spelling (Show what) = opcode_show ∷ shown_spelling what
+
+-- the bytes of a script of these steps
+abbrev pub encoding : List Step → List ℕ
+encoding steps = header ++ flat_map spelling steps
+
+-- the bytes begin with this step, and go on with the rest
+abbrev pub StartsWithStep : List ℕ → Step → List ℕ → Type 0
+StartsWithStep bytes step rest = IsInRange step × (bytes ≡ spelling step ++ rest)
+
+-- bytes that spell these steps, one after the other, and nothing else
+abbrev pub SpellsSteps : List ℕ → List Step → Type 0
+SpellsSteps bytes [] = bytes ≡ []
+SpellsSteps bytes (step ∷ steps) = (rest : List ℕ) × StartsWithStep bytes step rest × SpellsSteps rest steps
+
+-- bytes that spell a script of these steps
+abbrev pub Spells : List ℕ → List Step → Type 0
+Spells bytes steps = (rest : List ℕ) × (bytes ≡ header ++ rest) × SpellsSteps rest steps

@@ -1,0 +1,75 @@
+//! The fields of a step in bytes, from the front.
+ghost use Rattle.std.specs.Prelude.{◌≡◌, ◌⊎◌, ◌<◌, ◌++◌, ◌∷◌, length, IfOk, IfErr};
+ghost use Rattle.byteorder.specs.Endian.{little_bytes};
+ghost use Rattle.vga_script.specs.Step.{IsBlock};
+
+use byteorder::{ByteOrder, LittleEndian};
+use std::alloc::Global;
+use vga_bits::Bytes;
+
+/// Why no step stands at the front of some bytes.
+#[derive(Clone, Copy, PartialEq, Eq, Debug)]
+pub(crate) enum NoStep {
+    /// They begin with no opcode or kind, or with fields that are out of range.
+    Bad,
+    /// They end before the step does.
+    Cut,
+    /// A request for memory was refused.
+    OutOfMemory,
+}
+
+/// One byte, and what follows it.
+pub(crate) fn u8_at(bytes: &[u8]) -> Result<(u8, &[u8]), NoStep>
+    ensures found { IfOk result (λ x. bytes.now ≡ x.0 ∷ x.1.now) }
+    ensures cut { IfErr result (λ e. (e ≡ NoStep.Cut) × (length bytes.now < 1)) }
+{
+    match bytes {
+        [first, rest @ ..] => Ok((*first, rest)),
+        [] => Err(NoStep::Cut),
+    }
+}
+
+/// A number of two bytes, and what follows it.
+#[tactic(auto, using(crate::proofs::FieldLemmas::written_two))]
+pub(crate) fn u16_at(bytes: &[u8]) -> Result<(u16, &[u8]), NoStep>
+    ensures found { IfOk result (λ x. bytes.now ≡ little_bytes 2 x.0 ++ x.1.now) }
+    ensures cut { IfErr result (λ e. (e ≡ NoStep.Cut) × (length bytes.now < 2)) }
+{
+    if bytes.len() < 2 {
+        return Err(NoStep::Cut);
+    }
+    let (field, rest) = bytes.split_at(2);
+    let number = LittleEndian::read_u16(field);
+    Ok((number, rest))
+}
+
+/// A number of four bytes, and what follows it.
+#[tactic(auto, using(crate::proofs::FieldLemmas::written_four))]
+pub(crate) fn u32_at(bytes: &[u8]) -> Result<(u32, &[u8]), NoStep>
+    ensures found { IfOk result (λ x. bytes.now ≡ little_bytes 4 x.0 ++ x.1.now) }
+    ensures cut { IfErr result (λ e. (e ≡ NoStep.Cut) × (length bytes.now < 4)) }
+{
+    if bytes.len() < 4 {
+        return Err(NoStep::Cut);
+    }
+    let (field, rest) = bytes.split_at(4);
+    let number = LittleEndian::read_u32(field);
+    Ok((number, rest))
+}
+
+/// A block of so many bytes, and what follows it.
+#[tactic(auto, using(crate::proofs::FieldLemmas::is_block))]
+pub(crate) fn block_at(alloc: Global, bytes: &[u8], len: u16) -> Result<(Bytes, &[u8]), NoStep>
+    ensures found { IfOk result (λ x. (length x.0 ≡ len) × (bytes.now ≡ x.0 ++ x.1.now)) }
+    ensures fits { IfOk result (λ x. IsBlock x.0) }
+    ensures cut { IfErr result (λ e. (e ≡ NoStep.OutOfMemory) ⊎ ((e ≡ NoStep.Cut) × (length bytes.now < len))) }
+{
+    if bytes.len() < len as usize {
+        return Err(NoStep::Cut);
+    }
+    let (block, rest) = bytes.split_at(len as usize);
+    match Bytes::copy(alloc, block) {
+        Ok(block) => Ok((block, rest)),
+        Err(_) => Err(NoStep::OutOfMemory),
+    }
+}

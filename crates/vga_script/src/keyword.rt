@@ -1,0 +1,90 @@
+//! The names of steps in a text.
+ghost use Rattle.std.specs.Prelude.{◌≡◌, ◌≢◌, IfNone, IfSome};
+ghost use Rattle.std.specs.Str.{bytes_eq};
+ghost use Rattle.vga_script.specs.Text.{name_of};
+ghost use Rattle.vga_script.specs.Words.{lowered};
+
+/// Which step a line has, by the word that it begins with.
+#[derive(Clone, Copy, PartialEq, Eq, Debug)]
+pub(crate) enum Keyword {
+    /// `out`.
+    Out,
+    /// `outw`.
+    OutWord,
+    /// `in`.
+    In,
+    /// `inw`.
+    InWord,
+    /// `put`.
+    Put,
+    /// `putw`.
+    PutWord,
+    /// `get`.
+    Get,
+    /// `getw`.
+    GetWord,
+    /// `int`.
+    Int,
+    /// `advance`.
+    Advance,
+    /// `frame`.
+    Frame,
+    /// `show`.
+    Show,
+}
+
+/// Whether a word is this name, which is in lower case. The word may have either case.
+#[tactic(auto, using(crate::proofs::NameLemmas::same_name))]
+pub(crate) fn is_name(word: &[u8], name: &[u8]) -> bool
+    requires { lowered name.now ≡ name.now }
+    ensures { result ≡ bytes_eq (lowered word.now) name.now }
+{
+    word.eq_ignore_ascii_case(name)
+}
+
+impl Keyword {
+    /// The step that has this name.
+    #[tactic(auto, using(crate::proofs::NameLemmas::named, crate::proofs::NameLemmas::unnamed))]
+    pub(crate) fn of_word(word: &[u8]) -> Option<Keyword>
+        ensures found { IfSome result (λ keyword. lowered word.now ≡ name_of keyword) }
+        ensures none { IfNone result ((keyword : Keyword) → lowered word.now ≢ name_of keyword) }
+    {
+        if is_name(word, b"out") {
+            return Some(Keyword::Out);
+        }
+        if is_name(word, b"outw") {
+            return Some(Keyword::OutWord);
+        }
+        if is_name(word, b"in") {
+            return Some(Keyword::In);
+        }
+        if is_name(word, b"inw") {
+            return Some(Keyword::InWord);
+        }
+        if is_name(word, b"put") {
+            return Some(Keyword::Put);
+        }
+        if is_name(word, b"putw") {
+            return Some(Keyword::PutWord);
+        }
+        if is_name(word, b"get") {
+            return Some(Keyword::Get);
+        }
+        if is_name(word, b"getw") {
+            return Some(Keyword::GetWord);
+        }
+        if is_name(word, b"int") {
+            return Some(Keyword::Int);
+        }
+        if is_name(word, b"advance") {
+            return Some(Keyword::Advance);
+        }
+        if is_name(word, b"frame") {
+            return Some(Keyword::Frame);
+        }
+        if is_name(word, b"show") {
+            return Some(Keyword::Show);
+        }
+        None
+    }
+}

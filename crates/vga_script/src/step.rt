@@ -1,0 +1,83 @@
+//! One step of a script.
+
+use super::shown::Shown;
+use vga_bits::Bytes;
+
+/// One step of a script: a cycle of the processor, a call of the video BIOS, some dots of the clock,
+/// or a look at the adapter.
+#[derive(Drop)]
+pub enum Step {
+    /// A byte is written to a port.
+    Out {
+        /// The port.
+        port: u16,
+        /// The byte.
+        value: u8,
+    },
+    /// A word is written to a port and the next.
+    OutWord {
+        /// The port of the low byte.
+        port: u16,
+        /// The word, whose low byte goes first.
+        value: u16,
+    },
+    /// A byte is read from a port.
+    In {
+        /// The port.
+        port: u16,
+    },
+    /// A word is read from a port and the next.
+    InWord {
+        /// The port of the low byte.
+        port: u16,
+    },
+    /// A byte is written to memory.
+    Put {
+        /// The address.
+        address: u32,
+        /// The byte.
+        value: u8,
+    },
+    /// A word is written to an address and the next.
+    PutWord {
+        /// The address of the low byte.
+        address: u32,
+        /// The word, whose low byte goes first.
+        value: u16,
+    },
+    /// A byte is read from memory.
+    Get {
+        /// The address.
+        address: u32,
+    },
+    /// A word is read from an address and the next.
+    GetWord {
+        /// The address of the low byte.
+        address: u32,
+    },
+    /// The video BIOS is called by interrupt 10.
+    Int {
+        /// The function, and what it takes in AL.
+        ax: u16,
+        /// The register BX.
+        bx: u16,
+        /// The register CX.
+        cx: u16,
+        /// The register DX.
+        dx: u16,
+        /// The bytes that the function reads from memory, at most 65,535.
+        block: Bytes,
+    },
+    /// The clock runs for some dots.
+    Advance {
+        /// How many.
+        dots: u32,
+    },
+    /// The clock runs to the end of the frame, which is shown.
+    Frame,
+    /// A part of the adapter is shown, and left as it is.
+    Show {
+        /// Which part.
+        shown: Shown,
+    },
+}
