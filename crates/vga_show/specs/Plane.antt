@@ -1,0 +1,10 @@
+-- Bytes of a plane as text.
+use Rattle.std.specs.Prelude.{ℕ, List, [], ◌∷◌, ◌++◌, codes}
+use Rattle.vga_planes.specs.Planes.{byte_at}
+use Rattle.vga_card.specs.Card.{CardState}
+use Rattle.vga_show.specs.Text.{line, hex_digit, hex_word, hex_bytes}
+
+-- the word plane, its number, the offset and a colon, and the bytes of the plane from there on
+abbrev pub plane_text : CardState → ℕ → ℕ → ℕ → List ℕ
+plane_text card plane offset count =
+    line (codes "plane") ((hex_digit plane ∷ []) ∷ (hex_word offset ++ codes ":") ∷ hex_bytes (byte_at card.host.memory plane) offset count)

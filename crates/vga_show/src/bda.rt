@@ -1,0 +1,77 @@
+//! The video BIOS's data as text.
+ghost use Rattle.std.specs.Prelude.{◌≡◌, ◌+◌, ◌≤◌, ◌++◌, length, false};
+ghost use Rattle.vga_bits.specs.Tracked.{inner_of, has_failed, Writes};
+ghost use Rattle.vga_show.specs.Text.{room, behind_blanks};
+ghost use Rattle.vga_show.specs.Bda.{mode_words, place_words, other_words, bda_text as bda_text_of};
+
+use super::text::Text;
+use bios_modes::Bda;
+use std::io::Write;
+use vga_bits::{Fault, Tracked};
+
+/// Puts the mode, its columns, the size of a page and the start of the active one at the end of a text.
+#[tactic(auto, using(crate::proofs::TextLemmas::joins), unfolding(crate::specs::Bda::mode_words))]
+fn push_mode(text: &mut Text, bda: &Bda)
+    requires { length text.old + 39 ≤ room }
+    ensures items { text.new ≡ text.old ++ behind_blanks (mode_words bda.now) }
+    ensures len { length text.new ≡ length text.old + 39 }
+{
+    text.push_byte_field(b"mode", bda.mode());
+    text.push_word_field(b"cols", bda.columns());
+    text.push_word_field(b"size", bda.size());
+    text.push_word_field(b"start", bda.start());
+}
+
+/// Puts the places of the cursor on the eight pages at the end of a text.
+#[tactic(auto, using(crate::proofs::TextLemmas::listing))]
+fn push_places(text: &mut Text, bda: &Bda)
+    requires { length text.old + 43 ≤ room }
+    ensures items { text.new ≡ text.old ++ behind_blanks (place_words bda.now) }
+    ensures len { length text.new ≡ length text.old + 43 }
+{
+    text.push(b" at");
+    for i in 0..8 {
+        text.push_hex_word(bda.cursor_place(i));
+    }
+}
+
+/// Puts the other data at the end of a text.
+#[tactic(auto, using(crate::proofs::TextLemmas::joins), unfolding(crate::specs::Bda::other_words))]
+fn push_others(text: &mut Text, bda: &Bda)
+    requires { length text.old + 48 ≤ room }
+    ensures items { text.new ≡ text.old ++ behind_blanks (other_words bda.now) }
+    ensures len { length text.new ≡ length text.old + 48 }
+{
+    text.push_word_field(b"type", bda.cursor_type());
+    text.push_byte_field(b"page", bda.page());
+    text.push_word_field(b"crtc", bda.crtc_address());
+    text.push_byte_field(b"last", bda.last_row());
+    text.push_word_field(b"height", bda.height());
+}
+
+/// The line of the data.
+#[tactic(auto, using(crate::proofs::TextLemmas::joins))]
+fn bda_text(bda: &Bda) -> Text
+    ensures { result ≡ bda_text_of bda.now }
+{
+    let mut text = Text::new();
+    text.push(b"bda");
+    push_mode(&mut text, bda);
+    push_places(&mut text, bda);
+    push_others(&mut text, bda);
+    text.push(b"\n");
+    text
+}
+
+/// Writes the video BIOS's data in hexadecimal: `bda mode 03 cols 0050 size 1000 start 0000 at`, the places
+/// of the cursor on the eight pages, `type 0D0E page 00 crtc 03D4 last 18 height 0010` and a newline. The
+/// writer must not have failed before.
+///
+/// It fails, with `WriteFault`, only where the writer does, which then has a front of the text.
+pub fn dump_bda<W: Write>(out: &mut Tracked<W>, bda: &Bda) -> Result<(), Fault>
+    requires { has_failed out.old ≡ false }
+    ensures { Writes (W.contents (inner_of out.old)) (W.contents (inner_of out.new))
+        (has_failed out.new) result (bda_text_of bda.now) }
+{
+    bda_text(bda).write(out)
+}

@@ -1,0 +1,65 @@
+//! The beam as text.
+ghost use Rattle.std.specs.Prelude.{◌≡◌, ◌+◌, ◌≤◌, ◌++◌, length, false};
+ghost use Rattle.vga_bits.specs.Tracked.{inner_of, has_failed, Writes};
+ghost use Rattle.vga_show.specs.Text.{room, behind_blanks};
+ghost use Rattle.vga_show.specs.Beam.{place_words, count_words, beam_line as beam_line_of, beam_text};
+
+use super::text::Text;
+use std::io::Write;
+use vga_bits::{Fault, Tracked};
+use vga_card::Card;
+use vga_crtc::Beam;
+
+/// Puts where the beam is at the end of a text.
+#[tactic(auto, using(crate::proofs::TextLemmas::joins), unfolding(crate::specs::Beam::place_words))]
+fn push_place(text: &mut Text, beam: &Beam)
+    requires { length text.old + 64 ≤ room }
+    ensures items { text.new ≡ text.old ++ behind_blanks (place_words beam.now) }
+    ensures len { length text.new ≤ length text.old + 64 }
+{
+    text.push_decimal_field(b"frame", beam.frame as u32);
+    text.push_decimal_field(b"line", beam.line as u32);
+    text.push_decimal_field(b"char", beam.character as u32);
+    text.push_decimal_field(b"dot", beam.dot as u32);
+}
+
+/// Puts what the beam counts at the end of a text.
+#[tactic(auto, using(crate::proofs::TextLemmas::joins), unfolding(crate::specs::Beam::count_words))]
+fn push_counts(text: &mut Text, beam: &Beam)
+    requires { length text.old + 65 ≤ room }
+    ensures items { text.new ≡ text.old ++ behind_blanks (count_words beam.now) }
+    ensures len { length text.new ≤ length text.old + 65 }
+{
+    text.push_word_field(b"base", beam.base);
+    text.push_decimal_field(b"scan", beam.scan as u32);
+    text.push_decimal_field(b"half", beam.half as u32);
+    text.push_decimal_field(b"split", beam.split as u32);
+}
+
+/// The line of the beam, with a number of rows.
+#[tactic(auto, using(crate::proofs::TextLemmas::joins))]
+pub(crate) fn beam_line(beam: &Beam, count: u16) -> Text
+    ensures { result ≡ beam_line_of beam.now count }
+{
+    let mut text = Text::new();
+    text.push(b"beam");
+    push_place(&mut text, beam);
+    push_counts(&mut text, beam);
+    text.push_decimal_field(b"rows", count as u32);
+    text.push(b"\n");
+    text
+}
+
+/// Writes the beam, and how many rows are drawn of the frame under way:
+/// `beam frame 0 line 0 char 0 dot 0 base 0000 scan 0 half 0 split 0 rows 0` and a newline, in decimal but
+/// for the base. The writer must not have failed before.
+///
+/// It fails, with `WriteFault`, only where the writer does, which then has a front of the text.
+pub fn dump_beam<W: Write>(out: &mut Tracked<W>, card: &Card) -> Result<(), Fault>
+    requires { has_failed out.old ≡ false }
+    ensures { Writes (W.contents (inner_of out.old)) (W.contents (inner_of out.new))
+        (has_failed out.new) result (beam_text card.now) }
+{
+    let (beam, count) = card.beam();
+    beam_line(&beam, count).write(out)
+}

@@ -1,0 +1,38 @@
+//! An entry of the DAC as text.
+ghost use Rattle.std.specs.Prelude.{◌≡◌, false};
+ghost use Rattle.vga_bits.specs.Tracked.{inner_of, has_failed, Writes};
+ghost use Rattle.vga_show.specs.Dac.{entry_text as entry_text_of};
+
+use super::text::Text;
+use std::io::Write;
+use vga_bits::{Fault, Tracked};
+use vga_card::Card;
+
+/// The line of an entry.
+#[tactic(auto, using(crate::proofs::TextLemmas::joins))]
+fn entry_text(card: &Card, index: u8) -> Text
+    ensures { result ≡ entry_text_of card.now index }
+{
+    let [red, green, blue] = card.regs().dac.entry(index);
+    let mut text = Text::new();
+    text.push(b"entry");
+    text.push_hex_byte(index);
+    text.push(b":");
+    text.push_hex_byte(red);
+    text.push_hex_byte(green);
+    text.push_hex_byte(blue);
+    text.push(b"\n");
+    text
+}
+
+/// Writes an entry of the DAC in hexadecimal, its index, red, green and blue: `entry 01: 00 00 00` and a
+/// newline. The DAC's own index and counter stay. The writer must not have failed before.
+///
+/// It fails, with `WriteFault`, only where the writer does, which then has a front of the text.
+pub fn dump_dac<W: Write>(out: &mut Tracked<W>, card: &Card, index: u8) -> Result<(), Fault>
+    requires { has_failed out.old ≡ false }
+    ensures { Writes (W.contents (inner_of out.old)) (W.contents (inner_of out.new))
+        (has_failed out.new) result (entry_text_of card.now index) }
+{
+    entry_text(card, index).write(out)
+}

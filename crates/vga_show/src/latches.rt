@@ -1,0 +1,37 @@
+//! The latches as text.
+ghost use Rattle.std.specs.Prelude.{◌≡◌, false};
+ghost use Rattle.vga_bits.specs.Tracked.{inner_of, has_failed, Writes};
+ghost use Rattle.vga_show.specs.Latches.{latches_text as latches_text_of};
+
+use super::text::Text;
+use std::io::Write;
+use vga_bits::{Fault, Tracked};
+use vga_card::Card;
+
+/// The line of the latches.
+#[tactic(auto, using(crate::proofs::TextLemmas::joins))]
+fn latches_text(card: &Card) -> Text
+    ensures { result ≡ latches_text_of card.now }
+{
+    let latches = card.latches();
+    let mut text = Text::new();
+    text.push(b"latches");
+    text.push_hex_byte(latches.byte(0));
+    text.push_hex_byte(latches.byte(1));
+    text.push_hex_byte(latches.byte(2));
+    text.push_hex_byte(latches.byte(3));
+    text.push(b"\n");
+    text
+}
+
+/// Writes the four latches, from plane 0, in hexadecimal: `latches 00 00 00 00` and a newline. The writer
+/// must not have failed before.
+///
+/// It fails, with `WriteFault`, only where the writer does, which then has a front of the text.
+pub fn dump_latches<W: Write>(out: &mut Tracked<W>, card: &Card) -> Result<(), Fault>
+    requires { has_failed out.old ≡ false }
+    ensures { Writes (W.contents (inner_of out.old)) (W.contents (inner_of out.new))
+        (has_failed out.new) result (latches_text_of card.now) }
+{
+    latches_text(card).write(out)
+}

@@ -1,0 +1,22 @@
+//! The state of the adapter as text, and a picture as a PPM.
+#![tactic(auto)]
+
+mod bda;
+mod beam;
+mod dac;
+mod latches;
+mod plane;
+mod ppm;
+mod regs;
+mod text;
+
+pub use bda::dump_bda;
+pub use beam::dump_beam;
+pub use dac::dump_dac;
+pub use latches::dump_latches;
+pub use plane::dump_plane;
+pub use ppm::{ppm_length, write_ppm};
+pub use regs::dump_regs;
+
+#[cfg(test)]
+mod tests;

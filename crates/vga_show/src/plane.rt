@@ -1,0 +1,66 @@
+//! Bytes of a plane as text.
+ghost use Rattle.std.specs.Prelude.{◌≡◌, ◌+◌, ◌*◌, ◌<◌, ◌≤◌, ◌++◌, length, false};
+ghost use Rattle.vga_bits.specs.Tracked.{inner_of, has_failed, Writes};
+ghost use Rattle.vga_planes.specs.Planes.{byte_at};
+ghost use Rattle.vga_show.specs.Text.{room, hex_bytes, behind_blanks};
+ghost use Rattle.vga_show.specs.Plane.{plane_text as plane_text_of};
+
+use super::text::Text;
+use std::io::Write;
+use vga_bits::{Fault, Tracked};
+use vga_card::Card;
+use vga_planes::Planes;
+
+/// Puts bytes of a plane at the end of a text, from an offset on.
+#[tactic(auto, using(crate::proofs::TextLemmas::listing))]
+fn push_bytes(text: &mut Text, planes: &Planes, plane: usize, offset: u16, count: u16)
+    requires plane { plane < 4 }
+    requires end { offset + count ≤ 65536 }
+    requires room { length text.old + 3 * count ≤ room }
+    ensures items { text.new ≡ text.old ++ behind_blanks (hex_bytes (byte_at planes.now plane) offset count) }
+    ensures len { length text.new ≡ length text.old + 3 * count }
+{
+    for i in 0..count {
+        text.push_hex_byte(planes.byte(plane, offset + i));
+    }
+}
+
+/// The line of some bytes of a plane.
+fn plane_text(card: &Card, plane: u8, offset: u16, count: u16) -> Text
+    requires plane { plane < 4 }
+    requires count { count ≤ 256 }
+    requires end { offset + count ≤ 65536 }
+    ensures { result ≡ plane_text_of card.now plane offset count }
+{
+    let mut text = Text::new();
+    text.push(b"plane ");
+    text.push(&[b'0' + plane]);
+    text.push_hex_word(offset);
+    text.push(b":");
+    push_bytes(&mut text, card.planes(), plane as usize, offset, count);
+    text.push(b"\n");
+    text
+}
+
+/// Writes bytes of a plane in hexadecimal, from an offset on: `plane 2 B8A0: 00 41` and a newline. The
+/// plane is 0 to 3, the bytes are 1 to 256 and end with the plane. The writer must not have failed
+/// before.
+///
+/// It fails, with `WriteFault`, only where the writer does, which then has a front of the text.
+pub fn dump_plane<W: Write>(
+    out: &mut Tracked<W>,
+    card: &Card,
+    plane: u8,
+    offset: u16,
+    count: u16,
+) -> Result<(), Fault>
+    requires writer { has_failed out.old ≡ false }
+    requires plane { plane < 4 }
+    requires some { 1 ≤ count }
+    requires count { count ≤ 256 }
+    requires end { offset + count ≤ 65536 }
+    ensures { Writes (W.contents (inner_of out.old)) (W.contents (inner_of out.new))
+        (has_failed out.new) result (plane_text_of card.now plane offset count) }
+{
+    plane_text(card, plane, offset, count).write(out)
+}

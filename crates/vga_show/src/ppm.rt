@@ -1,0 +1,51 @@
+//! A picture as a Netpbm PPM.
+ghost use Rattle.std.specs.Prelude.{ℕ, List, ◌≡◌, ◌*◌, ◌≤◌, length, false};
+ghost use Rattle.vga_bits.specs.Tracked.{inner_of, has_failed, Writes};
+ghost use Rattle.vga_show.specs.Ppm.{ppm_header, ppm};
+
+use super::text::Text;
+use std::io::Write;
+use vga_bits::{Fault, Tracked, write_whole};
+
+/// What stands before the dots.
+#[tactic(auto, unfolding(crate::specs::Ppm::ppm_header))]
+fn header(width: u32, height: u32) -> Text
+    ensures value { result ≡ ppm_header width height }
+    ensures short { length result ≤ 28 }
+{
+    let mut text = Text::new();
+    text.push(b"P6\n");
+    text.push_decimal(width);
+    text.push(b" ");
+    text.push_decimal(height);
+    text.push(b"\n63\n");
+    text
+}
+
+/// Writes a picture of so many dots as a Netpbm PPM, where `bytes` are the red, green and blue, 0 to 63,
+/// of each dot, row by row. The writer must not have failed before.
+///
+/// It fails, with `WriteFault`, only where the writer does, which then has a front of the PPM.
+#[tactic(auto, using(crate::proofs::WritingLemmas::writes_after, crate::proofs::WritingLemmas::front_of_more))]
+pub fn write_ppm<W: Write>(
+    out: &mut Tracked<W>,
+    width: u32,
+    height: u32,
+    bytes: &[u8],
+) -> Result<(), Fault>
+    requires { has_failed out.old ≡ false }
+    ensures { Writes (W.contents (inner_of out.old)) (W.contents (inner_of out.new))
+        (has_failed out.new) result (ppm width height bytes.now) }
+{
+    header(width, height).write(out)?;
+    write_whole(out, bytes)
+}
+
+/// How many bytes the PPM of a picture has, which is at most 2,304 dots wide and 1,024 high.
+pub fn ppm_length(width: u32, height: u32) -> u32
+    requires width { width ≤ 2304 }
+    requires height { height ≤ 1024 }
+    ensures { (bytes : List ℕ) → length bytes ≡ 3 * (width * height) → result ≡ length (ppm width height bytes) }
+{
+    header(width, height).len() as u32 + 3 * width * height
+}

@@ -1,0 +1,156 @@
+//! All registers as text.
+ghost use Rattle.std.specs.Prelude.{◌≡◌, ◌+◌, ◌≤◌, [], ◌∷◌, ◌++◌, length, false};
+ghost use Rattle.vga_bits.specs.Tracked.{inner_of, has_failed, Writes};
+ghost use Rattle.vga_show.specs.Text.{room};
+ghost use Rattle.vga_show.specs.Regs.{misc_line, seq_line, crtc_line, gfx_line, attr_line, component_letter as component_letter_of, dac_line, regs_text as regs_text_of};
+
+use super::text::Text;
+use std::io::Write;
+use vga_attr::Attr;
+use vga_bits::{Fault, Tracked};
+use vga_card::{Card, Regs};
+use vga_crtc::Crtc;
+use vga_dac::{Component, Dac};
+use vga_host::Host;
+
+/// Puts the line of the miscellaneous output register at the end.
+#[tactic(auto, using(crate::proofs::TextLemmas::joins), unfolding(crate::specs::Regs::misc_line))]
+fn push_misc(text: &mut Text, misc: u8)
+    requires { length text.old + 8 ≤ room }
+    ensures items { text.new ≡ text.old ++ misc_line misc }
+    ensures len { length text.new ≡ length text.old + 8 }
+{
+    text.push(b"misc");
+    text.push_hex_byte(misc);
+    text.push(b"\n");
+}
+
+/// Puts the line of the sequencer at the end.
+#[tactic(auto, using(crate::proofs::TextLemmas::listing), unfolding(crate::specs::Regs::seq_line))]
+fn push_seq(text: &mut Text, host: &Host)
+    requires { length text.old + 23 ≤ room }
+    ensures items { text.new ≡ text.old ++ seq_line host.now }
+    ensures len { length text.new ≡ length text.old + 23 }
+{
+    text.push(b"seq");
+    text.push_hex_byte(host.seq_index());
+    text.push(b":");
+    for i in 0..5 {
+        text.push_hex_byte(host.seq(i));
+    }
+    text.push(b"\n");
+}
+
+/// Puts the line of the CRT controller at the end.
+#[tactic(auto, using(crate::proofs::TextLemmas::listing), unfolding(crate::specs::Regs::crtc_line))]
+fn push_crtc(text: &mut Text, crtc: &Crtc)
+    requires { length text.old + 84 ≤ room }
+    ensures items { text.new ≡ text.old ++ crtc_line crtc.now }
+    ensures len { length text.new ≡ length text.old + 84 }
+{
+    text.push(b"crtc");
+    text.push_hex_byte(crtc.index());
+    text.push(b":");
+    for i in 0..25 {
+        text.push_hex_byte(crtc.regs(i));
+    }
+    text.push(b"\n");
+}
+
+/// Puts the line of the graphics controller at the end.
+#[tactic(auto, using(crate::proofs::TextLemmas::listing), unfolding(crate::specs::Regs::gfx_line))]
+fn push_gfx(text: &mut Text, host: &Host)
+    requires { length text.old + 35 ≤ room }
+    ensures items { text.new ≡ text.old ++ gfx_line host.now }
+    ensures len { length text.new ≡ length text.old + 35 }
+{
+    text.push(b"gfx");
+    text.push_hex_byte(host.gfx_index());
+    text.push(b":");
+    for i in 0..9 {
+        text.push_hex_byte(host.gfx(i));
+    }
+    text.push(b"\n");
+}
+
+/// Puts the line of the attribute controller at the end.
+#[tactic(auto, using(crate::proofs::TextLemmas::listing), unfolding(crate::specs::Regs::attr_line))]
+fn push_attr(text: &mut Text, attr: &Attr)
+    requires { length text.old + 74 ≤ room }
+    ensures items { text.new ≡ text.old ++ attr_line attr.now }
+    ensures len { length text.new ≡ length text.old + 74 }
+{
+    text.push(b"attr");
+    text.push_hex_byte(attr.read_index());
+    text.push(if attr.is_data() { b" d:" } else { b" i:" });
+    for i in 0..21 {
+        text.push_hex_byte(attr.regs(i));
+    }
+    text.push(b"\n");
+}
+
+/// The first letter of a component.
+fn component_letter(component: Component) -> u8
+    ensures { component_letter_of component ≡ result ∷ [] }
+{
+    match component {
+        Component::Red => b'r',
+        Component::Green => b'g',
+        Component::Blue => b'b',
+    }
+}
+
+/// Puts the line of the DAC at the end.
+#[tactic(auto, using(crate::proofs::TextLemmas::joins), unfolding(crate::specs::Regs::dac_line))]
+fn push_dac(text: &mut Text, dac: &Dac)
+    requires { length text.old + 18 ≤ room }
+    ensures items { text.new ≡ text.old ++ dac_line dac.now }
+    ensures len { length text.new ≡ length text.old + 18 }
+{
+    let (red, green) = dac.waiting();
+    text.push(b"dac");
+    text.push_hex_byte(dac.read_index());
+    text.push(&[b' ', component_letter(dac.component())]);
+    text.push_hex_byte(dac.mask());
+    text.push_hex_byte(red);
+    text.push_hex_byte(green);
+    text.push(b"\n");
+}
+
+/// The six lines of all registers.
+#[tactic(auto, using(crate::proofs::TextLemmas::joins))]
+fn regs_text(card: &Card) -> Text
+    ensures { result ≡ regs_text_of card.now }
+{
+    let Regs {
+        misc,
+        host,
+        crtc,
+        attr,
+        dac,
+    } = card.regs();
+    let mut text = Text::new();
+    push_misc(&mut text, misc);
+    push_seq(&mut text, host);
+    push_crtc(&mut text, crtc);
+    push_gfx(&mut text, host);
+    push_attr(&mut text, attr);
+    push_dac(&mut text, dac);
+    text
+}
+
+/// Writes all registers in hexadecimal, in six lines that begin with `misc`, `seq`, `crtc`, `gfx`, `attr`
+/// and `dac`. Behind the name stand the index of the group and, but for the DAC, a colon and the registers
+/// from 0. Before its colon the attribute controller has the kind of the next write, `i` for an index or
+/// `d` for data. The DAC has the component that is next, `r`, `g` or `b`, the mask, and the red and green
+/// that wait. No register is read through a port, so that none changes, and no flip-flop. The writer must
+/// not have failed before.
+///
+/// It fails, with `WriteFault`, only where the writer does, which then has a front of the text.
+pub fn dump_regs<W: Write>(out: &mut Tracked<W>, card: &Card) -> Result<(), Fault>
+    requires { has_failed out.old ≡ false }
+    ensures { Writes (W.contents (inner_of out.old)) (W.contents (inner_of out.new))
+        (has_failed out.new) result (regs_text_of card.now) }
+{
+    regs_text(card).write(out)
+}
