@@ -1,5 +1,5 @@
--- The words `run SCRIPT --fonts FONTS`, where neither path begins with a hyphen, ask for a run of these paths.
-use Rattle.std.proofs.Common.{◌≡◌, ◌∙◌, ℕ, List, [], ◌∷◌, Some, None, Result, Ok, Err, MatchResult, false, refl, sym, ap, subst, codes}
+-- The words of a command, where no path begins with a hyphen, ask for a job of these paths.
+use Rattle.std.proofs.Common.{◌≡◌, ◌∙◌, ℕ, List, [], ◌∷◌, Option, Some, None, Result, Ok, Err, MatchResult, false, refl, sym, ap, subst, codes}
 use Rattle.std.specs.Str.{bytes_eq}
 use Rattle.clap.specs.Lexer.{long_of, short_of}
 use Rattle.clap.specs.Simple.{built_leaf, inherited, marked_built, on_top, with_leaf_noted}
@@ -10,8 +10,9 @@ use Rattle.clap.specs.Kinds.{IsAmong, Kinds, or_else}
 use Rattle.clap.specs.declared.builder.value_parser.Reading.TheVariants.{AsWritten}
 use Rattle.clap.specs.declared.parser.matches.ValueSource.TheVariants.{CommandLine}
 use Rattle.clap.proofs.OnLiterals.{clap_on_literals}
-use Rattle.vga.specs.Job.{request_of, run}
-use Rattle.vga.specs.Words.{JobAnswers, RunsPaths, asked, begins_with_hyphen, command_line, run_asked, run_command}
+use Rattle.vga.specs.CommandLine.{asm_command, command_line, dis_command, go_command, run_command}
+use Rattle.vga.specs.Job.{Request, request_of, asm, dis, run, go}
+use Rattle.vga.specs.Words.{HasPlainPaths, JobAnswers, NamesPaths, asked, asm_asked, begins_with_hyphen, dis_asked, go_asked, run_asked, words_of}
 use Rattle.vga_bits.specs.declared.fault.Fault.TheVariants.{OutOfMemory}
 use Rattle.vga.specs.declared.failure.Failure.{Failure}
 use Rattle.vga.specs.declared.failure.Failure.TheVariants.{Words, Fault}
@@ -49,89 +50,195 @@ path_passes shape idle word held plain = rw (no_end word plain, no_long word pla
 path_passes shape (option id) word held plain = rw (no_end word plain, no_long word plain, no_short word plain) refl
 path_passes shape positional word held plain = rw (no_end word plain, no_long word plain, no_short word plain) refl
 
--- ---- the walk over the words after `run`
+-- ---- the commands
 
--- `run`, as the parser builds it
-abbrev built_run : Shape
-built_run = built_leaf (inherited (on_top with_leaf_noted (on_top marked_built command_line)).top run_command)
+data Command : Type 0 where
+  assembles : Command
+  prints : Command
+  runs : Command
+  goes : Command
 
-abbrev rules : List Rule
-rules = built_run.rules
+abbrev shape_for : Command → Shape
+shape_for assembles = asm_command
+shape_for prints = dis_command
+shape_for runs = run_command
+shape_for goes = go_command
 
-abbrev words_after_run : Text → Text → List Text
-words_after_run script fonts = script ∷ codes "--fonts" ∷ fonts ∷ []
+-- a command, as the parser builds it
+abbrev built : Command → Shape
+built command = built_leaf (inherited (on_top with_leaf_noted (on_top marked_built command_line)).top (shape_for command))
 
-abbrev all_words : Text → Text → Text → List Text
-all_words program script fonts = program ∷ codes "run" ∷ words_after_run script fonts
+abbrev rules : Command → List Rule
+rules command = (built command).rules
 
--- before the first of these words
+-- which argument the first path is
+abbrev first_id : Command → Text
+first_id assembles = codes "TEXT"
+first_id prints = codes "BIN"
+first_id runs = codes "BIN"
+first_id goes = codes "TEXT"
+
+-- ---- the first path
+
+-- before the first word
 abbrev begun : Walk
 begun = walk_from nothing_held
 
-abbrev after_script : Text → Walk
-after_script script = record begun {
-  held = record nothing_held { pending = Some (codes "BIN", script ∷ []) };
+abbrev after_first : Text → Text → Walk
+after_first id path = record begun {
+  held = record nothing_held { pending = Some (id, path ∷ []) };
   position = 2;
 }
 
--- the row of the script
-abbrev script_row : Text → Row
-script_row script = record {
-  id = codes "BIN";
-  values = script ∷ [];
+-- the row of a path
+abbrev path_row : Text → Text → Row
+path_row id path = record {
+  id = id;
+  values = path ∷ [];
   count = None;
   source = Some CommandLine;
   reading = AsWritten;
 }
 
-abbrev after_flag : Text → Walk
-after_flag script = record begun {
-  held = record nothing_held { rows = script_row script ∷ []; pending = Some (codes "fonts", []) };
+first_walked : (command : Command) (path : Text) → begins_with_hyphen path ≡ false → walked (rules command) [] begun path ≡ after_first (first_id command) path
+unfolding clap_on_literals
+first_walked assembles path plain = ap (λ met. after_step (rules assembles) path begun met.0 met.1) (path_met (rules assembles) idle 1 path nothing_held plain)
+first_walked prints path plain = ap (λ met. after_step (rules prints) path begun met.0 met.1) (path_met (rules prints) idle 1 path nothing_held plain)
+first_walked runs path plain = ap (λ met. after_step (rules runs) path begun met.0 met.1) (path_met (rules runs) idle 1 path nothing_held plain)
+first_walked goes path plain = ap (λ met. after_step (rules goes) path begun met.0 met.1) (path_met (rules goes) idle 1 path nothing_held plain)
+
+-- a path at a place where the walk waits for nothing passes, where the command takes one there
+step_passes : (shape : Shape) (position : ℕ) (path : Text) (held : Held) → begins_with_hyphen path ≡ false
+    → step_fault shape position (plain_word shape.rules idle path held).0 (plain_word shape.rules idle path held).1 ≡ []
+    → or_else (word_fault shape [] false idle path held) (step_fault shape position (word_met shape.rules [] false idle position path held).0 (word_met shape.rules [] false idle position path held).1) ≡ []
+step_passes shape position path held plain passes =
+    let met = word_met shape.rules [] false idle position path held in
+    ap (λ k. or_else k (step_fault shape position met.0 met.1)) (path_passes shape idle path held plain)
+    ∙ ap (λ m. step_fault shape position m.0 m.1) (path_met shape.rules idle position path held plain)
+    ∙ passes
+
+first_passes : (command : Command) (path : Text) → begins_with_hyphen path ≡ false → turn_fault (built command) [] begun path ≡ []
+unfolding clap_on_literals
+first_passes assembles path plain = step_passes (built assembles) 1 path nothing_held plain refl
+first_passes prints path plain = step_passes (built prints) 1 path nothing_held plain refl
+first_passes runs path plain = step_passes (built runs) 1 path nothing_held plain refl
+first_passes goes path plain = step_passes (built goes) 1 path nothing_held plain refl
+
+-- ---- the second path of `asm`
+
+abbrev after_second : Text → Text → Walk
+after_second text script = record begun {
+  held = record nothing_held { rows = path_row (codes "TEXT") text ∷ []; pending = Some (codes "BIN", script ∷ []) };
+  position = 3;
+}
+
+second_walked : (text script : Text) → begins_with_hyphen script ≡ false → walked (rules assembles) [] (after_first (codes "TEXT") text) script ≡ after_second text script
+unfolding clap_on_literals
+second_walked text script plain =
+    let before = after_first (codes "TEXT") text in
+    ap (λ met. after_step (rules assembles) script before met.0 met.1) (path_met (rules assembles) idle 2 script before.held plain)
+
+second_passes : (text script : Text) → begins_with_hyphen script ≡ false → turn_fault (built assembles) [] (after_first (codes "TEXT") text) script ≡ []
+unfolding clap_on_literals
+second_passes text script plain = step_passes (built assembles) 2 script (after_first (codes "TEXT") text).held plain refl
+
+-- ---- the font file of `run` and `go`
+
+-- the commands that have one
+data Runner : Type 0 where
+  of_script : Runner
+  of_text : Runner
+
+abbrev command_of : Runner → Command
+command_of of_script = runs
+command_of of_text = goes
+
+abbrev id_of : Runner → Text
+id_of runner = first_id (command_of runner)
+
+abbrev after_flag : Text → Text → Walk
+after_flag id path = record begun {
+  held = record nothing_held { rows = path_row id path ∷ []; pending = Some (codes "fonts", []) };
   waiting = option (codes "fonts");
   position = 2;
 }
 
-abbrev after_fonts : Text → Text → Walk
-after_fonts script fonts = record begun {
-  held = record nothing_held { rows = script_row script ∷ []; pending = Some (codes "fonts", fonts ∷ []) };
+abbrev after_fonts : Text → Text → Text → Walk
+after_fonts id path fonts = record begun {
+  held = record nothing_held { rows = path_row id path ∷ []; pending = Some (codes "fonts", fonts ∷ []) };
   position = 2;
 }
 
-script_walked : (script : Text) → begins_with_hyphen script ≡ false → walked rules [] begun script ≡ after_script script
+flag_walked : (runner : Runner) (path : Text) → walked (rules (command_of runner)) [] (after_first (id_of runner) path) (codes "--fonts") ≡ after_flag (id_of runner) path
 unfolding clap_on_literals
-script_walked script plain = ap (λ met. after_step rules script begun met.0 met.1) (path_met rules idle 1 script nothing_held plain)
+flag_walked of_script path = refl
+flag_walked of_text path = refl
 
-flag_walked : (script : Text) → walked rules [] (after_script script) (codes "--fonts") ≡ after_flag script
+fonts_walked : (runner : Runner) (path fonts : Text) → begins_with_hyphen fonts ≡ false
+    → walked (rules (command_of runner)) [] (after_flag (id_of runner) path) fonts ≡ after_fonts (id_of runner) path fonts
 unfolding clap_on_literals
-flag_walked script = refl
+fonts_walked of_script path fonts plain =
+    let before = after_flag (codes "BIN") path in
+    ap (λ met. after_step (rules runs) fonts before met.0 met.1) (path_met (rules runs) (option (codes "fonts")) 2 fonts before.held plain)
+fonts_walked of_text path fonts plain =
+    let before = after_flag (codes "TEXT") path in
+    ap (λ met. after_step (rules goes) fonts before met.0 met.1) (path_met (rules goes) (option (codes "fonts")) 2 fonts before.held plain)
 
-fonts_walked : (script fonts : Text) → begins_with_hyphen fonts ≡ false → walked rules [] (after_flag script) fonts ≡ after_fonts script fonts
+flag_passes : (runner : Runner) (path : Text) → turn_fault (built (command_of runner)) [] (after_first (id_of runner) path) (codes "--fonts") ≡ []
 unfolding clap_on_literals
-fonts_walked script fonts plain =
-    ap (λ met. after_step rules fonts (after_flag script) met.0 met.1) (path_met rules (option (codes "fonts")) 2 fonts (after_flag script).held plain)
+flag_passes of_script path = refl
+flag_passes of_text path = refl
 
-words_walked : (script fonts : Text) → begins_with_hyphen script ≡ false → begins_with_hyphen fonts ≡ false
-    → walk rules [] nothing_held (words_after_run script fonts) ≡ after_fonts script fonts
-words_walked script fonts plain_script plain_fonts =
-    ap (λ w. walked rules [] (walked rules [] w (codes "--fonts")) fonts) (script_walked script plain_script)
-    ∙ ap (λ w. walked rules [] w fonts) (flag_walked script)
-    ∙ fonts_walked script fonts plain_fonts
-
--- ---- what the words ask for
-
--- the matches are those of `run` on the words after it
-run_met : (program script fonts : Text) → asked (all_words program script fonts)
-    ≡ run_asked (finished rules (walk rules [] nothing_held (words_after_run script fonts)).held)
+fonts_pass : (runner : Runner) (path fonts : Text) → begins_with_hyphen fonts ≡ false → turn_fault (built (command_of runner)) [] (after_flag (id_of runner) path) fonts ≡ []
 unfolding clap_on_literals
-run_met program script fonts = refl
+fonts_pass of_script path fonts plain =
+    let waiting = option (codes "fonts") in
+    let held = (after_flag (codes "BIN") path).held in
+    let met = word_met (rules runs) [] false waiting 2 fonts held in
+    ap (λ k. or_else k (step_fault (built runs) 2 met.0 met.1)) (path_passes (built runs) waiting fonts held plain)
+    ∙ ap (λ m. step_fault (built runs) 2 m.0 m.1) (path_met (rules runs) waiting 2 fonts held plain)
+fonts_pass of_text path fonts plain =
+    let waiting = option (codes "fonts") in
+    let held = (after_flag (codes "TEXT") path).held in
+    let met = word_met (rules goes) [] false waiting 2 fonts held in
+    ap (λ k. or_else k (step_fault (built goes) 2 met.0 met.1)) (path_passes (built goes) waiting fonts held plain)
+    ∙ ap (λ m. step_fault (built goes) 2 m.0 m.1) (path_met (rules goes) waiting 2 fonts held plain)
 
-paths_asked : (program script fonts : Text) → begins_with_hyphen script ≡ false → begins_with_hyphen fonts ≡ false
-    → asked (all_words program script fonts) ≡ Some (run script fonts)
-unfolding clap_on_literals
-paths_asked program script fonts plain_script plain_fonts =
-    run_met program script fonts ∙ ap (λ (w : Walk). run_asked (finished rules w.held)) (words_walked script fonts plain_script plain_fonts)
+-- ---- the whole words of a request
 
--- ---- nothing is amiss with the words
+-- the words behind the command
+abbrev words_after : Request → List Text
+words_after (asm text script) = text ∷ script ∷ []
+words_after (dis script) = script ∷ []
+words_after (run script fonts) = script ∷ codes "--fonts" ∷ fonts ∷ []
+words_after (go text fonts) = text ∷ codes "--fonts" ∷ fonts ∷ []
+
+abbrev command_for : Request → Command
+command_for (asm text script) = assembles
+command_for (dis script) = prints
+command_for (run script fonts) = runs
+command_for (go text fonts) = goes
+
+-- where the walk over them ends
+abbrev ended : Request → Walk
+ended (asm text script) = after_second text script
+ended (dis script) = after_first (codes "BIN") script
+ended (run script fonts) = after_fonts (codes "BIN") script fonts
+ended (go text fonts) = after_fonts (codes "TEXT") text fonts
+
+runner_walked : (runner : Runner) (path fonts : Text) → begins_with_hyphen path ≡ false → begins_with_hyphen fonts ≡ false
+    → walk (rules (command_of runner)) [] nothing_held (path ∷ codes "--fonts" ∷ fonts ∷ []) ≡ after_fonts (id_of runner) path fonts
+runner_walked runner path fonts plain_path plain_fonts =
+    let rs = rules (command_of runner) in
+    ap (λ w. walked rs [] (walked rs [] w (codes "--fonts")) fonts) (first_walked (command_of runner) path plain_path)
+    ∙ ap (λ w. walked rs [] w fonts) (flag_walked runner path)
+    ∙ fonts_walked runner path fonts plain_fonts
+
+words_walked : (request : Request) → HasPlainPaths request → walk (rules (command_for request)) [] nothing_held (words_after request) ≡ ended request
+words_walked (asm text script) plain = ap (λ w. walked (rules assembles) [] w script) (first_walked assembles text plain.0) ∙ second_walked text script plain.1
+words_walked (dis script) plain = first_walked prints script plain
+words_walked (run script fonts) plain = runner_walked of_script script fonts plain.0 plain.1
+words_walked (go text fonts) plain = runner_walked of_text text fonts plain.0 plain.1
 
 -- a walk passes where its first word does and the rest do
 turn_passed : (shape : Shape) (now next : Walk) (word : Text) (rest : List Text) → turn_fault shape [] now word ≡ [] → walked shape.rules [] now word ≡ next
@@ -140,70 +247,100 @@ unfolding walk_fault
 turn_passed shape now next word rest passes steps =
     ap (λ k. or_else k (walk_fault shape [] (walked shape.rules [] now word) rest)) passes ∙ ap (λ w. walk_fault shape [] w rest) steps
 
-script_passes : (script : Text) → begins_with_hyphen script ≡ false → turn_fault built_run [] begun script ≡ []
-unfolding clap_on_literals
-script_passes script plain =
-    let met = word_met rules [] false idle 1 script nothing_held in
-    ap (λ k. or_else k (step_fault built_run 1 met.0 met.1)) (path_passes built_run idle script nothing_held plain)
-    ∙ ap (λ m. step_fault built_run 1 m.0 m.1) (path_met rules idle 1 script nothing_held plain)
-
-flag_passes : (script : Text) → turn_fault built_run [] (after_script script) (codes "--fonts") ≡ []
-unfolding clap_on_literals
-flag_passes script = refl
-
-fonts_pass : (script fonts : Text) → begins_with_hyphen fonts ≡ false → turn_fault built_run [] (after_flag script) fonts ≡ []
-unfolding clap_on_literals
-fonts_pass script fonts plain =
-    let waiting = option (codes "fonts") in
-    let held = (after_flag script).held in
-    let met = word_met rules [] false waiting 2 fonts held in
-    ap (λ k. or_else k (step_fault built_run 2 met.0 met.1)) (path_passes built_run waiting fonts held plain)
-    ∙ ap (λ m. step_fault built_run 2 m.0 m.1) (path_met rules waiting 2 fonts held plain)
-
-words_pass : (script fonts : Text) → begins_with_hyphen script ≡ false → begins_with_hyphen fonts ≡ false
-    → walk_fault built_run [] begun (words_after_run script fonts) ≡ []
+runner_passes : (runner : Runner) (path fonts : Text) → begins_with_hyphen path ≡ false → begins_with_hyphen fonts ≡ false
+    → walk_fault (built (command_of runner)) [] begun (path ∷ codes "--fonts" ∷ fonts ∷ []) ≡ []
 unfolding walk_fault
-words_pass script fonts plain_script plain_fonts =
-    turn_passed built_run begun (after_script script) script (codes "--fonts" ∷ fonts ∷ []) (script_passes script plain_script) (script_walked script plain_script)
-    ∙ turn_passed built_run (after_script script) (after_flag script) (codes "--fonts") (fonts ∷ []) (flag_passes script) (flag_walked script)
-    ∙ turn_passed built_run (after_flag script) (after_fonts script fonts) fonts [] (fonts_pass script fonts plain_fonts) (fonts_walked script fonts plain_fonts)
+runner_passes runner path fonts plain_path plain_fonts =
+    let command = command_of runner in
+    let id = id_of runner in
+    turn_passed (built command) begun (after_first id path) path (codes "--fonts" ∷ fonts ∷ []) (first_passes command path plain_path) (first_walked command path plain_path)
+    ∙ turn_passed (built command) (after_first id path) (after_flag id path) (codes "--fonts") (fonts ∷ []) (flag_passes runner path) (flag_walked runner path)
+    ∙ turn_passed (built command) (after_flag id path) (after_fonts id path fonts) fonts [] (fonts_pass runner path fonts plain_fonts) (fonts_walked runner path fonts plain_fonts)
 
--- what is amiss with a use of `run`, by what is amiss with its words and by what they leave
-abbrev run_fault : Kinds → Held → Kinds
-run_fault amiss held = or_else amiss (or_else [] (or_else (settle_fault rules false held)
-    (or_else (defaults_fault (settled rules held).rows rules) (check_fault built_run (finished rules held) false))))
+words_pass : (request : Request) → HasPlainPaths request → walk_fault (built (command_for request)) [] begun (words_after request) ≡ []
+unfolding walk_fault
+words_pass (asm text script) plain =
+    let middle = after_first (codes "TEXT") text in
+    turn_passed (built assembles) begun middle text (script ∷ []) (first_passes assembles text plain.0) (first_walked assembles text plain.0)
+    ∙ turn_passed (built assembles) middle (after_second text script) script [] (second_passes text script plain.1) (second_walked text script plain.1)
+words_pass (dis script) plain = turn_passed (built prints) begun (after_first (codes "BIN") script) script [] (first_passes prints script plain) (first_walked prints script plain)
+words_pass (run script fonts) plain = runner_passes of_script script fonts plain.0 plain.1
+words_pass (go text fonts) plain = runner_passes of_text text fonts plain.0 plain.1
 
--- the command line finds nothing amiss but in the use of `run`
-amiss_in_run : (program script fonts : Text) → fault_of command_line (all_words program script fonts)
-    ≡ or_else (run_fault (walk_fault built_run [] begun (words_after_run script fonts)) (walk rules [] nothing_held (words_after_run script fonts)).held) []
+-- ---- what the words ask for
+
+-- what the matches of a command ask for
+abbrev asked_by : Command → List Row → Option Request
+asked_by assembles rows = asm_asked rows
+asked_by prints rows = dis_asked rows
+asked_by runs rows = run_asked rows
+asked_by goes rows = go_asked rows
+
+-- the matches are those of the command on the words behind it
+command_met : (program : Text) (request : Request) → asked (program ∷ words_of request)
+    ≡ asked_by (command_for request) (finished (rules (command_for request)) (walk (rules (command_for request)) [] nothing_held (words_after request)).held)
 unfolding clap_on_literals
-amiss_in_run program script fonts = refl
+command_met program (asm text script) = refl
+command_met program (dis script) = refl
+command_met program (run script fonts) = refl
+command_met program (go text fonts) = refl
+
+-- which are those of the request
+ended_asks : (request : Request) → asked_by (command_for request) (finished (rules (command_for request)) (ended request).held) ≡ Some request
+unfolding clap_on_literals
+ended_asks (asm text script) = refl
+ended_asks (dis script) = refl
+ended_asks (run script fonts) = refl
+ended_asks (go text fonts) = refl
+
+request_asked : (program : Text) (request : Request) → HasPlainPaths request → asked (program ∷ words_of request) ≡ Some request
+request_asked program request plain =
+    command_met program request
+    ∙ ap (λ (w : Walk). asked_by (command_for request) (finished (rules (command_for request)) w.held)) (words_walked request plain)
+    ∙ ended_asks request
+
+-- ---- nothing is amiss with the words
+
+-- what is amiss with a use of a command, by what is amiss with its words and by what they leave
+abbrev command_fault : Command → Kinds → Held → Kinds
+command_fault command amiss held = or_else amiss (or_else [] (or_else (settle_fault (rules command) false held)
+    (or_else (defaults_fault (settled (rules command) held).rows (rules command)) (check_fault (built command) (finished (rules command) held) false))))
+
+-- the command line finds nothing amiss but in the use of the command
+amiss_in_command : (program : Text) (request : Request) → fault_of command_line (program ∷ words_of request)
+    ≡ or_else (command_fault (command_for request) (walk_fault (built (command_for request)) [] begun (words_after request)) (walk (rules (command_for request)) [] nothing_held (words_after request)).held) []
+unfolding clap_on_literals
+amiss_in_command program (asm text script) = refl
+amiss_in_command program (dis script) = refl
+amiss_in_command program (run script fonts) = refl
+amiss_in_command program (go text fonts) = refl
 
 -- nothing that is required is left out
-nothing_lacks : (script fonts : Text) → run_fault [] (after_fonts script fonts).held ≡ []
+nothing_lacks : (request : Request) → command_fault (command_for request) [] (ended request).held ≡ []
 unfolding clap_on_literals
-nothing_lacks script fonts = refl
+nothing_lacks (asm text script) = refl
+nothing_lacks (dis script) = refl
+nothing_lacks (run script fonts) = refl
+nothing_lacks (go text fonts) = refl
 
-paths_pass : (program script fonts : Text) → begins_with_hyphen script ≡ false → begins_with_hyphen fonts ≡ false
-    → fault_of command_line (all_words program script fonts) ≡ []
-paths_pass program script fonts plain_script plain_fonts =
-    amiss_in_run program script fonts
-    ∙ ap (λ k. or_else (run_fault k (walk rules [] nothing_held (words_after_run script fonts)).held) []) (words_pass script fonts plain_script plain_fonts)
-    ∙ ap (λ (w : Walk). or_else (run_fault [] w.held) []) (words_walked script fonts plain_script plain_fonts)
-    ∙ ap (λ k. or_else k []) (nothing_lacks script fonts)
+request_passes : (program : Text) (request : Request) → HasPlainPaths request → fault_of command_line (program ∷ words_of request) ≡ []
+request_passes program request plain =
+    let command = command_for request in
+    amiss_in_command program request
+    ∙ ap (λ k. or_else (command_fault command k (walk (rules command) [] nothing_held (words_after request)).held) []) (words_pass request plain)
+    ∙ ap (λ (w : Walk). or_else (command_fault command [] w.held) []) (words_walked request plain)
+    ∙ ap (λ k. or_else k []) (nothing_lacks request)
 
 -- ---- what `job` answers
 
--- a run of the paths, unless memory runs out
-pub runs_paths : (words : List Text) (result : Result Job Failure) → JobAnswers words result → RunsPaths words result
-runs_paths words result answer program script fonts are plain_script plain_fonts =
-    go result (subst (λ (ws : List Text). JobAnswers ws result) are answer)
-    (paths_asked program script fonts plain_script plain_fonts)
-    (paths_pass program script fonts plain_script plain_fonts)
+-- the request, unless memory runs out
+pub names_paths : (words : List Text) (result : Result Job Failure) → JobAnswers words result → NamesPaths words result
+names_paths words result answer program request are plain =
+    go_on result (subst (λ (ws : List Text). JobAnswers ws result) are answer) (request_asked program request plain) (request_passes program request plain)
   where
-    go : (r : Result Job Failure) → JobAnswers (all_words program script fonts) r → asked (all_words program script fonts) ≡ Some (run script fonts)
-        → fault_of command_line (all_words program script fonts) ≡ [] → MatchResult r (λ job. request_of job ≡ run script fonts) (λ failure. failure ≡ Fault OutOfMemory)
-    go (Ok job) answer asks passes = let same : Some (request_of job) ≡ Some (run script fonts) = sym answer.1 ∙ asks in cc
-    go (Err (Words (Refused error))) answer asks passes = absurd (subst (IsAmong (kind_of error)) passes answer.1)
-    go (Err (Words Missing)) answer asks passes = let bad : Some (run script fonts) ≡ None = sym asks ∙ answer.1 in cc
-    go (Err (Fault fault)) answer asks passes = ap Fault answer
+    go_on : (r : Result Job Failure) → JobAnswers (program ∷ words_of request) r → asked (program ∷ words_of request) ≡ Some request
+        → fault_of command_line (program ∷ words_of request) ≡ [] → MatchResult r (λ job. request_of job ≡ request) (λ failure. failure ≡ Fault OutOfMemory)
+    go_on (Ok job) answer asks passes = let same : Some (request_of job) ≡ Some request = sym answer.1 ∙ asks in cc
+    go_on (Err (Words (Refused error))) answer asks passes = absurd (subst (IsAmong (kind_of error)) passes answer.1)
+    go_on (Err (Words Missing)) answer asks passes = let bad : Some request ≡ None = sym asks ∙ answer.1 in cc
+    go_on (Err (Fault fault)) answer asks passes = ap Fault answer

@@ -2,7 +2,7 @@
 use Rattle.std.proofs.Common.{◌≡◌, ℕ, ◌+◌, ◌≤◌, Bool, false, List, ◌++◌, length, Option, arith, length-append}
 use Rattle.std.specs.Io.KnownBytes.{Consumes}
 use Rattle.std.proofs.KnownBytes.{Consumes-trans}
-use Rattle.vga.specs.Reading.{TakesAtMost}
+use Rattle.vga_run.specs.Reading.{TakesAtMost}
 
 -- the bytes so far, of which there are so many, are a front of what the reader had
 pub record Taken (old new : Option (List ℕ)) (failed : Bool) (bytes : List ℕ) (count most : ℕ) : Type 0 where

@@ -1,5 +1,5 @@
 -- From the matches of the command line to the job that they ask for.
-use Rattle.std.proofs.Common.{◌≡◌, ◌≢◌, ◌∙◌, List, [], Option, Some, None, Result, Ok, Err, Bool, true, false, IsErrAnd, if◌then◌else◌, refl, inl, inr, ap, subst, option_map, codes}
+use Rattle.std.proofs.Common.{◌≡◌, ◌≢◌, ◌∙◌, List, [], Option, Some, None, Result, Ok, Err, Bool, true, false, IsErrAnd, if◌then◌else◌, refl, inl, inr, ap, subst, option_map}
 use Rattle.std.proofs.lemmas.Result.{err_from_is_err_and}
 use Rattle.clap.specs.Words.{App, HasKind, HasMatchesOf, Row, Text, fault_of, first_of, first_value, is_simple, is_simple_and_free, kind_of, rows_of, subcommand_of, subcommand_name_of, subcommand_rows_of}
 use Rattle.clap.specs.declared.error.Error.{Error}
@@ -9,7 +9,8 @@ use Rattle.clap.specs.declared.parser.matches.Found.{Found}
 use Rattle.clap.proofs.OnLiterals.{clap_on_literals}
 use Rattle.clap.proofs.WalkLemmas.{first_value-rows}
 use Rattle.vga.specs.Failure.{failure_of, is_out_of_memory, out_of_memory}
-use Rattle.vga.specs.Words.{Finds, JobAnswers, asked, asked_of, command_line, run_asked}
+use Rattle.vga.specs.CommandLine.{command_line}
+use Rattle.vga.specs.Words.{Finds, JobAnswers, asked, asked_of}
 use Rattle.vga.specs.declared.failure.Failure.{Failure}
 use Rattle.vga.specs.declared.failure.Failure.TheVariants.{Words, Fault}
 use Rattle.vga.specs.declared.words_error.WordsError.TheVariants.{Refused, Missing}
@@ -25,10 +26,10 @@ pair_of : {X A B : Type 0} (o : Option X) (f : X → A) (g : X → B) (a : A) (b
 pair_of None f g a b first second = cc
 pair_of (Some x) f g a b first second = cc
 
--- where the command is `run`, what is asked for is what its own matches ask for
-pub run_is_asked : (m : ArgMatches) (name : Text) (rows : List Row) → Some name ≡ subcommand_name_of m → Some rows ≡ option_map (λ p. p.1) (subcommand_rows_of m)
-    → name ≡ codes "run" → asked_of (subcommand_rows_of m) ≡ run_asked rows
-run_is_asked m name rows named has is_run = ap asked_of (pair_of _ _ _ name rows named has ∙ ap (λ (n : Text). Some (n, rows)) is_run)
+-- where the command has this name, what is asked for is what its own matches ask for
+pub command_is_asked : (m : ArgMatches) (name wanted : Text) (rows : List Row) → Some name ≡ subcommand_name_of m → Some rows ≡ option_map (λ p. p.1) (subcommand_rows_of m)
+    → name ≡ wanted → asked_of (subcommand_rows_of m) ≡ asked_of (Some (wanted, rows))
+command_is_asked m name wanted rows named has is = ap asked_of (pair_of _ _ _ name rows named has ∙ ap (λ (n : Text). Some (n, rows)) is)
 
 -- the command line is one of which the parser says when it fails
 is_known : is_simple_and_free command_line ≡ true

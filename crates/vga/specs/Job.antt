@@ -3,10 +3,17 @@ use Rattle.clap.specs.Words.{Text}
 use Rattle.vga.specs.declared.job.Job.{Job}
 use Rattle.vga.specs.declared.job.Job.TheVariants as job
 
--- A job as texts. `run` has the paths of a script and of a font file.
+-- A job as texts. `asm` has the paths of a text and of a script, `dis` that of a script, `run` those of a script and of a
+-- font file, and `go` those of a text and of a font file.
 pub data Request : Type 0 where
+  asm : Text → Text → Request
+  dis : Text → Request
   run : Text → Text → Request
+  go : Text → Text → Request
 
 -- a job, with what its paths are
 abbrev pub request_of : Job → Request
+request_of (job.Asm text script) = asm text.now script.now
+request_of (job.Dis script) = dis script.now
 request_of (job.Run script fonts) = run script.now fonts.now
+request_of (job.Go text fonts) = go text.now fonts.now

@@ -4,14 +4,11 @@ use Rattle.std.specs.declared.alloc.Global.{Global}
 use Rattle.std.specs.Io.KnownBytes.{Consumes}
 use Rattle.vga_bits.specs.declared.fault.Fault.{Fault}
 use Rattle.vga_bits.specs.declared.fault.Fault.TheVariants.{ReadFault, OutOfMemory}
+use Rattle.vga_run.specs.Reading.{TakesAtMost}
 
 -- the bytes are the first `most` of a reader's, where it tells them
 abbrev pub IsFront : ℕ → Option (List ℕ) → List ℕ → Type 0
 IsFront most input bytes = IfSome input (λ all. bytes ≡ take most all)
-
--- at most so many bytes were taken from a reader
-abbrev pub TakesAtMost : ℕ → Option (List ℕ) → Option (List ℕ) → Type 0
-TakesAtMost most old new = (taken : List ℕ) × Consumes old new taken × (length taken ≤ most)
 
 -- What reading the first `most` bytes answers, over a reader that has these bytes before and after: those bytes, which
 -- alone were taken; a fault, where the reader has failed; or that memory ran out, where it has not.

@@ -1,11 +1,14 @@
-//! `vga run BIN --fonts FILE` runs a script on a VGA adapter, and writes the report on standard
-//! output.
+//! Scripts for a VGA adapter: `vga asm TEXT BIN` assembles one from its text, `vga dis BIN` prints one
+//! as text, and `vga run BIN --fonts FILE` and `vga go TEXT --fonts FILE` run one and write the report
+//! on standard output.
 #![tactic(auto)]
 
+mod command_line;
 mod failure;
 mod job;
 mod lines;
 mod reading;
+mod scripts;
 mod status;
 mod words;
 mod words_error;
@@ -18,13 +21,41 @@ use std::{env, io};
 use vga_bits::Fault;
 use words_error::WordsError;
 
-/// Runs the script at one path over the font file at another.
-fn run_files(rt: &HostRuntime, script: &str, fonts: &str) -> Result<(), Fault> {
+/// Assembles the text at one path, and writes its binary form at another.
+fn assemble_file(rt: &HostRuntime, text: &str, script: &str) -> Result<(), Fault> {
+    let bytes = scripts::assembled(rt.alloc(), &mut reading::open(rt, text)?)?;
+    writing::write_all(&mut writing::create(rt, script)?, bytes.as_slice())
+}
+
+/// Prints the script at a path.
+fn print_file(rt: &HostRuntime, script: &str) -> Result<(), Fault> {
     let alloc = rt.alloc();
-    let fonts = reading::read_fonts(alloc, &mut reading::open(rt, fonts)?)?;
+    let mut script = reading::open(rt, script)?;
+    let mut out = writing::buffered(alloc, io::writer(rt))?;
+    scripts::print_script(alloc, &mut script, &mut out)
+}
+
+/// The bytes of the font file at a path.
+fn fonts_at(rt: &HostRuntime, path: &str) -> Result<Vec<u8>, Fault> {
+    reading::read_fonts(rt.alloc(), &mut reading::open(rt, path)?)
+}
+
+/// Runs the script at one path over the font file at another.
+fn run_file(rt: &HostRuntime, script: &str, fonts: &str) -> Result<(), Fault> {
+    let alloc = rt.alloc();
+    let fonts = fonts_at(rt, fonts)?;
     let mut script = reading::open(rt, script)?;
     let mut report = writing::buffered(alloc, io::writer(rt))?;
-    vga_run::run(alloc, &mut script, fonts.as_slice(), &mut report)
+    vga_run::run(alloc, &mut script, fonts.as_slice(), &mut report, None)
+}
+
+/// Runs the script that the text at one path spells over the font file at another.
+fn run_text_file(rt: &HostRuntime, text: &str, fonts: &str) -> Result<(), Fault> {
+    let alloc = rt.alloc();
+    let fonts = fonts_at(rt, fonts)?;
+    let mut text = reading::open(rt, text)?;
+    let mut report = writing::buffered(alloc, io::writer(rt))?;
+    scripts::run_text(alloc, &mut text, fonts.as_slice(), &mut report)
 }
 
 /// Does the job that the words of the command line name.
@@ -32,7 +63,10 @@ fn do_job(rt: &HostRuntime) -> Result<(), Failure> {
     let args = env::args(rt).map_err(|error| words::unread(&error))?;
     let words: Vec<String> = args.collect(rt.alloc())?;
     match words::job(rt.alloc(), words.as_slice())? {
-        Job::Run { script, fonts } => run_files(rt, script, fonts)?,
+        Job::Asm { text, script } => assemble_file(rt, text, script)?,
+        Job::Dis { script } => print_file(rt, script)?,
+        Job::Run { script, fonts } => run_file(rt, script, fonts)?,
+        Job::Go { text, fonts } => run_text_file(rt, text, fonts)?,
     }
     Ok(())
 }

@@ -1,14 +1,32 @@
-//! Output, written in large pieces.
+//! Files and output.
 ghost use Rattle.std.specs.Prelude.{◌≡◌, false, [], IfOk, IsOkUnless};
 ghost use Rattle.std.specs.Io.Buffered.{writer_buffer, writer_capacity, writer_inner};
-ghost use Rattle.vga_bits.specs.Tracked.{inner_of, has_failed};
+ghost use Rattle.vga_bits.specs.Tracked.{inner_of, has_failed, Writes};
 
 use std::alloc::Global;
+use std::fs;
 use std::io::{BufWriter, Write};
-use vga_bits::{Fault, Tracked};
+use std::rt::Files;
+use vga_bits::{Fault, Tracked, write_whole};
 
 /// How many bytes are kept back before they are written, 256 KiB.
 const BUFFER_LEN: usize = 262_144;
+
+/// The file at a path, created for writing, or emptied where it is there. None of its calls has
+/// failed.
+///
+/// # Errors
+///
+/// `WriteFault` where it cannot be created.
+pub fn create<F: Files>(files: &F, path: &str) -> Result<Tracked<F::File>, Fault>
+    ensures sound { IfOk result (λ file. has_failed file ≡ false) }
+    ensures fault { IsOkUnless result Fault.WriteFault }
+{
+    match fs::create(files, path) {
+        Ok(file) => Ok(Tracked::new(file)),
+        Err(_) => Err(Fault::WriteFault),
+    }
+}
 
 /// A writer behind a buffer of 262,144 bytes, so that a long report takes few calls of the system.
 /// Nothing is written yet. Its last bytes are written when it is flushed or dropped.
@@ -27,4 +45,29 @@ pub fn buffered<W: Write + Drop>(alloc: Global, writer: W) -> Result<Tracked<Buf
         Ok(buffered) => Ok(Tracked::new(buffered)),
         Err(_) => Err(Fault::OutOfMemory),
     }
+}
+
+/// Flushes the writer.
+#[tactic(auto, using(vga_run::proofs::ReportLemmas::kept_is_nothing))]
+fn flush<W: Write>(out: &mut Tracked<W>) -> Result<(), Fault>
+    requires { has_failed out.old ≡ false }
+    ensures { Writes (W.contents (inner_of out.old)) (W.contents (inner_of out.new))
+        (has_failed out.new) result [] }
+{
+    match out.flush() {
+        Ok(()) => Ok(()),
+        Err(_) => Err(Fault::WriteFault),
+    }
+}
+
+/// Writes all the bytes, and flushes the writer. It fails with `WriteFault` alone, where the writer
+/// does, which then has a front of the bytes.
+#[tactic(auto, using(vga_run::proofs::ReportLemmas::writes_more))]
+pub fn write_all<W: Write>(out: &mut Tracked<W>, bytes: &[u8]) -> Result<(), Fault>
+    requires { has_failed out.old ≡ false }
+    ensures { Writes (W.contents (inner_of out.old)) (W.contents (inner_of out.new))
+        (has_failed out.new) result bytes.now }
+{
+    write_whole(out, bytes)?;
+    flush(out)
 }

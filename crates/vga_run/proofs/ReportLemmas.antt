@@ -1,5 +1,5 @@
 -- Writing a report, line by line.
-use Rattle.std.proofs.Common.{◌≡◌, ℕ, ◌+◌, ◌<◌, ◌≤◌, Bool, false, List, [], ◌∷◌, ◌++◌, length, get_or, drop, Option, Some, None, Result, Ok, Err, arith, refl, sym, ap, ◌∙◌, subst, append_assoc, append-nil, add-one, drop-cons}
+use Rattle.std.proofs.Common.{◌≡◌, ℕ, zero, suc, ◌+◌, ◌<◌, ◌≤◌, Bool, false, List, [], ◌∷◌, ◌++◌, length, get_or, take, drop, Option, Some, None, Result, Ok, Err, arith, refl, sym, ap, ◌∙◌, subst, append_assoc, append-nil, add-one, drop-cons, codes}
 use Rattle.std.proofs.lemmas.List.{drop_all}
 use Rattle.std.specs.Io.KnownBytes.{Appends, Keeps}
 use Rattle.std.proofs.KnownBytes.{Appends-nil, Appends-trans}
@@ -8,11 +8,14 @@ use Rattle.vga_bits.specs.declared.fault.Fault.{Fault}
 use Rattle.vga_bits.specs.Refusal.{refusal_name}
 use Rattle.vga_bits.specs.declared.refusal.Refusal.{Refusal}
 use Rattle.vga_bits.specs.declared.refusal.Refusal.TheVariants.{NotDecoded, NotInProfile, NoMode, BadFunction, BadMode, WrongKind, BadPage, Outside, CountPast, BadRegister, BadBlock, TooFar}
-use Rattle.vga_run.specs.declared.step.Step.{Step}
-use Rattle.vga_run.specs.declared.answer.Answer.{Answer}
+use Rattle.vga_script.specs.declared.step.Step.{Step}
+use Rattle.vga_script.specs.Step.{IsInRange, AreInRange}
 use Rattle.vga_card.specs.Card.{CardState}
-use Rattle.vga_run.specs.Step.{answer_to, after_step}
-use Rattle.vga_run.specs.Report.{line, report_from}
+use Rattle.vga_run.specs.Step.{answer_to, after_step, after_steps}
+use Rattle.vga_show.specs.Ppm.{ppm}
+use Rattle.vga_show.proofs.WritingLemmas.{writes_after, front_of_more}
+use Rattle.vga_run.specs.Answer.{Picture}
+use Rattle.vga_run.specs.Report.{picture_line, line, report_from}
 
 -- no refusal has a name of more than 15 bytes
 pub name_is_short : (refusal : Refusal) → length (refusal_name refusal) ≤ 15
@@ -29,54 +32,60 @@ name_is_short BadRegister = omega arith
 name_is_short BadBlock = omega arith
 name_is_short TooFar = omega arith
 
--- The lines of the first i steps are written.
-pub record Reported (old new : Option (List ℕ)) (failed : Bool) (start card : CardState) (steps : List Step) (i : ℕ) : Type 0 where
+-- The lines of the first i steps are written, of which the first has this number.
+pub record Reported (old new : Option (List ℕ)) (failed : Bool) (start card : CardState) (first : ℕ) (steps : List Step) (i : ℕ) : Type 0 where
   pub done : List ℕ
-  pub whole : report_from start 1 steps ≡ done ++ report_from card (i + 1) (drop i steps)
+  pub whole : report_from start first steps ≡ done ++ report_from card (first + i) (drop i steps)
+  pub state : after_steps start steps ≡ after_steps card (drop i steps)
   pub appended : Appends old new done
   pub sound : failed ≡ false
 
--- the report from step i on is its line, and the report from the next step on
-report_step : (card : CardState) (steps : List Step) (i : ℕ) (d : Step) → i < length steps
-    → report_from card (i + 1) (drop i steps) ≡ line (i + 1) (answer_to card (get_or steps i d)) ++ report_from (after_step card (get_or steps i d)) (i + 1 + 1) (drop (i + 1) steps)
-report_step card steps i d within =
-    let front : drop i steps ≡ get_or steps i d ∷ drop (i + 1) steps = rw (add-one, drop-cons steps i d) in
-    ap (report_from card (i + 1)) front
+-- the steps from step i on are this one and the others
+steps_from : (steps : List Step) (i : ℕ) (d step : Step) → i < length steps → step ≡ get_or steps i d → drop i steps ≡ step ∷ drop (i + 1) steps
+steps_from steps i d step within is = rw (add-one, drop-cons steps i d, is) refl
 
 -- so the whole report is the lines so far, this one, and the rest
-report_goes_on : (start card next : CardState) (steps : List Step) (i : ℕ) (d : Step) (answer : Answer) (done : List ℕ) → i < length steps
-    → answer ≡ answer_to card (get_or steps i d) → next ≡ after_step card (get_or steps i d)
-    → report_from start 1 steps ≡ done ++ report_from card (i + 1) (drop i steps)
-    → report_from start 1 steps ≡ (done ++ line (i + 1) answer) ++ report_from next (i + 1 + 1) (drop (i + 1) steps)
-report_goes_on start card next steps i d answer done within ea en whole =
-    let rest = report_from next (i + 1 + 1) (drop (i + 1) steps) in
-    let step : report_from card (i + 1) (drop i steps) ≡ line (i + 1) answer ++ rest = rw (ea, en) (report_step card steps i d within) in
-    whole ∙ ap (λ (l : List ℕ). done ++ l) step ∙ sym (append_assoc done (line (i + 1) answer) rest)
+report_goes_on : (start card next : CardState) (first : ℕ) (steps : List Step) (i : ℕ) (step : Step) (done : List ℕ)
+    → drop i steps ≡ step ∷ drop (i + 1) steps → next ≡ after_step card step
+    → report_from start first steps ≡ done ++ report_from card (first + i) (drop i steps)
+    → report_from start first steps ≡ (done ++ line (first + i) (answer_to card step)) ++ report_from next (first + (i + 1)) (drop (i + 1) steps)
+report_goes_on start card next first steps i step done front en whole =
+    let here = line (first + i) (answer_to card step) in
+    let rest = report_from next (first + (i + 1)) (drop (i + 1) steps) in
+    let next_number : first + i + 1 ≡ first + (i + 1) = omega arith in
+    let one : report_from card (first + i) (drop i steps) ≡ here ++ rest =
+    ap (report_from card (first + i)) front ∙ ap (λ (n : ℕ). here ++ report_from (after_step card step) n (drop (i + 1) steps)) next_number
+    ∙ ap (λ (c : CardState). here ++ report_from c (first + (i + 1)) (drop (i + 1) steps)) (sym en) in
+    whole ∙ ap (λ (l : List ℕ). done ++ l) one ∙ sym (append_assoc done here rest)
 
 -- no line yet
-pub reported_none : (old : Option (List ℕ)) (failed : Bool) (start : CardState) (steps : List Step) → failed ≡ false → Reported old old failed start start steps 0
-reported_none old failed start steps e = record { done = []; whole = refl; appended = Appends-nil old; sound = e }
+pub reported_none : (old : Option (List ℕ)) (failed : Bool) (start : CardState) (first : ℕ) (steps : List Step) → failed ≡ false → Reported old old failed start start first steps 0
+reported_none old failed start first steps e =
+    let same : first ≡ first + 0 = omega arith in
+    record { done = []; whole = ap (λ (n : ℕ). report_from start n steps) same; state = refl; appended = Appends-nil old; sound = e }
 
 -- one more line
-pub reported_more : (old mid new : Option (List ℕ)) (was failed : Bool) (start card next : CardState) (steps : List Step) (i : ℕ) (d : Step) (answer : Answer)
-    → Reported old mid was start card steps i → i < length steps
-    → answer ≡ answer_to card (get_or steps i d) → next ≡ after_step card (get_or steps i d)
-    → Appends mid new (line (i + 1) answer) → failed ≡ false → Reported old new failed start next steps (i + 1)
-reported_more old mid new was failed start card next steps i d answer h within ea en a e = record {
-  done = h.done ++ line (i + 1) answer;
-  whole = report_goes_on start card next steps i d answer h.done within ea en h.whole;
-  appended = Appends-trans old mid new h.done (line (i + 1) answer) h.appended a;
-  sound = e;
-}
+pub reported_more : (old mid new : Option (List ℕ)) (was failed : Bool) (start card next : CardState) (first : ℕ) (steps : List Step) (i : ℕ) (d step : Step)
+    → Reported old mid was start card first steps i → i < length steps → step ≡ get_or steps i d → next ≡ after_step card step
+    → Appends mid new (line (first + i) (answer_to card step)) → failed ≡ false → Reported old new failed start next first steps (i + 1)
+reported_more old mid new was failed start card next first steps i d step h within is en a e =
+    let front = steps_from steps i d step within is in
+    let here = line (first + i) (answer_to card step) in
+    record {
+      done = h.done ++ here;
+      whole = report_goes_on start card next first steps i step h.done front en h.whole;
+      state = h.state ∙ ap (after_steps card) front ∙ ap (λ (c : CardState). after_steps c (drop (i + 1) steps)) (sym en);
+      appended = Appends-trans old mid new h.done here h.appended a;
+      sound = e;
+    }
 
 -- a front of one more line
-pub reported_front : (old mid new : Option (List ℕ)) (was : Bool) (start card next : CardState) (steps : List Step) (i : ℕ) (d : Step) (answer : Answer)
-    → Reported old mid was start card steps i → i < length steps
-    → answer ≡ answer_to card (get_or steps i d) → next ≡ after_step card (get_or steps i d)
-    → AppendsFront mid new (line (i + 1) answer) → AppendsFront old new (report_from start 1 steps)
-reported_front old mid new was start card next steps i d answer h within ea en (front, back, parts, a) =
-    let rest = report_from next (i + 1 + 1) (drop (i + 1) steps) in
-    let whole = report_goes_on start card next steps i d answer h.done within ea en h.whole in (
+pub reported_front : (old mid new : Option (List ℕ)) (was : Bool) (start card next : CardState) (first : ℕ) (steps : List Step) (i : ℕ) (d step : Step)
+    → Reported old mid was start card first steps i → i < length steps → step ≡ get_or steps i d → next ≡ after_step card step
+    → AppendsFront mid new (line (first + i) (answer_to card step)) → AppendsFront old new (report_from start first steps)
+reported_front old mid new was start card next first steps i d step h within is en (front, back, parts, a) =
+    let rest = report_from next (first + (i + 1)) (drop (i + 1) steps) in
+    let whole = report_goes_on start card next first steps i step h.done (steps_from steps i d step within is) en h.whole in (
       h.done ++ front,
       back ++ rest,
       whole ∙ ap (λ (l : List ℕ). (h.done ++ l) ++ rest) parts ∙ simp append_assoc,
@@ -84,10 +93,51 @@ reported_front old mid new was start card next steps i d answer h within ea en (
     )
 
 -- the lines of all steps
-pub reported_all : (old new : Option (List ℕ)) (failed : Bool) (start card : CardState) (steps : List Step) (i : ℕ) → Reported old new failed start card steps i → length steps ≤ i → Appends old new (report_from start 1 steps)
-reported_all old new failed start card steps i h past =
-    let none : drop i steps ≡ [] = drop_all i steps past in
-    subst (Appends old new) (sym (h.whole ∙ ap (λ (l : List Step). h.done ++ report_from card (i + 1) l) none ∙ append-nil h.done)) h.appended
+pub reported_all : (old new : Option (List ℕ)) (failed : Bool) (start card : CardState) (first : ℕ) (steps : List Step) (i : ℕ)
+    → Reported old new failed start card first steps i → length steps ≤ i → Appends old new (report_from start first steps) × (card ≡ after_steps start steps)
+reported_all old new failed start card first steps i h past =
+    let none : drop i steps ≡ [] = drop_all i steps past in (
+      subst (Appends old new) (sym (h.whole ∙ ap (λ (l : List Step). h.done ++ report_from card (first + i) l) none ∙ append-nil h.done)) h.appended,
+      sym (h.state ∙ ap (after_steps card) none),
+    )
+
+-- the report of some steps and others is that of the first, and that of the others from where they lead
+report_joined : (card : CardState) (n : ℕ) (steps others : List Step) → report_from card n (steps ++ others) ≡ report_from card n steps ++ report_from (after_steps card steps) (n + length steps) others
+report_joined card n [] others = let same : n ≡ n + 0 = omega arith in ap (λ (k : ℕ). report_from card k others) same
+report_joined card n (step ∷ steps) others =
+    let here = line n (answer_to card step) in
+    let later = after_step card step in
+    let same : n + 1 + length steps ≡ n + suc (length steps) = omega arith in
+    ap (λ (l : List ℕ). here ++ l) (report_joined later (n + 1) steps others)
+    ∙ sym (append_assoc here (report_from later (n + 1) steps) (report_from (after_steps later steps) (n + 1 + length steps) others))
+    ∙ ap (λ (k : ℕ). (here ++ report_from later (n + 1) steps) ++ report_from (after_steps later steps) k others) same
+
+-- behind the lines of some steps a call writes those of others
+pub writes_others : {U : Type 0} (old mid new : Option (List ℕ)) (failed : Bool) (result : Result U Fault) (card next : CardState) (n k : ℕ) (steps others : List Step)
+    → next ≡ after_steps card steps → k ≡ n + length steps → Appends old mid (report_from card n steps) → Writes mid new failed result (report_from next k others)
+    → Writes old new failed result (report_from card n (steps ++ others))
+writes_others {U} old mid new failed result card next n k steps others state number a w =
+    let lines = report_from card n steps in
+    let rest = report_from (after_steps card steps) (n + length steps) others in
+    let behind = subst (λ (j : ℕ). Writes mid new failed result (report_from (after_steps card steps) j others)) number (subst (λ (c : CardState). Writes mid new failed result (report_from c k others)) state w) in
+    subst (Writes old new failed result) (sym (report_joined card n steps others)) (writes_after old mid new failed result lines rest a behind)
+
+-- a front of the lines of some steps is one of those of more
+pub front_of_steps : (old new : Option (List ℕ)) (card : CardState) (n : ℕ) (steps others : List Step) → AppendsFront old new (report_from card n steps) → AppendsFront old new (report_from card n (steps ++ others))
+front_of_steps old new card n steps others a =
+    subst (AppendsFront old new) (sym (report_joined card n steps others)) (front_of_more old new (report_from card n steps) (report_from (after_steps card steps) (n + length steps) others) a)
+
+-- the fields of a step fit where those of all do
+pub one_in_range : (steps : List Step) (i : ℕ) (d step : Step) → AreInRange steps → i < length steps → step ≡ get_or steps i d → IsInRange step
+one_in_range [] i d step all within is = absurd (omega arith)
+one_in_range (s ∷ steps) zero d step all within is = subst IsInRange (sym is) all.0
+one_in_range (s ∷ steps) (suc i) d step all within is = one_in_range steps i d step all.1 (omega arith) is
+
+-- and those of the first steps do
+pub first_in_range : (steps : List Step) (n : ℕ) → AreInRange steps → AreInRange (take n steps)
+first_in_range steps zero all = tt
+first_in_range [] (suc n) all = tt
+first_in_range (s ∷ steps) (suc n) all = (all.0, first_in_range steps n all.1)
 
 -- where the bytes stay, nothing is written
 pub kept_is_nothing : (old new : Option (List ℕ)) → Keeps old new → Appends old new []
@@ -100,3 +150,22 @@ pub writes_more : {U : Type 0} (old mid new : Option (List ℕ)) (failed : Bool)
 writes_more old mid new failed (Ok u) bytes a w = (subst (Appends old new) (append-nil bytes) (Appends-trans old mid new bytes [] a w.0), w.1)
 writes_more old mid new failed (Err e) bytes a (is, bad, ([], back, parts, more)) = (is, bad, (bytes ++ [], [], sym (simp append-nil), Appends-trans old mid new bytes [] a more))
 writes_more old mid new failed (Err e) bytes a (is, bad, (x ∷ front, back, parts, more)) = absurd (cc)
+
+-- ---- pictures
+
+-- behind its line a call writes the picture of a step
+pub writes_picture : {U : Type 0} (old mid new : Option (List ℕ)) (failed : Bool) (result : Result U Fault) (n width height len : ℕ) (bytes : List ℕ)
+    → len ≡ length (ppm width height bytes) → Appends old mid (picture_line n len) → Writes mid new failed result (ppm width height bytes ++ codes "\n")
+    → Writes old new failed result (line n (Picture width height bytes))
+unfolding line
+writes_picture {U} old mid new failed result n width height len bytes whole a w =
+    let head = subst (λ (k : ℕ). Appends old mid (picture_line n k)) whole a in
+    writes_after old mid new failed result (picture_line n (length (ppm width height bytes))) (ppm width height bytes ++ codes "\n") head w
+
+-- a front of its line is a front of both
+pub front_of_picture : (old new : Option (List ℕ)) (n width height len : ℕ) (bytes : List ℕ)
+    → len ≡ length (ppm width height bytes) → AppendsFront old new (picture_line n len) → AppendsFront old new (line n (Picture width height bytes))
+unfolding line
+front_of_picture old new n width height len bytes whole a =
+    let head = subst (λ (k : ℕ). AppendsFront old new (picture_line n k)) whole a in
+    front_of_more old new (picture_line n (length (ppm width height bytes))) (ppm width height bytes ++ codes "\n") head

@@ -1,36 +1,53 @@
 -- What a run answers, from what its parts answer.
-use Rattle.std.proofs.Common.{◌≡◌, ℕ, ◌<◌, Bool, List, length, Option, Some, IfSome, Result, Ok, Err, arith, refl, sym, subst}
+use Rattle.std.proofs.Common.{◌≡◌, ◌⊎◌, inl, inr, ℕ, ◌<◌, Bool, List, length, Option, Some, IfSome, Result, Ok, Err, arith, refl, sym, subst}
 use Rattle.vga_bits.specs.Tracked.{Writes}
 use Rattle.vga_bits.specs.declared.fault.Fault.{Fault}
-use Rattle.vga_bits.specs.declared.fault.Fault.TheVariants.{FontSize, TooLong, ReadFault, WriteFault, OutOfMemory}
-use Rattle.vga_run.specs.declared.step.Step.{Step}
-use Rattle.vga_run.specs.Script.{Spells}
-use Rattle.vga_run.specs.Report.{report_of}
+use Rattle.vga_bits.specs.declared.fault.Fault.TheVariants.{FontSize, BadMagic, BadVersion, BadStep, Truncated, TooLong, ReadFault, WriteFault, OutOfMemory}
+use Rattle.vga_script.specs.declared.step.Step.{Step}
+use Rattle.vga_script.specs.Spelling.{Spells}
+use Rattle.vga_run.specs.Report.{report_of, steps_until}
 use Rattle.vga_run.specs.Reading.{IsInput, is_read_fault}
 use Rattle.vga_run.specs.Run.{fonts_len, InputHasFault, RunAnswers, RunsGoodScripts, is_write_fault}
-use Rattle.vga_run.proofs.GrammarLemmas.{no_fault}
+use Rattle.vga_script.specs.Decoding.{IsSpellingFault, IsFault}
+use Rattle.vga_script.proofs.FaultLemmas.{no_other_fault}
 
 -- writing the report of the steps that were read is the answer
-pub report_answers : (fonts : ℕ) (input before after : Option (List ℕ)) (failed : Bool) (result : Result Unit Fault) (bytes : List ℕ) (steps : List Step)
-    → fonts ≡ fonts_len → IsInput input bytes → Spells bytes steps → Writes before after failed result (report_of steps) → RunAnswers fonts input before after result
-report_answers fonts input before after failed (Ok u) bytes steps size read spelled w = (size, (steps, (bytes, read, spelled), w.0))
-report_answers fonts input before after failed (Err e) bytes steps size read spelled w =
-    subst (λ (x : Fault). RunAnswers fonts input before after (Err x)) (sym w.0) (size, (steps, (bytes, read, spelled), w.2))
+pub report_answers : (until : Option ℕ) (fonts : ℕ) (input before after : Option (List ℕ)) (failed : Bool) (result : Result Unit Fault) (bytes : List ℕ) (steps : List Step)
+    → fonts ≡ fonts_len → IsInput input bytes → Spells bytes steps → Writes before after failed result (report_of (steps_until until steps)) → RunAnswers until fonts input before after result
+report_answers until fonts input before after failed (Ok u) bytes steps size read spelled w = (size, (steps, (bytes, read, spelled), w.0))
+report_answers until fonts input before after failed (Err e) bytes steps size read spelled w =
+    subst (λ (x : Fault). RunAnswers until fonts input before after (Err x)) (sym w.0) (size, (steps, (bytes, read, spelled), w.2))
+
+-- so is a fault of the bytes that were read, none of which is their length
+spelling_answers : (until : Option ℕ) (fonts : ℕ) (input before after : Option (List ℕ)) (bytes : List ℕ) (f : Fault)
+    → fonts ≡ fonts_len → IsInput input bytes → IsSpellingFault bytes f → RunAnswers until fonts input before after (Err f)
+spelling_answers until fonts input before after bytes BadMagic size read bad = (size, (bytes, read, bad))
+spelling_answers until fonts input before after bytes BadVersion size read bad = (size, (bytes, read, bad))
+spelling_answers until fonts input before after bytes (BadStep at) size read bad = (size, (bytes, read, bad))
+spelling_answers until fonts input before after bytes (Truncated at) size read bad = (size, (bytes, read, bad))
+spelling_answers until fonts input before after bytes _ size read bad = absurd bad
+
+pub fault_answers : (until : Option ℕ) (fonts : ℕ) (input before after : Option (List ℕ)) (bytes : List ℕ) (f : Fault)
+    → fonts ≡ fonts_len → IsInput input bytes → (f ≡ OutOfMemory) ⊎ IsFault bytes f → RunAnswers until fonts input before after (Err f)
+fault_answers until fonts input before after bytes f size read (inl is) = subst (λ (x : Fault). RunAnswers until fonts input before after (Err x)) (sym is) size
+fault_answers until fonts input before after bytes f size read (inr (inl (is, many))) = let few = read.1 in absurd (omega arith)
+fault_answers until fonts input before after bytes f size read (inr (inr (few, bad))) = spelling_answers until fonts input before after bytes f size read bad
 
 -- an input that spells a script has no fault
 no_input_fault : (input : Option (List ℕ)) (f : Fault) (bytes : List ℕ) (steps : List Step) → input ≡ Some bytes → Spells bytes steps → InputHasFault input f → ⊥
 no_input_fault input f bytes steps e spelled (others, read, bad) =
     let same : bytes ≡ others = subst (λ (i : Option (List ℕ)). IfSome i (λ all. all ≡ others)) e read.0 in
-    no_fault others steps f (subst (λ (l : List ℕ). Spells l steps) same spelled) bad
+    let long = no_other_fault others steps f (subst (λ (l : List ℕ). Spells l steps) same spelled) (inr (read.1, bad)) in
+    subst (IsSpellingFault others) long bad
 
 -- so a script is run, unless memory runs out or a stream fails
-pub runs_good_scripts : (fonts : ℕ) (input before after : Option (List ℕ)) (read_failed write_failed : Bool) (result : Result Unit Fault)
-    → RunAnswers fonts input before after result → read_failed ≡ is_read_fault result → write_failed ≡ is_write_fault result → RunsGoodScripts fonts input read_failed write_failed result
-runs_good_scripts fonts input before after rf wf (Ok u) h er ew = λ bytes steps size e few spelled r w. tt
-runs_good_scripts fonts input before after rf wf (Err FontSize) h er ew = λ bytes steps size e few spelled r w. absurd (h size)
-runs_good_scripts fonts input before after rf wf (Err ReadFault) h er ew = λ bytes steps size e few spelled r w. absurd (cc)
-runs_good_scripts fonts input before after rf wf (Err TooLong) h er ew = λ bytes steps size e few spelled r w.
+pub runs_good_scripts : (until : Option ℕ) (fonts : ℕ) (input before after : Option (List ℕ)) (read_failed write_failed : Bool) (result : Result Unit Fault)
+    → RunAnswers until fonts input before after result → read_failed ≡ is_read_fault result → write_failed ≡ is_write_fault result → RunsGoodScripts fonts input read_failed write_failed result
+runs_good_scripts until fonts input before after rf wf (Ok u) h er ew = λ bytes steps size e few spelled r w. tt
+runs_good_scripts until fonts input before after rf wf (Err FontSize) h er ew = λ bytes steps size e few spelled r w. absurd (h size)
+runs_good_scripts until fonts input before after rf wf (Err ReadFault) h er ew = λ bytes steps size e few spelled r w. absurd (cc)
+runs_good_scripts until fonts input before after rf wf (Err TooLong) h er ew = λ bytes steps size e few spelled r w.
     let many : 16777216 < length bytes = subst (λ (i : Option (List ℕ)). IfSome i (λ all. 16777216 < length all)) e h.1 in absurd (omega arith)
-runs_good_scripts fonts input before after rf wf (Err WriteFault) h er ew = λ bytes steps size e few spelled r w. absurd (cc)
-runs_good_scripts fonts input before after rf wf (Err OutOfMemory) h er ew = λ bytes steps size e few spelled r w. refl
-runs_good_scripts fonts input before after rf wf (Err f) h er ew = λ bytes steps size e few spelled r w. absurd (no_input_fault input f bytes steps e spelled h.1)
+runs_good_scripts until fonts input before after rf wf (Err WriteFault) h er ew = λ bytes steps size e few spelled r w. absurd (cc)
+runs_good_scripts until fonts input before after rf wf (Err OutOfMemory) h er ew = λ bytes steps size e few spelled r w. refl
+runs_good_scripts until fonts input before after rf wf (Err f) h er ew = λ bytes steps size e few spelled r w. absurd (no_input_fault input f bytes steps e spelled h.1)

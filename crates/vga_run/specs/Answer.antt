@@ -1,6 +1,10 @@
--- What a step answers, from what a cycle does.
-use Rattle.std.specs.Prelude.{ℕ, Result, Ok, Err}
+-- What a step answers, from what a cycle does and what a frame shows.
+use Rattle.std.specs.Prelude.{ℕ, List, Option, None, Some, Result, Ok, Err}
 use Rattle.vga_bits.specs.declared.refusal.Refusal.{Refusal}
+use Rattle.vga_card.specs.declared.shape.Shape.{Shape}
+use Rattle.vga_card.specs.declared.drawn.Drawn.{Drawn}
+use Rattle.vga_card.specs.declared.drawn.Drawn.TheVariants as drawn
+use Rattle.vga_card.specs.Picture.{Dot, shape, bytes_of}
 use Rattle.vga_run.specs.declared.answer.Answer.{Answer}
 use Rattle.vga_run.specs.declared.answer.Answer.TheVariants.{Done, Byte, Word, Refused}
 
@@ -18,3 +22,25 @@ of_byte (Err refusal) = Refused refusal
 abbrev pub of_word : Result ℕ Refusal → Answer
 of_word (Ok value) = Word value
 of_word (Err refusal) = Refused refusal
+
+-- what a step answers: on its own line, or with a picture of so many dots in width and height, red, green and blue of
+-- each; or that a frame is ragged; or the lines of a dump
+pub data Reply : Type 0 where
+  Plain : Answer → Reply
+  Picture : ℕ → ℕ → List ℕ → Reply
+  Ragged : Reply
+  Dump : List ℕ → Reply
+
+-- a picture of some shape, if there is one
+abbrev pub of_shape : Option Shape → List ℕ → Reply
+of_shape (Some s) bytes = Picture s.width s.height bytes
+of_shape None bytes = Ragged
+
+-- what a frame answers that has drawn these dots
+abbrev pub of_frame : List Dot → Reply
+of_frame dots = of_shape (shape dots) (bytes_of dots)
+
+-- what the picture of a frame, or a ragged one, answers
+abbrev pub of_drawn : Drawn → Reply
+of_drawn (drawn.Picture width height bytes) = Picture width height bytes.now
+of_drawn drawn.Ragged = Ragged

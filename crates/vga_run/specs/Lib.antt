@@ -1,5 +1,3 @@
-pub mod Script
-pub mod Decode
 pub mod Answer
 pub mod Step
 pub mod Report

@@ -3,10 +3,7 @@ use Rattle.std.specs.Prelude.{ℕ, ◌≡◌, ◌<◌, ◌≤◌, ◌⊎◌, Boo
 use Rattle.std.specs.Io.KnownBytes.{Consumes}
 use Rattle.vga_bits.specs.declared.fault.Fault.{Fault}
 use Rattle.vga_bits.specs.declared.fault.Fault.TheVariants.{TooLong, ReadFault, OutOfMemory}
-
--- how many bytes a script may have
-abbrev pub script_limit : ℕ
-script_limit = 16777216
+use Rattle.vga_script.specs.Spelling.{script_limit}
 
 -- these bytes are all that the reader had, and no more than a script may have
 abbrev pub IsInput : Option (List ℕ) → List ℕ → Type 0

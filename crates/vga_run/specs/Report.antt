@@ -1,10 +1,14 @@
--- The report of a script: a line for each step, with its number and its answer.
-use Rattle.std.specs.Prelude.{ℕ, ◌+◌, ◌/◌, ◌%◌, nat_lt, if◌then◌else◌, List, [], ◌∷◌, ◌++◌, codes, decimal}
+-- The report of a script: a line for each step, with its number and its answer, and behind it the picture of a frame.
+use Rattle.std.specs.Prelude.{ℕ, ◌+◌, ◌/◌, ◌%◌, nat_lt, if◌then◌else◌, List, [], ◌∷◌, ◌++◌, length, take, Option, None, Some, codes, decimal}
 use Rattle.vga_bits.specs.Refusal.{refusal_name}
-use Rattle.vga_run.specs.declared.step.Step.{Step}
+use Rattle.vga_script.specs.declared.step.Step.{Step}
+use Rattle.vga_script.specs.declared.step.Step.TheVariants.{Show}
+use Rattle.vga_script.specs.declared.shown.Shown.TheVariants as shown
 use Rattle.vga_run.specs.declared.answer.Answer.{Answer}
 use Rattle.vga_run.specs.declared.answer.Answer.TheVariants.{Done, Byte, Word, Refused}
 use Rattle.vga_card.specs.Card.{CardState, power_on_card}
+use Rattle.vga_show.specs.Ppm.{ppm}
+use Rattle.vga_run.specs.Answer.{Reply, Plain, Picture, Ragged, Dump}
 use Rattle.vga_run.specs.Step.{answer_to, after_step}
 
 -- a digit below 16, in upper case: 0 to 9, and A to F
@@ -22,14 +26,37 @@ answer_text (Byte value) = hex_byte value
 answer_text (Word value) = hex_byte (value / 256) ++ hex_byte (value % 256)
 answer_text (Refused refusal) = refusal_name refusal
 
--- the line of step n: its number in decimal, a blank, its answer, and a newline
-unfoldable pub line : ℕ → Answer → List ℕ
-line n answer = decimal n ++ (codes " " ++ (answer_text answer ++ codes "\n"))
+-- the number of a step in decimal, and a blank
+unfoldable pub number_text : ℕ → List ℕ
+number_text n = decimal n ++ codes " "
+
+-- the line of step n that stands before a picture of so many bytes
+unfoldable pub picture_line : ℕ → ℕ → List ℕ
+picture_line n len = decimal n ++ (codes " picture " ++ (decimal len ++ codes "\n"))
+
+-- the line of step n: its number in decimal, a blank, what it answers, and a newline; a picture stands behind the line that
+-- tells how many bytes it has, with a newline of its own, and a dump has its own lines
+unfoldable pub line : ℕ → Reply → List ℕ
+line n (Plain answer) = decimal n ++ (codes " " ++ (answer_text answer ++ codes "\n"))
+line n (Picture width height bytes) =
+    let picture = ppm width height bytes in
+    picture_line n (length picture) ++ (picture ++ codes "\n")
+line n Ragged = decimal n ++ codes " ragged\n"
+line n (Dump text) = number_text n ++ text
 
 -- the lines of the steps from this card on, of which the first has the number n
 abbrev pub report_from : CardState → ℕ → List Step → List ℕ
 report_from card n [] = []
 report_from card n (step ∷ steps) = line n (answer_to card step) ++ report_from (after_step card step) (n + 1) steps
+
+-- what is shown where a run is stopped: the registers, the beam, the latches and the BIOS data
+abbrev pub last_looks : List Step
+last_looks = Show shown.Registers ∷ Show shown.Beam ∷ Show shown.Latches ∷ Show shown.BiosData ∷ []
+
+-- the steps of a run: all of a script, or so many of the first, all if there are fewer, and then the last looks
+abbrev pub steps_until : Option ℕ → List Step → List Step
+steps_until None steps = steps
+steps_until (Some most) steps = take most steps ++ last_looks
 
 -- the report of a script: its steps are run from power-on, and numbered from 1
 abbrev pub report_of : List Step → List ℕ

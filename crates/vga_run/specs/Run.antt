@@ -4,11 +4,11 @@ use Rattle.std.specs.Io.KnownBytes.{Appends}
 use Rattle.vga_bits.specs.Tracked.{AppendsFront}
 use Rattle.vga_bits.specs.declared.fault.Fault.{Fault}
 use Rattle.vga_bits.specs.declared.fault.Fault.TheVariants.{FontSize, TooLong, ReadFault, WriteFault, OutOfMemory}
-use Rattle.vga_run.specs.declared.step.Step.{Step}
-use Rattle.vga_run.specs.Script.{Spells}
-use Rattle.vga_run.specs.Decode.{IsFault}
-use Rattle.vga_run.specs.Report.{report_of}
-use Rattle.vga_run.specs.Reading.{script_limit, IsInput, IsTooLong}
+use Rattle.vga_script.specs.declared.step.Step.{Step}
+use Rattle.vga_script.specs.Spelling.{script_limit, Spells}
+use Rattle.vga_script.specs.Decoding.{IsSpellingFault}
+use Rattle.vga_run.specs.Report.{report_of, steps_until}
+use Rattle.vga_run.specs.Reading.{IsInput, IsTooLong}
 
 -- how many bytes a font file has
 abbrev pub fonts_len : ℕ
@@ -20,18 +20,18 @@ InputSpells input steps = (bytes : List ℕ) × IsInput input bytes × Spells by
 
 -- the input spells no script, and this is its first fault
 abbrev pub InputHasFault : Option (List ℕ) → Fault → Type 0
-InputHasFault input fault = (bytes : List ℕ) × IsInput input bytes × IsFault bytes fault
+InputHasFault input fault = (bytes : List ℕ) × IsInput input bytes × IsSpellingFault bytes fault
 
--- What a run answers, over fonts of so many bytes, a reader that has this input, and a writer that holds what is
+-- What a run answers that is stopped after so many steps, or not, over fonts of so many bytes, a reader that has this input, and a writer that holds what is
 -- before and after: it has written the report of the input's script, or there is a fault, the first in order.
-abbrev pub RunAnswers : ℕ → Option (List ℕ) → Option (List ℕ) → Option (List ℕ) → Result Unit Fault → Type 0
-RunAnswers fonts input before after (Ok u) = (fonts ≡ fonts_len) × ((steps : List Step) × InputSpells input steps × Appends before after (report_of steps))
-RunAnswers fonts input before after (Err FontSize) = fonts ≢ fonts_len
-RunAnswers fonts input before after (Err ReadFault) = fonts ≡ fonts_len
-RunAnswers fonts input before after (Err TooLong) = (fonts ≡ fonts_len) × IsTooLong input
-RunAnswers fonts input before after (Err WriteFault) = (fonts ≡ fonts_len) × ((steps : List Step) × InputSpells input steps × AppendsFront before after (report_of steps))
-RunAnswers fonts input before after (Err OutOfMemory) = fonts ≡ fonts_len
-RunAnswers fonts input before after (Err fault) = (fonts ≡ fonts_len) × InputHasFault input fault
+abbrev pub RunAnswers : Option ℕ → ℕ → Option (List ℕ) → Option (List ℕ) → Option (List ℕ) → Result Unit Fault → Type 0
+RunAnswers until fonts input before after (Ok u) = (fonts ≡ fonts_len) × ((steps : List Step) × InputSpells input steps × Appends before after (report_of (steps_until until steps)))
+RunAnswers until fonts input before after (Err FontSize) = fonts ≢ fonts_len
+RunAnswers until fonts input before after (Err ReadFault) = fonts ≡ fonts_len
+RunAnswers until fonts input before after (Err TooLong) = (fonts ≡ fonts_len) × IsTooLong input
+RunAnswers until fonts input before after (Err WriteFault) = (fonts ≡ fonts_len) × ((steps : List Step) × InputSpells input steps × AppendsFront before after (report_of (steps_until until steps)))
+RunAnswers until fonts input before after (Err OutOfMemory) = fonts ≡ fonts_len
+RunAnswers until fonts input before after (Err fault) = (fonts ≡ fonts_len) × InputHasFault input fault
 
 -- the answer is WriteFault
 abbrev pub is_write_fault : {A : Type 0} → Result A Fault → Bool

@@ -1,7 +1,8 @@
 //! Reading all the bytes of a script.
 ghost use Rattle.std.specs.Prelude.{◌≡◌, ◌+◌, false, IfOk, IfErr, IsOkUnless, vec_len};
 ghost use Rattle.vga_bits.specs.Tracked.{inner_of, has_failed};
-ghost use Rattle.vga_run.specs.Reading.{IsInput, IsReadingFault, TakesAtMost, is_read_fault, script_limit};
+ghost use Rattle.vga_run.specs.Reading.{IsInput, IsReadingFault, TakesAtMost, is_read_fault};
+ghost use Rattle.vga_script.specs.Spelling.{script_limit};
 
 use std::alloc::Global;
 use std::io::Read;

@@ -1,20 +1,30 @@
 //! The report of a run.
-ghost use Rattle.std.specs.Prelude.{◌≡◌, ◌+◌, ◌<◌, ◌≤◌, ◌++◌, [], length, false};
+ghost use Rattle.std.specs.Prelude.{◌≡◌, ◌+◌, ◌*◌, ◌<◌, ◌≤◌, ◌++◌, [], length, false, OnOk, ◌^◌, codes, decimal, nat_lt, if◌then◌else◌, Some};
 ghost use Rattle.arrayvec.specs.ArrayVec.{array_vec_len};
 ghost use Rattle.vga_bits.specs.Tracked.{inner_of, has_failed, Writes};
-ghost use Rattle.vga_run.specs.Report.{hex_digit as hex_digit_of, hex_byte, answer_text, line, report_from};
+ghost use Rattle.vga_card.specs.Frames.{IsSmall};
+ghost use Rattle.vga_run.specs.Answer.{Plain, Picture, Ragged, Dump, of_drawn};
+ghost use Rattle.vga_run.specs.Step.{answer_to, after_step, after_steps, dump_text};
+ghost use Rattle.vga_script.specs.Step.{IsInRange, AreInRange};
+ghost use Rattle.vga_script.specs.Shown.{IsShownInRange};
+ghost use Rattle.vga_run.specs.Report.{hex_digit as hex_digit_of, hex_byte, answer_text, line, picture_line as picture_line_of, number_text, report_from, steps_until};
+ghost use Rattle.vga_show.specs.Ppm.{ppm};
 
 use super::answer::Answer;
-use super::step::Step;
 use arrayvec::ArrayVec;
+use bios_modes::Bda;
 use itoa::Buffer;
 use std::io::Write;
-use vga_bits::{Fault, Tracked, write_whole};
-use vga_card::Card;
+use vga_bits::{Fault, Refusal, Tracked, write_whole};
+use vga_card::{Card, Drawn};
+use vga_script::{Shown, Step};
+use vga_show::{
+    dump_bda, dump_beam, dump_dac, dump_latches, dump_plane, dump_regs, ppm_length, write_ppm,
+};
 
-/// Room for the longest line: a number of at most 20 digits, a blank, an answer of at most 15 bytes,
-/// and a newline.
-const LINE_LEN: usize = 37;
+/// Room for the longest line: a number of at most 20 digits, a blank, an answer of at most 18 bytes, which
+/// is `picture` with a number of at most ten digits, and a newline.
+const LINE_LEN: usize = 40;
 
 /// The line of a step.
 type Line = ArrayVec<u8, LINE_LEN>;
@@ -29,7 +39,7 @@ fn hex_digit(n: u8) -> u8
 
 /// Puts some bytes at the line's end.
 fn push_text(line: &mut Line, text: &[u8])
-    requires { array_vec_len line.old + length text.now ≤ 37 }
+    requires { array_vec_len line.old + length text.now ≤ 40 }
     ensures items { line.new.items ≡ line.old.items ++ text.now }
     ensures len { array_vec_len line.new ≡ array_vec_len line.old + length text.now }
 {
@@ -38,7 +48,7 @@ fn push_text(line: &mut Line, text: &[u8])
 
 /// Puts the two digits of a byte at the line's end.
 fn push_byte(line: &mut Line, value: u8)
-    requires { array_vec_len line.old ≤ 35 }
+    requires { array_vec_len line.old ≤ 38 }
     ensures items { line.new.items ≡ line.old.items ++ hex_byte value }
     ensures len { array_vec_len line.new ≡ array_vec_len line.old + 2 }
 {
@@ -48,7 +58,7 @@ fn push_byte(line: &mut Line, value: u8)
 /// Puts the text of an answer at the line's end.
 #[tactic(auto, using(crate::proofs::ReportLemmas::name_is_short))]
 fn push_answer(line: &mut Line, answer: Answer)
-    requires { array_vec_len line.old ≤ 22 }
+    requires { array_vec_len line.old ≤ 25 }
     ensures items { line.new.items ≡ line.old.items ++ answer_text answer }
     ensures len { array_vec_len line.new ≤ array_vec_len line.old + 15 }
 {
@@ -63,32 +73,206 @@ fn push_answer(line: &mut Line, answer: Answer)
     }
 }
 
-/// Writes the line of step n.
-#[tactic(auto, unfolding(crate::specs::Report::line))]
-fn write_line<W: Write>(out: &mut Tracked<W>, n: usize, answer: Answer) -> Result<(), Fault>
-    requires { has_failed out.old ≡ false }
-    ensures { Writes (W.contents (inner_of out.old)) (W.contents (inner_of out.new))
-        (has_failed out.new) result (line n answer) }
+/// The number of a step, and a blank.
+#[tactic(auto, unfolding(crate::specs::Report::number_text))]
+fn numbered(n: usize) -> Line
+    ensures items { result.items ≡ number_text n }
+    ensures len { array_vec_len result ≤ 21 }
 {
     let mut line = Line::new();
     let mut digits = Buffer::new();
     push_text(&mut line, digits.format(n).as_bytes());
     push_text(&mut line, b" ");
+    line
+}
+
+/// Writes the line of step n.
+#[tactic(auto, unfolding(crate::specs::Report::line, crate::specs::Report::number_text), using(std::proofs::lemmas::List::append_assoc))]
+fn write_line<W: Write>(out: &mut Tracked<W>, n: usize, answer: Answer) -> Result<(), Fault>
+    requires { has_failed out.old ≡ false }
+    ensures { Writes (W.contents (inner_of out.old)) (W.contents (inner_of out.new))
+        (has_failed out.new) result (line n (Plain answer)) }
+{
+    let mut line = numbered(n);
     push_answer(&mut line, answer);
     push_text(&mut line, b"\n");
     write_whole(out, line.as_slice())
 }
 
-/// Takes the steps on this card, and writes a line for each, of which the first has the number 1.
-#[tactic(auto, using(crate::proofs::ReportLemmas::reported_none, crate::proofs::ReportLemmas::reported_all))]
-fn write_lines<W: Write>(out: &mut Tracked<W>, card: &mut Card, steps: &[Step]) -> Result<(), Fault>
+/// The line of step n that stands before a picture: how many bytes the picture has.
+#[tactic(auto, unfolding(crate::specs::Report::picture_line, crate::specs::Report::number_text))]
+fn picture_line(n: usize, length: u32) -> Line
+    ensures { result.items ≡ picture_line_of n length }
+{
+    let mut line = numbered(n);
+    let mut digits = Buffer::new();
+    push_text(&mut line, b"picture ");
+    push_text(&mut line, digits.format(length).as_bytes());
+    push_text(&mut line, b"\n");
+    line
+}
+
+/// Writes a picture, of so many dots in width and height, and a newline.
+#[tactic(auto, using(vga_show::proofs::WritingLemmas::writes_after, vga_show::proofs::WritingLemmas::front_of_more))]
+fn write_ppm_line<W: Write>(
+    out: &mut Tracked<W>,
+    width: u32,
+    height: u32,
+    bytes: &[u8],
+) -> Result<(), Fault>
     requires { has_failed out.old ≡ false }
     ensures { Writes (W.contents (inner_of out.old)) (W.contents (inner_of out.new))
-        (has_failed out.new) result (report_from card.old 1 steps.now) }
+        (has_failed out.new) result (ppm width height bytes.now ++ codes "\n") }
+{
+    write_ppm(out, width, height, bytes)?;
+    write_whole(out, b"\n")
+}
+
+/// Writes the line of step n and its picture, of so many dots in width and height.
+fn write_picture<W: Write>(
+    out: &mut Tracked<W>,
+    n: usize,
+    width: u32,
+    height: u32,
+    bytes: &[u8],
+) -> Result<(), Fault>
+    requires writer { has_failed out.old ≡ false }
+    requires width { width ≤ 2304 }
+    requires height { height ≤ 1024 }
+    requires whole { length bytes.now ≡ 3 * (width * height) }
+    ensures { Writes (W.contents (inner_of out.old)) (W.contents (inner_of out.new))
+        (has_failed out.new) result (line n (Picture width height bytes.now)) }
+{
+    let line = picture_line(n, ppm_length(width, height));
+    write_whole(out, line.as_slice())?;
+    write_ppm_line(out, width, height, bytes)
+}
+
+/// Writes the line of step n that says that a frame is ragged.
+#[tactic(auto, unfolding(crate::specs::Report::line, crate::specs::Report::number_text), using(std::proofs::lemmas::List::append_assoc))]
+fn write_ragged<W: Write>(out: &mut Tracked<W>, n: usize) -> Result<(), Fault>
+    requires { has_failed out.old ≡ false }
+    ensures { Writes (W.contents (inner_of out.old)) (W.contents (inner_of out.new))
+        (has_failed out.new) result (line n Ragged) }
+{
+    let mut line = numbered(n);
+    push_text(&mut line, b"ragged\n");
+    write_whole(out, line.as_slice())
+}
+
+/// Writes what a frame answers as step n.
+fn write_drawn<W: Write>(out: &mut Tracked<W>, n: usize, drawn: Drawn<'_>) -> Result<(), Fault>
+    requires writer { has_failed out.old ≡ false }
+    requires few { IsSmall drawn }
+    ensures { Writes (W.contents (inner_of out.old)) (W.contents (inner_of out.new))
+        (has_failed out.new) result (line n (of_drawn drawn.entry)) }
+{
+    match drawn {
+        Drawn::Picture(width, height, bytes) => write_picture(out, n, width, height, bytes),
+        Drawn::Ragged => write_ragged(out, n),
+    }
+}
+
+/// Writes the dump of what a step shows.
+#[tactic(auto, unfolding(crate::specs::Step::dump_text))]
+fn write_dump<W: Write>(out: &mut Tracked<W>, card: &Card, shown: Shown) -> Result<(), Fault>
+    requires writer { has_failed out.old ≡ false }
+    requires range { IsShownInRange shown }
+    ensures { Writes (W.contents (inner_of out.old)) (W.contents (inner_of out.new))
+        (has_failed out.new) result (dump_text card.now shown) }
+{
+    match shown {
+        Shown::Registers => dump_regs(out, card),
+        Shown::Dac { index } => dump_dac(out, card, index),
+        Shown::Beam => dump_beam(out, card),
+        Shown::Latches => dump_latches(out, card),
+        Shown::Plane {
+            plane,
+            offset,
+            count,
+        } => dump_plane(out, card, plane, offset, count),
+        Shown::BiosData => dump_bda(out, &Bda::new()),
+    }
+}
+
+/// Writes the number of step n, and the dump of what it shows.
+#[tactic(auto, unfolding(crate::specs::Report::line), using(vga_show::proofs::WritingLemmas::writes_after, vga_show::proofs::WritingLemmas::front_of_more))]
+fn write_shown<W: Write>(
+    out: &mut Tracked<W>,
+    n: usize,
+    card: &Card,
+    shown: Shown,
+) -> Result<(), Fault>
+    requires writer { has_failed out.old ≡ false }
+    requires range { IsShownInRange shown }
+    ensures { Writes (W.contents (inner_of out.old)) (W.contents (inner_of out.new))
+        (has_failed out.new) result (line n (Dump (dump_text card.now shown))) }
+{
+    write_whole(out, numbered(n).as_slice())?;
+    write_dump(out, card, shown)
+}
+
+/// Why a call of the video BIOS is refused as long as there are no services: a mode is to be set, which
+/// is none of them, or none is set.
+fn service_refusal(ax: u16) -> Refusal
+    ensures { result ≡ (if nat_lt ax 0x100 then Refusal.BadFunction else Refusal.NoMode) }
+{
+    if ax < 0x100 {
+        Refusal::BadFunction
+    } else {
+        Refusal::NoMode
+    }
+}
+
+/// Takes a step, and writes what it answers as step n.
+#[tactic(auto, unfolding(crate::specs::Step::answer_to, crate::specs::Step::after_step))]
+fn write_step<W: Write>(
+    out: &mut Tracked<W>,
+    n: usize,
+    card: &mut Card,
+    step: &Step,
+) -> Result<(), Fault>
+    requires writer { has_failed out.old ≡ false }
+    requires range { IsInRange step.now }
+    ensures text { Writes (W.contents (inner_of out.old)) (W.contents (inner_of out.new))
+        (has_failed out.new) result (line n (answer_to card.old step.now)) }
+    ensures after { card.new ≡ after_step card.old step.now }
+{
+    let answer = match step {
+        Step::Out { port, value } => Answer::of_write(card.out(*port, *value)),
+        Step::OutWord { port, value } => Answer::of_write(card.out_word(*port, *value)),
+        Step::In { port } => Answer::of_byte(card.inp(*port)),
+        Step::InWord { port } => Answer::of_word(card.inp_word(*port)),
+        Step::Put { address, value } => Answer::of_write(card.put(*address, *value)),
+        Step::PutWord { address, value } => Answer::of_write(card.put_word(*address, *value)),
+        Step::Get { address } => Answer::of_byte(card.get(*address)),
+        Step::GetWord { address } => Answer::of_word(card.get_word(*address)),
+        Step::Int { ax, .. } => Answer::Refused(service_refusal(*ax)),
+        Step::Advance { dots } => Answer::of_write(card.advance(*dots)),
+        Step::Frame => return write_drawn(out, n, card.frame()),
+        Step::Show { shown } => return write_shown(out, n, card, *shown),
+    };
+    write_line(out, n, answer)
+}
+
+/// Takes the steps on this card, and writes a line for each, of which the first has this
+/// number.
+#[tactic(auto, using(crate::proofs::ReportLemmas::reported_none, crate::proofs::ReportLemmas::reported_all))]
+fn write_lines<W: Write>(
+    out: &mut Tracked<W>,
+    card: &mut Card,
+    first: usize,
+    steps: &[Step],
+) -> Result<(), Fault>
+    requires writer { has_failed out.old ≡ false }
+    requires numbers { first + length steps.now < 2 ^ 64 }
+    requires range { AreInRange steps.now }
+    ensures text { Writes (W.contents (inner_of out.old)) (W.contents (inner_of out.new))
+        (has_failed out.new) result (report_from card.old first steps.now) }
+    ensures after { OnOk result (card.new ≡ after_steps card.old steps.now) }
 {
     for (i, step) in steps.iter().enumerate() {
-        let answer = step.take(card);
-        write_line(out, i + 1, answer)?;
+        write_step(out, first + i, card, step)?;
     }
     Ok(())
 }
@@ -106,19 +290,70 @@ fn flush<W: Write>(out: &mut Tracked<W>) -> Result<(), Fault>
     }
 }
 
-/// Takes the steps on this card, writes a line for each, of which the first has the number 1, and
-/// flushes the writer. It fails with `WriteFault` alone, where the writer does, which then has a front
-/// of the lines.
+/// Takes so many of the first steps, all if there are fewer, and then the last looks.
+#[tactic(auto, using(crate::proofs::ReportLemmas::writes_others, crate::proofs::ReportLemmas::front_of_steps, crate::proofs::ReportLemmas::first_in_range))]
+fn write_until<W: Write>(
+    out: &mut Tracked<W>,
+    card: &mut Card,
+    steps: &[Step],
+    most: u32,
+) -> Result<(), Fault>
+    requires writer { has_failed out.old ≡ false }
+    requires range { AreInRange steps.now }
+    ensures { Writes (W.contents (inner_of out.old)) (W.contents (inner_of out.new))
+        (has_failed out.new) result (report_from card.old 1 (steps_until (Some most) steps.now)) }
+{
+    let count = (most as usize).min(steps.len());
+    let (taken, _) = steps.split_at(count);
+    write_lines(out, card, 1, taken)?;
+    let last_looks = [
+        Step::Show {
+            shown: Shown::Registers,
+        },
+        Step::Show { shown: Shown::Beam },
+        Step::Show {
+            shown: Shown::Latches,
+        },
+        Step::Show {
+            shown: Shown::BiosData,
+        },
+    ];
+    write_lines(out, card, count + 1, &last_looks)
+}
+
+/// Takes the steps on this card, all of them or so many of the first with the last looks.
+fn write_steps<W: Write>(
+    out: &mut Tracked<W>,
+    card: &mut Card,
+    steps: &[Step],
+    until: Option<u32>,
+) -> Result<(), Fault>
+    requires writer { has_failed out.old ≡ false }
+    requires range { AreInRange steps.now }
+    ensures { Writes (W.contents (inner_of out.old)) (W.contents (inner_of out.new))
+        (has_failed out.new) result (report_from card.old 1 (steps_until until steps.now)) }
+{
+    match until {
+        Some(most) => write_until(out, card, steps, most),
+        None => write_lines(out, card, 1, steps),
+    }
+}
+
+/// Takes the steps on this card, all of them or so many of the first with the last looks, writes what each
+/// answers, of which the first has the number 1, and flushes the writer. It fails with `WriteFault` alone,
+/// where the writer does, which then has a front of the report.
 #[tactic(auto, using(crate::proofs::ReportLemmas::writes_more))]
 pub(crate) fn write_report<W: Write>(
     out: &mut Tracked<W>,
     card: &mut Card,
     steps: &[Step],
+    until: Option<u32>,
 ) -> Result<(), Fault>
-    requires { has_failed out.old ≡ false }
+    requires writer { has_failed out.old ≡ false }
+    requires range { AreInRange steps.now }
     ensures { Writes (W.contents (inner_of out.old)) (W.contents (inner_of out.new))
-        (has_failed out.new) result (report_from card.old 1 steps.now) }
+        (has_failed out.new) result (report_from card.old 1 (steps_until until steps.now)) }
 {
-    write_lines(out, card, steps)?;
+    write_steps(out, card, steps, until)?;
     flush(out)
 }

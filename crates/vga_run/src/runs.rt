@@ -2,22 +2,26 @@
 ghost use Rattle.std.specs.Prelude.{◌≡◌, ◌≢◌, ◌+◌, length, false, IfErr};
 ghost use Rattle.vga_bits.specs.declared.fault.Fault.TheVariants.{WriteFault};
 ghost use Rattle.vga_bits.specs.Tracked.{inner_of, has_failed};
-ghost use Rattle.vga_run.specs.Reading.{TakesAtMost, is_read_fault, script_limit};
+ghost use Rattle.vga_run.specs.Reading.{TakesAtMost, is_read_fault};
+ghost use Rattle.vga_script.specs.Spelling.{script_limit};
 ghost use Rattle.vga_run.specs.Run.{RunAnswers, RunsGoodScripts, fonts_len, is_write_fault};
 
-use super::decode::decode;
 use super::reading::read_script;
 use super::report::write_report;
 use std::alloc::Global;
 use std::io::{Read, Write};
 use vga_bits::{Fault, Tracked};
 use vga_card::Card;
+use vga_script::decode;
 
 /// How many bytes a font file has.
 const FONTS_LEN: usize = 9728;
 
 /// Runs a script from power-on, writes its report and nothing else, and flushes the writer. The reader
 /// and the writer must not have failed before.
+///
+/// With `until` the run is that of so many of the first steps, all if there are fewer, followed by looks at
+/// the registers, the beam, the latches and the BIOS data, as steps with the next numbers.
 ///
 /// A fault ends the run. Of several the first in this order is answered:
 ///
@@ -34,12 +38,13 @@ pub fn run<R: Read, W: Write>(
     script: &mut Tracked<R>,
     fonts: &[u8],
     out: &mut Tracked<W>,
+    until: Option<u32>,
 ) -> Result<(), Fault>
     requires reader { has_failed script.old ≡ false }
     requires writer { has_failed out.old ≡ false }
 
     // The report of the script that was read, or the first fault.
-    ensures answer { RunAnswers (length fonts.now) (R.remaining (inner_of script.old))
+    ensures answer { RunAnswers until (length fonts.now) (R.remaining (inner_of script.old))
         (W.contents (inner_of out.old)) (W.contents (inner_of out.new)) result }
     // A fault comes only where there is one.
     ensures runs { RunsGoodScripts (length fonts.now) (R.remaining (inner_of script.old))
@@ -55,20 +60,21 @@ pub fn run<R: Read, W: Write>(
     ensures unread { length fonts.now ≢ fonts_len → script.new ≡ script.old }
     ensures unwritten { IfErr result (λ e. e ≢ WriteFault → out.new ≡ out.old) }
 {
-    run_steps(alloc, script, fonts, out)
+    run_steps(alloc, script, fonts, out, until)
 }
 
 /// What `run` does.
-#[tactic(auto, using(crate::proofs::RunLemmas::report_answers))]
+#[tactic(auto, using(crate::proofs::RunLemmas::report_answers, crate::proofs::RunLemmas::fault_answers))]
 fn run_steps<R: Read, W: Write>(
     alloc: Global,
     script: &mut Tracked<R>,
     fonts: &[u8],
     out: &mut Tracked<W>,
+    until: Option<u32>,
 ) -> Result<(), Fault>
     requires reader { has_failed script.old ≡ false }
     requires writer { has_failed out.old ≡ false }
-    ensures answer { RunAnswers (length fonts.now) (R.remaining (inner_of script.old))
+    ensures answer { RunAnswers until (length fonts.now) (R.remaining (inner_of script.old))
         (W.contents (inner_of out.old)) (W.contents (inner_of out.new)) result }
     ensures read_failed { has_failed script.new ≡ is_read_fault result }
     ensures write_failed { has_failed out.new ≡ is_write_fault result }
@@ -81,7 +87,7 @@ fn run_steps<R: Read, W: Write>(
         return Err(Fault::FontSize);
     }
     let bytes = read_script(alloc, script)?;
-    let steps = decode(alloc, bytes.as_slice())?;
+    let script = decode(alloc, bytes.as_slice())?;
     let mut card = Card::new(alloc)?;
-    write_report(out, &mut card, steps.as_slice())
+    write_report(out, &mut card, script.list(), until)
 }

@@ -1,7 +1,9 @@
 //! Worked examples on the public call, with values that were worked out by hand, and streams that fail.
 
 mod cycles;
+mod dumps;
 mod examples;
+mod frames;
 mod steps;
 mod streams;
 
@@ -39,10 +41,21 @@ fn run_between<R: Read + Drop, W: Write + Drop>(
     reader: R,
     writer: W,
 ) -> Result<(Result<(), Fault>, Tracked<R>, Tracked<W>), AllocError> {
+    run_between_until(alloc, fonts_len, reader, writer, None)
+}
+
+/// The same, stopped after so many steps, or not.
+fn run_between_until<R: Read + Drop, W: Write + Drop>(
+    alloc: Global,
+    fonts_len: usize,
+    reader: R,
+    writer: W,
+    until: Option<u32>,
+) -> Result<(Result<(), Fault>, Tracked<R>, Tracked<W>), AllocError> {
     let fonts = vec![in alloc; 0; fonts_len]?;
     let mut reader = Tracked::new(reader);
     let mut writer = Tracked::new(writer);
-    let answer = run(alloc, &mut reader, fonts.as_slice(), &mut writer);
+    let answer = run(alloc, &mut reader, fonts.as_slice(), &mut writer, until);
     Ok((answer, reader, writer))
 }
 
@@ -55,7 +68,13 @@ struct Outcome {
 
 /// Runs the bytes of a script from memory into memory.
 fn run_bytes(alloc: Global, script: &[u8]) -> Result<Outcome, AllocError> {
-    let (answer, _reader, writer) = run_between(alloc, FONTS_LEN, script, Vec::new(alloc))?;
+    run_until(alloc, script, None)
+}
+
+/// The same, stopped after so many steps, or not.
+fn run_until(alloc: Global, script: &[u8], until: Option<u32>) -> Result<Outcome, AllocError> {
+    let sink = Vec::new(alloc);
+    let (answer, _reader, writer) = run_between_until(alloc, FONTS_LEN, script, sink, until)?;
     let text = writer.into_inner();
     Ok(Outcome { answer, text })
 }
@@ -78,7 +97,7 @@ fn a_byte_is_written_and_read_back(rt: HostRuntime) -> Result<(), Fail> {
 
 #[test]
 fn the_first_fault_is_answered_with_its_offset(rt: HostRuntime) -> Result<(), Fail> {
-    let faults: [(&[u8], Fault); 17] = [
+    let faults: [(&[u8], Fault); 18] = [
         (b"", Fault::BadMagic),
         (b"VGA", Fault::BadMagic),
         (b"VGAX", Fault::BadMagic),
@@ -88,7 +107,8 @@ fn the_first_fault_is_answered_with_its_offset(rt: HostRuntime) -> Result<(), Fa
         (b"VGAS\x00\xFF", Fault::BadVersion),
         (b"VGAS\x01\x01\xC4\x03", Fault::Truncated(5)),
         (b"VGAS\x01\xFF", Fault::BadStep(5)),
-        (b"VGAS\x01\x09\xC4\x03\x00\x00", Fault::BadStep(5)),
+        (b"VGAS\x01\x09\xC4\x03\x00\x00", Fault::Truncated(5)),
+        (b"VGAS\x01\x0D\xC4\x03\x00\x00", Fault::BadStep(5)),
         (b"VGAS\x01\x02\xC4\x03\x00", Fault::Truncated(5)),
         (b"VGAS\x01\x04\xC4", Fault::Truncated(5)),
         (b"VGAS\x01\x06\x00\x00\x0A\x00\x55", Fault::Truncated(5)),

@@ -1,9 +1,9 @@
 //! Registers and memory as a script sees them.
 
 use super::steps::{get, inp, out, put, report};
-use crate::Step;
 use std::alloc::{AllocError, Global};
 use std::test::Fail;
+use vga_script::Step;
 
 #[test]
 fn a_port_that_is_not_decoded_is_refused(rt: HostRuntime) -> Result<(), Fail> {
@@ -98,20 +98,19 @@ fn a_refused_value_changes_nothing(rt: HostRuntime) -> Result<(), Fail> {
 }
 
 /// Memory on, even and odd addresses not kept apart, these planes written, and each bit of them.
-fn prepared(alloc: Global, planes: u8, steps: &[Step]) -> Result<Vec<Step>, AllocError> {
-    let mut script = Vec::from_slice(
-        alloc,
-        &[
-            out(0x3C2, 0x02),
-            out(0x3C4, 0x04),
-            out(0x3C5, 0x06),
-            out(0x3C4, 0x02),
-            out(0x3C5, planes),
-            out(0x3CE, 0x08),
-            out(0x3CF, 0xFF),
-        ],
-    )?;
-    script.extend_from_slice(steps)?;
+fn prepared(alloc: Global, planes: u8) -> Result<Vec<Step>, AllocError> {
+    let mut script = Vec::new(alloc);
+    for step in [
+        out(0x3C2, 0x02),
+        out(0x3C4, 0x04),
+        out(0x3C5, 0x06),
+        out(0x3C4, 0x02),
+        out(0x3C5, planes),
+        out(0x3CE, 0x08),
+        out(0x3CF, 0xFF),
+    ] {
+        script.push(step)?;
+    }
     Ok(script)
 }
 
@@ -131,7 +130,10 @@ fn a_write_reaches_the_planes_of_the_map_mask(rt: HostRuntime) -> Result<(), Fai
     ];
     let wanted = b"1 ok\n2 ok\n3 ok\n4 ok\n5 ok\n6 ok\n7 ok\n8 ok\n9 A5\n\
         10 ok\n11 ok\n12 00\n13 ok\n14 A5\n15 ok\n16 00\n17 00\n";
-    let script = prepared(rt.alloc(), 0b0101, &steps)?;
+    let mut script = prepared(rt.alloc(), 0b0101)?;
+    for step in steps {
+        script.push(step)?;
+    }
     let text = report(rt.alloc(), script.as_slice())?;
     assert_eq!(rt; text.as_slice(), wanted.as_slice());
     Ok(())
@@ -151,7 +153,10 @@ fn masked_bits_come_from_the_latch_and_not_from_memory(rt: HostRuntime) -> Resul
     ];
     let wanted = b"1 ok\n2 ok\n3 ok\n4 ok\n5 ok\n6 ok\n7 ok\n8 ok\n9 ok\n\
         10 ok\n11 A5\n12 ok\n13 AB\n14 ok\n15 A6\n";
-    let script = prepared(rt.alloc(), 0b0001, &steps)?;
+    let mut script = prepared(rt.alloc(), 0b0001)?;
+    for step in steps {
+        script.push(step)?;
+    }
     let text = report(rt.alloc(), script.as_slice())?;
     assert_eq!(rt; text.as_slice(), wanted.as_slice());
     Ok(())
@@ -173,7 +178,10 @@ fn even_and_odd_addresses_reach_other_planes(rt: HostRuntime) -> Result<(), Fail
     ];
     let wanted = b"1 ok\n2 ok\n3 ok\n4 ok\n5 ok\n6 ok\n7 ok\n8 ok\n9 ok\n\
         10 ok\n11 ok\n12 11\n13 00\n14 ok\n15 ok\n16 00\n17 22\n";
-    let script = prepared(rt.alloc(), 0b1111, &steps)?;
+    let mut script = prepared(rt.alloc(), 0b1111)?;
+    for step in steps {
+        script.push(step)?;
+    }
     let text = report(rt.alloc(), script.as_slice())?;
     assert_eq!(rt; text.as_slice(), wanted.as_slice());
     Ok(())

@@ -1,6 +1,6 @@
 //! Worked examples: what each step of a script answers, by hand from the register table.
 
-use super::steps::{advance, get, getw, inp, inw, out, outw, put, putw, report};
+use super::steps::{advance, get, getw, inp, int, inw, out, outw, put, putw, report};
 use std::test::Fail;
 
 #[test]
@@ -214,11 +214,26 @@ fn a_refused_word_is_refused_whole(rt: HostRuntime) -> Result<(), Fail> {
         inw(0x3CC),
         putw(0xA0000, 0x1234),
         advance(16_777_217),
-        advance(16_777_216),
+        advance(900),
     ];
     let wanted = b"1 E2 NotInProfile\n2 00\n3 0000\n4 E2 NotInProfile\n5 E1 NotDecoded\n\
         6 E1 NotDecoded\n7 E12 TooFar\n8 ok\n";
     let text = report(rt.alloc(), &script)?;
+    assert_eq!(rt; text.as_slice(), wanted.as_slice());
+    Ok(())
+}
+
+#[test]
+fn a_service_is_refused_as_long_as_there_is_none(rt: HostRuntime) -> Result<(), Fail> {
+    let alloc = rt.alloc();
+    let script = [
+        int(alloc, 0x0013),
+        int(alloc, 0x00FF),
+        int(alloc, 0x0100),
+        int(alloc, 0xFFFF),
+    ];
+    let wanted = b"1 E4 BadFunction\n2 E4 BadFunction\n3 E3 NoMode\n4 E3 NoMode\n";
+    let text = report(alloc, &script)?;
     assert_eq!(rt; text.as_slice(), wanted.as_slice());
     Ok(())
 }

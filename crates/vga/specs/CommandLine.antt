@@ -1,0 +1,40 @@
+-- The program's command line: its commands, and their arguments.
+use Rattle.std.specs.Prelude.{◌∷◌, [], Some, true, false, codes}
+use Rattle.clap.specs.Words.{App, Rule, Shape, Text, new_rule}
+use Rattle.clap.specs.Simple.{new_shape}
+
+-- a file that is named by its place among the words
+abbrev pub path_argument : Text → Rule
+path_argument id = record (new_rule id) { required = true }
+
+-- the font file, which follows `--fonts`
+abbrev pub fonts_argument : Rule
+fonts_argument = record (new_rule (codes "fonts")) { long = Some (codes "fonts"); value_names = 1; required = true }
+
+-- `asm TEXT BIN`
+abbrev pub asm_command : Shape
+asm_command = record (new_shape (codes "asm")) { rules = path_argument (codes "TEXT") ∷ path_argument (codes "BIN") ∷ [] }
+
+-- `dis BIN`
+abbrev pub dis_command : Shape
+dis_command = record (new_shape (codes "dis")) { rules = path_argument (codes "BIN") ∷ [] }
+
+-- `run BIN --fonts FILE`
+abbrev pub run_command : Shape
+run_command = record (new_shape (codes "run")) { rules = path_argument (codes "BIN") ∷ fonts_argument ∷ [] }
+
+-- `go TEXT --fonts FILE`
+abbrev pub go_command : Shape
+go_command = record (new_shape (codes "go")) { rules = path_argument (codes "TEXT") ∷ fonts_argument ∷ [] }
+
+-- `vga` itself, behind which a command has to stand
+abbrev pub program : Shape
+program = record (new_shape (codes "vga")) { is_leaf = false; subcommand_required = true }
+
+-- `vga` and a command that turns one form of a script into the other
+abbrev pub converting_line : App
+converting_line = record { top = program; subs = asm_command ∷ dis_command ∷ [] }
+
+-- `vga` and a command
+abbrev pub command_line : App
+command_line = record { top = program; subs = asm_command ∷ dis_command ∷ run_command ∷ go_command ∷ [] }

@@ -1,0 +1,147 @@
+//! The program's command line: its commands, their arguments, and the help on each.
+ghost use Rattle.std.specs.Prelude.{◌≡◌, IfOk, false};
+ghost use Rattle.clap.specs.Words.{app_of, rule_of, shape_of};
+ghost use Rattle.clap.specs.declared.builder.command.Command.TheViews.{out-Command as fields_of};
+ghost use Rattle.vga.specs.CommandLine.{asm_command, command_line, converting_line, dis_command, fonts_argument, go_command, path_argument, run_command};
+
+use clap::{Arg, Command};
+use std::alloc::{AllocError, Global};
+
+/// What the help of `asm` ends with.
+const ASM_EXAMPLE: &str = "\
+Example:
+  vga asm bars.vga bars.bin
+
+The text has a step on each line, and a comment behind a semicolon. A mistake
+is named by its line, counted from 1, as `vga: F7 BadLine(12)` on standard
+error, and then <BIN> is not touched.";
+
+/// What the help of `dis` ends with.
+const DIS_EXAMPLE: &str = "\
+Example:
+  vga dis bars.bin > bars.vga
+
+The text has a line for each step, with its values in full. Where it has at most
+16,777,216 bytes, `vga asm` makes the same script of it.";
+
+/// What the help of `run` ends with.
+const RUN_EXAMPLE: &str = "\
+Example:
+  vga run first-path.bin --fonts zaklimot.fnt
+
+The report has a line for each step. A fault ends it, with a line on standard
+error such as `vga: F1 FontSize`, and with status 1.";
+
+/// What the help of `go` ends with.
+const GO_EXAMPLE: &str = "\
+Example:
+  vga go bars.vga --fonts zaklimot.fnt
+
+The report is that of `vga run` on the bytes that `vga asm` makes of the text.";
+
+/// What the help of the program ends with.
+const EXAMPLES: &str = "\
+Examples:
+  vga asm bars.vga bars.bin
+  vga dis bars.bin
+  vga run bars.bin --fonts zaklimot.fnt
+  vga go bars.vga --fonts zaklimot.fnt
+
+A script is a list of steps: cycles on the adapter's ports and memory, advances
+of its clock, and frames. As text it has a step on each line, as in:
+  out 3C2 63      ; write 63 to port 3C2
+  put A0000 FF    ; write FF to address A0000
+  frame           ; draw a frame
+The report has a line for each step, with its number and its answer.
+
+The status is 0 for success, 1 for a fault, and 2 for words that name no job.";
+
+/// An argument that names a file, and cannot be left out.
+fn path_argument<'a>(alloc: Global, id: &'a str, help: &'a str) -> Arg<'a>
+    ensures rule { rule_of result ≡ path_argument id.now }
+    ensures local { result.global ≡ false }
+{
+    Arg::new(alloc, id).required(true).help(help)
+}
+
+/// The argument that names the font file, behind `--fonts`.
+fn fonts_argument<'a>(alloc: Global) -> Arg<'a>
+    ensures rule { rule_of result ≡ fonts_argument }
+    ensures local { result.global ≡ false }
+{
+    Arg::new(alloc, "fonts")
+        .long("fonts")
+        .value_name("FILE")
+        .required(true)
+        .help("The font file, of 9,728 bytes")
+}
+
+/// `asm TEXT BIN`.
+fn asm_command<'a>(alloc: Global) -> Result<Command<'a>, AllocError>
+    ensures { IfOk result (λ c. (shape_of c ≡ asm_command) × ((fields_of c).has_globals ≡ false)) }
+{
+    Command::new(alloc, "asm")
+        .about("Assembles the text of a script, and writes its binary form")
+        .override_usage("vga asm <TEXT> <BIN>")
+        .after_help(ASM_EXAMPLE)
+        .arg(path_argument(alloc, "TEXT", "The script, as text"))?
+        .arg(path_argument(alloc, "BIN", "The file that its binary form is written to"))
+}
+
+/// `dis BIN`.
+fn dis_command<'a>(alloc: Global) -> Result<Command<'a>, AllocError>
+    ensures { IfOk result (λ c. (shape_of c ≡ dis_command) × ((fields_of c).has_globals ≡ false)) }
+{
+    Command::new(alloc, "dis")
+        .about("Prints a script as text on standard output")
+        .override_usage("vga dis <BIN>")
+        .after_help(DIS_EXAMPLE)
+        .arg(path_argument(alloc, "BIN", "The script, in its binary form"))
+}
+
+/// `run BIN --fonts FILE`.
+fn run_command<'a>(alloc: Global) -> Result<Command<'a>, AllocError>
+    ensures { IfOk result (λ c. (shape_of c ≡ run_command) × ((fields_of c).has_globals ≡ false)) }
+{
+    Command::new(alloc, "run")
+        .about("Runs a script, and writes its report on standard output")
+        .override_usage("vga run <BIN> --fonts <FILE>")
+        .after_help(RUN_EXAMPLE)
+        .arg(path_argument(alloc, "BIN", "The script, in its binary form"))?
+        .arg(fonts_argument(alloc))
+}
+
+/// `go TEXT --fonts FILE`.
+fn go_command<'a>(alloc: Global) -> Result<Command<'a>, AllocError>
+    ensures { IfOk result (λ c. (shape_of c ≡ go_command) × ((fields_of c).has_globals ≡ false)) }
+{
+    Command::new(alloc, "go")
+        .about("Assembles the text of a script, and runs it as `run` does")
+        .override_usage("vga go <TEXT> --fonts <FILE>")
+        .after_help(GO_EXAMPLE)
+        .arg(path_argument(alloc, "TEXT", "The script, as text"))?
+        .arg(fonts_argument(alloc))
+}
+
+/// The program's command line, but for the commands that run a script.
+fn converting_line<'a>(alloc: Global) -> Result<Command<'a>, AllocError>
+    ensures line { IfOk result (λ c. app_of c ≡ converting_line) }
+    ensures local { IfOk result (λ c. (fields_of c).has_globals ≡ false) }
+{
+    Command::new(alloc, "vga")
+        .about("A VGA display adapter that is driven by a script")
+        .override_usage("vga <COMMAND>")
+        .after_help(EXAMPLES)
+        .subcommand_required(true)
+        .subcommand(asm_command(alloc)?)?
+        .subcommand(dis_command(alloc)?)
+}
+
+/// The program's command line.
+pub fn command_line<'a>(alloc: Global) -> Result<Command<'a>, AllocError>
+    ensures { IfOk result (λ c. app_of c ≡ command_line) }
+{
+    converting_line(alloc)?
+        .subcommand(run_command(alloc)?)?
+        .subcommand(go_command(alloc)?)
+}

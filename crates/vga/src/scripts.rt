@@ -1,0 +1,102 @@
+//! What the commands do, over readers and writers.
+ghost use Rattle.std.specs.Prelude.{◌≡◌, ◌≢◌, ◌+◌, length, true, false, Err, IfErr, IfOk, IsOkUnless};
+ghost use Rattle.vga_bits.specs.declared.fault.Fault.TheVariants.{ReadFault, WriteFault};
+ghost use Rattle.vga_bits.specs.Tracked.{inner_of, has_failed};
+ghost use Rattle.vga_run.specs.Reading.{TakesAtMost, is_read_fault};
+ghost use Rattle.vga_run.specs.Run.{is_write_fault};
+ghost use Rattle.vga_script.specs.Script.{IsScript};
+ghost use Rattle.vga_script.specs.Spelling.{encoding, script_limit};
+ghost use Rattle.vga.specs.Scripts.{Assembles, Prints, RunsText};
+
+use super::reading::read_script;
+use super::writing::write_all;
+use std::alloc::Global;
+use std::io::{Read, Write};
+use vga_bits::{Fault, Tracked};
+use vga_script::{Script, assemble, decode, encode, print};
+
+/// The bytes of a script, which are no more than a script may have. It fails with `OutOfMemory` alone.
+fn encoded(alloc: Global, script: &Script) -> Result<Vec<u8>, Fault>
+    ensures script { IsScript script.now }
+    ensures ok { IfOk result (λ bytes. bytes.items ≡ encoding script.now) }
+    ensures err { IsOkUnless result Fault.OutOfMemory }
+{
+    // The steps are in range, and few: their list is what says so.
+    let _steps = script.list();
+    encode(alloc, script)
+}
+
+/// The bytes of the script that a text spells. At most 16,777,217 bytes of the text are read.
+///
+/// # Errors
+///
+/// `ReadFault` where the reader fails, `TooLong` and `BadLine` as `assemble` says, and `OutOfMemory`.
+#[tactic(auto, using(crate::proofs::ScriptsLemmas::unread_text, crate::proofs::ScriptsLemmas::bad_text, crate::proofs::ScriptsLemmas::good_text))]
+pub fn assembled<R: Read>(alloc: Global, text: &mut Tracked<R>) -> Result<Vec<u8>, Fault>
+    requires { has_failed text.old ≡ false }
+    ensures answer { Assembles (R.remaining (inner_of text.old)) result }
+    ensures failed { has_failed text.new ≡ is_read_fault result }
+    ensures taken { TakesAtMost (script_limit + 1) (R.remaining (inner_of text.old))
+        (R.remaining (inner_of text.new)) }
+{
+    let text = read_script(alloc, text)?;
+    let script = assemble(alloc, text.as_slice())?;
+    encoded(alloc, &script)
+}
+
+/// Writes the printed text of a script, and flushes the writer. At most 16,777,217 bytes of the script
+/// are read.
+///
+/// # Errors
+///
+/// `ReadFault` where the reader fails, the faults of the bytes as `decode` says, `WriteFault` where the
+/// writer fails, and `OutOfMemory`. Each but `WriteFault` comes before the first byte is written.
+#[tactic(auto, using(crate::proofs::ScriptsLemmas::unread_script, crate::proofs::ScriptsLemmas::bad_script, crate::proofs::ScriptsLemmas::unprinted_script, crate::proofs::ScriptsLemmas::good_script))]
+pub fn print_script<R: Read, W: Write>(
+    alloc: Global,
+    script: &mut Tracked<R>,
+    out: &mut Tracked<W>,
+) -> Result<(), Fault>
+    requires reader { has_failed script.old ≡ false }
+    requires writer { has_failed out.old ≡ false }
+    ensures answer { Prints (R.remaining (inner_of script.old)) (W.contents (inner_of out.old))
+        (W.contents (inner_of out.new)) result }
+    ensures read_failed { has_failed script.new ≡ is_read_fault result }
+    ensures write_failed { has_failed out.new ≡ is_write_fault result }
+    ensures taken { TakesAtMost (script_limit + 1) (R.remaining (inner_of script.old))
+        (R.remaining (inner_of script.new)) }
+    ensures unwritten { IfErr result (λ e. e ≢ WriteFault → out.new ≡ out.old) }
+{
+    let bytes = read_script(alloc, script)?;
+    let script = decode(alloc, bytes.as_slice())?;
+    let text = print(alloc, &script)?;
+    write_all(out, text.as_slice())
+}
+
+/// Runs the script that a text spells, writes its report, and flushes the writer. At most 16,777,217
+/// bytes of the text are read.
+///
+/// # Errors
+///
+/// The faults of `assembled` come first, then those of `vga_run::run`.
+#[tactic(auto, using(crate::proofs::RunTextLemmas::unassembled, crate::proofs::RunTextLemmas::no_write_fault, crate::proofs::RunTextLemmas::run_of_text))]
+pub fn run_text<R: Read, W: Write>(
+    alloc: Global,
+    text: &mut Tracked<R>,
+    fonts: &[u8],
+    out: &mut Tracked<W>,
+) -> Result<(), Fault>
+    requires reader { has_failed text.old ≡ false }
+    requires writer { has_failed out.old ≡ false }
+    ensures answer { RunsText (length fonts.now) (R.remaining (inner_of text.old))
+        (W.contents (inner_of out.old)) (W.contents (inner_of out.new)) result }
+    ensures read_failed { has_failed text.new ≡ true → result ≡ Err ReadFault }
+    ensures write_failed { has_failed out.new ≡ is_write_fault result }
+    ensures taken { TakesAtMost (script_limit + 1) (R.remaining (inner_of text.old))
+        (R.remaining (inner_of text.new)) }
+    ensures unwritten { IfErr result (λ e. e ≢ WriteFault → out.new ≡ out.old) }
+{
+    let bytes = assembled(alloc, text)?;
+    let mut script = Tracked::new(bytes.as_slice());
+    vga_run::run(alloc, &mut script, fonts, out, None)
+}

@@ -1,0 +1,164 @@
+//! The help that the program shows.
+
+use super::{owned, words_status};
+use crate::failure::Failure;
+use crate::words::job;
+use crate::words_error::WordsError;
+use std::alloc::{AllocError, Global};
+use std::test::Fail;
+
+#[test]
+fn help_has_status_0(rt: HostRuntime) -> Result<(), Fail> {
+    let shown: [&[&str]; 6] = [
+        &["vga", "--help"],
+        &["vga", "asm", "--help"],
+        &["vga", "dis", "--help"],
+        &["vga", "run", "--help"],
+        &["vga", "go", "--help"],
+        &["vga", "run", "x", "-h"],
+    ];
+    for words in shown {
+        assert_eq!(rt; words_status(rt.alloc(), words)?, 0, "at {words:?}");
+    }
+    Ok(())
+}
+
+/// What the program shows for words that ask for help.
+fn shown(alloc: Global, words: &[&str]) -> Result<Option<String>, AllocError> {
+    let words = owned(alloc, words)?;
+    match job(alloc, words.as_slice()) {
+        Err(Failure::Words(WordsError::Refused(error))) => Ok(Some(error.to_string(alloc)?)),
+        _ => Ok(None),
+    }
+}
+
+#[test]
+fn the_help_teaches_each_command_by_an_example(rt: HostRuntime) -> Result<(), Fail> {
+    let wanted = "A VGA display adapter that is driven by a script
+
+Usage: vga <COMMAND>
+
+Commands:
+  asm   Assembles the text of a script, and writes its binary form
+  dis   Prints a script as text on standard output
+  run   Runs a script, and writes its report on standard output
+  go    Assembles the text of a script, and runs it as `run` does
+  help  Print this message or the help of the given subcommand(s)
+
+Options:
+  -h, --help  Print help
+
+Examples:
+  vga asm bars.vga bars.bin
+  vga dis bars.bin
+  vga run bars.bin --fonts zaklimot.fnt
+  vga go bars.vga --fonts zaklimot.fnt
+
+A script is a list of steps: cycles on the adapter's ports and memory, advances
+of its clock, and frames. As text it has a step on each line, as in:
+  out 3C2 63      ; write 63 to port 3C2
+  put A0000 FF    ; write FF to address A0000
+  frame           ; draw a frame
+The report has a line for each step, with its number and its answer.
+
+The status is 0 for success, 1 for a fault, and 2 for words that name no job.
+";
+    let help = shown(rt.alloc(), &["vga", "--help"])?.ok_or("the help")?;
+    assert_eq!(rt; help.as_str(), wanted);
+    Ok(())
+}
+
+#[test]
+fn the_help_of_asm_has_an_example(rt: HostRuntime) -> Result<(), Fail> {
+    let wanted = "Assembles the text of a script, and writes its binary form
+
+Usage: vga asm <TEXT> <BIN>
+
+Arguments:
+  <TEXT>  The script, as text
+  <BIN>   The file that its binary form is written to
+
+Options:
+  -h, --help  Print help
+
+Example:
+  vga asm bars.vga bars.bin
+
+The text has a step on each line, and a comment behind a semicolon. A mistake
+is named by its line, counted from 1, as `vga: F7 BadLine(12)` on standard
+error, and then <BIN> is not touched.
+";
+    let help = shown(rt.alloc(), &["vga", "asm", "--help"])?.ok_or("the help")?;
+    assert_eq!(rt; help.as_str(), wanted);
+    Ok(())
+}
+
+#[test]
+fn the_help_of_dis_has_an_example(rt: HostRuntime) -> Result<(), Fail> {
+    let wanted = "Prints a script as text on standard output
+
+Usage: vga dis <BIN>
+
+Arguments:
+  <BIN>  The script, in its binary form
+
+Options:
+  -h, --help  Print help
+
+Example:
+  vga dis bars.bin > bars.vga
+
+The text has a line for each step, with its values in full. Where it has at most
+16,777,216 bytes, `vga asm` makes the same script of it.
+";
+    let help = shown(rt.alloc(), &["vga", "dis", "--help"])?.ok_or("the help")?;
+    assert_eq!(rt; help.as_str(), wanted);
+    Ok(())
+}
+
+#[test]
+fn the_help_of_run_has_an_example(rt: HostRuntime) -> Result<(), Fail> {
+    let wanted = "Runs a script, and writes its report on standard output
+
+Usage: vga run <BIN> --fonts <FILE>
+
+Arguments:
+  <BIN>  The script, in its binary form
+
+Options:
+      --fonts <FILE>  The font file, of 9,728 bytes
+  -h, --help          Print help
+
+Example:
+  vga run first-path.bin --fonts zaklimot.fnt
+
+The report has a line for each step. A fault ends it, with a line on standard
+error such as `vga: F1 FontSize`, and with status 1.
+";
+    let help = shown(rt.alloc(), &["vga", "run", "--help"])?.ok_or("the help")?;
+    assert_eq!(rt; help.as_str(), wanted);
+    Ok(())
+}
+
+#[test]
+fn the_help_of_go_has_an_example(rt: HostRuntime) -> Result<(), Fail> {
+    let wanted = "Assembles the text of a script, and runs it as `run` does
+
+Usage: vga go <TEXT> --fonts <FILE>
+
+Arguments:
+  <TEXT>  The script, as text
+
+Options:
+      --fonts <FILE>  The font file, of 9,728 bytes
+  -h, --help          Print help
+
+Example:
+  vga go bars.vga --fonts zaklimot.fnt
+
+The report is that of `vga run` on the bytes that `vga asm` makes of the text.
+";
+    let help = shown(rt.alloc(), &["vga", "go", "--help"])?.ok_or("the help")?;
+    assert_eq!(rt; help.as_str(), wanted);
+    Ok(())
+}
