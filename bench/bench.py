@@ -4,8 +4,8 @@
     python3 bench.py [PROGRAM]
 
 PROGRAM is ../crates/vga/out/vga where nothing is said. Each script is written to a temporary folder
-and run with the report thrown away; the best of three runs counts. Where strace is installed, the
-calls of the system are counted too.
+and run with the output thrown away; the best of three runs counts. Where strace is installed, the
+calls of the system are counted too, and with GNU time the most memory.
 """
 import os
 import shutil
@@ -17,9 +17,11 @@ import time
 
 HERE = os.path.dirname(os.path.abspath(__file__))
 FONT = os.path.join(HERE, "..", "fonts", "zaklimot.fnt")
+EXAMPLES = os.path.join(HERE, "..", "examples")
 HEADER = b"VGAS\x01"
 MOST_BYTES = 16_777_216
 MOST_DOTS = 16_777_216
+FRAMES = 50
 
 
 def out(port, value):
@@ -53,52 +55,113 @@ def puts():
     """As many writes to display memory as a script may have."""
     count = (MOST_BYTES - len(HEADER) - len(MEMORY)) // len(put(0, 0))
     steps = b"".join(put(0xA0000 + i * 7 % 65536, i % 256) for i in range(count))
-    return MEMORY + steps, count + 7, "steps"
+    return "run", HEADER + MEMORY + steps, count + 7, "steps"
 
 
 def cycles():
     """Two million cycles of all kinds, a register write, a port read, a write and a read of memory in turn."""
     turn = out(0x3CF, 0xF0) + inp(0x3CC) + put(0xA1234, 0x5A) + get(0xA1234)
-    return MEMORY + turn * 500_000, 2_000_007, "steps"
+    return "run", HEADER + MEMORY + turn * 500_000, 2_000_007, "steps"
 
 
 def dots():
     """The most dots that one step may advance, one at a time."""
-    return advance(MOST_DOTS), MOST_DOTS, "dots"
+    return "run", HEADER + advance(MOST_DOTS), MOST_DOTS, "dots"
 
 
-def seconds(program, script):
+def frames(example):
+    """Frames of what an example sets up before its first frame."""
+    with open(os.path.join(EXAMPLES, example)) as file:
+        lines = file.read().splitlines()
+    text = lines[:lines.index("frame")] + ["frame"] * FRAMES
+    return "go", "\n".join(text).encode(), FRAMES, "frames"
+
+
+def text_frames():
+    """Text of 720 by 400 dots."""
+    return frames("text-screen.vga")
+
+
+def planar_frames():
+    """16 colours, 320 by 400 dots."""
+    return frames("planar-screen.vga")
+
+
+def byte_frames():
+    """256 colours, 640 by 400 dots."""
+    return frames("byte-screen.vga")
+
+
+def assembling():
+    """The text of the most steps `int`, 11 bytes each, that a script may have."""
+    count = (MOST_BYTES - len(HEADER)) // 11
+    return "asm", b"int\n" * count, count, "lines"
+
+
+def printing():
+    """The longest script of such steps, printed."""
+    count = (MOST_BYTES - len(HEADER)) // 11
+    return "dis", HEADER + (b"\x09" + bytes(10)) * count, count, "lines"
+
+
+SCRIPTS = (puts, cycles, dots, text_frames, planar_frames, byte_frames, assembling, printing)
+
+
+def words(program, job, path):
+    if job == "asm":
+        return [program, job, path, path + ".out"]
+    if job == "dis":
+        return [program, job, path]
+    return [program, job, path, "--fonts", FONT]
+
+
+def rate(count, took, what):
+    """How many in a second."""
+    if what == "frames":
+        return f"{count / took:.0f} a second"
+    return f"{count / took / 1e6:.1f} million a second"
+
+
+def seconds(command):
     best = None
     for _ in range(3):
         begin = time.perf_counter()
-        subprocess.run([program, "run", script, "--fonts", FONT], stdout=subprocess.DEVNULL, check=True)
+        subprocess.run(command, stdout=subprocess.DEVNULL, check=True)
         took = time.perf_counter() - begin
         best = took if best is None else min(best, took)
     return best
 
 
-def system_calls(program, script):
+def system_calls(command):
     if shutil.which("strace") is None:
         return ""
     traced = subprocess.run(
-        ["strace", "-c", "-f", program, "run", script, "--fonts", FONT],
-        stdout=subprocess.DEVNULL, stderr=subprocess.PIPE, text=True)
+        ["strace", "-c", "-f"] + command, stdout=subprocess.DEVNULL, stderr=subprocess.PIPE, text=True)
     lines = [line.split() for line in traced.stderr.splitlines() if line.rstrip().endswith("total")]
     numbers = [word for word in lines[-1] if word.isdigit()] if lines else []
     return f", {numbers[1]} calls of the system" if len(numbers) > 1 else ""
 
 
+def memory(command):
+    if shutil.which("/usr/bin/time") is None:
+        return ""
+    timed = subprocess.run(
+        ["/usr/bin/time", "-f", "%M"] + command, stdout=subprocess.DEVNULL, stderr=subprocess.PIPE, text=True)
+    return f", {int(timed.stderr.split()[-1]) / 1024:.0f} MiB"
+
+
 def main():
     program = sys.argv[1] if len(sys.argv) > 1 else os.path.join(HERE, "..", "crates", "vga", "out", "vga")
     with tempfile.TemporaryDirectory() as folder:
-        for script in (puts, cycles, dots):
-            steps, count, what = script()
-            path = os.path.join(folder, script.__name__ + ".bin")
+        for script in SCRIPTS:
+            job, data, count, what = script()
+            path = os.path.join(folder, script.__name__)
             with open(path, "wb") as file:
-                file.write(HEADER + steps)
-            took = seconds(program, path)
-            calls = system_calls(program, path)
-            print(f"{script.__name__}: {count:,} {what} in {took:.2f} s, {count / took / 1e6:.1f} million a second{calls}")
+                file.write(data)
+            command = words(program, job, path)
+            took = seconds(command)
+            more = system_calls(command) + memory(command)
+            print(f"{script.__name__}: {count:,} {what} in {took:.2f} s, {rate(count, took, what)}{more}")
 
 
 if __name__ == "__main__":
