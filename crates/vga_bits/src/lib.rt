@@ -1,17 +1,22 @@
 //! What every part of the adapter shares: bits and registers under write masks, bytes that are seen as
-//! a list, the names of refusals and faults, and readers and writers that remember a failure.
+//! a list, text and its digits, the names of refusals and faults, and readers and writers that remember
+//! a failure.
 #![tactic(auto)]
 
 pub mod bytes;
 pub mod fault;
+pub mod reading;
 pub mod refusal;
 pub mod reg_file;
+pub mod text;
 pub mod tracked;
 
 pub use bytes::Bytes;
 pub use fault::{Fault, FaultName};
+pub use reading::read_front;
 pub use refusal::Refusal;
 pub use reg_file::RegFile;
+pub use text::{Text, hex_digit};
 pub use tracked::{Tracked, write_whole};
 
 #[cfg(test)]

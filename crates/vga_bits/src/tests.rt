@@ -39,6 +39,35 @@ fn bytes_are_copied_cleared_and_set(rt: HostRuntime) -> Result<(), Fail> {
 }
 
 #[test]
+fn a_text_grows_at_its_end(rt: HostRuntime) {
+    let mut text: Text<52> = Text::new();
+    assert_eq!(rt; text.len(), 0);
+    text.push(b"port ");
+    text.push_hex_word(0x03DA);
+    text.push(b":");
+    text.push_hex_byte(0x0C);
+    assert_eq!(rt; text.as_slice(), b"port 03DA:0C".as_slice());
+    assert_eq!(rt; text.len(), 12);
+    text.push(b" dots ");
+    text.push_decimal(4294967295);
+    text.push(b" at ");
+    text.push_decimal_size(18446744073709551615);
+    assert_eq!(rt;
+        text.as_slice(),
+        b"port 03DA:0C dots 4294967295 at 18446744073709551615".as_slice()
+    );
+    assert_eq!(rt; text.len(), 52);
+}
+
+#[test]
+fn digits_are_0_to_9_and_capital_letters(rt: HostRuntime) {
+    let digits = *b"0123456789ABCDEF";
+    for n in 0..16 {
+        assert_eq!(rt; hex_digit(n as u8), digits[n]);
+    }
+}
+
+#[test]
 fn refusals_have_their_numbers_and_names(rt: HostRuntime) -> Result<(), Fail> {
     let names = [
         (Refusal::NotDecoded, "E1 NotDecoded"),
@@ -196,5 +225,33 @@ fn a_reader_over_memory_gives_its_bytes(rt: HostRuntime) -> Result<(), Fail> {
     assert_eq!(rt; buffer.as_slice(), b"VGA".as_slice());
     assert!(rt; !reader.failed());
     assert_eq!(rt; reader.into_inner(), b"S".as_slice());
+    Ok(())
+}
+
+#[test]
+fn the_front_of_a_reader_is_read_and_no_more(rt: HostRuntime) -> Result<(), Fail> {
+    let alloc = rt.alloc();
+    let mut reader = Tracked::new(b"VGAS".as_slice());
+    let none = read_front(alloc, &mut reader, 0)?;
+    assert!(rt; none.is_empty());
+    let front = read_front(alloc, &mut reader, 3)?;
+    assert_eq!(rt; front.as_slice(), b"VGA".as_slice());
+    let rest = read_front(alloc, &mut reader, 3)?;
+    assert_eq!(rt; rest.as_slice(), b"S".as_slice());
+    assert!(rt; !reader.failed());
+    Ok(())
+}
+
+#[test]
+fn a_front_is_read_one_byte_at_a_time(rt: HostRuntime) -> Result<(), Fail> {
+    let mut reader = Failing::after(rt.alloc(), 4);
+    let front = read_front(rt.alloc(), &mut reader, 4)?;
+    assert_eq!(rt; front.as_slice(), b"****".as_slice());
+    assert!(rt; !reader.failed());
+    assert_eq!(rt;
+        read_front(rt.alloc(), &mut reader, 1).err(),
+        Some(Fault::ReadFault)
+    );
+    assert!(rt; reader.failed());
     Ok(())
 }

@@ -1,0 +1,106 @@
+//! Text that is made piece by piece, with no memory taken.
+ghost use Rattle.std.specs.Prelude.{◌≡◌, ◌+◌, ◌<◌, ◌≤◌, ◌++◌, [], length, decimal};
+ghost use Rattle.vga_bits.specs.Text.{hex_digit as hex_digit_of, hex_byte, hex_word};
+
+use arrayvec::ArrayVec;
+use itoa::Buffer;
+use std::marker::Model;
+
+/// A digit below 16, in upper case.
+pub fn hex_digit(n: u8) -> u8
+    requires { n < 16 }
+    ensures { result ≡ hex_digit_of n }
+{
+    if n < 10 { b'0' + n } else { b'A' + (n - 10) }
+}
+
+/// A text of at most ROOM bytes, which grows at its end.
+///
+/// Contracts see the list of its bytes.
+#[derive(Drop)]
+pub struct Text<const ROOM: usize> {
+    bytes: ArrayVec<u8, ROOM>,
+}
+
+impl<const ROOM: usize> Model for Text<ROOM> {
+    ghost use Rattle.std.specs.Prelude.{ℕ, List};
+
+    ghost Value = { List ℕ };
+
+    ghost view = { λ t. t.bytes.items };
+}
+
+impl<const ROOM: usize> Text<ROOM> {
+    /// No text yet.
+    pub fn new() -> Text<ROOM>
+        ensures { result ≡ [] }
+    {
+        Text {
+            bytes: ArrayVec::new(),
+        }
+    }
+
+    /// How many bytes the text has.
+    pub fn len(&self) -> usize
+        ensures { result ≡ length self.now }
+    {
+        self.as_slice().len()
+    }
+
+    /// Puts some bytes at the end, which has room for them.
+    pub fn push(&mut self, text: &[u8])
+        requires { length self.old + length text.now ≤ ROOM }
+        ensures items { self.new ≡ self.old ++ text.now }
+        ensures len { length self.new ≡ length self.old + length text.now }
+    {
+        let _ = self.bytes.try_extend_from_slice(text);
+    }
+
+    /// Puts a number at the end, in decimal. There is room for ten digits.
+    pub fn push_decimal(&mut self, n: u32)
+        requires { length self.old + 10 ≤ ROOM }
+        ensures items { self.new ≡ self.old ++ decimal n }
+        ensures len { length self.new ≤ length self.old + 10 }
+    {
+        let mut digits = Buffer::new();
+        self.push(digits.format(n).as_bytes());
+    }
+
+    /// Puts a size at the end, in decimal. There is room for 20 digits.
+    pub fn push_decimal_size(&mut self, size: usize)
+        requires { length self.old + 20 ≤ ROOM }
+        ensures items { self.new ≡ self.old ++ decimal size }
+        ensures len { length self.new ≤ length self.old + 20 }
+    {
+        let mut digits = Buffer::new();
+        self.push(digits.format(size).as_bytes());
+    }
+
+    /// Puts the two digits of a byte at the end, in hexadecimal.
+    #[tactic(auto, unfolding(crate::specs::Text::hex_byte))]
+    pub fn push_hex_byte(&mut self, v: u8)
+        requires { length self.old + 2 ≤ ROOM }
+        ensures items { self.new ≡ self.old ++ hex_byte v }
+        ensures len { length self.new ≡ length self.old + 2 }
+    {
+        self.push(&[hex_digit(v / 16), hex_digit(v % 16)]);
+    }
+
+    /// Puts the four digits of a word at the end, in hexadecimal.
+    #[tactic(auto, unfolding(crate::specs::Text::hex_word))]
+    pub fn push_hex_word(&mut self, v: u16)
+        requires { length self.old + 4 ≤ ROOM }
+        ensures items { self.new ≡ self.old ++ hex_word v }
+        ensures len { length self.new ≡ length self.old + 4 }
+    {
+        self.push_hex_byte((v / 256) as u8);
+        self.push_hex_byte((v % 256) as u8);
+    }
+
+    /// The bytes.
+    pub fn as_slice(&self) -> &[u8]
+        ensures { result.now ≡ self.now }
+    {
+        self.bytes.as_slice()
+    }
+}
