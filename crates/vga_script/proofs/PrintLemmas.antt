@@ -2,7 +2,8 @@
 use Rattle.std.proofs.Common.{◌≡◌, ℕ, zero, suc, ◌-◌, ◌/◌, ◌%◌, ◌<◌, ◌≤◌, List, [], ◌∷◌, ◌++◌, length, sym, ap, ◌∙◌, arith, append_assoc, append-nil, codes, refl}
 use Rattle.std.specs.List.{join_with_byte}
 use Rattle.hex.specs.Hex.{encode_upper}
-use Rattle.vga_script.specs.Printing.{hex, hex_digit, line_of, printed_line}
+use Rattle.vga_bits.specs.Text.{hex_digit}
+use Rattle.vga_script.specs.Printing.{hex, line_of, printed_line}
 use Rattle.vga_script.specs.declared.step.Step.TheVariants.{Int}
 
 -- no digits

@@ -1,16 +1,13 @@
 -- The printed text of a script: a line for each step.
-use Rattle.std.specs.Prelude.{ℕ, ◌+◌, ◌/◌, ◌%◌, zero, suc, nat_lt, if◌then◌else◌, List, [], ◌∷◌, ◌++◌, codes, decimal}
+use Rattle.std.specs.Prelude.{ℕ, ◌/◌, ◌%◌, zero, suc, nat_lt, if◌then◌else◌, List, [], ◌∷◌, ◌++◌, codes, decimal}
 use Rattle.std.specs.List.{join_with_byte, flat_map}
 use Rattle.hex.specs.Hex.{encode_upper}
+use Rattle.vga_bits.specs.Text.{hex_digit}
 use Rattle.vga_script.specs.declared.step.Step.{Step}
 use Rattle.vga_script.specs.declared.step.Step.TheVariants.{Out, OutWord, In, InWord, Put, PutWord, Get, GetWord, Int, Advance, Frame, Show}
 use Rattle.vga_script.specs.declared.shown.Shown.{Shown}
 use Rattle.vga_script.specs.declared.shown.Shown.TheVariants as shown
 use Rattle.vga_script.specs.Text.{name_of, keyword_of, shown_name}
-
--- a digit below 16, in upper case: 0 to 9, and A to F
-abbrev pub hex_digit : ℕ → ℕ
-hex_digit n = if nat_lt n 10 then 48 + n else 55 + n
 
 -- the last so many hexadecimal digits of a number
 unfoldable pub hex : ℕ → ℕ → List ℕ

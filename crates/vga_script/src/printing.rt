@@ -1,11 +1,10 @@
 //! From steps to the printed text of a script.
 ghost use Rattle.std.specs.Prelude.{◌≡◌, ◌+◌, ◌≤◌, ◌<◌, ◌++◌, ◌∷◌, [], codes, decimal, length, IfOk, IsOkUnless, OnOk};
-ghost use Rattle.arrayvec.specs.ArrayVec.{array_vec_len};
 ghost use Rattle.hex.specs.Hex.{encode_upper};
 ghost use Rattle.vga_script.specs.Printing.{address_text, hex, line_of, port_text, printed, printed_line};
 ghost use Rattle.vga_script.specs.declared.step.Step.{Step};
 
-use super::line::{Line, push_address, push_decimal, push_hex, push_port, push_text};
+use super::line::{Line, push_address, push_hex, push_port};
 use super::output::append;
 use super::script::Script;
 use super::shown::Shown;
@@ -15,11 +14,11 @@ use vga_bits::Fault;
 
 /// Puts a line, and a newline behind it, at the end of a text. It fails with `OutOfMemory` alone.
 fn end_line(out: &mut Vec<u8>, mut line: Line) -> Result<(), Fault>
-    requires { array_vec_len line < 64 }
-    ensures ok { OnOk result (out.new.items ≡ out.old.items ++ (line.items ++ 0x0A ∷ [])) }
+    requires { length line < 64 }
+    ensures ok { OnOk result (out.new.items ≡ out.old.items ++ (line ++ 0x0A ∷ [])) }
     ensures err { IsOkUnless result Fault.OutOfMemory }
 {
-    line.push(b'\n');
+    line.push(b"\n");
     append(out, line.as_slice())
 }
 
@@ -31,8 +30,8 @@ fn print_port(out: &mut Vec<u8>, name: &[u8], port: u16) -> Result<(), Fault>
     ensures err { IsOkUnless result Fault.OutOfMemory }
 {
     let mut line = Line::new();
-    push_text(&mut line, name);
-    push_text(&mut line, b" ");
+    line.push(name);
+    line.push(b" ");
     push_port(&mut line, port);
     end_line(out, line)
 }
@@ -53,10 +52,10 @@ fn print_port_and_value(
     ensures err { IsOkUnless result Fault.OutOfMemory }
 {
     let mut line = Line::new();
-    push_text(&mut line, name);
-    push_text(&mut line, b" ");
+    line.push(name);
+    line.push(b" ");
     push_port(&mut line, port);
-    push_text(&mut line, b" ");
+    line.push(b" ");
     push_hex(&mut line, value as u32, digits);
     end_line(out, line)
 }
@@ -70,8 +69,8 @@ fn print_address(out: &mut Vec<u8>, name: &[u8], address: u32) -> Result<(), Fau
     ensures err { IsOkUnless result Fault.OutOfMemory }
 {
     let mut line = Line::new();
-    push_text(&mut line, name);
-    push_text(&mut line, b" ");
+    line.push(name);
+    line.push(b" ");
     push_address(&mut line, address);
     end_line(out, line)
 }
@@ -92,10 +91,10 @@ fn print_address_and_value(
     ensures err { IsOkUnless result Fault.OutOfMemory }
 {
     let mut line = Line::new();
-    push_text(&mut line, name);
-    push_text(&mut line, b" ");
+    line.push(name);
+    line.push(b" ");
     push_address(&mut line, address);
-    push_text(&mut line, b" ");
+    line.push(b" ");
     push_hex(&mut line, value as u32, digits);
     end_line(out, line)
 }
@@ -116,8 +115,8 @@ fn print_advance(out: &mut Vec<u8>, dots: u32) -> Result<(), Fault>
     ensures err { IsOkUnless result Fault.OutOfMemory }
 {
     let mut line = Line::new();
-    push_text(&mut line, b"advance ");
-    push_decimal(&mut line, dots);
+    line.push(b"advance ");
+    line.push_decimal(dots);
     end_line(out, line)
 }
 
@@ -129,7 +128,7 @@ fn print_dac(out: &mut Vec<u8>, index: u8) -> Result<(), Fault>
     ensures err { IsOkUnless result Fault.OutOfMemory }
 {
     let mut line = Line::new();
-    push_text(&mut line, b"show dac ");
+    line.push(b"show dac ");
     push_hex(&mut line, index as u32, 2);
     end_line(out, line)
 }
@@ -142,12 +141,12 @@ fn print_plane(out: &mut Vec<u8>, plane: u8, offset: u16, count: u16) -> Result<
     ensures err { IsOkUnless result Fault.OutOfMemory }
 {
     let mut line = Line::new();
-    push_text(&mut line, b"show plane ");
+    line.push(b"show plane ");
     push_hex(&mut line, plane as u32, 1);
-    push_text(&mut line, b" ");
+    line.push(b" ");
     push_hex(&mut line, offset as u32, 4);
-    push_text(&mut line, b" ");
-    push_decimal(&mut line, count as u32);
+    line.push(b" ");
+    line.push_decimal(count as u32);
     end_line(out, line)
 }
 
@@ -173,18 +172,18 @@ fn print_shown(out: &mut Vec<u8>, shown: Shown) -> Result<(), Fault>
 
 /// The line of a call of the BIOS, but for its block.
 fn call_line(ax: u16, bx: u16, cx: u16, dx: u16) -> Line
-    ensures items { result.items ≡ codes "int ax=" ++ (hex 4 ax ++ (codes " bx=" ++ (hex 4 bx
+    ensures items { result ≡ codes "int ax=" ++ (hex 4 ax ++ (codes " bx=" ++ (hex 4 bx
         ++ (codes " cx=" ++ (hex 4 cx ++ (codes " dx=" ++ hex 4 dx)))))) }
-    ensures len { array_vec_len result ≡ 35 }
+    ensures len { length result ≡ 35 }
 {
     let mut line = Line::new();
-    push_text(&mut line, b"int ax=");
+    line.push(b"int ax=");
     push_hex(&mut line, ax as u32, 4);
-    push_text(&mut line, b" bx=");
+    line.push(b" bx=");
     push_hex(&mut line, bx as u32, 4);
-    push_text(&mut line, b" cx=");
+    line.push(b" cx=");
     push_hex(&mut line, cx as u32, 4);
-    push_text(&mut line, b" dx=");
+    line.push(b" dx=");
     push_hex(&mut line, dx as u32, 4);
     line
 }
@@ -197,12 +196,12 @@ fn append_block(
     line: &mut Line,
     block: &[u8],
 ) -> Result<(), Fault>
-    requires { array_vec_len line.old ≤ 50 }
-    ensures ok { OnOk result (out.new.items ≡ out.old.items ++ (line.old.items
+    requires { length line.old ≤ 50 }
+    ensures ok { OnOk result (out.new.items ≡ out.old.items ++ (line.old
         ++ (codes " block " ++ (encode_upper block.now ++ 0x0A ∷ [])))) }
     ensures err { IsOkUnless result Fault.OutOfMemory }
 {
-    push_text(line, b" block ");
+    line.push(b" block ");
     append(out, line.as_slice())?;
     match hex::encode_upper(alloc, block) {
         Ok(digits) => append(out, digits.as_bytes())?,
