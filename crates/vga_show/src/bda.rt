@@ -4,10 +4,10 @@ ghost use Rattle.vga_bits.specs.Tracked.{inner_of, has_failed, Writes};
 ghost use Rattle.vga_show.specs.Text.{room, behind_blanks};
 ghost use Rattle.vga_show.specs.Bda.{mode_words, place_words, other_words, bda_text as bda_text_of};
 
-use super::text::Text;
+use super::text::{Text, push_byte_field, push_word, push_word_field};
 use bios_modes::Bda;
 use std::io::Write;
-use vga_bits::{Fault, Tracked};
+use vga_bits::{Fault, Tracked, write_whole};
 
 /// Puts the mode, its columns, the size of a page and the start of the active one at the end of a text.
 #[tactic(auto, using(crate::proofs::TextLemmas::joins), unfolding(crate::specs::Bda::mode_words))]
@@ -16,10 +16,10 @@ fn push_mode(text: &mut Text, bda: &Bda)
     ensures items { text.new ≡ text.old ++ behind_blanks (mode_words bda.now) }
     ensures len { length text.new ≡ length text.old + 39 }
 {
-    text.push_byte_field(b"mode", bda.mode());
-    text.push_word_field(b"cols", bda.columns());
-    text.push_word_field(b"size", bda.size());
-    text.push_word_field(b"start", bda.start());
+    push_byte_field(text, b"mode", bda.mode());
+    push_word_field(text, b"cols", bda.columns());
+    push_word_field(text, b"size", bda.size());
+    push_word_field(text, b"start", bda.start());
 }
 
 /// Puts the places of the cursor on the eight pages at the end of a text.
@@ -31,7 +31,7 @@ fn push_places(text: &mut Text, bda: &Bda)
 {
     text.push(b" at");
     for i in 0..8 {
-        text.push_hex_word(bda.cursor_place(i));
+        push_word(text, bda.cursor_place(i));
     }
 }
 
@@ -42,11 +42,11 @@ fn push_others(text: &mut Text, bda: &Bda)
     ensures items { text.new ≡ text.old ++ behind_blanks (other_words bda.now) }
     ensures len { length text.new ≡ length text.old + 48 }
 {
-    text.push_word_field(b"type", bda.cursor_type());
-    text.push_byte_field(b"page", bda.page());
-    text.push_word_field(b"crtc", bda.crtc_address());
-    text.push_byte_field(b"last", bda.last_row());
-    text.push_word_field(b"height", bda.height());
+    push_word_field(text, b"type", bda.cursor_type());
+    push_byte_field(text, b"page", bda.page());
+    push_word_field(text, b"crtc", bda.crtc_address());
+    push_byte_field(text, b"last", bda.last_row());
+    push_word_field(text, b"height", bda.height());
 }
 
 /// The line of the data.
@@ -73,5 +73,5 @@ pub fn dump_bda<W: Write>(out: &mut Tracked<W>, bda: &Bda) -> Result<(), Fault>
     ensures { Writes (W.contents (inner_of out.old)) (W.contents (inner_of out.new))
         (has_failed out.new) result (bda_text_of bda.now) }
 {
-    bda_text(bda).write(out)
+    write_whole(out, bda_text(bda).as_slice())
 }

@@ -4,9 +4,9 @@ ghost use Rattle.vga_bits.specs.Tracked.{inner_of, has_failed, Writes};
 ghost use Rattle.vga_show.specs.Text.{room, behind_blanks};
 ghost use Rattle.vga_show.specs.Beam.{place_words, count_words, beam_line as beam_line_of, beam_text};
 
-use super::text::Text;
+use super::text::{Text, push_decimal_field, push_word_field};
 use std::io::Write;
-use vga_bits::{Fault, Tracked};
+use vga_bits::{Fault, Tracked, write_whole};
 use vga_card::Card;
 use vga_crtc::Beam;
 
@@ -17,10 +17,10 @@ fn push_place(text: &mut Text, beam: &Beam)
     ensures items { text.new ≡ text.old ++ behind_blanks (place_words beam.now) }
     ensures len { length text.new ≤ length text.old + 64 }
 {
-    text.push_decimal_field(b"frame", beam.frame as u32);
-    text.push_decimal_field(b"line", beam.line as u32);
-    text.push_decimal_field(b"char", beam.character as u32);
-    text.push_decimal_field(b"dot", beam.dot as u32);
+    push_decimal_field(text, b"frame", beam.frame as u32);
+    push_decimal_field(text, b"line", beam.line as u32);
+    push_decimal_field(text, b"char", beam.character as u32);
+    push_decimal_field(text, b"dot", beam.dot as u32);
 }
 
 /// Puts what the beam counts at the end of a text.
@@ -30,10 +30,10 @@ fn push_counts(text: &mut Text, beam: &Beam)
     ensures items { text.new ≡ text.old ++ behind_blanks (count_words beam.now) }
     ensures len { length text.new ≤ length text.old + 65 }
 {
-    text.push_word_field(b"base", beam.base);
-    text.push_decimal_field(b"scan", beam.scan as u32);
-    text.push_decimal_field(b"half", beam.half as u32);
-    text.push_decimal_field(b"split", beam.split as u32);
+    push_word_field(text, b"base", beam.base);
+    push_decimal_field(text, b"scan", beam.scan as u32);
+    push_decimal_field(text, b"half", beam.half as u32);
+    push_decimal_field(text, b"split", beam.split as u32);
 }
 
 /// The line of the beam, with a number of rows.
@@ -45,7 +45,7 @@ pub(crate) fn beam_line(beam: &Beam, count: u16) -> Text
     text.push(b"beam");
     push_place(&mut text, beam);
     push_counts(&mut text, beam);
-    text.push_decimal_field(b"rows", count as u32);
+    push_decimal_field(&mut text, b"rows", count as u32);
     text.push(b"\n");
     text
 }
@@ -61,5 +61,5 @@ pub fn dump_beam<W: Write>(out: &mut Tracked<W>, card: &Card) -> Result<(), Faul
         (has_failed out.new) result (beam_text card.now) }
 {
     let (beam, count) = card.beam();
-    beam_line(&beam, count).write(out)
+    write_whole(out, beam_line(&beam, count).as_slice())
 }

@@ -3,9 +3,9 @@ ghost use Rattle.std.specs.Prelude.{◌≡◌, false};
 ghost use Rattle.vga_bits.specs.Tracked.{inner_of, has_failed, Writes};
 ghost use Rattle.vga_show.specs.Dac.{entry_text as entry_text_of};
 
-use super::text::Text;
+use super::text::{Text, push_byte};
 use std::io::Write;
-use vga_bits::{Fault, Tracked};
+use vga_bits::{Fault, Tracked, write_whole};
 use vga_card::Card;
 
 /// The line of an entry.
@@ -16,11 +16,11 @@ fn entry_text(card: &Card, index: u8) -> Text
     let [red, green, blue] = card.regs().dac.entry(index);
     let mut text = Text::new();
     text.push(b"entry");
-    text.push_hex_byte(index);
+    push_byte(&mut text, index);
     text.push(b":");
-    text.push_hex_byte(red);
-    text.push_hex_byte(green);
-    text.push_hex_byte(blue);
+    push_byte(&mut text, red);
+    push_byte(&mut text, green);
+    push_byte(&mut text, blue);
     text.push(b"\n");
     text
 }
@@ -34,5 +34,5 @@ pub fn dump_dac<W: Write>(out: &mut Tracked<W>, card: &Card, index: u8) -> Resul
     ensures { Writes (W.contents (inner_of out.old)) (W.contents (inner_of out.new))
         (has_failed out.new) result (entry_text_of card.now index) }
 {
-    entry_text(card, index).write(out)
+    write_whole(out, entry_text(card, index).as_slice())
 }

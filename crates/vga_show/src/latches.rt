@@ -3,9 +3,9 @@ ghost use Rattle.std.specs.Prelude.{◌≡◌, false};
 ghost use Rattle.vga_bits.specs.Tracked.{inner_of, has_failed, Writes};
 ghost use Rattle.vga_show.specs.Latches.{latches_text as latches_text_of};
 
-use super::text::Text;
+use super::text::{Text, push_byte};
 use std::io::Write;
-use vga_bits::{Fault, Tracked};
+use vga_bits::{Fault, Tracked, write_whole};
 use vga_card::Card;
 
 /// The line of the latches.
@@ -16,10 +16,10 @@ fn latches_text(card: &Card) -> Text
     let latches = card.latches();
     let mut text = Text::new();
     text.push(b"latches");
-    text.push_hex_byte(latches.byte(0));
-    text.push_hex_byte(latches.byte(1));
-    text.push_hex_byte(latches.byte(2));
-    text.push_hex_byte(latches.byte(3));
+    push_byte(&mut text, latches.byte(0));
+    push_byte(&mut text, latches.byte(1));
+    push_byte(&mut text, latches.byte(2));
+    push_byte(&mut text, latches.byte(3));
     text.push(b"\n");
     text
 }
@@ -33,5 +33,5 @@ pub fn dump_latches<W: Write>(out: &mut Tracked<W>, card: &Card) -> Result<(), F
     ensures { Writes (W.contents (inner_of out.old)) (W.contents (inner_of out.new))
         (has_failed out.new) result (latches_text_of card.now) }
 {
-    latches_text(card).write(out)
+    write_whole(out, latches_text(card).as_slice())
 }

@@ -5,9 +5,9 @@ ghost use Rattle.vga_planes.specs.Planes.{byte_at};
 ghost use Rattle.vga_show.specs.Text.{room, hex_bytes, behind_blanks};
 ghost use Rattle.vga_show.specs.Plane.{plane_text as plane_text_of};
 
-use super::text::Text;
+use super::text::{Text, push_byte, push_word};
 use std::io::Write;
-use vga_bits::{Fault, Tracked};
+use vga_bits::{Fault, Tracked, write_whole};
 use vga_card::Card;
 use vga_planes::Planes;
 
@@ -21,7 +21,7 @@ fn push_bytes(text: &mut Text, planes: &Planes, plane: usize, offset: u16, count
     ensures len { length text.new ≡ length text.old + 3 * count }
 {
     for i in 0..count {
-        text.push_hex_byte(planes.byte(plane, offset + i));
+        push_byte(text, planes.byte(plane, offset + i));
     }
 }
 
@@ -35,7 +35,7 @@ fn plane_text(card: &Card, plane: u8, offset: u16, count: u16) -> Text
     let mut text = Text::new();
     text.push(b"plane ");
     text.push(&[b'0' + plane]);
-    text.push_hex_word(offset);
+    push_word(&mut text, offset);
     text.push(b":");
     push_bytes(&mut text, card.planes(), plane as usize, offset, count);
     text.push(b"\n");
@@ -62,5 +62,5 @@ pub fn dump_plane<W: Write>(
     ensures { Writes (W.contents (inner_of out.old)) (W.contents (inner_of out.new))
         (has_failed out.new) result (plane_text_of card.now plane offset count) }
 {
-    plane_text(card, plane, offset, count).write(out)
+    write_whole(out, plane_text(card, plane, offset, count).as_slice())
 }

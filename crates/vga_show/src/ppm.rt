@@ -37,7 +37,7 @@ pub fn write_ppm<W: Write>(
     ensures { Writes (W.contents (inner_of out.old)) (W.contents (inner_of out.new))
         (has_failed out.new) result (ppm width height bytes.now) }
 {
-    header(width, height).write(out)?;
+    write_whole(out, header(width, height).as_slice())?;
     write_whole(out, bytes)
 }
 

@@ -4,10 +4,10 @@ ghost use Rattle.vga_bits.specs.Tracked.{inner_of, has_failed, Writes};
 ghost use Rattle.vga_show.specs.Text.{room};
 ghost use Rattle.vga_show.specs.Regs.{misc_line, seq_line, crtc_line, gfx_line, attr_line, component_letter as component_letter_of, dac_line, regs_text as regs_text_of};
 
-use super::text::Text;
+use super::text::{Text, push_byte};
 use std::io::Write;
 use vga_attr::Attr;
-use vga_bits::{Fault, Tracked};
+use vga_bits::{Fault, Tracked, write_whole};
 use vga_card::{Card, Regs};
 use vga_crtc::Crtc;
 use vga_dac::{Component, Dac};
@@ -21,7 +21,7 @@ fn push_misc(text: &mut Text, misc: u8)
     ensures len { length text.new ≡ length text.old + 8 }
 {
     text.push(b"misc");
-    text.push_hex_byte(misc);
+    push_byte(text, misc);
     text.push(b"\n");
 }
 
@@ -33,10 +33,10 @@ fn push_seq(text: &mut Text, host: &Host)
     ensures len { length text.new ≡ length text.old + 23 }
 {
     text.push(b"seq");
-    text.push_hex_byte(host.seq_index());
+    push_byte(text, host.seq_index());
     text.push(b":");
     for i in 0..5 {
-        text.push_hex_byte(host.seq(i));
+        push_byte(text, host.seq(i));
     }
     text.push(b"\n");
 }
@@ -49,10 +49,10 @@ fn push_crtc(text: &mut Text, crtc: &Crtc)
     ensures len { length text.new ≡ length text.old + 84 }
 {
     text.push(b"crtc");
-    text.push_hex_byte(crtc.index());
+    push_byte(text, crtc.index());
     text.push(b":");
     for i in 0..25 {
-        text.push_hex_byte(crtc.regs(i));
+        push_byte(text, crtc.regs(i));
     }
     text.push(b"\n");
 }
@@ -65,10 +65,10 @@ fn push_gfx(text: &mut Text, host: &Host)
     ensures len { length text.new ≡ length text.old + 35 }
 {
     text.push(b"gfx");
-    text.push_hex_byte(host.gfx_index());
+    push_byte(text, host.gfx_index());
     text.push(b":");
     for i in 0..9 {
-        text.push_hex_byte(host.gfx(i));
+        push_byte(text, host.gfx(i));
     }
     text.push(b"\n");
 }
@@ -81,10 +81,10 @@ fn push_attr(text: &mut Text, attr: &Attr)
     ensures len { length text.new ≡ length text.old + 74 }
 {
     text.push(b"attr");
-    text.push_hex_byte(attr.read_index());
+    push_byte(text, attr.read_index());
     text.push(if attr.is_data() { b" d:" } else { b" i:" });
     for i in 0..21 {
-        text.push_hex_byte(attr.regs(i));
+        push_byte(text, attr.regs(i));
     }
     text.push(b"\n");
 }
@@ -109,11 +109,11 @@ fn push_dac(text: &mut Text, dac: &Dac)
 {
     let (red, green) = dac.waiting();
     text.push(b"dac");
-    text.push_hex_byte(dac.read_index());
+    push_byte(text, dac.read_index());
     text.push(&[b' ', component_letter(dac.component())]);
-    text.push_hex_byte(dac.mask());
-    text.push_hex_byte(red);
-    text.push_hex_byte(green);
+    push_byte(text, dac.mask());
+    push_byte(text, red);
+    push_byte(text, green);
     text.push(b"\n");
 }
 
@@ -152,5 +152,5 @@ pub fn dump_regs<W: Write>(out: &mut Tracked<W>, card: &Card) -> Result<(), Faul
     ensures { Writes (W.contents (inner_of out.old)) (W.contents (inner_of out.new))
         (has_failed out.new) result (regs_text_of card.now) }
 {
-    regs_text(card).write(out)
+    write_whole(out, regs_text(card).as_slice())
 }

@@ -21,7 +21,7 @@ fn write_crtc(card: &mut Card, index: u8, value: u8) -> Result<(), Refusal> {
 }
 
 #[test]
-fn each_number_stands_behind_its_name(rt: HostRuntime) -> Result<(), Fail> {
+fn each_number_stands_behind_its_name(rt: HostRuntime) {
     let beam = Beam {
         frame: 31,
         line: 1024,
@@ -32,12 +32,9 @@ fn each_number_stands_behind_its_name(rt: HostRuntime) -> Result<(), Fail> {
         half: true,
         split: false,
     };
-    let mut out = Tracked::new(Vec::new(rt.alloc()));
-    assert_eq!(rt; beam_line(&beam, 768).write(&mut out), Ok(()));
     let wanted =
         b"beam frame 31 line 1024 char 259 dot 8 base BEEF scan 30 half 1 split 0 rows 768\n";
-    assert_eq!(rt; out.into_inner().as_slice(), wanted.as_slice());
-    Ok(())
+    assert_eq!(rt; beam_line(&beam, 768).as_slice(), wanted.as_slice());
 }
 
 #[test]
