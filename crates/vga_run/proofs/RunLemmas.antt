@@ -1,37 +1,56 @@
 -- What a run answers, from what its parts answer.
-use Rattle.std.proofs.Common.{◌≡◌, ◌⊎◌, inl, inr, ℕ, ◌<◌, Bool, List, length, Option, Some, IfSome, Result, Ok, Err, arith, refl, sym, subst}
+use Rattle.std.proofs.Common.{◌≡◌, ◌∙◌, ◌⊎◌, inl, inr, ℕ, ◌<◌, ◌≤◌, Bool, List, length, Option, None, Some, IfSome, Result, Ok, Err, arith, refl, sym, subst}
 use Rattle.vga_bits.specs.Tracked.{Writes}
 use Rattle.vga_bits.specs.declared.fault.Fault.{Fault}
 use Rattle.vga_bits.specs.declared.fault.Fault.TheVariants.{FontSize, BadMagic, BadVersion, BadStep, Truncated, TooLong, ReadFault, WriteFault, OutOfMemory}
 use Rattle.vga_script.specs.declared.step.Step.{Step}
-use Rattle.vga_script.specs.Spelling.{Spells}
+use Rattle.vga_script.specs.Spelling.{Spells, script_limit}
 use Rattle.vga_run.specs.Report.{report_of, steps_until}
 use Rattle.vga_run.specs.Reading.{IsInput, is_read_fault}
 use Rattle.vga_run.specs.Run.{fonts_len, InputHasFault, RunAnswers, RunsGoodScripts, is_write_fault}
 use Rattle.vga_script.specs.Decoding.{IsSpellingFault, IsFault}
 use Rattle.vga_script.proofs.FaultLemmas.{no_other_fault}
 
--- writing the report of the steps that were read is the answer
-pub report_answers : (until : Option ℕ) (fonts : ℕ) (input before after : Option (List ℕ)) (failed : Bool) (result : Result Unit Fault) (bytes : List ℕ) (steps : List Step)
-    → fonts ≡ fonts_len → IsInput input bytes → Spells bytes steps → Writes before after failed result (report_of (steps_until until steps)) → RunAnswers until fonts input before after result
-report_answers until fonts input before after failed (Ok u) bytes steps size read spelled w = (size, (steps, (bytes, read, spelled), w.0))
-report_answers until fonts input before after failed (Err e) bytes steps size read spelled w =
-    subst (λ (x : Fault). RunAnswers until fonts input before after (Err x)) (sym w.0) (size, (steps, (bytes, read, spelled), w.2))
+-- writing the report of the steps that the bytes spell is the answer
+pub report_answers : (until : Option ℕ) (fonts : ℕ) (bytes : List ℕ) (before after : Option (List ℕ)) (failed : Bool) (result : Result Unit Fault) (steps : List Step)
+    → fonts ≡ fonts_len → length bytes ≤ script_limit → Spells bytes steps → Writes before after failed result (report_of (steps_until until steps))
+    → RunAnswers until fonts (Some bytes) before after result
+report_answers until fonts bytes before after failed (Ok u) steps size few spelled w = (size, (steps, (bytes, (refl, few), spelled), w.0))
+report_answers until fonts bytes before after failed (Err e) steps size few spelled w =
+    subst (λ (x : Fault). RunAnswers until fonts (Some bytes) before after (Err x)) (sym w.0) (size, (steps, (bytes, (refl, few), spelled), w.2))
 
--- so is a fault of the bytes that were read, none of which is their length
-spelling_answers : (until : Option ℕ) (fonts : ℕ) (input before after : Option (List ℕ)) (bytes : List ℕ) (f : Fault)
-    → fonts ≡ fonts_len → IsInput input bytes → IsSpellingFault bytes f → RunAnswers until fonts input before after (Err f)
-spelling_answers until fonts input before after bytes BadMagic size read bad = (size, (bytes, read, bad))
-spelling_answers until fonts input before after bytes BadVersion size read bad = (size, (bytes, read, bad))
-spelling_answers until fonts input before after bytes (BadStep at) size read bad = (size, (bytes, read, bad))
-spelling_answers until fonts input before after bytes (Truncated at) size read bad = (size, (bytes, read, bad))
-spelling_answers until fonts input before after bytes _ size read bad = absurd bad
+-- so is a fault of the bytes, none of which is want of a reader
+spelling_answers : (until : Option ℕ) (fonts : ℕ) (bytes : List ℕ) (before after : Option (List ℕ)) (f : Fault)
+    → fonts ≡ fonts_len → length bytes ≤ script_limit → IsSpellingFault bytes f → RunAnswers until fonts (Some bytes) before after (Err f)
+spelling_answers until fonts bytes before after BadMagic size few bad = (size, (bytes, (refl, few), bad))
+spelling_answers until fonts bytes before after BadVersion size few bad = (size, (bytes, (refl, few), bad))
+spelling_answers until fonts bytes before after (BadStep at) size few bad = (size, (bytes, (refl, few), bad))
+spelling_answers until fonts bytes before after (Truncated at) size few bad = (size, (bytes, (refl, few), bad))
+spelling_answers until fonts bytes before after _ size few bad = absurd bad
 
-pub fault_answers : (until : Option ℕ) (fonts : ℕ) (input before after : Option (List ℕ)) (bytes : List ℕ) (f : Fault)
-    → fonts ≡ fonts_len → IsInput input bytes → (f ≡ OutOfMemory) ⊎ IsFault bytes f → RunAnswers until fonts input before after (Err f)
-fault_answers until fonts input before after bytes f size read (inl is) = subst (λ (x : Fault). RunAnswers until fonts input before after (Err x)) (sym is) size
-fault_answers until fonts input before after bytes f size read (inr (inl (is, many))) = let few = read.1 in absurd (omega arith)
-fault_answers until fonts input before after bytes f size read (inr (inr (few, bad))) = spelling_answers until fonts input before after bytes f size read bad
+pub fault_answers : (until : Option ℕ) (fonts : ℕ) (bytes : List ℕ) (before after : Option (List ℕ)) (f : Fault)
+    → fonts ≡ fonts_len → (f ≡ OutOfMemory) ⊎ IsFault bytes f → RunAnswers until fonts (Some bytes) before after (Err f)
+fault_answers until fonts bytes before after f size (inl is) = subst (λ (x : Fault). RunAnswers until fonts (Some bytes) before after (Err x)) (sym is) size
+fault_answers until fonts bytes before after f size (inr (inl (is, many))) =
+    subst (λ (x : Fault). RunAnswers until fonts (Some bytes) before after (Err x)) (sym is) (size, many)
+fault_answers until fonts bytes before after f size (inr (inr (few, bad))) = spelling_answers until fonts bytes before after f size few bad
+
+-- what a script in memory answers to its run is the answer where these bytes were read
+read_bytes : (input : Option (List ℕ)) (bytes others : List ℕ) → IsInput input bytes → IsInput (Some bytes) others → IsInput input others
+read_bytes None bytes others read same = (tt, same.1)
+read_bytes (Some all) bytes others read same = (read.0 ∙ same.0, same.1)
+
+pub input_answers : (until : Option ℕ) (fonts : ℕ) (input before after : Option (List ℕ)) (bytes : List ℕ) (result : Result Unit Fault)
+    → IsInput input bytes → RunAnswers until fonts (Some bytes) before after result → RunAnswers until fonts input before after result
+input_answers until fonts input before after bytes (Ok u) read (size, (steps, (others, same, spelled), written)) =
+    (size, (steps, (others, read_bytes input bytes others read same, spelled), written))
+input_answers until fonts input before after bytes (Err FontSize) read h = h
+input_answers until fonts input before after bytes (Err ReadFault) read h = h
+input_answers until fonts input before after bytes (Err TooLong) read (size, many) = let few = read.1 in absurd (omega arith)
+input_answers until fonts input before after bytes (Err WriteFault) read (size, (steps, (others, same, spelled), written)) =
+    (size, (steps, (others, read_bytes input bytes others read same, spelled), written))
+input_answers until fonts input before after bytes (Err OutOfMemory) read h = h
+input_answers until fonts input before after bytes (Err _) read (size, (others, same, bad)) = (size, (others, read_bytes input bytes others read same, bad))
 
 -- an input that spells a script has no fault
 no_input_fault : (input : Option (List ℕ)) (f : Fault) (bytes : List ℕ) (steps : List Step) → input ≡ Some bytes → Spells bytes steps → InputHasFault input f → ⊥

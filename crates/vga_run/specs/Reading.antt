@@ -1,6 +1,5 @@
 -- What is read of a script, where the reader tells its bytes, as one over memory does.
 use Rattle.std.specs.Prelude.{ℕ, ◌≡◌, ◌<◌, ◌≤◌, ◌⊎◌, Bool, true, false, List, length, Option, IfSome, Result, Err}
-use Rattle.std.specs.Io.KnownBytes.{Consumes}
 use Rattle.vga_bits.specs.declared.fault.Fault.{Fault}
 use Rattle.vga_bits.specs.declared.fault.Fault.TheVariants.{TooLong, ReadFault, OutOfMemory}
 use Rattle.vga_script.specs.Spelling.{script_limit}
@@ -12,10 +11,6 @@ IsInput input bytes = IfSome input (λ all. all ≡ bytes) × (length bytes ≤ 
 -- the reader had more bytes than a script may have
 abbrev pub IsTooLong : Option (List ℕ) → Type 0
 IsTooLong input = IfSome input (λ all. script_limit < length all)
-
--- what was taken of a reader is a front of what it had, of at most n bytes
-abbrev pub TakesAtMost : ℕ → Option (List ℕ) → Option (List ℕ) → Type 0
-TakesAtMost n old new = (bytes : List ℕ) × Consumes old new bytes × (length bytes ≤ n)
 
 -- the answer is ReadFault
 abbrev pub is_read_fault : {A : Type 0} → Result A Fault → Bool

@@ -1,6 +1,7 @@
 -- The report of a script: a line for each step, with its number and its answer, and behind it the picture of a frame.
-use Rattle.std.specs.Prelude.{ℕ, ◌+◌, ◌/◌, ◌%◌, nat_lt, if◌then◌else◌, List, [], ◌∷◌, ◌++◌, length, take, Option, None, Some, codes, decimal}
+use Rattle.std.specs.Prelude.{ℕ, ◌+◌, List, [], ◌∷◌, ◌++◌, length, take, Option, None, Some, codes, decimal}
 use Rattle.vga_bits.specs.Refusal.{refusal_name}
+use Rattle.vga_bits.specs.Text.{hex_byte, hex_word}
 use Rattle.vga_script.specs.declared.step.Step.{Step}
 use Rattle.vga_script.specs.declared.step.Step.TheVariants.{Show}
 use Rattle.vga_script.specs.declared.shown.Shown.TheVariants as shown
@@ -11,19 +12,11 @@ use Rattle.vga_show.specs.Ppm.{ppm}
 use Rattle.vga_run.specs.Answer.{Reply, Plain, Picture, Ragged, Dump}
 use Rattle.vga_run.specs.Step.{answer_to, after_step}
 
--- a digit below 16, in upper case: 0 to 9, and A to F
-abbrev pub hex_digit : ℕ → ℕ
-hex_digit n = if nat_lt n 10 then 48 + n else 55 + n
-
--- the two digits of a byte
-abbrev pub hex_byte : ℕ → List ℕ
-hex_byte n = hex_digit (n / 16) ∷ hex_digit (n % 16) ∷ []
-
 -- the text of an answer: `ok`, the two digits of a byte, the four of a word, or the name of the refusal
 abbrev pub answer_text : Answer → List ℕ
 answer_text Done = codes "ok"
 answer_text (Byte value) = hex_byte value
-answer_text (Word value) = hex_byte (value / 256) ++ hex_byte (value % 256)
+answer_text (Word value) = hex_word value
 answer_text (Refused refusal) = refusal_name refusal
 
 -- the number of a step in decimal, and a blank

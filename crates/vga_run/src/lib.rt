@@ -7,7 +7,7 @@ mod report;
 mod runs;
 
 pub use answer::Answer;
-pub use runs::run;
+pub use runs::{run, run_bytes};
 
 #[cfg(test)]
 mod tests;

@@ -1,21 +1,18 @@
 //! The report of a run.
 ghost use Rattle.std.specs.Prelude.{◌≡◌, ◌+◌, ◌*◌, ◌<◌, ◌≤◌, ◌++◌, [], length, false, OnOk, ◌^◌, codes, decimal, nat_lt, if◌then◌else◌, Some};
-ghost use Rattle.arrayvec.specs.ArrayVec.{array_vec_len};
 ghost use Rattle.vga_bits.specs.Tracked.{inner_of, has_failed, Writes};
 ghost use Rattle.vga_card.specs.Frames.{IsSmall};
 ghost use Rattle.vga_run.specs.Answer.{Plain, Picture, Ragged, Dump, of_drawn};
 ghost use Rattle.vga_run.specs.Step.{answer_to, after_step, after_steps, dump_text};
 ghost use Rattle.vga_script.specs.Step.{IsInRange, AreInRange};
 ghost use Rattle.vga_script.specs.Shown.{IsShownInRange};
-ghost use Rattle.vga_run.specs.Report.{hex_digit as hex_digit_of, hex_byte, answer_text, line, picture_line as picture_line_of, number_text, report_from, steps_until};
+ghost use Rattle.vga_run.specs.Report.{answer_text, line, picture_line as picture_line_of, number_text, report_from, steps_until};
 ghost use Rattle.vga_show.specs.Ppm.{ppm};
 
 use super::answer::Answer;
-use arrayvec::ArrayVec;
 use bios_modes::Bda;
-use itoa::Buffer;
 use std::io::Write;
-use vga_bits::{Fault, Refusal, Tracked, write_whole};
+use vga_bits::{Fault, Refusal, Text, Tracked, write_whole};
 use vga_card::{Card, Drawn};
 use vga_script::{Shown, Step};
 use vga_show::{
@@ -27,62 +24,32 @@ use vga_show::{
 const LINE_LEN: usize = 40;
 
 /// The line of a step.
-type Line = ArrayVec<u8, LINE_LEN>;
-
-/// A digit below 16, in upper case.
-fn hex_digit(n: u8) -> u8
-    requires { n < 16 }
-    ensures { result ≡ hex_digit_of n }
-{
-    if n < 10 { b'0' + n } else { b'A' + (n - 10) }
-}
-
-/// Puts some bytes at the line's end.
-fn push_text(line: &mut Line, text: &[u8])
-    requires { array_vec_len line.old + length text.now ≤ 40 }
-    ensures items { line.new.items ≡ line.old.items ++ text.now }
-    ensures len { array_vec_len line.new ≡ array_vec_len line.old + length text.now }
-{
-    let _ = line.try_extend_from_slice(text);
-}
-
-/// Puts the two digits of a byte at the line's end.
-fn push_byte(line: &mut Line, value: u8)
-    requires { array_vec_len line.old ≤ 38 }
-    ensures items { line.new.items ≡ line.old.items ++ hex_byte value }
-    ensures len { array_vec_len line.new ≡ array_vec_len line.old + 2 }
-{
-    push_text(line, &[hex_digit(value / 16), hex_digit(value % 16)]);
-}
+type Line = Text<LINE_LEN>;
 
 /// Puts the text of an answer at the line's end.
 #[tactic(auto, using(crate::proofs::ReportLemmas::name_is_short))]
 fn push_answer(line: &mut Line, answer: Answer)
-    requires { array_vec_len line.old ≤ 25 }
-    ensures items { line.new.items ≡ line.old.items ++ answer_text answer }
-    ensures len { array_vec_len line.new ≤ array_vec_len line.old + 15 }
+    requires { length line.old ≤ 25 }
+    ensures items { line.new ≡ line.old ++ answer_text answer }
+    ensures len { length line.new ≤ length line.old + 15 }
 {
     match answer {
-        Answer::Done => push_text(line, b"ok"),
-        Answer::Byte(value) => push_byte(line, value),
-        Answer::Word(value) => {
-            push_byte(line, (value / 256) as u8);
-            push_byte(line, (value % 256) as u8);
-        }
-        Answer::Refused(refusal) => push_text(line, refusal.name().as_bytes()),
+        Answer::Done => line.push(b"ok"),
+        Answer::Byte(value) => line.push_hex_byte(value),
+        Answer::Word(value) => line.push_hex_word(value),
+        Answer::Refused(refusal) => line.push(refusal.name().as_bytes()),
     }
 }
 
 /// The number of a step, and a blank.
 #[tactic(auto, unfolding(crate::specs::Report::number_text))]
 fn numbered(n: usize) -> Line
-    ensures items { result.items ≡ number_text n }
-    ensures len { array_vec_len result ≤ 21 }
+    ensures items { result ≡ number_text n }
+    ensures len { length result ≤ 21 }
 {
     let mut line = Line::new();
-    let mut digits = Buffer::new();
-    push_text(&mut line, digits.format(n).as_bytes());
-    push_text(&mut line, b" ");
+    line.push_decimal_size(n);
+    line.push(b" ");
     line
 }
 
@@ -95,20 +62,19 @@ fn write_line<W: Write>(out: &mut Tracked<W>, n: usize, answer: Answer) -> Resul
 {
     let mut line = numbered(n);
     push_answer(&mut line, answer);
-    push_text(&mut line, b"\n");
+    line.push(b"\n");
     write_whole(out, line.as_slice())
 }
 
 /// The line of step n that stands before a picture: how many bytes the picture has.
 #[tactic(auto, unfolding(crate::specs::Report::picture_line, crate::specs::Report::number_text))]
 fn picture_line(n: usize, length: u32) -> Line
-    ensures { result.items ≡ picture_line_of n length }
+    ensures { result ≡ picture_line_of n length }
 {
     let mut line = numbered(n);
-    let mut digits = Buffer::new();
-    push_text(&mut line, b"picture ");
-    push_text(&mut line, digits.format(length).as_bytes());
-    push_text(&mut line, b"\n");
+    line.push(b"picture ");
+    line.push_decimal(length);
+    line.push(b"\n");
     line
 }
 
@@ -156,7 +122,7 @@ fn write_ragged<W: Write>(out: &mut Tracked<W>, n: usize) -> Result<(), Fault>
         (has_failed out.new) result (line n Ragged) }
 {
     let mut line = numbered(n);
-    push_text(&mut line, b"ragged\n");
+    line.push(b"ragged\n");
     write_whole(out, line.as_slice())
 }
 

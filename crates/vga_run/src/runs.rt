@@ -1,8 +1,9 @@
 //! A run of a script.
-ghost use Rattle.std.specs.Prelude.{◌≡◌, ◌≢◌, ◌+◌, length, false, IfErr};
-ghost use Rattle.vga_bits.specs.declared.fault.Fault.TheVariants.{WriteFault};
+ghost use Rattle.std.specs.Prelude.{◌≡◌, ◌≢◌, ◌+◌, length, false, IfErr, IfOk, Some};
+ghost use Rattle.vga_bits.specs.declared.fault.Fault.TheVariants.{FontSize, WriteFault};
 ghost use Rattle.vga_bits.specs.Tracked.{inner_of, has_failed};
-ghost use Rattle.vga_run.specs.Reading.{TakesAtMost, is_read_fault};
+ghost use Rattle.vga_bits.specs.Reading.{TakesAtMost};
+ghost use Rattle.vga_run.specs.Reading.{is_read_fault};
 ghost use Rattle.vga_script.specs.Spelling.{script_limit};
 ghost use Rattle.vga_run.specs.Run.{RunAnswers, RunsGoodScripts, fonts_len, is_write_fault};
 
@@ -16,6 +17,17 @@ use vga_script::decode;
 
 /// How many bytes a font file has.
 const FONTS_LEN: usize = 9728;
+
+/// Judges a font file by its length.
+fn judge_fonts(fonts: &[u8]) -> Result<(), Fault>
+    ensures ok { IfOk result (λ u. length fonts.now ≡ fonts_len) }
+    ensures err { IfErr result (λ e. (e ≡ FontSize) × (length fonts.now ≢ fonts_len)) }
+{
+    if fonts.len() != FONTS_LEN {
+        return Err(Fault::FontSize);
+    }
+    Ok(())
+}
 
 /// Runs a script from power-on, writes its report and nothing else, and flushes the writer. The reader
 /// and the writer must not have failed before.
@@ -64,7 +76,7 @@ pub fn run<R: Read, W: Write>(
 }
 
 /// What `run` does.
-#[tactic(auto, using(crate::proofs::RunLemmas::report_answers, crate::proofs::RunLemmas::fault_answers))]
+#[tactic(auto, using(crate::proofs::RunLemmas::input_answers))]
 fn run_steps<R: Read, W: Write>(
     alloc: Global,
     script: &mut Tracked<R>,
@@ -83,11 +95,31 @@ fn run_steps<R: Read, W: Write>(
     ensures unread { length fonts.now ≢ fonts_len → script.new ≡ script.old }
     ensures unwritten { IfErr result (λ e. e ≢ WriteFault → out.new ≡ out.old) }
 {
-    if fonts.len() != FONTS_LEN {
-        return Err(Fault::FontSize);
-    }
+    judge_fonts(fonts)?; // Nothing is read before.
     let bytes = read_script(alloc, script)?;
-    let script = decode(alloc, bytes.as_slice())?;
+    run_bytes(alloc, bytes.as_slice(), fonts, out, until)
+}
+
+/// Runs a script whose bytes are at hand, as `run` does. So its faults are those of `run` but `ReadFault`.
+#[tactic(auto, using(crate::proofs::RunLemmas::report_answers, crate::proofs::RunLemmas::fault_answers))]
+pub fn run_bytes<W: Write>(
+    alloc: Global,
+    script: &[u8],
+    fonts: &[u8],
+    out: &mut Tracked<W>,
+    until: Option<u32>,
+) -> Result<(), Fault>
+    requires { has_failed out.old ≡ false }
+    // The report of the script, or the first fault.
+    ensures answer { RunAnswers until (length fonts.now) (Some script.now)
+        (W.contents (inner_of out.old)) (W.contents (inner_of out.new)) result }
+    ensures unread { is_read_fault result ≡ false }
+    // The writer fails exactly where the answer says so, and is left untouched by any other fault.
+    ensures write_failed { has_failed out.new ≡ is_write_fault result }
+    ensures unwritten { IfErr result (λ e. e ≢ WriteFault → out.new ≡ out.old) }
+{
+    judge_fonts(fonts)?;
+    let script = decode(alloc, script)?;
     let mut card = Card::new(alloc)?;
     write_report(out, &mut card, script.list(), until)
 }

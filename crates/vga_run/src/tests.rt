@@ -67,7 +67,7 @@ struct Outcome {
 }
 
 /// Runs the bytes of a script from memory into memory.
-fn run_bytes(alloc: Global, script: &[u8]) -> Result<Outcome, AllocError> {
+fn run_script(alloc: Global, script: &[u8]) -> Result<Outcome, AllocError> {
     run_until(alloc, script, None)
 }
 
@@ -79,9 +79,18 @@ fn run_until(alloc: Global, script: &[u8], until: Option<u32>) -> Result<Outcome
     Ok(Outcome { answer, text })
 }
 
+/// Runs a script whose bytes are at hand into memory.
+fn run_at_hand(alloc: Global, script: &[u8], fonts: &[u8]) -> Outcome {
+    let sink: Vec<u8> = Vec::new(alloc);
+    let mut writer = Tracked::new(sink);
+    let answer = run_bytes(alloc, script, fonts, &mut writer, None);
+    let text = writer.into_inner();
+    Outcome { answer, text }
+}
+
 #[test]
 fn a_script_of_no_steps_has_an_empty_report(rt: HostRuntime) -> Result<(), Fail> {
-    let outcome = run_bytes(rt.alloc(), b"VGAS\x01")?;
+    let outcome = run_script(rt.alloc(), b"VGAS\x01")?;
     assert_eq!(rt; outcome.answer, Ok(()));
     assert_eq!(rt; outcome.text.len(), 0);
     Ok(())
@@ -89,9 +98,23 @@ fn a_script_of_no_steps_has_an_empty_report(rt: HostRuntime) -> Result<(), Fail>
 
 #[test]
 fn a_byte_is_written_and_read_back(rt: HostRuntime) -> Result<(), Fail> {
-    let outcome = run_bytes(rt.alloc(), &FIRST_PATH)?;
+    let outcome = run_script(rt.alloc(), &FIRST_PATH)?;
     assert_eq!(rt; outcome.answer, Ok(()));
     assert_eq!(rt; outcome.text.as_slice(), FIRST_REPORT.as_slice());
+    Ok(())
+}
+
+#[test]
+fn a_script_at_hand_is_run_as_one_that_is_read(rt: HostRuntime) -> Result<(), Fail> {
+    let alloc = rt.alloc();
+    let fonts = vec![in alloc; 0; FONTS_LEN]?;
+    let outcome = run_at_hand(alloc, &FIRST_PATH, fonts.as_slice());
+    assert_eq!(rt; outcome.answer, Ok(()));
+    assert_eq!(rt; outcome.text.as_slice(), FIRST_REPORT.as_slice());
+    let outcome = run_at_hand(alloc, b"VGA", fonts.as_slice());
+    assert_eq!(rt; outcome.answer, Err(Fault::BadMagic));
+    let outcome = run_at_hand(alloc, b"VGA", &[]);
+    assert_eq!(rt; outcome.answer, Err(Fault::FontSize));
     Ok(())
 }
 
@@ -118,7 +141,7 @@ fn the_first_fault_is_answered_with_its_offset(rt: HostRuntime) -> Result<(), Fa
         (b"VGAS\x01\x01\xC2\x03\x02\x00\x05", Fault::BadStep(9)),
     ];
     for (script, fault) in faults {
-        let outcome = run_bytes(rt.alloc(), script)?;
+        let outcome = run_script(rt.alloc(), script)?;
         assert_eq!(rt; outcome.answer, Err(fault));
         assert_eq!(rt; outcome.text.len(), 0, "written before {fault}");
     }
@@ -139,7 +162,7 @@ fn a_cut_script_names_the_step_that_is_cut(rt: HostRuntime) -> Result<(), Fail> 
         } else {
             Err(Fault::Truncated(start))
         };
-        let outcome = run_bytes(rt.alloc(), &FIRST_PATH[..len])?;
+        let outcome = run_script(rt.alloc(), &FIRST_PATH[..len])?;
         assert_eq!(rt; outcome.answer, answer, "{len} bytes");
     }
     Ok(())

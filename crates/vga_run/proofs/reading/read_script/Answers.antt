@@ -1,7 +1,14 @@
-use Rattle.std.proofs.Common.{rules}
-use Rattle.vga_run.proofs.ReadingLemmas.{takes_more}
+use Rattle.std.proofs.Common.{◌≤◌, length, inl, inr, refl, arith}
+use Rattle.vga_bits.proofs.ReadingLemmas.{front_is_all, front_is_long}
 use Rattle.vga_run.proofs.reading.read_script.Goals as goal
 
--- where memory runs out behind a read, what was read last is taken too
-pub returns-then-is_err-clause-taken : goal.returns-then-is_err-clause-taken
-returns-then-is_err-clause-taken g c = takes_more _ _ _ _ _ _ _ _ _ c.loop-bytes.invariant c.in-Ok.ensures.bytes.0 (search rules)
+-- one byte more than a script may have was read
+pub returns-then-len-gt-SCRIPT_LIMIT-clause-fault : goal.returns-then-len-gt-SCRIPT_LIMIT-clause-fault
+returns-then-len-gt-SCRIPT_LIMIT-clause-fault g c =
+    inr (inl (refl, front_is_long 16777217 16777216 _ c.in_ok-bytes.bytes.items c.in_ok-bytes.ensures.1 (omega (arith, c.len.ensures, c.if-len-gt-SCRIPT_LIMIT))))
+
+-- the reader ended before
+pub returns-clause-input : goal.returns-clause-input
+returns-clause-input g c =
+    let short : length c.in_ok-bytes.bytes.items ≤ 16777216 = omega (arith, c.len.ensures, c.if-len-gt-SCRIPT_LIMIT) in
+    (front_is_all 16777217 _ c.in_ok-bytes.bytes.items c.in_ok-bytes.ensures.1 (omega (arith, short)), short)
