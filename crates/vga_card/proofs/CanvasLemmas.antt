@@ -1,11 +1,11 @@
 -- Dots in a buffer, one more or a line more.
-use Rattle.std.proofs.Common.{◌≡◌, ◌≢◌, ℕ, zero, suc, ◌+◌, ◌*◌, ◌<◌, ◌≤◌, ⊎_elim, inl, refl, sym, ap, ◌∙◌, arith, List, [], ◌∷◌, ◌++◌, length, replicate, take, drop, append_assoc, length-append, slice_index}
+use Rattle.std.proofs.Common.{◌≡◌, ◌≢◌, ℕ, zero, suc, ◌+◌, ◌*◌, ◌<◌, ◌≤◌, ⊎_elim, refl, sym, ap, ◌∙◌, arith, List, [], ◌∷◌, ◌++◌, length, replicate, take, drop, append_assoc, length-append, slice_index}
 use Rattle.std.specs.Prelude.{slice_set}
 use Rattle.std.proofs.lemmas.Bool.{cases_eq}
-use Rattle.std.proofs.lemmas.List.{length-set, get_or-set_same, get_or-set_other, append-nil, length-replicate, replicate-append-replicate, take-append-le, take_all}
+use Rattle.std.proofs.lemmas.List.{length-set, get_or-set_same, get_or-set_other, append-nil, length-replicate, replicate-append-replicate, take-append-le, drop-append-le, take_all, length-drop}
 use Rattle.vga_planes.specs.Planes.{zeros}
 use Rattle.vga_card.specs.Picture.{Dot, lines_of, lines_from}
-use Rattle.vga_card.specs.Canvas.{empty_sheet, widest, dots_from, colour_at, stored_dots, IsCanvas, DotPut}
+use Rattle.vga_card.specs.Canvas.{Sheet, empty_sheet, widest, dots_from, stored_dots, IsCanvas}
 
 -- no later line has a dot
 no_lines : (u : ℕ) (ws : List ℕ) → ((j : ℕ) → slice_index ws j ≡ 0) → lines_from u ws ≡ []
@@ -29,53 +29,37 @@ lines_more u (suc i) n (w ∷ ws) l h =
     ∙ sym (append_assoc (replicate w u) (lines_from (u + 1) ws) (replicate n (u + 1 + i)))
     ∙ ap (λ x. (replicate w u ++ lines_from (u + 1) ws) ++ replicate n x) z
 
-pub length-dots_from : (i : ℕ) (vs bs : List ℕ) → length (dots_from i vs bs) ≡ length vs
+pub length-dots_from : (vs bs : List ℕ) → length (dots_from vs bs) ≡ length vs
 unfolding dots_from
-length-dots_from i [] bs = refl
-length-dots_from i (v ∷ vs) bs = ap suc (length-dots_from (i + 1) vs bs)
+length-dots_from [] bs = refl
+length-dots_from (v ∷ vs) bs = ap suc (length-dots_from vs (drop 3 bs))
 
-pub lines-dots_from : (i : ℕ) (vs bs : List ℕ) → lines_of (dots_from i vs bs) ≡ vs
+pub lines-dots_from : (vs bs : List ℕ) → lines_of (dots_from vs bs) ≡ vs
 unfolding dots_from
-lines-dots_from i [] bs = refl
-lines-dots_from i (v ∷ vs) bs = ap (λ x. v ∷ x) (lines-dots_from (i + 1) vs bs)
+lines-dots_from [] bs = refl
+lines-dots_from (v ∷ vs) bs = ap (λ x. v ∷ x) (lines-dots_from vs (drop 3 bs))
 
-dots-append : (i : ℕ) (vs us bs : List ℕ) → dots_from i (vs ++ us) bs ≡ dots_from i vs bs ++ dots_from (i + length vs) us bs
+dots-append : (vs us bs cs : List ℕ) → length bs ≡ 3 * length vs → dots_from (vs ++ us) (bs ++ cs) ≡ dots_from vs bs ++ dots_from us cs
 unfolding dots_from
-dots-append i [] us bs = let z : i ≡ i + 0 = omega arith in ap (λ k. dots_from k us bs) z
-dots-append i (v ∷ vs) us bs =
-    let z : i + 1 + length vs ≡ i + suc (length vs) = omega arith in
-    let d : Dot = record { line = v; colour = colour_at bs i } in
-    ap (λ x. d ∷ x) (dots-append (i + 1) vs us bs ∙ ap (λ k. dots_from (i + 1) vs bs ++ dots_from k us bs) z)
-
-same_colour : (bs cs : List ℕ) (i : ℕ) → ((q : ℕ) → q < 3 * i + 3 → slice_index bs q ≡ slice_index cs q) → colour_at bs i ≡ colour_at cs i
-same_colour bs cs i h =
-    let e0 = h (3 * i) (omega arith) in
-    let e1 = h (3 * i + 1) (omega arith) in
-    let e2 = h (3 * i + 2) (omega arith) in
-    cc
-
--- the same bytes are the same dots
-dots_same : (i : ℕ) (vs bs cs : List ℕ) → ((q : ℕ) → q < 3 * (i + length vs) → slice_index bs q ≡ slice_index cs q) → dots_from i vs bs ≡ dots_from i vs cs
-unfolding dots_from
-dots_same i [] bs cs h = refl
-dots_same i (v ∷ vs) bs cs h =
-    let here = same_colour bs cs i (λ q l. h q (omega arith)) in
-    let rest = dots_same (i + 1) vs bs cs (λ q l. h q (omega arith)) in
-    ap (λ (c : List ℕ). record { line = v; colour = c } ∷ dots_from (i + 1) vs bs) here ∙ ap (λ (x : List Dot). record { line = v; colour = colour_at cs i } ∷ x) rest
+dots-append [] us [] cs e = refl
+dots-append [] us (b ∷ bs) cs e = absurd (omega (arith, e))
+dots-append (v ∷ vs) us bs cs e =
+    let few : 3 ≤ length bs = omega (arith, e) in
+    let here : List ℕ → Dot = λ (c : List ℕ). record { line = v; colour = c } in
+    ap (λ (c : List ℕ). here c ∷ dots_from (vs ++ us) (drop 3 (bs ++ cs))) (take-append-le 3 bs cs few)
+    ∙ ap (λ (rest : List ℕ). here (take 3 bs) ∷ dots_from (vs ++ us) rest) (drop-append-le 3 bs cs few)
+    ∙ ap (λ (dots : List Dot). here (take 3 bs) ∷ dots) (dots-append vs us (drop 3 bs) cs (omega (arith, e, length-drop 3 bs)))
 
 -- one dot more on line v
-pub stored_more : (ws old new : List ℕ) (v used : ℕ) (colour : List ℕ) → v < length ws → ((j : ℕ) → v < j → slice_index ws j ≡ 0) → used ≡ length (lines_from 0 ws) → DotPut old new used colour → stored_dots (slice_set ws v (slice_index ws v + 1)) new ≡ stored_dots ws old ++ (record { line = v; colour = colour }) ∷ []
+pub stored_more : (ws buffer colour : List ℕ) (v : ℕ) → v < length ws → ((j : ℕ) → v < j → slice_index ws j ≡ 0) → length buffer ≡ 3 * length (lines_from 0 ws) → length colour ≡ 3 → stored_dots (slice_set ws v (slice_index ws v + 1)) (buffer ++ colour) ≡ stored_dots ws buffer ++ (record { line = v; colour = colour }) ∷ []
 unfolding dots_from
-stored_more ws old new v used colour l h e put =
-    let lines = lines_from 0 ws in
+stored_more ws buffer colour v l h e three =
     let z : 0 + v ≡ v = omega arith in
-    let y : 0 + length lines ≡ used = omega arith in
     let here : List ℕ → Dot = λ (c : List ℕ). record { line = v; colour = c } in
-    ap (λ x. dots_from 0 x new) (lines_more 0 v 1 ws l h) ∙ dots-append 0 lines (replicate 1 (0 + v)) new
-    ∙ ap (λ x. x ++ dots_from (0 + length lines) (replicate 1 (0 + v)) new) (dots_same 0 lines new old (λ q b. put.outside q (inl (omega arith))))
-    ∙ ap (λ k. dots_from 0 lines old ++ dots_from (0 + length lines) (k ∷ []) new) z
-    ∙ ap (λ k. dots_from 0 lines old ++ here (colour_at new k) ∷ []) y
-    ∙ ap (λ c. dots_from 0 lines old ++ here c ∷ []) put.inside
+    ap (λ x. dots_from x (buffer ++ colour)) (lines_more 0 v 1 ws l h)
+    ∙ dots-append (lines_from 0 ws) (replicate 1 (0 + v)) buffer colour e
+    ∙ ap (λ k. stored_dots ws buffer ++ dots_from (k ∷ []) colour) z
+    ∙ ap (λ (c : List ℕ). stored_dots ws buffer ++ here c ∷ []) (take_all 3 colour (omega (arith, three)))
 
 -- a whole slice written back
 pub written_back : (n : ℕ) (new old : List ℕ) → length new ≡ n → take n (new ++ drop (length new) old) ≡ new
@@ -91,9 +75,20 @@ pub record HasRoom (ws : List ℕ) (line v n : ℕ) : Type 0 where
   pub few : n ≤ widest
   pub beside : v ≡ line → slice_index ws line + n ≤ widest
 
+-- a canvas shows whether it has room for one dot more
+pub room_shown : (sheet : Sheet) (dots : List Dot) (ws : List ℕ) (line v : ℕ) → record { dots = dots; line = line; width = slice_index ws line } ≡ sheet → v < 1024 → sheet.line ≤ v → (v ≡ sheet.line → sheet.width < widest) → HasRoom ws line v 1
+room_shown sheet dots ws line v shown inside after room =
+    let last = ap (λ (s : Sheet). s.line) shown in
+    record {
+      after = omega (arith, last, after);
+      inside = inside;
+      few = omega arith;
+      beside = λ same. omega (arith, ap (λ (s : Sheet). s.width) shown, room (same ∙ last));
+    }
+
 -- the width of a line before n dots more
-width_before : (buffer ws : List ℕ) (used line v n : ℕ) → IsCanvas buffer ws used line → HasRoom ws line v n → (slice_index ws v + n ≤ widest) × (used + n ≤ widest * v + (slice_index ws v + n))
-width_before buffer ws used line v n is room =
+width_before : (capacity : ℕ) (buffer ws : List ℕ) (line v n : ℕ) → IsCanvas capacity buffer ws line → HasRoom ws line v n → (slice_index ws v + n ≤ widest) × (length (lines_from 0 ws) + n ≤ widest * v + (slice_index ws v + n))
+width_before capacity buffer ws line v n is room =
     ⊎_elim
     (λ (same : v ≡ line).
     let e = ap (slice_index ws) same in
@@ -104,9 +99,11 @@ width_before buffer ws used line v n is room =
     (omega (arith, none, room.few), omega (arith, none, is.fits, is.narrow line, beyond)))
     (cases_eq v line)
 
--- no canvas has more dots than fit its buffer
-pub used_small : (buffer ws : List ℕ) (used line : ℕ) → IsCanvas buffer ws used line → used ≤ 2359296
-used_small buffer ws used line is = omega (arith, is.fits, is.narrow line, is.inside)
+-- the memory of a canvas has room for the bytes of n dots more
+pub bytes_fit : (capacity : ℕ) (buffer ws : List ℕ) (line v n : ℕ) → IsCanvas capacity buffer ws line → HasRoom ws line v n → length buffer + 3 * n ≤ capacity
+bytes_fit capacity buffer ws line v n is room =
+    let before = width_before capacity buffer ws line v n is room in
+    omega (arith, before.0, before.1, room.inside, is.counted, is.room)
 
 narrow_stays : (ws : List ℕ) (v n : ℕ) → v < length ws → n ≤ widest → ((j : ℕ) → slice_index ws j ≤ widest) → (j : ℕ) → slice_index (slice_set ws v n) j ≤ widest
 narrow_stays ws v n l few h j =
@@ -116,22 +113,22 @@ narrow_stays ws v n l few h j =
     (cases_eq j v)
 
 -- n dots more on line v, and what is true of the canvas then
-pub canvas_more : (old new ws : List ℕ) (used line v n : ℕ) → IsCanvas old ws used line → HasRoom ws line v n → length new ≡ length old → IsCanvas new (slice_set ws v (slice_index ws v + n)) (used + n) v
-canvas_more old new ws used line v n is room e =
+pub canvas_more : (capacity : ℕ) (buffer colours ws : List ℕ) (line v n : ℕ) → IsCanvas capacity buffer ws line → HasRoom ws line v n → length colours ≡ 3 * n → IsCanvas capacity (buffer ++ colours) (slice_set ws v (slice_index ws v + n)) v
+canvas_more capacity buffer colours ws line v n is room e =
     let within : v < length ws = omega (arith, is.lines, room.inside) in
-    let before = width_before old ws used line v n is room in
+    let before = width_before capacity buffer ws line v n is room in
+    let wider = slice_set ws v (slice_index ws v + n) in
+    let count : length (lines_from 0 wider) ≡ length (lines_from 0 ws) + n =
+    ap length (lines_more 0 v n ws within (λ j k. is.later j (omega (arith, room.after)))) ∙ length-append (lines_from 0 ws) (replicate n (0 + v)) ∙ ap (λ k. length (lines_from 0 ws) + k) (length-replicate n (0 + v)) in
     record {
-      room = e ∙ is.room;
+      room = is.room;
       lines = length-set ws v (slice_index ws v + n) ∙ is.lines;
-      counted = ap (λ k. k + n) is.counted ∙ sym (ap length (lines_more 0 v n ws within (λ j k. is.later j (omega (arith, room.after)))) ∙ length-append (lines_from 0 ws) (replicate n (0 + v)) ∙ ap (λ k. length (lines_from 0 ws) + k) (length-replicate n (0 + v)));
+      counted = omega (arith, length-append buffer colours, e, is.counted, count);
       inside = room.inside;
       narrow = narrow_stays ws v (slice_index ws v + n) within before.0 is.narrow;
-      fits = omega (arith, before.1, get_or-set_same ws v (slice_index ws v + n) 0 within);
+      fits = omega (arith, count, before.1, get_or-set_same ws v (slice_index ws v + n) 0 within);
       later = later_stays ws line v (slice_index ws v + n) room.after is.later;
     }
-
-pub used_is : (ws buffer : List ℕ) (used : ℕ) → used ≡ length (lines_from 0 ws) → length (stored_dots ws buffer) ≡ used
-used_is ws buffer used e = length-dots_from 0 (lines_from 0 ws) buffer ∙ sym e
 
 zeros_get : (n j : ℕ) → slice_index (zeros n) j ≡ 0
 unfolding zeros
@@ -144,20 +141,22 @@ unfolding zeros
 length-zeros n = length-replicate n 0
 
 -- an empty canvas
-pub empty_canvas : (buffer ws : List ℕ) (line : ℕ) → length buffer ≡ 7077888 → length ws ≡ 1024 → line < 1024 → ((j : ℕ) → slice_index ws j ≡ 0) → IsCanvas buffer ws 0 line
-empty_canvas buffer ws line r l i h = record {
-  room = r;
-  lines = l;
-  counted = sym (ap length (no_lines 0 ws h));
-  inside = i;
-  narrow = λ j. omega (arith, h j);
-  fits = omega arith;
-  later = λ j _. h j;
-}
+pub empty_canvas : (capacity : ℕ) (ws : List ℕ) (line : ℕ) → 7077888 ≤ capacity → length ws ≡ 1024 → line < 1024 → ((j : ℕ) → slice_index ws j ≡ 0) → IsCanvas capacity [] ws line
+empty_canvas capacity ws line r l i h =
+    let none = ap length (no_lines 0 ws h) in
+    record {
+      room = r;
+      lines = l;
+      counted = omega (arith, none);
+      inside = i;
+      narrow = λ j. omega (arith, h j);
+      fits = omega (arith, none);
+      later = λ j _. h j;
+    }
 
 empty_dots : (buffer ws : List ℕ) → ((j : ℕ) → slice_index ws j ≡ 0) → stored_dots ws buffer ≡ []
 unfolding dots_from
-empty_dots buffer ws h = ap (λ x. dots_from 0 x buffer) (no_lines 0 ws h)
+empty_dots buffer ws h = ap (λ x. dots_from x buffer) (no_lines 0 ws h)
 
 pub shows_none : (buffer ws : List ℕ) → ((j : ℕ) → slice_index ws j ≡ 0) → record { dots = stored_dots ws buffer; line = 0; width = slice_index ws 0 } ≡ empty_sheet
 shows_none buffer ws h = ap (λ (dots : List Dot). record { dots = dots; line = 0; width = slice_index ws 0 }) (empty_dots buffer ws h) ∙ ap (λ (n : ℕ). record { dots = []; line = 0; width = n }) (h 0)

@@ -1,8 +1,8 @@
 //! The dots that were drawn of the frame under way.
-ghost use Rattle.std.specs.Prelude.{◌≡◌, ℕ, ◌+◌, ◌*◌, ◌<◌, ◌≤◌, [], ◌∷◌, ◌++◌, length, slice_index, IfOk, IfSome, IsOkUnless};
+ghost use Rattle.std.specs.Prelude.{◌≡◌, ℕ, ◌+◌, ◌*◌, ◌<◌, ◌≤◌, [], ◌∷◌, ◌++◌, length, slice_index, vec_len, vec_capacity, IfOk, IfSome, IsOkUnless};
 ghost use Rattle.vga_planes.specs.Planes.{zeros};
 ghost use Rattle.vga_card.specs.Picture.{Dot, bytes_of, shape, rows};
-ghost use Rattle.vga_card.specs.Canvas.{DotPut, IsSmallShape, empty_sheet, widest, width_with};
+ghost use Rattle.vga_card.specs.Canvas.{IsSmallShape, empty_sheet, widest, width_with};
 
 use crate::shape::{Shape, count_rows};
 use std::alloc::Global;
@@ -15,36 +15,36 @@ const DOTS: usize = 2_359_296;
 /// How many lines of a frame can have a dot.
 const LINES: usize = 1_024;
 
-/// The dots in order in one buffer, three bytes each, and how many of them each line has.
+/// The dots in order in one buffer, three bytes each, and how many of them each line has. The buffer
+/// keeps its memory when it is cleared.
 ///
 /// Contracts see the list of the dots, the last line with one, and how many that line has.
 #[derive(Drop)]
 pub(crate) struct Canvas {
     buffer: Vec<u8>,
     widths: Vec<u32>,
-    used: usize,
     line: u16,
 }
 
 impl Model for Canvas {
-    ghost use Rattle.std.specs.Prelude.{slice_index};
+    ghost use Rattle.std.specs.Prelude.{slice_index, vec_capacity};
     ghost use Rattle.vga_card.specs.Canvas.{Sheet, IsCanvas, stored_dots};
 
     ghost Value = { Sheet };
 
     ghost view = { λ c. record { dots = stored_dots c.widths.items c.buffer.items; line = c.line; width = slice_index c.widths.items c.line } };
 
-    ghost invariant = { λ c. IsCanvas c.buffer.items c.widths.items c.used c.line };
+    ghost invariant = { λ c. IsCanvas (vec_capacity c.buffer) c.buffer.items c.widths.items c.line };
 }
 
-/// So many bytes 0.
-#[tactic(auto, unfolding(vga_planes::specs::Planes::zeros))]
-fn zero_bytes(alloc: Global, len: usize) -> Result<Vec<u8>, Fault>
-    ensures items { IfOk result (λ v. v.items ≡ zeros len) }
+/// No bytes, with room for so many.
+fn room_for(alloc: Global, bytes: usize) -> Result<Vec<u8>, Fault>
+    ensures items { IfOk result (λ v. v.items ≡ []) }
+    ensures capacity { IfOk result (λ v. vec_capacity v ≡ bytes) }
     ensures err { IsOkUnless result Fault.OutOfMemory }
 {
-    match vec![in alloc; 0; len] {
-        Ok(bytes) => Ok(bytes),
+    match Vec::with_capacity(alloc, bytes) {
+        Ok(buffer) => Ok(buffer),
         Err(_) => Err(Fault::OutOfMemory),
     }
 }
@@ -68,14 +68,15 @@ fn clear_widths(widths: &mut [u32])
     widths.fill(0);
 }
 
-/// Writes the three bytes of dot `i`.
-fn put_dot(buffer: &mut [u8], i: usize, colour: [u8; 3])
-    requires { 3 * i + 3 ≤ length buffer.old }
-    ensures { DotPut buffer.old buffer.new i colour }
+/// Appends the three bytes of a dot, for which there is room.
+fn push_colour(buffer: &mut Vec<u8>, colour: [u8; 3])
+    requires { vec_len buffer.old + 3 ≤ vec_capacity buffer.old }
+    ensures bytes { buffer.new.items ≡ buffer.old.items ++ colour }
+    ensures capacity { vec_capacity buffer.new ≡ vec_capacity buffer.old }
 {
-    buffer[3 * i] = colour[0];
-    buffer[3 * i + 1] = colour[1];
-    buffer[3 * i + 2] = colour[2];
+    buffer.push_reserved(colour[0]);
+    buffer.push_reserved(colour[1]);
+    buffer.push_reserved(colour[2]);
 }
 
 impl Canvas {
@@ -85,12 +86,11 @@ impl Canvas {
         ensures ok { IfOk result (λ canvas. canvas ≡ empty_sheet) }
         ensures err { IsOkUnless result Fault.OutOfMemory }
     {
-        let buffer = zero_bytes(alloc, 3 * DOTS)?;
+        let buffer = room_for(alloc, 3 * DOTS)?;
         let widths = zero_widths(alloc, LINES)?;
         Ok(Canvas {
             buffer,
             widths,
-            used: 0,
             line: 0,
         })
     }
@@ -105,10 +105,9 @@ impl Canvas {
         ensures line { self.new.line ≡ line }
         ensures width { self.new.width ≡ width_with self.old line }
     {
-        put_dot(self.buffer.as_mut_slice(), self.used, colour);
+        push_colour(&mut self.buffer, colour);
         let width = &mut self.widths[line as usize];
         *width += 1;
-        self.used += 1;
         self.line = line;
     }
 
@@ -116,8 +115,8 @@ impl Canvas {
     pub(crate) fn clear(&mut self)
         ensures { self.new ≡ empty_sheet }
     {
+        self.buffer.clear();
         clear_widths(self.widths.as_mut_slice());
-        self.used = 0;
         self.line = 0;
     }
 
@@ -142,6 +141,6 @@ impl Canvas {
         ensures value { result.now ≡ bytes_of self.now.dots }
         ensures len { length result.now ≡ 3 * length self.now.dots }
     {
-        &self.buffer.as_slice()[..3 * self.used]
+        self.buffer.as_slice()
     }
 }

@@ -1,6 +1,6 @@
 //! Dots of the adapter's clock.
-ghost use Rattle.std.specs.Prelude.{◌≡◌, ◌≤◌, ◌↔◌, ◌++◌, IsOk, OnOk, IfErr};
-ghost use Rattle.vga_crtc.specs.Beam.{is_first_dot as is_first_dot_of};
+ghost use Rattle.std.specs.Prelude.{◌≡◌, ◌≤◌, ◌↔◌, ◌⊎◌, ◌++◌, IsOk, OnOk, IfErr};
+ghost use Rattle.vga_crtc.specs.Beam.{is_first_dot as is_first_dot_of, after_start, after_dot};
 ghost use Rattle.vga_card.specs.Dots.{fresh_dots, display_dot, dot, dots, most_dots};
 ghost use Rattle.vga_card.specs.Valid.{fresh_count, IsDrawnTo};
 
@@ -34,16 +34,21 @@ fn clear_at_first_dot(beam: Beam, canvas: &mut Canvas)
     }
 }
 
-/// Adds the dot at the beam, if it is a display dot. Where a frame begins, its start is to be taken first.
+/// Adds the dot at the beam, if it is a display dot, and moves the beam. Where a frame begins, its start
+/// is taken first. A character is `width` dots wide, 8 or 9.
 #[tactic(auto, unfolding(crate::specs::Dots::display_dot))]
-fn draw_dot(host: &Host, crtc: &Crtc, attr: &Attr, dac: &Dac, canvas: &mut Canvas)
-    requires { IsDrawnTo crtc.now.beam 0 canvas.old.line canvas.old.width }
-    ensures dots { canvas.new.dots ≡ canvas.old.dots ++ display_dot host.now crtc.now attr.now dac.now }
-    ensures place { IsDrawnTo crtc.now.beam 1 canvas.new.line canvas.new.width }
+fn draw_dot(host: &Host, crtc: &mut Crtc, attr: &Attr, dac: &Dac, canvas: &mut Canvas, width: u8)
+    requires place { IsDrawnTo crtc.old.beam 0 canvas.old.line canvas.old.width }
+    requires width { (width ≡ 8) ⊎ (width ≡ 9) }
+    ensures crtc { crtc.new ≡ after_dot crtc.old width }
+    ensures dots { canvas.new.dots ≡ canvas.old.dots ++ display_dot host.now (after_start crtc.old) attr.now dac.now }
+    ensures place { IsDrawnTo (after_start crtc.old).beam 1 canvas.new.line canvas.new.width }
 {
+    crtc.take_start();
     if crtc.is_display() {
         canvas.add(crtc.beam().line, dot_colour(host, crtc, attr, dac));
     }
+    crtc.step_dot(width);
 }
 
 impl Card {
@@ -53,15 +58,14 @@ impl Card {
     {
         let width = self.host.character_width();
         clear_at_first_dot(self.crtc.beam(), &mut self.canvas);
-        self.crtc.take_start();
         draw_dot(
             &self.host,
-            &self.crtc,
+            &mut self.crtc,
             &self.attr,
             &self.dac,
             &mut self.canvas,
+            width,
         );
-        self.crtc.step_dot(width);
     }
 
     /// Takes so many dots.
