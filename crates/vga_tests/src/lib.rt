@@ -2,6 +2,12 @@
 #![tactic(auto)]
 
 #[cfg(test)]
+mod dots;
+#[cfg(test)]
 mod host_path;
 #[cfg(test)]
+mod plain_dots;
+#[cfg(test)]
 mod plain_host;
+#[cfg(test)]
+mod random_registers;
