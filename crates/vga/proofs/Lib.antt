@@ -1,5 +1,5 @@
+pub mod CountLemmas
 pub mod PathLemmas
-pub mod ReadingLemmas
 pub mod WordsLemmas
 pub mod ScriptsLemmas
 pub mod RunTextLemmas

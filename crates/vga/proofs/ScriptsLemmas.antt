@@ -1,7 +1,6 @@
 -- From what is read of a script, or of a text that spells one, to what a command answers.
-use Rattle.std.proofs.Common.{◌≡◌, ◌∙◌, ◌⊎◌, inl, inr, ℕ, ◌<◌, ◌≤◌, min, Bool, List, length, take, Option, Some, None, IfSome, IfOk, IsOkUnless, Result, Ok, Err, Vec, arith, refl, sym, ap, subst}
+use Rattle.std.proofs.Common.{◌≡◌, ◌⊎◌, inl, inr, ℕ, ◌<◌, ◌≤◌, Bool, List, length, Option, Some, None, IfSome, IfOk, IsOkUnless, Result, Ok, Err, Vec, arith, refl, sym, subst}
 use Rattle.std.specs.declared.alloc.Global.{Global}
-use Rattle.std.proofs.lemmas.List.{length-take, take_all}
 use Rattle.vga_bits.specs.Tracked.{Writes}
 use Rattle.vga_bits.specs.declared.fault.Fault.{Fault}
 use Rattle.vga_bits.specs.declared.fault.Fault.TheVariants.{BadMagic, BadVersion, BadStep, Truncated, TooLong, BadLine, ReadFault, OutOfMemory}
@@ -11,30 +10,20 @@ use Rattle.vga_script.specs.Printing.{printed}
 use Rattle.vga_script.specs.Script.{IsScript, IsTextFault}
 use Rattle.vga_script.specs.Spelling.{Spells, encoding, script_limit}
 use Rattle.vga_script.specs.Text.{SpellsText}
-use Rattle.vga.specs.Reading.{IsFront, ReadsFront}
+use Rattle.vga_bits.specs.Reading.{IsFront, ReadsFront}
+use Rattle.vga_bits.proofs.ReadingLemmas.{front_is_all, front_is_long}
 use Rattle.vga.specs.Scripts.{Assembles, HoldsFault, HoldsTextFault, Prints}
 
 -- ---- what was read, and what the reader held
 
--- the front of a list is no longer than the list
-front_short : (n : ℕ) (all bytes : List ℕ) → bytes ≡ take n all → length bytes ≤ length all
-front_short n all bytes front = let e : length bytes ≡ min n (length all) = ap length front ∙ length-take n all in omega (arith, e)
-
--- a front with room to spare is the whole list
-front_whole : (n : ℕ) (all bytes : List ℕ) → bytes ≡ take n all → length bytes < n → bytes ≡ all
-front_whole n all bytes front short =
-    let e : length bytes ≡ min n (length all) = ap length front ∙ length-take n all in
-    front ∙ take_all n all (omega (arith, e))
-
 -- what is true of the bytes that were read, which are not too many, is true of what the reader held
 held : (P : List ℕ → Type 0) (input : Option (List ℕ)) (bytes : List ℕ) → IsFront 16777217 input bytes → length bytes ≤ script_limit → P bytes → IfSome input P
 held P None bytes front short p = tt
-held P (Some all) bytes front short p = subst P (front_whole 16777217 all bytes front (omega arith)) p
+held P (Some all) bytes front short p = subst P (sym (front_is_all 16777217 (Some all) bytes front (omega arith))) p
 
 -- and where they are too many, so is what the reader held
 held_long : (input : Option (List ℕ)) (bytes : List ℕ) → IsFront 16777217 input bytes → script_limit < length bytes → IfSome input (λ all. script_limit < length all)
-held_long None bytes front long = tt
-held_long (Some all) bytes front long = let e = front_short 16777217 all bytes front in omega arith
+held_long input bytes front long = front_is_long 16777217 16777216 input bytes front long
 
 -- one fact for another of what the reader held
 if_some_map : {P Q : List ℕ → Type 0} (input : Option (List ℕ)) → ((all : List ℕ) → P all → Q all) → IfSome input P → IfSome input Q

@@ -11,6 +11,10 @@ path_argument id = record (new_rule id) { required = true }
 abbrev pub fonts_argument : Rule
 fonts_argument = record (new_rule (codes "fonts")) { long = Some (codes "fonts"); value_names = 1; required = true }
 
+-- how many steps are run, which follows `--until`
+abbrev pub until_argument : Rule
+until_argument = record (new_rule (codes "until")) { long = Some (codes "until"); value_names = 1 }
+
 -- `asm TEXT BIN`
 abbrev pub asm_command : Shape
 asm_command = record (new_shape (codes "asm")) { rules = path_argument (codes "TEXT") ∷ path_argument (codes "BIN") ∷ [] }
@@ -19,13 +23,13 @@ asm_command = record (new_shape (codes "asm")) { rules = path_argument (codes "T
 abbrev pub dis_command : Shape
 dis_command = record (new_shape (codes "dis")) { rules = path_argument (codes "BIN") ∷ [] }
 
--- `run BIN --fonts FILE`
+-- `run BIN --fonts FILE`, which `--until N` may follow
 abbrev pub run_command : Shape
-run_command = record (new_shape (codes "run")) { rules = path_argument (codes "BIN") ∷ fonts_argument ∷ [] }
+run_command = record (new_shape (codes "run")) { rules = path_argument (codes "BIN") ∷ fonts_argument ∷ until_argument ∷ [] }
 
--- `go TEXT --fonts FILE`
+-- `go TEXT --fonts FILE`, which `--until N` may follow
 abbrev pub go_command : Shape
-go_command = record (new_shape (codes "go")) { rules = path_argument (codes "TEXT") ∷ fonts_argument ∷ [] }
+go_command = record (new_shape (codes "go")) { rules = path_argument (codes "TEXT") ∷ fonts_argument ∷ until_argument ∷ [] }
 
 -- `vga` itself, behind which a command has to stand
 abbrev pub program : Shape

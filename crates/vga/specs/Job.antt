@@ -1,19 +1,20 @@
 -- What the program is asked to do.
+use Rattle.std.specs.Prelude.{ℕ, Option}
 use Rattle.clap.specs.Words.{Text}
 use Rattle.vga.specs.declared.job.Job.{Job}
 use Rattle.vga.specs.declared.job.Job.TheVariants as job
 
 -- A job as texts. `asm` has the paths of a text and of a script, `dis` that of a script, `run` those of a script and of a
--- font file, and `go` those of a text and of a font file.
+-- font file, and `go` those of a text and of a font file; `run` and `go` may have a number of steps to stop after.
 pub data Request : Type 0 where
   asm : Text → Text → Request
   dis : Text → Request
-  run : Text → Text → Request
-  go : Text → Text → Request
+  run : Text → Text → Option ℕ → Request
+  go : Text → Text → Option ℕ → Request
 
--- a job, with what its paths are
+-- a job, with what its paths are, and after how many steps it is to stop
 abbrev pub request_of : Job → Request
 request_of (job.Asm text script) = asm text.now script.now
 request_of (job.Dis script) = dis script.now
-request_of (job.Run script fonts) = run script.now fonts.now
-request_of (job.Go text fonts) = go text.now fonts.now
+request_of (job.Run script fonts until) = run script.now fonts.now until
+request_of (job.Go text fonts until) = go text.now fonts.now until

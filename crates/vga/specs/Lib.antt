@@ -2,7 +2,6 @@ pub mod CommandLine
 pub mod Failure
 pub mod Job
 pub mod Lines
-pub mod Reading
 pub mod Status
 pub mod Words
 pub mod Scripts

@@ -11,7 +11,7 @@ use Rattle.vga_script.specs.Printing.{printed}
 use Rattle.vga_script.specs.Script.{IsScript, IsTextFault}
 use Rattle.vga_script.specs.Spelling.{Spells, encoding, script_limit}
 use Rattle.vga_script.specs.Text.{SpellsText}
-use Rattle.vga_run.specs.Report.{report_of}
+use Rattle.vga_run.specs.Report.{report_of, steps_until}
 use Rattle.vga_run.specs.Run.{fonts_len}
 
 -- the reader holds a text of allowed length that spells a script of these steps
@@ -53,15 +53,15 @@ Prints input before after (Err ReadFault) = ⊤
 Prints input before after (Err OutOfMemory) = ⊤
 Prints input before after (Err _) = ⊥
 
--- What running a text answers, over fonts of so many bytes, and a writer that holds what is before and after: it has written
--- the report of the script that the text spells, or a front of it where the writer fails; or the text's first fault; or the
--- fault of the fonts, which is judged after the text.
-abbrev pub RunsText : ℕ → Option (List ℕ) → Option (List ℕ) → Option (List ℕ) → Result Unit Fault → Type 0
-RunsText fonts input before after (Ok done) = (fonts ≡ fonts_len) × ((steps : List Step) × HoldsText input steps × Appends before after (report_of steps))
-RunsText fonts input before after (Err WriteFault) = (fonts ≡ fonts_len) × ((steps : List Step) × HoldsText input steps × AppendsFront before after (report_of steps))
-RunsText fonts input before after (Err FontSize) = (fonts ≢ fonts_len) × ((steps : List Step) × HoldsText input steps)
-RunsText fonts input before after (Err TooLong) = HoldsTextFault input TooLong
-RunsText fonts input before after (Err (BadLine n)) = HoldsTextFault input (BadLine n)
-RunsText fonts input before after (Err ReadFault) = ⊤
-RunsText fonts input before after (Err OutOfMemory) = ⊤
-RunsText fonts input before after (Err _) = ⊥
+-- What running a text answers that is stopped after so many steps, or not, over fonts of so many bytes, and a writer that
+-- holds what is before and after: it has written the report of the script that the text spells, or a front of it where the
+-- writer fails; or the text's first fault; or the fault of the fonts, which is judged after the text.
+abbrev pub RunsText : Option ℕ → ℕ → Option (List ℕ) → Option (List ℕ) → Option (List ℕ) → Result Unit Fault → Type 0
+RunsText until fonts input before after (Ok done) = (fonts ≡ fonts_len) × ((steps : List Step) × HoldsText input steps × Appends before after (report_of (steps_until until steps)))
+RunsText until fonts input before after (Err WriteFault) = (fonts ≡ fonts_len) × ((steps : List Step) × HoldsText input steps × AppendsFront before after (report_of (steps_until until steps)))
+RunsText until fonts input before after (Err FontSize) = (fonts ≢ fonts_len) × ((steps : List Step) × HoldsText input steps)
+RunsText until fonts input before after (Err TooLong) = HoldsTextFault input TooLong
+RunsText until fonts input before after (Err (BadLine n)) = HoldsTextFault input (BadLine n)
+RunsText until fonts input before after (Err ReadFault) = ⊤
+RunsText until fonts input before after (Err OutOfMemory) = ⊤
+RunsText until fonts input before after (Err _) = ⊥

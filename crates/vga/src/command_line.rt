@@ -2,7 +2,7 @@
 ghost use Rattle.std.specs.Prelude.{◌≡◌, IfOk, false};
 ghost use Rattle.clap.specs.Words.{app_of, rule_of, shape_of};
 ghost use Rattle.clap.specs.declared.builder.command.Command.TheViews.{out-Command as fields_of};
-ghost use Rattle.vga.specs.CommandLine.{asm_command, command_line, converting_line, dis_command, fonts_argument, go_command, path_argument, run_command};
+ghost use Rattle.vga.specs.CommandLine.{asm_command, command_line, converting_line, dis_command, fonts_argument, go_command, path_argument, run_command, until_argument};
 
 use clap::{Arg, Command};
 use std::alloc::{AllocError, Global};
@@ -28,14 +28,19 @@ The text has a line for each step, with its values in full. Where it has at most
 const RUN_EXAMPLE: &str = "\
 Example:
   vga run first-path.bin --fonts zaklimot.fnt
+  vga run first-path.bin --fonts zaklimot.fnt --until 12
 
 The report has a line for each step. A fault ends it, with a line on standard
-error such as `vga: F1 FontSize`, and with status 1.";
+error such as `vga: F1 FontSize`, and with status 1.
+
+With --until the run stops after <N> steps, or at the script's end, and the
+report ends with the registers, the beam, the latches and the BIOS data.";
 
 /// What the help of `go` ends with.
 const GO_EXAMPLE: &str = "\
 Example:
   vga go bars.vga --fonts zaklimot.fnt
+  vga go bars.vga --fonts zaklimot.fnt --until 12
 
 The report is that of `vga run` on the bytes that `vga asm` makes of the text.";
 
@@ -48,10 +53,12 @@ Examples:
   vga go bars.vga --fonts zaklimot.fnt
 
 A script is a list of steps: cycles on the adapter's ports and memory, advances
-of its clock, and frames. As text it has a step on each line, as in:
+of its clock, frames, and looks at its state. As text it has a step on each
+line, as in:
   out 3C2 63      ; write 63 to port 3C2
   put A0000 FF    ; write FF to address A0000
   frame           ; draw a frame
+  show regs       ; show every register
 The report has a line for each step, with its number and its answer.
 
 The status is 0 for success, 1 for a fault, and 2 for words that name no job.";
@@ -74,6 +81,17 @@ fn fonts_argument<'a>(alloc: Global) -> Arg<'a>
         .value_name("FILE")
         .required(true)
         .help("The font file, of 9,728 bytes")
+}
+
+/// The argument that says after how many steps a run stops, behind `--until`.
+fn until_argument<'a>(alloc: Global) -> Arg<'a>
+    ensures rule { rule_of result ≡ until_argument }
+    ensures local { result.global ≡ false }
+{
+    Arg::new(alloc, "until")
+        .long("until")
+        .value_name("N")
+        .help("Stops after so many steps, and shows the card")
 }
 
 /// `asm TEXT BIN`.
@@ -99,28 +117,30 @@ fn dis_command<'a>(alloc: Global) -> Result<Command<'a>, AllocError>
         .arg(path_argument(alloc, "BIN", "The script, in its binary form"))
 }
 
-/// `run BIN --fonts FILE`.
+/// `run BIN --fonts FILE [--until N]`.
 fn run_command<'a>(alloc: Global) -> Result<Command<'a>, AllocError>
     ensures { IfOk result (λ c. (shape_of c ≡ run_command) × ((fields_of c).has_globals ≡ false)) }
 {
     Command::new(alloc, "run")
         .about("Runs a script, and writes its report on standard output")
-        .override_usage("vga run <BIN> --fonts <FILE>")
+        .override_usage("vga run <BIN> --fonts <FILE> [--until <N>]")
         .after_help(RUN_EXAMPLE)
         .arg(path_argument(alloc, "BIN", "The script, in its binary form"))?
-        .arg(fonts_argument(alloc))
+        .arg(fonts_argument(alloc))?
+        .arg(until_argument(alloc))
 }
 
-/// `go TEXT --fonts FILE`.
+/// `go TEXT --fonts FILE [--until N]`.
 fn go_command<'a>(alloc: Global) -> Result<Command<'a>, AllocError>
     ensures { IfOk result (λ c. (shape_of c ≡ go_command) × ((fields_of c).has_globals ≡ false)) }
 {
     Command::new(alloc, "go")
         .about("Assembles the text of a script, and runs it as `run` does")
-        .override_usage("vga go <TEXT> --fonts <FILE>")
+        .override_usage("vga go <TEXT> --fonts <FILE> [--until <N>]")
         .after_help(GO_EXAMPLE)
         .arg(path_argument(alloc, "TEXT", "The script, as text"))?
-        .arg(fonts_argument(alloc))
+        .arg(fonts_argument(alloc))?
+        .arg(until_argument(alloc))
 }
 
 /// The program's command line, but for the commands that run a script.

@@ -21,6 +21,8 @@ pub enum Job<'a> {
         script: &'a str,
         /// The path of the font file.
         fonts: &'a str,
+        /// How many steps are run, at most, before the card is shown; or all, and no more is shown.
+        until: Option<u32>,
     },
     /// Assemble the text of a script, run it over a font file, and write its report.
     Go {
@@ -28,5 +30,7 @@ pub enum Job<'a> {
         text: &'a str,
         /// The path of the font file.
         fonts: &'a str,
+        /// How many steps are run, at most, before the card is shown; or all, and no more is shown.
+        until: Option<u32>,
     },
 }

@@ -1,6 +1,6 @@
 //! Scripts for a VGA adapter: `vga asm TEXT BIN` assembles one from its text, `vga dis BIN` prints one
-//! as text, and `vga run BIN --fonts FILE` and `vga go TEXT --fonts FILE` run one and write the report
-//! on standard output.
+//! as text, and `vga run BIN --fonts FILE` and `vga go TEXT --fonts FILE` run one, or so many of its
+//! first steps, and write the report on standard output.
 #![tactic(auto)]
 
 mod command_line;
@@ -41,21 +41,26 @@ fn fonts_at(rt: &HostRuntime, path: &str) -> Result<Vec<u8>, Fault> {
 }
 
 /// Runs the script at one path over the font file at another.
-fn run_file(rt: &HostRuntime, script: &str, fonts: &str) -> Result<(), Fault> {
+fn run_file(rt: &HostRuntime, script: &str, fonts: &str, until: Option<u32>) -> Result<(), Fault> {
     let alloc = rt.alloc();
     let fonts = fonts_at(rt, fonts)?;
     let mut script = reading::open(rt, script)?;
     let mut report = writing::buffered(alloc, io::writer(rt))?;
-    vga_run::run(alloc, &mut script, fonts.as_slice(), &mut report, None)
+    vga_run::run(alloc, &mut script, fonts.as_slice(), &mut report, until)
 }
 
 /// Runs the script that the text at one path spells over the font file at another.
-fn run_text_file(rt: &HostRuntime, text: &str, fonts: &str) -> Result<(), Fault> {
+fn run_text_file(
+    rt: &HostRuntime,
+    text: &str,
+    fonts: &str,
+    until: Option<u32>,
+) -> Result<(), Fault> {
     let alloc = rt.alloc();
     let fonts = fonts_at(rt, fonts)?;
     let mut text = reading::open(rt, text)?;
     let mut report = writing::buffered(alloc, io::writer(rt))?;
-    scripts::run_text(alloc, &mut text, fonts.as_slice(), &mut report)
+    scripts::run_text(alloc, &mut text, fonts.as_slice(), &mut report, until)
 }
 
 /// Does the job that the words of the command line name.
@@ -65,8 +70,12 @@ fn do_job(rt: &HostRuntime) -> Result<(), Failure> {
     match words::job(rt.alloc(), words.as_slice())? {
         Job::Asm { text, script } => assemble_file(rt, text, script)?,
         Job::Dis { script } => print_file(rt, script)?,
-        Job::Run { script, fonts } => run_file(rt, script, fonts)?,
-        Job::Go { text, fonts } => run_text_file(rt, text, fonts)?,
+        Job::Run {
+            script,
+            fonts,
+            until,
+        } => run_file(rt, script, fonts, until)?,
+        Job::Go { text, fonts, until } => run_text_file(rt, text, fonts, until)?,
     }
     Ok(())
 }

@@ -2,22 +2,19 @@
 ghost use Rattle.std.specs.Prelude.{◌≡◌, ◌+◌, false, IfOk, IsOkUnless};
 ghost use Rattle.vga_bits.specs.Tracked.{inner_of, has_failed};
 ghost use Rattle.vga_script.specs.Spelling.{script_limit};
-ghost use Rattle.vga.specs.Reading.{ReadsFront};
+ghost use Rattle.vga_bits.specs.Reading.{ReadsFront};
 
 use std::alloc::Global;
 use std::fs;
 use std::io::Read;
 use std::rt::Files;
-use vga_bits::{Fault, Tracked};
+use vga_bits::{Fault, Tracked, read_front};
 
 /// One byte more than a font file has, so that one that is too long is told from a whole one.
 const FONTS_ROOM: usize = 9_729;
 
 /// One byte more than a script may have, and a text that spells one.
 const SCRIPT_ROOM: usize = 16_777_217;
-
-/// How many bytes are read in one call, at most.
-const PIECE_LEN: usize = 4_096;
 
 /// The file at a path, opened for reading. None of its calls has failed.
 ///
@@ -32,30 +29,6 @@ pub fn open<F: Files>(files: &F, path: &str) -> Result<Tracked<F::File>, Fault>
         Ok(file) => Ok(Tracked::new(file)),
         Err(_) => Err(Fault::ReadFault),
     }
-}
-
-/// The first `most` bytes of a file, or all where it has fewer. No further byte is taken from it.
-fn read_front<R: Read>(alloc: Global, file: &mut Tracked<R>, most: usize) -> Result<Vec<u8>, Fault>
-    requires { has_failed file.old ≡ false }
-    ensures { ReadsFront most (R.remaining (inner_of file.old))
-        (R.remaining (inner_of file.new)) (has_failed file.new) result }
-{
-    let mut bytes = Vec::new(alloc);
-    let mut buffer = [0u8; PIECE_LEN];
-    while bytes.len() < most {
-        let room = (most - bytes.len()).min(PIECE_LEN);
-        let piece = &mut buffer[..room];
-        match file.read(piece) {
-            Ok(0) => return Ok(bytes),
-            Ok(n) => {
-                if bytes.extend_from_slice(&piece[..n]).is_err() {
-                    return Err(Fault::OutOfMemory);
-                }
-            }
-            Err(_) => return Err(Fault::ReadFault),
-        }
-    }
-    Ok(bytes)
 }
 
 /// The bytes of a font file: at most 9,729, which is one more than a font file has.

@@ -1,8 +1,9 @@
 //! What the commands do, over readers and writers.
-ghost use Rattle.std.specs.Prelude.{◌≡◌, ◌≢◌, ◌+◌, length, true, false, Err, IfErr, IfOk, IsOkUnless};
-ghost use Rattle.vga_bits.specs.declared.fault.Fault.TheVariants.{ReadFault, WriteFault};
+ghost use Rattle.std.specs.Prelude.{◌≡◌, ◌≢◌, ◌+◌, length, false, IfErr, IfOk, IsOkUnless};
+ghost use Rattle.vga_bits.specs.declared.fault.Fault.TheVariants.{WriteFault};
 ghost use Rattle.vga_bits.specs.Tracked.{inner_of, has_failed};
-ghost use Rattle.vga_run.specs.Reading.{TakesAtMost, is_read_fault};
+ghost use Rattle.vga_bits.specs.Reading.{TakesAtMost};
+ghost use Rattle.vga_run.specs.Reading.{is_read_fault};
 ghost use Rattle.vga_run.specs.Run.{is_write_fault};
 ghost use Rattle.vga_script.specs.Script.{IsScript};
 ghost use Rattle.vga_script.specs.Spelling.{encoding, script_limit};
@@ -74,29 +75,29 @@ pub fn print_script<R: Read, W: Write>(
 }
 
 /// Runs the script that a text spells, writes its report, and flushes the writer. At most 16,777,217
-/// bytes of the text are read.
+/// bytes of the text are read. `until` is that of `vga_run::run_bytes`.
 ///
 /// # Errors
 ///
-/// The faults of `assembled` come first, then those of `vga_run::run`.
+/// The faults of `assembled` come first, then those of `vga_run::run_bytes`.
 #[tactic(auto, using(crate::proofs::RunTextLemmas::unassembled, crate::proofs::RunTextLemmas::no_write_fault, crate::proofs::RunTextLemmas::run_of_text))]
 pub fn run_text<R: Read, W: Write>(
     alloc: Global,
     text: &mut Tracked<R>,
     fonts: &[u8],
     out: &mut Tracked<W>,
+    until: Option<u32>,
 ) -> Result<(), Fault>
     requires reader { has_failed text.old ≡ false }
     requires writer { has_failed out.old ≡ false }
-    ensures answer { RunsText (length fonts.now) (R.remaining (inner_of text.old))
+    ensures answer { RunsText until (length fonts.now) (R.remaining (inner_of text.old))
         (W.contents (inner_of out.old)) (W.contents (inner_of out.new)) result }
-    ensures read_failed { has_failed text.new ≡ true → result ≡ Err ReadFault }
+    ensures read_failed { has_failed text.new ≡ is_read_fault result }
     ensures write_failed { has_failed out.new ≡ is_write_fault result }
     ensures taken { TakesAtMost (script_limit + 1) (R.remaining (inner_of text.old))
         (R.remaining (inner_of text.new)) }
     ensures unwritten { IfErr result (λ e. e ≢ WriteFault → out.new ≡ out.old) }
 {
     let bytes = assembled(alloc, text)?;
-    let mut script = Tracked::new(bytes.as_slice());
-    vga_run::run(alloc, &mut script, fonts, out, None)
+    vga_run::run_bytes(alloc, bytes.as_slice(), fonts, out, until)
 }

@@ -55,10 +55,12 @@ Examples:
   vga go bars.vga --fonts zaklimot.fnt
 
 A script is a list of steps: cycles on the adapter's ports and memory, advances
-of its clock, and frames. As text it has a step on each line, as in:
+of its clock, frames, and looks at its state. As text it has a step on each
+line, as in:
   out 3C2 63      ; write 63 to port 3C2
   put A0000 FF    ; write FF to address A0000
   frame           ; draw a frame
+  show regs       ; show every register
 The report has a line for each step, with its number and its answer.
 
 The status is 0 for success, 1 for a fault, and 2 for words that name no job.
@@ -120,20 +122,25 @@ The text has a line for each step, with its values in full. Where it has at most
 fn the_help_of_run_has_an_example(rt: HostRuntime) -> Result<(), Fail> {
     let wanted = "Runs a script, and writes its report on standard output
 
-Usage: vga run <BIN> --fonts <FILE>
+Usage: vga run <BIN> --fonts <FILE> [--until <N>]
 
 Arguments:
   <BIN>  The script, in its binary form
 
 Options:
       --fonts <FILE>  The font file, of 9,728 bytes
+      --until <N>     Stops after so many steps, and shows the card
   -h, --help          Print help
 
 Example:
   vga run first-path.bin --fonts zaklimot.fnt
+  vga run first-path.bin --fonts zaklimot.fnt --until 12
 
 The report has a line for each step. A fault ends it, with a line on standard
 error such as `vga: F1 FontSize`, and with status 1.
+
+With --until the run stops after <N> steps, or at the script's end, and the
+report ends with the registers, the beam, the latches and the BIOS data.
 ";
     let help = shown(rt.alloc(), &["vga", "run", "--help"])?.ok_or("the help")?;
     assert_eq!(rt; help.as_str(), wanted);
@@ -144,17 +151,19 @@ error such as `vga: F1 FontSize`, and with status 1.
 fn the_help_of_go_has_an_example(rt: HostRuntime) -> Result<(), Fail> {
     let wanted = "Assembles the text of a script, and runs it as `run` does
 
-Usage: vga go <TEXT> --fonts <FILE>
+Usage: vga go <TEXT> --fonts <FILE> [--until <N>]
 
 Arguments:
   <TEXT>  The script, as text
 
 Options:
       --fonts <FILE>  The font file, of 9,728 bytes
+      --until <N>     Stops after so many steps, and shows the card
   -h, --help          Print help
 
 Example:
   vga go bars.vga --fonts zaklimot.fnt
+  vga go bars.vga --fonts zaklimot.fnt --until 12
 
 The report is that of `vga run` on the bytes that `vga asm` makes of the text.
 ";

@@ -125,12 +125,25 @@ fn a_text_is_run(rt: HostRuntime) -> Result<(), Fail> {
     let fonts = vec![in rt.alloc(); 0u8; FONTS_LEN]?;
     let mut out = with_room(rt.alloc(), 1_000);
     let mut text = Tracked::new(TEXT);
-    let outcome = run_text(rt.alloc(), &mut text, fonts.as_slice(), &mut out);
+    let outcome = run_text(rt.alloc(), &mut text, fonts.as_slice(), &mut out, None);
     assert_eq!(rt; outcome, Ok(()));
     assert_eq!(rt;
         out.into_inner().bytes.as_slice(),
         b"1 ok\n2 ok\n3 63\n".as_slice()
     );
+    Ok(())
+}
+
+#[test]
+fn a_text_is_run_until_a_step(rt: HostRuntime) -> Result<(), Fail> {
+    let fonts = vec![in rt.alloc(); 0u8; FONTS_LEN]?;
+    let mut out = with_room(rt.alloc(), 1_000);
+    let mut text = Tracked::new(TEXT);
+    let outcome = run_text(rt.alloc(), &mut text, fonts.as_slice(), &mut out, Some(1));
+    assert_eq!(rt; outcome, Ok(()));
+    let report = out.into_inner().bytes;
+    assert!(rt; report.as_slice().starts_with(b"1 ok\n2 misc 63\n"));
+    assert!(rt; !report.as_slice().ends_with(b"3 63\n"));
     Ok(())
 }
 
@@ -142,7 +155,10 @@ fn the_text_is_judged_before_the_fonts(rt: HostRuntime) {
     ] {
         let mut out = with_room(rt.alloc(), 1_000);
         let mut text = Tracked::new(text);
-        assert_eq!(rt; run_text(rt.alloc(), &mut text, &[], &mut out), Err(fault));
+        assert_eq!(rt;
+            run_text(rt.alloc(), &mut text, &[], &mut out, None),
+            Err(fault)
+        );
         assert!(rt; out.into_inner().bytes.is_empty());
     }
 }

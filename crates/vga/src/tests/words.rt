@@ -14,6 +14,7 @@ use vga_bits::Fault;
 fn each_command_has_its_paths(rt: HostRuntime) -> Result<(), Fail> {
     let alloc = rt.alloc();
     let (text, script, fonts) = ("bars.vga", "bars.bin", "zaklimot.fnt");
+    let until = None;
     let orders: [(&[&str], Job<'_>); 9] = [
         (
             &["vga", "asm", "bars.vga", "bars.bin"],
@@ -23,27 +24,39 @@ fn each_command_has_its_paths(rt: HostRuntime) -> Result<(), Fail> {
         (&["./vga", "dis", "--", "bars.bin"], Job::Dis { script }),
         (
             &["vga", "run", "bars.bin", "--fonts", "zaklimot.fnt"],
-            Job::Run { script, fonts },
+            Job::Run {
+                script,
+                fonts,
+                until,
+            },
         ),
         (
             &["vga", "run", "--fonts", "zaklimot.fnt", "bars.bin"],
-            Job::Run { script, fonts },
+            Job::Run {
+                script,
+                fonts,
+                until,
+            },
         ),
         (
             &["./vga", "run", "--fonts=zaklimot.fnt", "bars.bin"],
-            Job::Run { script, fonts },
+            Job::Run {
+                script,
+                fonts,
+                until,
+            },
         ),
         (
             &["vga", "go", "bars.vga", "--fonts", "zaklimot.fnt"],
-            Job::Go { text, fonts },
+            Job::Go { text, fonts, until },
         ),
         (
             &["vga", "go", "--fonts", "zaklimot.fnt", "bars.vga"],
-            Job::Go { text, fonts },
+            Job::Go { text, fonts, until },
         ),
         (
             &["./vga", "go", "--fonts=zaklimot.fnt", "bars.vga"],
-            Job::Go { text, fonts },
+            Job::Go { text, fonts, until },
         ),
     ];
     for (order, wanted) in orders {
@@ -58,8 +71,69 @@ fn each_command_has_its_paths(rt: HostRuntime) -> Result<(), Fail> {
 }
 
 #[test]
+fn a_run_stops_after_the_number_behind_until(rt: HostRuntime) -> Result<(), Fail> {
+    let alloc = rt.alloc();
+    for (word, steps) in [
+        ("0", 0),
+        ("12", 12),
+        ("0012", 12),
+        ("4294967295", u32::MAX),
+        ("00000000000000000004294967295", u32::MAX),
+    ] {
+        let until = Some(steps);
+        let words = owned(alloc, &["vga", "run", "s", "--fonts", "f", "--until", word])?;
+        let (script, fonts) = ("s", "f");
+        assert_eq!(rt;
+            job(alloc, words.as_slice()).ok(),
+            Some(Job::Run {
+                script,
+                fonts,
+                until
+            }),
+            "at {word}"
+        );
+        let words = owned(alloc, &["vga", "go", "--until", word, "--fonts", "f", "t"])?;
+        let text = "t";
+        assert_eq!(rt;
+            job(alloc, words.as_slice()).ok(),
+            Some(Job::Go { text, fonts, until }),
+            "at {word}"
+        );
+    }
+    Ok(())
+}
+
+#[test]
+fn the_number_behind_until_is_digits_alone(rt: HostRuntime) -> Result<(), Fail> {
+    for word in [
+        "",
+        "+5",
+        "-5",
+        "--until=+5",
+        "5x",
+        "x5",
+        "0x5",
+        "5 ",
+        " 5",
+        "1_000",
+        "1,000",
+        "5.0",
+        "4294967296",
+        "18446744073709551621",
+    ] {
+        for command in ["run", "go"] {
+            let words = ["vga", command, "s", "--fonts", "f", "--until", word];
+            assert_eq!(rt; words_status(rt.alloc(), &words)?, 2, "at {word}");
+        }
+    }
+    let words = ["vga", "run", "s", "--fonts", "f", "--until=+5"];
+    assert_eq!(rt; words_status(rt.alloc(), &words)?, 2);
+    Ok(())
+}
+
+#[test]
 fn words_that_name_no_job_have_status_2(rt: HostRuntime) -> Result<(), Fail> {
-    let refused: [&[&str]; 23] = [
+    let refused: [&[&str]; 27] = [
         &[],
         &["vga"],
         &["vga", "asm"],
@@ -77,6 +151,12 @@ fn words_that_name_no_job_have_status_2(rt: HostRuntime) -> Result<(), Fail> {
         &["vga", "run", "x", "y", "--fonts", "f"],
         &["vga", "run", "x", "--fonts", "f", "--fonts", "g"],
         &["vga", "run", "x", "--fonts", "f", "--loud"],
+        &["vga", "run", "x", "--fonts", "f", "--until"],
+        &[
+            "vga", "run", "x", "--fonts", "f", "--until", "1", "--until", "1",
+        ],
+        &["vga", "run", "x", "--until", "1"],
+        &["vga", "dis", "x", "--until", "1"],
         &["vga", "go"],
         &["vga", "go", "x"],
         &["vga", "go", "x", "--fonts"],
