@@ -1,0 +1,60 @@
+"""Reports, pictures and PNGs for tests, made and read with none of the tool's own code."""
+
+from __future__ import annotations
+
+import io
+import struct
+import zlib
+from typing import Iterable
+
+RED, WHITE, BLACK = b"\x3f\x00\x00", b"\x3f\x3f\x3f", b"\x00\x00\x00"
+
+
+def ppm(width: int, height: int, dots: bytes) -> bytes:
+    """A picture's bytes."""
+    return b"P6\n%d %d\n63\n" % (width, height) + dots
+
+
+def picture_step(number: int, picture: bytes) -> bytes:
+    """A step with a picture, as it stands in a report."""
+    return b"%d picture %d\n" % (number, len(picture)) + picture + b"\n"
+
+
+def report(*answers: str | bytes) -> bytes:
+    """A report of steps with these answers. Bytes are a picture."""
+    steps = enumerate(answers, 1)
+    return b"".join(
+        picture_step(number, answer) if isinstance(answer, bytes) else f"{number} {answer}\n".encode()
+        for number, answer in steps
+    )
+
+
+def stream(data: bytes) -> io.BufferedReader:
+    """A stream of bytes, as a file gives them."""
+    return io.BufferedReader(io.BytesIO(data))  # type: ignore[arg-type]
+
+
+def png_rows(data: bytes) -> tuple[int, int, list[bytes]]:
+    """Width, height and rows of a truecolour PNG of eight bits, each of whose checks must hold."""
+    assert data[:8] == b"\x89PNG\r\n\x1a\n"
+    at, chunks = 8, []
+    while at < len(data):
+        (length,) = struct.unpack_from(">I", data, at)
+        kind, body = data[at + 4:at + 8], data[at + 8:at + 8 + length]
+        (check,) = struct.unpack_from(">I", data, at + 8 + length)
+        assert check == zlib.crc32(kind + body)
+        chunks.append((kind, body))
+        at += 12 + length
+    assert chunks[0][0] == b"IHDR" and chunks[-1] == (b"IEND", b"")
+    width, height, *form = struct.unpack(">IIBBBBB", chunks[0][1])
+    assert form == [8, 2, 0, 0, 0]
+    return width, height, list(_rows(width, height, b"".join(body for kind, body in chunks if kind == b"IDAT")))
+
+
+def _rows(width: int, height: int, packed: bytes) -> Iterable[bytes]:
+    lines = zlib.decompress(packed)
+    length = 3 * width + 1
+    assert len(lines) == length * height
+    for at in range(0, len(lines), length):
+        assert lines[at] == 0, "a row with a filter"
+        yield lines[at + 1:at + length]

@@ -1,0 +1,256 @@
+"""The command itself, as a user runs it."""
+
+from __future__ import annotations
+
+import json
+import shlex
+import subprocess
+import sys
+import unittest
+from pathlib import Path
+
+from .making import BLACK, RED, WHITE, png_rows, ppm, report
+from .test_cases import Folder
+
+HERE = Path(__file__).resolve().parent
+PROGRAM = HERE.parent / "vga-report"
+ADAPTER = f"{shlex.quote(sys.executable)} {shlex.quote(str(HERE / 'adapter.py'))} {{script}}"
+PICTURE = ppm(9, 1, RED * 4 + BLACK * 5)
+
+
+def run(*words: str | Path, given: bytes = b"") -> tuple[int, bytes, str]:
+    """Exit status, standard output and standard error of the command."""
+    done = subprocess.run([sys.executable, PROGRAM, *words], input=given, capture_output=True, timeout=50)
+    return done.returncode, done.stdout, done.stderr.decode()
+
+
+class Files(Folder):
+    def report(self, name: str, *answers: str | bytes) -> str:
+        """A report as a file."""
+        path = self.folder / name
+        path.write_bytes(report(*answers))
+        return str(path)
+
+
+class Text(Files):
+    def test_a_file_and_standard_input(self) -> None:
+        path = self.report("r", "ok", ppm(9, 1, 9 * BLACK))
+        text = b"1 ok\n2 picture 37 9x1 8f4a7758d19428aa7b8da8bb8fc0c974\n"
+        self.assertEqual(run("text", path), (0, text, ""))
+        self.assertEqual(run("text", "-", given=Path(path).read_bytes()), (0, text, ""))
+
+    def test_a_damaged_report_is_shown_up_to_the_damage(self) -> None:
+        message = "vga-report: standard input:2: step 2 is to come, and not '3 ok'\n"
+        self.assertEqual(run("text", "-", given=b"1 ok\n3 ok\n"), (2, b"1 ok\n", message))
+
+    def test_a_file_that_is_not_there(self) -> None:
+        path = self.folder / "none"
+        self.assertEqual(run("text", path), (2, b"", f"vga-report: {path}: No such file or directory\n"))
+
+    def test_a_closed_pipe_ends_it_silently(self) -> None:
+        path = self.report("r", *("ok" for _ in range(50000)))
+        process = subprocess.Popen(
+            [sys.executable, PROGRAM, "text", path], stdout=subprocess.PIPE, stderr=subprocess.PIPE
+        )
+        assert process.stdout is not None and process.stderr is not None
+        with process, process.stdout, process.stderr:
+            self.assertEqual(process.stdout.readline(), b"1 ok\n")
+            process.stdout.close()
+            self.assertEqual(process.stderr.read(), b"")
+        self.assertEqual(process.returncode, 141)
+
+
+class Pictures(Files):
+    def test_each_picture_is_a_file(self) -> None:
+        path, folder = self.report("r", PICTURE, "ok", ppm(1, 1, WHITE)), self.folder / "a" / "b"
+        names = f"{folder / '0001.png'}\n{folder / '0003.png'}\n".encode()
+        self.assertEqual(run("pictures", path, folder), (0, names, ""))
+        self.assertEqual(png_rows((folder / "0003.png").read_bytes()), (1, 1, [b"\xff\xff\xff"]))
+        self.assertEqual(run("pictures", path, folder, "--scale", "2", "--aspect")[0], 0)
+        self.assertEqual(png_rows((folder / "0003.png").read_bytes())[:2], (3, 2))
+
+    def test_the_bytes_as_they_are(self) -> None:
+        path, folder = self.report("r", PICTURE), self.folder / "a"
+        self.assertEqual(run("pictures", path, folder, "--ppm")[0], 0)
+        self.assertEqual((folder / "0001.ppm").read_bytes(), PICTURE)
+        self.assertEqual(run("pictures", path, folder, "--ppm", "--aspect")[0], 2)
+
+    def test_one_step_on_standard_output(self) -> None:
+        path = self.report("r", PICTURE, "ok", ppm(1, 1, WHITE))
+        status, picture, _ = run("pictures", path, "-", "--step", "3")
+        self.assertEqual((status, png_rows(picture)), (0, (1, 1, [b"\xff\xff\xff"])))
+        self.assertEqual(run("pictures", path, "-", "--ppm"), (0, PICTURE + ppm(1, 1, WHITE), ""))
+
+    def test_no_picture(self) -> None:
+        path, folder = self.report("r", "ok", PICTURE), self.folder / "a"
+        message = f"vga-report: {path}: step 1 has no picture; there are 2 steps\n"
+        self.assertEqual(run("pictures", path, folder, "--step", "1"), (2, b"", message))
+        message = "vga-report: standard input: no step has a picture\n"
+        self.assertEqual(run("pictures", "-", folder, given=b"1 ok\n"), (2, b"", message))
+
+    def test_pictures_before_the_damage_are_written(self) -> None:
+        status, _, message = run("pictures", "-", self.folder, given=report(PICTURE, PICTURE)[:-3])
+        self.assertEqual((status, (self.folder / "0001.png").exists()), (2, True))
+        self.assertIn("standard input:2: the picture of step 2 is cut off: of 37 bytes there are 35", message)
+
+
+class Compare(Files):
+    def test_reports_that_agree(self) -> None:
+        path = self.report("a", "ok", PICTURE)
+        text = f"{path} and standard input agree: 2 steps, 1 picture\n".encode()
+        self.assertEqual(run("compare", path, "-", given=report("ok", PICTURE)), (0, text, ""))
+
+    def test_the_first_step_that_differs(self) -> None:
+        path, other = self.report("a", "ok", "E1", "00"), self.report("b", "ok", "E1 NotDecoded", "01")
+        text = f"step 2 differs\n  {path}:2: E1 (read)\n  {other}:2: E1 NotDecoded (refused)\n"
+        self.assertEqual(run("compare", path, other), (1, text.encode(), ""))
+        text += f"step 3 differs\n  {path}:3: 00\n  {other}:3: 01\n"
+        self.assertEqual(run("compare", path, other, "--all"), (1, text.encode(), ""))
+
+    def test_a_picture_with_its_differing_dots_marked(self) -> None:
+        path, other = self.report("a", "00", PICTURE), self.report("b", "01", ppm(9, 1, RED * 3 + BLACK * 6))
+        marked = self.folder / "marked.png"
+        status, text, message = run("compare", path, other, "--all", "--picture", marked)
+        self.assertEqual((status, message), (1, ""))
+        self.assertIn(b"\n  1 of 9 dots differ, the first is dot 3 of row 0: 3F0000, not 000000\n", text)
+        red, mark = b"\x55\x00\x00", b"\xff\x20\x20"
+        self.assertEqual(png_rows(marked.read_bytes()), (9, 1, [red * 3 + mark + BLACK * 5]))
+
+    def test_no_picture_differs(self) -> None:
+        path, other, marked = self.report("a", "00"), self.report("b", "01"), self.folder / "marked.png"
+        status, _, message = run("compare", path, other, "--picture", marked)
+        self.assertEqual(status, 1)
+        self.assertEqual(message, f"vga-report: no pictures differ, so {marked} isn't written\n")
+        self.assertFalse(marked.exists())
+
+    def test_standard_input_twice(self) -> None:
+        self.assertEqual(run("compare", "-", "-"), (2, b"", "vga-report: standard input can be read once\n"))
+
+
+class Check(Files):
+    def test_as_expected_and_not(self) -> None:
+        path, expected = self.report("r", "ok", "ok", "55"), self.folder / "e"
+        for text, status, said in [
+            ("1-2 ok\n3 55\n", 0, f"{path} is as expected: 3 steps, 0 pictures\n"),
+            ("1-2 ok\n3 54\n", 1, f"{path}:3: step 3: 55, not 54 ({expected}:2)\n"),
+            ("1-2 ok\n", 1, f"{path}:3: step 3: 55, not the end ({expected})\n"),
+            ("1-4 ok\n", 1, f"{path}:3: step 3: 55 (read), not ok ({expected}:1)\n"),
+        ]:
+            with self.subTest(text):
+                expected.write_text(text)
+                self.assertEqual(run("check", path, expected), (status, said.encode(), ""))
+
+
+class Suite(Files):
+    def setUp(self) -> None:
+        super().setUp()
+        (self.folder / "two.fnt").write_bytes(b"12")
+        self.lines = ["fonts two.fnt"]
+
+    def case(self, name: str, script: str, expected: str, line: str = "") -> None:
+        """Puts a case into the suite."""
+        self.write(name + ".vga", script)
+        self.write(name + ".txt", expected)
+        self.lines.append(line or name)
+
+    def run_suite(self, *words: str | Path, command: str = ADAPTER + " {fonts}") -> tuple[int, str, str]:
+        path = self.write("list.txt", "\n".join(self.lines) + "\n")
+        status, output, message = run("suite", command, "--list", path, *words)
+        return status, output.decode(), message
+
+    def test_a_table_of_rules(self) -> None:
+        self.case("a/one", "; Memory.\nput A0000 55\nget A0000\n", "1 ok\n2 FF\n")
+        self.case("b/two", "; Ports.\nin 3CC\n", "1 02\n")
+        self.case("a/three", "; Memory.\nget A0000\n", "1 55\n")
+        self.case("a/four", "; A frame.\nframe\nin 3DA\n", "1 picture 37 9x1\n000000*9\n2 00\n")
+        text = (
+            "a (3 cases: 1 agree, 1 skipped, 1 differ)\n"
+            "  differs  Memory.\n"
+            "           a/three: step 1: FF, not 55\n"
+            "  skipped  A frame.\n"
+            "           a/four: 1 of 2 steps are skipped, the others agree\n"
+            "b (1 case: 1 agree)\n"
+            "  agrees   Ports.\n"
+            "4 cases: 2 agree, 1 skipped, 1 differ\n"
+        )
+        self.assertEqual(self.run_suite(), (1, text, ""))
+        self.assertEqual(self.run_suite("--jobs", "4"), (1, text, ""))
+        self.assertEqual(self.run_suite("--only", "b/")[0], 0)
+        self.assertEqual(self.run_suite("--only", "a/four")[0], 1)
+
+    def test_the_table_for_machines(self) -> None:
+        self.case("a/one", "; Memory.\nget A0000\n", "1 55\n")
+        status, output, _ = self.run_suite("--json")
+        self.assertEqual(status, 1)
+        self.assertEqual(json.loads(output), {
+            "command": ADAPTER + " {fonts}",
+            "cases": {"agrees": 0, "skipped": 0, "differs": 1, "failed": 0},
+            "rules": [{
+                "rule": "Memory.", "folder": "a", "answer": "differs",
+                "cases": [{
+                    "name": "a/one", "answer": "differs", "steps": 1, "skipped": 0, "step": 1, "answered": "FF",
+                    "expected": "55", "reason": "step 1: FF, not 55",
+                }],
+            }],
+        })
+
+    def test_a_skipped_step_hides_no_difference(self) -> None:
+        self.case("a/one", "frame\nget A0000\n", "1 ragged\n2 55\n")
+        self.assertIn("a/one: step 2: FF, not 55\n", self.run_suite()[1])
+
+    def test_commands_that_fail(self) -> None:
+        for script, reason in [
+            ("crash\n", "the command ended with status 3: no such part?"),
+            ("get 0\ncrash\n", "the command ended with status 3: no such part?"),
+            ("cut\n", "its report:1: the report ends within a line"),
+            ("wait\n", "the command took too long"),
+        ]:
+            with self.subTest(script):
+                self.lines = ["fonts two.fnt"]
+                self.case("a/one", script, "1 FF\n")
+                status, output, _ = self.run_suite("--timeout", "1" if script == "wait\n" else "40")
+                self.assertEqual(status, 1)
+                self.assertIn(f"  failed   a/one\n           a/one: {reason}\n", output)
+
+    def test_a_fault_is_the_report(self) -> None:
+        self.case("a/one", "fault\n", "F7 BadLine(2)\n")
+        self.case("a/two", "fault\n", "F7 BadLine(1)\n")
+        self.case("a/three", "fault\n", "1 ok\n")
+        status, output, _ = self.run_suite()
+        self.assertEqual(status, 1)
+        self.assertIn("  agrees   a/one\n", output)
+        self.assertIn("a/two: the run: F7 BadLine(2), not F7 BadLine(1)\n", output)
+        self.assertIn("a/three: step 1: F7 BadLine(2) (fault), not ok\n", output)
+
+    def test_scripts_of_bytes_want_a_command_of_their_own(self) -> None:
+        self.write("a/one.hex", "69 6E 20 33 43 43 ; in 3CC\n")
+        self.write("a/one.txt", "1 02\n")
+        self.lines.append("bytes a/one")
+        status, output, _ = self.run_suite()
+        self.assertEqual((status, output.splitlines()[-1]), (1, "1 case: 1 skipped"))
+        status, output, _ = self.run_suite("--bytes", ADAPTER + " {fonts}")
+        self.assertEqual((status, output.splitlines()[-1]), (0, "1 case: 1 agree"))
+
+    def test_reports_that_lie_ready(self) -> None:
+        self.case("a/one", "get A0000\n", "1 55\n")
+        self.write("a/one.report", "1 55\n")
+        program = f"{shlex.quote(sys.executable)} -c 'print(open(\"{self.folder}/{{name}}.report\").read(), end=\"\")'"
+        self.assertEqual(self.run_suite(command=program)[0], 0)
+
+    def test_commands_that_can_not_be_meant(self) -> None:
+        self.case("a/one", "frame\n", "1 ragged\n")
+        for command, message in [
+            ("true", "the command 'true' has neither {script} nor {name}"),
+            ("'{script}", "the command ''{script}': No closing quotation"),
+            ("/none/there {script}", "/none/there: No such file or directory"),
+        ]:
+            with self.subTest(command):
+                self.assertEqual(self.run_suite(command=command), (2, "", f"vga-report: {message}\n"))
+        self.lines = ["a/one"]
+        message = "vga-report: no line `fonts FILE` stands before a/one in the list\n"
+        self.assertEqual(self.run_suite(), (2, "", message))
+        self.assertEqual(self.run_suite("--only", "x")[0], 2)
+
+
+if __name__ == "__main__":
+    unittest.main()

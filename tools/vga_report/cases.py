@@ -1,0 +1,119 @@
+"""The suite's list of cases, and the script that each of them runs."""
+
+from __future__ import annotations
+
+import re
+from dataclasses import dataclass
+from pathlib import Path
+from typing import Iterator, Optional
+
+from .streams import STANDARD, reading, shown_name
+from .trouble import Trouble
+
+CASE = re.compile(r"(?P<name>[^ ]+)( until (?P<steps>[0-9]+))?|bytes (?P<bytes>[^ ]+)")
+HEX = re.compile(r"([0-9A-Fa-f]{2})(\*([1-9][0-9]{0,7}))?")
+# What a run that stops after so many steps shows, as if these steps stood next.
+LOOKS = b"show regs\nshow beam\nshow latches\nshow bda\n"
+
+
+@dataclass(frozen=True)
+class Case:
+    """A case: a script, and the report that is expected of it."""
+
+    name: str
+    folder: Path
+    fonts: Optional[Path]
+    front: Optional[Path]
+    until: Optional[int]
+    is_bytes: bool
+
+    @property
+    def source(self) -> Path:
+        """The file of its script, as text or as digits of bytes."""
+        return self.folder / (self.name + (".hex" if self.is_bytes else ".vga"))
+
+    @property
+    def suffix(self) -> str:
+        """How the name of a file ends that holds its script as it is run."""
+        return ".bin" if self.is_bytes else ".vga"
+
+    @property
+    def expected(self) -> Path:
+        """The file of its expected report."""
+        return self.folder / (self.name + ".txt")
+
+    @property
+    def group(self) -> str:
+        """The folder that its name begins with."""
+        return self.name.rpartition("/")[0]
+
+    def rule(self) -> str:
+        """The rule that it shows: the first line of its first comment, or else its name."""
+        for line in self.source.read_bytes().splitlines():
+            _, mark, comment = line.partition(b";")
+            text = comment.decode("utf-8", "replace").strip()
+            if mark and text:
+                return printable(text)
+        return self.name
+
+    def script(self) -> bytes:
+        """Its script as it is run: text, with what stands in front of it, or bytes."""
+        source = self.source.read_bytes()
+        if self.is_bytes:
+            return _bytes_of(source, self.source)
+        text = (self.front.read_bytes() if self.front else b"") + source
+        return text if self.until is None else _front_of(text, self.until) + LOOKS
+
+
+def printable(text: str) -> str:
+    """A text that no terminal takes for more than a text."""
+    return "".join(character if character.isprintable() else "?" for character in text)
+
+
+def _bytes_of(source: bytes, path: Path) -> bytes:
+    """The bytes that digits spell: `XX*N` is N times the byte, and `;` begins a comment."""
+    parts = []
+    for number, line in enumerate(source.decode("utf-8", "replace").splitlines(), 1):
+        for word in line.partition(";")[0].split():
+            found = HEX.fullmatch(word)
+            if found is None:
+                raise Trouble(f"'{word[:20]}' is no byte", str(path), number)
+            parts.append(bytes.fromhex(found[1]) * int(found[3] or "1"))
+    return b"".join(parts)
+
+
+def _front_of(text: bytes, steps: int) -> bytes:
+    """The lines of a script up to so many steps, whole lines each."""
+    lines = text.split(b"\n")
+    is_step = [bool(line.partition(b";")[0].strip(b" \t\r")) for line in lines]
+    places = [at for at, is_one in enumerate(is_step) if is_one]
+    if steps >= len(places):
+        return text if text.endswith(b"\n") else text + b"\n"
+    return b"".join(line + b"\n" for line in lines[:places[steps]])
+
+
+def read_cases(path: str) -> list[Case]:
+    """The cases of a list, but for those whose expected report is wrong on purpose."""
+    folder = Path(".") if path == STANDARD else Path(path).parent
+    with reading(path) as stream:
+        lines = stream.read().decode("utf-8", "replace").splitlines()
+    return list(_cases(lines, folder.absolute(), shown_name(path, "standard input")))
+
+
+def _cases(lines: list[str], folder: Path, name: str) -> Iterator[Case]:
+    fonts: Optional[Path] = None
+    front: Optional[Path] = None
+    for number, line in enumerate(lines, 1):
+        word, _, rest = line.strip().partition(" ")
+        if not word or word.startswith("#") or word == "wrong":
+            continue
+        if word == "fonts":
+            fonts = folder / rest
+        elif word == "front":
+            front = None if rest == "none" else folder / rest
+        else:
+            found = CASE.fullmatch(line.strip())
+            if found is None:
+                raise Trouble(f"no case: '{line[:40]}'", name, number)
+            until = None if found["steps"] is None else int(found["steps"])
+            yield Case(found["name"] or found["bytes"], folder, fonts, front, until, found["bytes"] is not None)

@@ -1,0 +1,129 @@
+"""Where two reports differ, or a report and what is expected of it."""
+
+from __future__ import annotations
+
+from itertools import zip_longest
+from typing import Iterator, NamedTuple, Optional
+
+from .picture import Picture, different_dots
+from .report import Step
+
+END = "the end"
+
+
+class Difference(NamedTuple):
+    """A step with two answers. Where one of the reports has ended, it has no step."""
+
+    step: Optional[Step]
+    other: Optional[Step]
+
+    @property
+    def number(self) -> int:
+        """The number of the step that differs; 0 where a fault stands in the place of steps."""
+        return max(step.number for step in self if step is not None)
+
+    @property
+    def place(self) -> str:
+        """The step in messages."""
+        return f"step {self.number}" if self.number else "the run"
+
+    def answers(self) -> tuple[str, str]:
+        """Both answers, each as one line."""
+        step, other = self
+        if step is None or other is None:
+            return _first_line(step), _first_line(other)
+        if step.picture is not None and other.picture is not None:
+            return _pictures(step, other)
+        line, other_line = next(
+            pair for pair in zip_longest(step.lines, other.lines, fillvalue=END) if pair[0] != pair[1]
+        )
+        if step.kind != other.kind:
+            return _with_kind(line, step), _with_kind(other_line, other)
+        return line, other_line
+
+    def pictures(self) -> Optional[tuple[Picture, Picture]]:
+        """Both pictures, if both answers are pictures whose dots are at hand."""
+        if self.step is None or self.other is None:
+            return None
+        picture, other = self.step.picture, self.other.picture
+        if isinstance(picture, Picture) and isinstance(other, Picture):
+            return picture, other
+        return None
+
+    def dots(self) -> str:
+        """How two pictures of one size differ; empty for all else."""
+        pictures = self.pictures()
+        found = different_dots(*pictures) if pictures and pictures[0].size == pictures[1].size else None
+        if pictures is None or found is None:
+            return ""
+        picture, other = pictures
+        colours = f"{picture.dot(found.x, found.y)}, not {other.dot(found.x, found.y)}"
+        count = picture.width * picture.height
+        return f"{found.count} of {count} dots differ, the first is dot {found.x} of row {found.y}: {colours}"
+
+    def text(self) -> str:
+        """What the first report has in the place of what the other has, as one line."""
+        dots = self.dots()
+        answer, other = self.answers()
+        return f"{self.place}: " + (dots or f"{answer}, not {other}")
+
+
+def _first_line(step: Optional[Step]) -> str:
+    return END if step is None else step.answer
+
+
+def _with_kind(line: str, step: Step) -> str:
+    """A line that tells a refusal from a byte that was read."""
+    return f"{line} ({step.kind})" if step.kind else line
+
+
+def _pictures(step: Step, other: Step) -> tuple[str, str]:
+    """Two pictures by what tells them apart: length and size, or else their sums."""
+    assert step.picture is not None and other.picture is not None
+    head, other_head = f"{step.answer} {step.picture.size}", f"{other.answer} {other.picture.size}"
+    if head != other_head:
+        return head, other_head
+    return f"{head} {step.picture.sum}", f"{other_head} {other.picture.sum}"
+
+
+class Comparison:
+    """Walks through two reports side by side, and counts what it has seen."""
+
+    def __init__(self) -> None:
+        self.steps = 0
+        self.pictures = 0
+        self.skipped = 0
+
+    def differences(self, steps: Iterator[Step], others: Iterator[Step]) -> Iterator[Difference]:
+        """The steps that differ, up to the end of the shorter report. A step that was left out differs from none."""
+        for step, other in zip_longest(steps, others):
+            if step is None or other is None:
+                yield Difference(step, other)
+                return
+            self.steps += 1
+            self.pictures += step.picture is not None
+            if step.is_skipped or other.is_skipped:
+                self.skipped += 1
+            elif not _are_alike(step, other):
+                yield Difference(step, other)
+
+    def text(self) -> str:
+        """What was seen."""
+        counted = [_counted(self.steps, "step"), _counted(self.pictures, "picture")]
+        return ", ".join(counted + ([f"{self.skipped} skipped"] if self.skipped else []))
+
+
+def _counted(count: int, what: str) -> str:
+    return f"{count} {what}" if count == 1 else f"{count} {what}s"
+
+
+def _are_alike(step: Step, other: Step) -> bool:
+    """Whether two steps answer the same."""
+    if step.number != other.number or step.answer != other.answer or step.others != other.others:
+        return False
+    picture, other_picture = step.picture, other.picture
+    if isinstance(picture, Picture) and isinstance(other_picture, Picture):
+        return picture.ppm == other_picture.ppm
+    if picture is None or other_picture is None:
+        return picture is other_picture
+    return (picture.size, picture.sum) == (other_picture.size, other_picture.sum)

@@ -1,0 +1,173 @@
+"""A report, step by step."""
+
+from __future__ import annotations
+
+import io
+import re
+from typing import Iterator, NamedTuple, Optional, Union
+
+from .picture import Digest, Picture
+from .progress import Progress
+from .streams import length_of
+from .trouble import Trouble
+
+# Longer lines than any answer has, a block of 65,535 bytes among them, and larger pictures than any adapter's.
+MOST_LINE = 1 << 18
+MOST_PICTURE = 1 << 26
+# So many lines are read between two looks at the clock.
+LINES_BETWEEN = 4096
+
+TEXT = re.compile(rb"[ -~]+\n")
+PICTURE = re.compile(r"picture ([1-9][0-9]{0,11})")
+READ = re.compile(r"[0-9A-F]{2}|[0-9A-F]{4}")
+REFUSED = re.compile(r"E[1-9][0-9]? [A-Z][A-Za-z]*")
+FAULT = re.compile(r"F[1-9][0-9]? [A-Z][A-Za-z]*(\([0-9]+\))?")
+SKIPPED = "skipped"
+# What may stand where the lines of an answer have ended.
+DIGITS_OR_END = (b"", *(b"%d" % digit for digit in range(10)))
+
+
+class Step(NamedTuple):
+    """What one step answered. A fault in the place of a report is a step with the number 0."""
+
+    number: int
+    line: int
+    answer: str
+    others: tuple[str, ...] = ()
+    picture: Union[Picture, Digest, None] = None
+
+    @property
+    def place(self) -> str:
+        """The step in messages."""
+        return f"step {self.number}" if self.number else "the run"
+
+    @property
+    def lines(self) -> tuple[str, ...]:
+        """The lines of the answer."""
+        return (self.answer, *self.others)
+
+    @property
+    def is_skipped(self) -> bool:
+        """Whether a harness left the step out."""
+        return self.answer == SKIPPED
+
+    @property
+    def kind(self) -> str:
+        """What kind of answer it is, where another kind may look like it."""
+        if self.number == 0:
+            return "fault"
+        if READ.fullmatch(self.answer):
+            return "read"
+        return "refused" if REFUSED.fullmatch(self.answer) else ""
+
+    def text(self) -> str:
+        """Its lines, with a picture as one line; it ends with a newline."""
+        front = f"{self.number} " if self.number else ""
+        picture = "" if self.picture is None else f" {self.picture.size} {self.picture.sum}"
+        return front + "\n".join(self.lines) + picture + "\n"
+
+
+class Report:
+    """The steps of a report that is read from a stream. Lines are counted as `text` shows them, a picture as one."""
+
+    def __init__(self, stream: io.BufferedReader, name: str, progress: Optional[Progress] = None) -> None:
+        self._stream = stream
+        self._name = name
+        self._progress = progress or Progress(is_wanted=False)
+        self._length = length_of(stream)
+        self._read = 0
+        self._line = 0
+
+    def steps(self) -> Iterator[Step]:
+        """The steps in their order; a Trouble where the report is damaged, behind the steps before that place."""
+        number = 1
+        line = self._next_line()
+        while line:
+            if line == b"%d ok\n" % number:
+                yield Step(number, self._line, "ok")
+            else:
+                step = self._step(number, line)
+                yield step
+                number = step.number
+            number += 1
+            line = self._next_line()
+
+    def _step(self, number: int, line: bytes) -> Step:
+        """The step that begins with a line, and has this number if it is one."""
+        text = self._text_of(line)
+        place = self._line
+        if number == 1 and FAULT.fullmatch(text):
+            self._refuse_more()
+            return Step(0, place, text)
+        front, _, answer = text.partition(" ")
+        if front != str(number) or not answer:
+            raise self._trouble(f"step {number} is to come, and not '{_front_of(text)}'")
+        announced = PICTURE.fullmatch(answer)
+        if announced is not None:
+            return Step(number, place, answer, (), self._picture(number, int(announced[1])))
+        if REFUSED.fullmatch(answer) or READ.fullmatch(answer) or answer == SKIPPED:
+            return Step(number, place, answer)
+        return Step(number, place, answer, tuple(self._other_lines()))
+
+    def _next_line(self) -> bytes:
+        """The next line with its newline; nothing at the report's end."""
+        try:
+            line = self._stream.readline(MOST_LINE)
+        except OSError as error:
+            raise self._trouble(error.strerror or str(error), self._line + 1) from error
+        self._read += len(line)
+        self._line += 1
+        if line and line[-1] != 0x0A:
+            is_long = len(line) == MOST_LINE
+            raise self._trouble("the line is longer than any answer" if is_long else "the report ends within a line")
+        if self._line % LINES_BETWEEN == 0:
+            self._tell_progress()
+        return line
+
+    def _text_of(self, line: bytes) -> str:
+        """A line's text."""
+        if line.endswith(b"\r\n"):
+            raise self._trouble("the line ends with a carriage return: a report is bytes, not a system's text")
+        if TEXT.fullmatch(line) is None:
+            raise self._trouble("the line is empty, or has bytes that no answer has")
+        return line[:-1].decode("ascii")
+
+    def _other_lines(self) -> Iterator[str]:
+        """The lines up to the next step's, as a dump has them: none of them begins with a digit."""
+        while self._stream.peek(1)[:1] not in DIGITS_OR_END:
+            yield self._text_of(self._next_line())
+
+    def _picture(self, number: int, length: int) -> Picture:
+        """The picture of so many bytes that stands next, and its newline."""
+        if length > MOST_PICTURE:
+            raise self._trouble(f"step {number} has a picture of {length} bytes, and {MOST_PICTURE} are the most")
+        ppm = self._stream.read(length)
+        newline = self._stream.read(1)
+        self._read += length + 1
+        if len(ppm) < length:
+            raise self._trouble(f"the picture of step {number} is cut off: of {length} bytes there are {len(ppm)}")
+        if newline != b"\n":
+            raise self._trouble(f"no newline stands behind the {length} bytes of the picture of step {number}")
+        self._tell_progress()
+        try:
+            return Picture.of_ppm(ppm)
+        except ValueError as error:
+            raise self._trouble(f"step {number}: {error}") from error
+
+    def _refuse_more(self) -> None:
+        """Behind a fault in the place of a report nothing may stand."""
+        if self._next_line():
+            raise self._trouble("something stands behind a fault")
+
+    def _tell_progress(self) -> None:
+        if self._progress.is_due():
+            share = f", {100 * self._read // self._length} %" if self._length else ""
+            self._progress.tell(f"{self._name}: {self._read / 1e6:.0f} MB{share}")
+
+    def _trouble(self, reason: str, line: Optional[int] = None) -> Trouble:
+        return Trouble(reason, self._name, line or self._line)
+
+
+def _front_of(text: str) -> str:
+    """The front of a line, for messages."""
+    return text if len(text) <= 40 else text[:40] + ".."

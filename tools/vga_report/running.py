@@ -1,0 +1,164 @@
+"""Runs a case with a command of the user's, and judges its report."""
+
+from __future__ import annotations
+
+import io
+import os
+import re
+import shlex
+import signal
+import subprocess
+import tempfile
+import time
+from dataclasses import dataclass
+from pathlib import Path
+from threading import Event
+from typing import Optional
+
+from .cases import Case, printable
+from .differences import Comparison, Difference
+from .expected import Expected
+from .report import FAULT, Report
+from .trouble import Trouble
+
+AGREES, SKIPPED, DIFFERS, FAILED = "agrees", "skipped", "differs", "failed"
+# What messages call the report of a case.
+REPORT_NAME = "its report"
+PLACE = re.compile(r"\{(script|fonts|name)\}")
+# So much of what a command says on standard error is read.
+MOST_MESSAGE = 4096
+# Seconds between two looks whether the user has ended the suite.
+PATIENCE = 0.25
+
+
+@dataclass(frozen=True)
+class Result:
+    """What came of a case."""
+
+    case: Case
+    rule: str
+    answer: str
+    comparison: Comparison
+    difference: Optional[Difference] = None
+    reason: str = ""
+
+    def text(self) -> str:
+        """Why it doesn't agree; empty where it does."""
+        return self.difference.text() if self.difference else self.reason
+
+
+class Command:
+    """A command with places for a case's files."""
+
+    def __init__(self, text: str, timeout: float, is_ended: Event) -> None:
+        try:
+            self._words = shlex.split(text)
+        except ValueError as error:
+            raise Trouble(f"the command '{text}': {error}") from error
+        if not any("{script}" in word or "{name}" in word for word in self._words):
+            raise Trouble(f"the command '{text}' has neither {{script}} nor {{name}}")
+        self._timeout = timeout
+        self._is_ended = is_ended
+
+    def words(self, case: Case, script: Path) -> list[str]:
+        """The command's words for a case."""
+        if case.fonts is None and any("{fonts}" in word for word in self._words):
+            raise Trouble(f"no line `fonts FILE` stands before {case.name} in the list")
+        values = {"script": str(script), "fonts": str(case.fonts), "name": case.name}
+        return [PLACE.sub(lambda place: values[place[1]], word) for word in self._words]
+
+    def run(self, case: Case, script: Path, report: Path, messages: Path) -> Optional[int]:
+        """Its exit status, or None where it took too long. What it writes stands in two files then."""
+        words = self.words(case, script)
+        is_posix = os.name == "posix"
+        with open(report, "wb") as output, open(messages, "wb") as errors:
+            try:
+                process = subprocess.Popen(
+                    words, stdin=subprocess.DEVNULL, stdout=output, stderr=errors, start_new_session=is_posix
+                )
+            except OSError as error:
+                raise Trouble(error.strerror or str(error), words[0]) from error
+            try:
+                return self._wait(process)
+            finally:
+                _kill(process)
+
+    def _wait(self, process: subprocess.Popen[bytes]) -> Optional[int]:
+        until = time.monotonic() + self._timeout
+        while not self._is_ended.is_set() and time.monotonic() < until:
+            try:
+                return process.wait(min(PATIENCE, self._timeout))
+            except subprocess.TimeoutExpired:
+                pass
+        return None
+
+
+def _kill(process: subprocess.Popen[bytes]) -> None:
+    """Ends a command that hasn't ended, with all that it has started."""
+    if process.poll() is None:
+        if os.name == "posix":
+            os.killpg(process.pid, signal.SIGKILL)
+        else:
+            process.kill()
+        process.wait()
+
+
+def run_case(case: Case, command: Optional[Command]) -> Result:
+    """Runs a case. Without a command it's left out."""
+    rule = case.rule()
+    if command is None:
+        return Result(case, rule, SKIPPED, Comparison(), reason="the script is bytes, and --bytes has no command")
+    with tempfile.TemporaryDirectory(prefix="vga-report-") as name:
+        folder = Path(name)
+        script, report, messages = folder / f"script{case.suffix}", folder / "report", folder / "messages"
+        script.write_bytes(case.script())
+        status = command.run(case, script, report, messages)
+        if status is None:
+            return Result(case, rule, FAILED, Comparison(), reason="the command took too long")
+        return _judged(case, rule, status, report, _last_line(messages))
+
+
+def _judged(case: Case, rule: str, status: int, report: Path, message: str) -> Result:
+    """The result of a command that has ended with this status and this last message."""
+    ended = f"the command ended with status {status}" + (f": {message}" if message else "")
+    if status and not report.stat().st_size:
+        fault = FAULT.search(message)
+        if fault is None:
+            return Result(case, rule, FAILED, Comparison(), reason=ended)
+        line = io.BytesIO(fault[0].encode() + b"\n")
+        return _compared(case, rule, io.BufferedReader(line))  # type: ignore[arg-type]
+    with open(report, "rb") as stream:
+        result = _compared(case, rule, stream)
+    if status and result.difference is None:
+        return Result(case, rule, FAILED, result.comparison, reason=result.reason or ended)
+    return result
+
+
+def _compared(case: Case, rule: str, report: io.BufferedReader) -> Result:
+    """Compares a report with the one that is expected."""
+    comparison = Comparison()
+    with open(case.expected, "rb") as expected:
+        steps = Report(report, REPORT_NAME).steps()
+        others = Expected(expected, str(case.expected)).steps()
+        try:
+            difference = next(comparison.differences(steps, others), None)
+        except Trouble as trouble:
+            if trouble.name != REPORT_NAME:
+                raise
+            return Result(case, rule, FAILED, comparison, reason=str(trouble))
+    if difference is not None:
+        return Result(case, rule, DIFFERS, comparison, difference=difference)
+    if comparison.skipped:
+        reason = f"{comparison.skipped} of {comparison.steps} steps are skipped, the others agree"
+        return Result(case, rule, SKIPPED, comparison, reason=reason)
+    return Result(case, rule, AGREES, comparison)
+
+
+def _last_line(messages: Path) -> str:
+    """The last line that a command said on standard error."""
+    with open(messages, "rb") as stream:
+        length = stream.seek(0, io.SEEK_END)
+        stream.seek(max(0, length - MOST_MESSAGE))
+        said = stream.read().decode("utf-8", "replace").split("\n")
+    lines = [line.strip() for line in said if line.strip()]
+    return printable(lines[-1]) if lines else ""

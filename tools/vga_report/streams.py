@@ -1,0 +1,47 @@
+"""Files by their names, where `-` is standard input or standard output."""
+
+from __future__ import annotations
+
+import io
+import os
+import stat
+import sys
+from contextlib import contextmanager
+from typing import BinaryIO, Iterator, cast
+
+STANDARD = "-"
+
+
+def shown_name(path: str, standard: str) -> str:
+    """What messages call a file."""
+    return standard if path == STANDARD else path
+
+
+@contextmanager
+def reading(path: str) -> Iterator[io.BufferedReader]:
+    """A file that is read, as bytes."""
+    if path == STANDARD:
+        yield cast(io.BufferedReader, sys.stdin.buffer)
+    else:
+        with open(path, "rb") as stream:
+            yield stream
+
+
+@contextmanager
+def writing(path: str) -> Iterator[BinaryIO]:
+    """A file that is written, as bytes. What stood in it is gone."""
+    if path == STANDARD:
+        yield sys.stdout.buffer
+        sys.stdout.buffer.flush()
+    else:
+        with open(path, "wb") as stream:
+            yield stream
+
+
+def length_of(stream: BinaryIO) -> int:
+    """How many bytes a file has; 0 where that can't be known, as of a pipe."""
+    try:
+        status = os.fstat(stream.fileno())
+    except OSError:
+        return 0
+    return status.st_size if stat.S_ISREG(status.st_mode) else 0

@@ -1,0 +1,14 @@
+"""What ends the work, told with the file and the line where it stands."""
+
+from __future__ import annotations
+
+from typing import Optional
+
+
+class Trouble(Exception):
+    """A file that can't be read as what it should be, or a word of the command line that can't be meant."""
+
+    def __init__(self, reason: str, name: Optional[str] = None, line: Optional[int] = None) -> None:
+        place = "" if name is None else f"{name}: " if line is None else f"{name}:{line}: "
+        super().__init__(place + reason)
+        self.name = name
