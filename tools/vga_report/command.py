@@ -257,24 +257,36 @@ def _work(words: argparse.Namespace, progress: Progress) -> int:
     except Trouble as trouble:
         reason = str(trouble)
     except OSError as error:
-        reason = f"{error.filename}: {error.strerror}" if error.filename else str(error)
-    finally:
-        progress.clear()
-        sys.stdout.flush()
+        reason = f"{error.filename or 'standard output'}: {error.strerror}"
+    progress.clear()
+    sys.stdout.flush()
     print(f"vga-report: {reason}", file=sys.stderr)
     return TROUBLE
 
 
+def _drop_output() -> None:
+    """Drops what can't be written, which would fail once more when Python ends."""
+    os.dup2(os.open(os.devnull, os.O_WRONLY), sys.stdout.fileno())
+
+
 def main(words: Optional[Sequence[str]] = None) -> int:
     """Runs a command line, and answers its exit status."""
+    if sys.stdout is None or sys.stdin is None or sys.stderr is None:
+        return TROUBLE
     parsed = _parser().parse_args(words)
     # Text on a terminal shows by itself how far the work has come.
     progress = Progress(is_wanted=parsed.job is not text or not sys.stdout.isatty())
     try:
-        return _work(parsed, progress)
+        status = _work(parsed, progress)
+        sys.stdout.flush()
+        return status
     except BrokenPipeError:
-        # Nobody reads on. What is left in the buffer must not fail when Python ends.
-        os.dup2(os.open(os.devnull, os.O_WRONLY), sys.stdout.fileno())
-        return PIPE_CLOSED
+        status = PIPE_CLOSED
     except KeyboardInterrupt:
-        return INTERRUPTED
+        status = INTERRUPTED
+    except OSError as error:
+        print(f"vga-report: standard output: {error.strerror}", file=sys.stderr)
+        status = TROUBLE
+    progress.clear()
+    _drop_output()
+    return status

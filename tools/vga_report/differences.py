@@ -6,7 +6,7 @@ from itertools import zip_longest
 from typing import Iterator, NamedTuple, Optional
 
 from .picture import Picture, different_dots
-from .report import Step
+from .report import SKIPPED, Step
 
 END = "the end"
 
@@ -102,7 +102,7 @@ class Comparison:
                 return
             self.steps += 1
             self.pictures += step.picture is not None
-            if step.is_skipped or other.is_skipped:
+            if step.answer == SKIPPED or other.answer == SKIPPED:
                 self.skipped += 1
             elif not _are_alike(step, other):
                 yield Difference(step, other)

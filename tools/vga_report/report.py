@@ -23,6 +23,8 @@ READ = re.compile(r"[0-9A-F]{2}|[0-9A-F]{4}")
 REFUSED = re.compile(r"E[1-9][0-9]? [A-Z][A-Za-z]*")
 FAULT = re.compile(r"F[1-9][0-9]? [A-Z][A-Za-z]*(\([0-9]+\))?")
 SKIPPED = "skipped"
+# The answers of most steps: they are found by a look, which makes long reports quick to read.
+PLAIN = {b"%s\n" % answer.encode(): answer for answer in ("ok", SKIPPED, *("%02X" % value for value in range(256)))}
 # What may stand where the lines of an answer have ended.
 DIGITS_OR_END = (b"", *(b"%d" % digit for digit in range(10)))
 
@@ -47,11 +49,6 @@ class Step(NamedTuple):
         return (self.answer, *self.others)
 
     @property
-    def is_skipped(self) -> bool:
-        """Whether a harness left the step out."""
-        return self.answer == SKIPPED
-
-    @property
     def kind(self) -> str:
         """What kind of answer it is, where another kind may look like it."""
         if self.number == 0:
@@ -62,9 +59,10 @@ class Step(NamedTuple):
 
     def text(self) -> str:
         """Its lines, with a picture as one line; it ends with a newline."""
-        front = f"{self.number} " if self.number else ""
+        if not (self.others or self.picture):
+            return f"{self.number} {self.answer}\n" if self.number else f"{self.answer}\n"
         picture = "" if self.picture is None else f" {self.picture.size} {self.picture.sum}"
-        return front + "\n".join(self.lines) + picture + "\n"
+        return f"{self.number} " + "\n".join(self.lines) + picture + "\n"
 
 
 class Report:
@@ -75,57 +73,55 @@ class Report:
         self._name = name
         self._progress = progress or Progress(is_wanted=False)
         self._length = length_of(stream)
-        self._read = 0
         self._line = 0
 
     def steps(self) -> Iterator[Step]:
         """The steps in their order; a Trouble where the report is damaged, behind the steps before that place."""
         number = 1
-        line = self._next_line()
-        while line:
-            if line == b"%d ok\n" % number:
-                yield Step(number, self._line, "ok")
-            else:
-                step = self._step(number, line)
-                yield step
-                number = step.number
-            number += 1
-            line = self._next_line()
+        try:
+            for line in iter(self._next_line, b""):
+                front = b"%d " % number
+                plain = PLAIN.get(line[len(front):]) if line.startswith(front) else None
+                yield Step(number, self._line, plain) if plain is not None else self._step(number, line)
+                number += 1
+        except OSError as error:
+            raise self._trouble(error.strerror or str(error)) from error
 
     def _step(self, number: int, line: bytes) -> Step:
         """The step that begins with a line, and has this number if it is one."""
         text = self._text_of(line)
         place = self._line
         if number == 1 and FAULT.fullmatch(text):
-            self._refuse_more()
-            return Step(0, place, text)
+            return self._fault(text)
         front, _, answer = text.partition(" ")
         if front != str(number) or not answer:
             raise self._trouble(f"step {number} is to come, and not '{_front_of(text)}'")
         announced = PICTURE.fullmatch(answer)
         if announced is not None:
             return Step(number, place, answer, (), self._picture(number, int(announced[1])))
-        if REFUSED.fullmatch(answer) or READ.fullmatch(answer) or answer == SKIPPED:
+        if REFUSED.fullmatch(answer) or READ.fullmatch(answer):
             return Step(number, place, answer)
         return Step(number, place, answer, tuple(self._other_lines()))
 
+    def _fault(self, text: str) -> Step:
+        """The step of a fault in the place of a report, behind which nothing may stand."""
+        if self._next_line():
+            raise self._trouble("something stands behind a fault")
+        return Step(0, 1, text)
+
     def _next_line(self) -> bytes:
-        """The next line with its newline; nothing at the report's end."""
-        try:
-            line = self._stream.readline(MOST_LINE)
-        except OSError as error:
-            raise self._trouble(error.strerror or str(error), self._line + 1) from error
-        self._read += len(line)
+        """The next line with its newline, as far as there is one; nothing at the report's end."""
         self._line += 1
-        if line and line[-1] != 0x0A:
-            is_long = len(line) == MOST_LINE
-            raise self._trouble("the line is longer than any answer" if is_long else "the report ends within a line")
         if self._line % LINES_BETWEEN == 0:
             self._tell_progress()
-        return line
+        return self._stream.readline(MOST_LINE)
 
     def _text_of(self, line: bytes) -> str:
-        """A line's text."""
+        """A line's text, without its newline."""
+        if len(line) == MOST_LINE:
+            raise self._trouble("the line is longer than any answer")
+        if not line.endswith(b"\n"):
+            raise self._trouble("the report ends within a line")
         if line.endswith(b"\r\n"):
             raise self._trouble("the line ends with a carriage return: a report is bytes, not a system's text")
         if TEXT.fullmatch(line) is None:
@@ -143,7 +139,6 @@ class Report:
             raise self._trouble(f"step {number} has a picture of {length} bytes, and {MOST_PICTURE} are the most")
         ppm = self._stream.read(length)
         newline = self._stream.read(1)
-        self._read += length + 1
         if len(ppm) < length:
             raise self._trouble(f"the picture of step {number} is cut off: of {length} bytes there are {len(ppm)}")
         if newline != b"\n":
@@ -154,18 +149,13 @@ class Report:
         except ValueError as error:
             raise self._trouble(f"step {number}: {error}") from error
 
-    def _refuse_more(self) -> None:
-        """Behind a fault in the place of a report nothing may stand."""
-        if self._next_line():
-            raise self._trouble("something stands behind a fault")
-
     def _tell_progress(self) -> None:
         if self._progress.is_due():
-            share = f", {100 * self._read // self._length} %" if self._length else ""
-            self._progress.tell(f"{self._name}: {self._read / 1e6:.0f} MB{share}")
+            share = f"{100 * self._stream.tell() // self._length} %" if self._length else f"{self._line} lines"
+            self._progress.tell(f"{self._name}: {share}")
 
-    def _trouble(self, reason: str, line: Optional[int] = None) -> Trouble:
-        return Trouble(reason, self._name, line or self._line)
+    def _trouble(self, reason: str) -> Trouble:
+        return Trouble(reason, self._name, self._line)
 
 
 def _front_of(text: str) -> str:

@@ -9,6 +9,8 @@ import sys
 from contextlib import contextmanager
 from typing import BinaryIO, Iterator, cast
 
+from .trouble import Trouble
+
 STANDARD = "-"
 
 
@@ -32,10 +34,12 @@ def writing(path: str) -> Iterator[BinaryIO]:
     """A file that is written, as bytes. What stood in it is gone."""
     if path == STANDARD:
         yield sys.stdout.buffer
-        sys.stdout.buffer.flush()
-    else:
+        return
+    try:
         with open(path, "wb") as stream:
             yield stream
+    except OSError as error:
+        raise Trouble(error.strerror or str(error), path) from error
 
 
 def length_of(stream: BinaryIO) -> int:
