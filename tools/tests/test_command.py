@@ -127,6 +127,28 @@ class Compare(Files):
         self.assertEqual(run("compare", "-", "-"), (2, b"", "vga-report: standard input can be read once\n"))
 
 
+class Pipes(Files):
+    def test_the_writer_of_standard_input_is_not_cut_off(self) -> None:
+        data = report(PICTURE, *("ok" for _ in range(50000)))
+        process = subprocess.Popen(
+            [sys.executable, PROGRAM, "pictures", "-", "-", "--step", "1"],
+            stdin=subprocess.PIPE, stdout=subprocess.DEVNULL,
+        )
+        assert process.stdin is not None
+        with process, process.stdin:
+            process.stdin.write(data)
+        self.assertEqual(process.returncode, 0)
+
+    def test_a_full_disk(self) -> None:
+        path = self.report("r", *("ok" for _ in range(50000)))
+        if not Path("/dev/full").exists():
+            self.skipTest("this system has no disk that is always full")
+        with open("/dev/full", "wb") as full:
+            done = subprocess.run([sys.executable, PROGRAM, "text", path], stdout=full, stderr=subprocess.PIPE)
+        message = b"vga-report: standard output: No space left on device\n"
+        self.assertEqual((done.returncode, done.stderr), (2, message))
+
+
 class Check(Files):
     def test_as_expected_and_not(self) -> None:
         path, expected = self.report("r", "ok", "ok", "55"), self.folder / "e"
@@ -197,6 +219,27 @@ class Suite(Files):
     def test_a_skipped_step_hides_no_difference(self) -> None:
         self.case("a/one", "frame\nget A0000\n", "1 ragged\n2 55\n")
         self.assertIn("a/one: step 2: FF, not 55\n", self.run_suite()[1])
+
+    def test_a_bus_that_refuses_nothing(self) -> None:
+        self.case("a/one", "get A0000\nget A0000\n", "1 E1 NotDecoded\n2 FF\n")
+        self.case("a/two", "get A0000\nget A0000\n", "1 E1 NotDecoded\n2 55\n")
+        self.assertEqual(self.run_suite()[1].splitlines()[-1], "2 cases: 2 differ")
+        output = self.run_suite("--no-refusals")[1]
+        self.assertIn("a/one: 1 of 2 steps are skipped, the others agree\n", output)
+        self.assertIn("a/two: step 2: FF, not 55\n", output)
+
+    def test_scripts_as_they_are_handed_over(self) -> None:
+        self.write("front", "out 3C2 01\n")
+        self.lines.append("front front")
+        self.case("a/one", "frame\nframe\n", "", "a/one until 2")
+        self.write("b/two.hex", "56*2")
+        self.lines.append("bytes b/two")
+        path, folder = self.write("list.txt", "\n".join(self.lines) + "\n"), self.folder / "scripts"
+        names = f"{folder / 'a/one.vga'}\n{folder / 'b/two.bin'}\n".encode()
+        self.assertEqual(run("scripts", folder, "--list", path), (0, names, ""))
+        looks = b"show regs\nshow beam\nshow latches\nshow bda\n"
+        self.assertEqual((folder / "a/one.vga").read_bytes(), b"out 3C2 01\nframe\n" + looks)
+        self.assertEqual((folder / "b/two.bin").read_bytes(), b"VV")
 
     def test_commands_that_fail(self) -> None:
         for script, reason in [

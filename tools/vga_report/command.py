@@ -17,7 +17,7 @@ from .picture import Picture
 from .png import Shape, write_marked_png, write_png
 from .progress import Progress
 from .report import Report, Step
-from .running import AGREES, DIFFERS, FAILED, SKIPPED, Command, Result, run_case
+from .running import AGREES, DIFFERS, FAILED, Command, Result, run_case
 from .streams import STANDARD, reading, shown_name, writing
 from .table import counts_of, json_text, table_lines
 from .trouble import Trouble
@@ -165,24 +165,7 @@ def check(words: argparse.Namespace, progress: Progress) -> int:
 
 def suite(words: argparse.Namespace, progress: Progress) -> int:
     """Holds a command to the suite."""
-    is_ended = Event()
-    command = Command(words.command, words.timeout, is_ended)
-    bytes_command = Command(words.bytes, words.timeout, is_ended) if words.bytes else None
-    cases = [case for case in read_cases(words.list) if case.name.startswith(words.only)]
-    if not cases:
-        raise Trouble(f"no case begins with '{words.only}'", _name_of(words.list))
-    results: list[Result] = []
-    with ThreadPoolExecutor(words.jobs) as pool:
-        try:
-            runs = pool.map(lambda case: run_case(case, bytes_command if case.is_bytes else command), cases)
-            for result in runs:
-                results.append(result)
-                if progress.is_due():
-                    progress.tell(_suite_progress(results, len(cases)))
-        except BaseException:
-            is_ended.set()
-            pool.shutdown(wait=False, cancel_futures=True)
-            raise
+    results = _results(words, _chosen_cases(words), progress)
     progress.clear()
     lines = table_lines(results)
     _write(json_text(words.command, results) if words.json else "".join(line + "\n" for line in lines))
@@ -190,10 +173,45 @@ def suite(words: argparse.Namespace, progress: Progress) -> int:
     return DIFFERED if counts[DIFFERS] or counts[FAILED] or not counts[AGREES] else AGREED
 
 
-def _suite_progress(results: list[Result], count: int) -> str:
-    counts = counts_of(results)
-    wrong = counts[DIFFERS] + counts[FAILED]
-    return f"{len(results)} of {count} cases, {wrong} don't agree: {results[-1].case.name}"
+def _chosen_cases(words: argparse.Namespace) -> list[Case]:
+    """The cases of the list whose names begin as it is wanted."""
+    cases = [case for case in read_cases(words.list) if case.name.startswith(words.only)]
+    if not cases:
+        raise Trouble(f"no case begins with '{words.only}'", _name_of(words.list))
+    return cases
+
+
+def _results(words: argparse.Namespace, cases: list[Case], progress: Progress) -> list[Result]:
+    """What comes of the cases, in their order."""
+    is_ended = Event()
+    commands = [
+        Command(given, words.timeout, words.refusals, is_ended) if given else None
+        for given in (words.command, words.bytes)
+    ]
+    results: list[Result] = []
+    with ThreadPoolExecutor(words.jobs) as pool:
+        try:
+            for result in pool.map(lambda case: run_case(case, commands[case.is_bytes]), cases):
+                results.append(result)
+                if progress.is_due():
+                    counts = counts_of(results)
+                    wrong = counts[DIFFERS] + counts[FAILED]
+                    progress.tell(f"{len(results)} of {len(cases)} cases, {wrong} don't agree: {result.case.name}")
+        except BaseException:
+            is_ended.set()
+            pool.shutdown(wait=False, cancel_futures=True)
+            raise
+    return results
+
+
+def scripts(words: argparse.Namespace, progress: Progress) -> int:
+    """Writes the scripts of the suite's cases into a folder, as `suite` hands them to a command."""
+    for case in _chosen_cases(words):
+        path = Path(words.folder) / (case.name + case.suffix)
+        path.parent.mkdir(parents=True, exist_ok=True)
+        path.write_bytes(case.script())
+        _write(f"{path}\n")
+    return AGREED
 
 
 def _positive(word: str) -> int:
@@ -209,6 +227,11 @@ _positive.__name__ = "number above 0"
 def _add_shape(parser: argparse.ArgumentParser) -> None:
     parser.add_argument("--scale", type=_positive, default=1, metavar="N", help="each dot N times as wide and as high")
     parser.add_argument("--aspect", action="store_true", help="stretched to 4:3, the shape that a monitor shows")
+
+
+def _add_cases(parser: argparse.ArgumentParser) -> None:
+    parser.add_argument("--list", default=str(SUITE), metavar="FILE", help="the list of cases; else the project's")
+    parser.add_argument("--only", default="", metavar="FRONT", help="cases whose names begin so, as `dots/`")
 
 
 def _parser() -> argparse.ArgumentParser:
@@ -239,11 +262,14 @@ def _parser() -> argparse.ArgumentParser:
     add(check, "report", "expected")
     adding = add(suite, "command")
     adding.add_argument("--bytes", metavar="COMMAND", help="runs scripts of bytes; without it they are left out")
-    adding.add_argument("--list", default=str(SUITE), metavar="FILE", help="the list of cases; else the project's")
-    adding.add_argument("--only", default="", metavar="FRONT", help="cases whose names begin so, as `dots/`")
+    _add_cases(adding)
+    adding.add_argument(
+        "--no-refusals", dest="refusals", action="store_false", help="steps that are to be refused count as skipped"
+    )
     adding.add_argument("--timeout", type=float, default=60, metavar="SECONDS", help="for each case; else 60")
     adding.add_argument("--jobs", type=_positive, default=1, metavar="N", help="so many commands at a time; else 1")
     adding.add_argument("--json", action="store_true", help="the table for machines")
+    _add_cases(add(scripts, "folder"))
     return parser
 
 

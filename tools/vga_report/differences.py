@@ -6,7 +6,7 @@ from itertools import zip_longest
 from typing import Iterator, NamedTuple, Optional
 
 from .picture import Picture, different_dots
-from .report import SKIPPED, Step
+from .report import REFUSAL, SKIPPED, Step
 
 END = "the end"
 
@@ -87,9 +87,14 @@ def _pictures(step: Step, other: Step) -> tuple[str, str]:
 
 
 class Comparison:
-    """Walks through two reports side by side, and counts what it has seen."""
+    """Walks through two reports side by side, and counts what it has seen.
 
-    def __init__(self) -> None:
+    Without refusals, the first report is that of a bus that refuses nothing: where the other has a refusal, any
+    answer counts as skipped.
+    """
+
+    def __init__(self, has_refusals: bool = True) -> None:
+        self._has_refusals = has_refusals
         self.steps = 0
         self.pictures = 0
         self.skipped = 0
@@ -105,7 +110,10 @@ class Comparison:
             if step.answer == SKIPPED or other.answer == SKIPPED:
                 self.skipped += 1
             elif not _are_alike(step, other):
-                yield Difference(step, other)
+                if self._has_refusals or other.kind != REFUSAL:
+                    yield Difference(step, other)
+                else:
+                    self.skipped += 1
 
     def text(self) -> str:
         """What was seen."""

@@ -23,6 +23,8 @@ READ = re.compile(r"[0-9A-F]{2}|[0-9A-F]{4}")
 REFUSED = re.compile(r"E[1-9][0-9]? [A-Z][A-Za-z]*")
 FAULT = re.compile(r"F[1-9][0-9]? [A-Z][A-Za-z]*(\([0-9]+\))?")
 SKIPPED = "skipped"
+# The kinds of answers that may look like one another.
+VALUE, REFUSAL, RUN_FAULT = "read", "refused", "fault"
 # The answers of most steps: they are found by a look, which makes long reports quick to read.
 PLAIN = {b"%s\n" % answer.encode(): answer for answer in ("ok", SKIPPED, *("%02X" % value for value in range(256)))}
 # What may stand where the lines of an answer have ended.
@@ -52,10 +54,10 @@ class Step(NamedTuple):
     def kind(self) -> str:
         """What kind of answer it is, where another kind may look like it."""
         if self.number == 0:
-            return "fault"
+            return RUN_FAULT
         if READ.fullmatch(self.answer):
-            return "read"
-        return "refused" if REFUSED.fullmatch(self.answer) else ""
+            return VALUE
+        return REFUSAL if REFUSED.fullmatch(self.answer) else ""
 
     def text(self) -> str:
         """Its lines, with a picture as one line; it ends with a newline."""

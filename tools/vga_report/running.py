@@ -50,13 +50,14 @@ class Result:
 class Command:
     """A command with places for a case's files."""
 
-    def __init__(self, text: str, timeout: float, is_ended: Event) -> None:
+    def __init__(self, text: str, timeout: float, has_refusals: bool, is_ended: Event) -> None:
         try:
             self._words = shlex.split(text)
         except ValueError as error:
             raise Trouble(f"the command '{text}': {error}") from error
         if not any("{script}" in word or "{name}" in word for word in self._words):
             raise Trouble(f"the command '{text}' has neither {{script}} nor {{name}}")
+        self.has_refusals = has_refusals
         self._timeout = timeout
         self._is_ended = is_ended
 
@@ -115,28 +116,28 @@ def run_case(case: Case, command: Optional[Command]) -> Result:
         status = command.run(case, script, report, messages)
         if status is None:
             return Result(case, rule, FAILED, Comparison(), reason="the command took too long")
-        return _judged(case, rule, status, report, _last_line(messages))
+        comparison = Comparison(command.has_refusals)
+        return _judged(case, rule, comparison, status, report, _last_line(messages))
 
 
-def _judged(case: Case, rule: str, status: int, report: Path, message: str) -> Result:
+def _judged(case: Case, rule: str, comparison: Comparison, status: int, report: Path, message: str) -> Result:
     """The result of a command that has ended with this status and this last message."""
     ended = f"the command ended with status {status}" + (f": {message}" if message else "")
     if status and not report.stat().st_size:
         fault = FAULT.search(message)
         if fault is None:
-            return Result(case, rule, FAILED, Comparison(), reason=ended)
+            return Result(case, rule, FAILED, comparison, reason=ended)
         line = io.BytesIO(fault[0].encode() + b"\n")
-        return _compared(case, rule, io.BufferedReader(line))  # type: ignore[arg-type]
+        return _compared(case, rule, comparison, io.BufferedReader(line))  # type: ignore[arg-type]
     with open(report, "rb") as stream:
-        result = _compared(case, rule, stream)
-    if status and result.difference is None:
-        return Result(case, rule, FAILED, result.comparison, reason=result.reason or ended)
+        result = _compared(case, rule, comparison, stream)
+    if status and result.answer in (AGREES, SKIPPED):
+        return Result(case, rule, FAILED, comparison, reason=ended)
     return result
 
 
-def _compared(case: Case, rule: str, report: io.BufferedReader) -> Result:
+def _compared(case: Case, rule: str, comparison: Comparison, report: io.BufferedReader) -> Result:
     """Compares a report with the one that is expected."""
-    comparison = Comparison()
     with open(case.expected, "rb") as expected:
         steps = Report(report, REPORT_NAME).steps()
         others = Expected(expected, str(case.expected)).steps()

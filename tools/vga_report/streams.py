@@ -12,6 +12,8 @@ from typing import BinaryIO, Iterator, cast
 from .trouble import Trouble
 
 STANDARD = "-"
+# So many bytes are dropped at a time.
+DRAINED = 1 << 16
 
 
 def shown_name(path: str, standard: str) -> str:
@@ -21,9 +23,12 @@ def shown_name(path: str, standard: str) -> str:
 
 @contextmanager
 def reading(path: str) -> Iterator[io.BufferedReader]:
-    """A file that is read, as bytes."""
+    """A file that is read, as bytes. Standard input is read to its end, so that its writer doesn't fail."""
     if path == STANDARD:
-        yield cast(io.BufferedReader, sys.stdin.buffer)
+        stream = cast(io.BufferedReader, sys.stdin.buffer)
+        yield stream
+        while not sys.stdin.isatty() and stream.read(DRAINED):
+            pass
     else:
         with open(path, "rb") as stream:
             yield stream
