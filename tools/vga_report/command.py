@@ -33,15 +33,15 @@ def _name_of(path: str) -> str:
 
 
 def _write(text: str) -> None:
-    """Writes text on standard output, behind what was written there as bytes."""
+    """Writes text on standard output."""
     sys.stdout.buffer.write(text.encode("utf-8", "replace"))
 
 
 def text(words: argparse.Namespace, progress: Progress) -> int:
     """Writes a report as text."""
-    with reading(words.report) as stream, writing(STANDARD):
+    with reading(words.report) as stream, writing(STANDARD) as output:
         for step in Report(stream, _name_of(words.report), progress).steps():
-            _write(step.text())
+            output.write(step.text().encode("ascii"))
     return AGREED
 
 

@@ -6,7 +6,7 @@ import re
 from typing import BinaryIO, Iterator, Optional
 
 from .picture import Digest, Picture
-from .report import FAULT, MOST_LINE, Step
+from .report import FAULT, MOST_LINE, TEXT, Step
 from .trouble import Trouble
 
 OK_STEPS = re.compile(r"([1-9][0-9]*)-([1-9][0-9]*) ok")
@@ -105,10 +105,9 @@ class Expected:
         self._line += 1
         if not line.endswith(b"\n"):
             raise self._trouble("the line lacks its newline, or is too long")
-        try:
-            return line[:-1].decode("ascii")
-        except UnicodeDecodeError as error:
-            raise self._trouble("the line has bytes that no answer has") from error
+        if TEXT.fullmatch(line) is None:
+            raise self._trouble("the line is empty, or has bytes that no answer has")
+        return line[:-1].decode("ascii")
 
     def _trouble(self, reason: str) -> Trouble:
         return Trouble(reason, self._name, self._line)

@@ -2,7 +2,7 @@
 
 from __future__ import annotations
 
-import os
+import shutil
 import sys
 import time
 
@@ -25,7 +25,7 @@ class Progress:
 
     def tell(self, text: str) -> None:
         """Shows a text in the place of the last one."""
-        self._show(text[: os.get_terminal_size(sys.stderr.fileno()).columns - 1])
+        self._show(text[: shutil.get_terminal_size().columns - 1])
         self._next = time.monotonic() + PAUSE
 
     def clear(self) -> None:

@@ -38,7 +38,10 @@ def reading(path: str) -> Iterator[io.BufferedReader]:
 def writing(path: str) -> Iterator[BinaryIO]:
     """A file that is written, as bytes. What stood in it is gone."""
     if path == STANDARD:
-        yield sys.stdout.buffer
+        sys.stdout.flush()
+        # Python's own stream has no buffer where the user wants none, and lines are many.
+        with open(sys.stdout.fileno(), "wb", closefd=False) as stream:
+            yield stream
         return
     try:
         with open(path, "wb") as stream:
