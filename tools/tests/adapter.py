@@ -1,6 +1,6 @@
 """A harness for tests: reads a script's text, and answers each step by its first word alone.
 
-    python3 adapter.py SCRIPT [FONTS]
+    python3 adapter.py SCRIPT [FONTS [--until STEPS]]
 
 `in 3CC` answers the number of bytes in the font file, `in` of another port 00, `frame` is left out, `get` answers
 FF. `wait` sleeps, `crash` ends with status 3, `cut` ends within a line, `fault` is the fault of a bad line.
@@ -8,6 +8,7 @@ FF. `wait` sleeps, `crash` ends with status 3, `cut` ends within a line, `fault`
 
 import sys
 import time
+from typing import Optional
 
 
 def answer(words: list, fonts: str) -> str:
@@ -18,11 +19,12 @@ def answer(words: list, fonts: str) -> str:
     return {"frame": "skipped", "get": "FF", "show": words[-1]}.get(words[0], "ok")
 
 
-def run(script: str, fonts: str) -> int:
+def run(script: str, fonts: str, until: Optional[int]) -> int:
     """Writes the report, and answers the exit status."""
     with open(script, encoding="ascii") as stream:
-        steps = [line.partition(";")[0].split() for line in stream]
-    for number, words in enumerate((step for step in steps if step), 1):
+        lines = [line.partition(";")[0].split() for line in stream]
+    steps = [line for line in lines if line]
+    for number, words in enumerate(steps[:until], 1):
         if words[0] == "fault":
             print("adapter: F7 BadLine(2)", file=sys.stderr)
             return 1
@@ -39,4 +41,4 @@ def run(script: str, fonts: str) -> int:
 
 
 if __name__ == "__main__":
-    sys.exit(run(sys.argv[1], (sys.argv + [""])[2]))
+    sys.exit(run(sys.argv[1], (sys.argv + [""])[2], int(sys.argv[4]) if sys.argv[3:4] == ["--until"] else None))

@@ -32,7 +32,7 @@ class Lists(Folder):
     def test_each_kind_of_line(self) -> None:
         cases = self.cases(
             "# Heading\n\nfonts zero.fnt\na/one\na/two until 5\nwrong a/three\nwrong a/three until 2\n"
-            "front text.vga\na/four\nfront none\nfonts other.fnt\nbytes b/five\n"
+            "front text.vga\na/four\nfront none\nfonts other.fnt\nbytes b/five\nbytes b/six until 0\n"
         )
         zero, other, front = self.folder / "zero.fnt", self.folder / "other.fnt", self.folder / "text.vga"
         self.assertEqual(
@@ -42,12 +42,13 @@ class Lists(Folder):
                 ("a/two", zero, None, 5, False),
                 ("a/four", zero, front, None, False),
                 ("b/five", other, None, None, True),
+                ("b/six", other, None, 0, True),
             ],
         )
-        self.assertEqual([case.group for case in cases], ["a", "a", "a", "b"])
+        self.assertEqual([case.group for case in cases], ["a", "a", "a", "b", "b"])
 
     def test_a_line_that_is_no_case(self) -> None:
-        for line in ("a b", "a until", "a until x", "bytes a until 5"):
+        for line in ("a b", "a until", "a until x", "bytes a b"):
             with self.subTest(line), self.assertRaises(Trouble) as caught:
                 self.cases("fonts zero.fnt\n" + line + "\n")
             self.assertEqual(str(caught.exception), f"{self.folder}/list.txt:2: no case: '{line}'")
@@ -56,9 +57,10 @@ class Lists(Folder):
 class Scripts(Folder):
     def script(self, line: str, **files: str) -> bytes:
         """The script of the only case of a list."""
+        self.write("one.txt", "1 ok\n")
         for name, text in files.items():
             self.write(name.replace("_", "."), text)
-        return self.cases(line)[-1].script()
+        return self.cases(line)[-1].stopped_script()
 
     def test_the_text_as_it_stands(self) -> None:
         self.assertEqual(self.script("one\n", one_vga="; é\nframe\n"), "; é\nframe\n".encode())
@@ -78,6 +80,9 @@ class Scripts(Folder):
         ]:
             with self.subTest(steps):
                 self.assertEqual(self.script(f"one until {steps}\n", one_vga=text), front + looks)
+
+    def test_a_script_with_a_mistake_stays_whole(self) -> None:
+        self.assertEqual(self.script("one until 0\n", one_vga="fram\n", one_txt="F7 BadLine(1)\n"), b"fram\n")
 
     def test_a_front_counts_among_the_steps(self) -> None:
         script = self.script("front f\none until 2\n", f="frame\n", one_vga="in 3CC\nin 3CD\n")

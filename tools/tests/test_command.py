@@ -20,7 +20,7 @@ PICTURE = ppm(9, 1, RED * 4 + BLACK * 5)
 
 def run(*words: str | Path, given: bytes = b"") -> tuple[int, bytes, str]:
     """Exit status, standard output and standard error of the command."""
-    done = subprocess.run([sys.executable, PROGRAM, *words], input=given, capture_output=True, timeout=50)
+    done = subprocess.run([sys.executable, PROGRAM, *words], input=given, capture_output=True, timeout=200)
     return done.returncode, done.stdout, done.stderr.decode()
 
 
@@ -231,7 +231,7 @@ class Suite(Files):
     def test_scripts_as_they_are_handed_over(self) -> None:
         self.write("front", "out 3C2 01\n")
         self.lines.append("front front")
-        self.case("a/one", "frame\nframe\n", "", "a/one until 2")
+        self.case("a/one", "frame\nframe\n", "1 ok\n", "a/one until 2")
         self.write("b/two.hex", "56*2")
         self.lines.append("bytes b/two")
         path, folder = self.write("list.txt", "\n".join(self.lines) + "\n"), self.folder / "scripts"
@@ -273,6 +273,22 @@ class Suite(Files):
         self.assertEqual((status, output.splitlines()[-1]), (1, "1 case: 1 skipped"))
         status, output, _ = self.run_suite("--bytes", ADAPTER + " {fonts}")
         self.assertEqual((status, output.splitlines()[-1]), (0, "1 case: 1 agree"))
+
+    def test_runs_that_are_stopped(self) -> None:
+        looks = "3 regs\n4 beam\n5 latches\n6 bda\n"
+        self.case("a/one", "get 0\nget 0\nget 0\n", "1-2 ok\n", "a/one until 2")
+        self.write("a/two.hex", "66 72 61 6D 65 0A 66 0A ; frame, f")
+        self.write("a/two.txt", "1 ragged\n")
+        self.lines.append("bytes a/two until 1")
+        self.write("a/one.txt", "1 FF\n2 FF\n" + looks)
+        output = self.run_suite("--bytes", ADAPTER)[1]
+        self.assertIn("  agrees   a/one\n", output)
+        self.assertIn("a/two: the command of --bytes has no {until}\n", output)
+        self.write("a/one.txt", "1 FF\n2 FF\n")
+        command = ADAPTER + " {fonts} {until}"
+        output = self.run_suite("--bytes", command, command=command)[1]
+        self.assertIn("  agrees   a/one\n", output)
+        self.assertIn("a/two: 1 of 1 steps are skipped, the others agree\n", output)
 
     def test_reports_that_lie_ready(self) -> None:
         self.case("a/one", "get A0000\n", "1 55\n")

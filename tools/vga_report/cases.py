@@ -7,10 +7,11 @@ from dataclasses import dataclass
 from pathlib import Path
 from typing import Iterator, Optional
 
+from .report import FAULT
 from .streams import STANDARD, reading, shown_name
 from .trouble import Trouble
 
-CASE = re.compile(r"(?P<name>[^ ]+)( until (?P<steps>[0-9]+))?|bytes (?P<bytes>[^ ]+)")
+CASE = re.compile(r"(?P<bytes>bytes )?(?P<name>[^ ]+)( until (?P<steps>[0-9]+))?")
 HEX = re.compile(r"([0-9A-Fa-f]{2})(\*([1-9][0-9]{0,7}))?")
 # What a run that stops after so many steps shows, as if these steps stood next.
 LOOKS = b"show regs\nshow beam\nshow latches\nshow bda\n"
@@ -57,12 +58,20 @@ class Case:
         return self.name
 
     def script(self) -> bytes:
-        """Its script as it is run: text, with what stands in front of it, or bytes."""
+        """Its whole script: text, with what stands in front of it, or bytes."""
         source = self.source.read_bytes()
         if self.is_bytes:
             return _bytes_of(source, self.source)
-        text = (self.front.read_bytes() if self.front else b"") + source
-        return text if self.until is None else _front_of(text, self.until) + LOOKS
+        return (self.front.read_bytes() if self.front else b"") + source
+
+    def stopped_script(self) -> bytes:
+        """The script that does the same where none can stop it: its first steps, and a look at the state.
+
+        One with a mistake stays whole, since all of it is judged before the first step.
+        """
+        if self.until is None or FAULT.match(self.expected.read_text("ascii", "replace")):
+            return self.script()
+        return _front_of(self.script(), self.until) + LOOKS
 
 
 def printable(text: str) -> str:
@@ -116,4 +125,4 @@ def _cases(lines: list[str], folder: Path, name: str) -> Iterator[Case]:
             if found is None:
                 raise Trouble(f"no case: '{line[:40]}'", name, number)
             until = None if found["steps"] is None else int(found["steps"])
-            yield Case(found["name"] or found["bytes"], folder, fonts, front, until, found["bytes"] is not None)
+            yield Case(found["name"], folder, fonts, front, until, found["bytes"] is not None)

@@ -209,7 +209,7 @@ def scripts(words: argparse.Namespace, progress: Progress) -> int:
     for case in _chosen_cases(words):
         path = Path(words.folder) / (case.name + case.suffix)
         path.parent.mkdir(parents=True, exist_ok=True)
-        path.write_bytes(case.script())
+        path.write_bytes(case.script() if case.is_bytes else case.stopped_script())
         _write(f"{path}\n")
     return AGREED
 

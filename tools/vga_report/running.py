@@ -25,6 +25,7 @@ AGREES, SKIPPED, DIFFERS, FAILED = "agrees", "skipped", "differs", "failed"
 # What messages call the report of a case.
 REPORT_NAME = "its report"
 PLACE = re.compile(r"\{(script|fonts|name)\}")
+UNTIL = "{until}"
 # So much of what a command says on standard error is read.
 MOST_MESSAGE = 4096
 # Seconds between two looks whether the user has ended the suite.
@@ -58,6 +59,7 @@ class Command:
         if not any("{script}" in word or "{name}" in word for word in self._words):
             raise Trouble(f"the command '{text}' has neither {{script}} nor {{name}}")
         self.has_refusals = has_refusals
+        self.can_stop = UNTIL in self._words
         self._timeout = timeout
         self._is_ended = is_ended
 
@@ -66,7 +68,9 @@ class Command:
         if case.fonts is None and any("{fonts}" in word for word in self._words):
             raise Trouble(f"no line `fonts FILE` stands before {case.name} in the list")
         values = {"script": str(script), "fonts": str(case.fonts), "name": case.name}
-        return [PLACE.sub(lambda place: values[place[1]], word) for word in self._words]
+        stop = [] if case.until is None else ["--until", str(case.until)]
+        words = [stop if word == UNTIL else [PLACE.sub(lambda place: values[place[1]], word)] for word in self._words]
+        return [word for some in words for word in some]
 
     def run(self, case: Case, script: Path, report: Path, messages: Path) -> Optional[int]:
         """Its exit status, or None where it took too long. What it writes stands in two files then."""
@@ -109,10 +113,12 @@ def run_case(case: Case, command: Optional[Command]) -> Result:
     rule = case.rule()
     if command is None:
         return Result(case, rule, SKIPPED, Comparison(), reason="the script is bytes, and --bytes has no command")
+    if case.is_bytes and case.until is not None and not command.can_stop:
+        return Result(case, rule, SKIPPED, Comparison(), reason=f"the command of --bytes has no {UNTIL}")
     with tempfile.TemporaryDirectory(prefix="vga-report-") as name:
         folder = Path(name)
         script, report, messages = folder / f"script{case.suffix}", folder / "report", folder / "messages"
-        script.write_bytes(case.script())
+        script.write_bytes(case.script() if command.can_stop else case.stopped_script())
         status = command.run(case, script, report, messages)
         if status is None:
             return Result(case, rule, FAILED, Comparison(), reason="the command took too long")
