@@ -2,8 +2,9 @@
 
     python3 adapter.py SCRIPT [FONTS [--until STEPS]]
 
-`in 3CC` answers the number of bytes in the font file, `in` of another port 00, `frame` is left out, `get` answers
-FF. `wait` sleeps, `crash` ends with status 3, `cut` ends within a line, `fault` is the fault of a bad line.
+`in 3CC` answers the number of bytes in the font file, `in` of another port 00, `get` FF, `show` its last word; `frame`
+is left out. `wait` leaves a file beside the font file and sleeps, `crash` ends with status 3, `cut` ends within a
+line, `fault` is the fault of a bad line.
 """
 
 import sys
@@ -32,6 +33,7 @@ def run(script: str, fonts: str, until: Optional[int]) -> int:
             print("first\nno such part\x07", file=sys.stderr)
             return 3
         if words[0] == "wait":
+            open(fonts + ".waiting", "w").close()
             time.sleep(60)
         if words[0] == "cut":
             sys.stdout.write("%d o" % number)

@@ -4,8 +4,10 @@ from __future__ import annotations
 
 import json
 import shlex
+import signal
 import subprocess
 import sys
+import time
 import unittest
 from pathlib import Path
 
@@ -115,6 +117,12 @@ class Compare(Files):
         self.assertIn(b"\n  1 of 9 dots differ, the first is dot 3 of row 0: 3F0000, not 000000\n", text)
         red, mark = b"\x55\x00\x00", b"\xff\x20\x20"
         self.assertEqual(png_rows(marked.read_bytes()), (9, 1, [red * 3 + mark + BLACK * 5]))
+
+    def test_a_marked_picture_on_standard_output(self) -> None:
+        path, other = self.report("a", PICTURE), self.report("b", ppm(9, 1, BLACK * 9))
+        status, picture, text = run("compare", path, other, "--picture", "-", "--scale", "2")
+        self.assertEqual((status, png_rows(picture)[:2]), (1, (18, 2)))
+        self.assertTrue(text.startswith("step 1 differs\n"), text)
 
     def test_no_picture_differs(self) -> None:
         path, other, marked = self.report("a", "00"), self.report("b", "01"), self.folder / "marked.png"
@@ -240,6 +248,8 @@ class Suite(Files):
         looks = b"show regs\nshow beam\nshow latches\nshow bda\n"
         self.assertEqual((folder / "a/one.vga").read_bytes(), b"out 3C2 01\nframe\n" + looks)
         self.assertEqual((folder / "b/two.bin").read_bytes(), b"VV")
+        message = "vga-report: the scripts are files: they want a folder\n"
+        self.assertEqual(run("scripts", "-", "--list", path), (2, b"", message))
 
     def test_commands_that_fail(self) -> None:
         for script, reason in [
@@ -254,6 +264,18 @@ class Suite(Files):
                 status, output, _ = self.run_suite("--timeout", "1" if script == "wait\n" else "40")
                 self.assertEqual(status, 1)
                 self.assertIn(f"  failed   a/one\n           a/one: {reason}\n", output)
+
+    @unittest.skipIf(sys.platform == "win32", "signals are of POSIX")
+    def test_an_interrupt_ends_it_silently(self) -> None:
+        self.case("a/one", "wait\n", "1 ok\n")
+        path = self.write("list.txt", "\n".join(self.lines) + "\n")
+        words = [sys.executable, PROGRAM, "suite", ADAPTER + " {fonts}", "--list", path]
+        process = subprocess.Popen(words, stdout=subprocess.PIPE, stderr=subprocess.PIPE)
+        while process.poll() is None and not (self.folder / "two.fnt.waiting").exists():
+            time.sleep(0.05)
+        process.send_signal(signal.SIGINT)
+        output, message = process.communicate(timeout=40)
+        self.assertEqual((process.returncode, output, message), (130, b"", b""))
 
     def test_a_fault_is_the_report(self) -> None:
         self.case("a/one", "fault\n", "F7 BadLine(2)\n")

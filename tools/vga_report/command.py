@@ -37,6 +37,12 @@ def _write(text: str) -> None:
     sys.stdout.buffer.write(text.encode("utf-8", "replace"))
 
 
+def _refuse_twice(*paths: str) -> None:
+    """Standard input can be read once."""
+    if paths.count(STANDARD) > 1:
+        raise Trouble("standard input can be read once")
+
+
 def text(words: argparse.Namespace, progress: Progress) -> int:
     """Writes a report as text."""
     with reading(words.report) as stream, writing(STANDARD) as output:
@@ -94,8 +100,7 @@ def _write_picture(words: argparse.Namespace, stem: str, picture: Picture, shape
 
 def compare(words: argparse.Namespace, progress: Progress) -> int:
     """Tells the first step in which two reports differ."""
-    if words.report == words.other == STANDARD:
-        raise Trouble("standard input can be read once")
+    _refuse_twice(words.report, words.other)
     name, other_name = _name_of(words.report), _name_of(words.other)
     comparison = Comparison()
     with reading(words.report) as stream, reading(words.other) as other_stream:
@@ -105,7 +110,7 @@ def compare(words: argparse.Namespace, progress: Progress) -> int:
         count = _tell_differences(differences, (name, other_name), words, progress)
     if not count:
         progress.clear()
-        _write(f"{name} and {other_name} agree: {comparison.text()}\n")
+        _tell(f"{name} and {other_name} agree: {comparison.text()}\n", words)
     return DIFFERED if count else AGREED
 
 
@@ -119,7 +124,7 @@ def _tell_differences(
         found = difference.pictures()
         if words.all or count == 1:
             progress.clear()
-            _tell(difference, names)
+            _tell(_difference_text(difference, names), words)
         if wants_picture and found is not None:
             with writing(words.picture) as stream:
                 write_marked_png(stream, *found, Shape(words.scale, words.aspect))
@@ -132,21 +137,26 @@ def _tell_differences(
     return count
 
 
-def _tell(difference: Difference, names: tuple[str, str]) -> None:
-    """Tells a step that differs, with both answers and where they stand."""
-    _write(f"{difference.place} differs\n")
+def _tell(text: str, words: argparse.Namespace) -> None:
+    """Writes text, on standard error where a picture goes to standard output."""
+    if words.picture == STANDARD:
+        sys.stderr.write(text)
+    else:
+        _write(text)
+
+
+def _difference_text(difference: Difference, names: tuple[str, str]) -> str:
+    """A step that differs, with both answers and where they stand."""
+    lines = [f"{difference.place} differs"]
     for name, step, answer in zip(names, difference, difference.answers()):
-        place = name if step is None else f"{name}:{step.line}"
-        _write(f"  {place}: {answer}\n")
+        lines.append(f"  {name}: {answer}" if step is None else f"  {name}:{step.line}: {answer}")
     dots = difference.dots()
-    if dots:
-        _write(f"  {dots}\n")
+    return "\n".join(lines + ([f"  {dots}"] if dots else [])) + "\n"
 
 
 def check(words: argparse.Namespace, progress: Progress) -> int:
     """Compares a report with the one that is expected."""
-    if words.report == words.expected == STANDARD:
-        raise Trouble("standard input can be read once")
+    _refuse_twice(words.report, words.expected)
     name, expected_name = _name_of(words.report), _name_of(words.expected)
     comparison = Comparison()
     with reading(words.report) as stream, reading(words.expected) as expected:
@@ -206,6 +216,8 @@ def _results(words: argparse.Namespace, cases: list[Case], progress: Progress) -
 
 def scripts(words: argparse.Namespace, progress: Progress) -> int:
     """Writes the scripts of the suite's cases into a folder, as `suite` hands them to a command."""
+    if words.folder == STANDARD:
+        raise Trouble("the scripts are files: they want a folder")
     for case in _chosen_cases(words):
         path = Path(words.folder) / (case.name + case.suffix)
         path.parent.mkdir(parents=True, exist_ok=True)

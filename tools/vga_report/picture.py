@@ -69,11 +69,6 @@ class Picture:
         """The MD5 of its PPM, hexadecimal."""
         return hashlib.md5(self.ppm).hexdigest()
 
-    @property
-    def digest(self) -> Digest:
-        """Length, size and sum."""
-        return Digest(self.length, self.size, self.sum)
-
     def row(self, y: int) -> bytes:
         """The dots of a row, three bytes each."""
         start = len(self.ppm) - 3 * self.width * (self.height - y)

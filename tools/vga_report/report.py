@@ -41,11 +41,6 @@ class Step(NamedTuple):
     picture: Union[Picture, Digest, None] = None
 
     @property
-    def place(self) -> str:
-        """The step in messages."""
-        return f"step {self.number}" if self.number else "the run"
-
-    @property
     def lines(self) -> tuple[str, ...]:
         """The lines of the answer."""
         return (self.answer, *self.others)
