@@ -61,6 +61,9 @@ class Reports(unittest.TestCase):
         other = ppm(3, 2, RED * 2 + BLACK * 2 + WHITE * 2)
         text = "step 1: 2 of 6 dots differ, the first is dot 1 of row 1: 000000, not 3F3F3F"
         self.assert_differs(report(PICTURE), report(other), text)
+        other = ppm(3, 2, RED * 2 + WHITE + BLACK + WHITE * 2)
+        text = "step 1: 3 of 6 dots differ, the first is dot 2 of row 0: 000000, not 3F3F3F"
+        self.assert_differs(report(PICTURE), report(other), text)
         self.assert_differs(report(PICTURE), report(ppm(2, 3, BLACK * 6)), "step 1: picture 28 3x2, not picture 28 2x3")
 
     def test_all_differences_and_what_was_skipped(self) -> None:

@@ -11,6 +11,15 @@ from .report import REFUSAL, SKIPPED, Step
 END = "the end"
 
 
+class Told(NamedTuple):
+    """What messages tell of a difference, which takes less memory than its pictures."""
+
+    number: int
+    answer: str
+    other: str
+    text: str
+
+
 class Difference(NamedTuple):
     """A step with two answers. Where one of the reports has ended, it has no step."""
 
@@ -63,9 +72,13 @@ class Difference(NamedTuple):
 
     def text(self) -> str:
         """What the first report has in the place of what the other has, as one line."""
-        dots = self.dots()
+        return self.told().text
+
+    def told(self) -> Told:
+        """What messages tell of it."""
         answer, other = self.answers()
-        return f"{self.place}: " + (dots or f"{answer}, not {other}")
+        text = self.dots() or f"{answer}, not {other}"
+        return Told(self.number, answer, other, f"{self.place}: {text}")
 
 
 def _first_line(step: Optional[Step]) -> str:

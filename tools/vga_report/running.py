@@ -16,7 +16,7 @@ from threading import Event
 from typing import Optional
 
 from .cases import Case, printable
-from .differences import Comparison, Difference
+from .differences import Comparison, Told
 from .expected import Expected
 from .report import FAULT, Report
 from .trouble import Trouble
@@ -40,12 +40,12 @@ class Result:
     rule: str
     answer: str
     comparison: Comparison
-    difference: Optional[Difference] = None
+    difference: Optional[Told] = None
     reason: str = ""
 
     def text(self) -> str:
         """Why it doesn't agree; empty where it does."""
-        return self.difference.text() if self.difference else self.reason
+        return self.difference.text if self.difference else self.reason
 
 
 class Command:
@@ -154,7 +154,7 @@ def _compared(case: Case, rule: str, comparison: Comparison, report: io.Buffered
                 raise
             return Result(case, rule, FAILED, comparison, reason=str(trouble))
     if difference is not None:
-        return Result(case, rule, DIFFERS, comparison, difference=difference)
+        return Result(case, rule, DIFFERS, comparison, difference=difference.told())
     if comparison.skipped:
         reason = f"{comparison.skipped} of {comparison.steps} steps are skipped, the others agree"
         return Result(case, rule, SKIPPED, comparison, reason=reason)

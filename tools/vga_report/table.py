@@ -70,8 +70,8 @@ def _case_of(result: Result) -> dict[str, object]:
         "skipped": result.comparison.skipped,
     }
     if result.difference is not None:
-        answer, expected = result.difference.answers()
-        case.update(step=result.difference.number, answered=answer, expected=expected)
+        number, answered, expected, _ = result.difference
+        case.update(step=number, answered=answered, expected=expected)
     if result.answer != AGREES:
         case["reason"] = result.text()
     return case
