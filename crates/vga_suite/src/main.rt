@@ -1,0 +1,136 @@
+//! Runs the cases that a list names, and compares the report of each with the one that is expected.
+//!
+//! A case is a script beside its expected report, two files of a name. `docs/SUITE.md` tells how they are
+//! read and written.
+#![tactic(auto)]
+
+mod difference;
+mod hexadecimal;
+mod item;
+mod lines;
+mod picture;
+mod running;
+mod setting;
+mod shown;
+mod tally;
+
+use anyhow::{Context, Result, bail};
+use difference::{Difference, first_difference};
+use item::{Case, Form, Item};
+use setting::Setting;
+use shown::shown_report;
+use std::process::ExitCode;
+use std::rt::{Env, Files};
+use std::{env, fs};
+use tally::Tally;
+
+/// The text of the list that the command line names.
+fn read_list<R: Env + Files + AllocGlobal>(rt: &R) -> Result<String> {
+    let words: Vec<String> = env::args(rt)?.collect(rt.alloc())?;
+    let [_, list] = words.as_slice() else {
+        bail!("one argument is wanted, the file that lists the cases");
+    };
+    fs::read_to_string(rt, list.as_str()).context(format_args!("{list}"))
+}
+
+/// The bytes of a file.
+fn read_file<R: Files + AllocGlobal>(rt: &R, file: &str) -> Result<Vec<u8>> {
+    fs::read(rt, file).context(format_args!("{file}"))
+}
+
+/// The bytes of the file of a case whose name ends so.
+fn read_bytes<R: Files + AllocGlobal>(rt: &R, case: &Case, end: &str) -> Result<Vec<u8>> {
+    let name = case.name;
+    let file = format!(in rt.alloc(); "{name}{end}")?;
+    read_file(rt, file.as_str())
+}
+
+/// The text of such a file.
+fn read_text<R: Files + AllocGlobal>(rt: &R, case: &Case, end: &str) -> Result<String> {
+    let name = case.name;
+    let file = format!(in rt.alloc(); "{name}{end}")?;
+    fs::read_to_string(rt, file.as_str()).context(format_args!("{file}"))
+}
+
+/// What a case reports.
+fn report_of<R: Files + AllocGlobal>(rt: &R, case: &Case, setting: &Setting) -> Result<Vec<u8>> {
+    let alloc = rt.alloc();
+    let fonts = setting.fonts();
+    let answer = match case.form {
+        Form::Text => {
+            let script = read_bytes(rt, case, ".vga")?;
+            let text = setting.behind_front(alloc, script.as_slice())?;
+            running::run_text(alloc, text.as_slice(), fonts, case.until)
+        }
+        Form::Bytes => {
+            let script = read_text(rt, case, ".hex")?;
+            let bytes = hexadecimal::bytes_of(alloc, script.as_str())?;
+            running::run_bytes(alloc, bytes.as_slice(), fonts, case.until)
+        }
+    };
+    Ok(running::report_or_fault(alloc, answer)?)
+}
+
+/// Where the report of a case differs from the expected one, if it does.
+fn difference_of<R: Files + AllocGlobal>(
+    rt: &R,
+    case: &Case,
+    setting: &Setting,
+) -> Result<Option<Difference>> {
+    let alloc = rt.alloc();
+    let expected = read_text(rt, case, ".txt")?;
+    let report = report_of(rt, case, setting)?;
+    let shown = shown_report(alloc, report.as_slice(), expected.as_str())?;
+    Ok(first_difference(alloc, shown.as_str(), expected.as_str())?)
+}
+
+/// Checks a case, prints whether its report is the expected one, and tells whether the case passes: a
+/// wrong one does where its report differs.
+fn check_case<R: Files + Print + AllocGlobal>(
+    rt: &R,
+    case: &Case,
+    setting: &Setting,
+) -> Result<bool> {
+    let name = case.name;
+    let difference = difference_of(rt, case, setting)?;
+    match &difference {
+        None => println!(rt; "{name} ok")?,
+        Some(difference) => println!(rt; "{name} differs at {difference}")?,
+    }
+    Ok(difference.is_some() == case.is_wrong)
+}
+
+/// Does what a line of the list asks for.
+fn take_item<R: Files + Print + AllocGlobal>(
+    rt: &R,
+    item: Item,
+    setting: &mut Setting,
+    tally: &mut Tally,
+) -> Result<()> {
+    match item {
+        Item::Heading => {}
+        Item::Fonts(file) => setting.set_fonts(read_file(rt, file)?),
+        Item::NoFront => setting.set_front(Vec::new(rt.alloc())),
+        Item::Front(file) => setting.set_front(read_file(rt, file)?),
+        Item::Case(case) => tally.count(check_case(rt, &case, setting)?),
+    }
+    Ok(())
+}
+
+/// Checks the cases of a list.
+fn check_list<R: Files + Print + AllocGlobal>(rt: &R, list: &str) -> Result<Tally> {
+    let mut setting = Setting::new(rt.alloc());
+    let mut tally = Tally::new();
+    for line in list.lines() {
+        let item = Item::of_line(line).context(format_args!("no item of a list: {line}"))?;
+        take_item(rt, item, &mut setting, &mut tally)?;
+    }
+    Ok(tally)
+}
+
+fn main(rt: HostRuntime) -> Result<ExitCode> {
+    let list = read_list(&rt)?;
+    let tally = check_list(&rt, list.as_str())?;
+    println!(rt; "{tally}")?;
+    Ok(ExitCode::from(tally.status()))
+}

@@ -1,0 +1,42 @@
+//! What holds for the cases that follow.
+
+use std::alloc::{AllocError, Global};
+
+/// The font file, and the text in front of each text.
+#[derive(Drop)]
+pub struct Setting {
+    fonts: Vec<u8>,
+    front: Vec<u8>,
+}
+
+impl Setting {
+    /// A font file of no bytes, and no text in front.
+    pub fn new(alloc: Global) -> Setting {
+        Setting {
+            fonts: Vec::new(alloc),
+            front: Vec::new(alloc),
+        }
+    }
+
+    /// The bytes of the font file.
+    pub fn fonts(&self) -> &[u8] {
+        self.fonts.as_slice()
+    }
+
+    /// Takes the bytes of another font file.
+    pub fn set_fonts(&mut self, fonts: Vec<u8>) {
+        self.fonts = fonts;
+    }
+
+    /// Takes another text to stand in front.
+    pub fn set_front(&mut self, front: Vec<u8>) {
+        self.front = front;
+    }
+
+    /// A text behind the one in front.
+    pub fn behind_front(&self, alloc: Global, text: &[u8]) -> Result<Vec<u8>, AllocError> {
+        let mut whole = Vec::from_slice(alloc, self.front.as_slice())?;
+        whole.extend_from_slice(text)?;
+        Ok(whole)
+    }
+}
