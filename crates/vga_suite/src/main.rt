@@ -24,32 +24,23 @@ use std::rt::{Env, Files};
 use std::{env, fs};
 use tally::Tally;
 
-/// The text of the list that the command line names.
-fn read_list<R: Env + Files + AllocGlobal>(rt: &R) -> Result<String> {
+/// The path of the list, which the command line names.
+fn list_path<R: Env + AllocGlobal>(rt: &R) -> Result<String> {
     let words: Vec<String> = env::args(rt)?.collect(rt.alloc())?;
     let [_, list] = words.as_slice() else {
         bail!("one argument is wanted, the file that lists the cases");
     };
-    fs::read_to_string(rt, list.as_str()).context(format_args!("{list}"))
+    Ok(String::from_str(rt.alloc(), list.as_str())?)
 }
 
 /// The bytes of a file.
-fn read_file<R: Files + AllocGlobal>(rt: &R, file: &str) -> Result<Vec<u8>> {
-    fs::read(rt, file).context(format_args!("{file}"))
+fn read_bytes<R: Files + AllocGlobal>(rt: &R, path: &str) -> Result<Vec<u8>> {
+    fs::read(rt, path).context(format_args!("{path}"))
 }
 
-/// The bytes of the file of a case whose name ends so.
-fn read_bytes<R: Files + AllocGlobal>(rt: &R, case: &Case, end: &str) -> Result<Vec<u8>> {
-    let name = case.name;
-    let file = format!(in rt.alloc(); "{name}{end}")?;
-    read_file(rt, file.as_str())
-}
-
-/// The text of such a file.
-fn read_text<R: Files + AllocGlobal>(rt: &R, case: &Case, end: &str) -> Result<String> {
-    let name = case.name;
-    let file = format!(in rt.alloc(); "{name}{end}")?;
-    fs::read_to_string(rt, file.as_str()).context(format_args!("{file}"))
+/// The text of a file.
+fn read_text<R: Files + AllocGlobal>(rt: &R, path: &str) -> Result<String> {
+    fs::read_to_string(rt, path).context(format_args!("{path}"))
 }
 
 /// What a case reports.
@@ -58,12 +49,12 @@ fn report_of<R: Files + AllocGlobal>(rt: &R, case: &Case, setting: &Setting) -> 
     let fonts = setting.fonts();
     let answer = match case.form {
         Form::Text => {
-            let script = read_bytes(rt, case, ".vga")?;
+            let script = read_bytes(rt, setting.path(alloc, case.name, ".vga")?.as_str())?;
             let text = setting.behind_front(alloc, script.as_slice())?;
             running::run_text(alloc, text.as_slice(), fonts, case.until)
         }
         Form::Bytes => {
-            let script = read_text(rt, case, ".hex")?;
+            let script = read_text(rt, setting.path(alloc, case.name, ".hex")?.as_str())?;
             let bytes = hexadecimal::bytes_of(alloc, script.as_str())?;
             running::run_bytes(alloc, bytes.as_slice(), fonts, case.until)
         }
@@ -78,7 +69,7 @@ fn difference_of<R: Files + AllocGlobal>(
     setting: &Setting,
 ) -> Result<Option<Difference>> {
     let alloc = rt.alloc();
-    let expected = read_text(rt, case, ".txt")?;
+    let expected = read_text(rt, setting.path(alloc, case.name, ".txt")?.as_str())?;
     let report = report_of(rt, case, setting)?;
     let shown = shown_report(alloc, report.as_slice(), expected.as_str())?;
     Ok(first_difference(alloc, shown.as_str(), expected.as_str())?)
@@ -107,21 +98,27 @@ fn take_item<R: Files + Print + AllocGlobal>(
     setting: &mut Setting,
     tally: &mut Tally,
 ) -> Result<()> {
+    let alloc = rt.alloc();
     match item {
         Item::Heading => {}
-        Item::Fonts(file) => setting.set_fonts(read_file(rt, file)?),
-        Item::NoFront => setting.set_front(Vec::new(rt.alloc())),
-        Item::Front(file) => setting.set_front(read_file(rt, file)?),
+        Item::Fonts(file) => {
+            setting.set_fonts(read_bytes(rt, setting.path(alloc, file, "")?.as_str())?);
+        }
+        Item::NoFront => setting.set_front(Vec::new(alloc)),
+        Item::Front(file) => {
+            setting.set_front(read_bytes(rt, setting.path(alloc, file, "")?.as_str())?);
+        }
         Item::Case(case) => tally.count(check_case(rt, &case, setting)?),
     }
     Ok(())
 }
 
-/// Checks the cases of a list.
+/// Checks the cases of the list at this path.
 fn check_list<R: Files + Print + AllocGlobal>(rt: &R, list: &str) -> Result<Tally> {
-    let mut setting = Setting::new(rt.alloc());
+    let text = read_text(rt, list)?;
+    let mut setting = Setting::beside(rt.alloc(), list)?;
     let mut tally = Tally::new();
-    for line in list.lines() {
+    for line in text.lines() {
         let item = Item::of_line(line).context(format_args!("no item of a list: {line}"))?;
         take_item(rt, item, &mut setting, &mut tally)?;
     }
@@ -129,7 +126,7 @@ fn check_list<R: Files + Print + AllocGlobal>(rt: &R, list: &str) -> Result<Tall
 }
 
 fn main(rt: HostRuntime) -> Result<ExitCode> {
-    let list = read_list(&rt)?;
+    let list = list_path(&rt)?;
     let tally = check_list(&rt, list.as_str())?;
     println!(rt; "{tally}")?;
     Ok(ExitCode::from(tally.status()))

@@ -2,20 +2,29 @@
 
 use std::alloc::{AllocError, Global};
 
-/// The font file, and the text in front of each text.
+/// The folder that files are named from, the font file, and the text in front of each text.
 #[derive(Drop)]
 pub struct Setting {
+    folder: String,
     fonts: Vec<u8>,
     front: Vec<u8>,
 }
 
 impl Setting {
-    /// A font file of no bytes, and no text in front.
-    pub fn new(alloc: Global) -> Setting {
-        Setting {
+    /// The folder of the list at this path, a font file of no bytes, and no text in front.
+    pub fn beside(alloc: Global, list: &str) -> Result<Setting, AllocError> {
+        let (folder, _) = list.rsplit_once('/').unwrap_or((".", list));
+        Ok(Setting {
+            folder: String::from_str(alloc, folder)?,
             fonts: Vec::new(alloc),
             front: Vec::new(alloc),
-        }
+        })
+    }
+
+    /// The path of the file of this name and this end of a name.
+    pub fn path(&self, alloc: Global, name: &str, end: &str) -> Result<String, AllocError> {
+        let folder = self.folder.as_str();
+        format!(in alloc; "{folder}/{name}{end}")
     }
 
     /// The bytes of the font file.
