@@ -54,8 +54,9 @@ fn report_of<R: Files + AllocGlobal>(rt: &R, case: &Case, setting: &Setting) -> 
             running::run_text(alloc, text.as_slice(), fonts, case.until)
         }
         Form::Bytes => {
-            let script = read_text(rt, setting.path(alloc, case.name, ".hex")?.as_str())?;
-            let bytes = hexadecimal::bytes_of(alloc, script.as_str())?;
+            let path = setting.path(alloc, case.name, ".hex")?;
+            let script = read_text(rt, path.as_str())?;
+            let bytes = hexadecimal::bytes_of(alloc, script.as_str()).context(path)?;
             running::run_bytes(alloc, bytes.as_slice(), fonts, case.until)
         }
     };
