@@ -1,5 +1,5 @@
 -- A byte is known by its eight bits, and the bits of what the operations on bytes give.
-use Rattle.std.proofs.Common.{Bool, ◌&&◌, ◌≡◌, ℕ, ◌+◌, ◌-◌, ◌*◌, ◌/◌, ◌%◌, ◌^◌, ◌<◌, ◌≤◌, arith, sym, ap, ◌∙◌, inl, inr, add-zero, bit_and, bit_or, bit_xor, ◌==◌, if◌then◌else◌, w8}
+use Rattle.std.proofs.Common.{Bool, ◌&&◌, ◌≡◌, refl, ℕ, ◌+◌, ◌-◌, ◌*◌, ◌/◌, ◌%◌, ◌^◌, ◌<◌, ◌≤◌, arith, sym, ap, ◌∙◌, inl, inr, add-zero, bit_and, bit_or, bit_xor, ◌==◌, if◌then◌else◌, w8}
 use Rattle.std.proofs.lemmas.Bool.{cases_lt}
 use Rattle.std.proofs.lemmas.Bool.Decides.{nat_tests}
 use Rattle.std.specs.Int.{bit_at, rotate_right}
@@ -19,6 +19,24 @@ byte_from_bits b f fits bits =
     let e5 = bits 5 (omega arith) in
     let e6 = bits 6 (omega arith) in
     let e7 = bits 7 (omega arith) in
+    omega arith
+
+-- a byte is the byte of its bits
+pub byte_bits : (b : ℕ) → b < 256 → byte_of (bit_at b) ≡ b
+byte_bits b fits = sym (byte_from_bits b (bit_at b) fits (λ i within. refl))
+
+-- eight bits make a byte
+pub byte_small : (f : ℕ → ℕ) → ((i : ℕ) → f i < 2) → byte_of f < 256
+unfolding byte_of
+byte_small f bits =
+    let b0 = bits 0 in
+    let b1 = bits 1 in
+    let b2 = bits 2 in
+    let b3 = bits 3 in
+    let b4 = bits 4 in
+    let b5 = bits 5 in
+    let b6 = bits 6 in
+    let b7 = bits 7 in
     omega arith
 
 -- 255 shifted right by 7 less a field's width is a mask of the width

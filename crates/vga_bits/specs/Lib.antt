@@ -1,4 +1,5 @@
 pub mod Bits
+pub mod Bytes
 pub mod Fault
 pub mod Four
 pub mod Refusal

@@ -1,5 +1,6 @@
 //! Bytes that contracts see as a list.
-ghost use Rattle.std.specs.Prelude.{◌≡◌, ◌<◌, IfOk, IsOkUnless, length, slice_set, replicate};
+ghost use Rattle.std.specs.Prelude.{◌≡◌, ◌<◌, IfOk, IsOkUnless, length, slice_set};
+ghost use Rattle.vga_bits.specs.Bytes.{zeros as zeros_of};
 
 use super::fault::Fault;
 use std::alloc::Global;
@@ -39,8 +40,9 @@ impl Bytes {
     }
 
     /// So many bytes, each 0. It fails with `OutOfMemory` alone.
+    #[tactic(auto, unfolding(crate::specs::Bytes::zeros))]
     pub fn zeros(alloc: Global, len: usize) -> Result<Bytes, Fault>
-        ensures zeros { IfOk result (λ bytes. bytes ≡ replicate len 0) }
+        ensures zeros { IfOk result (λ bytes. bytes ≡ zeros_of len) }
         ensures err { IsOkUnless result Fault.OutOfMemory }
     {
         match vec![in alloc; 0; len] {

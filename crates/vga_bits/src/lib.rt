@@ -3,6 +3,7 @@
 //! a failure.
 #![tactic(auto)]
 
+pub mod bits;
 pub mod bytes;
 pub mod fault;
 pub mod reading;
@@ -11,6 +12,7 @@ pub mod reg_file;
 pub mod text;
 pub mod tracked;
 
+pub use bits::is_set;
 pub use bytes::Bytes;
 pub use fault::{Fault, FaultName};
 pub use reading::read_front;

@@ -1,7 +1,8 @@
 //! A group of registers, each of which keeps the bits of its mask.
 ghost use Rattle.std.specs.Prelude.{◌≡◌, ◌<◌, ◌≤◌, slice_index, slice_set, replicate, bit_and};
-ghost use Rattle.vga_bits.specs.Bits.{is_set, field as field_of};
+ghost use Rattle.vga_bits.specs.Bits.{is_set as is_set_of, field as field_of};
 
+use super::bits::is_set;
 use std::marker::Model;
 
 /// N registers of a byte each. A register keeps the bits of its mask and reads the others as 0.
@@ -55,9 +56,9 @@ impl<const N: usize> RegFile<N> {
     pub fn bit(&self, i: usize, b: u32) -> bool
         requires register { i < N }
         requires place { b < 8 }
-        ensures { result ≡ is_set (slice_index self.now.values i) b }
+        ensures { result ≡ is_set_of (slice_index self.now.values i) b }
     {
-        (self.read(i) >> b) & 1 == 1
+        is_set(self.read(i), b)
     }
 
     /// Bits `hi` to `lo` of register `i` as a number, where `lo` is at most `hi` and `hi` at most 7.

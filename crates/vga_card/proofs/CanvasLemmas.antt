@@ -3,7 +3,8 @@ use Rattle.std.proofs.Common.{◌≡◌, ◌≢◌, ℕ, zero, suc, ◌+◌, ◌
 use Rattle.std.specs.Prelude.{slice_set}
 use Rattle.std.proofs.lemmas.Bool.{cases_eq}
 use Rattle.std.proofs.lemmas.List.{length-set, get_or-set_same, get_or-set_other, append-nil, length-replicate, replicate-append-replicate, take-append-le, drop-append-le, take_all, length-drop}
-use Rattle.vga_planes.specs.Planes.{zeros}
+use Rattle.vga_bits.specs.Bytes.{zeros}
+use Rattle.vga_bits.proofs.ByteLemmas.{zeros_at}
 use Rattle.vga_card.specs.Picture.{Dot, lines_of, lines_from}
 use Rattle.vga_card.specs.Canvas.{Sheet, empty_sheet, widest, dots_from, stored_dots, IsCanvas}
 
@@ -130,16 +131,6 @@ canvas_more capacity buffer colours ws line v n is room e =
       later = later_stays ws line v (slice_index ws v + n) room.after is.later;
     }
 
-zeros_get : (n j : ℕ) → slice_index (zeros n) j ≡ 0
-unfolding zeros
-zeros_get zero j = refl
-zeros_get (suc n) zero = refl
-zeros_get (suc n) (suc j) = zeros_get n j
-
-pub length-zeros : (n : ℕ) → length (zeros n) ≡ n
-unfolding zeros
-length-zeros n = length-replicate n 0
-
 -- an empty canvas
 pub empty_canvas : (capacity : ℕ) (ws : List ℕ) (line : ℕ) → 7077888 ≤ capacity → length ws ≡ 1024 → line < 1024 → ((j : ℕ) → slice_index ws j ≡ 0) → IsCanvas capacity [] ws line
 empty_canvas capacity ws line r l i h =
@@ -162,4 +153,4 @@ pub shows_none : (buffer ws : List ℕ) → ((j : ℕ) → slice_index ws j ≡ 
 shows_none buffer ws h = ap (λ (dots : List Dot). record { dots = dots; line = 0; width = slice_index ws 0 }) (empty_dots buffer ws h) ∙ ap (λ (n : ℕ). record { dots = []; line = 0; width = n }) (h 0)
 
 pub blank : (n : ℕ) (ws : List ℕ) → ws ≡ zeros n → (j : ℕ) → slice_index ws j ≡ 0
-blank n ws e j = ap (λ x. slice_index x j) e ∙ zeros_get n j
+blank n ws e j = ap (λ x. slice_index x j) e ∙ zeros_at n j

@@ -1,6 +1,6 @@
 //! The dots that were drawn of the frame under way.
 ghost use Rattle.std.specs.Prelude.{◌≡◌, ℕ, ◌+◌, ◌*◌, ◌<◌, ◌≤◌, [], ◌∷◌, ◌++◌, length, slice_index, vec_len, vec_capacity, IfOk, IfSome, IsOkUnless};
-ghost use Rattle.vga_planes.specs.Planes.{zeros};
+ghost use Rattle.vga_bits.specs.Bytes.{zeros};
 ghost use Rattle.vga_card.specs.Picture.{Dot, bytes_of, shape, rows};
 ghost use Rattle.vga_card.specs.Canvas.{IsSmallShape, empty_sheet, widest, width_with};
 
@@ -50,7 +50,7 @@ fn room_for(alloc: Global, bytes: usize) -> Result<Vec<u8>, Fault>
 }
 
 /// So many widths 0.
-#[tactic(auto, unfolding(vga_planes::specs::Planes::zeros))]
+#[tactic(auto, unfolding(vga_bits::specs::Bytes::zeros))]
 fn zero_widths(alloc: Global, len: usize) -> Result<Vec<u32>, Fault>
     ensures items { IfOk result (λ v. v.items ≡ zeros len) }
     ensures err { IsOkUnless result Fault.OutOfMemory }

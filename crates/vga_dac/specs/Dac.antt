@@ -1,7 +1,8 @@
 -- The DAC: its entries, and the sequence of bytes that writes and reads them.
 -- From the IBM PS/2 Hardware Interface Technical Reference, Video Subsystems, "Video Digital-to-Analog Converter".
 -- That there is one index and one counter for both directions is this adapter's choice.
-use Rattle.std.specs.Prelude.{ℕ, ◌+◌, ◌%◌, List, [], ◌∷◌, replicate, slice_index, slice_set, bit_and}
+use Rattle.std.specs.Prelude.{ℕ, ◌+◌, ◌%◌, List, [], ◌∷◌, slice_index, slice_set, bit_and}
+use Rattle.vga_bits.specs.Bytes.{zeros}
 use Rattle.vga_dac.specs.declared.component.Component.{Component}
 use Rattle.vga_dac.specs.declared.component.Component.TheVariants.{Red, Green, Blue}
 
@@ -14,10 +15,6 @@ pub record DacState : Type 0 where
   pub waiting_red : ℕ
   pub waiting_green : ℕ
   pub mask : ℕ
-
--- n values 0. It is opaque, since a list of 256 values would be written out in every goal.
-unfoldable pub zeros : ℕ → List ℕ
-zeros n = replicate n 0
 
 -- the DAC at power-on: all is 0, but the mask is FF
 abbrev pub power_on_dac : DacState

@@ -34,10 +34,10 @@ impl Model for Dac {
     ghost view = { λ d. record { reds = d.reds; greens = d.greens; blues = d.blues; index = d.index; component = d.component; waiting_red = d.waiting_red; waiting_green = d.waiting_green; mask = d.mask } };
 }
 
-ghost use Rattle.vga_dac.specs.Dac.{zeros as zeros_of};
+ghost use Rattle.vga_bits.specs.Bytes.{zeros as zeros_of};
 
 /// So many values 0.
-#[tactic(auto, unfolding(crate::specs::Dac::zeros))]
+#[tactic(auto, unfolding(vga_bits::specs::Bytes::zeros))]
 fn zeros<const N: usize>() -> [u8; N]
     ensures { result ≡ zeros_of N }
 {

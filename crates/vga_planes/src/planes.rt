@@ -1,11 +1,12 @@
 //! Four planes of 65,536 bytes.
 ghost use Rattle.std.specs.Prelude.{◌≡◌, ◌<◌, vec_len, IfOk, IsOkUnless};
-ghost use Rattle.vga_planes.specs.Planes.{byte_at, bytes_at, with_bytes, zeros as zeros_of, zero_planes};
+ghost use Rattle.vga_bits.specs.Bytes.{zeros as zeros_of};
+ghost use Rattle.vga_planes.specs.Planes.{byte_at, bytes_at, with_bytes, zero_planes};
 
 use super::latch::Latch;
 use std::alloc::Global;
 use std::marker::Model;
-use vga_bits::Fault;
+use vga_bits::{Fault, is_set};
 
 /// Planes by their bits: bit p, 0 to 3, names plane p. The other bits are not looked at.
 pub type PlaneSet = u8;
@@ -36,7 +37,7 @@ impl Model for Planes {
 }
 
 /// So many bytes 0.
-#[tactic(auto, unfolding(crate::specs::Planes::zeros))]
+#[tactic(auto, unfolding(vga_bits::specs::Bytes::zeros))]
 fn zeros(alloc: Global, len: usize) -> Result<Vec<u8>, Fault>
     ensures items { IfOk result (λ v. v.items ≡ zeros_of len) }
     ensures len { IfOk result (λ v. vec_len v ≡ len) }
@@ -98,16 +99,16 @@ impl Planes {
         ensures { self.new ≡ with_bytes self.old offset latch set }
     {
         let at = offset as usize;
-        if set & 1 == 1 {
+        if is_set(set, 0) {
             self.plane0[at] = latch.byte(0);
         }
-        if (set >> 1) & 1 == 1 {
+        if is_set(set, 1) {
             self.plane1[at] = latch.byte(1);
         }
-        if (set >> 2) & 1 == 1 {
+        if is_set(set, 2) {
             self.plane2[at] = latch.byte(2);
         }
-        if (set >> 3) & 1 == 1 {
+        if is_set(set, 3) {
             self.plane3[at] = latch.byte(3);
         }
     }

@@ -4,6 +4,7 @@ ghost use Rattle.std.specs.Int.{bit_at};
 ghost use Rattle.vga_host.specs.Fields.{is_memory_enabled as is_memory_enabled_of, is_eight_dots, character_width, is_screen_off, character_map_a, character_map_b, is_shift_256, is_graphics, is_256_colours, is_in_map_mask, is_odd_even_off, is_chain_four, set_reset, is_set_reset_enabled, colour_compare, rotate_count, function_select, read_map_select, read_map_pair, write_mode, is_read_compare, is_odd_even_read, is_chain_odd_even, memory_map, is_compared, bit_mask};
 
 use super::Host;
+use vga_bits::is_set;
 
 /// The sequencer's registers with fields that are looked at.
 mod sequencer {
@@ -41,7 +42,7 @@ mod graphics {
 pub(super) fn is_memory_enabled(misc: u8) -> bool
     ensures { result ≡ is_memory_enabled_of misc }
 {
-    (misc >> 1) & 1 == 1
+    is_set(misc, 1)
 }
 
 impl Host {

@@ -8,7 +8,7 @@ ghost use Rattle.vga_host.specs.Write.{rotated_bit, data_bit, mask_bit, combined
 
 use super::Host;
 use crate::bytes::{combined, filled, rotated, selected};
-use vga_bits::Refusal;
+use vga_bits::{Refusal, is_set};
 use vga_planes::Latch;
 
 impl Host {
@@ -32,7 +32,7 @@ impl Host {
                     self.rotated(v)
                 }
             }
-            2 => filled((v >> plane) & 1 == 1),
+            2 => filled(is_set(v, plane as u32)),
             _ => filled(self.is_set_reset(plane)),
         }
     }
