@@ -67,16 +67,20 @@ pub whole_line : (cw : ℕ) (r : List ℕ) (b : Beam) → 0 < cw → started r b
 unfolding dots_in_line
 whole_line cw r b some taken = to_line_end cw r (characters r - (b.character + 1)) b some refl taken
 
-same_count : (cw : ℕ) (r : List ℕ) (b : Beam) → dots_in_line cw r (started r b) ≡ dots_in_line cw r b
+pub same_count : (cw : ℕ) (r : List ℕ) (b : Beam) → dots_in_line cw r (started r b) ≡ dots_in_line cw r b
 unfolding dots_in_line
 same_count cw r b =
     let place = started_place r b in
     ap (λ c. (characters r - (c + 1)) * cw + (cw - ((started r b).dot + 1)) + 1) place.character
     ∙ ap (λ k. (characters r - (b.character + 1)) * cw + (cw - (k + 1)) + 1) place.dot
 
-some_dots : (cw : ℕ) (r : List ℕ) (b : Beam) → 0 < dots_in_line cw r b
+some_in_line : (cw : ℕ) (r : List ℕ) (b : Beam) → 0 < dots_in_line cw r b
 unfolding dots_in_line
-some_dots cw r b = omega arith
+some_in_line cw r b = omega arith
+
+some_in_frame : (cw : ℕ) (r : List ℕ) (b : Beam) → 0 < dots_in_frame cw r b
+unfolding dots_in_frame
+some_in_frame cw r b = omega (arith, some_in_line cw r b)
 
 -- the same way, whether the start is taken or not
 unstarted : (P : Beam → Type 0) (cw : ℕ) (r : List ℕ) (n : ℕ) (b c : Beam) → 0 < n → Leads P cw r n (started r b) c → Leads P cw r n b c
@@ -89,9 +93,10 @@ pub line_ends : (cw : ℕ) (r : List ℕ) (b : Beam) → 0 < cw → LineEnds cw 
 line_ends cw r b some =
     let s : Beam = started r b in
     let n = dots_in_line cw r b in
-    let way = unstarted IsLineStart cw r n b (next_line r s) (some_dots cw r b)
+    let way = unstarted IsLineStart cw r n b (next_line r s) (some_in_line cw r b)
     (counted IsLineStart cw r s (next_line r s) (dots_in_line cw r s) n (same_count cw r b) (whole_line cw r s some (started_again r b))) in
     record {
+      some = some_in_line cw r b;
       next = way.taken;
       there = subst IsLineStart (sym way.taken) (next_line_start r s);
       first = way.first;
@@ -101,7 +106,6 @@ line_ends cw r b some =
 pub line_taken : (cw : ℕ) (old new : CrtcState) → (cw ≡ 8) ⊎ (cw ≡ 9) → new ≡ after_dots old cw (dots_in_line cw old.registers old.beam) → IsLineTaken cw old new
 line_taken cw old new width taken = record {
   taken = taken;
-  some = some_dots cw old.registers old.beam;
   ends = line_ends cw old.registers old.beam (omega arith);
 }
 
@@ -147,7 +151,7 @@ to_frame_end cw r (suc i) b some left taken =
     (counted IsFrameStart cw r b (first_dot ((next.frame + 1) % 32)) (n + (i * line + dots_in_line cw r next)) (suc i * line + n) e
     (then_leads IsFrameStart cw r b next (first_dot ((next.frame + 1) % 32)) n (i * line + dots_in_line cw r next) first (λ (start : IsFrameStart next). absurd (omega (arith, start.line, below))) rest))
 
-same_frame_count : (cw : ℕ) (r : List ℕ) (b : Beam) → (lines r - ((started r b).line + 1)) * (characters r * cw) + dots_in_line cw r (started r b) ≡ dots_in_frame cw r b
+pub same_frame_count : (cw : ℕ) (r : List ℕ) (b : Beam) → dots_in_frame cw r (started r b) ≡ dots_in_frame cw r b
 unfolding dots_in_frame
 same_frame_count cw r b =
     let place = started_place r b in
@@ -155,6 +159,7 @@ same_frame_count cw r b =
     ∙ ap (λ n. (lines r - (b.line + 1)) * (characters r * cw) + n) (same_count cw r b)
 
 pub frame_ends : (cw : ℕ) (r : List ℕ) (b : Beam) → 0 < cw → FrameEnds cw r b
+unfolding dots_in_frame
 frame_ends cw r b some =
     let s : Beam = started r b in
     let n = dots_in_frame cw r b in
@@ -162,10 +167,12 @@ frame_ends cw r b some =
     let place = started_place r b in
     let new : Beam = first_dot ((s.frame + 1) % 32) in
     let e = same_frame_count cw r b in
-    let one : 0 < n = omega (arith, e, some_dots cw r s) in
-    let way = unstarted IsFrameStart cw r n b new one
+    let way = unstarted IsFrameStart cw r n b new (some_in_frame cw r b)
     (counted IsFrameStart cw r s new (i * (characters r * cw) + dots_in_line cw r s) n e (to_frame_end cw r i s some refl (started_again r b))) in
+    let next : dots cw r n b ≡ first_dot ((b.frame + 1) % 32) = way.taken ∙ ap (λ f. first_dot ((f + 1) % 32)) place.frame in
     record {
-      next = way.taken ∙ ap (λ f. first_dot ((f + 1) % 32)) place.frame;
+      some = some_in_frame cw r b;
+      next = next;
+      there = subst IsFrameStart (sym next) (record { line = refl; character = refl; dot = refl });
       first = way.first;
     }
