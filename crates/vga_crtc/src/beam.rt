@@ -26,7 +26,7 @@ pub struct Beam {
 
 impl Beam {
     ghost use Rattle.vga_crtc.specs.Crtc.{first_dot};
-    ghost use Rattle.vga_crtc.specs.Beam.{IsBeam, started, next_row, next_line, dot};
+    ghost use Rattle.vga_crtc.specs.Beam.{IsBeam, is_first_dot, started, next_row, next_line, dot};
 
     /// The first dot of a frame, with nothing taken yet.
     pub(crate) fn first_dot(frame: u8) -> Beam
@@ -44,16 +44,21 @@ impl Beam {
         }
     }
 
+    /// Whether the beam is at the first dot of a frame.
+    pub fn is_first_dot(self) -> bool
+        ensures { result ≡ is_first_dot self }
+    {
+        self.character == 0 && self.dot == 0 && self.line == 0
+    }
+
     /// Takes the start address and the first scan line, if a frame begins here.
     pub(crate) fn take_start(&mut self, registers: &Registers)
         requires { IsBeam self.old }
         ensures value { self.new ≡ started registers.now self.old }
         ensures place { IsBeam self.new }
     {
-        if self.character == 0 && self.dot == 0 && self.line == 0 {
-            self.base = registers
-                .start_address()
-                .wrapping_add(registers.byte_panning() as u16);
+        if self.is_first_dot() {
+            self.base = registers.first_counter();
             self.scan = registers.preset_row_scan();
             self.half = false;
             self.split = false;
@@ -89,7 +94,7 @@ impl Beam {
         ensures value { self.new ≡ next_line registers.now self.old }
         ensures place { IsBeam self.new }
     {
-        if self.line + 1 < registers.vertical_total() + 2 {
+        if self.line + 1 < registers.lines() {
             self.character = 0;
             self.dot = 0;
             self.count_line(registers);
@@ -109,7 +114,7 @@ impl Beam {
         self.take_start(registers);
         if self.dot + 1 < cw {
             self.dot += 1;
-        } else if self.character + 1 < registers.horizontal_total() as u16 + 5 {
+        } else if self.character + 1 < registers.characters() {
             self.dot = 0;
             self.character += 1;
         } else {

@@ -35,7 +35,7 @@ pub(crate) fn planar_nibble(host: &Host, crtc: &Crtc, source: SourceDot) -> u8
     ensures { result ≡ nibble_of_planes host.now crtc.now source }
 {
     if source.dot < 8 {
-        let address = fetch_address(crtc.registers(), source.counter);
+        let address = fetch_address(crtc.fields(), source.counter);
         plane_bits(host, address, 7 - source.dot)
     } else {
         0
@@ -48,7 +48,7 @@ pub(crate) fn packed_byte(host: &Host, crtc: &Crtc, source: SourceDot) -> u8
     ensures { result ≡ byte_of_planes host.now crtc.now source }
 {
     if source.dot < 8 {
-        let address = fetch_address(crtc.registers(), source.counter);
+        let address = fetch_address(crtc.fields(), source.counter);
         host.planes().byte((source.dot / 2) as usize, address)
     } else {
         0

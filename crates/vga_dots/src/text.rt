@@ -98,7 +98,7 @@ fn is_underlined(crtc: &Crtc, attr: &Attr, cell: Cell) -> bool
 {
     attr.is_monochrome()
         && cell.attribute & UNDERLINE_BITS == 1
-        && crtc.beam().scan == crtc.registers().underline_location()
+        && crtc.beam().scan == crtc.fields().underline_location()
 }
 
 /// Whether a cell is blinked away in the beam's frame.
@@ -114,7 +114,7 @@ fn is_blinked_away(crtc: &Crtc, attr: &Attr, cell: Cell) -> bool
 fn is_cursor_at(crtc: &Crtc, counter: u16) -> bool
     ensures { result ≡ is_cursor_of crtc.now counter }
 {
-    let registers = crtc.registers();
+    let registers = crtc.fields();
     let beam = crtc.beam();
     counter == registers.cursor_location()
         && !registers.is_cursor_off()
@@ -167,6 +167,6 @@ fn cell_nibble(host: &Host, crtc: &Crtc, attr: &Attr, source: SourceDot, cell: C
 pub(crate) fn text_nibble(host: &Host, crtc: &Crtc, attr: &Attr, source: SourceDot) -> u8
     ensures { result ≡ nibble_of_text host.now crtc.now attr.now source }
 {
-    let cell = cell_at(host, fetch_address(crtc.registers(), source.counter));
+    let cell = cell_at(host, fetch_address(crtc.fields(), source.counter));
     cell_nibble(host, crtc, attr, source, cell)
 }

@@ -1,6 +1,6 @@
 //! Dots of the adapter's clock.
 ghost use Rattle.std.specs.Prelude.{◌≡◌, ◌≤◌, ◌↔◌, ◌⊎◌, ◌++◌, IsOk, OnOk, IfErr};
-ghost use Rattle.vga_crtc.specs.Beam.{is_first_dot as is_first_dot_of, after_start, after_dot};
+ghost use Rattle.vga_crtc.specs.Beam.{after_start, after_dot};
 ghost use Rattle.vga_card.specs.Dots.{fresh_dots, display_dot, dot, dots, most_dots};
 ghost use Rattle.vga_card.specs.Valid.{fresh_count, IsDrawnTo};
 
@@ -16,20 +16,13 @@ use vga_host::Host;
 /// The most dots that one step may advance.
 const MOST_DOTS: u32 = 16_777_216;
 
-/// Whether the beam is at the first dot of a frame.
-pub(super) fn is_first_dot(beam: Beam) -> bool
-    ensures { result ≡ is_first_dot_of beam }
-{
-    beam.character == 0 && beam.dot == 0 && beam.line == 0
-}
-
 /// Takes away the dots of the frame before, where a frame begins.
 fn clear_at_first_dot(beam: Beam, canvas: &mut Canvas)
     ensures dots { canvas.new.dots ≡ fresh_dots beam canvas.old.dots }
     ensures line { canvas.new.line ≡ fresh_count beam canvas.old.line }
     ensures width { canvas.new.width ≡ fresh_count beam canvas.old.width }
 {
-    if is_first_dot(beam) {
+    if beam.is_first_dot() {
         canvas.clear();
     }
 }

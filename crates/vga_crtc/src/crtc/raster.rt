@@ -28,14 +28,16 @@ impl Crtc {
 
     /// How many dots, at least one, lead to the next line; a character is `cw` dots wide, 8 or 9.
     #[tactic(auto, unfolding(crate::specs::Raster::dots_in_line))]
-    pub fn dots_in_line(&self, cw: u8) -> u32
+    fn dots_in_line(&self, cw: u8) -> u32
         requires { (cw ≡ 8) ⊎ (cw ≡ 9) }
         ensures value { result ≡ dots_in_line cw self.now.registers self.now.beam }
         ensures at_most { result ≤ 2340 }
     {
-        let characters = self.registers.horizontal_total() as u32 + 5;
-        let after = characters.saturating_sub(self.beam.character as u32 + 1);
-        after * cw as u32 + cw.saturating_sub(self.beam.dot + 1) as u32 + 1
+        let after = self
+            .registers
+            .characters()
+            .saturating_sub(self.beam.character + 1);
+        after as u32 * cw as u32 + cw.saturating_sub(self.beam.dot + 1) as u32 + 1
     }
 
     /// How many dots, at least one, lead to the next frame; a character is `cw` dots wide, 8 or 9.
@@ -45,10 +47,9 @@ impl Crtc {
         ensures value { result ≡ dots_in_frame cw self.now.registers self.now.beam }
         ensures at_most { result ≤ 2398500 }
     {
-        let line = (self.registers.horizontal_total() as u32 + 5) * cw as u32;
-        let lines = self.registers.vertical_total() + 2;
-        let after = lines.saturating_sub(self.beam.line + 1) as u32;
-        after * line + self.dots_in_line(cw)
+        let line = self.registers.characters() as u32 * cw as u32;
+        let after = self.registers.lines().saturating_sub(self.beam.line + 1);
+        after as u32 * line + self.dots_in_line(cw)
     }
 
     /// Moves the beam by `n` dots, one at a time; a character is `cw` dots wide, 8 or 9.
