@@ -1,8 +1,9 @@
 -- The attribute controller: registers, index, and the flip-flop of its port.
 -- From the IBM PS/2 Hardware Interface Technical Reference, Video Subsystems, "Attribute Controller Registers"; which
 -- reserved bits a register keeps, and what the palette address source does to writes, is this adapter's choice.
-use Rattle.std.specs.Prelude.{ℕ, ◌&&◌, nat_lt, if◌then◌else◌, Bool, true, false, List, [], ◌∷◌, replicate, slice_index, slice_set, bit_and}
+use Rattle.std.specs.Prelude.{ℕ, ◌≡◌, ◌<◌, ◌&&◌, nat_lt, if◌then◌else◌, Bool, true, false, List, [], ◌∷◌, length, replicate, slice_index, slice_set, bit_and}
 use Rattle.vga_bits.specs.Bits.{is_set, field}
+use Rattle.vga_bits.specs.RegFile.{AreKept}
 
 pub record AttrState : Type 0 where
   pub registers : List ℕ
@@ -19,6 +20,12 @@ abbrev pub attr_masks : List ℕ
 attr_masks =
     0x3F ∷ 0x3F ∷ 0x3F ∷ 0x3F ∷ 0x3F ∷ 0x3F ∷ 0x3F ∷ 0x3F ∷ 0x3F ∷ 0x3F ∷ 0x3F ∷ 0x3F ∷ 0x3F ∷ 0x3F ∷ 0x3F ∷ 0x3F
     ∷ 0xEF ∷ 0xFF ∷ 0x3F ∷ 0x0F ∷ 0x0F ∷ []
+
+-- what the registers hold, whatever was written: 21 of them with the bits that each keeps, six in the palette's
+pub record IsAttr (a : AttrState) : Type 0 where
+  pub size : length a.registers ≡ 21
+  pub kept : AreKept attr_masks a.registers
+  pub palette : (i : ℕ) → i < 16 → slice_index a.registers i < 64
 
 -- the register that the index names
 abbrev pub register_of : AttrState → ℕ

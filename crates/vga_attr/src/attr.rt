@@ -44,7 +44,7 @@ impl Model for Attr {
 }
 
 impl Attr {
-    ghost use Rattle.vga_attr.specs.Attr.{power_on_attr, register_of, is_refused_write, registers_after, after_write, is_refused_read, register_value, after_reset};
+    ghost use Rattle.vga_attr.specs.Attr.{power_on_attr, register_of, is_refused_write, registers_after, after_write, is_refused_read, register_value, after_reset, IsAttr};
 
     /// The attribute controller at power-on: registers and index are 0, and the next write is an index.
     pub fn new() -> Attr
@@ -55,6 +55,15 @@ impl Attr {
             index: 0,
             is_data: false,
         }
+    }
+
+    /// Each register holds the bits that it keeps alone, whatever was written: a palette register six. The
+    /// clause is for proofs: nothing runs.
+    #[tactic(auto, using(crate::proofs::PaletteLemmas::palette_small))]
+    pub fn bounds(&self)
+        ensures { IsAttr self.now }
+    {
+        self.registers.bounds();
     }
 
     /// The register that the index names, 0 to 31.

@@ -1,5 +1,5 @@
 //! A group of registers, each of which keeps the bits of its mask.
-ghost use Rattle.std.specs.Prelude.{◌≡◌, ◌<◌, ◌≤◌, slice_index, slice_set, replicate, bit_and};
+ghost use Rattle.std.specs.Prelude.{◌≡◌, ◌<◌, ◌≤◌, length, slice_index, slice_set, replicate, bit_and};
 ghost use Rattle.vga_bits.specs.Bits.{is_set as is_set_of, field as field_of};
 
 use super::bits::is_set;
@@ -15,15 +15,20 @@ pub struct RegFile<const N: usize> {
 }
 
 impl<const N: usize> Model for RegFile<N> {
-    ghost use Rattle.vga_bits.specs.RegFile.{Registers};
+    ghost use Rattle.vga_bits.specs.RegFile.{Registers, AreKept};
 
     ghost Value = { Registers };
 
     ghost view = { λ r. record { masks = r.masks; values = r.values } };
+
+    ghost invariant = { λ r. AreKept r.masks r.values };
 }
 
 impl<const N: usize> RegFile<N> {
+    ghost use Rattle.vga_bits.specs.RegFile.{AreKept};
+
     /// All registers 0, under these masks.
+    #[tactic(auto, using(crate::proofs::RegisterLemmas::kept_zeros))]
     pub fn new(masks: [u8; N]) -> RegFile<N>
         ensures masks { result.masks ≡ masks.entry }
         ensures zeros { result.values ≡ replicate N 0 }
@@ -43,6 +48,7 @@ impl<const N: usize> RegFile<N> {
     }
 
     /// Register `i`, below N, keeps the bits of `v` under its mask. The others stay.
+    #[tactic(auto, using(crate::proofs::RegisterLemmas::kept_set))]
     pub fn write(&mut self, i: usize, v: u8)
         requires { i < N }
         ensures masks { self.new.masks ≡ self.old.masks }
@@ -50,6 +56,15 @@ impl<const N: usize> RegFile<N> {
     {
         let register = &mut self.values[i];
         *register = v & self.masks[i];
+    }
+
+    /// There are N registers, and each holds bits of its mask alone, whatever was written. The clause is
+    /// for proofs: nothing runs.
+    pub fn bounds(&self)
+        ensures count { length self.now.values ≡ N }
+        ensures kept { AreKept self.now.masks self.now.values }
+    {
+        let _ = &self.values;
     }
 
     /// Whether bit `b`, 0 to 7, of register `i` is 1.

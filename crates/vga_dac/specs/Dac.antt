@@ -1,7 +1,7 @@
 -- The DAC: its entries, and the sequence of bytes that writes and reads them.
 -- From the IBM PS/2 Hardware Interface Technical Reference, Video Subsystems, "Video Digital-to-Analog Converter".
 -- That there is one index and one counter for both directions is this adapter's choice.
-use Rattle.std.specs.Prelude.{ℕ, ◌+◌, ◌%◌, List, [], ◌∷◌, slice_index, slice_set, bit_and}
+use Rattle.std.specs.Prelude.{ℕ, ◌≡◌, ◌+◌, ◌%◌, List, [], ◌∷◌, length, slice_index, slice_set, bit_and}
 use Rattle.vga_bits.specs.Bytes.{zeros}
 use Rattle.vga_dac.specs.declared.component.Component.{Component}
 use Rattle.vga_dac.specs.declared.component.Component.TheVariants.{Red, Green, Blue}
@@ -19,6 +19,12 @@ pub record DacState : Type 0 where
 -- the DAC at power-on: all is 0, but the mask is FF
 abbrev pub power_on_dac : DacState
 power_on_dac = record { reds = zeros 256; greens = zeros 256; blues = zeros 256; index = 0; component = Red; waiting_red = 0; waiting_green = 0; mask = 0xFF }
+
+-- a list of 256 values for each component
+pub record IsDac (d : DacState) : Type 0 where
+  pub reds : length d.reds ≡ 256
+  pub greens : length d.greens ≡ 256
+  pub blues : length d.blues ≡ 256
 
 -- red, green and blue of entry i
 abbrev pub entry_of : DacState → ℕ → List ℕ

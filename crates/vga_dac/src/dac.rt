@@ -45,7 +45,7 @@ fn zeros<const N: usize>() -> [u8; N]
 }
 
 impl Dac {
-    ghost use Rattle.vga_dac.specs.Dac.{power_on_dac, after_index, after_write, read_value, after_read, entry_of};
+    ghost use Rattle.vga_dac.specs.Dac.{power_on_dac, after_index, after_write, read_value, after_read, entry_of, IsDac};
 
     /// The DAC at power-on: all entries black, the index 0, red next, nothing waiting, the mask FF.
     pub fn new() -> Dac
@@ -61,6 +61,13 @@ impl Dac {
             waiting_green: 0,
             mask: 0xFF,
         }
+    }
+
+    /// There are 256 entries. The clause is for proofs: nothing runs.
+    pub fn bounds(&self)
+        ensures { IsDac self.now }
+    {
+        let _ = [self.reds[0], self.greens[0], self.blues[0]];
     }
 
     /// Sets the index for writing, and red as the next component.

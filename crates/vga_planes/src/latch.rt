@@ -1,5 +1,5 @@
 //! One byte for each plane.
-ghost use Rattle.std.specs.Prelude.{◌≡◌, ◌<◌, slice_index};
+ghost use Rattle.std.specs.Prelude.{◌≡◌, ◌<◌, ℕ, slice_index};
 ghost use Rattle.vga_bits.specs.Four.{four, of_plane};
 
 use std::marker::Model;
@@ -38,6 +38,17 @@ impl Latch {
             byte2,
             byte3,
         }
+    }
+
+    /// Each byte is below 256. The clause is for proofs: nothing runs.
+    pub fn bounds(&self)
+        ensures { (p : ℕ) → p < 4 → of_plane self.now p < 256 }
+    {
+        let plane0 = self.byte(0);
+        let plane1 = self.byte(1);
+        let plane2 = self.byte(2);
+        let plane3 = self.byte(3);
+        let _ = [plane0, plane1, plane2, plane3];
     }
 
     /// The byte of a plane, 0 to 3.

@@ -1,7 +1,7 @@
 //! Four planes of 65,536 bytes.
-ghost use Rattle.std.specs.Prelude.{◌≡◌, ◌<◌, vec_len, IfOk, IsOkUnless};
+ghost use Rattle.std.specs.Prelude.{◌≡◌, ◌<◌, ℕ, slice_index, vec_len, IfOk, IsOkUnless};
 ghost use Rattle.vga_bits.specs.Bytes.{zeros as zeros_of};
-ghost use Rattle.vga_planes.specs.Planes.{byte_at, bytes_at, with_bytes, zero_planes};
+ghost use Rattle.vga_planes.specs.Planes.{byte_at, bytes_at, with_bytes, zero_planes, IsMemory};
 
 use super::latch::Latch;
 use std::alloc::Global;
@@ -49,6 +49,13 @@ fn zeros(alloc: Global, len: usize) -> Result<Vec<u8>, Fault>
     }
 }
 
+/// Bytes are below 256. The clause is for proofs: nothing runs.
+fn bytes_are_small(bytes: &[u8])
+    ensures { (i : ℕ) → slice_index bytes.now i < 256 }
+{
+    let _ = bytes;
+}
+
 impl Planes {
     /// All bytes 0, as at power-on. It fails with `OutOfMemory` alone.
     pub fn new(alloc: Global) -> Result<Planes, Fault>
@@ -65,6 +72,16 @@ impl Planes {
             plane2,
             plane3,
         })
+    }
+
+    /// Each plane has 65,536 bytes, and each of them is below 256. The clause is for proofs: nothing runs.
+    pub fn bounds(&self)
+        ensures { IsMemory self.now }
+    {
+        bytes_are_small(self.plane0.as_slice());
+        bytes_are_small(self.plane1.as_slice());
+        bytes_are_small(self.plane2.as_slice());
+        bytes_are_small(self.plane3.as_slice());
     }
 
     /// The byte of a plane, 0 to 3, at an offset.

@@ -1,0 +1,31 @@
+-- Registers hold bits of their masks alone.
+use Rattle.std.proofs.Common.{◌≡◌, ℕ, zero, suc, List, [], ◌∷◌, ap, sym, ◌∙◌, replicate}
+use Rattle.std.specs.Prelude.{slice_index, slice_set, bit_and}
+use Rattle.std.specs.Int.Bits.{and_self, and_zero_l}
+use Rattle.std.proofs.lemmas.Nat.{and_assoc}
+use Rattle.vga_bits.specs.Bytes.{zeros}
+use Rattle.vga_bits.specs.RegFile.{AreKept}
+use Rattle.vga_bits.proofs.ByteLemmas.{zeros_at}
+
+pub kept_zeros : (masks : List ℕ) (n : ℕ) → AreKept masks (replicate n 0)
+unfolding zeros
+kept_zeros masks n = record {
+  kept = λ i. ap (λ v. bit_and v (slice_index masks i)) (zeros_at n i) ∙ and_zero_l (slice_index masks i) ∙ sym (zeros_at n i);
+}
+
+masked_twice : (v m : ℕ) → bit_and (bit_and v m) m ≡ bit_and v m
+masked_twice v m = and_assoc m v m ∙ ap (bit_and v) (and_self m)
+
+kept_at : (masks values : List ℕ) (i v j : ℕ) → bit_and (slice_index values j) (slice_index masks j) ≡ slice_index values j
+    → bit_and (slice_index (slice_set values i (bit_and v (slice_index masks i))) j) (slice_index masks j) ≡ slice_index (slice_set values i (bit_and v (slice_index masks i))) j
+kept_at masks [] i v j e = e
+kept_at [] (x ∷ values) zero v zero e = masked_twice v 0
+kept_at (m ∷ masks) (x ∷ values) zero v zero e = masked_twice v m
+kept_at masks (x ∷ values) zero v (suc j) e = e
+kept_at masks (x ∷ values) (suc i) v zero e = e
+kept_at [] (x ∷ values) (suc i) v (suc j) e = kept_at [] values i v j e
+kept_at (m ∷ masks) (x ∷ values) (suc i) v (suc j) e = kept_at masks values i v j e
+
+-- a register that is written keeps its bits of the value
+pub kept_set : (masks values : List ℕ) (i v : ℕ) → AreKept masks values → AreKept masks (slice_set values i (bit_and v (slice_index masks i)))
+kept_set masks values i v are = record { kept = λ j. kept_at masks values i v j (are.kept j) }
