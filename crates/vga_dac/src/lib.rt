@@ -7,6 +7,3 @@ pub mod dac;
 
 pub use component::Component;
 pub use dac::Dac;
-
-#[cfg(test)]
-mod tests;

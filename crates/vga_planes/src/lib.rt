@@ -6,6 +6,3 @@ pub mod planes;
 
 pub use latch::Latch;
 pub use planes::{PlaneSet, Planes};
-
-#[cfg(test)]
-mod tests;
