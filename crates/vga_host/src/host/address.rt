@@ -2,7 +2,8 @@
 ghost use Rattle.std.specs.Prelude.{◌≡◌, ◌<◌, IsTrue};
 ghost use Rattle.std.specs.Option.{SomeIff};
 ghost use Rattle.vga_bits.specs.Bits.{is_set};
-ghost use Rattle.vga_host.specs.Address.{window_start, window_len, is_decoded, window_offset, plane_offset, is_addressed, is_reached};
+ghost use Rattle.vga_host.specs.Address.{window_start, window_len, is_decoded, window_offset, plane_offset};
+ghost use Rattle.vga_host.specs.Address.{is_addressed, is_reached};
 
 use super::Host;
 use super::fields::is_memory_enabled;

@@ -4,7 +4,8 @@ ghost use Rattle.std.specs.Int.{bit_at};
 ghost use Rattle.vga_bits.specs.Four.{four};
 ghost use Rattle.vga_host.specs.Address.{is_decoded};
 ghost use Rattle.vga_host.specs.Fields.{bit_mask};
-ghost use Rattle.vga_host.specs.Write.{rotated_bit, data_bit, mask_bit, combined_bit, written_bit, written_byte, after_put};
+ghost use Rattle.vga_host.specs.Write.{rotated_bit, data_bit, mask_bit, combined_bit, written_bit, written_byte};
+ghost use Rattle.vga_host.specs.Write.{after_put};
 
 use super::Host;
 use crate::bytes::{combined, filled, rotated, selected};
