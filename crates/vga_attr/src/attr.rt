@@ -44,7 +44,8 @@ impl Model for Attr {
 }
 
 impl Attr {
-    ghost use Rattle.vga_attr.specs.Attr.{power_on_attr, register_of, is_refused_write, registers_after, after_write, is_refused_read, register_value, after_reset, IsAttr};
+    ghost use Rattle.vga_attr.specs.Attr.{power_on_attr, register_of, is_refused_write, registers_after};
+    ghost use Rattle.vga_attr.specs.Attr.{after_write, is_refused_read, register_value, after_reset, IsAttr};
 
     /// The attribute controller at power-on: registers and index are 0, and the next write is an index.
     pub fn new() -> Attr

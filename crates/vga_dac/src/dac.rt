@@ -45,7 +45,8 @@ fn zeros<const N: usize>() -> [u8; N]
 }
 
 impl Dac {
-    ghost use Rattle.vga_dac.specs.Dac.{power_on_dac, after_index, after_write, read_value, after_read, entry_of, IsDac};
+    ghost use Rattle.vga_dac.specs.Dac.{power_on_dac, after_index, after_write, read_value, after_read, entry_of};
+    ghost use Rattle.vga_dac.specs.Dac.{IsDac};
 
     /// The DAC at power-on: all entries black, the index 0, red next, nothing waiting, the mask FF.
     pub fn new() -> Dac
