@@ -7,14 +7,15 @@ use crate::random_registers::{
     DotSource, attribute_value, crtc_value, graphics_value, is_one_in, memory_byte, next_below,
     next_byte, next_crtc_register, next_source, sequencer_value,
 };
+use anyhow::Result;
 use rand_pcg::Pcg32;
 use std::alloc::Global;
-use std::test::Fail;
+use std::fmt;
 use vga_bits::Refusal;
 use vga_card::{Card, Drawn};
 
 /// How many settings of all registers are compared, and how many frames of each.
-const SETTINGS: u32 = 150;
+const SETTINGS: u32 = 2_000;
 
 const FRAMES: u32 = 5;
 
@@ -24,14 +25,43 @@ const TALL: [(u32, u8); 3] = [(40, 0x01), (80, 0x20), (120, 0x21)];
 /// The first address of the window that memory is filled through.
 const WINDOW: u32 = 0xA0000;
 
-/// Where a card and the model first differ.
+/// In what a card first differs from the model.
 #[derive(Clone, Copy, Debug, PartialEq, Eq)]
 enum Difference {
+    /// The beam's place, or the counters of the rows of characters.
     Beam,
+    /// How many rows are drawn.
     Rows,
+    /// Input status 1.
     Status,
+    /// The size of the picture, or that it is ragged.
     Shape,
+    /// The colour of the picture's dot of this number.
     Dot(usize),
+}
+
+/// How a comparison of dots ended.
+#[derive(Clone, Copy, PartialEq, Eq)]
+pub struct DotsOutcome {
+    frames: u32,
+    difference: Option<Difference>,
+}
+
+impl DotsOutcome {
+    /// Whether all was alike.
+    pub fn is_alike(&self) -> bool {
+        self.difference.is_none()
+    }
+}
+
+impl fmt::Display for DotsOutcome {
+    fn fmt<W: fmt::Write>(&self, f: &mut fmt::Formatter<W>) -> fmt::Result {
+        let frames = self.frames;
+        match self.difference {
+            None => write!(f, "{frames} frames alike"),
+            Some(difference) => write!(f, "differs after {frames} frames: {difference:?}"),
+        }
+    }
 }
 
 /// A card and the plain model, which are given the same registers, memory and dots.
@@ -58,7 +88,7 @@ fn differing_dot(bytes: &[u8], colours: &[[u8; 3]]) -> Option<usize> {
 }
 
 impl Pair {
-    fn new(alloc: Global) -> Result<Pair, Fail> {
+    fn new(alloc: Global) -> Result<Pair> {
         Ok(Pair {
             card: Card::new(alloc)?,
             plain: PlainDots::new(alloc)?,
@@ -282,7 +312,7 @@ impl Pair {
 
 /// Dots, and what is compared.
 impl Pair {
-    fn advance(&mut self, dots: u32) -> Result<(), Fail> {
+    fn advance(&mut self, dots: u32) -> Result<()> {
         for _ in 0..dots {
             self.plain.dot()?;
         }
@@ -291,7 +321,7 @@ impl Pair {
     }
 
     /// Advances to the last dot of a character of nine dots, or past one of eight.
-    fn advance_to_last_dot(&mut self) -> Result<(), Fail> {
+    fn advance_to_last_dot(&mut self) -> Result<()> {
         let dots = 8u8.saturating_sub(self.plain.beam.dot);
         self.advance(dots as u32)
     }
@@ -312,7 +342,7 @@ impl Pair {
     }
 
     /// Draws to the end of the frame.
-    fn frame_difference(&mut self) -> Result<Option<Difference>, Fail> {
+    fn frame_difference(&mut self) -> Result<Option<Difference>> {
         self.plain.frame()?;
         let difference = match (self.card.frame(), self.plain.size()) {
             (Drawn::Picture(width, height, bytes), Some(size)) => {
@@ -332,7 +362,7 @@ impl Pair {
     }
 
     /// One frame, with a few changes before it, and in most cases within it.
-    fn compared_frame(&mut self, random: &mut Pcg32) -> Result<Option<Difference>, Fail> {
+    fn compared_frame(&mut self, random: &mut Pcg32) -> Result<Option<Difference>> {
         self.change_few(random)?;
         for _ in 0..next_below(random, 3) {
             let dots = next_below(random, 500);
@@ -349,54 +379,32 @@ impl Pair {
         self.frame_difference()
     }
 
-    /// The first difference on so many settings, with the numbers of its setting and its frame.
-    fn first_difference(
-        &mut self,
-        random: &mut Pcg32,
-        dots: DotSource,
-    ) -> Result<Option<(u32, u32, Difference)>, Fail> {
+    /// So many frames of so many settings, up to the first difference.
+    fn outcome(&mut self, random: &mut Pcg32, dots: DotSource) -> Result<DotsOutcome> {
+        let mut frames = 0;
         self.fill_memory(random)?;
         for setting in 0..SETTINGS {
             self.change_all(random, dots)?;
             if let Some((_, overflow)) = TALL.iter().find(|tall| tall.0 == setting) {
                 self.make_tall(*overflow)?;
             }
-            for frame in 0..FRAMES {
-                if let Some(difference) = self.compared_frame(random)? {
-                    return Ok(Some((setting, frame, difference)));
+            for _ in 0..FRAMES {
+                let difference = self.compared_frame(random)?;
+                if difference.is_some() {
+                    return Ok(DotsOutcome { frames, difference });
                 }
+                frames = frames.saturating_add(1);
             }
         }
-        Ok(None)
+        Ok(DotsOutcome {
+            frames,
+            difference: None,
+        })
     }
 }
 
-#[test]
-fn text_is_the_plain_model_s(rt: HostRuntime) -> Result<(), Fail> {
-    let mut pair = Pair::new(rt.alloc())?;
-    let mut random = Pcg32::new(0x5EED, 1);
-    assert_eq!(rt; pair.first_difference(&mut random, DotSource::Text)?, None);
-    Ok(())
-}
-
-#[test]
-fn sixteen_colours_are_the_plain_model_s(rt: HostRuntime) -> Result<(), Fail> {
-    let mut pair = Pair::new(rt.alloc())?;
-    let mut random = Pcg32::new(0x5EED, 2);
-    assert_eq!(rt;
-        pair.first_difference(&mut random, DotSource::SixteenColours)?,
-        None
-    );
-    Ok(())
-}
-
-#[test]
-fn colours_256_are_the_plain_model_s(rt: HostRuntime) -> Result<(), Fail> {
-    let mut pair = Pair::new(rt.alloc())?;
-    let mut random = Pcg32::new(0x5EED, 3);
-    assert_eq!(rt;
-        pair.first_difference(&mut random, DotSource::Colours256)?,
-        None
-    );
-    Ok(())
+/// Compares frames of pseudo-random settings, with the numbers of a stream.
+pub fn compare_dots(alloc: Global, dots: DotSource, stream: u64) -> Result<DotsOutcome> {
+    let mut random = Pcg32::new(0x5EED, stream);
+    Pair::new(alloc)?.outcome(&mut random, dots)
 }

@@ -1,14 +1,19 @@
 //! The host path against the plain model, on pseudo-random registers, addresses and bytes.
+ghost use Rattle.std.specs.Prelude.{◌≡◌, ◌<◌};
+
 use crate::plain_host::PlainHost;
+use crate::random_registers::next_byte;
+use anyhow::Result;
 use rand_core::Rng;
 use rand_pcg::Pcg32;
-use std::test::Fail;
-use vga_bits::Refusal;
+use std::alloc::Global;
+use std::fmt;
+use vga_bits::{Fault, Refusal};
 use vga_host::Host;
 use vga_planes::Planes;
 
 /// How many settings of the registers are compared, and how many cycles on each.
-const SETTINGS: u32 = 4000;
+const SETTINGS: u32 = 40_000;
 
 const CYCLES: u32 = 8;
 
@@ -19,30 +24,48 @@ const SEQ_MASKS: [u8; 5] = [0x03, 0x3D, 0x0F, 0x3F, 0x0E];
 
 const GFX_MASKS: [u8; 9] = [0x0F, 0x0F, 0x0F, 0x1F, 0x03, 0x5B, 0x0F, 0x0F, 0xFF];
 
-/// A byte from a generator's next word.
-fn next_byte(random: &mut Pcg32) -> u8 {
-    (random.next_u32() >> 24) as u8
+/// In what a host path first differs from the model.
+#[derive(Clone, Copy, Debug, PartialEq, Eq)]
+enum Mismatch {
+    /// The answer to a read at an address.
+    Get(u32),
+    /// The answer to a write at an address.
+    Put(u32),
+    /// The latch of a plane, after a cycle at an address.
+    Latch(usize, u32),
+    /// The byte of a plane at an offset, after all cycles.
+    Byte(usize, u16),
 }
 
-/// Gives both all registers anew. A small share of values has few bits, so that plain settings come too.
-fn set_registers(
-    host: &mut Host,
-    plain: &mut PlainHost,
-    random: &mut Pcg32,
-) -> Result<(), Refusal> {
-    for i in 0..5u8 {
-        let v = next_byte(random) & SEQ_MASKS[i as usize];
-        host.out(0x3C4, i)?;
-        host.out(0x3C5, v)?;
-        plain.seq[i as usize] = v;
+/// How the comparison of the host path ended.
+#[derive(Clone, Copy, PartialEq, Eq)]
+pub struct PathOutcome {
+    cycles: u32,
+    mismatch: Option<Mismatch>,
+}
+
+impl PathOutcome {
+    /// Whether all was alike.
+    pub fn is_alike(&self) -> bool {
+        self.mismatch.is_none()
     }
-    for i in 0..9u8 {
-        let v = next_byte(random) & GFX_MASKS[i as usize];
-        host.out(0x3CE, i)?;
-        host.out(0x3CF, v)?;
-        plain.gfx[i as usize] = v;
+}
+
+impl fmt::Display for PathOutcome {
+    fn fmt<W: fmt::Write>(&self, f: &mut fmt::Formatter<W>) -> fmt::Result {
+        let cycles = self.cycles;
+        match self.mismatch {
+            None => write!(f, "{cycles} cycles alike"),
+            Some(mismatch) => write!(f, "differs after {cycles} cycles: {mismatch:?}"),
+        }
     }
-    Ok(())
+}
+
+/// A host path and the plain model, which are given the same registers and cycles.
+#[derive(Drop)]
+struct Paths {
+    host: Host,
+    plain: PlainHost,
 }
 
 /// An address of the adapter's 128 KiB, or one just outside; few offsets, so that they meet again.
@@ -51,52 +74,103 @@ fn next_address(random: &mut Pcg32) -> u32 {
     0x9FFF0 + (word >> 31) * 0x10000 + ((word >> 30) & 1) * 0x8000 + (word & 0x3F)
 }
 
-#[test]
-fn each_cycle_is_the_plain_model_s(rt: HostRuntime) -> Result<(), Fail> {
-    let alloc = rt.alloc();
-    let mut random = Pcg32::new(0x5EED, 1);
-    let mut host = Host::new(Planes::new(alloc)?);
-    let mut plain = PlainHost::new(alloc)?;
-    for _ in 0..SETTINGS {
-        set_registers(&mut host, &mut plain, &mut random)?;
-        for _ in 0..CYCLES {
-            let address = next_address(&mut random);
-            let v = next_byte(&mut random);
-            let place = plain.place(address);
-            if v & 1 == 0 {
-                let wanted = place
-                    .map(|place| plain.get(place))
-                    .ok_or(Refusal::NotDecoded);
-                assert_eq!(rt; host.get(address, MEMORY_ON), wanted, "get {address:x}");
-            } else {
-                let v = next_byte(&mut random);
-                let wanted = place
-                    .map(|place| plain.put(place, v))
-                    .ok_or(Refusal::NotDecoded);
-                assert_eq!(rt;
-                    host.put(address, v, MEMORY_ON),
-                    wanted,
-                    "put {address:x} {v:x}"
-                );
-            }
-            for plane in 0..4usize {
-                assert_eq!(rt;
-                    host.latch().byte(plane),
-                    plain.latches[plane],
-                    "latch {plane}"
-                );
-            }
+impl Paths {
+    fn new(alloc: Global) -> Result<Paths, Fault> {
+        Ok(Paths {
+            host: Host::new(Planes::new(alloc)?),
+            plain: PlainHost::new(alloc)?,
+        })
+    }
+
+    /// Gives both all registers anew.
+    fn set_registers(&mut self, random: &mut Pcg32) -> Result<(), Refusal> {
+        for i in 0..5u8 {
+            let v = next_byte(random) & SEQ_MASKS[i as usize];
+            self.host.out(0x3C4, i)?;
+            self.host.out(0x3C5, v)?;
+            self.plain.seq[i as usize] = v;
+        }
+        for i in 0..9u8 {
+            let v = next_byte(random) & GFX_MASKS[i as usize];
+            self.host.out(0x3CE, i)?;
+            self.host.out(0x3CF, v)?;
+            self.plain.gfx[i as usize] = v;
+        }
+        Ok(())
+    }
+
+    fn get_mismatch(&mut self, address: u32) -> Option<Mismatch> {
+        let wanted = match self.plain.place(address) {
+            Some(place) => Ok(self.plain.get(place)),
+            None => Err(Refusal::NotDecoded),
+        };
+        if self.host.get(address, MEMORY_ON) == wanted {
+            None
+        } else {
+            Some(Mismatch::Get(address))
         }
     }
-    for offset in 0..=0xFFFFu16 {
+
+    fn put_mismatch(&mut self, address: u32, v: u8) -> Option<Mismatch> {
+        let wanted = match self.plain.place(address) {
+            Some(place) => Ok(self.plain.put(place, v)),
+            None => Err(Refusal::NotDecoded),
+        };
+        if self.host.put(address, v, MEMORY_ON) == wanted {
+            None
+        } else {
+            Some(Mismatch::Put(address))
+        }
+    }
+
+    fn latch_mismatch(&self, address: u32) -> Option<Mismatch> {
         for plane in 0..4usize {
-            let wanted = plain.planes.byte(plane, offset);
-            assert_eq!(rt;
-                host.planes().byte(plane, offset),
-                wanted,
-                "plane {plane} at {offset:x}"
-            );
+            if self.host.latch().byte(plane) != self.plain.latches[plane] {
+                return Some(Mismatch::Latch(plane, address));
+            }
+        }
+        None
+    }
+
+    /// A cycle, with the latches that it leaves.
+    fn cycle_mismatch(&mut self, random: &mut Pcg32) -> Option<Mismatch> {
+        let address = next_address(random);
+        let mismatch = if next_byte(random) & 1 == 0 {
+            self.get_mismatch(address)
+        } else {
+            let v = next_byte(random);
+            self.put_mismatch(address, v)
+        };
+        mismatch.or(self.latch_mismatch(address))
+    }
+
+    fn memory_mismatch(&self) -> Option<Mismatch> {
+        for offset in 0..=0xFFFFu16 {
+            for plane in 0..4usize {
+                if self.host.planes().byte(plane, offset) != self.plain.planes.byte(plane, offset) {
+                    return Some(Mismatch::Byte(plane, offset));
+                }
+            }
+        }
+        None
+    }
+}
+
+/// Compares cycles on pseudo-random settings, and then the whole memory.
+pub fn compare_host_path(alloc: Global) -> Result<PathOutcome> {
+    let mut random = Pcg32::new(0x5EED, 1);
+    let mut paths = Paths::new(alloc)?;
+    let mut cycles = 0;
+    for _ in 0..SETTINGS {
+        paths.set_registers(&mut random)?;
+        for _ in 0..CYCLES {
+            let mismatch = paths.cycle_mismatch(&mut random);
+            if mismatch.is_some() {
+                return Ok(PathOutcome { cycles, mismatch });
+            }
+            cycles = cycles.saturating_add(1);
         }
     }
-    Ok(())
+    let mismatch = paths.memory_mismatch();
+    Ok(PathOutcome { cycles, mismatch })
 }
