@@ -4,6 +4,3 @@
 pub mod bda;
 
 pub use bda::Bda;
-
-#[cfg(test)]
-mod tests;

@@ -7,8 +7,3 @@ mod source_dot;
 mod text;
 
 pub use colour::dot_colour;
-pub use source_dot::SourceDot;
-pub use text::Cell;
-
-#[cfg(test)]
-mod tests;

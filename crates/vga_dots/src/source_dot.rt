@@ -7,7 +7,7 @@ use vga_crtc::{Crtc, Registers};
 use vga_host::Host;
 
 /// A dot of a character: the character's counter, and the dot's number, 0 to 8.
-#[derive(Clone, Copy, PartialEq, Eq, Debug)]
+#[derive(Clone, Copy)]
 pub struct SourceDot {
     pub counter: u16,
     pub dot: u8,

@@ -1,10 +1,15 @@
 //! Text: the four bits of a dot of a character with its attribute.
 ghost use Rattle.std.specs.Prelude.{◌≡◌, ◌<◌};
-ghost use Rattle.vga_bits.specs.Bits.{is_set, field};
-ghost use Rattle.vga_dots.specs.Text.{cell_at as cell_of_place, map_start as start_of_map, character_map as map_of_cell, glyph_row as row_of_glyph, is_glyph_dot as is_dot_of_glyph, is_underlined as is_underlined_cell, is_blinked_away as is_blinked_cell, is_cursor_at as is_cursor_of, is_foreground as is_foreground_dot, background as background_of, cell_nibble as nibble_of_cell, text_nibble as nibble_of_text};
+ghost use Rattle.vga_dots.specs.Text.{cell_at as cell_of_place, map_start as start_of_map};
+ghost use Rattle.vga_dots.specs.Text.{character_map as map_of_cell, glyph_row as row_of_glyph};
+ghost use Rattle.vga_dots.specs.Text.{is_glyph_dot as is_dot_of_glyph, is_underlined as is_underlined_cell};
+ghost use Rattle.vga_dots.specs.Text.{is_blinked_away as is_blinked_cell, is_cursor_at as is_cursor_of};
+ghost use Rattle.vga_dots.specs.Text.{is_foreground as is_foreground_dot, background as background_of};
+ghost use Rattle.vga_dots.specs.Text.{cell_nibble as nibble_of_cell, text_nibble as nibble_of_text};
 
 use crate::source_dot::{SourceDot, fetch_address};
 use vga_attr::Attr;
+use vga_bits::is_set;
 use vga_crtc::Crtc;
 use vga_host::Host;
 
@@ -22,7 +27,7 @@ const GLYPH_BYTES: u16 = 32;
 const UNDERLINE_BITS: u8 = 0x77;
 
 /// A character and its attribute.
-#[derive(Clone, Copy, PartialEq, Eq, Debug)]
+#[derive(Clone, Copy)]
 pub struct Cell {
     pub character: u8,
     pub attribute: u8,
@@ -40,14 +45,6 @@ fn cell_at(host: &Host, address: u16) -> Cell
     }
 }
 
-/// Bit `i`, 0 to 7, of an attribute or of a glyph's row.
-fn is_one(byte: u8, i: u8) -> bool
-    requires { i < 8 }
-    ensures { result ≡ is_set byte i }
-{
-    (byte >> i) & 1 == 1
-}
-
 /// Where a character map, 0 to 7, begins in its plane.
 fn map_start(map: u8) -> u16
     requires { map < 8 }
@@ -61,7 +58,7 @@ fn character_map(host: &Host, cell: Cell) -> u8
     ensures value { result ≡ map_of_cell host.now cell }
     ensures below { result < 8 }
 {
-    if is_one(cell.attribute, 3) {
+    if is_set(cell.attribute, 3) {
         host.character_map_a()
     } else {
         host.character_map_b()
@@ -85,9 +82,9 @@ fn is_glyph_dot(attr: &Attr, character: u8, row: u8, i: u8) -> bool
     ensures { result ≡ is_dot_of_glyph attr.now character row i }
 {
     if i < 8 {
-        is_one(row, 7 - i)
+        is_set(row, (7 - i) as u32)
     } else {
-        attr.is_line_graphics() && 0xC0 <= character && character <= 0xDF && is_one(row, 0)
+        attr.is_line_graphics() && 0xC0 <= character && character <= 0xDF && is_set(row, 0)
     }
 }
 
@@ -106,7 +103,7 @@ fn is_underlined(crtc: &Crtc, attr: &Attr, cell: Cell) -> bool
 fn is_blinked_away(crtc: &Crtc, attr: &Attr, cell: Cell) -> bool
     ensures { result ≡ is_blinked_cell crtc.now attr.now cell }
 {
-    attr.is_blink() && is_one(cell.attribute, 7) && 16 <= crtc.beam().frame
+    attr.is_blink() && is_set(cell.attribute, 7) && 16 <= crtc.beam().frame
 }
 
 /// Whether the cursor is shown at a counter.
