@@ -5,8 +5,8 @@ use Rattle.std.proofs.lemmas.Bool.{cases_eq}
 use Rattle.std.proofs.lemmas.List.{length-set, get_or-set_same, get_or-set_other, append-nil, length-replicate, replicate-append-replicate, take-append-le, drop-append-le, take_all, length-drop}
 use Rattle.vga_bits.specs.Bytes.{zeros}
 use Rattle.vga_bits.proofs.ByteLemmas.{zeros_at}
-use Rattle.vga_card.specs.Picture.{Dot, lines_of, lines_from}
-use Rattle.vga_card.specs.Canvas.{Sheet, empty_sheet, widest, dots_from, stored_dots, IsCanvas}
+use Rattle.vga_card.specs.Picture.{Dot, widest, lines_of, lines_from}
+use Rattle.vga_card.specs.Canvas.{Sheet, empty_sheet, dots_from, stored_dots, IsCanvas}
 
 -- no later line has a dot
 no_lines : (u : ℕ) (ws : List ℕ) → ((j : ℕ) → slice_index ws j ≡ 0) → lines_from u ws ≡ []

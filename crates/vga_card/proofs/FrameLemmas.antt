@@ -1,15 +1,14 @@
 -- Frames: their end, and what is drawn on the way.
-use Rattle.std.proofs.Common.{◌≡◌, ℕ, zero, suc, ◌+◌, ◌-◌, ◌%◌, ◌<◌, ◌≤◌, ⊎_elim, refl, sym, ap, subst, ◌∙◌, arith, Bool, true, false, List, [], ◌∷◌, ◌++◌, append_assoc, length, replicate, Some, None}
+use Rattle.std.proofs.Common.{◌≡◌, ℕ, zero, suc, ◌+◌, ◌-◌, ◌<◌, ◌≤◌, ⊎_elim, refl, sym, ap, subst, ◌∙◌, arith, Bool, true, false, List, [], ◌∷◌, ◌++◌, append_assoc, length, replicate, Some, None}
 use Rattle.std.specs.Prelude.{if◌then◌else◌, ◌==◌, ◌&&◌}
 use Rattle.std.proofs.lemmas.Bool.Decides.{nat_tests}
 use Rattle.std.proofs.lemmas.Bool.{cases_order}
 use Rattle.std.proofs.lemmas.List.{length-replicate}
 use Rattle.vga_host.specs.Host.{HostState}
 use Rattle.vga_crtc.specs.declared.beam.Beam.{Beam}
-use Rattle.vga_crtc.specs.Crtc.{CrtcState, first_dot}
+use Rattle.vga_crtc.specs.Crtc.{CrtcState}
 use Rattle.vga_crtc.specs.Beam.{is_first_dot, after_start, after_dot, after_dots, dots as beam_dots}
-use Rattle.vga_crtc.specs.Raster.{dots_in_line, dots_in_frame, IsFrameStart}
-use Rattle.vga_crtc.proofs.Ends.{frame_ends}
+use Rattle.vga_crtc.specs.Raster.{IsFrameStart, FrameEnds}
 use Rattle.vga_attr.specs.Attr.{AttrState}
 use Rattle.vga_dac.specs.Dac.{DacState}
 use Rattle.vga_card.specs.Picture.{Dot, lines_of, lines_from, all_are, runs, shape, shape_of}
@@ -47,38 +46,39 @@ beam_after : (n : ℕ) (c : CardState) → (dots n c).crtc.beam ≡ beam_dots (c
 unfolding after_dots
 beam_after n c = ap (λ (x : CrtcState). x.beam) (dots_crtc n c)
 
+-- n dots change the beam and what is drawn, and nothing else
+pub dots_keep : (n : ℕ) (c : CardState) → dots n c ≡ record c { crtc = after_dots c.crtc (character_width c) n; drawn = (dots n c).drawn }
+unfolding dots dot after_dot after_dots beam_dots
+dots_keep zero c = refl
+dots_keep (suc n) c = dots_keep n (dot c)
+
 -- ---- the end of a frame
+
+-- what the CRT controller promises of the end of a frame
+abbrev pub FramesEnd : Type 0
+FramesEnd = (cw : ℕ) (r : List ℕ) (b : Beam) → 0 < cw → FrameEnds cw r b
 
 wide : (v : Bool) → 0 < (if v then 8 else 9)
 wide true = omega arith
 wide false = omega arith
 
-some_dots : (cw : ℕ) (r : List ℕ) (b : Beam) → 0 < dots_in_frame cw r b
-unfolding dots_in_frame dots_in_line
-some_dots cw r b = omega arith
-
-first_dot_is : (b : Beam) (f : ℕ) → b ≡ first_dot f → IsFrameStart b
-first_dot_is b f e = record { line = ap (λ (x : Beam). x.line) e; character = ap (λ (x : Beam). x.character) e; dot = ap (λ (x : Beam). x.dot) e }
-
-pub frame_ends_first : (c : CardState) → EndsFirst c
-frame_ends_first c =
-    let w = character_width c in
-    let r = c.crtc.registers in
-    let b = c.crtc.beam in
-    let ends = frame_ends w r b (wide _) in
+pub frame_ends_first : FramesEnd → (c : CardState) → EndsFirst c
+frame_ends_first ends_at c =
+    let ends = ends_at (character_width c) c.crtc.registers c.crtc.beam (wide _) in
     record {
-      some = some_dots w r b;
-      there = first_dot_is (dots (frame_count c) c).crtc.beam ((b.frame + 1) % 32) (beam_after (frame_count c) c ∙ ends.next);
+      some = ends.some;
+      next = beam_after (frame_count c) c ∙ ends.next;
+      there = subst IsFrameStart (sym (beam_after (frame_count c) c)) ends.there;
       first = λ m lo hi start. ends.first m lo hi (subst IsFrameStart (beam_after m c) start);
     }
 
 -- the dots that are left after n dots of a frame, with these, are the frame's
-frame_left : (c : CardState) (n : ℕ) → n < frame_count c → n + frame_count (dots n c) ≡ frame_count c
-frame_left c n within =
+frame_left : FramesEnd → (c : CardState) (n : ℕ) → n < frame_count c → n + frame_count (dots n c) ≡ frame_count c
+frame_left ends_at c n within =
     let all = frame_count c in
     let left = frame_count (dots n c) in
-    let ends = frame_ends_first c in
-    let later = frame_ends_first (dots n c) in
+    let ends = frame_ends_first ends_at c in
+    let later = frame_ends_first ends_at (dots n c) in
     let at : (m : ℕ) → (dots (n + m) c).crtc.beam ≡ (dots m (dots n c)).crtc.beam = λ m. ap (λ (x : CardState). x.crtc.beam) (dots_split n m c) in
     let whole : n + (all - n) ≡ all = omega arith in
     ⊎_elim
@@ -89,8 +89,8 @@ frame_left c n within =
     (cases_order (n + left) all)
 
 -- a frame goes on after some of its dots
-pub frame_goes_on : (c : CardState) (n : ℕ) → n < frame_count c → frame (dots n c) ≡ frame c
-frame_goes_on c n within = sym (dots_split n (frame_count (dots n c)) c) ∙ ap (λ k. dots k c) (frame_left c n within)
+pub frame_goes_on : FramesEnd → (c : CardState) (n : ℕ) → n < frame_count c → frame (dots n c) ≡ frame c
+frame_goes_on ends_at c n within = sym (dots_split n (frame_count (dots n c)) c) ∙ ap (λ k. dots k c) (frame_left ends_at c n within)
 
 -- ---- what is drawn on the way
 
@@ -118,25 +118,25 @@ is_away false h = refl
 start_is : (b : Beam) → is_first_dot b ≡ true → IsFrameStart b
 start_is b h = record { line = grind (arith, nat_tests); character = grind (arith, nat_tests); dot = grind (arith, nat_tests) }
 
-draws_more : (c : CardState) (n : ℕ) → suc n ≤ frame_count c → (dots (suc n) c).drawn ≡ fresh c ++ collect (display_dot_at c) (suc n)
-draws_more c zero hi =
+draws_more : FramesEnd → (c : CardState) (n : ℕ) → suc n ≤ frame_count c → (dots (suc n) c).drawn ≡ fresh c ++ collect (display_dot_at c) (suc n)
+draws_more ends_at c zero hi =
     let e : 1 ≡ 0 + 1 = omega arith in
     ap (λ k. (dots k c).drawn) e ∙ ap (λ (x : CardState). x.drawn) (dots_more 0 c ∙ ap dot (dots_none c)) ∙ dot_drawn c
     ∙ ap (λ (x : CardState). fresh c ++ display_dot x.host (after_start x.crtc) x.attr x.dac) (sym (dots_none c)) ∙ ap (λ x. fresh c ++ x) (joins 0 c)
-draws_more c (suc n) hi =
-    let ends = frame_ends_first c in
+draws_more ends_at c (suc n) hi =
+    let ends = frame_ends_first ends_at c in
     let e : suc (suc n) ≡ suc n + 1 = omega arith in
     let d = dots (suc n) c in
     let away : is_first_dot d.crtc.beam ≡ false = is_away (is_first_dot d.crtc.beam) (λ h. ends.first (suc n) (omega arith) (omega arith) (start_is d.crtc.beam h)) in
     ap (λ k. (dots k c).drawn) e ∙ ap (λ (x : CardState). x.drawn) (dots_more (suc n) c) ∙ dot_drawn d
     ∙ ap (λ v. (if v then [] else d.drawn) ++ display_dot d.host (after_start d.crtc) d.attr d.dac) away
     ∙ ap (λ x. d.drawn ++ x) (joins (suc n) c)
-    ∙ ap (λ x. x ++ display_dot_at c (suc n)) (draws_more c n (omega arith))
+    ∙ ap (λ x. x ++ display_dot_at c (suc n)) (draws_more ends_at c n (omega arith))
     ∙ append_assoc (fresh c) (collect (display_dot_at c) (suc n)) (display_dot_at c (suc n))
 
-pub dots_are_places : (c : CardState) → DrawsPlaces c
-dots_are_places c zero lo hi = absurd (omega arith)
-dots_are_places c (suc n) lo hi = draws_more c n hi
+pub dots_are_places : FramesEnd → (c : CardState) → DrawsPlaces c
+dots_are_places ends_at c zero lo hi = absurd (omega arith)
+dots_are_places ends_at c (suc n) lo hi = draws_more ends_at c n hi
 
 -- ---- rows of one width
 

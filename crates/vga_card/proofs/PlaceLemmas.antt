@@ -6,26 +6,31 @@ use Rattle.vga_bits.specs.declared.refusal.Refusal.{Refusal}
 use Rattle.vga_bits.specs.declared.refusal.Refusal.TheVariants.{NotInProfile}
 use Rattle.vga_crtc.specs.declared.beam.Beam.{Beam}
 use Rattle.vga_crtc.specs.Crtc.{CrtcState}
-use Rattle.vga_crtc.specs.Beam.{is_first_dot, dot, after_start, after_dot}
+use Rattle.vga_crtc.specs.Beam.{is_first_dot, started, dot, after_start, after_dot}
 use Rattle.vga_crtc.specs.Ports.{kept_bits, is_write_protected, protected_overflow, after_out}
-use Rattle.vga_crtc.specs.Raster.{IsFrameStart, IsNextDot, IsNextCharacter, IsNextLine, IsNextPlace}
-use Rattle.vga_crtc.proofs.Moves.{dot_moves, started_place}
+use Rattle.vga_crtc.specs.Raster.{IsSamePlace, IsFrameStart, IsNextDot, IsNextCharacter, IsNextLine, IsNextPlace}
 use Rattle.vga_card.specs.Valid.{fresh_count, IsDrawnTo}
 
--- taking the start of a frame does not move the beam
-pub drawn_started : (crtc : CrtcState) (more line width : ℕ) → IsDrawnTo crtc.beam more line width → IsDrawnTo (after_start crtc).beam more line width
+-- what the CRT controller promises: taking the start of a frame does not move the beam, and where one dot leads
+abbrev pub StartStays : Type 0
+StartStays = (r : List ℕ) (b : Beam) → IsSamePlace b (started r b)
+
+abbrev pub DotMoves : Type 0
+DotMoves = (cw : ℕ) (r : List ℕ) (b : Beam) → IsNextPlace cw r b (dot cw r b)
+
+pub drawn_started : StartStays → (crtc : CrtcState) (more line width : ℕ) → IsDrawnTo crtc.beam more line width → IsDrawnTo (after_start crtc).beam more line width
 unfolding after_start
-drawn_started crtc more line width is =
-    let place = started_place crtc.registers crtc.beam in
+drawn_started stays crtc more line width is =
+    let place = stays crtc.registers crtc.beam in
     record {
       below = omega (arith, is.below, place.line);
       few = λ e. omega (arith, is.few (e ∙ place.line), place.character, place.dot);
     }
 
-drawn_unstarted : (crtc : CrtcState) (more line width : ℕ) → IsDrawnTo (after_start crtc).beam more line width → IsDrawnTo crtc.beam more line width
+drawn_unstarted : StartStays → (crtc : CrtcState) (more line width : ℕ) → IsDrawnTo (after_start crtc).beam more line width → IsDrawnTo crtc.beam more line width
 unfolding after_start
-drawn_unstarted crtc more line width is =
-    let place = started_place crtc.registers crtc.beam in
+drawn_unstarted stays crtc more line width is =
+    let place = stays crtc.registers crtc.beam in
     record {
       below = omega (arith, is.below, place.line);
       few = λ e. omega (arith, is.few (e ∙ sym place.line), place.character, place.dot);
@@ -54,12 +59,12 @@ drawn_moves cw r b m line width within next is away =
     (λ (start : IsFrameStart m). absurd (elsewhere m away start))))
     next
 
-pub card_moves : (crtc : CrtcState) (cw line width : ℕ) → crtc.beam.dot < 9 → IsDrawnTo (after_start crtc).beam 1 line width → IsDrawnTo (after_dot crtc cw).beam 0 (fresh_count (after_dot crtc cw).beam line) (fresh_count (after_dot crtc cw).beam width)
+pub card_moves : StartStays → DotMoves → (crtc : CrtcState) (cw line width : ℕ) → crtc.beam.dot < 9 → IsDrawnTo (after_start crtc).beam 1 line width → IsDrawnTo (after_dot crtc cw).beam 0 (fresh_count (after_dot crtc cw).beam line) (fresh_count (after_dot crtc cw).beam width)
 unfolding after_dot
-card_moves crtc cw line width within is =
+card_moves stays moves crtc cw line width within is =
     let r = crtc.registers in
     let m : Beam = dot cw r crtc.beam in
-    decided (is_first_dot m) m line width (drawn_moves cw r crtc.beam m line width within (dot_moves cw r crtc.beam) (drawn_unstarted crtc 1 line width is))
+    decided (is_first_dot m) m line width (drawn_moves cw r crtc.beam m line width within (moves cw r crtc.beam) (drawn_unstarted stays crtc 1 line width is))
 
 -- ---- a write to a port of the CRT controller does not move the beam
 

@@ -1,19 +1,22 @@
 //! The dots that were drawn of the frame under way.
-ghost use Rattle.std.specs.Prelude.{◌≡◌, ℕ, ◌+◌, ◌*◌, ◌<◌, ◌≤◌, [], ◌∷◌, ◌++◌, length, slice_index, vec_len, vec_capacity, IfOk, IfSome, IsOkUnless};
+ghost use Rattle.std.specs.Prelude.{◌≡◌, ℕ, ◌+◌, ◌*◌, ◌<◌, ◌≤◌, [], ◌∷◌, ◌++◌, length};
+ghost use Rattle.std.specs.Prelude.{slice_index, vec_len, vec_capacity, IfOk, IfSome, IsOkUnless};
 ghost use Rattle.vga_bits.specs.Bytes.{zeros};
-ghost use Rattle.vga_card.specs.Picture.{Dot, bytes_of, shape, rows};
-ghost use Rattle.vga_card.specs.Canvas.{IsSmallShape, empty_sheet, widest, width_with};
+ghost use Rattle.vga_card.specs.Picture.{Dot, widest, highest, bytes_of, shape, rows, IsPictureOf};
+ghost use Rattle.vga_card.specs.Frames.{IsSmall};
+ghost use Rattle.vga_card.specs.Canvas.{IsSmallShape, empty_sheet, width_with};
 
+use crate::drawn::Drawn;
 use crate::shape::{Shape, count_rows};
 use std::alloc::Global;
 use std::marker::Model;
 use vga_bits::Fault;
 
-/// How many dots a frame can have: 1,024 lines of 256 characters of 9 dots.
-const DOTS: usize = 2_359_296;
+/// How many dots a line can have: 256 characters of 9 dots.
+const WIDEST: usize = 2_304;
 
 /// How many lines of a frame can have a dot.
-const LINES: usize = 1_024;
+const HIGHEST: usize = 1_024;
 
 /// The dots in order in one buffer, three bytes each, and how many of them each line has. The buffer
 /// keeps its memory when it is cleared.
@@ -86,8 +89,8 @@ impl Canvas {
         ensures ok { IfOk result (λ canvas. canvas ≡ empty_sheet) }
         ensures err { IsOkUnless result Fault.OutOfMemory }
     {
-        let buffer = room_for(alloc, 3 * DOTS)?;
-        let widths = zero_widths(alloc, LINES)?;
+        let buffer = room_for(alloc, 3 * WIDEST * HIGHEST)?;
+        let widths = zero_widths(alloc, HIGHEST)?;
         Ok(Canvas {
             buffer,
             widths,
@@ -98,7 +101,7 @@ impl Canvas {
     /// Adds a dot, in red, green and blue, to the last line or to one after it. A line is below 1,024
     /// and has at most 2,304 dots.
     pub(crate) fn add(&mut self, line: u16, colour: [u8; 3])
-        requires lines { line < 1024 }
+        requires lines { line < highest }
         requires after { self.old.line ≤ line }
         requires room { line ≡ self.old.line → self.old.width < widest }
         ensures dots { self.new.dots ≡ self.old.dots ++ (record { line = line; colour = colour }) ∷ [] }
@@ -128,7 +131,7 @@ impl Canvas {
     }
 
     /// The shape of the picture, at most 2,304 by 1,024, or `None` where two rows differ in width.
-    pub(crate) fn shape(&self) -> Option<Shape>
+    fn shape(&self) -> Option<Shape>
         ensures value { result ≡ shape self.now.dots }
         ensures few { IfSome result IsSmallShape }
         ensures area { IfSome result (λ shape. length self.now.dots ≡ shape.width * shape.height) }
@@ -137,10 +140,21 @@ impl Canvas {
     }
 
     /// Red, green and blue of each dot in turn.
-    pub(crate) fn bytes(&self) -> &[u8]
+    fn bytes(&self) -> &[u8]
         ensures value { result.now ≡ bytes_of self.now.dots }
         ensures len { length result.now ≡ 3 * length self.now.dots }
     {
         self.buffer.as_slice()
+    }
+
+    /// The picture of the dots.
+    pub(crate) fn picture(&self) -> Drawn<'_>
+        ensures picture { IsPictureOf self.now.dots result }
+        ensures few { IsSmall result }
+    {
+        match self.shape() {
+            Some(shape) => Drawn::Picture(shape.width, shape.height, self.bytes()),
+            None => Drawn::Ragged,
+        }
     }
 }

@@ -8,6 +8,7 @@ use super::Card;
 use crate::canvas::Canvas;
 use vga_attr::Attr;
 use vga_bits::Refusal;
+use vga_crtc::laws::{dot_moves, start_is_taken_once};
 use vga_crtc::{Beam, Crtc};
 use vga_dac::Dac;
 use vga_dots::dot_colour;
@@ -37,6 +38,7 @@ fn draw_dot(host: &Host, crtc: &mut Crtc, attr: &Attr, dac: &Dac, canvas: &mut C
     ensures dots { canvas.new.dots ≡ canvas.old.dots ++ display_dot host.now (after_start crtc.old) attr.now dac.now }
     ensures place { IsDrawnTo (after_start crtc.old).beam 1 canvas.new.line canvas.new.width }
 {
+    start_is_taken_once();
     crtc.take_start();
     if crtc.is_display() {
         canvas.add(crtc.beam().line, dot_colour(host, crtc, attr, dac));
@@ -49,6 +51,8 @@ impl Card {
     fn take_dot(&mut self)
         ensures { self.new ≡ dot self.old }
     {
+        start_is_taken_once();
+        dot_moves();
         let width = self.host.character_width();
         clear_at_first_dot(self.crtc.beam(), &mut self.canvas);
         draw_dot(
