@@ -4,3 +4,4 @@ pub mod ShapeLemmas
 pub mod PlaceLemmas
 pub mod DotLemmas
 pub mod FrameLemmas
+pub mod BoundLemmas

@@ -7,3 +7,4 @@ pub mod Words
 pub mod Dots
 pub mod Frames
 pub mod Valid
+pub mod Bounds
