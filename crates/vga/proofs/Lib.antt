@@ -2,4 +2,3 @@ pub mod CountLemmas
 pub mod PathLemmas
 pub mod WordsLemmas
 pub mod ScriptsLemmas
-pub mod RunTextLemmas

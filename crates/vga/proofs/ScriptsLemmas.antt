@@ -1,9 +1,9 @@
 -- From what is read of a script, or of a text that spells one, to what a command answers.
-use Rattle.std.proofs.Common.{◌≡◌, ◌⊎◌, inl, inr, ℕ, ◌<◌, ◌≤◌, Bool, List, length, Option, Some, None, IfSome, IfOk, IsOkUnless, Result, Ok, Err, Vec, arith, refl, sym, subst}
+use Rattle.std.proofs.Common.{◌≡◌, ◌⊎◌, inl, inr, ℕ, ◌<◌, ◌≤◌, Bool, false, List, length, Option, Some, None, IfSome, IfOk, IsOkUnless, Result, Ok, Err, Vec, arith, refl, sym, subst}
 use Rattle.std.specs.declared.alloc.Global.{Global}
 use Rattle.vga_bits.specs.Tracked.{Writes}
 use Rattle.vga_bits.specs.declared.fault.Fault.{Fault}
-use Rattle.vga_bits.specs.declared.fault.Fault.TheVariants.{BadMagic, BadVersion, BadStep, Truncated, TooLong, BadLine, ReadFault, OutOfMemory}
+use Rattle.vga_bits.specs.declared.fault.Fault.TheVariants.{FontSize, BadMagic, BadVersion, BadStep, Truncated, TooLong, BadLine, ReadFault, WriteFault, OutOfMemory}
 use Rattle.vga_script.specs.declared.step.Step.{Step}
 use Rattle.vga_script.specs.Decoding.{IsFault}
 use Rattle.vga_script.specs.Printing.{printed}
@@ -12,7 +12,8 @@ use Rattle.vga_script.specs.Spelling.{Spells, encoding, script_limit}
 use Rattle.vga_script.specs.Text.{SpellsText}
 use Rattle.vga_bits.specs.Reading.{IsFront, ReadsFront}
 use Rattle.vga_bits.proofs.ReadingLemmas.{front_is_all, front_is_long}
-use Rattle.vga.specs.Scripts.{Assembles, HoldsFault, HoldsTextFault, Prints}
+use Rattle.vga_run.specs.Run.{RunsScript, is_write_fault}
+use Rattle.vga.specs.Scripts.{Assembles, FindsScript, HoldsFault, HoldsTextFault, Prints, RunsText}
 
 -- ---- what was read, and what the reader held
 
@@ -40,23 +41,50 @@ text_fault_held input text (BadLine n) front (short, bad) = held (λ all. IsText
 text_fault_held input text _ front bad = absurd bad
 
 -- a failed read of a text
-pub unread_text : (most : ℕ) (input after : Option (List ℕ)) (failed : Bool) (f : Fault) → ReadsFront most input after failed (Err f) → Assembles input (Err f)
+pub unread_text : (most : ℕ) (input after : Option (List ℕ)) (failed : Bool) (f : Fault) → ReadsFront most input after failed (Err f) → FindsScript input (Err f)
 unread_text most input after failed ReadFault h = tt
 unread_text most input after failed OutOfMemory h = tt
 unread_text most input after failed _ h = absurd h
 
 -- a text that is not assembled
-pub bad_text : (input : Option (List ℕ)) (text : List ℕ) (f : Fault) → IsFront 16777217 input text → (f ≡ OutOfMemory) ⊎ IsTextFault text f → Assembles input (Err f)
-bad_text input text f front (inl is) = subst (λ (x : Fault). Assembles input (Err x)) (sym is) tt
+pub bad_text : (input : Option (List ℕ)) (text : List ℕ) (f : Fault) → IsFront 16777217 input text → (f ≡ OutOfMemory) ⊎ IsTextFault text f → FindsScript input (Err f)
+bad_text input text f front (inl is) = subst (λ (x : Fault). FindsScript input (Err x)) (sym is) tt
 bad_text input text TooLong front (inr bad) = text_fault_held input text TooLong front bad
 bad_text input text (BadLine n) front (inr bad) = text_fault_held input text (BadLine n) front bad
 bad_text input text _ front (inr bad) = absurd bad
 
 -- a text that is assembled
-pub good_text : (input : Option (List ℕ)) (text : List ℕ) (steps : List Step) (result : Result (Vec ℕ Global) Fault) → IsFront 16777217 input text → length text ≤ script_limit
-    → SpellsText text steps → IsScript steps → IfOk result (λ bytes. bytes.items ≡ encoding steps) → IsOkUnless result OutOfMemory → Assembles input result
-good_text input text steps (Ok bytes) front short spelled script are only = (steps, (script, held (λ all. (length all ≤ script_limit) × SpellsText all steps) input text front short (short, spelled)), are)
-good_text input text steps (Err f) front short spelled script are only = subst (λ (x : Fault). Assembles input (Err x)) (sym only) tt
+pub good_text : (input : Option (List ℕ)) (text : List ℕ) (steps : List Step) → IsFront 16777217 input text → length text ≤ script_limit → SpellsText text steps → IsScript steps
+    → FindsScript input (Ok steps)
+good_text input text steps front short spelled script = (script, held (λ all. (length all ≤ script_limit) × SpellsText all steps) input text front short (short, spelled))
+
+-- the bytes of a text that is assembled
+pub assembled : (input : Option (List ℕ)) (steps : List Step) (result : Result (Vec ℕ Global) Fault) → FindsScript input (Ok steps)
+    → IfOk result (λ bytes. bytes.items ≡ encoding steps) → IsOkUnless result OutOfMemory → Assembles input result
+assembled input steps (Ok bytes) found are only = (steps, found, are)
+assembled input steps (Err f) found are only = subst (λ (x : Fault). Assembles input (Err x)) (sym only) tt
+
+-- ---- a text that is run
+
+-- a text that is not assembled
+pub not_run : (until : Option ℕ) (fonts : ℕ) (input before after : Option (List ℕ)) (f : Fault) → FindsScript input (Err f) → RunsText until fonts input before after (Err f)
+not_run until fonts input before after FontSize h = absurd h
+not_run until fonts input before after WriteFault h = absurd h
+not_run until fonts input before after f h = h
+
+-- the writer has no part in it
+pub no_write_fault : (input : Option (List ℕ)) (failed : Bool) (f : Fault) → FindsScript input (Err f) → failed ≡ false → failed ≡ is_write_fault {A = Unit} (Err f)
+no_write_fault input failed WriteFault h sound = absurd h
+no_write_fault input failed _ h sound = sound
+
+-- a text whose script is run
+pub script_is_run : (until : Option ℕ) (fonts : ℕ) (input before after : Option (List ℕ)) (steps : List Step) (result : Result Unit Fault) → FindsScript input (Ok steps)
+    → RunsScript until fonts steps before after result → RunsText until fonts input before after result
+script_is_run until fonts input before after steps (Ok u) found (size, written) = (size, (steps, found, written))
+script_is_run until fonts input before after steps (Err WriteFault) found (size, written) = (size, (steps, found, written))
+script_is_run until fonts input before after steps (Err FontSize) found h = (h, (steps, found))
+script_is_run until fonts input before after steps (Err OutOfMemory) found h = tt
+script_is_run until fonts input before after steps (Err _) found h = absurd h
 
 -- ---- a script in bytes
 

@@ -30,14 +30,23 @@ HoldsScript input steps = IfSome input (λ bytes. (length bytes ≤ script_limit
 abbrev pub HoldsFault : Option (List ℕ) → Fault → Type 0
 HoldsFault input fault = IfSome input (λ bytes. IsFault bytes fault)
 
--- What assembling answers: the bytes of the script that the text spells, or the text's first fault.
+-- why a text that a reader holds is not assembled: its first fault, or a reader that failed, or want of memory
+abbrev pub IsAssemblingFault : Option (List ℕ) → Fault → Type 0
+IsAssemblingFault input TooLong = HoldsTextFault input TooLong
+IsAssemblingFault input (BadLine n) = HoldsTextFault input (BadLine n)
+IsAssemblingFault input ReadFault = ⊤
+IsAssemblingFault input OutOfMemory = ⊤
+IsAssemblingFault input _ = ⊥
+
+-- What reading a text answers: the steps that it spells, or why there are none.
+abbrev pub FindsScript : Option (List ℕ) → Result (List Step) Fault → Type 0
+FindsScript input (Ok steps) = HoldsText input steps
+FindsScript input (Err fault) = IsAssemblingFault input fault
+
+-- What assembling answers: the bytes of the script that the text spells, or why there are none.
 abbrev pub Assembles : Option (List ℕ) → Result (Vec ℕ Global) Fault → Type 0
 Assembles input (Ok bytes) = (steps : List Step) × HoldsText input steps × (bytes.items ≡ encoding steps)
-Assembles input (Err TooLong) = HoldsTextFault input TooLong
-Assembles input (Err (BadLine n)) = HoldsTextFault input (BadLine n)
-Assembles input (Err ReadFault) = ⊤
-Assembles input (Err OutOfMemory) = ⊤
-Assembles input (Err _) = ⊥
+Assembles input (Err fault) = IsAssemblingFault input fault
 
 -- What printing a script as text answers, over a writer that holds what is before and after: it has written the printed text
 -- of the script, or a front of it where the writer fails; or the first fault of the bytes.
@@ -55,13 +64,9 @@ Prints input before after (Err _) = ⊥
 
 -- What running a text answers that is stopped after so many steps, or not, over fonts of so many bytes, and a writer that
 -- holds what is before and after: it has written the report of the script that the text spells, or a front of it where the
--- writer fails; or the text's first fault; or the fault of the fonts, which is judged after the text.
+-- writer fails; or why the text is not assembled; or the fault of the fonts, which is judged after the text.
 abbrev pub RunsText : Option ℕ → ℕ → Option (List ℕ) → Option (List ℕ) → Option (List ℕ) → Result Unit Fault → Type 0
 RunsText until fonts input before after (Ok done) = (fonts ≡ fonts_len) × ((steps : List Step) × HoldsText input steps × Appends before after (report_of (steps_until until steps)))
 RunsText until fonts input before after (Err WriteFault) = (fonts ≡ fonts_len) × ((steps : List Step) × HoldsText input steps × AppendsFront before after (report_of (steps_until until steps)))
 RunsText until fonts input before after (Err FontSize) = (fonts ≢ fonts_len) × ((steps : List Step) × HoldsText input steps)
-RunsText until fonts input before after (Err TooLong) = HoldsTextFault input TooLong
-RunsText until fonts input before after (Err (BadLine n)) = HoldsTextFault input (BadLine n)
-RunsText until fonts input before after (Err ReadFault) = ⊤
-RunsText until fonts input before after (Err OutOfMemory) = ⊤
-RunsText until fonts input before after (Err _) = ⊥
+RunsText until fonts input before after (Err fault) = IsAssemblingFault input fault

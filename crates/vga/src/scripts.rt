@@ -1,13 +1,12 @@
 //! What the commands do, over readers and writers.
-ghost use Rattle.std.specs.Prelude.{◌≡◌, ◌≢◌, ◌+◌, length, false, IfErr, IfOk, IsOkUnless};
+ghost use Rattle.std.specs.Prelude.{◌≡◌, ◌≢◌, ◌+◌, length, false, IfErr};
 ghost use Rattle.vga_bits.specs.declared.fault.Fault.TheVariants.{WriteFault};
 ghost use Rattle.vga_bits.specs.Tracked.{inner_of, has_failed};
 ghost use Rattle.vga_bits.specs.Reading.{TakesAtMost};
 ghost use Rattle.vga_run.specs.Reading.{is_read_fault};
 ghost use Rattle.vga_run.specs.Run.{is_write_fault};
-ghost use Rattle.vga_script.specs.Script.{IsScript};
-ghost use Rattle.vga_script.specs.Spelling.{encoding, script_limit};
-ghost use Rattle.vga.specs.Scripts.{Assembles, Prints, RunsText};
+ghost use Rattle.vga_script.specs.Spelling.{script_limit};
+ghost use Rattle.vga.specs.Scripts.{Assembles, FindsScript, Prints, RunsText};
 
 use super::reading::read_script;
 use super::writing::write_all;
@@ -16,15 +15,21 @@ use std::io::{Read, Write};
 use vga_bits::{Fault, Tracked};
 use vga_script::{Script, assemble, decode, encode, print};
 
-/// The bytes of a script, which are no more than a script may have. It fails with `OutOfMemory` alone.
-fn encoded(alloc: Global, script: &Script) -> Result<Vec<u8>, Fault>
-    ensures script { IsScript script.now }
-    ensures ok { IfOk result (λ bytes. bytes.items ≡ encoding script.now) }
-    ensures err { IsOkUnless result Fault.OutOfMemory }
+/// The script that a text spells. At most 16,777,217 bytes of the text are read.
+///
+/// # Errors
+///
+/// `ReadFault` where the reader fails, `TooLong` and `BadLine` as `assemble` says, and `OutOfMemory`.
+#[tactic(auto, using(crate::proofs::ScriptsLemmas::unread_text, crate::proofs::ScriptsLemmas::bad_text, crate::proofs::ScriptsLemmas::good_text))]
+fn script_of_text<R: Read>(alloc: Global, text: &mut Tracked<R>) -> Result<Script, Fault>
+    requires { has_failed text.old ≡ false }
+    ensures answer { FindsScript (R.remaining (inner_of text.old)) result }
+    ensures failed { has_failed text.new ≡ is_read_fault result }
+    ensures taken { TakesAtMost (script_limit + 1) (R.remaining (inner_of text.old))
+        (R.remaining (inner_of text.new)) }
 {
-    // The steps are in range, and few: their list is what says so.
-    let _steps = script.list();
-    encode(alloc, script)
+    let text = read_script(alloc, text)?;
+    assemble(alloc, text.as_slice())
 }
 
 /// The bytes of the script that a text spells. At most 16,777,217 bytes of the text are read.
@@ -32,7 +37,7 @@ fn encoded(alloc: Global, script: &Script) -> Result<Vec<u8>, Fault>
 /// # Errors
 ///
 /// `ReadFault` where the reader fails, `TooLong` and `BadLine` as `assemble` says, and `OutOfMemory`.
-#[tactic(auto, using(crate::proofs::ScriptsLemmas::unread_text, crate::proofs::ScriptsLemmas::bad_text, crate::proofs::ScriptsLemmas::good_text))]
+#[tactic(auto, using(crate::proofs::ScriptsLemmas::assembled))]
 pub fn assembled<R: Read>(alloc: Global, text: &mut Tracked<R>) -> Result<Vec<u8>, Fault>
     requires { has_failed text.old ≡ false }
     ensures answer { Assembles (R.remaining (inner_of text.old)) result }
@@ -40,9 +45,8 @@ pub fn assembled<R: Read>(alloc: Global, text: &mut Tracked<R>) -> Result<Vec<u8
     ensures taken { TakesAtMost (script_limit + 1) (R.remaining (inner_of text.old))
         (R.remaining (inner_of text.new)) }
 {
-    let text = read_script(alloc, text)?;
-    let script = assemble(alloc, text.as_slice())?;
-    encoded(alloc, &script)
+    let script = script_of_text(alloc, text)?;
+    encode(alloc, &script)
 }
 
 /// Writes the printed text of a script, and flushes the writer. At most 16,777,217 bytes of the script
@@ -75,12 +79,13 @@ pub fn print_script<R: Read, W: Write>(
 }
 
 /// Runs the script that a text spells, writes its report, and flushes the writer. At most 16,777,217
-/// bytes of the text are read. `until` is that of `vga_run::run_bytes`.
+/// bytes of the text are read. `until` is that of `vga_run::run_script`.
 ///
 /// # Errors
 ///
-/// The faults of `assembled` come first, then those of `vga_run::run_bytes`.
-#[tactic(auto, using(crate::proofs::RunTextLemmas::unassembled, crate::proofs::RunTextLemmas::no_write_fault, crate::proofs::RunTextLemmas::run_of_text))]
+/// `ReadFault` where the reader fails, `TooLong` and `BadLine` as `assemble` says, and `OutOfMemory`; then
+/// the faults of `vga_run::run_script`.
+#[tactic(auto, using(crate::proofs::ScriptsLemmas::not_run, crate::proofs::ScriptsLemmas::no_write_fault, crate::proofs::ScriptsLemmas::script_is_run))]
 pub fn run_text<R: Read, W: Write>(
     alloc: Global,
     text: &mut Tracked<R>,
@@ -98,6 +103,6 @@ pub fn run_text<R: Read, W: Write>(
         (R.remaining (inner_of text.new)) }
     ensures unwritten { IfErr result (λ e. e ≢ WriteFault → out.new ≡ out.old) }
 {
-    let bytes = assembled(alloc, text)?;
-    vga_run::run_bytes(alloc, bytes.as_slice(), fonts, out, until)
+    let script = script_of_text(alloc, text)?;
+    vga_run::run_script(alloc, &script, fonts, out, until)
 }

@@ -1,23 +1,22 @@
 -- What a run answers, from what its parts answer.
 use Rattle.std.proofs.Common.{◌≡◌, ◌∙◌, ◌⊎◌, inl, inr, ℕ, ◌<◌, ◌≤◌, Bool, List, length, Option, None, Some, IfSome, Result, Ok, Err, arith, refl, sym, subst}
-use Rattle.vga_bits.specs.Tracked.{Writes}
 use Rattle.vga_bits.specs.declared.fault.Fault.{Fault}
 use Rattle.vga_bits.specs.declared.fault.Fault.TheVariants.{FontSize, BadMagic, BadVersion, BadStep, Truncated, TooLong, ReadFault, WriteFault, OutOfMemory}
 use Rattle.vga_script.specs.declared.step.Step.{Step}
 use Rattle.vga_script.specs.Spelling.{Spells, script_limit}
-use Rattle.vga_run.specs.Report.{report_of, steps_until}
 use Rattle.vga_run.specs.Reading.{IsInput, is_read_fault}
-use Rattle.vga_run.specs.Run.{fonts_len, InputHasFault, RunAnswers, RunsGoodScripts, is_write_fault}
+use Rattle.vga_run.specs.Run.{fonts_len, InputHasFault, RunAnswers, RunsGoodScripts, RunsScript, is_write_fault}
 use Rattle.vga_script.specs.Decoding.{IsSpellingFault, IsFault}
 use Rattle.vga_script.proofs.FaultLemmas.{no_other_fault}
 
--- writing the report of the steps that the bytes spell is the answer
-pub report_answers : (until : Option ℕ) (fonts : ℕ) (bytes : List ℕ) (before after : Option (List ℕ)) (failed : Bool) (result : Result Unit Fault) (steps : List Step)
-    → fonts ≡ fonts_len → length bytes ≤ script_limit → Spells bytes steps → Writes before after failed result (report_of (steps_until until steps))
-    → RunAnswers until fonts (Some bytes) before after result
-report_answers until fonts bytes before after failed (Ok u) steps size few spelled w = (size, (steps, (bytes, (refl, few), spelled), w.0))
-report_answers until fonts bytes before after failed (Err e) steps size few spelled w =
-    subst (λ (x : Fault). RunAnswers until fonts (Some bytes) before after (Err x)) (sym w.0) (size, (steps, (bytes, (refl, few), spelled), w.2))
+-- what the run of a script answers is the answer for bytes that spell it
+pub script_answers : (until : Option ℕ) (fonts : ℕ) (bytes : List ℕ) (before after : Option (List ℕ)) (result : Result Unit Fault) (steps : List Step)
+    → length bytes ≤ script_limit → Spells bytes steps → RunsScript until fonts steps before after result → RunAnswers until fonts (Some bytes) before after result
+script_answers until fonts bytes before after (Ok u) steps few spelled (size, written) = (size, (steps, (bytes, (refl, few), spelled), written))
+script_answers until fonts bytes before after (Err FontSize) steps few spelled h = h
+script_answers until fonts bytes before after (Err WriteFault) steps few spelled (size, written) = (size, (steps, (bytes, (refl, few), spelled), written))
+script_answers until fonts bytes before after (Err OutOfMemory) steps few spelled h = h
+script_answers until fonts bytes before after (Err _) steps few spelled h = absurd h
 
 -- so is a fault of the bytes, none of which is want of a reader
 spelling_answers : (until : Option ℕ) (fonts : ℕ) (bytes : List ℕ) (before after : Option (List ℕ)) (f : Fault)

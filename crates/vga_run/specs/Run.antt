@@ -22,6 +22,16 @@ InputSpells input steps = (bytes : List ℕ) × IsInput input bytes × Spells by
 abbrev pub InputHasFault : Option (List ℕ) → Fault → Type 0
 InputHasFault input fault = (bytes : List ℕ) × IsInput input bytes × IsSpellingFault bytes fault
 
+-- What the run of a script of these steps answers that is stopped after so many, or not, over fonts of so many bytes, and a
+-- writer that holds what is before and after: it has written their report, or a front of it where the writer fails; or the
+-- fonts have another size; or memory ran out.
+abbrev pub RunsScript : Option ℕ → ℕ → List Step → Option (List ℕ) → Option (List ℕ) → Result Unit Fault → Type 0
+RunsScript until fonts steps before after (Ok u) = (fonts ≡ fonts_len) × Appends before after (report_of (steps_until until steps))
+RunsScript until fonts steps before after (Err FontSize) = fonts ≢ fonts_len
+RunsScript until fonts steps before after (Err WriteFault) = (fonts ≡ fonts_len) × AppendsFront before after (report_of (steps_until until steps))
+RunsScript until fonts steps before after (Err OutOfMemory) = fonts ≡ fonts_len
+RunsScript until fonts steps before after (Err _) = ⊥
+
 -- What a run answers that is stopped after so many steps, or not, over fonts of so many bytes, a reader that has this input, and a writer that holds what is
 -- before and after: it has written the report of the input's script, or there is a fault, the first in order.
 abbrev pub RunAnswers : Option ℕ → ℕ → Option (List ℕ) → Option (List ℕ) → Option (List ℕ) → Result Unit Fault → Type 0

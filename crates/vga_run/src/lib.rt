@@ -7,7 +7,7 @@ mod report;
 mod runs;
 
 pub use answer::Answer;
-pub use runs::{run, run_bytes};
+pub use runs::{run, run_bytes, run_script};
 
 #[cfg(test)]
 mod tests;

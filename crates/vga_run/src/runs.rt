@@ -5,7 +5,7 @@ ghost use Rattle.vga_bits.specs.Tracked.{inner_of, has_failed};
 ghost use Rattle.vga_bits.specs.Reading.{TakesAtMost};
 ghost use Rattle.vga_run.specs.Reading.{is_read_fault};
 ghost use Rattle.vga_script.specs.Spelling.{script_limit};
-ghost use Rattle.vga_run.specs.Run.{RunAnswers, RunsGoodScripts, fonts_len, is_write_fault};
+ghost use Rattle.vga_run.specs.Run.{RunAnswers, RunsGoodScripts, RunsScript, fonts_len, is_write_fault};
 
 use super::reading::read_script;
 use super::report::write_report;
@@ -13,7 +13,7 @@ use std::alloc::Global;
 use std::io::{Read, Write};
 use vga_bits::{Fault, Tracked};
 use vga_card::Card;
-use vga_script::decode;
+use vga_script::{Script, decode};
 
 /// How many bytes a font file has.
 const FONTS_LEN: usize = 9728;
@@ -101,7 +101,7 @@ fn run_steps<R: Read, W: Write>(
 }
 
 /// Runs a script whose bytes are at hand, as `run` does. So its faults are those of `run` but `ReadFault`.
-#[tactic(auto, using(crate::proofs::RunLemmas::report_answers, crate::proofs::RunLemmas::fault_answers))]
+#[tactic(auto, using(crate::proofs::RunLemmas::script_answers, crate::proofs::RunLemmas::fault_answers))]
 pub fn run_bytes<W: Write>(
     alloc: Global,
     script: &[u8],
@@ -118,8 +118,29 @@ pub fn run_bytes<W: Write>(
     ensures write_failed { has_failed out.new ≡ is_write_fault result }
     ensures unwritten { IfErr result (λ e. e ≢ WriteFault → out.new ≡ out.old) }
 {
-    judge_fonts(fonts)?;
+    judge_fonts(fonts)?; // Nothing is decoded before.
     let script = decode(alloc, script)?;
+    run_script(alloc, &script, fonts, out, until)
+}
+
+/// Runs a script that was decoded or assembled, as `run` does. So its faults are `FontSize`, `WriteFault`
+/// and `OutOfMemory` alone.
+pub fn run_script<W: Write>(
+    alloc: Global,
+    script: &Script,
+    fonts: &[u8],
+    out: &mut Tracked<W>,
+    until: Option<u32>,
+) -> Result<(), Fault>
+    requires { has_failed out.old ≡ false }
+    // The report of the script's steps, or the first fault.
+    ensures answer { RunsScript until (length fonts.now) script.now
+        (W.contents (inner_of out.old)) (W.contents (inner_of out.new)) result }
+    // The writer fails exactly where the answer says so, and is left untouched by any other fault.
+    ensures write_failed { has_failed out.new ≡ is_write_fault result }
+    ensures unwritten { IfErr result (λ e. e ≢ WriteFault → out.new ≡ out.old) }
+{
+    judge_fonts(fonts)?;
     let mut card = Card::new(alloc)?;
     write_report(out, &mut card, script.list(), until)
 }
