@@ -7,10 +7,9 @@ use Rattle.vga.specs.declared.failure.Failure.{Failure}
 use Rattle.vga.specs.declared.failure.Failure.TheVariants.{Words, Fault}
 use Rattle.vga.specs.declared.words_error.WordsError.TheVariants.{Refused, Missing}
 
--- showing help or the version is what was asked for, and any other refusal is a mistake in the words
+-- showing help is what was asked for, and any other refusal is a mistake in the words
 abbrev pub refusal_status : ErrorKind → ℕ
 refusal_status kind.DisplayHelp = 0
-refusal_status kind.DisplayVersion = 0
 refusal_status _ = 2
 
 -- 0 is success, 1 a fault, and 2 a mistake in the words

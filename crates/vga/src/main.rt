@@ -17,18 +17,19 @@ mod writing;
 use failure::Failure;
 use job::Job;
 use std::process::ExitCode;
+use std::rt::{Env, Files};
 use std::{env, io};
 use vga_bits::Fault;
 use words_error::WordsError;
 
 /// Assembles the text at one path, and writes its binary form at another.
-fn assemble_file(rt: &HostRuntime, text: &str, script: &str) -> Result<(), Fault> {
+fn assemble_file<R: Files + AllocGlobal>(rt: &R, text: &str, script: &str) -> Result<(), Fault> {
     let bytes = scripts::assembled(rt.alloc(), &mut reading::open(rt, text)?)?;
     writing::write_all(&mut writing::create(rt, script)?, bytes.as_slice())
 }
 
 /// Prints the script at a path.
-fn print_file(rt: &HostRuntime, script: &str) -> Result<(), Fault> {
+fn print_file<R: Files + Print + AllocGlobal>(rt: &R, script: &str) -> Result<(), Fault> {
     let alloc = rt.alloc();
     let mut script = reading::open(rt, script)?;
     let mut out = writing::buffered(alloc, io::writer(rt))?;
@@ -36,12 +37,17 @@ fn print_file(rt: &HostRuntime, script: &str) -> Result<(), Fault> {
 }
 
 /// The bytes of the font file at a path.
-fn fonts_at(rt: &HostRuntime, path: &str) -> Result<Vec<u8>, Fault> {
+fn fonts_at<R: Files + AllocGlobal>(rt: &R, path: &str) -> Result<Vec<u8>, Fault> {
     reading::read_fonts(rt.alloc(), &mut reading::open(rt, path)?)
 }
 
 /// Runs the script at one path over the font file at another.
-fn run_file(rt: &HostRuntime, script: &str, fonts: &str, until: Option<u32>) -> Result<(), Fault> {
+fn run_file<R: Files + Print + AllocGlobal>(
+    rt: &R,
+    script: &str,
+    fonts: &str,
+    until: Option<u32>,
+) -> Result<(), Fault> {
     let alloc = rt.alloc();
     let fonts = fonts_at(rt, fonts)?;
     let mut script = reading::open(rt, script)?;
@@ -50,8 +56,8 @@ fn run_file(rt: &HostRuntime, script: &str, fonts: &str, until: Option<u32>) -> 
 }
 
 /// Runs the script that the text at one path spells over the font file at another.
-fn run_text_file(
-    rt: &HostRuntime,
+fn run_text_file<R: Files + Print + AllocGlobal>(
+    rt: &R,
     text: &str,
     fonts: &str,
     until: Option<u32>,
@@ -64,7 +70,7 @@ fn run_text_file(
 }
 
 /// Does the job that the words of the command line name.
-fn do_job(rt: &HostRuntime) -> Result<(), Failure> {
+fn do_job<R: Env + Files + Print + AllocGlobal>(rt: &R) -> Result<(), Failure> {
     let args = env::args(rt).map_err(|error| words::unread(&error))?;
     let words: Vec<String> = args.collect(rt.alloc())?;
     match words::job(rt.alloc(), words.as_slice())? {
@@ -81,7 +87,7 @@ fn do_job(rt: &HostRuntime) -> Result<(), Failure> {
 }
 
 /// Writes why the job was not done.
-fn explain(rt: &HostRuntime, failure: &Failure) -> io::Result<()> {
+fn explain<R: Print + Eprint>(rt: &R, failure: &Failure) -> io::Result<()> {
     match failure {
         Failure::Words(WordsError::Refused(error)) => error.print(rt),
         Failure::Words(WordsError::Missing) => rt.eprint(lines::missing_line()),
@@ -89,12 +95,17 @@ fn explain(rt: &HostRuntime, failure: &Failure) -> io::Result<()> {
     }
 }
 
-fn main(rt: HostRuntime) -> ExitCode {
-    let outcome = do_job(&rt);
+/// Does the job that the words of the command line name, or writes why it was not done; and its status.
+fn status_of_job<R: Env + Files + Print + Eprint + AllocGlobal>(rt: &R) -> u8 {
+    let outcome = do_job(rt);
     if let Err(failure) = &outcome {
-        let _ = explain(&rt, failure);
+        let _ = explain(rt, failure);
     }
-    ExitCode::from(status::status(&outcome))
+    status::status(&outcome)
+}
+
+fn main(rt: HostRuntime) -> ExitCode {
+    ExitCode::from(status_of_job(&rt))
 }
 
 #[cfg(test)]

@@ -1,7 +1,6 @@
-//! Files, read up to a limit.
-ghost use Rattle.std.specs.Prelude.{◌≡◌, ◌+◌, false, IfOk, IsOkUnless};
-ghost use Rattle.vga_bits.specs.Tracked.{inner_of, has_failed};
-ghost use Rattle.vga_script.specs.Spelling.{script_limit};
+//! Files that are read.
+ghost use Rattle.std.specs.Prelude.{◌≡◌, ◌≤◌, ◌+◌, false, IfOk, IsOkUnless};
+ghost use Rattle.vga_bits.specs.Tracked.{inner_of, has_failed, taken_of};
 ghost use Rattle.vga_bits.specs.Reading.{ReadsFront};
 
 use std::alloc::Global;
@@ -12,9 +11,6 @@ use vga_bits::{Fault, Tracked, read_front};
 
 /// One byte more than a font file has, so that one that is too long is told from a whole one.
 const FONTS_ROOM: usize = 9_729;
-
-/// One byte more than a script may have, and a text that spells one.
-const SCRIPT_ROOM: usize = 16_777_217;
 
 /// The file at a path, opened for reading. None of its calls has failed.
 ///
@@ -38,22 +34,9 @@ pub fn open<F: Files>(files: &F, path: &str) -> Result<Tracked<F::File>, Fault>
 /// `ReadFault` where the file fails in this call, and `OutOfMemory`.
 pub fn read_fonts<R: Read>(alloc: Global, file: &mut Tracked<R>) -> Result<Vec<u8>, Fault>
     requires { has_failed file.old ≡ false }
-    ensures { ReadsFront 9729 (R.remaining (inner_of file.old))
+    ensures front { ReadsFront 9729 (R.remaining (inner_of file.old))
         (R.remaining (inner_of file.new)) (has_failed file.new) result }
+    ensures counted { taken_of file.new ≤ taken_of file.old + 9729 }
 {
     read_front(alloc, file, FONTS_ROOM)
-}
-
-/// The bytes of a script, or of a text that spells one: at most 16,777,217, which is one more than
-/// either may have.
-///
-/// # Errors
-///
-/// `ReadFault` where the file fails in this call, and `OutOfMemory`.
-pub fn read_script<R: Read>(alloc: Global, file: &mut Tracked<R>) -> Result<Vec<u8>, Fault>
-    requires { has_failed file.old ≡ false }
-    ensures { ReadsFront (script_limit + 1) (R.remaining (inner_of file.old))
-        (R.remaining (inner_of file.new)) (has_failed file.new) result }
-{
-    read_front(alloc, file, SCRIPT_ROOM)
 }

@@ -1,19 +1,16 @@
 //! What the commands do, over readers and writers.
-ghost use Rattle.std.specs.Prelude.{◌≡◌, ◌≢◌, ◌+◌, length, false, IfErr};
+ghost use Rattle.std.specs.Prelude.{◌≡◌, ◌≢◌, ◌≤◌, ◌+◌, length, false, IfErr};
 ghost use Rattle.vga_bits.specs.declared.fault.Fault.TheVariants.{WriteFault};
-ghost use Rattle.vga_bits.specs.Tracked.{inner_of, has_failed};
-ghost use Rattle.vga_bits.specs.Reading.{TakesAtMost};
-ghost use Rattle.vga_run.specs.Reading.{is_read_fault};
-ghost use Rattle.vga_run.specs.Run.{is_write_fault};
+ghost use Rattle.vga_bits.specs.Tracked.{inner_of, has_failed, is_write_fault, taken_of};
+ghost use Rattle.vga_bits.specs.Reading.{TakesAtMost, is_read_fault};
 ghost use Rattle.vga_script.specs.Spelling.{script_limit};
 ghost use Rattle.vga.specs.Scripts.{Assembles, FindsScript, Prints, RunsText};
 
-use super::reading::read_script;
 use super::writing::write_all;
 use std::alloc::Global;
 use std::io::{Read, Write};
 use vga_bits::{Fault, Tracked};
-use vga_script::{Script, assemble, decode, encode, print};
+use vga_script::{Script, assemble, decode, encode, print, read_script};
 
 /// The script that a text spells. At most 16,777,217 bytes of the text are read.
 ///
@@ -27,6 +24,7 @@ fn script_of_text<R: Read>(alloc: Global, text: &mut Tracked<R>) -> Result<Scrip
     ensures failed { has_failed text.new ≡ is_read_fault result }
     ensures taken { TakesAtMost (script_limit + 1) (R.remaining (inner_of text.old))
         (R.remaining (inner_of text.new)) }
+    ensures counted { taken_of text.new ≤ taken_of text.old + (script_limit + 1) }
 {
     let text = read_script(alloc, text)?;
     assemble(alloc, text.as_slice())
@@ -44,6 +42,7 @@ pub fn assembled<R: Read>(alloc: Global, text: &mut Tracked<R>) -> Result<Vec<u8
     ensures failed { has_failed text.new ≡ is_read_fault result }
     ensures taken { TakesAtMost (script_limit + 1) (R.remaining (inner_of text.old))
         (R.remaining (inner_of text.new)) }
+    ensures counted { taken_of text.new ≤ taken_of text.old + (script_limit + 1) }
 {
     let script = script_of_text(alloc, text)?;
     encode(alloc, &script)
@@ -70,6 +69,7 @@ pub fn print_script<R: Read, W: Write>(
     ensures write_failed { has_failed out.new ≡ is_write_fault result }
     ensures taken { TakesAtMost (script_limit + 1) (R.remaining (inner_of script.old))
         (R.remaining (inner_of script.new)) }
+    ensures counted { taken_of script.new ≤ taken_of script.old + (script_limit + 1) }
     ensures unwritten { IfErr result (λ e. e ≢ WriteFault → out.new ≡ out.old) }
 {
     let bytes = read_script(alloc, script)?;
@@ -101,6 +101,7 @@ pub fn run_text<R: Read, W: Write>(
     ensures write_failed { has_failed out.new ≡ is_write_fault result }
     ensures taken { TakesAtMost (script_limit + 1) (R.remaining (inner_of text.old))
         (R.remaining (inner_of text.new)) }
+    ensures counted { taken_of text.new ≤ taken_of text.old + (script_limit + 1) }
     ensures unwritten { IfErr result (λ e. e ≢ WriteFault → out.new ≡ out.old) }
 {
     let script = script_of_text(alloc, text)?;

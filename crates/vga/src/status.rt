@@ -16,7 +16,7 @@ pub fn status(outcome: &Result<(), Failure>) -> u8
         Err(Failure::Fault(_)) => 1,
         Err(Failure::Words(WordsError::Missing)) => 2,
         Err(Failure::Words(WordsError::Refused(error))) => match error.kind() {
-            ErrorKind::DisplayHelp | ErrorKind::DisplayVersion => 0,
+            ErrorKind::DisplayHelp => 0,
             _ => 2,
         },
     }

@@ -7,7 +7,7 @@ use std::alloc::Global;
 use std::fs;
 use std::io::{BufWriter, Write};
 use std::rt::Files;
-use vga_bits::{Fault, Tracked, write_whole};
+use vga_bits::{Fault, Tracked, flush, write_whole};
 
 /// How many bytes are kept back before they are written, 256 KiB.
 const BUFFER_LEN: usize = 262_144;
@@ -47,22 +47,9 @@ pub fn buffered<W: Write + Drop>(alloc: Global, writer: W) -> Result<Tracked<Buf
     }
 }
 
-/// Flushes the writer.
-#[tactic(auto, using(vga_run::proofs::ReportLemmas::kept_is_nothing))]
-fn flush<W: Write>(out: &mut Tracked<W>) -> Result<(), Fault>
-    requires { has_failed out.old ≡ false }
-    ensures { Writes (W.contents (inner_of out.old)) (W.contents (inner_of out.new))
-        (has_failed out.new) result [] }
-{
-    match out.flush() {
-        Ok(()) => Ok(()),
-        Err(_) => Err(Fault::WriteFault),
-    }
-}
-
 /// Writes all the bytes, and flushes the writer. It fails with `WriteFault` alone, where the writer
 /// does, which then has a front of the bytes.
-#[tactic(auto, using(vga_run::proofs::ReportLemmas::writes_more))]
+#[tactic(auto, using(vga_bits::proofs::WritingLemmas::writes_more))]
 pub fn write_all<W: Write>(out: &mut Tracked<W>, bytes: &[u8]) -> Result<(), Fault>
     requires { has_failed out.old ≡ false }
     ensures { Writes (W.contents (inner_of out.old)) (W.contents (inner_of out.new))

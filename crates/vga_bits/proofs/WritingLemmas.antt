@@ -1,9 +1,10 @@
--- A loop that writes bytes in pieces.
-use Rattle.std.proofs.Common.{arith, ◌||◌, ◌&&◌, ◌==◌, nat_lt, ◌≡◌, ℕ, Bool, false, List, [], ◌++◌, Option, refl, sym, ap, ◌∙◌, append_assoc, append-nil, take, drop, subst, take-append-drop}
+-- A loop that writes bytes in pieces, and one text after another.
+use Rattle.std.proofs.Common.{arith, ◌||◌, ◌&&◌, ◌==◌, nat_lt, ◌≡◌, ℕ, Bool, false, List, [], ◌∷◌, ◌++◌, Option, Some, None, Result, Ok, Err, refl, sym, ap, ◌∙◌, append_assoc, append-nil, take, drop, subst, take-append-drop}
 use Rattle.std.proofs.lemmas.Bool.Decides.{nat_tests}
 use Rattle.std.specs.Io.KnownBytes.{Appends, Keeps}
 use Rattle.std.proofs.KnownBytes.{Appends-nil, Appends-trans, Appends-kept}
-use Rattle.vga_bits.specs.Tracked.{AppendsFront}
+use Rattle.vga_bits.specs.declared.fault.Fault.{Fault}
+use Rattle.vga_bits.specs.Tracked.{AppendsFront, Writes}
 
 -- of all the bytes the rest is still to be written
 pub record Written (old new : Option (List ℕ)) (failed : Bool) (all rest : List ℕ) : Type 0 where
@@ -36,3 +37,31 @@ written_front_nothing old mid new failed all rest w a = (w.done, rest, w.whole, 
 -- a write that takes some bytes has not failed
 pub took_some : (was now : Bool) (n len : ℕ) → now ≡ (was || ((n == 0) && nat_lt 0 len)) → was ≡ false → (n ≡ 0 → ⊥) → now ≡ false
 took_some was now n len e sound some = grind (arith, nat_tests)
+
+-- ---- one text after another
+
+-- a front of the first text is a front of both
+pub front_of_more : (old new : Option (List ℕ)) (first second : List ℕ) → AppendsFront old new first → AppendsFront old new (first ++ second)
+front_of_more old new first second (front, back, parts, a) = (front, back ++ second, ap (λ (l : List ℕ). l ++ second) parts ∙ append_assoc front back second, a)
+
+-- behind the first text a call writes the second
+pub writes_after : {U : Type 0} (old mid new : Option (List ℕ)) (failed : Bool) (result : Result U Fault) (first second : List ℕ)
+    → Appends old mid first → Writes mid new failed result second → Writes old new failed result (first ++ second)
+writes_after old mid new failed (Ok u) first second a w = (Appends-trans old mid new first second a w.0, w.1)
+writes_after old mid new failed (Err e) first second a (is, bad, (front, back, parts, more)) = (
+  is,
+  bad,
+  (first ++ front, back, ap (λ (l : List ℕ). first ++ l) parts ∙ simp append_assoc, Appends-trans old mid new first front a more),
+)
+
+-- where the bytes stay, nothing is written
+pub kept_is_nothing : (old new : Option (List ℕ)) → Keeps old new → Appends old new []
+kept_is_nothing None new k = tt
+kept_is_nothing (Some x) None k = absurd k
+kept_is_nothing (Some x) (Some y) k = k ∙ sym (append-nil x)
+
+-- behind some bytes a call writes nothing more
+pub writes_more : {U : Type 0} (old mid new : Option (List ℕ)) (failed : Bool) (result : Result U Fault) (bytes : List ℕ) → Appends old mid bytes → Writes mid new failed result [] → Writes old new failed result bytes
+writes_more old mid new failed (Ok u) bytes a w = (subst (Appends old new) (append-nil bytes) (Appends-trans old mid new bytes [] a w.0), w.1)
+writes_more old mid new failed (Err e) bytes a (is, bad, ([], back, parts, more)) = (is, bad, (bytes ++ [], [], sym (simp append-nil), Appends-trans old mid new bytes [] a more))
+writes_more old mid new failed (Err e) bytes a (is, bad, (x ∷ front, back, parts, more)) = absurd (cc)

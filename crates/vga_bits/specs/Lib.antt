@@ -2,8 +2,8 @@ pub mod Bits
 pub mod Bytes
 pub mod Fault
 pub mod Four
+pub mod Hex
 pub mod Refusal
 pub mod Reading
 pub mod RegFile
-pub mod Text
 pub mod Tracked

@@ -21,3 +21,8 @@ ReadsFront most old new failed (Ok bytes) =
 ReadsFront most old new failed (Err ReadFault) = (failed ≡ true) × TakesAtMost most old new
 ReadsFront most old new failed (Err OutOfMemory) = (failed ≡ false) × TakesAtMost most old new
 ReadsFront most old new failed (Err _) = ⊥
+
+-- the answer is ReadFault
+abbrev pub is_read_fault : {A : Type 0} → Result A Fault → Bool
+is_read_fault (Err ReadFault) = true
+is_read_fault _ = false

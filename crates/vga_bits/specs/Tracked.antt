@@ -1,5 +1,5 @@
--- What contracts see of a reader or a writer that remembers a failure.
-use Rattle.std.specs.Prelude.{ℕ, ◌==◌, ◌&&◌, nat_lt, length, Bool, true, false, List, ◌++◌, ◌≡◌, Option, Result, Ok, Err}
+-- What contracts see of a reader or a writer that remembers a failure, and how much was read.
+use Rattle.std.specs.Prelude.{ℕ, ◌+◌, ◌-◌, ◌^◌, min, ◌==◌, ◌&&◌, nat_lt, length, Bool, true, false, List, ◌++◌, ◌≡◌, Option, Result, Ok, Err}
 use Rattle.std.specs.Io.KnownBytes.{Appends}
 use Rattle.vga_bits.specs.declared.tracked.Tracked.{Tracked}
 use Rattle.vga_bits.specs.declared.fault.Fault.{Fault}
@@ -12,6 +12,15 @@ inner_of t = t.inner
 -- whether a call of it has failed
 abbrev pub has_failed : {T : Type 0} → Tracked T → Bool
 has_failed t = t.has_failed
+
+-- how many bytes its reads have given, up to the largest number of 64 bits
+abbrev pub taken_of : {T : Type 0} → Tracked T → ℕ
+taken_of t = t.taken
+
+-- how many bytes are counted after a read with this answer, if so many were before
+abbrev pub taken_after : {E : Type 0} → ℕ → Result ℕ E → ℕ
+taken_after taken (Ok n) = min (taken + n) (2 ^ 64 - 1)
+taken_after taken (Err e) = taken
 
 -- whether a write of some bytes with this answer failed: by an error, or by taking none of some bytes
 abbrev pub write_fails : {E : Type 0} → Result ℕ E → List ℕ → Bool
@@ -26,3 +35,8 @@ AppendsFront old new bytes = (front : List ℕ) × (back : List ℕ) × (bytes �
 abbrev pub Writes : {U : Type 0} → Option (List ℕ) → Option (List ℕ) → Bool → Result U Fault → List ℕ → Type 0
 Writes old new failed (Ok u) bytes = Appends old new bytes × (failed ≡ false)
 Writes old new failed (Err e) bytes = (e ≡ WriteFault) × (failed ≡ true) × AppendsFront old new bytes
+
+-- the answer is WriteFault
+abbrev pub is_write_fault : {A : Type 0} → Result A Fault → Bool
+is_write_fault (Err WriteFault) = true
+is_write_fault _ = false

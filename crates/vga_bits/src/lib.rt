@@ -19,7 +19,7 @@ pub use reading::read_front;
 pub use refusal::Refusal;
 pub use reg_file::RegFile;
 pub use text::{Text, hex_digit};
-pub use tracked::{Tracked, write_whole};
+pub use tracked::{Tracked, flush, write_whole};
 
 #[cfg(test)]
 mod tests;

@@ -1,6 +1,6 @@
 //! Reading up to a limit.
-ghost use Rattle.std.specs.Prelude.{◌≡◌, false};
-ghost use Rattle.vga_bits.specs.Tracked.{inner_of, has_failed};
+ghost use Rattle.std.specs.Prelude.{◌≡◌, ◌≤◌, ◌+◌, false};
+ghost use Rattle.vga_bits.specs.Tracked.{inner_of, has_failed, taken_of};
 ghost use Rattle.vga_bits.specs.Reading.{ReadsFront};
 
 use super::fault::Fault;
@@ -22,8 +22,9 @@ pub fn read_front<R: Read>(
     most: usize,
 ) -> Result<Vec<u8>, Fault>
     requires { has_failed reader.old ≡ false }
-    ensures { ReadsFront most (R.remaining (inner_of reader.old))
+    ensures front { ReadsFront most (R.remaining (inner_of reader.old))
         (R.remaining (inner_of reader.new)) (has_failed reader.new) result }
+    ensures counted { taken_of reader.new ≤ taken_of reader.old + most }
 {
     let mut bytes = Vec::new(alloc);
     let mut buffer = [0u8; PIECE_LEN];

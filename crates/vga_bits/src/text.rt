@@ -1,6 +1,6 @@
 //! Text that is made piece by piece, with no memory taken.
 ghost use Rattle.std.specs.Prelude.{◌≡◌, ◌+◌, ◌<◌, ◌≤◌, ◌++◌, [], length, decimal};
-ghost use Rattle.vga_bits.specs.Text.{hex_digit as hex_digit_of, hex_byte, hex_word};
+ghost use Rattle.vga_bits.specs.Hex.{hex, hex_digit as hex_digit_of, hex_byte, hex_word};
 
 use arrayvec::ArrayVec;
 use itoa::Buffer;
@@ -76,25 +76,35 @@ impl<const ROOM: usize> Text<ROOM> {
         self.push(digits.format(size).as_bytes());
     }
 
+    /// Puts the last so many digits of a number at the end, in hexadecimal.
+    #[tactic(auto, using(crate::proofs::HexLemmas::hex_none, crate::proofs::HexLemmas::hex_pushed))]
+    pub fn push_hex(&mut self, n: u32, digits: usize)
+        requires { length self.old + digits ≤ ROOM }
+        ensures items { self.new ≡ self.old ++ hex digits n }
+        ensures len { length self.new ≡ length self.old + digits }
+    {
+        if digits > 0 {
+            self.push_hex(n / 16, digits - 1);
+            self.push(&[hex_digit((n % 16) as u8)]);
+        }
+    }
+
     /// Puts the two digits of a byte at the end, in hexadecimal.
-    #[tactic(auto, unfolding(crate::specs::Text::hex_byte))]
     pub fn push_hex_byte(&mut self, v: u8)
         requires { length self.old + 2 ≤ ROOM }
         ensures items { self.new ≡ self.old ++ hex_byte v }
         ensures len { length self.new ≡ length self.old + 2 }
     {
-        self.push(&[hex_digit(v / 16), hex_digit(v % 16)]);
+        self.push_hex(v as u32, 2);
     }
 
     /// Puts the four digits of a word at the end, in hexadecimal.
-    #[tactic(auto, unfolding(crate::specs::Text::hex_word))]
     pub fn push_hex_word(&mut self, v: u16)
         requires { length self.old + 4 ≤ ROOM }
         ensures items { self.new ≡ self.old ++ hex_word v }
         ensures len { length self.new ≡ length self.old + 4 }
     {
-        self.push_hex_byte((v / 256) as u8);
-        self.push_hex_byte((v % 256) as u8);
+        self.push_hex(v as u32, 4);
     }
 
     /// The bytes.

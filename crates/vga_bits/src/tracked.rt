@@ -1,20 +1,22 @@
-//! A reader or a writer that remembers whether a call failed.
-ghost use Rattle.std.specs.Prelude.{◌≡◌, ◌||◌, is_err, false};
+//! A reader or a writer that remembers whether a call failed, and how much was read.
+ghost use Rattle.std.specs.Prelude.{◌≡◌, ◌||◌, [], is_err, false};
 ghost use Rattle.std.specs.Io.{ReadsAtMost, WritesAtMost};
 ghost use Rattle.std.specs.Io.KnownBytes.{ReadConsumes, WriteAppends, Keeps};
-ghost use Rattle.vga_bits.specs.Tracked.{inner_of, has_failed, write_fails, Writes};
+ghost use Rattle.vga_bits.specs.Tracked.{inner_of, has_failed, taken_after, taken_of, write_fails, Writes};
 
 use super::fault::Fault;
 use std::io;
 use std::io::{Read, Write};
 
-/// A reader or a writer that knows whether one of its calls has failed.
+/// A reader or a writer that knows whether one of its calls has failed, and how many bytes were read of it.
 ///
-/// Contracts see two things of it: the reader or writer itself, and whether a call has failed.
+/// Contracts see three things of it: the reader or writer itself, whether a call has failed, and how many
+/// bytes its reads have given.
 #[derive(Drop)]
 pub struct Tracked<T> {
     inner: T,
     has_failed: bool,
+    taken: u64,
 }
 
 impl<T> Tracked<T> {
@@ -22,10 +24,12 @@ impl<T> Tracked<T> {
     pub fn new(inner: T) -> Tracked<T>
         ensures inner { inner_of result ≡ inner }
         ensures failed { has_failed result ≡ false }
+        ensures taken { taken_of result ≡ 0 }
     {
         Tracked {
             inner,
             has_failed: false,
+            taken: 0,
         }
     }
 
@@ -36,6 +40,7 @@ impl<T> Tracked<T> {
         let Tracked {
             inner,
             has_failed: _,
+            taken: _,
         } = self;
         inner
     }
@@ -47,6 +52,13 @@ impl<T> Tracked<T> {
         let Tracked { has_failed, .. } = self;
         *has_failed
     }
+
+    /// How many bytes its reads have given. More than 18,446,744,073,709,551,615 are counted as so many.
+    pub fn taken(&self) -> u64
+        ensures { result ≡ taken_of self.now }
+    {
+        self.taken
+    }
 }
 
 impl<T: Read> Read for Tracked<T> {
@@ -56,10 +68,12 @@ impl<T: Read> Read for Tracked<T> {
         ensures bound { ReadsAtMost result buf.new }
         ensures bytes { ReadConsumes (T.remaining (inner_of self.old)) (T.remaining (inner_of self.new)) result buf.new }
         ensures failed { has_failed self.new ≡ (has_failed self.old || is_err result) }
+        ensures taken { taken_of self.new ≡ taken_after (taken_of self.old) result }
     {
         let answer = self.inner.read(buf);
-        if answer.is_err() {
-            self.has_failed = true;
+        match &answer {
+            Ok(n) => self.taken = self.taken.saturating_add(*n as u64),
+            Err(_) => self.has_failed = true,
         }
         answer
     }
@@ -110,4 +124,17 @@ pub fn write_whole<W: Write>(out: &mut Tracked<W>, bytes: &[u8]) -> Result<(), F
         }
     }
     Ok(())
+}
+
+/// Flushes the writer. It fails, with `WriteFault`, only where the writer does.
+#[tactic(auto, using(crate::proofs::WritingLemmas::kept_is_nothing))]
+pub fn flush<W: Write>(out: &mut Tracked<W>) -> Result<(), Fault>
+    requires { has_failed out.old ≡ false }
+    ensures { Writes (W.contents (inner_of out.old)) (W.contents (inner_of out.new))
+        (has_failed out.new) result [] }
+{
+    match out.flush() {
+        Ok(()) => Ok(()),
+        Err(_) => Err(Fault::WriteFault),
+    }
 }

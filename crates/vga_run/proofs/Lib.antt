@@ -1,3 +1,3 @@
-pub mod ReadingLemmas
 pub mod ReportLemmas
 pub mod RunLemmas
+pub mod StepLemmas

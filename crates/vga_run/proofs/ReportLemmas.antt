@@ -13,7 +13,7 @@ use Rattle.vga_script.specs.Step.{IsInRange, AreInRange}
 use Rattle.vga_card.specs.Card.{CardState}
 use Rattle.vga_run.specs.Step.{answer_to, after_step, after_steps}
 use Rattle.vga_show.specs.Ppm.{ppm}
-use Rattle.vga_show.proofs.WritingLemmas.{writes_after, front_of_more}
+use Rattle.vga_bits.proofs.WritingLemmas.{writes_after, front_of_more}
 use Rattle.vga_run.specs.Answer.{Picture}
 use Rattle.vga_run.specs.Report.{picture_line, line, report_from}
 
@@ -138,18 +138,6 @@ pub first_in_range : (steps : List Step) (n : ℕ) → AreInRange steps → AreI
 first_in_range steps zero all = tt
 first_in_range [] (suc n) all = tt
 first_in_range (s ∷ steps) (suc n) all = (all.0, first_in_range steps n all.1)
-
--- where the bytes stay, nothing is written
-pub kept_is_nothing : (old new : Option (List ℕ)) → Keeps old new → Appends old new []
-kept_is_nothing None new k = tt
-kept_is_nothing (Some x) None k = absurd k
-kept_is_nothing (Some x) (Some y) k = k ∙ sym (append-nil x)
-
--- behind some bytes a call writes nothing more
-pub writes_more : {U : Type 0} (old mid new : Option (List ℕ)) (failed : Bool) (result : Result U Fault) (bytes : List ℕ) → Appends old mid bytes → Writes mid new failed result [] → Writes old new failed result bytes
-writes_more old mid new failed (Ok u) bytes a w = (subst (Appends old new) (append-nil bytes) (Appends-trans old mid new bytes [] a w.0), w.1)
-writes_more old mid new failed (Err e) bytes a (is, bad, ([], back, parts, more)) = (is, bad, (bytes ++ [], [], sym (simp append-nil), Appends-trans old mid new bytes [] a more))
-writes_more old mid new failed (Err e) bytes a (is, bad, (x ∷ front, back, parts, more)) = absurd (cc)
 
 -- ---- pictures
 

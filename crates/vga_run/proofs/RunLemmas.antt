@@ -4,10 +4,11 @@ use Rattle.vga_bits.specs.declared.fault.Fault.{Fault}
 use Rattle.vga_bits.specs.declared.fault.Fault.TheVariants.{FontSize, BadMagic, BadVersion, BadStep, Truncated, TooLong, ReadFault, WriteFault, OutOfMemory}
 use Rattle.vga_script.specs.declared.step.Step.{Step}
 use Rattle.vga_script.specs.Spelling.{Spells, script_limit}
-use Rattle.vga_run.specs.Reading.{IsInput, is_read_fault}
-use Rattle.vga_run.specs.Run.{fonts_len, InputHasFault, RunAnswers, RunsGoodScripts, RunsScript, is_write_fault}
+use Rattle.vga_bits.specs.Reading.{is_read_fault}
+use Rattle.vga_bits.specs.Tracked.{is_write_fault}
+use Rattle.vga_script.specs.Input.{InputHasFault, IsInput}
+use Rattle.vga_run.specs.Run.{fonts_len, RunAnswers, RunsGoodScripts, RunsScript}
 use Rattle.vga_script.specs.Decoding.{IsSpellingFault, IsFault}
-use Rattle.vga_script.proofs.FaultLemmas.{no_other_fault}
 
 -- what the run of a script answers is the answer for bytes that spell it
 pub script_answers : (until : Option ℕ) (fonts : ℕ) (bytes : List ℕ) (before after : Option (List ℕ)) (result : Result Unit Fault) (steps : List Step)
@@ -51,21 +52,25 @@ input_answers until fonts input before after bytes (Err WriteFault) read (size, 
 input_answers until fonts input before after bytes (Err OutOfMemory) read h = h
 input_answers until fonts input before after bytes (Err _) read (size, (others, same, bad)) = (size, (others, read_bytes input bytes others read same, bad))
 
--- an input that spells a script has no fault
-no_input_fault : (input : Option (List ℕ)) (f : Fault) (bytes : List ℕ) (steps : List Step) → input ≡ Some bytes → Spells bytes steps → InputHasFault input f → ⊥
-no_input_fault input f bytes steps e spelled (others, read, bad) =
+-- the law that no bytes that spell a script have a fault but that they are too long
+abbrev pub NoFault : Type 0
+NoFault = (bytes : List ℕ) (steps : List Step) (fault : Fault) → Spells bytes steps → IsFault bytes fault → fault ≡ TooLong
+
+-- so an input that spells a script has no fault
+no_input_fault : NoFault → (input : Option (List ℕ)) (f : Fault) (bytes : List ℕ) (steps : List Step) → input ≡ Some bytes → Spells bytes steps → InputHasFault input f → ⊥
+no_input_fault law input f bytes steps e spelled (others, read, bad) =
     let same : bytes ≡ others = subst (λ (i : Option (List ℕ)). IfSome i (λ all. all ≡ others)) e read.0 in
-    let long = no_other_fault others steps f (subst (λ (l : List ℕ). Spells l steps) same spelled) (inr (read.1, bad)) in
+    let long = law others steps f (subst (λ (l : List ℕ). Spells l steps) same spelled) (inr (read.1, bad)) in
     subst (IsSpellingFault others) long bad
 
 -- so a script is run, unless memory runs out or a stream fails
-pub runs_good_scripts : (until : Option ℕ) (fonts : ℕ) (input before after : Option (List ℕ)) (read_failed write_failed : Bool) (result : Result Unit Fault)
+pub runs_good_scripts : NoFault → (until : Option ℕ) (fonts : ℕ) (input before after : Option (List ℕ)) (read_failed write_failed : Bool) (result : Result Unit Fault)
     → RunAnswers until fonts input before after result → read_failed ≡ is_read_fault result → write_failed ≡ is_write_fault result → RunsGoodScripts fonts input read_failed write_failed result
-runs_good_scripts until fonts input before after rf wf (Ok u) h er ew = λ bytes steps size e few spelled r w. tt
-runs_good_scripts until fonts input before after rf wf (Err FontSize) h er ew = λ bytes steps size e few spelled r w. absurd (h size)
-runs_good_scripts until fonts input before after rf wf (Err ReadFault) h er ew = λ bytes steps size e few spelled r w. absurd (cc)
-runs_good_scripts until fonts input before after rf wf (Err TooLong) h er ew = λ bytes steps size e few spelled r w.
+runs_good_scripts law until fonts input before after rf wf (Ok u) h er ew = λ bytes steps size e few spelled r w. tt
+runs_good_scripts law until fonts input before after rf wf (Err FontSize) h er ew = λ bytes steps size e few spelled r w. absurd (h size)
+runs_good_scripts law until fonts input before after rf wf (Err ReadFault) h er ew = λ bytes steps size e few spelled r w. absurd (cc)
+runs_good_scripts law until fonts input before after rf wf (Err TooLong) h er ew = λ bytes steps size e few spelled r w.
     let many : 16777216 < length bytes = subst (λ (i : Option (List ℕ)). IfSome i (λ all. 16777216 < length all)) e h.1 in absurd (omega arith)
-runs_good_scripts until fonts input before after rf wf (Err WriteFault) h er ew = λ bytes steps size e few spelled r w. absurd (cc)
-runs_good_scripts until fonts input before after rf wf (Err OutOfMemory) h er ew = λ bytes steps size e few spelled r w. refl
-runs_good_scripts until fonts input before after rf wf (Err f) h er ew = λ bytes steps size e few spelled r w. absurd (no_input_fault input f bytes steps e spelled h.1)
+runs_good_scripts law until fonts input before after rf wf (Err WriteFault) h er ew = λ bytes steps size e few spelled r w. absurd (cc)
+runs_good_scripts law until fonts input before after rf wf (Err OutOfMemory) h er ew = λ bytes steps size e few spelled r w. refl
+runs_good_scripts law until fonts input before after rf wf (Err f) h er ew = λ bytes steps size e few spelled r w. absurd (no_input_fault law input f bytes steps e spelled h.1)

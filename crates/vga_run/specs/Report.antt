@@ -1,7 +1,7 @@
 -- The report of a script: a line for each step, with its number and its answer, and behind it the picture of a frame.
 use Rattle.std.specs.Prelude.{ℕ, ◌+◌, List, [], ◌∷◌, ◌++◌, length, take, Option, None, Some, codes, decimal}
 use Rattle.vga_bits.specs.Refusal.{refusal_name}
-use Rattle.vga_bits.specs.Text.{hex_byte, hex_word}
+use Rattle.vga_bits.specs.Hex.{hex_byte, hex_word}
 use Rattle.vga_script.specs.declared.step.Step.{Step}
 use Rattle.vga_script.specs.declared.step.Step.TheVariants.{Show}
 use Rattle.vga_script.specs.declared.shown.Shown.TheVariants as shown

@@ -6,21 +6,12 @@ use Rattle.vga_bits.specs.declared.fault.Fault.{Fault}
 use Rattle.vga_bits.specs.declared.fault.Fault.TheVariants.{FontSize, TooLong, ReadFault, WriteFault, OutOfMemory}
 use Rattle.vga_script.specs.declared.step.Step.{Step}
 use Rattle.vga_script.specs.Spelling.{script_limit, Spells}
-use Rattle.vga_script.specs.Decoding.{IsSpellingFault}
 use Rattle.vga_run.specs.Report.{report_of, steps_until}
-use Rattle.vga_run.specs.Reading.{IsInput, IsTooLong}
+use Rattle.vga_script.specs.Input.{InputHasFault, InputSpells, IsTooLong}
 
 -- how many bytes a font file has
 abbrev pub fonts_len : ℕ
 fonts_len = 9728
-
--- the input spells a script of these steps
-abbrev pub InputSpells : Option (List ℕ) → List Step → Type 0
-InputSpells input steps = (bytes : List ℕ) × IsInput input bytes × Spells bytes steps
-
--- the input spells no script, and this is its first fault
-abbrev pub InputHasFault : Option (List ℕ) → Fault → Type 0
-InputHasFault input fault = (bytes : List ℕ) × IsInput input bytes × IsSpellingFault bytes fault
 
 -- What the run of a script of these steps answers that is stopped after so many, or not, over fonts of so many bytes, and a
 -- writer that holds what is before and after: it has written their report, or a front of it where the writer fails; or the
@@ -32,8 +23,9 @@ RunsScript until fonts steps before after (Err WriteFault) = (fonts ≡ fonts_le
 RunsScript until fonts steps before after (Err OutOfMemory) = fonts ≡ fonts_len
 RunsScript until fonts steps before after (Err _) = ⊥
 
--- What a run answers that is stopped after so many steps, or not, over fonts of so many bytes, a reader that has this input, and a writer that holds what is
--- before and after: it has written the report of the input's script, or there is a fault, the first in order.
+-- What a run answers that is stopped after so many steps, or not, over fonts of so many bytes, a reader that has this input,
+-- and a writer that holds what is before and after: it has written the report of the input's script, or there is a fault, the
+-- first in order.
 abbrev pub RunAnswers : Option ℕ → ℕ → Option (List ℕ) → Option (List ℕ) → Option (List ℕ) → Result Unit Fault → Type 0
 RunAnswers until fonts input before after (Ok u) = (fonts ≡ fonts_len) × ((steps : List Step) × InputSpells input steps × Appends before after (report_of (steps_until until steps)))
 RunAnswers until fonts input before after (Err FontSize) = fonts ≢ fonts_len
@@ -42,11 +34,6 @@ RunAnswers until fonts input before after (Err TooLong) = (fonts ≡ fonts_len) 
 RunAnswers until fonts input before after (Err WriteFault) = (fonts ≡ fonts_len) × ((steps : List Step) × InputSpells input steps × AppendsFront before after (report_of (steps_until until steps)))
 RunAnswers until fonts input before after (Err OutOfMemory) = fonts ≡ fonts_len
 RunAnswers until fonts input before after (Err fault) = (fonts ≡ fonts_len) × InputHasFault input fault
-
--- the answer is WriteFault
-abbrev pub is_write_fault : {A : Type 0} → Result A Fault → Bool
-is_write_fault (Err WriteFault) = true
-is_write_fault _ = false
 
 -- Over fonts of the right size, bytes that spell a script are run, unless memory runs out or the reader or the writer
 -- fails.

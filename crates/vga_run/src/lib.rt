@@ -2,11 +2,12 @@
 #![tactic(auto)]
 
 mod answer;
-mod reading;
+mod laws;
 mod report;
 mod runs;
 
 pub use answer::Answer;
+pub use laws::refused_steps_change_nothing;
 pub use runs::{run, run_bytes, run_script};
 
 #[cfg(test)]

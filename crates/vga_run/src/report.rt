@@ -12,7 +12,7 @@ ghost use Rattle.vga_show.specs.Ppm.{ppm};
 use super::answer::Answer;
 use bios_modes::Bda;
 use std::io::Write;
-use vga_bits::{Fault, Refusal, Text, Tracked, write_whole};
+use vga_bits::{Fault, Refusal, Text, Tracked, flush, write_whole};
 use vga_card::{Card, Drawn};
 use vga_script::{Shown, Step};
 use vga_show::{
@@ -79,7 +79,7 @@ fn picture_line(n: usize, length: u32) -> Line
 }
 
 /// Writes a picture, of so many dots in width and height, and a newline.
-#[tactic(auto, using(vga_show::proofs::WritingLemmas::writes_after, vga_show::proofs::WritingLemmas::front_of_more))]
+#[tactic(auto, using(vga_bits::proofs::WritingLemmas::writes_after, vga_bits::proofs::WritingLemmas::front_of_more))]
 fn write_ppm_line<W: Write>(
     out: &mut Tracked<W>,
     width: u32,
@@ -162,7 +162,7 @@ fn write_dump<W: Write>(out: &mut Tracked<W>, card: &Card, shown: Shown) -> Resu
 }
 
 /// Writes the number of step n, and the dump of what it shows.
-#[tactic(auto, unfolding(crate::specs::Report::line), using(vga_show::proofs::WritingLemmas::writes_after, vga_show::proofs::WritingLemmas::front_of_more))]
+#[tactic(auto, unfolding(crate::specs::Report::line), using(vga_bits::proofs::WritingLemmas::writes_after, vga_bits::proofs::WritingLemmas::front_of_more))]
 fn write_shown<W: Write>(
     out: &mut Tracked<W>,
     n: usize,
@@ -243,19 +243,6 @@ fn write_lines<W: Write>(
     Ok(())
 }
 
-/// Flushes the writer.
-#[tactic(auto, using(crate::proofs::ReportLemmas::kept_is_nothing))]
-fn flush<W: Write>(out: &mut Tracked<W>) -> Result<(), Fault>
-    requires { has_failed out.old ≡ false }
-    ensures { Writes (W.contents (inner_of out.old)) (W.contents (inner_of out.new))
-        (has_failed out.new) result [] }
-{
-    match out.flush() {
-        Ok(()) => Ok(()),
-        Err(_) => Err(Fault::WriteFault),
-    }
-}
-
 /// Takes so many of the first steps, all if there are fewer, and then the last looks.
 #[tactic(auto, using(crate::proofs::ReportLemmas::writes_others, crate::proofs::ReportLemmas::front_of_steps, crate::proofs::ReportLemmas::first_in_range))]
 fn write_until<W: Write>(
@@ -308,7 +295,7 @@ fn write_steps<W: Write>(
 /// Takes the steps on this card, all of them or so many of the first with the last looks, writes what each
 /// answers, of which the first has the number 1, and flushes the writer. It fails with `WriteFault` alone,
 /// where the writer does, which then has a front of the report.
-#[tactic(auto, using(crate::proofs::ReportLemmas::writes_more))]
+#[tactic(auto, using(vga_bits::proofs::WritingLemmas::writes_more))]
 pub(crate) fn write_report<W: Write>(
     out: &mut Tracked<W>,
     card: &mut Card,

@@ -1,19 +1,17 @@
 //! A run of a script.
-ghost use Rattle.std.specs.Prelude.{◌≡◌, ◌≢◌, ◌+◌, length, false, IfErr, IfOk, Some};
+ghost use Rattle.std.specs.Prelude.{◌≡◌, ◌≢◌, ◌≤◌, ◌+◌, length, false, IfErr, IfOk, Some};
 ghost use Rattle.vga_bits.specs.declared.fault.Fault.TheVariants.{FontSize, WriteFault};
-ghost use Rattle.vga_bits.specs.Tracked.{inner_of, has_failed};
-ghost use Rattle.vga_bits.specs.Reading.{TakesAtMost};
-ghost use Rattle.vga_run.specs.Reading.{is_read_fault};
+ghost use Rattle.vga_bits.specs.Tracked.{inner_of, has_failed, is_write_fault, taken_of};
+ghost use Rattle.vga_bits.specs.Reading.{TakesAtMost, is_read_fault};
 ghost use Rattle.vga_script.specs.Spelling.{script_limit};
-ghost use Rattle.vga_run.specs.Run.{RunAnswers, RunsGoodScripts, RunsScript, fonts_len, is_write_fault};
+ghost use Rattle.vga_run.specs.Run.{RunAnswers, RunsGoodScripts, RunsScript, fonts_len};
 
-use super::reading::read_script;
 use super::report::write_report;
 use std::alloc::Global;
 use std::io::{Read, Write};
 use vga_bits::{Fault, Tracked};
 use vga_card::Card;
-use vga_script::{Script, decode};
+use vga_script::{Script, decode, one_fault, read_script};
 
 /// How many bytes a font file has.
 const FONTS_LEN: usize = 9728;
@@ -39,7 +37,7 @@ fn judge_fonts(fonts: &[u8]) -> Result<(), Fault>
 ///
 /// - `FontSize`: `fonts`, the font file, has not 9,728 bytes. Nothing is read.
 /// - `ReadFault`: the reader failed.
-/// - `TooLong`: the reader had more than 16,777,216 bytes. One more is read.
+/// - `TooLong`: the reader had more than 16,777,216 bytes. One more is read, and none behind it.
 /// - `BadMagic`, `BadVersion`, `BadStep`, `Truncated`: the bytes are no script.
 /// - `WriteFault`: the writer failed, and has a front of the report.
 ///
@@ -66,12 +64,14 @@ pub fn run<R: Read, W: Write>(
     ensures read_failed { has_failed script.new ≡ is_read_fault result }
     ensures write_failed { has_failed out.new ≡ is_write_fault result }
 
-    // What is read, and what is left untouched.
+    // What is read, of any reader at most 16,777,217 bytes, and what is left untouched.
     ensures taken { TakesAtMost (script_limit + 1) (R.remaining (inner_of script.old))
         (R.remaining (inner_of script.new)) }
+    ensures counted { taken_of script.new ≤ taken_of script.old + (script_limit + 1) }
     ensures unread { length fonts.now ≢ fonts_len → script.new ≡ script.old }
     ensures unwritten { IfErr result (λ e. e ≢ WriteFault → out.new ≡ out.old) }
 {
+    one_fault(); // A script has no fault.
     run_steps(alloc, script, fonts, out, until)
 }
 
@@ -92,6 +92,7 @@ fn run_steps<R: Read, W: Write>(
     ensures write_failed { has_failed out.new ≡ is_write_fault result }
     ensures taken { TakesAtMost (script_limit + 1) (R.remaining (inner_of script.old))
         (R.remaining (inner_of script.new)) }
+    ensures counted { taken_of script.new ≤ taken_of script.old + (script_limit + 1) }
     ensures unread { length fonts.now ≢ fonts_len → script.new ≡ script.old }
     ensures unwritten { IfErr result (λ e. e ≢ WriteFault → out.new ≡ out.old) }
 {

@@ -14,3 +14,4 @@ pub mod ScriptLemmas
 pub mod TextLemmas
 pub mod PrintLemmas
 pub mod PrintedLemmas
+pub mod InputLemmas

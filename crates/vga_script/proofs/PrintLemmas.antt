@@ -1,25 +1,10 @@
--- Printing digits and the line of a call of the BIOS.
-use Rattle.std.proofs.Common.{◌≡◌, ℕ, zero, suc, ◌-◌, ◌/◌, ◌%◌, ◌<◌, ◌≤◌, List, [], ◌∷◌, ◌++◌, length, sym, ap, ◌∙◌, arith, append_assoc, append-nil, codes, refl}
+-- Printing the line of a call of the BIOS.
+use Rattle.std.proofs.Common.{◌≡◌, ℕ, ◌<◌, ◌≤◌, List, [], ◌∷◌, ◌++◌, length, ap, ◌∙◌, arith, append_assoc, codes, refl}
 use Rattle.std.specs.List.{join_with_byte}
 use Rattle.hex.specs.Hex.{encode_upper}
-use Rattle.vga_bits.specs.Text.{hex_digit}
-use Rattle.vga_script.specs.Printing.{hex, line_of, printed_line}
+use Rattle.vga_bits.specs.Hex.{hex}
+use Rattle.vga_script.specs.Printing.{line_of, printed_line}
 use Rattle.vga_script.specs.declared.step.Step.TheVariants.{Int}
-
--- no digits
-pub hex_none : (k n : ℕ) (old : List ℕ) → k ≤ 0 → old ≡ old ++ hex k n
-unfolding hex
-hex_none zero n old e = sym (append-nil old)
-hex_none (suc k) n old e = absurd (omega arith)
-
-hex_more : (k n : ℕ) → 0 < k → hex k n ≡ hex (k - 1) (n / 16) ++ hex_digit (n % 16) ∷ []
-unfolding hex
-hex_more zero n some = absurd (omega arith)
-hex_more (suc k) n some = let e : suc k - 1 ≡ k = omega arith in rw e refl
-
--- the last digit behind the others
-pub hex_pushed : (k n : ℕ) (old mid new : List ℕ) (d : ℕ) → 0 < k → mid ≡ old ++ hex (k - 1) (n / 16) → d ≡ hex_digit (n % 16) → new ≡ mid ++ d ∷ [] → new ≡ old ++ hex k n
-hex_pushed k n old mid new d some e f g = g ∙ rw (e, f, hex_more k n some) (append_assoc old (hex (k - 1) (n / 16)) (hex_digit (n % 16) ∷ []))
 
 -- the text of the registers
 abbrev registers : ℕ → ℕ → ℕ → ℕ → List ℕ

@@ -26,8 +26,8 @@ use Rattle.vga_script.specs.Words.{is_blank, is_semicolon, is_newline, has_bytes
 use Rattle.vga_script.specs.Text.{name_of, keyword_of, shown_name, SpellsHex, SpellsTwoHex, SpellsRegister, SpellsBlock, SpellsShown, SpellsFields, SpellsLine, SpellsLines, SpellsText}
 use Rattle.vga_script.specs.Shown.{IsShownInRange}
 use Rattle.vga_script.specs.Step.{IsBlock, IsInRange, AreInRange}
-use Rattle.vga_bits.specs.Text.{hex_digit}
-use Rattle.vga_script.specs.Printing.{hex, port_text, address_text, block_words, shown_field_words, field_words, printed_words, line_of, printed}
+use Rattle.vga_bits.specs.Hex.{hex, hex_digit}
+use Rattle.vga_script.specs.Printing.{port_text, address_text, block_words, shown_field_words, field_words, printed_words, line_of, printed}
 
 -- ---- digits
 

@@ -8,3 +8,4 @@ pub mod Reading
 pub mod Printing
 pub mod Script
 pub mod Examples
+pub mod Input

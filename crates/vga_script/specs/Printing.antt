@@ -1,18 +1,13 @@
 -- The printed text of a script: a line for each step.
-use Rattle.std.specs.Prelude.{ℕ, ◌/◌, ◌%◌, zero, suc, nat_lt, if◌then◌else◌, List, [], ◌∷◌, ◌++◌, codes, decimal}
+use Rattle.std.specs.Prelude.{ℕ, nat_lt, if◌then◌else◌, List, [], ◌∷◌, ◌++◌, codes, decimal}
 use Rattle.std.specs.List.{join_with_byte, flat_map}
 use Rattle.hex.specs.Hex.{encode_upper}
-use Rattle.vga_bits.specs.Text.{hex_digit}
+use Rattle.vga_bits.specs.Hex.{hex}
 use Rattle.vga_script.specs.declared.step.Step.{Step}
 use Rattle.vga_script.specs.declared.step.Step.TheVariants.{Out, OutWord, In, InWord, Put, PutWord, Get, GetWord, Int, Advance, Frame, Show}
 use Rattle.vga_script.specs.declared.shown.Shown.{Shown}
 use Rattle.vga_script.specs.declared.shown.Shown.TheVariants as shown
 use Rattle.vga_script.specs.Text.{name_of, keyword_of, shown_name}
-
--- the last so many hexadecimal digits of a number
-unfoldable pub hex : ℕ → ℕ → List ℕ
-hex zero n = []
-hex (suc digits) n = hex digits (n / 16) ++ hex_digit (n % 16) ∷ []
 
 -- the digits of a port, at least three
 unfoldable pub port_text : ℕ → List ℕ

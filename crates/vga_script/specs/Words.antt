@@ -54,6 +54,6 @@ lines_left (Some text) = lines text
 
 -- which bytes end a piece of a text
 abbrev pub ends_at : End → ℕ → Bool
-ends_at end.OfLine = is_newline
-ends_at end.OfSteps = is_semicolon
-ends_at end.OfWord = is_blank
+ends_at end.Newline = is_newline
+ends_at end.Semicolon = is_semicolon
+ends_at end.Blank = is_blank

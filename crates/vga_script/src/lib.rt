@@ -6,6 +6,7 @@ mod assembling;
 mod decoding;
 mod encoding;
 mod fields;
+mod input;
 mod keyword;
 mod laws;
 mod line;
@@ -23,6 +24,7 @@ mod worked_examples;
 pub use assembling::assemble;
 pub use decoding::decode;
 pub use encoding::encode;
+pub use input::read_script;
 pub use laws::{
     one_fault, one_script, one_script_of_text, one_spelling, one_text_fault, printed_text_spells,
 };

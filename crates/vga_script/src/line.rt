@@ -1,27 +1,14 @@
 //! A line of printed text, before its newline.
 ghost use Rattle.std.specs.Prelude.{◌≡◌, ◌+◌, ◌≤◌, ◌++◌, length};
-ghost use Rattle.vga_script.specs.Printing.{address_text, hex, port_text};
+ghost use Rattle.vga_script.specs.Printing.{address_text, port_text};
 
-use vga_bits::{Text, hex_digit};
+use vga_bits::Text;
 
 /// Room for the longest line but for a block: `int`, four registers, and the block's name.
 const LINE_LEN: usize = 64;
 
 /// The text of a line.
 pub(crate) type Line = Text<LINE_LEN>;
-
-/// Puts the last so many hexadecimal digits of a number at the line's end.
-#[tactic(auto, using(crate::proofs::PrintLemmas::hex_none, crate::proofs::PrintLemmas::hex_pushed))]
-pub(crate) fn push_hex(line: &mut Line, n: u32, digits: usize)
-    requires { length line.old + digits ≤ 64 }
-    ensures items { line.new ≡ line.old ++ hex digits n }
-    ensures len { length line.new ≡ length line.old + digits }
-{
-    if digits > 0 {
-        push_hex(line, n / 16, digits - 1);
-        line.push(&[hex_digit((n % 16) as u8)]);
-    }
-}
 
 /// Puts the digits of a port at the line's end.
 #[tactic(auto, unfolding(crate::specs::Printing::port_text))]
@@ -31,7 +18,7 @@ pub(crate) fn push_port(line: &mut Line, port: u16)
     ensures len { length line.new ≤ length line.old + 4 }
 {
     let digits = if port < 0x1000 { 3 } else { 4 };
-    push_hex(line, port as u32, digits);
+    line.push_hex(port as u32, digits);
 }
 
 /// Puts the digits of an address at the line's end.
@@ -50,5 +37,5 @@ pub(crate) fn push_address(line: &mut Line, address: u32)
     } else {
         8
     };
-    push_hex(line, address, digits);
+    line.push_hex(address, digits);
 }

@@ -1,10 +1,11 @@
 //! From steps to the printed text of a script.
 ghost use Rattle.std.specs.Prelude.{◌≡◌, ◌+◌, ◌≤◌, ◌<◌, ◌++◌, ◌∷◌, [], codes, decimal, length, IfOk, IsOkUnless, OnOk};
 ghost use Rattle.hex.specs.Hex.{encode_upper};
-ghost use Rattle.vga_script.specs.Printing.{address_text, hex, line_of, port_text, printed, printed_line};
+ghost use Rattle.vga_bits.specs.Hex.{hex};
+ghost use Rattle.vga_script.specs.Printing.{address_text, line_of, port_text, printed, printed_line};
 ghost use Rattle.vga_script.specs.declared.step.Step.{Step};
 
-use super::line::{Line, push_address, push_hex, push_port};
+use super::line::{Line, push_address, push_port};
 use super::output::append;
 use super::script::Script;
 use super::shown::Shown;
@@ -56,7 +57,7 @@ fn print_port_and_value(
     line.push(b" ");
     push_port(&mut line, port);
     line.push(b" ");
-    push_hex(&mut line, value as u32, digits);
+    line.push_hex(value as u32, digits);
     end_line(out, line)
 }
 
@@ -95,7 +96,7 @@ fn print_address_and_value(
     line.push(b" ");
     push_address(&mut line, address);
     line.push(b" ");
-    push_hex(&mut line, value as u32, digits);
+    line.push_hex(value as u32, digits);
     end_line(out, line)
 }
 
@@ -129,12 +130,12 @@ fn print_dac(out: &mut Vec<u8>, index: u8) -> Result<(), Fault>
 {
     let mut line = Line::new();
     line.push(b"show dac ");
-    push_hex(&mut line, index as u32, 2);
+    line.push_hex(index as u32, 2);
     end_line(out, line)
 }
 
 /// Prints a look at bytes of a plane. It fails with `OutOfMemory` alone.
-#[tactic(auto, unfolding(crate::specs::Printing::line_of, crate::specs::Printing::hex))]
+#[tactic(auto, unfolding(crate::specs::Printing::line_of, vga_bits::specs::Hex::hex))]
 fn print_plane(out: &mut Vec<u8>, plane: u8, offset: u16, count: u16) -> Result<(), Fault>
     ensures ok { OnOk result (out.new.items ≡ out.old.items
         ++ line_of (codes "show" ∷ codes "plane" ∷ hex 1 plane ∷ hex 4 offset ∷ decimal count ∷ [])) }
@@ -142,9 +143,9 @@ fn print_plane(out: &mut Vec<u8>, plane: u8, offset: u16, count: u16) -> Result<
 {
     let mut line = Line::new();
     line.push(b"show plane ");
-    push_hex(&mut line, plane as u32, 1);
+    line.push_hex(plane as u32, 1);
     line.push(b" ");
-    push_hex(&mut line, offset as u32, 4);
+    line.push_hex(offset as u32, 4);
     line.push(b" ");
     line.push_decimal(count as u32);
     end_line(out, line)
@@ -178,13 +179,13 @@ fn call_line(ax: u16, bx: u16, cx: u16, dx: u16) -> Line
 {
     let mut line = Line::new();
     line.push(b"int ax=");
-    push_hex(&mut line, ax as u32, 4);
+    line.push_hex(ax as u32, 4);
     line.push(b" bx=");
-    push_hex(&mut line, bx as u32, 4);
+    line.push_hex(bx as u32, 4);
     line.push(b" cx=");
-    push_hex(&mut line, cx as u32, 4);
+    line.push_hex(cx as u32, 4);
     line.push(b" dx=");
-    push_hex(&mut line, dx as u32, 4);
+    line.push_hex(dx as u32, 4);
     line
 }
 

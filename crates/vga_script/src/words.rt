@@ -4,15 +4,15 @@ ghost use Rattle.std.specs.List.{before_first, position_or_len};
 ghost use Rattle.std.specs.Option.{option_copied};
 ghost use Rattle.vga_script.specs.Words.{is_blank, is_semicolon, ends_at, lines, lines_left, words_in};
 
-/// What ends a piece of a text.
+/// A byte that ends a piece of a text.
 #[derive(Clone, Copy, PartialEq, Eq, Debug)]
 enum End {
-    /// A newline ends a line.
-    OfLine,
-    /// A semicolon ends what a line says, and a comment follows.
-    OfSteps,
-    /// A blank ends a word.
-    OfWord,
+    /// A newline, which ends a line.
+    Newline,
+    /// A semicolon, behind which a line has its comment.
+    Semicolon,
+    /// A blank, which ends a word.
+    Blank,
 }
 
 impl End {
@@ -21,9 +21,9 @@ impl End {
         ensures { result ≡ ends_at self byte }
     {
         match self {
-            End::OfLine => byte == b'\n',
-            End::OfSteps => byte == b';',
-            End::OfWord => byte == b' ' || byte == b'\t' || byte == b'\r',
+            End::Newline => byte == b'\n',
+            End::Semicolon => byte == b';',
+            End::Blank => byte == b' ' || byte == b'\t' || byte == b'\r',
         }
     }
 
@@ -46,7 +46,7 @@ pub(crate) fn first_line(text: &[u8]) -> (&[u8], Option<&[u8]>)
     ensures line { lines text.now ≡ result.0.now ∷ lines_left (option_copied result.1) }
     ensures shorter { IfSome result.1 (λ rest. length rest.now < length text.now) }
 {
-    let end = End::OfLine.place_in(text);
+    let end = End::Newline.place_in(text);
     if end == text.len() {
         return (text, None);
     }
@@ -57,7 +57,7 @@ pub(crate) fn first_line(text: &[u8]) -> (&[u8], Option<&[u8]>)
 pub(crate) fn before_comment(line: &[u8]) -> &[u8]
     ensures { result.now ≡ before_first is_semicolon line.now }
 {
-    line.split_at(End::OfSteps.place_in(line)).0
+    line.split_at(End::Semicolon.place_in(line)).0
 }
 
 /// What follows the blanks at the front.
@@ -68,7 +68,7 @@ fn after_blanks(line: &[u8]) -> &[u8]
 {
     let mut rest = line;
     while let [first, others @ ..] = rest {
-        if !End::OfWord.is_at(*first) {
+        if !End::Blank.is_at(*first) {
             return rest;
         }
         rest = others;
@@ -85,5 +85,5 @@ pub(crate) fn next_word(line: &[u8]) -> Option<(&[u8], &[u8])>
     if rest.is_empty() {
         return None;
     }
-    Some(rest.split_at(End::OfWord.place_in(rest)))
+    Some(rest.split_at(End::Blank.place_in(rest)))
 }

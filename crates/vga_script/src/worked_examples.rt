@@ -37,7 +37,7 @@ fn steps_in_bytes()
 {}
 
 /// The line of each step, as it is printed.
-#[tactic(auto, unfolding(crate::specs::Printing::line_of, crate::specs::Printing::hex, crate::specs::Printing::port_text, crate::specs::Printing::address_text, hex::specs::Hex::encode_with))]
+#[tactic(auto, unfolding(crate::specs::Printing::line_of, vga_bits::specs::Hex::hex, crate::specs::Printing::port_text, crate::specs::Printing::address_text, hex::specs::Hex::encode_with))]
 fn steps_in_print()
     ensures script { printed two_steps ≡ codes "out 3C4 02\nint ax=0013 bx=0000 cx=0000 dx=0000\n" }
     ensures out_word { printed_line (Step.OutWord 0x1234 8) ≡ codes "outw 1234 0008\n" }

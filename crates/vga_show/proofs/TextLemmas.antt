@@ -2,8 +2,8 @@
 use Rattle.std.proofs.Common.{arith, ◌≡◌, ℕ, ◌+◌, List, [], ◌∷◌, ◌++◌, map, codes, refl, sym, ap, ◌∙◌, append_assoc, append-nil}
 use Rattle.std.proofs.lemmas.List.FromFn.{map-range_with_len_more}
 use Rattle.std.specs.List.{range_with_len}
-use Rattle.vga_bits.specs.Text.{hex_byte, hex_word}
-use Rattle.vga_show.specs.Text.{hex_bytes, hex_words, behind_blanks}
+use Rattle.vga_bits.specs.Hex.{hex_byte, hex_word}
+use Rattle.vga_show.specs.Lines.{hex_bytes, hex_words, behind_blanks}
 
 -- words behind words
 pub behind_blanks_append : (words more : List (List ℕ)) → behind_blanks (words ++ more) ≡ behind_blanks words ++ behind_blanks more

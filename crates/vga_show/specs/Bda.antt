@@ -1,8 +1,8 @@
 -- The video BIOS's data as text.
 use Rattle.std.specs.Prelude.{ℕ, List, [], ◌∷◌, ◌++◌, slice_index, codes}
 use Rattle.bios_modes.specs.Bda.{BiosData}
-use Rattle.vga_bits.specs.Text.{hex_byte, hex_word}
-use Rattle.vga_show.specs.Text.{line, hex_words}
+use Rattle.vga_bits.specs.Hex.{hex_byte, hex_word}
+use Rattle.vga_show.specs.Lines.{line, hex_words}
 
 -- the mode, its columns, the size of a page, and the start of the active one
 unfoldable pub mode_words : BiosData → List (List ℕ)

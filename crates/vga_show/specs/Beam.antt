@@ -4,8 +4,8 @@ use Rattle.vga_crtc.specs.declared.beam.Beam.{Beam}
 use Rattle.vga_card.specs.Card.{CardState}
 use Rattle.vga_card.specs.Picture.{rows}
 use Rattle.vga_card.specs.Dots.{fresh}
-use Rattle.vga_bits.specs.Text.{hex_word}
-use Rattle.vga_show.specs.Text.{line}
+use Rattle.vga_bits.specs.Hex.{hex_word}
+use Rattle.vga_show.specs.Lines.{line}
 
 -- a flag as a number: 1 where it is set, else 0
 abbrev pub flag : Bool → ℕ

@@ -2,8 +2,8 @@
 use Rattle.std.specs.Prelude.{ℕ, List, ◌∷◌, ◌++◌, map, codes}
 use Rattle.vga_dac.specs.Dac.{entry_of}
 use Rattle.vga_card.specs.Card.{CardState}
-use Rattle.vga_bits.specs.Text.{hex_byte}
-use Rattle.vga_show.specs.Text.{line}
+use Rattle.vga_bits.specs.Hex.{hex_byte}
+use Rattle.vga_show.specs.Lines.{line}
 
 -- the word entry, the index and a colon, and red, green and blue
 abbrev pub entry_text : CardState → ℕ → List ℕ

@@ -1,8 +1,8 @@
 -- The latches as text.
 use Rattle.std.specs.Prelude.{ℕ, List, [], ◌∷◌, codes}
 use Rattle.vga_card.specs.Card.{CardState}
-use Rattle.vga_bits.specs.Text.{hex_byte}
-use Rattle.vga_show.specs.Text.{line}
+use Rattle.vga_bits.specs.Hex.{hex_byte}
+use Rattle.vga_show.specs.Lines.{line}
 
 -- the word latches, and the latch of each plane
 abbrev pub latches_text : CardState → List ℕ

@@ -7,8 +7,8 @@ use Rattle.vga_dac.specs.declared.component.Component.{Component}
 use Rattle.vga_dac.specs.declared.component.Component.TheVariants.{Red, Green, Blue}
 use Rattle.vga_dac.specs.Dac.{DacState}
 use Rattle.vga_card.specs.Card.{CardState}
-use Rattle.vga_bits.specs.Text.{hex_byte}
-use Rattle.vga_show.specs.Text.{line, hex_bytes}
+use Rattle.vga_bits.specs.Hex.{hex_byte}
+use Rattle.vga_show.specs.Lines.{line, hex_bytes}
 
 -- the word misc, and the miscellaneous output register
 unfoldable pub misc_line : ℕ → List ℕ

@@ -1,17 +1,17 @@
 //! The video BIOS's data as text.
 ghost use Rattle.std.specs.Prelude.{◌≡◌, ◌+◌, ◌≤◌, ◌++◌, length, false};
 ghost use Rattle.vga_bits.specs.Tracked.{inner_of, has_failed, Writes};
-ghost use Rattle.vga_show.specs.Text.{room, behind_blanks};
+ghost use Rattle.vga_show.specs.Lines.{room, behind_blanks};
 ghost use Rattle.vga_show.specs.Bda.{mode_words, place_words, other_words, bda_text as bda_text_of};
 
-use super::text::{Text, push_byte_field, push_word, push_word_field};
+use super::text::{DumpText, push_byte_field, push_word, push_word_field};
 use bios_modes::Bda;
 use std::io::Write;
 use vga_bits::{Fault, Tracked, write_whole};
 
 /// Puts the mode, its columns, the size of a page and the start of the active one at the end of a text.
 #[tactic(auto, using(crate::proofs::TextLemmas::joins), unfolding(crate::specs::Bda::mode_words))]
-fn push_mode(text: &mut Text, bda: &Bda)
+fn push_mode(text: &mut DumpText, bda: &Bda)
     requires { length text.old + 39 ≤ room }
     ensures items { text.new ≡ text.old ++ behind_blanks (mode_words bda.now) }
     ensures len { length text.new ≡ length text.old + 39 }
@@ -24,7 +24,7 @@ fn push_mode(text: &mut Text, bda: &Bda)
 
 /// Puts the places of the cursor on the eight pages at the end of a text.
 #[tactic(auto, using(crate::proofs::TextLemmas::listing))]
-fn push_places(text: &mut Text, bda: &Bda)
+fn push_places(text: &mut DumpText, bda: &Bda)
     requires { length text.old + 43 ≤ room }
     ensures items { text.new ≡ text.old ++ behind_blanks (place_words bda.now) }
     ensures len { length text.new ≡ length text.old + 43 }
@@ -37,7 +37,7 @@ fn push_places(text: &mut Text, bda: &Bda)
 
 /// Puts the other data at the end of a text.
 #[tactic(auto, using(crate::proofs::TextLemmas::joins), unfolding(crate::specs::Bda::other_words))]
-fn push_others(text: &mut Text, bda: &Bda)
+fn push_others(text: &mut DumpText, bda: &Bda)
     requires { length text.old + 48 ≤ room }
     ensures items { text.new ≡ text.old ++ behind_blanks (other_words bda.now) }
     ensures len { length text.new ≡ length text.old + 48 }
@@ -51,10 +51,10 @@ fn push_others(text: &mut Text, bda: &Bda)
 
 /// The line of the data.
 #[tactic(auto, using(crate::proofs::TextLemmas::joins))]
-fn bda_text(bda: &Bda) -> Text
+fn bda_text(bda: &Bda) -> DumpText
     ensures { result ≡ bda_text_of bda.now }
 {
-    let mut text = Text::new();
+    let mut text = DumpText::new();
     text.push(b"bda");
     push_mode(&mut text, bda);
     push_places(&mut text, bda);

@@ -1,10 +1,10 @@
 //! The beam as text.
 ghost use Rattle.std.specs.Prelude.{◌≡◌, ◌+◌, ◌≤◌, ◌++◌, length, false};
 ghost use Rattle.vga_bits.specs.Tracked.{inner_of, has_failed, Writes};
-ghost use Rattle.vga_show.specs.Text.{room, behind_blanks};
+ghost use Rattle.vga_show.specs.Lines.{room, behind_blanks};
 ghost use Rattle.vga_show.specs.Beam.{place_words, count_words, beam_line as beam_line_of, beam_text};
 
-use super::text::{Text, push_decimal_field, push_word_field};
+use super::text::{DumpText, push_decimal_field, push_word_field};
 use std::io::Write;
 use vga_bits::{Fault, Tracked, write_whole};
 use vga_card::Card;
@@ -12,7 +12,7 @@ use vga_crtc::Beam;
 
 /// Puts where the beam is at the end of a text.
 #[tactic(auto, using(crate::proofs::TextLemmas::joins), unfolding(crate::specs::Beam::place_words))]
-fn push_place(text: &mut Text, beam: &Beam)
+fn push_place(text: &mut DumpText, beam: &Beam)
     requires { length text.old + 64 ≤ room }
     ensures items { text.new ≡ text.old ++ behind_blanks (place_words beam.now) }
     ensures len { length text.new ≤ length text.old + 64 }
@@ -25,7 +25,7 @@ fn push_place(text: &mut Text, beam: &Beam)
 
 /// Puts what the beam counts at the end of a text.
 #[tactic(auto, using(crate::proofs::TextLemmas::joins), unfolding(crate::specs::Beam::count_words))]
-fn push_counts(text: &mut Text, beam: &Beam)
+fn push_counts(text: &mut DumpText, beam: &Beam)
     requires { length text.old + 65 ≤ room }
     ensures items { text.new ≡ text.old ++ behind_blanks (count_words beam.now) }
     ensures len { length text.new ≤ length text.old + 65 }
@@ -38,10 +38,10 @@ fn push_counts(text: &mut Text, beam: &Beam)
 
 /// The line of the beam, with a number of rows.
 #[tactic(auto, using(crate::proofs::TextLemmas::joins))]
-pub(crate) fn beam_line(beam: &Beam, count: u16) -> Text
+pub(crate) fn beam_line(beam: &Beam, count: u16) -> DumpText
     ensures { result ≡ beam_line_of beam.now count }
 {
-    let mut text = Text::new();
+    let mut text = DumpText::new();
     text.push(b"beam");
     push_place(&mut text, beam);
     push_counts(&mut text, beam);

@@ -3,18 +3,18 @@ ghost use Rattle.std.specs.Prelude.{◌≡◌, false};
 ghost use Rattle.vga_bits.specs.Tracked.{inner_of, has_failed, Writes};
 ghost use Rattle.vga_show.specs.Dac.{entry_text as entry_text_of};
 
-use super::text::{Text, push_byte};
+use super::text::{DumpText, push_byte};
 use std::io::Write;
 use vga_bits::{Fault, Tracked, write_whole};
 use vga_card::Card;
 
 /// The line of an entry.
 #[tactic(auto, using(crate::proofs::TextLemmas::joins))]
-fn entry_text(card: &Card, index: u8) -> Text
+fn entry_text(card: &Card, index: u8) -> DumpText
     ensures { result ≡ entry_text_of card.now index }
 {
     let [red, green, blue] = card.regs().dac.entry(index);
-    let mut text = Text::new();
+    let mut text = DumpText::new();
     text.push(b"entry");
     push_byte(&mut text, index);
     text.push(b":");

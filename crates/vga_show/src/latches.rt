@@ -3,18 +3,18 @@ ghost use Rattle.std.specs.Prelude.{◌≡◌, false};
 ghost use Rattle.vga_bits.specs.Tracked.{inner_of, has_failed, Writes};
 ghost use Rattle.vga_show.specs.Latches.{latches_text as latches_text_of};
 
-use super::text::{Text, push_byte};
+use super::text::{DumpText, push_byte};
 use std::io::Write;
 use vga_bits::{Fault, Tracked, write_whole};
 use vga_card::Card;
 
 /// The line of the latches.
 #[tactic(auto, using(crate::proofs::TextLemmas::joins))]
-fn latches_text(card: &Card) -> Text
+fn latches_text(card: &Card) -> DumpText
     ensures { result ≡ latches_text_of card.now }
 {
     let latches = card.latches();
-    let mut text = Text::new();
+    let mut text = DumpText::new();
     text.push(b"latches");
     push_byte(&mut text, latches.byte(0));
     push_byte(&mut text, latches.byte(1));

@@ -2,10 +2,10 @@
 ghost use Rattle.std.specs.Prelude.{◌≡◌, ◌+◌, ◌*◌, ◌<◌, ◌≤◌, ◌++◌, length, false};
 ghost use Rattle.vga_bits.specs.Tracked.{inner_of, has_failed, Writes};
 ghost use Rattle.vga_planes.specs.Planes.{byte_at};
-ghost use Rattle.vga_show.specs.Text.{room, hex_bytes, behind_blanks};
+ghost use Rattle.vga_show.specs.Lines.{room, hex_bytes, behind_blanks};
 ghost use Rattle.vga_show.specs.Plane.{plane_text as plane_text_of};
 
-use super::text::{Text, push_byte, push_word};
+use super::text::{DumpText, push_byte, push_word};
 use std::io::Write;
 use vga_bits::{Fault, Tracked, write_whole};
 use vga_card::Card;
@@ -13,7 +13,7 @@ use vga_planes::Planes;
 
 /// Puts bytes of a plane at the end of a text, from an offset on.
 #[tactic(auto, using(crate::proofs::TextLemmas::listing))]
-fn push_bytes(text: &mut Text, planes: &Planes, plane: usize, offset: u16, count: u16)
+fn push_bytes(text: &mut DumpText, planes: &Planes, plane: usize, offset: u16, count: u16)
     requires plane { plane < 4 }
     requires end { offset + count ≤ 65536 }
     requires room { length text.old + 3 * count ≤ room }
@@ -26,13 +26,13 @@ fn push_bytes(text: &mut Text, planes: &Planes, plane: usize, offset: u16, count
 }
 
 /// The line of some bytes of a plane.
-fn plane_text(card: &Card, plane: u8, offset: u16, count: u16) -> Text
+fn plane_text(card: &Card, plane: u8, offset: u16, count: u16) -> DumpText
     requires plane { plane < 4 }
     requires count { count ≤ 256 }
     requires end { offset + count ≤ 65536 }
     ensures { result ≡ plane_text_of card.now plane offset count }
 {
-    let mut text = Text::new();
+    let mut text = DumpText::new();
     text.push(b"plane ");
     text.push(&[b'0' + plane]);
     push_word(&mut text, offset);

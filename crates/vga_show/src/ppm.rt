@@ -3,17 +3,17 @@ ghost use Rattle.std.specs.Prelude.{ℕ, List, ◌≡◌, ◌*◌, ◌≤◌, le
 ghost use Rattle.vga_bits.specs.Tracked.{inner_of, has_failed, Writes};
 ghost use Rattle.vga_show.specs.Ppm.{ppm_header, ppm};
 
-use super::text::Text;
+use super::text::DumpText;
 use std::io::Write;
 use vga_bits::{Fault, Tracked, write_whole};
 
 /// What stands before the dots.
 #[tactic(auto, unfolding(crate::specs::Ppm::ppm_header))]
-fn header(width: u32, height: u32) -> Text
+fn header(width: u32, height: u32) -> DumpText
     ensures value { result ≡ ppm_header width height }
     ensures short { length result ≤ 28 }
 {
-    let mut text = Text::new();
+    let mut text = DumpText::new();
     text.push(b"P6\n");
     text.push_decimal(width);
     text.push(b" ");
@@ -26,7 +26,7 @@ fn header(width: u32, height: u32) -> Text
 /// of each dot, row by row. The writer must not have failed before.
 ///
 /// It fails, with `WriteFault`, only where the writer does, which then has a front of the PPM.
-#[tactic(auto, using(crate::proofs::WritingLemmas::writes_after, crate::proofs::WritingLemmas::front_of_more))]
+#[tactic(auto, using(vga_bits::proofs::WritingLemmas::writes_after, vga_bits::proofs::WritingLemmas::front_of_more))]
 pub fn write_ppm<W: Write>(
     out: &mut Tracked<W>,
     width: u32,

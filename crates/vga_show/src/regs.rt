@@ -1,10 +1,10 @@
 //! All registers as text.
 ghost use Rattle.std.specs.Prelude.{◌≡◌, ◌+◌, ◌≤◌, [], ◌∷◌, ◌++◌, length, false};
 ghost use Rattle.vga_bits.specs.Tracked.{inner_of, has_failed, Writes};
-ghost use Rattle.vga_show.specs.Text.{room};
+ghost use Rattle.vga_show.specs.Lines.{room};
 ghost use Rattle.vga_show.specs.Regs.{misc_line, seq_line, crtc_line, gfx_line, attr_line, component_letter as component_letter_of, dac_line, regs_text as regs_text_of};
 
-use super::text::{Text, push_byte};
+use super::text::{DumpText, push_byte};
 use std::io::Write;
 use vga_attr::Attr;
 use vga_bits::{Fault, Tracked, write_whole};
@@ -15,7 +15,7 @@ use vga_host::Host;
 
 /// Puts the line of the miscellaneous output register at the end.
 #[tactic(auto, using(crate::proofs::TextLemmas::joins), unfolding(crate::specs::Regs::misc_line))]
-fn push_misc(text: &mut Text, misc: u8)
+fn push_misc(text: &mut DumpText, misc: u8)
     requires { length text.old + 8 ≤ room }
     ensures items { text.new ≡ text.old ++ misc_line misc }
     ensures len { length text.new ≡ length text.old + 8 }
@@ -27,7 +27,7 @@ fn push_misc(text: &mut Text, misc: u8)
 
 /// Puts the line of the sequencer at the end.
 #[tactic(auto, using(crate::proofs::TextLemmas::listing), unfolding(crate::specs::Regs::seq_line))]
-fn push_seq(text: &mut Text, host: &Host)
+fn push_seq(text: &mut DumpText, host: &Host)
     requires { length text.old + 23 ≤ room }
     ensures items { text.new ≡ text.old ++ seq_line host.now }
     ensures len { length text.new ≡ length text.old + 23 }
@@ -43,7 +43,7 @@ fn push_seq(text: &mut Text, host: &Host)
 
 /// Puts the line of the CRT controller at the end.
 #[tactic(auto, using(crate::proofs::TextLemmas::listing), unfolding(crate::specs::Regs::crtc_line))]
-fn push_crtc(text: &mut Text, crtc: &Crtc)
+fn push_crtc(text: &mut DumpText, crtc: &Crtc)
     requires { length text.old + 84 ≤ room }
     ensures items { text.new ≡ text.old ++ crtc_line crtc.now }
     ensures len { length text.new ≡ length text.old + 84 }
@@ -59,7 +59,7 @@ fn push_crtc(text: &mut Text, crtc: &Crtc)
 
 /// Puts the line of the graphics controller at the end.
 #[tactic(auto, using(crate::proofs::TextLemmas::listing), unfolding(crate::specs::Regs::gfx_line))]
-fn push_gfx(text: &mut Text, host: &Host)
+fn push_gfx(text: &mut DumpText, host: &Host)
     requires { length text.old + 35 ≤ room }
     ensures items { text.new ≡ text.old ++ gfx_line host.now }
     ensures len { length text.new ≡ length text.old + 35 }
@@ -75,7 +75,7 @@ fn push_gfx(text: &mut Text, host: &Host)
 
 /// Puts the line of the attribute controller at the end.
 #[tactic(auto, using(crate::proofs::TextLemmas::listing), unfolding(crate::specs::Regs::attr_line))]
-fn push_attr(text: &mut Text, attr: &Attr)
+fn push_attr(text: &mut DumpText, attr: &Attr)
     requires { length text.old + 74 ≤ room }
     ensures items { text.new ≡ text.old ++ attr_line attr.now }
     ensures len { length text.new ≡ length text.old + 74 }
@@ -102,7 +102,7 @@ fn component_letter(component: Component) -> u8
 
 /// Puts the line of the DAC at the end.
 #[tactic(auto, using(crate::proofs::TextLemmas::joins), unfolding(crate::specs::Regs::dac_line))]
-fn push_dac(text: &mut Text, dac: &Dac)
+fn push_dac(text: &mut DumpText, dac: &Dac)
     requires { length text.old + 18 ≤ room }
     ensures items { text.new ≡ text.old ++ dac_line dac.now }
     ensures len { length text.new ≡ length text.old + 18 }
@@ -119,7 +119,7 @@ fn push_dac(text: &mut Text, dac: &Dac)
 
 /// The six lines of all registers.
 #[tactic(auto, using(crate::proofs::TextLemmas::joins))]
-fn regs_text(card: &Card) -> Text
+fn regs_text(card: &Card) -> DumpText
     ensures { result ≡ regs_text_of card.now }
 {
     let Regs {
@@ -129,7 +129,7 @@ fn regs_text(card: &Card) -> Text
         attr,
         dac,
     } = card.regs();
-    let mut text = Text::new();
+    let mut text = DumpText::new();
     push_misc(&mut text, misc);
     push_seq(&mut text, host);
     push_crtc(&mut text, crtc);

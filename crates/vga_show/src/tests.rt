@@ -1,10 +1,7 @@
-//! Texts on values that were worked out by hand, and writers that fail.
+//! What no script shows: writers that fail, and the sizes of pictures.
 
-mod beam;
 mod dumps;
-mod memory;
 mod ppm;
-mod regs;
 mod sink;
 
 use super::*;

@@ -1,16 +1,16 @@
 //! The text of a dump: words, each behind a blank.
 ghost use Rattle.std.specs.Prelude.{◌≡◌, ◌+◌, ◌≤◌, ◌++◌, length, codes, decimal};
-ghost use Rattle.vga_bits.specs.Text.{hex_byte, hex_word};
-ghost use Rattle.vga_show.specs.Text.{room};
+ghost use Rattle.vga_bits.specs.Hex.{hex_byte, hex_word};
+ghost use Rattle.vga_show.specs.Lines.{room};
 
 /// Room for the longest text: a line of 256 bytes of a plane.
 const ROOM: usize = 782;
 
 /// The text of a dump, or the head of a picture.
-pub(crate) type Text = vga_bits::Text<ROOM>;
+pub(crate) type DumpText = vga_bits::Text<ROOM>;
 
 /// Puts a blank and the two digits of a byte at the end.
-pub(crate) fn push_byte(text: &mut Text, v: u8)
+pub(crate) fn push_byte(text: &mut DumpText, v: u8)
     requires { length text.old + 3 ≤ room }
     ensures items { text.new ≡ text.old ++ (codes " " ++ hex_byte v) }
     ensures len { length text.new ≡ length text.old + 3 }
@@ -20,7 +20,7 @@ pub(crate) fn push_byte(text: &mut Text, v: u8)
 }
 
 /// Puts a blank and the four digits of a word at the end.
-pub(crate) fn push_word(text: &mut Text, v: u16)
+pub(crate) fn push_word(text: &mut DumpText, v: u16)
     requires { length text.old + 5 ≤ room }
     ensures items { text.new ≡ text.old ++ (codes " " ++ hex_word v) }
     ensures len { length text.new ≡ length text.old + 5 }
@@ -30,7 +30,7 @@ pub(crate) fn push_word(text: &mut Text, v: u16)
 }
 
 /// Puts a blank, a name, a blank and the two digits of a byte at the end.
-pub(crate) fn push_byte_field(text: &mut Text, name: &[u8], v: u8)
+pub(crate) fn push_byte_field(text: &mut DumpText, name: &[u8], v: u8)
     requires { length text.old + length name.now + 4 ≤ room }
     ensures items { text.new ≡ text.old ++ (codes " " ++ (name.now ++ (codes " " ++ hex_byte v))) }
     ensures len { length text.new ≡ length text.old + length name.now + 4 }
@@ -41,7 +41,7 @@ pub(crate) fn push_byte_field(text: &mut Text, name: &[u8], v: u8)
 }
 
 /// Puts a blank, a name, a blank and the four digits of a word at the end.
-pub(crate) fn push_word_field(text: &mut Text, name: &[u8], v: u16)
+pub(crate) fn push_word_field(text: &mut DumpText, name: &[u8], v: u16)
     requires { length text.old + length name.now + 6 ≤ room }
     ensures items { text.new ≡ text.old ++ (codes " " ++ (name.now ++ (codes " " ++ hex_word v))) }
     ensures len { length text.new ≡ length text.old + length name.now + 6 }
@@ -52,7 +52,7 @@ pub(crate) fn push_word_field(text: &mut Text, name: &[u8], v: u16)
 }
 
 /// Puts a blank, a name, a blank and a number of at most ten digits in decimal at the end.
-pub(crate) fn push_decimal_field(text: &mut Text, name: &[u8], n: u32)
+pub(crate) fn push_decimal_field(text: &mut DumpText, name: &[u8], n: u32)
     requires { length text.old + length name.now + 12 ≤ room }
     ensures items { text.new ≡ text.old ++ (codes " " ++ (name.now ++ (codes " " ++ decimal n))) }
     ensures len { length text.new ≤ length text.old + length name.now + 12 }

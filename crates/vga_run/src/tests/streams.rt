@@ -1,11 +1,25 @@
 //! Readers and writers that fail, that have no end, or that take one byte a call.
 
-use super::{FIRST_PATH, FIRST_REPORT, FONTS_LEN, run_between};
-use std::alloc::Global;
+use super::{FIRST_PATH, FIRST_REPORT, FONTS_LEN, run};
+use std::alloc::{AllocError, Global};
 use std::io;
 use std::io::{Read, Write};
 use std::test::Fail;
-use vga_bits::Fault;
+use vga_bits::{Fault, Tracked};
+
+/// Runs what a reader gives into a writer, over a font file of so many bytes.
+fn run_between<R: Read + Drop, W: Write + Drop>(
+    alloc: Global,
+    fonts_len: usize,
+    reader: R,
+    writer: W,
+) -> Result<(Result<(), Fault>, Tracked<R>, Tracked<W>), AllocError> {
+    let fonts = vec![in alloc; 0; fonts_len]?;
+    let mut reader = Tracked::new(reader);
+    let mut writer = Tracked::new(writer);
+    let answer = run(alloc, &mut reader, fonts.as_slice(), &mut writer, None);
+    Ok((answer, reader, writer))
+}
 
 /// A reader that gives these bytes, so many a call, and then fails.
 #[derive(Drop)]
@@ -92,27 +106,6 @@ impl Read for Endless {
     }
 }
 
-/// A writer that takes all, and counts the lines.
-#[derive(Drop)]
-struct Counter {
-    lines: usize,
-}
-
-impl Write for Counter {
-    fn write(&mut self, buf: &[u8]) -> io::Result<usize> {
-        for byte in buf {
-            if *byte == b'\n' {
-                self.lines = self.lines.saturating_add(1);
-            }
-        }
-        Ok(buf.len())
-    }
-
-    fn flush(&mut self) -> io::Result<()> {
-        Ok(())
-    }
-}
-
 #[test]
 fn the_size_of_the_fonts_is_judged_first(rt: HostRuntime) -> Result<(), Fail> {
     for fonts_len in [0, 9727, 9729] {
@@ -156,33 +149,6 @@ fn a_reader_with_no_end_is_too_long(rt: HostRuntime) -> Result<(), Fail> {
     assert_eq!(rt; answer, Err(Fault::TooLong));
     assert_eq!(rt; reader.into_inner().given, 16_777_217);
     assert_eq!(rt; writer.into_inner().calls, 0);
-    Ok(())
-}
-
-#[test]
-fn one_byte_too_many_is_judged_before_the_first_letters(rt: HostRuntime) -> Result<(), Fail> {
-    let alloc = rt.alloc();
-    for (len, fault) in [(16_777_216, Fault::BadMagic), (16_777_217, Fault::TooLong)] {
-        let script = vec![in alloc; b'V'; len]?;
-        let sink = Sink::new(alloc, 100);
-        let (answer, _reader, writer) = run_between(alloc, FONTS_LEN, script.as_slice(), sink)?;
-        assert_eq!(rt; answer, Err(fault));
-        assert_eq!(rt; writer.into_inner().calls, 0);
-    }
-    Ok(())
-}
-
-#[test]
-fn a_long_script_has_a_line_for_each_step(rt: HostRuntime) -> Result<(), Fail> {
-    let alloc = rt.alloc();
-    let mut script = Vec::from_slice(alloc, b"VGAS\x01")?;
-    for _ in 0..250_000 {
-        script.extend_from_slice(b"\x01\xC4\x03\x02")?;
-    }
-    let counter = Counter { lines: 0 };
-    let (answer, _reader, writer) = run_between(alloc, FONTS_LEN, script.as_slice(), counter)?;
-    assert_eq!(rt; answer, Ok(()));
-    assert_eq!(rt; writer.into_inner().lines, 250_000);
     Ok(())
 }
 

@@ -59,23 +59,6 @@ fn numbers_are_printed_in_full(rt: HostRuntime) -> Result<(), Fail> {
     Ok(())
 }
 
-#[test]
-fn blanks_comments_and_ends_of_lines(rt: HostRuntime) -> Result<(), Fail> {
-    let alloc = rt.alloc();
-    let plain = b"in 3da\nframe\n";
-    let dressed = b"\t in\t\t3da  ; \x80\x00\xFF \r\n\r\n;frame\n  \t\nFrame;;out\r";
-    let (bytes, _printed) = there_and_back(alloc, plain)?;
-    let (same, _printed) = there_and_back(alloc, dressed)?;
-    assert_eq!(rt; bytes.as_slice(), same.as_slice());
-    assert_eq!(rt; bytes.as_slice(), b"VGAS\x01\x03\xDA\x03\x0B".as_slice());
-    for nothing in [b"".as_slice(), b"\n", b";", b"\r\n\t ; \n\n"] {
-        let (bytes, printed) = there_and_back(alloc, nothing)?;
-        assert_eq!(rt; bytes.as_slice(), b"VGAS\x01".as_slice());
-        assert!(rt; printed.is_empty());
-    }
-    Ok(())
-}
-
 /// Lines that are no steps.
 const BAD_LINES: [&[u8]; 65] = [
     // Words that are missing, or too many.
@@ -187,15 +170,5 @@ fn texts_that_are_too_long(rt: HostRuntime) -> Result<(), Fail> {
     // A text that is too long is so before its first line is looked at.
     let bad = vec![in alloc; b'?'; LIMIT + 1]?;
     assert_eq!(rt; text_fault(alloc, bad.as_slice()), Some(Fault::TooLong));
-    Ok(())
-}
-
-#[test]
-fn many_calls_are_assembled(rt: HostRuntime) -> Result<(), Fail> {
-    let alloc = rt.alloc();
-    let script = assemble(alloc, repeated(alloc, b"int\n", 20_000)?.as_slice())?;
-    assert_eq!(rt; script.list().len(), 20_000);
-    let bytes = encode(alloc, &script)?;
-    assert_eq!(rt; bytes.len(), 5 + 20_000 * 11);
     Ok(())
 }

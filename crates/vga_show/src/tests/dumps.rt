@@ -45,17 +45,6 @@ fn write_dump<W: Write>(dump: Dump, out: &mut Tracked<W>, card: &Card) -> Result
 }
 
 #[test]
-fn the_bios_data_at_power_on(rt: HostRuntime) -> Result<(), Fail> {
-    let mut out = Tracked::new(Vec::new(rt.alloc()));
-    assert_eq!(rt; dump_bda(&mut out, &Bda::new()), Ok(()));
-    let wanted =
-        b"bda mode 00 cols 0000 size 0000 start 0000 at 0000 0000 0000 0000 0000 0000 0000 0000 \
-        type 0000 page 00 crtc 0000 last 00 height 0000\n";
-    assert_eq!(rt; out.into_inner().as_slice(), wanted.as_slice());
-    Ok(())
-}
-
-#[test]
 fn each_dump_is_written_a_byte_a_call(rt: HostRuntime) -> Result<(), Fail> {
     let alloc = rt.alloc();
     let card = Card::new(alloc)?;

@@ -11,14 +11,6 @@ const TWO_DOTS: [u8; 6] = [0x00, 0x2A, 0x3F, 0x0A, 0x20, 0x15];
 const TWO_DOTS_PPM: [u8; 16] = *b"P6\n2 1\n63\n\x00\x2A\x3F\x0A\x20\x15";
 
 #[test]
-fn a_picture_is_its_size_and_its_dots(rt: HostRuntime) -> Result<(), Fail> {
-    let mut out = Tracked::new(Vec::new(rt.alloc()));
-    assert_eq!(rt; write_ppm(&mut out, 2, 1, &TWO_DOTS), Ok(()));
-    assert_eq!(rt; out.into_inner().as_slice(), TWO_DOTS_PPM.as_slice());
-    Ok(())
-}
-
-#[test]
 fn sizes_are_decimal_without_leading_zeros(rt: HostRuntime) -> Result<(), Fail> {
     let sizes: [(u32, u32, &[u8]); 4] = [
         (0, 0, b"P6\n0 0\n63\n"),
@@ -32,15 +24,6 @@ fn sizes_are_decimal_without_leading_zeros(rt: HostRuntime) -> Result<(), Fail> 
         assert_eq!(rt; out.into_inner().as_slice(), text);
     }
     Ok(())
-}
-
-#[test]
-fn the_length_counts_header_and_dots(rt: HostRuntime) {
-    assert_eq!(rt; ppm_length(9, 1), 37);
-    assert_eq!(rt; ppm_length(0, 0), 10);
-    assert_eq!(rt; ppm_length(320, 400), 384014);
-    assert_eq!(rt; ppm_length(720, 400), 864014);
-    assert_eq!(rt; ppm_length(2304, 1024), 7077904);
 }
 
 #[test]

@@ -4,4 +4,4 @@ use Rattle.vga_run.proofs.runs.run.Goals as goal
 -- a script has no fault of its own
 pub returns-clause-runs : goal.returns-clause-runs
 returns-clause-runs g c =
-    let e = c.run_steps.ensures in runs_good_scripts _ _ _ _ _ _ _ _ e.answer e.read_failed e.write_failed
+    let e = c.run_steps.ensures in runs_good_scripts c.one_fault.ensures.none _ _ _ _ _ _ _ _ e.answer e.read_failed e.write_failed

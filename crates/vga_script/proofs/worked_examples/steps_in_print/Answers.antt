@@ -1,6 +1,7 @@
 use Rattle.std.proofs.Common.{refl}
 use Rattle.std.specs.Fmt.{digits}
-use Rattle.vga_script.specs.Printing.{line_of, hex}
+use Rattle.vga_script.specs.Printing.{line_of}
+use Rattle.vga_bits.specs.Hex.{hex}
 use Rattle.vga_script.proofs.worked_examples.steps_in_print.Goals as goal
 
 pub returns-clause-advance : goal.returns-clause-advance

@@ -1,5 +1,5 @@
 use Rattle.std.specs.Prelude.{◌≡◌, ◌+◌, ◌*◌, ◌++◌, length, slice_index}
-use Rattle.vga_show.specs.Text.{hex_words, behind_blanks}
+use Rattle.vga_show.specs.Lines.{hex_words, behind_blanks}
 use Rattle.vga_show.proofs.bda.push_places.Given as goal
 
 -- the first i places stand at the end

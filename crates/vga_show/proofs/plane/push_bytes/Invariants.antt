@@ -1,6 +1,6 @@
 use Rattle.std.specs.Prelude.{◌≡◌, ◌+◌, ◌*◌, ◌++◌, length}
 use Rattle.vga_planes.specs.Planes.{byte_at}
-use Rattle.vga_show.specs.Text.{hex_bytes, behind_blanks}
+use Rattle.vga_show.specs.Lines.{hex_bytes, behind_blanks}
 use Rattle.vga_show.proofs.plane.push_bytes.Given as goal
 
 -- the first i bytes stand at the end

@@ -1,5 +1,5 @@
 use Rattle.std.specs.Prelude.{◌≡◌, ◌+◌, ◌*◌, ◌++◌, length, slice_index}
-use Rattle.vga_show.specs.Text.{hex_bytes, behind_blanks}
+use Rattle.vga_show.specs.Lines.{hex_bytes, behind_blanks}
 use Rattle.vga_show.proofs.regs.push_crtc.Given as goal
 
 -- the first i registers stand at the end

@@ -1,0 +1,18 @@
+-- Pushing hexadecimal digits at a text's end.
+use Rattle.std.proofs.Common.{◌≡◌, ℕ, zero, suc, ◌-◌, ◌/◌, ◌%◌, ◌<◌, ◌≤◌, List, [], ◌∷◌, ◌++◌, sym, ◌∙◌, arith, append_assoc, append-nil, refl}
+use Rattle.vga_bits.specs.Hex.{hex, hex_digit}
+
+-- no digits
+pub hex_none : (k n : ℕ) (old : List ℕ) → k ≤ 0 → old ≡ old ++ hex k n
+unfolding hex
+hex_none zero n old e = sym (append-nil old)
+hex_none (suc k) n old e = absurd (omega arith)
+
+hex_more : (k n : ℕ) → 0 < k → hex k n ≡ hex (k - 1) (n / 16) ++ hex_digit (n % 16) ∷ []
+unfolding hex
+hex_more zero n some = absurd (omega arith)
+hex_more (suc k) n some = let e : suc k - 1 ≡ k = omega arith in rw e refl
+
+-- the last digit behind the others
+pub hex_pushed : (k n : ℕ) (old mid new : List ℕ) (d : ℕ) → 0 < k → mid ≡ old ++ hex (k - 1) (n / 16) → d ≡ hex_digit (n % 16) → new ≡ mid ++ d ∷ [] → new ≡ old ++ hex k n
+hex_pushed k n old mid new d some e f g = g ∙ rw (e, f, hex_more k n some) (append_assoc old (hex (k - 1) (n / 16)) (hex_digit (n % 16) ∷ []))

@@ -1,0 +1,19 @@
+-- Numbers in hexadecimal.
+use Rattle.std.specs.Prelude.{ℕ, zero, suc, ◌+◌, ◌/◌, ◌%◌, nat_lt, if◌then◌else◌, List, [], ◌∷◌, ◌++◌}
+
+-- a digit below 16, in upper case: 0 to 9, and A to F
+abbrev pub hex_digit : ℕ → ℕ
+hex_digit n = if nat_lt n 10 then 48 + n else 55 + n
+
+-- the last so many digits of a number
+unfoldable pub hex : ℕ → ℕ → List ℕ
+hex zero n = []
+hex (suc digits) n = hex digits (n / 16) ++ hex_digit (n % 16) ∷ []
+
+-- the two digits of a byte
+abbrev pub hex_byte : ℕ → List ℕ
+hex_byte n = hex 2 n
+
+-- the four digits of a word
+abbrev pub hex_word : ℕ → List ℕ
+hex_word n = hex 4 n

@@ -1,0 +1,34 @@
+-- What a reader holds, where it tells its bytes, as one over memory does: all of them, if they are no more than a script
+-- may have, and what they spell.
+use Rattle.std.specs.Prelude.{ℕ, ◌≡◌, ◌<◌, ◌≤◌, ◌⊎◌, List, length, Option, IfSome}
+use Rattle.vga_bits.specs.declared.fault.Fault.{Fault}
+use Rattle.vga_bits.specs.declared.fault.Fault.TheVariants.{TooLong, ReadFault, OutOfMemory}
+use Rattle.vga_script.specs.declared.step.Step.{Step}
+use Rattle.vga_script.specs.Decoding.{IsSpellingFault}
+use Rattle.vga_script.specs.Script.{IsScript}
+use Rattle.vga_script.specs.Spelling.{script_limit, Spells}
+use Rattle.vga_script.specs.Text.{SpellsText}
+
+-- these bytes are all that the reader had, and no more than a script may have
+abbrev pub IsInput : Option (List ℕ) → List ℕ → Type 0
+IsInput input bytes = IfSome input (λ all. all ≡ bytes) × (length bytes ≤ script_limit)
+
+-- the reader had more bytes than a script may have
+abbrev pub IsTooLong : Option (List ℕ) → Type 0
+IsTooLong input = IfSome input (λ all. script_limit < length all)
+
+-- why not all bytes of a reader were read: it failed, it had too many, or memory ran out
+abbrev pub IsReadingFault : Option (List ℕ) → Fault → Type 0
+IsReadingFault input fault = (fault ≡ ReadFault) ⊎ (((fault ≡ TooLong) × IsTooLong input) ⊎ (fault ≡ OutOfMemory))
+
+-- the input spells a script of these steps
+abbrev pub InputSpells : Option (List ℕ) → List Step → Type 0
+InputSpells input steps = (bytes : List ℕ) × IsInput input bytes × Spells bytes steps
+
+-- the input spells no script, and this is its first fault
+abbrev pub InputHasFault : Option (List ℕ) → Fault → Type 0
+InputHasFault input fault = (bytes : List ℕ) × IsInput input bytes × IsSpellingFault bytes fault
+
+-- the input is a text that spells a script of these steps
+abbrev pub InputSpellsText : Option (List ℕ) → List Step → Type 0
+InputSpellsText input steps = (text : List ℕ) × IsInput input text × SpellsText text steps × IsScript steps

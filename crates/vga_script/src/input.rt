@@ -1,0 +1,35 @@
+//! Reading all the bytes of a script, or of its text.
+ghost use Rattle.std.specs.Prelude.{◌≡◌, ◌≤◌, ◌+◌, false, IfOk, IfErr};
+ghost use Rattle.vga_bits.specs.Reading.{TakesAtMost, is_read_fault};
+ghost use Rattle.vga_bits.specs.Tracked.{inner_of, has_failed, taken_of};
+ghost use Rattle.vga_script.specs.Input.{IsInput, IsReadingFault};
+ghost use Rattle.vga_script.specs.Spelling.{script_limit};
+
+use super::script::SCRIPT_LIMIT;
+use std::alloc::Global;
+use std::io::Read;
+use vga_bits::{Fault, Tracked, read_front};
+
+/// All that a reader has of a script, or of a text that spells one. The reader must not have failed before.
+/// At most 16,777,217 bytes are read, which is one more than either may have.
+///
+/// # Errors
+///
+/// `ReadFault` where the reader fails, `TooLong` where it has more bytes, and `OutOfMemory`.
+#[tactic(auto, using(crate::proofs::InputLemmas::unread_input, vga_bits::proofs::ReadingLemmas::unread_failed, vga_bits::proofs::ReadingLemmas::unread_taken))]
+pub fn read_script<R: Read>(alloc: Global, reader: &mut Tracked<R>) -> Result<Vec<u8>, Fault>
+    requires { has_failed reader.old ≡ false }
+    ensures input { IfOk result (λ bytes. IsInput (R.remaining (inner_of reader.old)) bytes.items) }
+    ensures fault { IfErr result (IsReadingFault (R.remaining (inner_of reader.old))) }
+    ensures failed { has_failed reader.new ≡ is_read_fault result }
+    // No more is read of any reader, whether it tells its bytes or not.
+    ensures taken { TakesAtMost (script_limit + 1) (R.remaining (inner_of reader.old))
+        (R.remaining (inner_of reader.new)) }
+    ensures counted { taken_of reader.new ≤ taken_of reader.old + (script_limit + 1) }
+{
+    let bytes = read_front(alloc, reader, SCRIPT_LIMIT + 1)?;
+    if bytes.len() > SCRIPT_LIMIT {
+        return Err(Fault::TooLong);
+    }
+    Ok(bytes)
+}
