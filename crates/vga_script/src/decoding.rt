@@ -2,7 +2,10 @@
 ghost use Rattle.std.specs.Prelude.{◌≡◌, ◌≢◌, ◌⊎◌, ◌<◌, ◌≤◌, ◌++◌, ◌∷◌, List, length, IfOk, IfErr, IsOkUnless, Err};
 ghost use Rattle.vga_script.specs.Decoding.{StartsOutOfRange, StartsWithBadStep, StartsWithCutStep, IsSpellingFault, IsFault};
 ghost use Rattle.vga_script.specs.Shown.{kind_dac, kind_plane};
-ghost use Rattle.vga_script.specs.Spelling.{script_limit, header, opcode_out, opcode_out_word, opcode_in, opcode_in_word, opcode_put, opcode_put_word, opcode_get, opcode_get_word, opcode_int, opcode_advance, opcode_show, StartsWithStep, Spells};
+ghost use Rattle.vga_script.specs.Spelling.{script_limit, header, StartsWithStep, Spells};
+ghost use Rattle.vga_script.specs.Spelling.{opcode_out, opcode_out_word, opcode_in, opcode_in_word};
+ghost use Rattle.vga_script.specs.Spelling.{opcode_put, opcode_put_word, opcode_get, opcode_get_word};
+ghost use Rattle.vga_script.specs.Spelling.{opcode_int, opcode_advance, opcode_show};
 ghost use Rattle.vga_script.specs.declared.step.Step.{Step};
 
 use super::fields::{NoStep, block_at, u8_at, u16_at, u32_at};

@@ -1,7 +1,9 @@
 //! Reading the words of a line.
 ghost use Rattle.std.specs.Prelude.{◌≡◌, ◌≤◌, IfOk, take, drop, option_to_list, List, Err};
 ghost use Rattle.hex.specs.Hex.{decode_of};
-ghost use Rattle.vga_script.specs.Reading.{Gives, hex_of, hex_at, ended, one_hex, two_hex, one_decimal, register_at, bytes_of, digits_at, block_at, read_int, alone, read_dac, read_plane, read_shown, read_step};
+ghost use Rattle.vga_script.specs.Reading.{Gives, hex_of, hex_at, ended, one_hex, two_hex, one_decimal};
+ghost use Rattle.vga_script.specs.Reading.{register_at, bytes_of, digits_at, block_at, read_int};
+ghost use Rattle.vga_script.specs.Reading.{alone, read_dac, read_plane, read_shown, read_step};
 ghost use Rattle.vga_script.specs.Text.{SpellsLine};
 ghost use Rattle.vga_script.specs.Words.{lowered, words, words_in};
 ghost use Rattle.vga_script.specs.declared.step.Step.{Step};
