@@ -148,11 +148,13 @@ fn bytes_are_written_in_the_pieces_that_are_taken(rt: HostRuntime) {
 fn the_front_of_a_reader_is_read_and_no_more(rt: HostRuntime) -> Result<(), Fail> {
     let alloc = rt.alloc();
     let mut reader = Tracked::new(b"VGAS".as_slice());
-    for (most, wanted) in [(0, b"".as_slice()), (3, b"VGA"), (3, b"S")] {
-        let front = read_front(alloc, &mut reader, most)?;
-        assert_eq!(rt; front.as_slice(), wanted);
-        assert!(rt; !reader.failed());
-    }
+    let none = read_front(alloc, &mut reader, 0)?;
+    assert!(rt; none.is_empty());
+    let front = read_front(alloc, &mut reader, 3)?;
+    assert_eq!(rt; front.as_slice(), b"VGA".as_slice());
+    let rest = read_front(alloc, &mut reader, 3)?;
+    assert_eq!(rt; rest.as_slice(), b"S".as_slice());
+    assert!(rt; !reader.failed());
     assert_eq!(rt; reader.taken(), 4);
     Ok(())
 }
