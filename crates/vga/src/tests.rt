@@ -1,7 +1,8 @@
-//! The words of the command line, the help, the lines of failures, and the commands over streams.
+//! The words of the command line, the help, the lines of failures, and the program over a runtime in memory.
 
+mod desk;
+mod edge;
 mod help;
-mod scripts;
 mod streams;
 mod words;
 
@@ -9,8 +10,6 @@ use super::lines::{fault_line, missing_line};
 use super::status::status;
 use super::words::job;
 use std::alloc::{AllocError, Global};
-use std::io;
-use std::io::Read;
 use vga_bits::Fault;
 
 /// Words of a command line.
@@ -30,27 +29,6 @@ fn words_status(alloc: Global, words: &[&str]) -> Result<u8, AllocError> {
         Err(failure) => Err(failure),
     };
     Ok(status(&outcome))
-}
-
-/// A reader that gives one byte in a call, counted up from 0, and fails after so many.
-#[derive(Drop)]
-struct Slow {
-    given: usize,
-    fails_at: usize,
-}
-
-impl Read for Slow {
-    fn read(&mut self, buf: &mut [u8]) -> io::Result<usize> {
-        if self.given >= self.fails_at {
-            return Err(io::Error::from(io::ErrorKind::Other));
-        }
-        if buf.is_empty() {
-            return Ok(0);
-        }
-        buf[0] = (self.given % 256) as u8;
-        self.given += 1;
-        Ok(1)
-    }
 }
 
 #[test]

@@ -32,9 +32,8 @@ fn shown(alloc: Global, words: &[&str]) -> Result<Option<String>, AllocError> {
     }
 }
 
-#[test]
-fn the_help_teaches_each_command_by_an_example(rt: HostRuntime) -> Result<(), Fail> {
-    let wanted = "A VGA display adapter that is driven by a script
+/// The help of the program.
+const PROGRAM_HELP: &str = "A VGA display adapter that is driven by a script
 
 Usage: vga <COMMAND>
 
@@ -65,14 +64,9 @@ The report has a line for each step, with its number and its answer.
 
 The status is 0 for success, 1 for a fault, and 2 for words that name no job.
 ";
-    let help = shown(rt.alloc(), &["vga", "--help"])?.ok_or("the help")?;
-    assert_eq!(rt; help.as_str(), wanted);
-    Ok(())
-}
 
-#[test]
-fn the_help_of_asm_has_an_example(rt: HostRuntime) -> Result<(), Fail> {
-    let wanted = "Assembles the text of a script, and writes its binary form
+/// The help of `asm`.
+const ASM_HELP: &str = "Assembles the text of a script, and writes its binary form
 
 Usage: vga asm <TEXT> <BIN>
 
@@ -90,14 +84,9 @@ The text has a step on each line, and a comment behind a semicolon. A mistake
 is named by its line, counted from 1, as `vga: F7 BadLine(12)` on standard
 error, and then <BIN> is not touched.
 ";
-    let help = shown(rt.alloc(), &["vga", "asm", "--help"])?.ok_or("the help")?;
-    assert_eq!(rt; help.as_str(), wanted);
-    Ok(())
-}
 
-#[test]
-fn the_help_of_dis_has_an_example(rt: HostRuntime) -> Result<(), Fail> {
-    let wanted = "Prints a script as text on standard output
+/// The help of `dis`.
+const DIS_HELP: &str = "Prints a script as text on standard output
 
 Usage: vga dis <BIN>
 
@@ -113,14 +102,9 @@ Example:
 The text has a line for each step, with its values in full. Where it has at most
 16,777,216 bytes, `vga asm` makes the same script of it.
 ";
-    let help = shown(rt.alloc(), &["vga", "dis", "--help"])?.ok_or("the help")?;
-    assert_eq!(rt; help.as_str(), wanted);
-    Ok(())
-}
 
-#[test]
-fn the_help_of_run_has_an_example(rt: HostRuntime) -> Result<(), Fail> {
-    let wanted = "Runs a script, and writes its report on standard output
+/// The help of `run`.
+const RUN_HELP: &str = "Runs a script, and writes its report on standard output
 
 Usage: vga run <BIN> --fonts <FILE> [--until <N>]
 
@@ -142,14 +126,9 @@ error such as `vga: F1 FontSize`, and with status 1.
 With --until the run stops after <N> steps, or at the script's end, and the
 report ends with the registers, the beam, the latches and the BIOS data.
 ";
-    let help = shown(rt.alloc(), &["vga", "run", "--help"])?.ok_or("the help")?;
-    assert_eq!(rt; help.as_str(), wanted);
-    Ok(())
-}
 
-#[test]
-fn the_help_of_go_has_an_example(rt: HostRuntime) -> Result<(), Fail> {
-    let wanted = "Assembles the text of a script, and runs it as `run` does
+/// The help of `go`.
+const GO_HELP: &str = "Assembles the text of a script, and runs it as `run` does
 
 Usage: vga go <TEXT> --fonts <FILE> [--until <N>]
 
@@ -167,7 +146,19 @@ Example:
 
 The report is that of `vga run` on the bytes that `vga asm` makes of the text.
 ";
-    let help = shown(rt.alloc(), &["vga", "go", "--help"])?.ok_or("the help")?;
-    assert_eq!(rt; help.as_str(), wanted);
+
+#[test]
+fn the_help_teaches_each_command_by_an_example(rt: HostRuntime) -> Result<(), Fail> {
+    let helps: [(&[&str], &str); 5] = [
+        (&["vga", "--help"], PROGRAM_HELP),
+        (&["vga", "asm", "--help"], ASM_HELP),
+        (&["vga", "dis", "--help"], DIS_HELP),
+        (&["vga", "run", "--help"], RUN_HELP),
+        (&["vga", "go", "--help"], GO_HELP),
+    ];
+    for (words, wanted) in helps {
+        let help = shown(rt.alloc(), words)?.ok_or("the help")?;
+        assert_eq!(rt; help.as_str(), wanted);
+    }
     Ok(())
 }

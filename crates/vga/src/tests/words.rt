@@ -133,8 +133,9 @@ fn the_number_behind_until_is_digits_alone(rt: HostRuntime) -> Result<(), Fail> 
 
 #[test]
 fn words_that_name_no_job_have_status_2(rt: HostRuntime) -> Result<(), Fail> {
-    let refused: [&[&str]; 27] = [
+    let refused: [&[&str]; 28] = [
         &[],
+        &["vga", "--version"],
         &["vga"],
         &["vga", "asm"],
         &["vga", "asm", "x"],
