@@ -1,5 +1,5 @@
 -- What a run answers.
-use Rattle.std.specs.Prelude.{ℕ, ◌≡◌, ◌≢◌, ◌≤◌, Bool, true, false, List, length, Option, Some, IsOkUnless, Result, Ok, Err}
+use Rattle.std.specs.Prelude.{ℕ, ◌≡◌, ◌≢◌, ◌≤◌, Bool, false, List, length, Option, Some, IsOkUnless, Result, Ok, Err}
 use Rattle.std.specs.Io.KnownBytes.{Appends}
 use Rattle.vga_bits.specs.Tracked.{AppendsFront}
 use Rattle.vga_bits.specs.declared.fault.Fault.{Fault}

@@ -1,5 +1,5 @@
 //! The report of a run.
-ghost use Rattle.std.specs.Prelude.{◌≡◌, ◌+◌, ◌*◌, ◌<◌, ◌≤◌, ◌++◌, [], length, false, OnOk, ◌^◌, codes, decimal, nat_lt, if◌then◌else◌, Some};
+ghost use Rattle.std.specs.Prelude.{◌≡◌, ◌+◌, ◌*◌, ◌<◌, ◌≤◌, ◌++◌, length, false, OnOk, ◌^◌, codes, nat_lt, if◌then◌else◌, Some};
 ghost use Rattle.vga_bits.specs.Tracked.{inner_of, has_failed, Writes};
 ghost use Rattle.vga_card.specs.Frames.{IsSmall};
 ghost use Rattle.vga_run.specs.Answer.{Plain, Picture, Ragged, Dump, of_drawn};

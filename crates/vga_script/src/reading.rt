@@ -1,6 +1,5 @@
 //! Reading the words of a line.
 ghost use Rattle.std.specs.Prelude.{◌≡◌, ◌≤◌, IfOk, take, drop, option_to_list, List, Err};
-ghost use Rattle.hex.specs.Hex.{decode_of};
 ghost use Rattle.vga_script.specs.Reading.{Gives, hex_of, hex_at, ended, one_hex, two_hex, one_decimal};
 ghost use Rattle.vga_script.specs.Reading.{register_at, bytes_of, digits_at, block_at, read_int};
 ghost use Rattle.vga_script.specs.Reading.{alone, read_dac, read_plane, read_shown, read_step};
