@@ -1,25 +1,13 @@
 //! The report of a script.
-ghost use Rattle.std.specs.Prelude.{◌≡◌, List, IfOk, IsOkUnless};
+ghost use Rattle.std.specs.Prelude.{◌≡◌, List, IfOk};
 ghost use Rattle.vga_run.specs.Report.{report_of, steps_until};
 ghost use Rattle.vga_script.specs.declared.step.Step.{Step};
-ghost use Rattle.vga_script.specs.Script.{IsScript};
-ghost use Rattle.vga_script.specs.Spelling.{encoding, Spells};
+ghost use Rattle.vga_script.specs.Spelling.{Spells};
 ghost use Rattle.vga_script.specs.Text.{SpellsText};
 
 use std::alloc::{AllocError, Global};
 use vga_bits::{Fault, Tracked};
-use vga_script::{Script, assemble, encode, one_script, one_spelling};
-
-/// The bytes of a script.
-fn encoded(alloc: Global, script: &Script) -> Result<Vec<u8>, Fault>
-    ensures script { IsScript script.now }
-    ensures ok { IfOk result (λ bytes. bytes.items ≡ encoding script.now) }
-    ensures err { IsOkUnless result Fault.OutOfMemory }
-{
-    // The steps are in range, and few: their list is what says so.
-    let _steps = script.list();
-    encode(alloc, script)
-}
+use vga_script::assemble;
 
 /// The report of the script that some bytes spell, all of it or so many of its first steps with the
 /// last looks, or the fault that ends the run.
@@ -48,11 +36,9 @@ pub fn run_text(
         × (report.items ≡ report_of (steps_until until steps))) }
 {
     let script = assemble(alloc, text)?;
-    let bytes = encoded(alloc, &script)?;
-    // The bytes spell this script, and no other.
-    one_spelling();
-    one_script();
-    run_bytes(alloc, bytes.as_slice(), fonts, until)
+    let mut report = Tracked::new(Vec::new(alloc));
+    vga_run::run_script(alloc, &script, fonts, &mut report, until)?;
+    Ok(report.into_inner())
 }
 
 /// The report, or the line of the fault.
