@@ -2,6 +2,7 @@
 ghost use Rattle.std.specs.Prelude.{◌≡◌, ◌+◌, ◌*◌, ◌<◌, ◌≤◌, ◌++◌, length, false, OnOk, ◌^◌, codes, nat_lt, if◌then◌else◌, Some};
 ghost use Rattle.vga_bits.specs.Tracked.{inner_of, has_failed, Writes};
 ghost use Rattle.vga_card.specs.Frames.{IsSmall};
+ghost use Rattle.vga_card.specs.Picture.{widest, highest};
 ghost use Rattle.vga_run.specs.Answer.{Plain, Picture, Ragged, Dump, of_drawn};
 ghost use Rattle.vga_run.specs.Step.{answer_to, after_step, after_steps, dump_text};
 ghost use Rattle.vga_script.specs.Step.{IsInRange, AreInRange};
@@ -103,8 +104,8 @@ fn write_picture<W: Write>(
     bytes: &[u8],
 ) -> Result<(), Fault>
     requires writer { has_failed out.old ≡ false }
-    requires width { width ≤ 2304 }
-    requires height { height ≤ 1024 }
+    requires width { width ≤ widest }
+    requires height { height ≤ highest }
     requires whole { length bytes.now ≡ 3 * (width * height) }
     ensures { Writes (W.contents (inner_of out.old)) (W.contents (inner_of out.new))
         (has_failed out.new) result (line n (Picture width height bytes.now)) }
