@@ -9,7 +9,7 @@ pub mod fault;
 pub mod reading;
 pub mod refusal;
 pub mod reg_file;
-pub mod text;
+pub mod text_buffer;
 pub mod tracked;
 
 pub use bits::is_set;
@@ -18,7 +18,7 @@ pub use fault::{Fault, FaultName};
 pub use reading::read_front;
 pub use refusal::Refusal;
 pub use reg_file::RegFile;
-pub use text::{Text, hex_digit};
+pub use text_buffer::{TextBuffer, hex_digit};
 pub use tracked::{Tracked, flush, write_whole};
 
 #[cfg(test)]

@@ -37,7 +37,7 @@ fn bytes_are_copied_cleared_and_set(rt: HostRuntime) -> Result<(), Fail> {
 
 #[test]
 fn a_text_grows_at_its_end(rt: HostRuntime) {
-    let mut text: Text<52> = Text::new();
+    let mut text: TextBuffer<52> = TextBuffer::new();
     assert_eq!(rt; text.len(), 0);
     text.push(b"port ");
     text.push_hex_word(0x03DA);

@@ -13,7 +13,7 @@ ghost use Rattle.vga_show.specs.Ppm.{ppm};
 use super::answer::Answer;
 use bios_modes::Bda;
 use std::io::Write;
-use vga_bits::{Fault, Refusal, Text, Tracked, flush, write_whole};
+use vga_bits::{Fault, Refusal, TextBuffer, Tracked, flush, write_whole};
 use vga_card::{Card, Drawn};
 use vga_script::{Shown, Step};
 use vga_show::{
@@ -25,7 +25,7 @@ use vga_show::{
 const LINE_LEN: usize = 40;
 
 /// The line of a step.
-type Line = Text<LINE_LEN>;
+type Line = TextBuffer<LINE_LEN>;
 
 /// Puts the text of an answer at the line's end.
 #[tactic(auto, using(crate::proofs::ReportLemmas::name_is_short))]

@@ -2,13 +2,13 @@
 ghost use Rattle.std.specs.Prelude.{◌≡◌, ◌+◌, ◌≤◌, ◌++◌, length};
 ghost use Rattle.vga_script.specs.Printing.{address_text, port_text};
 
-use vga_bits::Text;
+use vga_bits::TextBuffer;
 
 /// Room for the longest line but for a block: `int`, four registers, and the block's name.
 const LINE_LEN: usize = 64;
 
 /// The text of a line.
-pub(crate) type Line = Text<LINE_LEN>;
+pub(crate) type Line = TextBuffer<LINE_LEN>;
 
 /// Puts the digits of a port at the line's end.
 #[tactic(auto, unfolding(crate::specs::Printing::port_text))]

@@ -7,7 +7,7 @@ ghost use Rattle.vga_show.specs.Lines.{room};
 const ROOM: usize = 782;
 
 /// The text of a dump, or the head of a picture.
-pub(crate) type DumpText = vga_bits::Text<ROOM>;
+pub(crate) type DumpText = vga_bits::TextBuffer<ROOM>;
 
 /// Puts a blank and the two digits of a byte at the end.
 pub(crate) fn push_byte(text: &mut DumpText, v: u8)

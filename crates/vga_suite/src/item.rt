@@ -4,9 +4,9 @@
 #[derive(Clone, Copy)]
 pub enum Form {
     /// As text, in a file whose name ends in `.vga`.
-    Text,
+    Vga,
     /// As hexadecimal bytes, in a file whose name ends in `.hex`.
-    Bytes,
+    Hex,
 }
 
 /// A case: a script and the report that is expected of it.
@@ -46,8 +46,8 @@ impl<'a> Case<'a> {
             None => (false, line),
         };
         let (form, line) = match line.strip_prefix("bytes ") {
-            Some(others) => (Form::Bytes, others),
-            None => (Form::Text, line),
+            Some(others) => (Form::Hex, others),
+            None => (Form::Vga, line),
         };
         let (name, until) = match line.split_once(" until ") {
             Some((name, steps)) => (name, Some(steps.parse().ok()?)),

@@ -48,12 +48,12 @@ fn report_of<R: Files + AllocGlobal>(rt: &R, case: &Case, setting: &Setting) -> 
     let alloc = rt.alloc();
     let fonts = setting.fonts();
     let answer = match case.form {
-        Form::Text => {
+        Form::Vga => {
             let script = read_bytes(rt, setting.path(alloc, case.name, ".vga")?.as_str())?;
             let text = setting.behind_front(alloc, script.as_slice())?;
             running::run_text(alloc, text.as_slice(), fonts, case.until)
         }
-        Form::Bytes => {
+        Form::Hex => {
             let path = setting.path(alloc, case.name, ".hex")?;
             let script = read_text(rt, path.as_str())?;
             let bytes = hexadecimal::bytes_of(alloc, script.as_str()).context(path)?;

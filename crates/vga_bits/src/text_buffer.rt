@@ -18,11 +18,11 @@ pub fn hex_digit(n: u8) -> u8
 ///
 /// Contracts see the list of its bytes.
 #[derive(Drop)]
-pub struct Text<const ROOM: usize> {
+pub struct TextBuffer<const ROOM: usize> {
     bytes: ArrayVec<u8, ROOM>,
 }
 
-impl<const ROOM: usize> Model for Text<ROOM> {
+impl<const ROOM: usize> Model for TextBuffer<ROOM> {
     ghost use Rattle.std.specs.Prelude.{ℕ, List};
 
     ghost Value = { List ℕ };
@@ -30,12 +30,12 @@ impl<const ROOM: usize> Model for Text<ROOM> {
     ghost view = { λ t. t.bytes.items };
 }
 
-impl<const ROOM: usize> Text<ROOM> {
+impl<const ROOM: usize> TextBuffer<ROOM> {
     /// No text yet.
-    pub fn new() -> Text<ROOM>
+    pub fn new() -> TextBuffer<ROOM>
         ensures { result ≡ [] }
     {
-        Text {
+        TextBuffer {
             bytes: ArrayVec::new(),
         }
     }
