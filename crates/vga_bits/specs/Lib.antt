@@ -6,4 +6,5 @@ pub mod Hex
 pub mod Refusal
 pub mod Reading
 pub mod RegFile
+pub mod Tally
 pub mod Tracked

@@ -1,6 +1,6 @@
 //! What every part of the adapter shares: bits and registers under write masks, bytes that are seen as
-//! a list, text and its digits, the names of refusals and faults, and readers and writers that remember
-//! a failure.
+//! a list, text and its digits, the names of refusals and faults, readers and writers that remember a
+//! failure, and how many comparisons passed and failed.
 #![tactic(auto)]
 
 pub mod bits;
@@ -9,6 +9,7 @@ pub mod fault;
 pub mod reading;
 pub mod refusal;
 pub mod reg_file;
+pub mod tally;
 pub mod text_buffer;
 pub mod tracked;
 
@@ -18,6 +19,7 @@ pub use fault::{Fault, FaultName};
 pub use reading::read_front;
 pub use refusal::Refusal;
 pub use reg_file::RegFile;
+pub use tally::Tally;
 pub use text_buffer::{TextBuffer, hex_digit};
 pub use tracked::{Tracked, flush, write_whole};
 

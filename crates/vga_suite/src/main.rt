@@ -12,7 +12,6 @@ mod picture;
 mod running;
 mod setting;
 mod shown;
-mod tally;
 
 use anyhow::{Context, Result, bail};
 use difference::{Difference, first_difference};
@@ -22,7 +21,7 @@ use shown::shown_report;
 use std::process::ExitCode;
 use std::rt::{Env, Files};
 use std::{env, fs};
-use tally::Tally;
+use vga_bits::Tally;
 
 /// The path of the list, which the command line names.
 fn list_path<R: Env + AllocGlobal>(rt: &R) -> Result<String> {

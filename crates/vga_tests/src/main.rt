@@ -7,14 +7,13 @@ mod host_path;
 mod plain_dots;
 mod plain_host;
 mod random_registers;
-mod tally;
 
 use anyhow::Result;
 use dots::compare_dots;
 use host_path::compare_host_path;
 use random_registers::DotSource;
 use std::process::ExitCode;
-use tally::Tally;
+use vga_bits::Tally;
 
 /// The kinds of dots that are compared, each by its own pseudo-random numbers.
 const KINDS: [(&str, DotSource, u64); 3] = [

@@ -1,18 +1,22 @@
-//! How comparisons ended.
+//! How many comparisons passed and failed.
 ghost use Rattle.std.specs.Prelude.{◌≡◌, ◌==◌, if◌then◌else◌};
+ghost use Rattle.vga_bits.specs.Tally.{one_more};
 
 use std::fmt;
 
-/// How many comparisons passed and failed.
+/// How many comparisons passed and failed. It is printed as in `12 passed, 0 failed`.
 #[derive(Clone, Copy)]
 pub struct Tally {
-    passed: u32,
-    failed: u32,
+    pub passed: u64,
+    pub failed: u64,
 }
 
 impl Tally {
     /// No comparison yet.
-    pub fn new() -> Tally {
+    pub fn new() -> Tally
+        ensures passed { result.passed ≡ 0 }
+        ensures failed { result.failed ≡ 0 }
+    {
         Tally {
             passed: 0,
             failed: 0,
@@ -20,7 +24,10 @@ impl Tally {
     }
 
     /// Counts a comparison.
-    pub fn count(&mut self, has_passed: bool) {
+    pub fn count(&mut self, has_passed: bool)
+        ensures passed { self.new.passed ≡ (if has_passed then one_more self.old.passed else self.old.passed) }
+        ensures failed { self.new.failed ≡ (if has_passed then self.old.failed else one_more self.old.failed) }
+    {
         if has_passed {
             self.passed = self.passed.saturating_add(1);
         } else {
@@ -28,7 +35,7 @@ impl Tally {
         }
     }
 
-    /// The exit status: 1 where any comparison failed.
+    /// The exit status of a program that compares: 1 where any comparison failed.
     pub fn status(&self) -> u8
         ensures { result ≡ (if self.now.failed == 0 then 0 else 1) }
     {
