@@ -1,8 +1,9 @@
 -- Registers hold bits of their masks alone.
-use Rattle.std.proofs.Common.{◌≡◌, ℕ, zero, suc, List, [], ◌∷◌, ap, sym, ◌∙◌, replicate}
-use Rattle.std.specs.Prelude.{slice_index, slice_set, bit_and}
+use Rattle.std.proofs.Common.{◌≡◌, ◌<◌, ℕ, zero, suc, true, List, [], ◌∷◌, arith, ap, sym, ◌∙◌, replicate}
+use Rattle.std.specs.Prelude.{slice_index, slice_set, nat_lt, bit_and}
 use Rattle.std.specs.Int.Bits.{and_self, and_zero_l}
-use Rattle.std.proofs.lemmas.Nat.{and_assoc}
+use Rattle.std.proofs.lemmas.Bool.{agree_below, agree_below_at, ltb-true}
+use Rattle.std.proofs.lemmas.Nat.{and_assoc, and_le_r}
 use Rattle.vga_bits.specs.Bytes.{zeros}
 use Rattle.vga_bits.specs.RegFile.{AreKept}
 use Rattle.vga_bits.proofs.ByteLemmas.{zeros_at}
@@ -29,3 +30,10 @@ kept_at (m ∷ masks) (x ∷ values) (suc i) v (suc j) e = kept_at masks values 
 -- a register that is written keeps its bits of the value
 pub kept_set : (masks values : List ℕ) (i v : ℕ) → AreKept masks values → AreKept masks (slice_set values i (bit_and v (slice_index masks i)))
 kept_set masks values i v are = record { kept = λ j. kept_at masks values i v j (are.kept j) }
+
+-- the first n registers are below a bound that all their masks are below
+pub kept_below : (masks values : List ℕ) (n bound : ℕ) → AreKept masks values → agree_below (λ k. nat_lt (slice_index masks k) bound) (λ k. true) n ≡ true
+    → (i : ℕ) → i < n → slice_index values i < bound
+kept_below masks values n bound are below i within =
+    let small = ltb-true (slice_index masks i) bound (agree_below_at (λ k. nat_lt (slice_index masks k) bound) (λ k. true) n i below within) in
+    omega (arith, are.kept i, and_le_r (slice_index values i) (slice_index masks i), small)

@@ -2,7 +2,7 @@
 use Rattle.std.proofs.Common.{◌≡◌, ◌≢◌, ℕ, zero, suc, ◌+◌, ◌/◌, ◌%◌, ◌^◌, ◌<◌, ◌≤◌, ⊎_elim, refl, ap, ◌∙◌, arith, List, length, Bool, true, false, Option, Some, None, Result, Ok, Err}
 use Rattle.std.specs.Prelude.{slice_index, slice_set, nat_lt, ◌==◌, ◌&&◌, not, if◌then◌else◌, min, max, bit_and, replicate}
 use Rattle.std.specs.Int.{bit_at}
-use Rattle.std.proofs.lemmas.Bool.{cases_eq, cases_lt, agree_below_at, ltb-true}
+use Rattle.std.proofs.lemmas.Bool.{cases_eq, cases_lt, ltb-true}
 use Rattle.std.proofs.lemmas.List.{get_or-set_same, get_or-set_other, length-set, set_past}
 use Rattle.std.proofs.lemmas.Nat.{and_le_r, and_mask, or_of_8}
 use Rattle.vga_bits.specs.declared.refusal.Refusal.{Refusal}
@@ -12,7 +12,7 @@ use Rattle.vga_bits.specs.RegFile.{AreKept}
 use Rattle.vga_bits.proofs.BitLemmas.{byte_small}
 use Rattle.vga_bits.proofs.ByteLemmas.{length-zeros, zeros_at}
 use Rattle.vga_bits.proofs.FourLemmas.{by_plane}
-use Rattle.vga_bits.proofs.RegisterLemmas.{kept_zeros, kept_set}
+use Rattle.vga_bits.proofs.RegisterLemmas.{kept_zeros, kept_set, kept_below}
 use Rattle.vga_planes.specs.Planes.{byte_at, bytes_at, zero_planes, IsMemory}
 use Rattle.vga_host.specs.Host.{HostState, power_on_host}
 use Rattle.vga_host.specs.Fields.{write_mode, is_set_reset_enabled, function_select}
@@ -239,14 +239,8 @@ if_attr : (t : Bool) (x y : AttrState) → IsAttr x → IsAttr y → IsAttr (if 
 if_attr true x y h k = h
 if_attr false x y h k = k
 
-palette_mask : (i : ℕ) → i < 16 → slice_index attr_masks i < 64
-palette_mask i within = ltb-true (slice_index attr_masks i) 64 (agree_below_at (λ k. nat_lt (slice_index attr_masks k) 64) (λ k. true) 16 i refl within)
-
-palette_small : (registers : List ℕ) → AreKept attr_masks registers → (i : ℕ) → i < 16 → slice_index registers i < 64
-palette_small registers are i within = omega (arith, are.kept i, and_le_r (slice_index registers i) (slice_index attr_masks i), palette_mask i within)
-
 attr_kept : (a : AttrState) → length a.registers ≡ 21 → AreKept attr_masks a.registers → IsAttr a
-attr_kept a size are = record { size = size; kept = are; palette = palette_small a.registers are }
+attr_kept a size are = record { size = size; kept = are; palette = kept_below attr_masks a.registers 16 64 are refl }
 
 attr_write : (a : AttrState) (v : ℕ) → IsAttr a → IsAttr (after_attr a v)
 attr_write a v z =
