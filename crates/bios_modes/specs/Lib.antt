@@ -1,1 +1,6 @@
 pub mod Bda
+pub mod Modes
+pub mod Palette
+pub mod Fonts
+pub mod Valid
+pub mod Begin

@@ -1,6 +1,9 @@
 //! The video BIOS's data.
 ghost use Rattle.std.specs.Prelude.{◌≡◌, ◌<◌, slice_index};
 
+mod valid;
+mod writers;
+
 use std::marker::Model;
 
 /// How many pages have a place for their cursor.

@@ -1,6 +1,14 @@
-//! What the video BIOS knows of its modes, and the data that it keeps.
+//! What the video BIOS knows of its modes: what each sets, its palette, the fonts, and the data that it keeps.
 #![tactic(auto)]
 
 pub mod bda;
+pub mod font;
+pub mod fonts;
+pub mod modes;
+mod palette;
 
 pub use bda::Bda;
+pub use font::Font;
+pub use fonts::Fonts;
+pub use modes::{ModeRow, mode_row};
+pub use palette::dac_entry;

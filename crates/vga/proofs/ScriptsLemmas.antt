@@ -43,10 +43,10 @@ assembled input steps (Err f) found are only = subst (λ (x : Fault). Assembles 
 -- ---- a text that is run
 
 -- a text that is not assembled
-pub not_run : (until : Option ℕ) (fonts : ℕ) (input before after : Option (List ℕ)) (f : Fault) → FindsScript input (Err f) → RunsText until fonts input before after (Err f)
-not_run until fonts input before after FontSize h = absurd h
-not_run until fonts input before after WriteFault h = absurd h
-not_run until fonts input before after f h = h
+pub not_run : (until : Option ℕ) (file : List ℕ) (input before after : Option (List ℕ)) (f : Fault) → FindsScript input (Err f) → RunsText until file input before after (Err f)
+not_run until file input before after FontSize h = absurd h
+not_run until file input before after WriteFault h = absurd h
+not_run until file input before after f h = h
 
 -- the writer has no part in it
 pub no_write_fault : (input : Option (List ℕ)) (failed : Bool) (f : Fault) → FindsScript input (Err f) → failed ≡ false → failed ≡ is_write_fault {A = Unit} (Err f)
@@ -54,13 +54,13 @@ no_write_fault input failed WriteFault h sound = absurd h
 no_write_fault input failed _ h sound = sound
 
 -- a text whose script is run
-pub script_is_run : (until : Option ℕ) (fonts : ℕ) (input before after : Option (List ℕ)) (steps : List Step) (result : Result Unit Fault) → FindsScript input (Ok steps)
-    → RunsScript until fonts steps before after result → RunsText until fonts input before after result
-script_is_run until fonts input before after steps (Ok u) found (size, written) = (size, (steps, found, written))
-script_is_run until fonts input before after steps (Err WriteFault) found (size, written) = (size, (steps, found, written))
-script_is_run until fonts input before after steps (Err FontSize) found h = (h, (steps, found))
-script_is_run until fonts input before after steps (Err OutOfMemory) found h = tt
-script_is_run until fonts input before after steps (Err _) found h = absurd h
+pub script_is_run : (until : Option ℕ) (file : List ℕ) (input before after : Option (List ℕ)) (steps : List Step) (result : Result Unit Fault) → FindsScript input (Ok steps)
+    → RunsScript until file steps before after result → RunsText until file input before after result
+script_is_run until file input before after steps (Ok u) found (size, written) = (size, (steps, found, written))
+script_is_run until file input before after steps (Err WriteFault) found (size, written) = (size, (steps, found, written))
+script_is_run until file input before after steps (Err FontSize) found h = (h, (steps, found))
+script_is_run until file input before after steps (Err OutOfMemory) found h = tt
+script_is_run until file input before after steps (Err _) found h = absurd h.1
 
 -- ---- a script in bytes
 

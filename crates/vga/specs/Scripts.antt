@@ -12,7 +12,7 @@ use Rattle.vga_script.specs.Script.{SpellsTooMany}
 use Rattle.vga_script.specs.Spelling.{encoding}
 use Rattle.vga_script.specs.Text.{IsBadLine}
 use Rattle.vga_run.specs.Report.{report_of, steps_until}
-use Rattle.vga_run.specs.Run.{fonts_len}
+use Rattle.bios_modes.specs.Fonts.{file_len, fonts_of}
 
 -- Why a text is not assembled: it or its steps have too many bytes, or this is its first bad line; or the reader failed, or
 -- memory ran out.
@@ -43,11 +43,11 @@ Prints input before after (Err ReadFault) = ⊤
 Prints input before after (Err OutOfMemory) = ⊤
 Prints input before after (Err fault) = InputHasFault input fault
 
--- What running a text answers that is stopped after so many steps, or not, over fonts of so many bytes, and a writer that
+-- What running a text answers that is stopped after so many steps, or not, over a font file, and a writer that
 -- holds what is before and after: it has written the report of the script that the text spells, or a front of it where the
 -- writer fails; or why the text is not assembled; or the fault of the fonts, which is judged after the text.
-abbrev pub RunsText : Option ℕ → ℕ → Option (List ℕ) → Option (List ℕ) → Option (List ℕ) → Result Unit Fault → Type 0
-RunsText until fonts input before after (Ok done) = (fonts ≡ fonts_len) × ((steps : List Step) × InputSpellsText input steps × Appends before after (report_of (steps_until until steps)))
-RunsText until fonts input before after (Err WriteFault) = (fonts ≡ fonts_len) × ((steps : List Step) × InputSpellsText input steps × AppendsFront before after (report_of (steps_until until steps)))
-RunsText until fonts input before after (Err FontSize) = (fonts ≢ fonts_len) × ((steps : List Step) × InputSpellsText input steps)
-RunsText until fonts input before after (Err fault) = IsAssemblingFault input fault
+abbrev pub RunsText : Option ℕ → List ℕ → Option (List ℕ) → Option (List ℕ) → Option (List ℕ) → Result Unit Fault → Type 0
+RunsText until file input before after (Ok done) = (length file ≡ file_len) × ((steps : List Step) × InputSpellsText input steps × Appends before after (report_of (fonts_of file) (steps_until until steps)))
+RunsText until file input before after (Err WriteFault) = (length file ≡ file_len) × ((steps : List Step) × InputSpellsText input steps × AppendsFront before after (report_of (fonts_of file) (steps_until until steps)))
+RunsText until file input before after (Err FontSize) = (length file ≢ file_len) × ((steps : List Step) × InputSpellsText input steps)
+RunsText until file input before after (Err fault) = IsAssemblingFault input fault

@@ -1,5 +1,5 @@
 //! What the commands do, over readers and writers.
-ghost use Rattle.std.specs.Prelude.{◌≡◌, ◌≢◌, ◌≤◌, ◌+◌, length, false, IfErr};
+ghost use Rattle.std.specs.Prelude.{◌≡◌, ◌≢◌, ◌≤◌, ◌+◌, false, IfErr};
 ghost use Rattle.vga_bits.specs.declared.fault.Fault.TheVariants.{WriteFault};
 ghost use Rattle.vga_bits.specs.Tracked.{inner_of, has_failed, is_write_fault, taken_of};
 ghost use Rattle.vga_bits.specs.Reading.{TakesAtMost, is_read_fault};
@@ -95,7 +95,7 @@ pub fn run_text<R: Read, W: Write>(
 ) -> Result<(), Fault>
     requires reader { has_failed text.old ≡ false }
     requires writer { has_failed out.old ≡ false }
-    ensures answer { RunsText until (length fonts.now) (R.remaining (inner_of text.old))
+    ensures answer { RunsText until fonts.now (R.remaining (inner_of text.old))
         (W.contents (inner_of out.old)) (W.contents (inner_of out.new)) result }
     ensures read_failed { has_failed text.new ≡ is_read_fault result }
     ensures write_failed { has_failed out.new ≡ is_write_fault result }

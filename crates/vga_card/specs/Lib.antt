@@ -8,3 +8,4 @@ pub mod Dots
 pub mod Frames
 pub mod Valid
 pub mod Bounds
+pub mod Bus

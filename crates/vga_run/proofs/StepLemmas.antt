@@ -1,5 +1,5 @@
 -- Refused steps, from refused cycles.
-use Rattle.std.proofs.Common.{◌≡◌, ℕ, List, Bool, true, false, nat_le, if◌then◌else◌, Option, Some, None, Result, Ok, Err, refl}
+use Rattle.std.proofs.Common.{◌≡◌, ℕ, List, Bool, true, false, nat_le, if◌then◌else◌, Option, Some, None, Result, Ok, Err, refl, ap}
 use Rattle.vga_bits.specs.declared.refusal.Refusal.{Refusal}
 use Rattle.vga_bits.specs.declared.refusal.Refusal.TheVariants.{TooFar}
 use Rattle.vga_card.specs.declared.shape.Shape.{Shape}
@@ -11,10 +11,17 @@ use Rattle.vga_card.specs.Frames.{frame}
 use Rattle.vga_card.specs.Picture.{shape, bytes_of}
 use Rattle.vga_script.specs.declared.step.Step.{Step}
 use Rattle.vga_script.specs.declared.step.Step.TheVariants.{Out, OutWord, In, InWord, Put, PutWord, Get, GetWord, Int, Advance, Frame, Show}
+use Rattle.bios_modes.specs.Bda.{BiosData}
+use Rattle.bios_modes.specs.Fonts.{FontSet}
+use Rattle.bios_services.specs.declared.regs.Regs.{Regs}
+use Rattle.bios_services.specs.Plan.{run}
+use Rattle.bios_services.specs.Service.{Answered, service, served}
+use Rattle.vga_card.specs.Bus.{card_meaning}
+use Rattle.vga_run.specs.declared.machine.Machine.{Machine}
 use Rattle.vga_run.specs.declared.answer.Answer.{Answer}
 use Rattle.vga_run.specs.declared.answer.Answer.TheVariants.{Done, Refused}
-use Rattle.vga_run.specs.Answer.{Plain, of_write, of_byte, of_word, of_shape}
-use Rattle.vga_run.specs.Step.{answer_to, after_step}
+use Rattle.vga_run.specs.Answer.{Plain, of_write, of_byte, of_word, of_service, of_shape}
+use Rattle.vga_run.specs.Step.{answer_to, after_step, called}
 
 -- the law that a refused cycle leaves the whole state
 pub record RefusedCyclesChangeNothing : Type 0 where
@@ -27,28 +34,44 @@ pub record RefusedCyclesChangeNothing : Type 0 where
   pub put_word : (c : CardState) (address v : ℕ) (e : Refusal) → (put_word_cycle c address v).1 ≡ Err e → (put_word_cycle c address v).0 ≡ c
   pub get_word : (c : CardState) (address : ℕ) (e : Refusal) → (get_word_cycle c address).1 ≡ Err e → (get_word_cycle c address).0 ≡ c
 
+-- the law that a refused service does nothing to the adapter and the BIOS data
+abbrev pub RefusedServicesDoNothing : Type 0
+RefusedServicesDoNothing = (fonts : FontSet) (d : BiosData) (r : Regs) (block : List ℕ) (c : CardState) (e : Refusal)
+    → (run card_meaning (service fonts d r block) c).1.0 ≡ Err e → run card_meaning (service fonts d r block) c ≡ (c, (Err e, d))
+
+-- a machine whose adapter is as before is as before
+abbrev with_card : Machine → CardState → Machine
+with_card m c = record m { card = c }
+
 -- a write whose answer is a refusal
-refused_write : (card next : CardState) (result : Result Unit Refusal) (refusal : Refusal) → ((e : Refusal) → result ≡ Err e → next ≡ card)
-    → Plain (of_write result) ≡ Plain (Refused refusal) → next ≡ card
-refused_write card next (Ok u) refusal law is = absurd (cc)
-refused_write card next (Err e) refusal law is = law e refl
+refused_write : (m : Machine) (next : CardState) (result : Result Unit Refusal) (refusal : Refusal) → ((e : Refusal) → result ≡ Err e → next ≡ m.card)
+    → Plain (of_write result) ≡ Plain (Refused refusal) → with_card m next ≡ m
+refused_write m next (Ok u) refusal law is = absurd (cc)
+refused_write m next (Err e) refusal law is = ap (with_card m) (law e refl)
 
 -- a read of a byte whose answer is a refusal
-refused_byte : (card next : CardState) (result : Result ℕ Refusal) (refusal : Refusal) → ((e : Refusal) → result ≡ Err e → next ≡ card)
-    → Plain (of_byte result) ≡ Plain (Refused refusal) → next ≡ card
-refused_byte card next (Ok v) refusal law is = absurd (cc)
-refused_byte card next (Err e) refusal law is = law e refl
+refused_byte : (m : Machine) (next : CardState) (result : Result ℕ Refusal) (refusal : Refusal) → ((e : Refusal) → result ≡ Err e → next ≡ m.card)
+    → Plain (of_byte result) ≡ Plain (Refused refusal) → with_card m next ≡ m
+refused_byte m next (Ok v) refusal law is = absurd (cc)
+refused_byte m next (Err e) refusal law is = ap (with_card m) (law e refl)
 
 -- a read of a word whose answer is a refusal
-refused_word : (card next : CardState) (result : Result ℕ Refusal) (refusal : Refusal) → ((e : Refusal) → result ≡ Err e → next ≡ card)
-    → Plain (of_word result) ≡ Plain (Refused refusal) → next ≡ card
-refused_word card next (Ok v) refusal law is = absurd (cc)
-refused_word card next (Err e) refusal law is = law e refl
+refused_word : (m : Machine) (next : CardState) (result : Result ℕ Refusal) (refusal : Refusal) → ((e : Refusal) → result ≡ Err e → next ≡ m.card)
+    → Plain (of_word result) ≡ Plain (Refused refusal) → with_card m next ≡ m
+refused_word m next (Ok v) refusal law is = absurd (cc)
+refused_word m next (Err e) refusal law is = ap (with_card m) (law e refl)
 
 -- an advance whose answer is a refusal
-refused_advance : (card next : CardState) (few : Bool) (refusal : Refusal) → Plain (if few then Done else Refused TooFar) ≡ Plain (Refused refusal) → (if few then next else card) ≡ card
-refused_advance card next true refusal is = absurd (cc)
-refused_advance card next false refusal is = refl
+refused_advance : (m : Machine) (next : CardState) (few : Bool) (refusal : Refusal) → Plain (if few then Done else Refused TooFar) ≡ Plain (Refused refusal)
+    → with_card m (if few then next else m.card) ≡ m
+refused_advance m next true refusal is = absurd (cc)
+refused_advance m next false refusal is = refl
+
+-- a service whose answer is a refusal
+refused_call : (m : Machine) (after : CardState × Answered) (refusal : Refusal) → ((e : Refusal) → after.1.0 ≡ Err e → after ≡ (m.card, (Err e, m.bda)))
+    → Plain (of_service (served after.1.0)) ≡ Plain (Refused refusal) → record m { card = after.0; bda = after.1.1 } ≡ m
+refused_call m (card, (Ok reply, bda)) refusal law is = absurd (cc)
+refused_call m (card, (Err e, bda)) refusal law is = ap (λ (a : CardState × Answered). record m { card = a.0; bda = a.1.1 }) (law e refl)
 
 -- a frame has no such answer
 answered_frame : (s : Option Shape) (bytes : List ℕ) (answer : Answer) → of_shape s bytes ≡ Plain answer → ⊥
@@ -56,17 +79,19 @@ answered_frame None bytes answer is = cc
 answered_frame (Some s) bytes answer is = cc
 
 -- a step whose answer is a refusal
-pub refused_step : RefusedCyclesChangeNothing → (card : CardState) (step : Step) (refusal : Refusal) → answer_to card step ≡ Plain (Refused refusal) → after_step card step ≡ card
-unfolding answer_to after_step
-refused_step law card (Out port v) refusal is = refused_write card (out_cycle card port v).0 (out_cycle card port v).1 refusal (law.out card port v) is
-refused_step law card (OutWord port v) refusal is = refused_write card (out_word_cycle card port v).0 (out_word_cycle card port v).1 refusal (law.out_word card port v) is
-refused_step law card (In port) refusal is = refused_byte card (inp_cycle card port).0 (inp_cycle card port).1 refusal (law.inp card port) is
-refused_step law card (InWord port) refusal is = refused_word card (inp_word_cycle card port).0 (inp_word_cycle card port).1 refusal (law.inp_word card port) is
-refused_step law card (Put address v) refusal is = refused_write card (put_cycle card address v).0 (put_cycle card address v).1 refusal (law.put card address v) is
-refused_step law card (PutWord address v) refusal is = refused_write card (put_word_cycle card address v).0 (put_word_cycle card address v).1 refusal (law.put_word card address v) is
-refused_step law card (Get address) refusal is = refused_byte card (get_cycle card address).0 (get_cycle card address).1 refusal (law.get card address) is
-refused_step law card (GetWord address) refusal is = refused_word card (get_word_cycle card address).0 (get_word_cycle card address).1 refusal (law.get_word card address) is
-refused_step law card (Int ax bx cx dx block) refusal is = refl
-refused_step law card (Advance count) refusal is = refused_advance card (dots count card) (nat_le count most_dots) refusal is
-refused_step law card Frame refusal is = absurd (answered_frame (shape (frame card).drawn) (bytes_of (frame card).drawn) (Refused refusal) is)
-refused_step law card (Show what) refusal is = absurd (cc)
+pub refused_step : RefusedCyclesChangeNothing → RefusedServicesDoNothing → (m : Machine) (step : Step) (refusal : Refusal) → answer_to m step ≡ Plain (Refused refusal) → after_step m step ≡ m
+unfolding answer_to after_step called
+refused_step law services m (Out port v) refusal is = refused_write m (out_cycle m.card port v).0 (out_cycle m.card port v).1 refusal (law.out m.card port v) is
+refused_step law services m (OutWord port v) refusal is = refused_write m (out_word_cycle m.card port v).0 (out_word_cycle m.card port v).1 refusal (law.out_word m.card port v) is
+refused_step law services m (In port) refusal is = refused_byte m (inp_cycle m.card port).0 (inp_cycle m.card port).1 refusal (law.inp m.card port) is
+refused_step law services m (InWord port) refusal is = refused_word m (inp_word_cycle m.card port).0 (inp_word_cycle m.card port).1 refusal (law.inp_word m.card port) is
+refused_step law services m (Put address v) refusal is = refused_write m (put_cycle m.card address v).0 (put_cycle m.card address v).1 refusal (law.put m.card address v) is
+refused_step law services m (PutWord address v) refusal is = refused_write m (put_word_cycle m.card address v).0 (put_word_cycle m.card address v).1 refusal (law.put_word m.card address v) is
+refused_step law services m (Get address) refusal is = refused_byte m (get_cycle m.card address).0 (get_cycle m.card address).1 refusal (law.get m.card address) is
+refused_step law services m (GetWord address) refusal is = refused_word m (get_word_cycle m.card address).0 (get_word_cycle m.card address).1 refusal (law.get_word m.card address) is
+refused_step law services m (Int ax bx cx dx block) refusal is =
+    let asked : Regs = record { ax = ax; bx = bx; cx = cx; dx = dx } in
+    refused_call m (run card_meaning (service m.fonts m.bda asked block) m.card) refusal (services m.fonts m.bda asked block m.card) is
+refused_step law services m (Advance count) refusal is = refused_advance m (dots count m.card) (nat_le count most_dots) refusal is
+refused_step law services m Frame refusal is = absurd (answered_frame (shape (frame m.card).drawn) (bytes_of (frame m.card).drawn) (Refused refusal) is)
+refused_step law services m (Show what) refusal is = absurd (cc)

@@ -6,17 +6,25 @@ use Rattle.vga_script.specs.declared.step.Step.{Step}
 use Rattle.vga_script.specs.declared.step.Step.TheVariants.{Show}
 use Rattle.vga_script.specs.declared.shown.Shown.TheVariants as shown
 use Rattle.vga_run.specs.declared.answer.Answer.{Answer}
-use Rattle.vga_run.specs.declared.answer.Answer.TheVariants.{Done, Byte, Word, Refused}
-use Rattle.vga_card.specs.Card.{CardState, power_on_card}
+use Rattle.vga_run.specs.declared.answer.Answer.TheVariants.{Done, Byte, Word, Registers, Refused}
+use Rattle.bios_modes.specs.Fonts.{FontSet}
+use Rattle.bios_services.specs.declared.regs.Regs.{Regs}
+use Rattle.vga_run.specs.declared.machine.Machine.{Machine}
+use Rattle.vga_run.specs.Machine.{power_on_machine}
 use Rattle.vga_show.specs.Ppm.{ppm}
 use Rattle.vga_run.specs.Answer.{Reply, Plain, Picture, Ragged, Dump}
 use Rattle.vga_run.specs.Step.{answer_to, after_step}
 
--- the text of an answer: `ok`, the two digits of a byte, the four of a word, or the name of the refusal
+-- the text of four registers
+unfoldable pub registers_text : Regs → List ℕ
+registers_text r = codes "ax=" ++ (hex_word r.ax ++ (codes " bx=" ++ (hex_word r.bx ++ (codes " cx=" ++ (hex_word r.cx ++ (codes " dx=" ++ hex_word r.dx))))))
+
+-- the text of an answer: `ok`, the two digits of a byte, the four of a word, four registers, or the name of the refusal
 abbrev pub answer_text : Answer → List ℕ
 answer_text Done = codes "ok"
 answer_text (Byte value) = hex_byte value
 answer_text (Word value) = hex_word value
+answer_text (Registers regs) = registers_text regs
 answer_text (Refused refusal) = refusal_name refusal
 
 -- the number of a step in decimal, and a blank
@@ -37,10 +45,10 @@ line n (Picture width height bytes) =
 line n Ragged = decimal n ++ codes " ragged\n"
 line n (Dump text) = number_text n ++ text
 
--- the lines of the steps from this card on, of which the first has the number n
-abbrev pub report_from : CardState → ℕ → List Step → List ℕ
-report_from card n [] = []
-report_from card n (step ∷ steps) = line n (answer_to card step) ++ report_from (after_step card step) (n + 1) steps
+-- the lines of the steps from this machine on, of which the first has the number n
+abbrev pub report_from : Machine → ℕ → List Step → List ℕ
+report_from m n [] = []
+report_from m n (step ∷ steps) = line n (answer_to m step) ++ report_from (after_step m step) (n + 1) steps
 
 -- what is shown where a run is stopped: the registers, the beam, the latches and the BIOS data
 abbrev pub last_looks : List Step
@@ -51,6 +59,6 @@ abbrev pub steps_until : Option ℕ → List Step → List Step
 steps_until None steps = steps
 steps_until (Some most) steps = take most steps ++ last_looks
 
--- the report of a script: its steps are run from power-on, and numbered from 1
-abbrev pub report_of : List Step → List ℕ
-report_of steps = report_from power_on_card 1 steps
+-- the report of a script over some fonts: its steps are run from power-on, and numbered from 1
+abbrev pub report_of : FontSet → List Step → List ℕ
+report_of fonts steps = report_from (power_on_machine fonts) 1 steps

@@ -1,43 +1,48 @@
 -- What a run answers.
-use Rattle.std.specs.Prelude.{ℕ, ◌≡◌, ◌≢◌, ◌≤◌, Bool, false, List, length, Option, Some, IsOkUnless, Result, Ok, Err}
+use Rattle.std.specs.Prelude.{ℕ, ⊤, ◌≡◌, ◌≢◌, ◌≤◌, Bool, false, List, length, Option, Some, IsOkUnless, Result, Ok, Err}
 use Rattle.std.specs.Io.KnownBytes.{Appends}
 use Rattle.vga_bits.specs.Tracked.{AppendsFront}
 use Rattle.vga_bits.specs.declared.fault.Fault.{Fault}
 use Rattle.vga_bits.specs.declared.fault.Fault.TheVariants.{FontSize, TooLong, ReadFault, WriteFault, OutOfMemory}
+use Rattle.bios_modes.specs.Fonts.{FontSet, file_len, fonts_of}
 use Rattle.vga_script.specs.declared.step.Step.{Step}
 use Rattle.vga_script.specs.Spelling.{script_limit, Spells}
 use Rattle.vga_run.specs.Report.{report_of, steps_until}
 use Rattle.vga_script.specs.Input.{InputHasFault, InputSpells, IsTooLong}
 
--- how many bytes a font file has
-abbrev pub fonts_len : ℕ
-fonts_len = 9728
+-- What the run of these steps over some fonts answers that is stopped after so many, or not, over a writer that holds what is
+-- before and after: it has written their report, or a front of it where the writer fails; or memory ran out.
+abbrev pub ReportsSteps : Option ℕ → FontSet → List Step → Option (List ℕ) → Option (List ℕ) → Result Unit Fault → Type 0
+ReportsSteps until fonts steps before after (Ok u) = Appends before after (report_of fonts (steps_until until steps))
+ReportsSteps until fonts steps before after (Err WriteFault) = AppendsFront before after (report_of fonts (steps_until until steps))
+ReportsSteps until fonts steps before after (Err OutOfMemory) = ⊤
+ReportsSteps until fonts steps before after (Err _) = ⊥
 
--- What the run of a script of these steps answers that is stopped after so many, or not, over fonts of so many bytes, and a
--- writer that holds what is before and after: it has written their report, or a front of it where the writer fails; or the
--- fonts have another size; or memory ran out.
-abbrev pub RunsScript : Option ℕ → ℕ → List Step → Option (List ℕ) → Option (List ℕ) → Result Unit Fault → Type 0
-RunsScript until fonts steps before after (Ok u) = (fonts ≡ fonts_len) × Appends before after (report_of (steps_until until steps))
-RunsScript until fonts steps before after (Err FontSize) = fonts ≢ fonts_len
-RunsScript until fonts steps before after (Err WriteFault) = (fonts ≡ fonts_len) × AppendsFront before after (report_of (steps_until until steps))
-RunsScript until fonts steps before after (Err OutOfMemory) = fonts ≡ fonts_len
-RunsScript until fonts steps before after (Err _) = ⊥
+-- What the run of these steps over a font file answers: what one over its fonts does, or that it is none.
+abbrev pub RunsScript : Option ℕ → List ℕ → List Step → Option (List ℕ) → Option (List ℕ) → Result Unit Fault → Type 0
+RunsScript until file steps before after (Err FontSize) = length file ≢ file_len
+RunsScript until file steps before after result = (length file ≡ file_len) × ReportsSteps until (fonts_of file) steps before after result
 
--- What a run answers that is stopped after so many steps, or not, over fonts of so many bytes, a reader that has this input,
--- and a writer that holds what is before and after: it has written the report of the input's script, or there is a fault, the
--- first in order.
-abbrev pub RunAnswers : Option ℕ → ℕ → Option (List ℕ) → Option (List ℕ) → Option (List ℕ) → Result Unit Fault → Type 0
-RunAnswers until fonts input before after (Ok u) = (fonts ≡ fonts_len) × ((steps : List Step) × InputSpells input steps × Appends before after (report_of (steps_until until steps)))
-RunAnswers until fonts input before after (Err FontSize) = fonts ≢ fonts_len
-RunAnswers until fonts input before after (Err ReadFault) = fonts ≡ fonts_len
-RunAnswers until fonts input before after (Err TooLong) = (fonts ≡ fonts_len) × IsTooLong input
-RunAnswers until fonts input before after (Err WriteFault) = (fonts ≡ fonts_len) × ((steps : List Step) × InputSpells input steps × AppendsFront before after (report_of (steps_until until steps)))
-RunAnswers until fonts input before after (Err OutOfMemory) = fonts ≡ fonts_len
-RunAnswers until fonts input before after (Err fault) = (fonts ≡ fonts_len) × InputHasFault input fault
+-- What a run over some fonts answers that is stopped after so many steps, or not, over a reader that has this input, and a
+-- writer that holds what is before and after: it has written the report of the input's script, or a front of it where the
+-- writer fails; or there is a fault of the input, the first in order.
+abbrev pub Reports : Option ℕ → FontSet → Option (List ℕ) → Option (List ℕ) → Option (List ℕ) → Result Unit Fault → Type 0
+Reports until fonts input before after (Ok u) = (steps : List Step) × InputSpells input steps × Appends before after (report_of fonts (steps_until until steps))
+Reports until fonts input before after (Err WriteFault) = (steps : List Step) × InputSpells input steps × AppendsFront before after (report_of fonts (steps_until until steps))
+Reports until fonts input before after (Err FontSize) = ⊥
+Reports until fonts input before after (Err ReadFault) = ⊤
+Reports until fonts input before after (Err TooLong) = IsTooLong input
+Reports until fonts input before after (Err OutOfMemory) = ⊤
+Reports until fonts input before after (Err fault) = InputHasFault input fault
+
+-- What a run over a font file answers: what one over its fonts does, or that it is none.
+abbrev pub RunAnswers : Option ℕ → List ℕ → Option (List ℕ) → Option (List ℕ) → Option (List ℕ) → Result Unit Fault → Type 0
+RunAnswers until file input before after (Err FontSize) = length file ≢ file_len
+RunAnswers until file input before after result = (length file ≡ file_len) × Reports until (fonts_of file) input before after result
 
 -- Over fonts of the right size, bytes that spell a script are run, unless memory runs out or the reader or the writer
 -- fails.
-abbrev pub RunsGoodScripts : ℕ → Option (List ℕ) → Bool → Bool → Result Unit Fault → Type 0
-RunsGoodScripts fonts input read_failed write_failed result =
-    (bytes : List ℕ) (steps : List Step) → fonts ≡ fonts_len → input ≡ Some bytes → length bytes ≤ script_limit → Spells bytes steps
+abbrev pub RunsGoodScripts : List ℕ → Option (List ℕ) → Bool → Bool → Result Unit Fault → Type 0
+RunsGoodScripts file input read_failed write_failed result =
+    (bytes : List ℕ) (steps : List Step) → length file ≡ file_len → input ≡ Some bytes → length bytes ≤ script_limit → Spells bytes steps
     → read_failed ≡ false → write_failed ≡ false → IsOkUnless result OutOfMemory

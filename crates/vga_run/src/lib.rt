@@ -3,6 +3,7 @@
 
 mod answer;
 mod laws;
+pub mod machine;
 mod report;
 mod runs;
 

@@ -1,43 +1,64 @@
 //! The report of a run.
-ghost use Rattle.std.specs.Prelude.{◌≡◌, ◌+◌, ◌*◌, ◌<◌, ◌≤◌, ◌++◌, length, false, OnOk, ◌^◌, codes, nat_lt, if◌then◌else◌, Some};
+ghost use Rattle.std.specs.Prelude.{◌≡◌, ◌+◌, ◌*◌, ◌<◌, ◌≤◌, ◌++◌, length, false, OnOk, ◌^◌, codes, decimal, Some};
 ghost use Rattle.vga_bits.specs.Tracked.{inner_of, has_failed, Writes};
 ghost use Rattle.vga_card.specs.Frames.{IsSmall};
 ghost use Rattle.vga_card.specs.Picture.{widest, highest};
-ghost use Rattle.vga_run.specs.Answer.{Plain, Picture, Ragged, Dump, of_drawn};
-ghost use Rattle.vga_run.specs.Step.{answer_to, after_step, after_steps, dump_text};
+ghost use Rattle.vga_run.specs.Answer.{Plain, Picture, Ragged, Dump, of_drawn, of_service};
+ghost use Rattle.vga_run.specs.Step.{answer_to, after_step, after_steps, called, dump_text};
 ghost use Rattle.vga_script.specs.Step.{IsInRange, AreInRange};
 ghost use Rattle.vga_script.specs.Shown.{IsShownInRange};
-ghost use Rattle.vga_run.specs.Report.{answer_text, line, picture_line as picture_line_of, number_text, report_from, steps_until};
+ghost use Rattle.vga_run.specs.Report.{answer_text, registers_text, line, picture_line as picture_line_of, number_text, report_from, steps_until};
 ghost use Rattle.vga_show.specs.Ppm.{ppm};
+ghost use Rattle.bios_modes.specs.Valid.{IsValid};
+ghost use Rattle.bios_services.specs.Service.{served};
 
 use super::answer::Answer;
-use bios_modes::Bda;
+use super::machine::Machine;
+use bios_services::{Regs, int10};
 use std::io::Write;
-use vga_bits::{Fault, Refusal, TextBuffer, Tracked, flush, write_whole};
-use vga_card::{Card, Drawn};
+use vga_bits::{Bytes, Fault, TextBuffer, Tracked, flush, write_whole};
+use vga_card::Drawn;
 use vga_script::{Shown, Step};
 use vga_show::{
     dump_bda, dump_beam, dump_dac, dump_latches, dump_plane, dump_regs, ppm_length, write_ppm,
 };
 
-/// Room for the longest line: a number of at most 20 digits, a blank, an answer of at most 18 bytes, which
-/// is `picture` with a number of at most ten digits, and a newline.
-const LINE_LEN: usize = 40;
+/// Room for the longest line: a number of at most 20 digits, a blank, an answer of at most 31 bytes, which
+/// are four registers, and a newline.
+const LINE_LEN: usize = 53;
 
 /// The line of a step.
 type Line = TextBuffer<LINE_LEN>;
 
+/// Puts the text of four registers at the line's end.
+#[tactic(auto, using(std::proofs::lemmas::List::append_assoc), unfolding(crate::specs::Report::registers_text))]
+fn push_registers(line: &mut Line, regs: Regs)
+    requires { length line.old ≤ 21 }
+    ensures items { line.new ≡ line.old ++ registers_text regs }
+    ensures len { length line.new ≡ length line.old + 31 }
+{
+    line.push(b"ax=");
+    line.push_hex_word(regs.ax);
+    line.push(b" bx=");
+    line.push_hex_word(regs.bx);
+    line.push(b" cx=");
+    line.push_hex_word(regs.cx);
+    line.push(b" dx=");
+    line.push_hex_word(regs.dx);
+}
+
 /// Puts the text of an answer at the line's end.
 #[tactic(auto, using(crate::proofs::ReportLemmas::name_is_short))]
 fn push_answer(line: &mut Line, answer: Answer)
-    requires { length line.old ≤ 25 }
+    requires { length line.old ≤ 21 }
     ensures items { line.new ≡ line.old ++ answer_text answer }
-    ensures len { length line.new ≤ length line.old + 15 }
+    ensures len { length line.new ≤ length line.old + 31 }
 {
     match answer {
         Answer::Done => line.push(b"ok"),
         Answer::Byte(value) => line.push_hex_byte(value),
         Answer::Word(value) => line.push_hex_word(value),
+        Answer::Registers(regs) => push_registers(line, regs),
         Answer::Refused(refusal) => line.push(refusal.name().as_bytes()),
     }
 }
@@ -142,23 +163,23 @@ fn write_drawn<W: Write>(out: &mut Tracked<W>, n: usize, drawn: Drawn<'_>) -> Re
 
 /// Writes the dump of what a step shows.
 #[tactic(auto, unfolding(crate::specs::Step::dump_text))]
-fn write_dump<W: Write>(out: &mut Tracked<W>, card: &Card, shown: Shown) -> Result<(), Fault>
+fn write_dump<W: Write>(out: &mut Tracked<W>, machine: &Machine, shown: Shown) -> Result<(), Fault>
     requires writer { has_failed out.old ≡ false }
     requires range { IsShownInRange shown }
     ensures { Writes (W.contents (inner_of out.old)) (W.contents (inner_of out.new))
-        (has_failed out.new) result (dump_text card.now shown) }
+        (has_failed out.new) result (dump_text machine.now shown) }
 {
     match shown {
-        Shown::Registers => dump_regs(out, card),
-        Shown::Dac { index } => dump_dac(out, card, index),
-        Shown::Beam => dump_beam(out, card),
-        Shown::Latches => dump_latches(out, card),
+        Shown::Registers => dump_regs(out, &machine.card),
+        Shown::Dac { index } => dump_dac(out, &machine.card, index),
+        Shown::Beam => dump_beam(out, &machine.card),
+        Shown::Latches => dump_latches(out, &machine.card),
         Shown::Plane {
             plane,
             offset,
             count,
-        } => dump_plane(out, card, plane, offset, count),
-        Shown::BiosData => dump_bda(out, &Bda::new()),
+        } => dump_plane(out, &machine.card, plane, offset, count),
+        Shown::BiosData => dump_bda(out, &machine.bda),
     }
 }
 
@@ -167,28 +188,29 @@ fn write_dump<W: Write>(out: &mut Tracked<W>, card: &Card, shown: Shown) -> Resu
 fn write_shown<W: Write>(
     out: &mut Tracked<W>,
     n: usize,
-    card: &Card,
+    machine: &Machine,
     shown: Shown,
 ) -> Result<(), Fault>
     requires writer { has_failed out.old ≡ false }
     requires range { IsShownInRange shown }
     ensures { Writes (W.contents (inner_of out.old)) (W.contents (inner_of out.new))
-        (has_failed out.new) result (line n (Dump (dump_text card.now shown))) }
+        (has_failed out.new) result (line n (Dump (dump_text machine.now shown))) }
 {
     write_whole(out, numbered(n).as_slice())?;
-    write_dump(out, card, shown)
+    write_dump(out, machine, shown)
 }
 
-/// Why a call of the video BIOS is refused as long as there are no services: a mode is to be set, which
-/// is none of them, or none is set.
-fn service_refusal(ax: u16) -> Refusal
-    ensures { result ≡ (if nat_lt ax 0x100 then Refusal.BadFunction else Refusal.NoMode) }
+/// Calls the video BIOS.
+#[tactic(auto, unfolding(crate::specs::Step::called))]
+fn call_bios(machine: &mut Machine, regs: Regs, block: &Bytes) -> Answer
+    requires { IsValid machine.old.bda }
+    ensures answer { result ≡ of_service (served (called machine.old regs.ax regs.bx regs.cx regs.dx block.now).1.0) }
+    ensures after { machine.new ≡ (let after = called machine.old regs.ax regs.bx regs.cx regs.dx block.now in record machine.old { card = after.0; bda = after.1.1 }) }
+    ensures valid { IsValid machine.new.bda }
 {
-    if ax < 0x100 {
-        Refusal::BadFunction
-    } else {
-        Refusal::NoMode
-    }
+    let block = block.as_slice();
+    let outcome = int10(&mut machine.card, &mut machine.bda, &machine.fonts, regs, block);
+    Answer::of_service(outcome)
 }
 
 /// Takes a step, and writes what it answers as step n.
@@ -196,50 +218,68 @@ fn service_refusal(ax: u16) -> Refusal
 fn write_step<W: Write>(
     out: &mut Tracked<W>,
     n: usize,
-    card: &mut Card,
+    machine: &mut Machine,
     step: &Step,
 ) -> Result<(), Fault>
     requires writer { has_failed out.old ≡ false }
     requires range { IsInRange step.now }
+    requires valid { IsValid machine.old.bda }
     ensures text { Writes (W.contents (inner_of out.old)) (W.contents (inner_of out.new))
-        (has_failed out.new) result (line n (answer_to card.old step.now)) }
-    ensures after { card.new ≡ after_step card.old step.now }
+        (has_failed out.new) result (line n (answer_to machine.old step.now)) }
+    ensures after { machine.new ≡ after_step machine.old step.now }
+    ensures valid { IsValid machine.new.bda }
 {
     let answer = match step {
-        Step::Out { port, value } => Answer::of_write(card.out(*port, *value)),
-        Step::OutWord { port, value } => Answer::of_write(card.out_word(*port, *value)),
-        Step::In { port } => Answer::of_byte(card.inp(*port)),
-        Step::InWord { port } => Answer::of_word(card.inp_word(*port)),
-        Step::Put { address, value } => Answer::of_write(card.put(*address, *value)),
-        Step::PutWord { address, value } => Answer::of_write(card.put_word(*address, *value)),
-        Step::Get { address } => Answer::of_byte(card.get(*address)),
-        Step::GetWord { address } => Answer::of_word(card.get_word(*address)),
-        Step::Int { ax, .. } => Answer::Refused(service_refusal(*ax)),
-        Step::Advance { dots } => Answer::of_write(card.advance(*dots)),
-        Step::Frame => return write_drawn(out, n, card.frame()),
-        Step::Show { shown } => return write_shown(out, n, card, *shown),
+        Step::Out { port, value } => Answer::of_write(machine.card.out(*port, *value)),
+        Step::OutWord { port, value } => Answer::of_write(machine.card.out_word(*port, *value)),
+        Step::In { port } => Answer::of_byte(machine.card.inp(*port)),
+        Step::InWord { port } => Answer::of_word(machine.card.inp_word(*port)),
+        Step::Put { address, value } => Answer::of_write(machine.card.put(*address, *value)),
+        Step::PutWord { address, value } => Answer::of_write(machine.card.put_word(*address, *value)),
+        Step::Get { address } => Answer::of_byte(machine.card.get(*address)),
+        Step::GetWord { address } => Answer::of_word(machine.card.get_word(*address)),
+        Step::Int {
+            ax,
+            bx,
+            cx,
+            dx,
+            block,
+        } => {
+            let regs = Regs {
+                ax: *ax,
+                bx: *bx,
+                cx: *cx,
+                dx: *dx,
+            };
+            call_bios(machine, regs, block)
+        }
+        Step::Advance { dots } => Answer::of_write(machine.card.advance(*dots)),
+        Step::Frame => return write_drawn(out, n, machine.card.frame()),
+        Step::Show { shown } => return write_shown(out, n, machine, *shown),
     };
     write_line(out, n, answer)
 }
 
-/// Takes the steps on this card, and writes a line for each, of which the first has this
+/// Takes the steps on this machine, and writes a line for each, of which the first has this
 /// number.
 #[tactic(auto, using(crate::proofs::ReportLemmas::reported_none, crate::proofs::ReportLemmas::reported_all))]
 fn write_lines<W: Write>(
     out: &mut Tracked<W>,
-    card: &mut Card,
+    machine: &mut Machine,
     first: usize,
     steps: &[Step],
 ) -> Result<(), Fault>
     requires writer { has_failed out.old ≡ false }
     requires numbers { first + length steps.now < 2 ^ 64 }
     requires range { AreInRange steps.now }
+    requires valid { IsValid machine.old.bda }
     ensures text { Writes (W.contents (inner_of out.old)) (W.contents (inner_of out.new))
-        (has_failed out.new) result (report_from card.old first steps.now) }
-    ensures after { OnOk result (card.new ≡ after_steps card.old steps.now) }
+        (has_failed out.new) result (report_from machine.old first steps.now) }
+    ensures after { OnOk result (machine.new ≡ after_steps machine.old steps.now) }
+    ensures valid { IsValid machine.new.bda }
 {
     for (i, step) in steps.iter().enumerate() {
-        write_step(out, first + i, card, step)?;
+        write_step(out, first + i, machine, step)?;
     }
     Ok(())
 }
@@ -248,18 +288,19 @@ fn write_lines<W: Write>(
 #[tactic(auto, using(crate::proofs::ReportLemmas::writes_others, crate::proofs::ReportLemmas::front_of_steps, crate::proofs::ReportLemmas::first_in_range))]
 fn write_until<W: Write>(
     out: &mut Tracked<W>,
-    card: &mut Card,
+    machine: &mut Machine,
     steps: &[Step],
     most: u32,
 ) -> Result<(), Fault>
     requires writer { has_failed out.old ≡ false }
     requires range { AreInRange steps.now }
+    requires valid { IsValid machine.old.bda }
     ensures { Writes (W.contents (inner_of out.old)) (W.contents (inner_of out.new))
-        (has_failed out.new) result (report_from card.old 1 (steps_until (Some most) steps.now)) }
+        (has_failed out.new) result (report_from machine.old 1 (steps_until (Some most) steps.now)) }
 {
     let count = (most as usize).min(steps.len());
     let (taken, _) = steps.split_at(count);
-    write_lines(out, card, 1, taken)?;
+    write_lines(out, machine, 1, taken)?;
     let last_looks = [
         Step::Show {
             shown: Shown::Registers,
@@ -272,42 +313,44 @@ fn write_until<W: Write>(
             shown: Shown::BiosData,
         },
     ];
-    write_lines(out, card, count + 1, &last_looks)
+    write_lines(out, machine, count + 1, &last_looks)
 }
 
-/// Takes the steps on this card, all of them or so many of the first with the last looks.
+/// Takes the steps on this machine, all of them or so many of the first with the last looks.
 fn write_steps<W: Write>(
     out: &mut Tracked<W>,
-    card: &mut Card,
+    machine: &mut Machine,
     steps: &[Step],
     until: Option<u32>,
 ) -> Result<(), Fault>
     requires writer { has_failed out.old ≡ false }
     requires range { AreInRange steps.now }
+    requires valid { IsValid machine.old.bda }
     ensures { Writes (W.contents (inner_of out.old)) (W.contents (inner_of out.new))
-        (has_failed out.new) result (report_from card.old 1 (steps_until until steps.now)) }
+        (has_failed out.new) result (report_from machine.old 1 (steps_until until steps.now)) }
 {
     match until {
-        Some(most) => write_until(out, card, steps, most),
-        None => write_lines(out, card, 1, steps),
+        Some(most) => write_until(out, machine, steps, most),
+        None => write_lines(out, machine, 1, steps),
     }
 }
 
-/// Takes the steps on this card, all of them or so many of the first with the last looks, writes what each
+/// Takes the steps on this machine, all of them or so many of the first with the last looks, writes what each
 /// answers, of which the first has the number 1, and flushes the writer. It fails with `WriteFault` alone,
 /// where the writer does, which then has a front of the report.
 #[tactic(auto, using(vga_bits::proofs::WritingLemmas::writes_more))]
 pub(crate) fn write_report<W: Write>(
     out: &mut Tracked<W>,
-    card: &mut Card,
+    machine: &mut Machine,
     steps: &[Step],
     until: Option<u32>,
 ) -> Result<(), Fault>
     requires writer { has_failed out.old ≡ false }
     requires range { AreInRange steps.now }
+    requires valid { IsValid machine.old.bda }
     ensures { Writes (W.contents (inner_of out.old)) (W.contents (inner_of out.new))
-        (has_failed out.new) result (report_from card.old 1 (steps_until until steps.now)) }
+        (has_failed out.new) result (report_from machine.old 1 (steps_until until steps.now)) }
 {
-    write_steps(out, card, steps, until)?;
+    write_steps(out, machine, steps, until)?;
     flush(out)
 }

@@ -1,31 +1,19 @@
 //! A run of a script.
 ghost use Rattle.std.specs.Prelude.{◌≡◌, ◌≢◌, ◌≤◌, ◌+◌, length, false, IfErr, IfOk, Some};
-ghost use Rattle.vga_bits.specs.declared.fault.Fault.TheVariants.{FontSize, WriteFault};
+ghost use Rattle.vga_bits.specs.declared.fault.Fault.TheVariants.{WriteFault};
 ghost use Rattle.vga_bits.specs.Tracked.{inner_of, has_failed, is_write_fault, taken_of};
 ghost use Rattle.vga_bits.specs.Reading.{TakesAtMost, is_read_fault};
+ghost use Rattle.bios_modes.specs.Fonts.{file_len};
 ghost use Rattle.vga_script.specs.Spelling.{script_limit};
-ghost use Rattle.vga_run.specs.Run.{RunAnswers, RunsGoodScripts, RunsScript, fonts_len};
+ghost use Rattle.vga_run.specs.Run.{Reports, ReportsSteps, RunAnswers, RunsGoodScripts, RunsScript};
 
+use super::machine::Machine;
 use super::report::write_report;
+use bios_modes::Fonts;
 use std::alloc::Global;
 use std::io::{Read, Write};
 use vga_bits::{Fault, Tracked};
-use vga_card::Card;
 use vga_script::{Script, decode, one_fault, read_script};
-
-/// How many bytes a font file has.
-const FONTS_LEN: usize = 9728;
-
-/// Judges a font file by its length.
-fn judge_fonts(fonts: &[u8]) -> Result<(), Fault>
-    ensures ok { IfOk result (λ u. length fonts.now ≡ fonts_len) }
-    ensures err { IfErr result (λ e. (e ≡ FontSize) × (length fonts.now ≢ fonts_len)) }
-{
-    if fonts.len() != FONTS_LEN {
-        return Err(Fault::FontSize);
-    }
-    Ok(())
-}
 
 /// Runs a script from power-on, writes its report and nothing else, and flushes the writer. The reader
 /// and the writer must not have failed before.
@@ -54,10 +42,10 @@ pub fn run<R: Read, W: Write>(
     requires writer { has_failed out.old ≡ false }
 
     // The report of the script that was read, or the first fault.
-    ensures answer { RunAnswers until (length fonts.now) (R.remaining (inner_of script.old))
+    ensures answer { RunAnswers until fonts.now (R.remaining (inner_of script.old))
         (W.contents (inner_of out.old)) (W.contents (inner_of out.new)) result }
     // A fault comes only where there is one.
-    ensures runs { RunsGoodScripts (length fonts.now) (R.remaining (inner_of script.old))
+    ensures runs { RunsGoodScripts fonts.now (R.remaining (inner_of script.old))
         (has_failed script.new) (has_failed out.new) result }
 
     // The reader and the writer fail exactly where the answer says so.
@@ -68,7 +56,7 @@ pub fn run<R: Read, W: Write>(
     ensures taken { TakesAtMost (script_limit + 1) (R.remaining (inner_of script.old))
         (R.remaining (inner_of script.new)) }
     ensures counted { taken_of script.new ≤ taken_of script.old + (script_limit + 1) }
-    ensures unread { length fonts.now ≢ fonts_len → script.new ≡ script.old }
+    ensures unread { length fonts.now ≢ file_len → script.new ≡ script.old }
     ensures unwritten { IfErr result (λ e. e ≢ WriteFault → out.new ≡ out.old) }
 {
     one_fault(); // A script has no fault.
@@ -76,7 +64,7 @@ pub fn run<R: Read, W: Write>(
 }
 
 /// What `run` does.
-#[tactic(auto, using(crate::proofs::RunLemmas::input_answers))]
+#[tactic(auto, using(crate::proofs::RunLemmas::input_answers, crate::proofs::RunLemmas::font_answers, crate::proofs::RunLemmas::unread_answers))]
 fn run_steps<R: Read, W: Write>(
     alloc: Global,
     script: &mut Tracked<R>,
@@ -86,23 +74,23 @@ fn run_steps<R: Read, W: Write>(
 ) -> Result<(), Fault>
     requires reader { has_failed script.old ≡ false }
     requires writer { has_failed out.old ≡ false }
-    ensures answer { RunAnswers until (length fonts.now) (R.remaining (inner_of script.old))
+    ensures answer { RunAnswers until fonts.now (R.remaining (inner_of script.old))
         (W.contents (inner_of out.old)) (W.contents (inner_of out.new)) result }
     ensures read_failed { has_failed script.new ≡ is_read_fault result }
     ensures write_failed { has_failed out.new ≡ is_write_fault result }
     ensures taken { TakesAtMost (script_limit + 1) (R.remaining (inner_of script.old))
         (R.remaining (inner_of script.new)) }
     ensures counted { taken_of script.new ≤ taken_of script.old + (script_limit + 1) }
-    ensures unread { length fonts.now ≢ fonts_len → script.new ≡ script.old }
+    ensures unread { length fonts.now ≢ file_len → script.new ≡ script.old }
     ensures unwritten { IfErr result (λ e. e ≢ WriteFault → out.new ≡ out.old) }
 {
-    judge_fonts(fonts)?; // Nothing is read before.
+    let fonts = Fonts::from_bytes(alloc, fonts)?; // Nothing is read before.
     let bytes = read_script(alloc, script)?;
-    run_bytes(alloc, bytes.as_slice(), fonts, out, until)
+    run_bytes_over(alloc, bytes.as_slice(), fonts, out, until)
 }
 
 /// Runs a script whose bytes are at hand, as `run` does. So its faults are those of `run` but `ReadFault`.
-#[tactic(auto, using(crate::proofs::RunLemmas::script_answers, crate::proofs::RunLemmas::fault_answers))]
+#[tactic(auto, using(crate::proofs::RunLemmas::file_answers, crate::proofs::RunLemmas::font_answers))]
 pub fn run_bytes<W: Write>(
     alloc: Global,
     script: &[u8],
@@ -112,20 +100,40 @@ pub fn run_bytes<W: Write>(
 ) -> Result<(), Fault>
     requires { has_failed out.old ≡ false }
     // The report of the script, or the first fault.
-    ensures answer { RunAnswers until (length fonts.now) (Some script.now)
+    ensures answer { RunAnswers until fonts.now (Some script.now)
         (W.contents (inner_of out.old)) (W.contents (inner_of out.new)) result }
     ensures unread { is_read_fault result ≡ false }
     // The writer fails exactly where the answer says so, and is left untouched by any other fault.
     ensures write_failed { has_failed out.new ≡ is_write_fault result }
     ensures unwritten { IfErr result (λ e. e ≢ WriteFault → out.new ≡ out.old) }
 {
-    judge_fonts(fonts)?; // Nothing is decoded before.
+    let fonts = Fonts::from_bytes(alloc, fonts)?; // Nothing is decoded before.
+    run_bytes_over(alloc, script, fonts, out, until)
+}
+
+/// Runs a script whose bytes are at hand over some fonts.
+#[tactic(auto, using(crate::proofs::RunLemmas::reports_of_steps, crate::proofs::RunLemmas::fault_answers))]
+fn run_bytes_over<W: Write>(
+    alloc: Global,
+    script: &[u8],
+    fonts: Fonts,
+    out: &mut Tracked<W>,
+    until: Option<u32>,
+) -> Result<(), Fault>
+    requires { has_failed out.old ≡ false }
+    ensures answer { Reports until fonts (Some script.now)
+        (W.contents (inner_of out.old)) (W.contents (inner_of out.new)) result }
+    ensures unread { is_read_fault result ≡ false }
+    ensures write_failed { has_failed out.new ≡ is_write_fault result }
+    ensures unwritten { IfErr result (λ e. e ≢ WriteFault → out.new ≡ out.old) }
+{
     let script = decode(alloc, script)?;
-    run_script(alloc, &script, fonts, out, until)
+    run_over(alloc, &script, fonts, out, until)
 }
 
 /// Runs a script that was decoded or assembled, as `run` does. So its faults are `FontSize`, `WriteFault`
 /// and `OutOfMemory` alone.
+#[tactic(auto, using(crate::proofs::RunLemmas::steps_answers, crate::proofs::RunLemmas::font_runs))]
 pub fn run_script<W: Write>(
     alloc: Global,
     script: &Script,
@@ -135,13 +143,30 @@ pub fn run_script<W: Write>(
 ) -> Result<(), Fault>
     requires { has_failed out.old ≡ false }
     // The report of the script's steps, or the first fault.
-    ensures answer { RunsScript until (length fonts.now) script.now
+    ensures answer { RunsScript until fonts.now script.now
         (W.contents (inner_of out.old)) (W.contents (inner_of out.new)) result }
     // The writer fails exactly where the answer says so, and is left untouched by any other fault.
     ensures write_failed { has_failed out.new ≡ is_write_fault result }
     ensures unwritten { IfErr result (λ e. e ≢ WriteFault → out.new ≡ out.old) }
 {
-    judge_fonts(fonts)?;
-    let mut card = Card::new(alloc)?;
-    write_report(out, &mut card, script.list(), until)
+    let fonts = Fonts::from_bytes(alloc, fonts)?;
+    run_over(alloc, script, fonts, out, until)
+}
+
+/// Runs a script over some fonts.
+fn run_over<W: Write>(
+    alloc: Global,
+    script: &Script,
+    fonts: Fonts,
+    out: &mut Tracked<W>,
+    until: Option<u32>,
+) -> Result<(), Fault>
+    requires { has_failed out.old ≡ false }
+    ensures answer { ReportsSteps until fonts script.now
+        (W.contents (inner_of out.old)) (W.contents (inner_of out.new)) result }
+    ensures write_failed { has_failed out.new ≡ is_write_fault result }
+    ensures unwritten { IfErr result (λ e. e ≢ WriteFault → out.new ≡ out.old) }
+{
+    let mut machine = Machine::power_on(alloc, fonts)?;
+    write_report(out, &mut machine, script.list(), until)
 }

@@ -15,4 +15,11 @@ returns-in_err-write_step-clause-text g c =
 pub loop-i-preserved : goal.loop-i-preserved
 loop-i-preserved g c =
     let w = c.in_ok-write_step.ensures.text in
-    reported_more _ _ _ _ _ _ _ _ c.args.first _ _ _ _ c.loop-i.invariant (omega arith) c.index-steps-i.is c.in_ok-write_step.ensures.after w.0 w.1
+    reported_more _ _ _ _ _ _ _ _ c.args.first _ _ _ _ c.loop-i.invariant (omega arith) c.index-steps-i.is c.in_ok-write_step.ensures.after w.0 w.1 c.in_ok-write_step.ensures.valid
+
+-- the data are valid before each step
+pub write_step-requires-clause-valid : goal.write_step-requires-clause-valid
+write_step-requires-clause-valid g c = c.loop-i.invariant.valid
+
+pub returns-clause-valid : goal.returns-clause-valid
+returns-clause-valid g c = c.loop-i.invariant.valid

@@ -11,7 +11,7 @@ returns-in_err-write_lines g c =
     let taken = c.split_at.ensures.front ∙ ap (λ n. take n c.args.steps.now) c.min-count.ensures ∙ take_min c.args.most c.args.steps.now in
     let w = rw taken at c.in_err-write_lines.ensures.text in
     let p = err_from_is_err_and c.from_residual.result c.from_residual.ensures.1 in
-    rw (p.1, p.2) (w.0, w.1, front_of_steps _ _ c.args.card.now 1 (take c.args.most c.args.steps.now) last_looks w.2)
+    rw (p.1, p.2) (w.0, w.1, front_of_steps _ _ c.args.machine.now 1 (take c.args.most c.args.steps.now) last_looks w.2)
 
 pub returns : goal.returns
 returns g c =
@@ -19,4 +19,4 @@ returns g c =
     let w = rw taken at c.in_ok-write_lines.ensures.text in
     let after = rw taken at c.in_ok-write_lines.ensures.after in
     let number : c.min-count.result + 1 ≡ 1 + length (take c.args.most c.args.steps.now) = omega (arith, c.split_at.ensures.front_len, ap length taken) in
-    writes_others _ _ _ _ _ c.args.card.now _ 1 _ (take c.args.most c.args.steps.now) last_looks after number w.0 c.write_lines-2.ensures.text
+    writes_others _ _ _ _ _ c.args.machine.now _ 1 _ (take c.args.most c.args.steps.now) last_looks after number w.0 c.write_lines-2.ensures.text

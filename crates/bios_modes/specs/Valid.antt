@@ -1,0 +1,24 @@
+-- When BIOS data are those of the adapter: all 0 before a mode is set, and the mode's own after that.
+-- From the IBM PS/2 and PC BIOS Interface Technical Reference, "BIOS Data Area", "Video Control Data Area".
+use Rattle.std.specs.Prelude.{◌≡◌, ◌*◌, ◌<◌, ◌⊎◌, Option, Some, None}
+use Rattle.bios_modes.specs.declared.modes.ModeRow.{ModeRow}
+use Rattle.bios_modes.specs.Modes.{mode_row}
+use Rattle.bios_modes.specs.Bda.{BiosData, power_on_data}
+
+-- the constants are those of a mode, the page is one of its pages, and begins where that stands
+pub record IsOf (row : ModeRow) (d : BiosData) : Type 0 where
+  pub columns : d.columns ≡ row.columns
+  pub size : d.size ≡ row.size
+  pub last_row : d.last_row ≡ row.last_row
+  pub height : d.height ≡ row.height
+  pub crtc_address : d.crtc_address ≡ row.crtc_address
+  pub page : d.page < row.pages
+  pub start : d.start ≡ d.size * d.page
+
+abbrev pub Fits : Option ModeRow → BiosData → Type 0
+Fits None d = ⊥
+Fits (Some row) d = IsOf row d
+
+-- the data are all 0, or those of their mode; the cursor's places and type may then be any
+abbrev pub IsValid : BiosData → Type 0
+IsValid d = (d ≡ power_on_data) ⊎ Fits (mode_row d.mode) d

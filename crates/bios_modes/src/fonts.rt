@@ -1,0 +1,74 @@
+//! The fonts of a file.
+ghost use Rattle.std.specs.Prelude.{◌≡◌, IfOk, IfErr, length};
+ghost use Rattle.bios_modes.specs.Fonts.{IsFontFault, file_len, fonts_of};
+
+use super::font::Font;
+use std::alloc::Global;
+use std::marker::Model;
+use vga_bits::Fault;
+
+/// How many bytes a font file has.
+const FILE_LEN: usize = 9728;
+/// How many of them its first font has, and its second.
+const LEN_8: usize = 2048;
+
+const LEN_14: usize = 3584;
+
+/// The fonts of 8, 14 and 16 rows.
+#[derive(Drop)]
+pub struct Fonts {
+    f8: Font<8>,
+    f14: Font<14>,
+    f16: Font<16>,
+}
+
+impl Model for Fonts {
+    ghost use Rattle.bios_modes.specs.Fonts.{FontSet};
+
+    ghost Value = { FontSet };
+
+    ghost view = { λ f. record { f8 = f.f8; f14 = f.f14; f16 = f.f16 } };
+}
+
+impl Fonts {
+    /// The fonts of a file: 2,048 bytes of the font with 8 rows, then 3,584 with 14, then 4,096 with 16.
+    ///
+    /// It fails with `FontSize` where the file has not 9,728 bytes, and with `OutOfMemory`.
+    #[tactic(auto, unfolding(crate::specs::Fonts::fonts_of))]
+    pub fn from_bytes(alloc: Global, file: &[u8]) -> Result<Fonts, Fault>
+        ensures ok { IfOk result (λ fonts. (length file.now ≡ file_len) × (fonts ≡ fonts_of file.now)) }
+        ensures err { IfErr result (IsFontFault file.now) }
+    {
+        if file.len() != FILE_LEN {
+            return Err(Fault::FontSize);
+        }
+        let (f8, behind) = file.split_at(LEN_8);
+        let (f14, f16) = behind.split_at(LEN_14);
+        Ok(Fonts {
+            f8: Font::of_bytes(alloc, f8)?,
+            f14: Font::of_bytes(alloc, f14)?,
+            f16: Font::of_bytes(alloc, f16)?,
+        })
+    }
+
+    /// The font with 8 rows.
+    pub fn f8(&self) -> &Font<8>
+        ensures { result.now ≡ self.now.f8 }
+    {
+        &self.f8
+    }
+
+    /// The font with 14 rows.
+    pub fn f14(&self) -> &Font<14>
+        ensures { result.now ≡ self.now.f14 }
+    {
+        &self.f14
+    }
+
+    /// The font with 16 rows.
+    pub fn f16(&self) -> &Font<16>
+        ensures { result.now ≡ self.now.f16 }
+    {
+        &self.f16
+    }
+}

@@ -1,0 +1,85 @@
+//! The default palettes.
+ghost use Rattle.std.specs.Prelude.{◌≡◌, ◌<◌, ◌≤◌, IsTrue};
+ghost use Rattle.std.specs.Int.{bit_at};
+ghost use Rattle.bios_modes.specs.Palette.{component as component_of, of_six_bits as six_bits_of, of_bright_bit as bright_bit_of, of_intensity as intensity_of, of_byte as byte_of, is_mode, dac_entry as entry_of};
+
+/// Two thirds of a component's full 3F, and one third.
+const STRONG: u8 = 0x2A;
+
+const WEAK: u8 = 0x15;
+
+/// Bit i of a byte.
+fn bit(n: u8, i: u32) -> u8
+    requires { i < 8 }
+    ensures value { result ≡ bit_at n i }
+    ensures small { result ≤ 1 }
+{
+    (n >> i) & 1
+}
+
+/// A component of two bits.
+fn component(n: u8, strong: u32, weak: u32) -> u8
+    requires strong { strong < 8 }
+    requires weak { weak < 8 }
+    ensures { result ≡ component_of n strong weak }
+{
+    STRONG * bit(n, strong) + WEAK * bit(n, weak)
+}
+
+/// A colour of two bits for each component.
+fn of_six_bits(n: u8) -> [u8; 3]
+    ensures { result ≡ six_bits_of n }
+{
+    [component(n, 2, 5), component(n, 1, 4), component(n, 0, 3)]
+}
+
+/// One of 16 colours, of a bit for each component and a bright one.
+fn of_bright_bit(n: u8, bright: u32) -> [u8; 3]
+    requires { bright < 8 }
+    ensures { result ≡ bright_bit_of bright n }
+{
+    let is_brown = n % 8 == 6 && bit(n, bright) == 0;
+    let green = if is_brown {
+        WEAK
+    } else {
+        component(n, 1, bright)
+    };
+    [component(n, 2, bright), green, component(n, 0, bright)]
+}
+
+/// Black, or one of two greys.
+fn of_intensity(n: u8) -> [u8; 3]
+    ensures { result ≡ intensity_of n }
+{
+    let level = if bit(n, 3) == 1 {
+        STRONG + WEAK * bit(n, 4)
+    } else {
+        0
+    };
+    [level; 3]
+}
+
+/// One of 16 colours, of 16 greys, or of 224 colours by the bits of a byte.
+fn of_byte(n: u8) -> [u8; 3]
+    ensures { result ≡ byte_of n }
+{
+    match n {
+        0x00..=0x0F => of_bright_bit(n, 3),
+        0x10..=0x1F => [(63 * (n as u16 - 16) / 15) as u8; 3],
+        _ => [9 * (n / 32), 9 * (n / 4 % 8), 21 * (n % 4)],
+    }
+}
+
+/// Red, green and blue of entry n of a mode's default palette, each 0 to 3F (hexadecimal). The mode is one of
+/// 3, 7, 0D, 10, 12 and 13 (hexadecimal).
+pub fn dac_entry(mode: u8, n: u8) -> [u8; 3]
+    requires { IsTrue (is_mode mode) }
+    ensures { result ≡ entry_of mode n }
+{
+    match mode {
+        0x07 => of_intensity(n),
+        0x0D => of_bright_bit(n, 4),
+        0x13 => of_byte(n),
+        _ => of_six_bits(n),
+    }
+}

@@ -1,0 +1,64 @@
+-- A refused service has no cycle, and leaves the BIOS data.
+use Rattle.std.proofs.Common.{◌≡◌, ◌∙◌, ◌==◌, ℕ, Bool, true, false, if◌then◌else◌, Option, Some, None, List, Result, Ok, Err, refl, sym, ap}
+use Rattle.vga_bits.specs.declared.refusal.Refusal.{Refusal}
+use Rattle.vga_bits.specs.declared.refusal.Refusal.TheVariants.{NoMode, BadMode}
+use Rattle.vga_card.specs.Bus.{Meaning}
+use Rattle.bios_modes.specs.declared.modes.ModeRow.{ModeRow}
+use Rattle.bios_modes.specs.Modes.{mode_row}
+use Rattle.bios_modes.specs.Bda.{BiosData}
+use Rattle.bios_modes.specs.Begin.{data_of_mode}
+use Rattle.bios_modes.specs.Fonts.{FontSet}
+use Rattle.bios_services.specs.declared.regs.Regs.{Regs}
+use Rattle.bios_services.specs.declared.reply.Reply.{Reply}
+use Rattle.bios_services.specs.declared.call.Call.{Call}
+use Rattle.bios_services.specs.declared.call.Call.TheVariants.{SetMode, InMode}
+use Rattle.bios_services.specs.declared.call.Service.{Service}
+use Rattle.bios_services.specs.Plan.{Plan, Done, ◌>>=◌, run}
+use Rattle.bios_services.specs.Calls.{call_of}
+use Rattle.bios_services.specs.ModeSet.{mode_set_plan}
+use Rattle.bios_services.specs.Refusals.{refusal_in_mode, unknown_refusal}
+use Rattle.bios_services.specs.Service.{Answered, answered, asked, in_mode_plan, plan_of, refused, service, set_mode_plan, unless}
+use Rattle.bios_services.proofs.RunLemmas.{run_bind}
+
+-- what a plan does where its answer is a refusal: nothing
+DoesNothing : {S : Type 0} → Meaning S → Plan Answered → BiosData → Type 0
+DoesNothing {S} m p d = (s : S) (e : Refusal) → (run m p s).1.0 ≡ Err e → run m p s ≡ (s, (Err e, d))
+
+-- a refusal itself
+refusal_does_nothing : {S : Type 0} (m : Meaning S) (why : Refusal) (d : BiosData) → DoesNothing m (refused why d) d
+refusal_does_nothing m why d s e is = ap (λ (x : Result Reply Refusal). (s, (x, d))) is
+
+-- a plan whose answer is always registers is never refused
+answer_is_none : {S A : Type 0} (m : Meaning S) (p : Plan A) (regs : A → Regs) (data : A → BiosData) (d : BiosData) → DoesNothing m (p >>= λ a. Done (answered (regs a) (data a))) d
+answer_is_none m p regs data d s e is =
+    let whole = run_bind m p (λ a. Done (answered (regs a) (data a))) s in
+    absurd (cc)
+
+set_mode_does_nothing : {S : Type 0} (m : Meaning S) (row : Option ModeRow) (mode : ℕ) (keeps : Bool) (fonts : FontSet) (d : BiosData) (r : Regs) → DoesNothing m (set_mode_plan row mode keeps fonts d r) d
+unfolding set_mode_plan
+set_mode_does_nothing m None mode keeps fonts d r = refusal_does_nothing m BadMode d
+set_mode_does_nothing m (Some row) mode keeps fonts d r = answer_is_none m (mode_set_plan mode row keeps fonts) (λ _. r) (λ _. data_of_mode mode row) d
+
+unless_does_nothing : {S : Type 0} (m : Meaning S) (why : Option Refusal) (asked_for : Service) (d : BiosData) (r : Regs) → DoesNothing m (unless why asked_for d r) d
+unfolding unless
+unless_does_nothing m (Some why) asked_for d r = refusal_does_nothing m why d
+unless_does_nothing m None asked_for d r = answer_is_none m (plan_of asked_for d r) (λ o. o.0) (λ o. o.1) d
+
+if_does_nothing : {S : Type 0} (m : Meaning S) (unset : Bool) (p : Plan Answered) (d : BiosData) → DoesNothing m p d → DoesNothing m (if unset then refused NoMode d else p) d
+if_does_nothing m true p d h = refusal_does_nothing m NoMode d
+if_does_nothing m false p d h = h
+
+in_mode_does_nothing : {S : Type 0} (m : Meaning S) (asked_for : Service) (d : BiosData) (r : Regs) → DoesNothing m (in_mode_plan asked_for d r) d
+unfolding in_mode_plan
+in_mode_does_nothing m asked_for d r =
+    if_does_nothing m (d.mode == 0) (unless (refusal_in_mode asked_for d) asked_for d r) d (unless_does_nothing m (refusal_in_mode asked_for d) asked_for d r)
+
+asked_does_nothing : {S : Type 0} (m : Meaning S) (call : Option Call) (fonts : FontSet) (d : BiosData) (r : Regs) → DoesNothing m (asked call fonts d r) d
+asked_does_nothing m None fonts d r = refusal_does_nothing m (unknown_refusal d) d
+asked_does_nothing m (Some (SetMode mode keeps)) fonts d r = set_mode_does_nothing m (mode_row mode) mode keeps fonts d r
+asked_does_nothing m (Some (InMode asked_for)) fonts d r = in_mode_does_nothing m asked_for d r
+
+-- so a refused service leaves bus and BIOS data
+pub refused_service : {S : Type 0} (m : Meaning S) (fonts : FontSet) (d : BiosData) (r : Regs) (block : List ℕ) (s : S) (e : Refusal)
+    → (run m (service fonts d r block) s).1.0 ≡ Err e → run m (service fonts d r block) s ≡ (s, (Err e, d))
+refused_service m fonts d r block = asked_does_nothing m (call_of r) fonts d r

@@ -1,0 +1,35 @@
+-- How large the numbers are that the BIOS data of a mode hold.
+use Rattle.std.specs.Prelude.{ℕ, ◌≡◌, ◌*◌, ◌<◌, ◌≤◌, Option, None, Some}
+use Rattle.bios_modes.specs.declared.modes.ModeRow.{ModeRow}
+use Rattle.bios_modes.specs.Modes.{mode_row}
+use Rattle.bios_modes.specs.Bda.{BiosData}
+
+abbrev pub pages_in : Option ModeRow → ℕ
+pages_in None = 0
+pages_in (Some row) = row.pages
+
+-- how many pages the mode has, none before one is set
+abbrev pub pages_of : BiosData → ℕ
+pages_of d = pages_in (mode_row d.mode)
+
+-- every place that such data name is in the memory that the adapter may have
+pub record IsSet (d : BiosData) : Type 0 where
+  pub some_columns : 0 < d.columns
+  pub columns : d.columns ≤ 80
+  pub rows : d.last_row < 50
+  pub port : d.crtc_address < 1000
+  pub pages : pages_of d ≤ 8
+  pub page : d.page < pages_of d
+  pub start : d.start ≡ d.size * d.page
+  pub memory : d.size * pages_of d ≤ 65536
+
+-- what a service in a mode leaves of the BIOS data: the mode's constants stay, and the page is one of its pages
+pub record StaysInMode (old new : BiosData) : Type 0 where
+  pub mode : new.mode ≡ old.mode
+  pub columns : new.columns ≡ old.columns
+  pub size : new.size ≡ old.size
+  pub last_row : new.last_row ≡ old.last_row
+  pub height : new.height ≡ old.height
+  pub crtc_address : new.crtc_address ≡ old.crtc_address
+  pub page : new.page < pages_of old
+  pub start : new.start ≡ new.size * new.page

@@ -1,0 +1,50 @@
+-- Which service the registers ask for.
+-- From the IBM PS/2 and PC BIOS Interface Technical Reference, "Interrupt 10H - Video": AH has the function.
+use Rattle.std.specs.Prelude.{ℕ, ◌/◌, ◌%◌, ◌==◌, ◌&&◌, nat_le, if◌then◌else◌, Option, Some, None}
+use Rattle.bios_services.specs.declared.regs.Regs.{Regs}
+use Rattle.bios_services.specs.declared.scroll.Scroll.{Scroll}
+use Rattle.bios_services.specs.declared.call.Call.{Call}
+use Rattle.bios_services.specs.declared.call.Call.TheVariants.{SetMode, InMode}
+use Rattle.bios_services.specs.declared.call.Service.{Service}
+use Rattle.bios_services.specs.declared.call.Service.TheVariants.{SetCursorType, SetCursor, ReadCursor, SelectPage, ScrollUp, ScrollDown, ReadCell, WriteCells, Teletype, ReadMode, ReadAdapter, ReadDisplay}
+
+-- the high byte of a register, and its low byte
+abbrev pub high : ℕ → ℕ
+high register = register / 256
+
+abbrev pub low : ℕ → ℕ
+low register = register % 256
+
+-- the window of functions 06 and 07: AL rows, BH the attribute of blanks, CX the upper left corner, DX the lower right one
+abbrev pub scroll_of : Regs → Scroll
+scroll_of r = record { lines = low r.ax; fill = high r.bx; top = high r.cx; left = low r.cx; bottom = high r.dx; right = low r.dx }
+
+-- the service that needs a mode, by its function
+abbrev pub service_of : Regs → Option Service
+service_of r =
+    let function = high r.ax in
+    let al = low r.ax in
+    let bh = high r.bx in
+    let bl = low r.bx in
+    if function == 0x01 then Some (SetCursorType r.cx)
+    else if function == 0x02 then Some (SetCursor bh r.dx)
+    else if function == 0x03 then Some (ReadCursor bh)
+    else if function == 0x05 then Some (SelectPage al)
+    else if function == 0x06 then Some (ScrollUp (scroll_of r))
+    else if function == 0x07 then Some (ScrollDown (scroll_of r))
+    else if function == 0x08 then Some (ReadCell bh)
+    else if function == 0x09 then Some (WriteCells bh al (Some bl) r.cx)
+    else if function == 0x0A then Some (WriteCells bh al None r.cx)
+    else if function == 0x0E then Some (Teletype al)
+    else if function == 0x0F then Some ReadMode
+    else if (function == 0x12) && (bl == 0x10) then Some ReadAdapter
+    else if (function == 0x1A) && (al == 0x00) then Some ReadDisplay
+    else None
+
+abbrev pub in_mode : Option Service → Option Call
+in_mode None = None
+in_mode (Some service) = Some (InMode service)
+
+-- what a call asks for; function 00 sets the mode of the low seven bits of AL, and bit 7 keeps the memory
+abbrev pub call_of : Regs → Option Call
+call_of r = if high r.ax == 0x00 then Some (SetMode (low r.ax % 128) (nat_le 128 (low r.ax))) else in_mode (service_of r)

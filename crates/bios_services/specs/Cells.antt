@@ -1,0 +1,43 @@
+-- Cells of text: where they stand in memory, and how characters get there.
+-- From the IBM PS/2 and PC BIOS Interface Technical Reference, "Interrupt 10H - Video", (AH) = 08H to 0AH.
+use Rattle.std.specs.Prelude.{ℕ, ◌+◌, ◌*◌, ◌==◌, if◌then◌else◌, Option, Some, None}
+use Rattle.bios_modes.specs.Bda.{BiosData}
+use Rattle.bios_services.specs.Plan.{Plan, Done, ◌>>=◌, ◌>>◌, put, get, each}
+
+-- where the pages of a text mode begin
+abbrev pub text_base : ℕ → ℕ
+text_base mode = if mode == 0x07 then 0xB0000 else 0xB8000
+
+-- where a page of text begins
+abbrev pub page_address : BiosData → ℕ → ℕ
+page_address d page = text_base d.mode + d.size * page
+
+-- the address of cell q of a page; its attribute is at the next
+abbrev pub cell_address : BiosData → ℕ → ℕ → ℕ
+cell_address d page q = page_address d page + 2 * q
+
+-- how many cells a page has
+abbrev pub cells_of : BiosData → ℕ
+cells_of d = d.columns * (d.last_row + 1)
+
+-- the character of a cell as the low byte of a word, its attribute as the high one
+unfoldable pub read_cell_plan : ℕ → Plan ℕ
+read_cell_plan address = do
+  character ← get address
+  colour ← get (address + 1)
+  Done (character + 256 * colour)
+
+-- an attribute, where one is to be written
+abbrev pub colour_plan : ℕ → Option ℕ → Plan (Unit {0})
+colour_plan address None = Done tt
+colour_plan address (Some colour) = put address colour
+
+-- a character in a cell, and then its attribute, where one is given
+unfoldable pub write_cell_plan : ℕ → ℕ → Option ℕ → Plan (Unit {0})
+write_cell_plan address character colour = do
+  put address character
+  colour_plan (address + 1) colour
+
+-- the same in n cells from an address on
+unfoldable pub write_cells_plan : ℕ → ℕ → Option ℕ → ℕ → Plan (Unit {0})
+write_cells_plan address character colour n = each (λ i. write_cell_plan (address + 2 * i) character colour) n 0

@@ -1,0 +1,55 @@
+-- The cursor and the pages: where a cursor stands, and the registers that show it.
+-- From the IBM PS/2 and PC BIOS Interface Technical Reference, "Interrupt 10H - Video", (AH) = 01H, 02H, 03H and 05H.
+use Rattle.std.specs.Prelude.{ℕ, ◌+◌, ◌*◌, ◌/◌, ◌%◌, ◌==◌, if◌then◌else◌, slice_index, slice_set}
+use Rattle.bios_modes.specs.Bda.{BiosData}
+use Rattle.bios_services.specs.Plan.{Plan, Done, ◌>>=◌, ◌>>◌}
+use Rattle.bios_services.specs.Cycles.{crtc}
+use Rattle.bios_services.specs.ModeSet.{is_text}
+
+-- the row and the column of a place, its high and its low byte
+abbrev pub row_of : ℕ → ℕ
+row_of place = place / 256
+
+abbrev pub column_of : ℕ → ℕ
+column_of place = place % 256
+
+-- the number of the cell at a place, counted along the rows
+abbrev pub cell_number : BiosData → ℕ → ℕ
+cell_number d place = d.columns * row_of place + column_of place
+
+-- the cursor's place on a page
+abbrev pub place_of : BiosData → ℕ → ℕ
+place_of d page = slice_index d.cursor_places page
+
+-- two registers of the CRT controller that hold a word, the high byte in the first
+unfoldable pub word_plan : ℕ → ℕ → ℕ → Plan (Unit {0})
+word_plan port i n = do
+  crtc port i (n / 256)
+  crtc port (i + 1) (n % 256)
+
+-- which cell of the memory the cursor of a page stands on, as the CRT controller counts them
+abbrev pub cursor_address : BiosData → ℕ → ℕ
+cursor_address d page = d.size * page / 2 + cell_number d (place_of d page)
+
+-- the cursor is shown where it stands, in text on the active page; otherwise nothing is done
+unfoldable pub cursor_plan : BiosData → ℕ → Plan (Unit {0})
+cursor_plan d page =
+    if is_text d.mode then (if page == d.page then word_plan d.crtc_address 0x0E (cursor_address d page) else Done tt) else Done tt
+
+-- the cursor of a page at another place
+abbrev pub with_place : BiosData → ℕ → ℕ → BiosData
+with_place d page place = record d { cursor_places = slice_set d.cursor_places page place }
+
+-- another active page
+abbrev pub with_page : BiosData → ℕ → BiosData
+with_page d page = record d { page = page; start = d.size * page }
+
+-- the first cell or byte of a page, as the CRT controller counts them
+abbrev pub start_address : BiosData → ℕ → ℕ
+start_address d page = if is_text d.mode then d.size * page / 2 else d.size * page
+
+-- the start address of a page, and its cursor
+unfoldable pub page_plan : BiosData → ℕ → Plan (Unit {0})
+page_plan d page = do
+  word_plan d.crtc_address 0x0C (start_address d page)
+  cursor_plan (with_page d page) page

@@ -1,0 +1,46 @@
+-- The cycles that services are made of: registers behind an index, and the palette's source.
+-- From the IBM PS/2 Hardware Interface Technical Reference, Video Subsystems, "Video Subsystem Registers".
+use Rattle.std.specs.Prelude.{ℕ, ◌+◌, List, length, slice_index}
+use Rattle.bios_services.specs.Plan.{Plan, Done, ◌>>=◌, ◌>>◌, out, inp, each}
+
+-- the register i behind an index port, whose data port is the next
+abbrev pub indexed : ℕ → ℕ → ℕ → Plan (Unit {0})
+indexed port i v = do
+  out port i
+  out (port + 1) v
+
+-- a register of the sequencer, of the graphics controller, and of the CRT controller at this port
+abbrev pub sequencer : ℕ → ℕ → Plan (Unit {0})
+sequencer i v = indexed 0x3C4 i v
+
+abbrev pub graphics : ℕ → ℕ → Plan (Unit {0})
+graphics i v = indexed 0x3CE i v
+
+abbrev pub crtc : ℕ → ℕ → ℕ → Plan (Unit {0})
+crtc port i v = indexed port i v
+
+-- a register of the attribute controller, where its next write is an index
+abbrev pub attribute : ℕ → ℕ → Plan (Unit {0})
+attribute i v = do
+  out 0x3C0 i
+  out 0x3C0 v
+
+-- registers 0, 1, .. behind an index port
+unfoldable pub group : ℕ → List ℕ → Plan (Unit {0})
+group port values = each (λ i. indexed port i (slice_index values i)) (length values) 0
+
+-- registers 0, 1, .. of the attribute controller
+unfoldable pub attribute_group : List ℕ → Plan (Unit {0})
+attribute_group values = each (λ i. attribute i (slice_index values i)) (length values) 0
+
+-- the read of input status 1 after which the next write to the attribute controller is an index; the CRT controller's index
+-- is at this port
+abbrev pub expect_index : ℕ → Plan ℕ
+expect_index port = inp (port + 6)
+
+-- the palette is shown again
+abbrev pub show_palette : ℕ → Plan (Unit {0})
+show_palette port = do
+  out 0x3C0 0x20
+  expect_index port
+  Done tt

@@ -1,0 +1,11 @@
+pub mod Plan
+pub mod Cycles
+pub mod ModeSet
+pub mod Bounds
+pub mod Cursor
+pub mod Cells
+pub mod Scroll
+pub mod Teletype
+pub mod Calls
+pub mod Refusals
+pub mod Service

@@ -1,0 +1,93 @@
+-- Setting a mode: every register, the palette, the font of a text mode, and the memory; and the BIOS data afterwards.
+-- From the IBM PS/2 and PC BIOS Interface Technical Reference, "Interrupt 10H - Video", (AH) = 00H; the order of the cycles is
+-- this adapter's choice.
+use Rattle.std.specs.Prelude.{ℕ, ◌+◌, ◌*◌, ◌%◌, ◌==◌, ◌||◌, if◌then◌else◌, Bool, List, replicate, slice_index, bit_and}
+use Rattle.bios_modes.specs.declared.modes.ModeRow.{ModeRow}
+use Rattle.bios_modes.specs.Bda.{BiosData}
+use Rattle.bios_modes.specs.Palette.{dac_entry}
+use Rattle.bios_modes.specs.Fonts.{FontSet, glyph_row}
+use Rattle.bios_services.specs.Plan.{Plan, Done, ◌>>=◌, ◌>>◌, out, put, each}
+use Rattle.bios_services.specs.Cycles.{sequencer, graphics, crtc, group, attribute_group, expect_index, show_palette}
+
+-- the two text modes
+abbrev pub is_text : ℕ → Bool
+is_text mode = (mode == 0x03) || (mode == 0x07)
+
+-- all registers; first those of the CRT controller are unprotected
+unfoldable pub registers_plan : ModeRow → Plan (Unit {0})
+registers_plan row = do
+  out 0x3C2 row.misc
+  group 0x3C4 row.sequencer
+  crtc row.crtc_address 0x11 (bit_and (slice_index row.crtc 0x11) 0x7F)
+  group row.crtc_address row.crtc
+  group 0x3CE row.graphics
+  expect_index row.crtc_address
+  attribute_group row.attribute
+  show_palette row.crtc_address
+
+-- red, green and blue of one entry of the DAC, whose index is there
+unfoldable pub colour_plan : List ℕ → Plan (Unit {0})
+colour_plan colour = do
+  out 0x3C9 (slice_index colour 0)
+  out 0x3C9 (slice_index colour 1)
+  out 0x3C9 (slice_index colour 2)
+
+-- the DAC's mask, and n entries of a mode's palette from entry 0 on
+unfoldable pub palette_plan : ℕ → ℕ → Plan (Unit {0})
+palette_plan mode n = do
+  out 0x3C6 0xFF
+  out 0x3C8 0x00
+  each (λ i. colour_plan (dac_entry mode i)) n 0
+
+-- the rows of character c of a font of 16 rows, in plane 2
+unfoldable pub glyph_plan : List ℕ → ℕ → Plan (Unit {0})
+glyph_plan font c = each (λ r. put (0xA0000 + 32 * c + r) (glyph_row 16 font c r)) 16 0
+
+-- the rows of n characters from character 0 on
+unfoldable pub glyphs_plan : List ℕ → ℕ → Plan (Unit {0})
+glyphs_plan font n = each (glyph_plan font) n 0
+
+-- plane 2 is reached at A0000 alone, and then planes 0 and 1 again where graphics register 6 has this value
+unfoldable pub font_plan : List ℕ → ℕ → Plan (Unit {0})
+font_plan font window = do
+  sequencer 2 0x04
+  sequencer 4 0x06
+  graphics 5 0x00
+  graphics 6 0x04
+  glyphs_plan font 256
+  sequencer 2 0x03
+  sequencer 4 0x02
+  graphics 5 0x10
+  graphics 6 window
+
+-- byte w of blank cells: a blank and the attribute 07 in turn
+abbrev pub blank_byte : ℕ → ℕ
+blank_byte w = if w % 2 == 0 then 0x20 else 0x07
+
+-- n bytes of blank cells from an address on
+unfoldable pub blank_plan : ℕ → ℕ → Plan (Unit {0})
+blank_plan base n = each (λ w. put (base + w) (blank_byte w)) n 0
+
+-- n bytes of 0 from A0000 on
+unfoldable pub clear_plan : ℕ → Plan (Unit {0})
+clear_plan n = each (λ w. put (0xA0000 + w) 0) n 0
+
+-- what a text mode sets besides registers and palette
+unfoldable pub text_plan : ModeRow → Bool → List ℕ → Plan (Unit {0})
+text_plan row keeps font = do
+  font_plan font (slice_index row.graphics 6)
+  if keeps then Done tt else blank_plan row.base 0x8000
+
+-- what a mode sets besides registers and palette: a graphics mode clears its memory
+unfoldable pub memory_plan : ℕ → ModeRow → Bool → List ℕ → Plan (Unit {0})
+memory_plan mode row keeps font =
+    if is_text mode then text_plan row keeps font
+    else if keeps then Done tt
+    else clear_plan 0x10000
+
+-- setting a mode; bit 7 of AL keeps the memory
+unfoldable pub mode_set_plan : ℕ → ModeRow → Bool → FontSet → Plan (Unit {0})
+mode_set_plan mode row keeps fonts = do
+  registers_plan row
+  palette_plan mode 256
+  memory_plan mode row keeps fonts.f16

@@ -1,0 +1,60 @@
+-- The plan of a service: its cycles in order, of which later ones may depend on the bytes that were read.
+use Rattle.std.specs.Prelude.{ℕ, zero, suc, ◌+◌, Result, Ok, Err}
+use Rattle.vga_bits.specs.declared.refusal.Refusal.{Refusal}
+use Rattle.vga_card.specs.Bus.{Meaning, Place, AtPort, AtAddress}
+
+-- a plan is done and has an answer, or asks for one more cycle
+pub data Plan (A : Type 0) : Type 0 where
+  Done : A → Plan A
+  Write : Place → ℕ → Plan A → Plan A
+  Read : Place → (ℕ → Plan A) → Plan A
+
+-- one plan, and then another that knows its answer
+infixl 10 ◌>>=◌
+abbrev pub ◌>>=◌ : {A B : Type 0} → Plan A → (A → Plan B) → Plan B
+(Done a) >>= f = f a
+(Write place v rest) >>= f = Write place v (rest >>= f)
+(Read place rest) >>= f = Read place (λ b. rest b >>= f)
+
+-- one plan, and then another
+infixl 10 ◌>>◌
+abbrev pub ◌>>◌ : {A B : Type 0} → Plan A → Plan B → Plan B
+p >> q = p >>= λ _. q
+
+-- the byte of a read; a refused one gives FF
+abbrev pub byte_of : Result ℕ Refusal → ℕ
+byte_of (Ok b) = b
+byte_of (Err refusal) = 0xFF
+
+-- what a plan leaves on a bus, and its answer; a refused write leaves what the bus says of it
+abbrev pub run : {S A : Type 0} → Meaning S → Plan A → S → S × A
+run m (Done a) s = (s, a)
+run m (Write place v rest) s = run m rest (m.write s place v).0
+run m (Read place rest) s = let r = m.read s place in run m (rest (byte_of r.1)) r.0
+
+-- a write to a port, a write to an address, a read from a port, a read from an address
+abbrev pub out : ℕ → ℕ → Plan (Unit {0})
+out port v = Write (AtPort port) v (Done tt)
+
+abbrev pub put : ℕ → ℕ → Plan (Unit {0})
+put address v = Write (AtAddress address) v (Done tt)
+
+abbrev pub inp : ℕ → Plan ℕ
+inp port = Read (AtPort port) (λ b. Done b)
+
+abbrev pub get : ℕ → Plan ℕ
+get address = Read (AtAddress address) (λ b. Done b)
+
+-- a byte is read at one address, and written at another
+abbrev pub move : ℕ → ℕ → Plan (Unit {0})
+move from to = Read (AtAddress from) (λ v. put to v)
+
+-- a plan for each number from i on, n of them, in ascending order
+abbrev pub each : (ℕ → Plan (Unit {0})) → ℕ → ℕ → Plan (Unit {0})
+each f zero i = Done tt
+each f (suc n) i = f i >>= λ _. each f n (i + 1)
+
+-- the same, in descending order
+abbrev pub each_down : (ℕ → Plan (Unit {0})) → ℕ → ℕ → Plan (Unit {0})
+each_down f zero i = Done tt
+each_down f (suc n) i = f (i + n) >>= λ _. each_down f n i

@@ -1,0 +1,134 @@
+-- A service whole: its cycles, the registers that it answers, and the BIOS data afterwards.
+-- From the IBM PS/2 and PC BIOS Interface Technical Reference, "Interrupt 10H - Video".
+use Rattle.std.specs.Prelude.{ℕ, ◌+◌, ◌*◌, ◌==◌, if◌then◌else◌, Bool, Option, Some, None, List, Result, Ok, Err}
+use Rattle.vga_bits.specs.declared.refusal.Refusal.{Refusal}
+use Rattle.bios_modes.specs.declared.modes.ModeRow.{ModeRow}
+use Rattle.bios_modes.specs.Modes.{mode_row}
+use Rattle.bios_modes.specs.Bda.{BiosData}
+use Rattle.bios_modes.specs.Begin.{data_of_mode}
+use Rattle.bios_modes.specs.Fonts.{FontSet}
+use Rattle.vga_bits.specs.declared.refusal.Refusal.TheVariants.{NoMode, BadMode}
+use Rattle.bios_services.specs.declared.regs.Regs.{Regs}
+use Rattle.bios_services.specs.declared.reply.Reply.{Reply}
+use Rattle.bios_services.specs.declared.reply.Table.TheVariants.{Empty}
+use Rattle.bios_services.specs.declared.reply.ServiceError.{ServiceError}
+use Rattle.bios_services.specs.declared.reply.ServiceError.TheVariants.{Refused}
+use Rattle.bios_services.specs.declared.call.Call.{Call}
+use Rattle.bios_services.specs.declared.call.Call.TheVariants.{SetMode, InMode}
+use Rattle.bios_services.specs.declared.call.Service.{Service}
+use Rattle.bios_services.specs.declared.call.Service.TheVariants.{SetCursorType, SetCursor, ReadCursor, SelectPage, ScrollUp, ScrollDown, ReadCell, WriteCells, Teletype, ReadMode, ReadAdapter, ReadDisplay}
+use Rattle.bios_services.specs.Plan.{Plan, Done, ◌>>=◌, ◌>>◌}
+use Rattle.bios_services.specs.Cycles.{crtc}
+use Rattle.bios_services.specs.ModeSet.{mode_set_plan}
+use Rattle.bios_services.specs.Cursor.{cell_number, place_of, with_place, with_page, cursor_plan, page_plan}
+use Rattle.bios_services.specs.Cells.{cell_address, read_cell_plan, write_cells_plan}
+use Rattle.bios_services.specs.Scroll.{scroll_up_plan, scroll_down_plan}
+use Rattle.bios_services.specs.Teletype.{teletype_plan}
+use Rattle.bios_services.specs.Calls.{high, low, call_of}
+use Rattle.bios_services.specs.Refusals.{page_named, refusal_in_mode, unknown_refusal}
+
+-- the registers that a service answers, and the BIOS data after it
+abbrev pub Outcome : Type 0
+Outcome = Regs × BiosData
+
+-- the address of the cell at the cursor of a page
+abbrev pub cursor_cell : BiosData → ℕ → ℕ
+cursor_cell d page = cell_address d page (cell_number d (place_of d page))
+
+unfoldable pub set_cursor_type_service : ℕ → BiosData → Regs → Plan Outcome
+set_cursor_type_service cursor_type d r = do
+  crtc d.crtc_address 0x0A (high cursor_type)
+  crtc d.crtc_address 0x0B (low cursor_type)
+  Done (r, record d { cursor_type = cursor_type })
+
+unfoldable pub set_cursor_service : ℕ → ℕ → BiosData → Regs → Plan Outcome
+set_cursor_service page place d r = do
+  cursor_plan (with_place d page place) page
+  Done (r, with_place d page place)
+
+unfoldable pub select_page_service : ℕ → BiosData → Regs → Plan Outcome
+select_page_service page d r = do
+  page_plan d page
+  Done (r, with_page d page)
+
+unfoldable pub read_cell_service : ℕ → BiosData → Regs → Plan Outcome
+read_cell_service page d r = do
+  ax ← read_cell_plan (cursor_cell d page)
+  Done (record r { ax = ax }, d)
+
+unfoldable pub teletype_service : ℕ → BiosData → Regs → Plan Outcome
+teletype_service character d r = do
+  after ← teletype_plan d character
+  Done (r, after)
+
+-- the mode and the columns as low and high byte of AX, and the active page as high byte of BX
+abbrev pub read_mode_of : BiosData → Regs → Regs
+read_mode_of d r = record r { ax = d.mode + 256 * d.columns; bx = low r.bx + 256 * d.page }
+
+-- whether the mode is monochrome, and the memory of the adapter, as high and low byte of BX; its switches in CX
+abbrev pub read_adapter_of : BiosData → Regs → Regs
+read_adapter_of d r = record r { bx = (if d.mode == 0x07 then 0x0103 else 0x0003); cx = 0x0009 }
+
+-- the function is there, and the display is a VGA's in colour
+abbrev pub read_display_of : Regs → Regs
+read_display_of r = record r { ax = 0x1A1A; bx = 0x0008 }
+
+-- what a service answers, and does, that is not refused
+unfoldable pub plan_of : Service → BiosData → Regs → Plan Outcome
+plan_of (SetCursorType cursor_type) d r = set_cursor_type_service cursor_type d r
+plan_of (SetCursor page place) d r = set_cursor_service (page_named d page) place d r
+plan_of (ReadCursor page) d r = Done (record r { cx = d.cursor_type; dx = place_of d (page_named d page) }, d)
+plan_of (SelectPage page) d r = select_page_service page d r
+plan_of (ScrollUp scroll) d r = scroll_up_plan d scroll >> Done (r, d)
+plan_of (ScrollDown scroll) d r = scroll_down_plan d scroll >> Done (r, d)
+plan_of (ReadCell page) d r = read_cell_service (page_named d page) d r
+plan_of (WriteCells page character colour count) d r = write_cells_plan (cursor_cell d (page_named d page)) character colour count >> Done (r, d)
+plan_of (Teletype character) d r = teletype_service character d r
+plan_of ReadMode d r = Done (read_mode_of d r, d)
+plan_of ReadAdapter d r = Done (read_adapter_of d r, d)
+plan_of ReadDisplay d r = Done (read_display_of r, d)
+
+-- what a call answers, and the BIOS data after it
+abbrev pub Answered : Type 0
+Answered = Result Reply Refusal × BiosData
+
+-- a refused call has no cycle, and leaves the BIOS data
+abbrev pub refused : Refusal → BiosData → Plan Answered
+refused why d = Done (Err why, d)
+
+-- registers alone
+abbrev pub answered : Regs → BiosData → Answered
+answered r d = (Ok (record { regs = r; table = Empty }), d)
+
+-- setting a mode, where there is one of this number
+unfoldable pub set_mode_plan : Option ModeRow → ℕ → Bool → FontSet → BiosData → Regs → Plan Answered
+set_mode_plan None mode keeps fonts d r = refused BadMode d
+set_mode_plan (Some row) mode keeps fonts d r = do
+  mode_set_plan mode row keeps fonts
+  Done (answered r (data_of_mode mode row))
+
+-- a service in a mode, or why it is refused
+unfoldable pub unless : Option Refusal → Service → BiosData → Regs → Plan Answered
+unless (Some why) service d r = refused why d
+unless None service d r = do
+  outcome ← plan_of service d r
+  Done (answered outcome.0 outcome.1)
+
+-- a service that needs a mode
+unfoldable pub in_mode_plan : Service → BiosData → Regs → Plan Answered
+in_mode_plan service d r = if d.mode == 0 then refused NoMode d else unless (refusal_in_mode service d) service d r
+
+-- what a call asks for
+abbrev pub asked : Option Call → FontSet → BiosData → Regs → Plan Answered
+asked None fonts d r = refused (unknown_refusal d) d
+asked (Some (SetMode mode keeps)) fonts d r = set_mode_plan (mode_row mode) mode keeps fonts d r
+asked (Some (InMode service)) fonts d r = in_mode_plan service d r
+
+-- the service that the registers ask for; none of them takes a block yet
+abbrev pub service : FontSet → BiosData → Regs → List ℕ → Plan Answered
+service fonts d r block = asked (call_of r) fonts d r
+
+-- a refusal, as one of the reasons why a service answers nothing
+abbrev pub served : Result Reply Refusal → Result Reply ServiceError
+served (Ok reply) = Ok reply
+served (Err why) = Err (Refused why)

@@ -1,0 +1,153 @@
+//! Which service the registers ask for.
+ghost use Rattle.std.specs.Prelude.{◌≡◌};
+ghost use Rattle.bios_services.specs.Calls.{high as high_of, low as low_of, scroll_of as scroll_of_regs, service_of as service_of_regs, call_of};
+
+use crate::regs::Regs;
+use crate::scroll::Scroll;
+
+/// What a call asks for.
+#[derive(Clone, Copy)]
+pub enum Call {
+    /// 00: sets a mode, and keeps the memory where bit 7 of AL is 1. It needs no mode to be set before.
+    SetMode { mode: u8, keeps: bool },
+    /// Any other service.
+    InMode(Service),
+}
+
+/// A service that needs a mode, with its arguments.
+#[derive(Clone, Copy)]
+pub enum Service {
+    /// 01: sets the cursor's first and last scan line.
+    SetCursorType {
+        cursor_type: u16,
+    },
+    /// 02: sets the cursor's place on a page.
+    SetCursor {
+        page: u8,
+        place: u16,
+    },
+    /// 03: answers the cursor's place on a page, and its type.
+    ReadCursor {
+        page: u8,
+    },
+    /// 05: shows a page.
+    SelectPage {
+        page: u8,
+    },
+    /// 06: scrolls a window up.
+    ScrollUp {
+        scroll: Scroll,
+    },
+    /// 07: scrolls a window down.
+    ScrollDown {
+        scroll: Scroll,
+    },
+    /// 08: answers character and attribute at the cursor.
+    ReadCell {
+        page: u8,
+    },
+    /// 09 and 0A: writes a character to some cells from the cursor on; 09 writes the attribute too.
+    WriteCells {
+        page: u8,
+        character: u8,
+        colour: Option<u8>,
+        count: u16,
+    },
+    /// 0E: types a character at the cursor of the active page.
+    Teletype {
+        character: u8,
+    },
+    /// 0F: answers mode, columns and active page.
+    ReadMode,
+    /// 12 with BL = 10: answers what adapter there is.
+    ReadAdapter,
+    /// 1A with AL = 00: answers what display there is.
+    ReadDisplay,
+}
+
+/// The high byte of a register, and its low byte.
+fn high(register: u16) -> u8
+    ensures { result ≡ high_of register }
+{
+    (register / 256) as u8
+}
+
+fn low(register: u16) -> u8
+    ensures { result ≡ low_of register }
+{
+    (register % 256) as u8
+}
+
+/// The window that functions 06 and 07 name.
+fn scroll_of(regs: Regs) -> Scroll
+    ensures { result ≡ scroll_of_regs regs }
+{
+    Scroll {
+        lines: low(regs.ax),
+        fill: high(regs.bx),
+        top: high(regs.cx),
+        left: low(regs.cx),
+        bottom: high(regs.dx),
+        right: low(regs.dx),
+    }
+}
+
+/// Which service that needs a mode the registers ask for, if there is one.
+fn service_of(regs: Regs) -> Option<Service>
+    ensures { result ≡ service_of_regs regs }
+{
+    let al = low(regs.ax);
+    let page = high(regs.bx);
+    match high(regs.ax) {
+        0x01 => Some(Service::SetCursorType {
+            cursor_type: regs.cx,
+        }),
+        0x02 => Some(Service::SetCursor {
+            page,
+            place: regs.dx,
+        }),
+        0x03 => Some(Service::ReadCursor { page }),
+        0x05 => Some(Service::SelectPage { page: al }),
+        0x06 => Some(Service::ScrollUp {
+            scroll: scroll_of(regs),
+        }),
+        0x07 => Some(Service::ScrollDown {
+            scroll: scroll_of(regs),
+        }),
+        0x08 => Some(Service::ReadCell { page }),
+        0x09 => Some(Service::WriteCells {
+            page,
+            character: al,
+            colour: Some(low(regs.bx)),
+            count: regs.cx,
+        }),
+        0x0A => Some(Service::WriteCells {
+            page,
+            character: al,
+            colour: None,
+            count: regs.cx,
+        }),
+        0x0E => Some(Service::Teletype { character: al }),
+        0x0F => Some(Service::ReadMode),
+        0x12 if low(regs.bx) == 0x10 => Some(Service::ReadAdapter),
+        0x1A if al == 0x00 => Some(Service::ReadDisplay),
+        _ => None,
+    }
+}
+
+/// What the registers ask for, if there is such a service.
+pub(crate) fn decode(regs: Regs) -> Option<Call>
+    ensures { result ≡ call_of regs }
+{
+    let al = low(regs.ax);
+    if high(regs.ax) == 0x00 {
+        return Some(Call::SetMode {
+            mode: al % 128,
+            keeps: al >= 128,
+        });
+    }
+    match service_of(regs) {
+        Some(service) => Some(Call::InMode(service)),
+        None => None,
+    }
+}

@@ -1,0 +1,96 @@
+//! Cells of text.
+ghost use Rattle.std.specs.Prelude.{◌≡◌, ◌<◌, ◌≤◌, ◌+◌, ◌*◌, ◌^◌};
+ghost use Rattle.bios_services.specs.Plan.{run};
+ghost use Rattle.bios_services.specs.Bounds.{IsSet, pages_of};
+ghost use Rattle.bios_services.specs.Cells.{page_address as page_address_of, cell_address as cell_address_of, cells_of, read_cell_plan, colour_plan, write_cell_plan, write_cells_plan};
+
+use crate::cycles::{get, put};
+use bios_modes::Bda;
+use vga_card::Bus;
+
+/// Where the pages of mode 7 begin, and those of mode 3.
+const MONOCHROME_BASE: u32 = 0xB0000;
+
+const COLOUR_BASE: u32 = 0xB8000;
+
+/// Where a page of text begins.
+pub(crate) fn page_address(bda: &Bda, page: u8) -> u32
+    requires data { IsSet bda.now }
+    requires page { page < pages_of bda.now }
+    ensures value { result ≡ page_address_of bda.now page }
+    ensures small { result < 2 ^ 20 }
+{
+    let base = if bda.mode() == 0x07 {
+        MONOCHROME_BASE
+    } else {
+        COLOUR_BASE
+    };
+    base + bda.size() as u32 * page as u32
+}
+
+/// The address of cell q of a page.
+pub(crate) fn cell_address(bda: &Bda, page: u8, q: u32) -> u32
+    requires data { IsSet bda.now }
+    requires page { page < pages_of bda.now }
+    requires cell { q < 100000 }
+    ensures value { result ≡ cell_address_of bda.now page q }
+    ensures small { result < 2 ^ 21 }
+{
+    page_address(bda, page) + 2 * q
+}
+
+/// How many cells a page has.
+pub(crate) fn cells(bda: &Bda) -> u32
+    requires { IsSet bda.now }
+    ensures { result ≡ cells_of bda.now }
+{
+    bda.columns() as u32 * (bda.last_row() as u32 + 1)
+}
+
+/// Reads the character of a cell as the low byte of a word, its attribute as the high one.
+#[tactic(auto, using(crate::proofs::RunLemmas::run_bind), unfolding(crate::specs::Cells::read_cell_plan))]
+pub(crate) fn read_cell<B: Bus>(bus: &mut B, address: u32) -> u16
+    requires { address < 2 ^ 30 }
+    ensures { (bus.new, result) ≡ run B.meaning (read_cell_plan address) bus.old }
+{
+    let character = get(bus, address);
+    let colour = get(bus, address + 1);
+    character as u16 + 256 * colour as u16
+}
+
+/// Writes an attribute, where one is to be written.
+fn write_colour<B: Bus>(bus: &mut B, address: u32, colour: Option<u8>)
+    ensures { bus.new ≡ (run B.meaning (colour_plan address colour) bus.old).0 }
+{
+    if let Some(colour) = colour {
+        put(bus, address, colour);
+    }
+}
+
+/// Writes a character to a cell, and its attribute where one is given.
+#[tactic(auto, using(crate::proofs::RunLemmas::run_bind), unfolding(crate::specs::Cells::write_cell_plan))]
+pub(crate) fn write_cell<B: Bus>(bus: &mut B, address: u32, character: u8, colour: Option<u8>)
+    requires { address < 2 ^ 30 }
+    ensures { bus.new ≡ (run B.meaning (write_cell_plan address character colour) bus.old).0 }
+{
+    put(bus, address, character);
+    write_colour(bus, address + 1, colour);
+}
+
+/// Writes a character to n cells, and its attribute where one is given.
+#[tactic(auto, using(crate::proofs::RunLemmas::run_bind), unfolding(crate::specs::Cells::write_cells_plan))]
+pub(crate) fn write_cells<B: Bus>(
+    bus: &mut B,
+    address: u32,
+    character: u8,
+    colour: Option<u8>,
+    n: u32,
+)
+    requires address { address < 2 ^ 21 }
+    requires few { n ≤ 65535 }
+    ensures { bus.new ≡ (run B.meaning (write_cells_plan address character colour n) bus.old).0 }
+{
+    for i in 0..n {
+        write_cell(bus, address + 2 * i, character, colour);
+    }
+}

@@ -1,0 +1,83 @@
+//! The cursor and the pages.
+ghost use Rattle.std.specs.Prelude.{◌≡◌, ◌<◌, ◌≤◌, ◌+◌, ◌*◌, ◌/◌, ◌^◌};
+ghost use Rattle.bios_services.specs.Plan.{run};
+ghost use Rattle.bios_services.specs.Bounds.{IsSet, pages_of};
+ghost use Rattle.bios_services.specs.Cursor.{cell_number as cell_number_of, word_plan, cursor_address as cursor_address_of, cursor_plan, start_address as start_address_of, with_page, page_plan};
+
+use crate::cycles::indexed;
+use crate::mode_set::is_text;
+use bios_modes::Bda;
+use vga_card::Bus;
+
+/// The CRT controller's registers of the start address and of the cursor's address, each the first of two.
+const START_ADDRESS: u8 = 0x0C;
+
+const CURSOR_ADDRESS: u8 = 0x0E;
+
+/// The number of the cell at a place, counted along the rows.
+pub(crate) fn cell_number(bda: &Bda, place: u16) -> u32
+    requires { IsSet bda.now }
+    ensures value { result ≡ cell_number_of bda.now place }
+    ensures small { result ≤ 20655 }
+{
+    bda.columns() as u32 * (place / 256) as u32 + (place % 256) as u32
+}
+
+/// Writes a word to two registers of the CRT controller, the high byte to the first.
+#[tactic(auto, using(crate::proofs::RunLemmas::run_bind), unfolding(crate::specs::Cursor::word_plan))]
+fn write_word<B: Bus>(bus: &mut B, port: u16, i: u8, n: u16)
+    requires port { port < 1000 }
+    requires register { i < 255 }
+    ensures { bus.new ≡ (run B.meaning (word_plan port i n) bus.old).0 }
+{
+    indexed(bus, port, i, (n / 256) as u8);
+    indexed(bus, port, i + 1, (n % 256) as u8);
+}
+
+/// Which cell of the memory the cursor of a page of text stands on.
+fn cursor_address(bda: &Bda, page: u8) -> u16
+    requires data { IsSet bda.now }
+    requires page { page < 8 }
+    requires text { bda.now.size * page ≤ 65536 }
+    ensures { result ≡ cursor_address_of bda.now page }
+{
+    let start = bda.size() as u32 * page as u32 / 2;
+    (start + cell_number(bda, bda.cursor_place(page as usize))) as u16
+}
+
+/// Shows the cursor of a page where it stands, in text on the active page.
+#[tactic(auto, using(crate::proofs::RunLemmas::run_bind), unfolding(crate::specs::Cursor::cursor_plan))]
+pub(crate) fn show_cursor<B: Bus>(bus: &mut B, bda: &Bda, page: u8)
+    requires data { IsSet bda.now }
+    requires page { page < pages_of bda.now }
+    ensures { bus.new ≡ (run B.meaning (cursor_plan bda.now page) bus.old).0 }
+{
+    if is_text(bda.mode()) && page == bda.page() {
+        write_word(
+            bus,
+            bda.crtc_address(),
+            CURSOR_ADDRESS,
+            cursor_address(bda, page),
+        );
+    }
+}
+
+/// Shows a page, with its cursor, and makes it the active one.
+#[tactic(auto, using(crate::proofs::RunLemmas::run_bind), unfolding(crate::specs::Cursor::page_plan))]
+pub(crate) fn show_page<B: Bus>(bus: &mut B, bda: &mut Bda, page: u8)
+    requires data { IsSet bda.old }
+    requires page { page < pages_of bda.old }
+    ensures cycles { bus.new ≡ (run B.meaning (page_plan bda.old page) bus.old).0 }
+    ensures data { bda.new ≡ with_page bda.old page }
+{
+    let start = bda.size() as u32 * page as u32;
+    let address = if is_text(bda.mode()) {
+        start / 2
+    } else {
+        start
+    };
+    write_word(bus, bda.crtc_address(), START_ADDRESS, address as u16);
+    bda.set_page(page);
+    bda.set_start(start as u16);
+    show_cursor(bus, bda, page);
+}

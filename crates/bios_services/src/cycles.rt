@@ -1,0 +1,132 @@
+//! The cycles that services are made of. A refused write does nothing, and a refused read gives FF.
+ghost use Rattle.std.specs.Prelude.{◌≡◌, ◌<◌, ◌≤◌, ◌^◌, length};
+ghost use Rattle.bios_services.specs.Plan.{run, out as out_plan, put as put_plan, inp as inp_plan, get as get_plan, move as move_plan};
+ghost use Rattle.bios_services.specs.Cycles.{indexed as indexed_plan, sequencer as sequencer_plan, graphics as graphics_plan, attribute as attribute_plan, group as group_plan, attribute_group as attribute_group_plan, expect_index as expect_index_plan, show_palette as show_palette_plan};
+
+use vga_card::Bus;
+
+/// What a refused read gives.
+const REFUSED: u8 = 0xFF;
+
+/// The index ports of sequencer and graphics controller, and the port of the attribute controller.
+pub(crate) const SEQUENCER: u16 = 0x3C4;
+
+pub(crate) const GRAPHICS: u16 = 0x3CE;
+
+const ATTRIBUTE: u16 = 0x3C0;
+
+/// The attribute controller's index 0 with the palette address source on.
+const PALETTE_SHOWN: u8 = 0x20;
+
+/// Writes a byte to a port.
+pub(crate) fn out<B: Bus>(bus: &mut B, port: u16, value: u8)
+    ensures { bus.new ≡ (run B.meaning (out_plan port value) bus.old).0 }
+{
+    let _ = bus.out(port, value);
+}
+
+/// Reads a byte from a port.
+pub(crate) fn inp<B: Bus>(bus: &mut B, port: u16) -> u8
+    ensures { (bus.new, result) ≡ run B.meaning (inp_plan port) bus.old }
+{
+    match bus.inp(port) {
+        Ok(byte) => byte,
+        Err(_) => REFUSED,
+    }
+}
+
+/// Writes a byte to an address.
+pub(crate) fn put<B: Bus>(bus: &mut B, address: u32, value: u8)
+    ensures { bus.new ≡ (run B.meaning (put_plan address value) bus.old).0 }
+{
+    let _ = bus.put(address, value);
+}
+
+/// Reads a byte from an address.
+pub(crate) fn get<B: Bus>(bus: &mut B, address: u32) -> u8
+    ensures { (bus.new, result) ≡ run B.meaning (get_plan address) bus.old }
+{
+    match bus.get(address) {
+        Ok(byte) => byte,
+        Err(_) => REFUSED,
+    }
+}
+
+/// Reads a byte from an address, and writes it to another.
+pub(crate) fn move_byte<B: Bus>(bus: &mut B, from: u32, to: u32)
+    ensures { bus.new ≡ (run B.meaning (move_plan from to) bus.old).0 }
+{
+    let byte = get(bus, from);
+    put(bus, to, byte);
+}
+
+/// Writes register i behind an index port, whose data port is the next.
+pub(crate) fn indexed<B: Bus>(bus: &mut B, port: u16, i: u8, value: u8)
+    requires { port < 1000 }
+    ensures { bus.new ≡ (run B.meaning (indexed_plan port i value) bus.old).0 }
+{
+    out(bus, port, i);
+    out(bus, port + 1, value);
+}
+
+/// Writes a register of the sequencer.
+pub(crate) fn sequencer<B: Bus>(bus: &mut B, i: u8, value: u8)
+    ensures { bus.new ≡ (run B.meaning (sequencer_plan i value) bus.old).0 }
+{
+    indexed(bus, SEQUENCER, i, value);
+}
+
+/// Writes a register of the graphics controller.
+pub(crate) fn graphics<B: Bus>(bus: &mut B, i: u8, value: u8)
+    ensures { bus.new ≡ (run B.meaning (graphics_plan i value) bus.old).0 }
+{
+    indexed(bus, GRAPHICS, i, value);
+}
+
+/// Writes a register of the attribute controller, where its next write is an index.
+fn attribute<B: Bus>(bus: &mut B, i: u8, value: u8)
+    ensures { bus.new ≡ (run B.meaning (attribute_plan i value) bus.old).0 }
+{
+    out(bus, ATTRIBUTE, i);
+    out(bus, ATTRIBUTE, value);
+}
+
+/// Writes registers 0, 1, .. behind an index port.
+#[tactic(auto, using(crate::proofs::RunLemmas::run_bind), unfolding(crate::specs::Cycles::group))]
+pub(crate) fn group<B: Bus>(bus: &mut B, port: u16, values: &[u8])
+    requires port { port < 1000 }
+    requires few { length values.now ≤ 32 }
+    ensures { bus.new ≡ (run B.meaning (group_plan port values.now) bus.old).0 }
+{
+    for i in 0..values.len() {
+        indexed(bus, port, i as u8, values[i]);
+    }
+}
+
+/// Writes registers 0, 1, .. of the attribute controller.
+#[tactic(auto, using(crate::proofs::RunLemmas::run_bind), unfolding(crate::specs::Cycles::attribute_group))]
+pub(crate) fn attribute_group<B: Bus>(bus: &mut B, values: &[u8])
+    requires { length values.now ≤ 32 }
+    ensures { bus.new ≡ (run B.meaning (attribute_group_plan values.now) bus.old).0 }
+{
+    for i in 0..values.len() {
+        attribute(bus, i as u8, values[i]);
+    }
+}
+
+/// Makes the next write to the attribute controller an index, by a read of input status 1.
+pub(crate) fn expect_index<B: Bus>(bus: &mut B, crtc_address: u16)
+    requires { crtc_address < 1000 }
+    ensures { bus.new ≡ (run B.meaning (expect_index_plan crtc_address) bus.old).0 }
+{
+    inp(bus, crtc_address + 6);
+}
+
+/// Shows the palette again.
+pub(crate) fn show_palette<B: Bus>(bus: &mut B, crtc_address: u16)
+    requires { crtc_address < 1000 }
+    ensures { bus.new ≡ (run B.meaning (show_palette_plan crtc_address) bus.old).0 }
+{
+    out(bus, ATTRIBUTE, PALETTE_SHOWN);
+    expect_index(bus, crtc_address);
+}

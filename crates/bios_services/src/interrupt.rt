@@ -1,0 +1,298 @@
+//! Interrupt 10: which service is asked for, whether it is refused, and what it does.
+ghost use Rattle.std.specs.Prelude.{◌≡◌, ◌≢◌, ◌<◌, ◌≤◌, ◌^◌, None, Ok};
+ghost use Rattle.bios_modes.specs.Valid.{IsValid};
+ghost use Rattle.bios_services.specs.Plan.{run};
+ghost use Rattle.bios_services.specs.Calls.{call_of};
+ghost use Rattle.bios_services.specs.Bounds.{IsSet, StaysInMode, pages_of};
+ghost use Rattle.bios_services.specs.Cursor.{place_of, row_of};
+ghost use Rattle.bios_services.specs.Refusals.{refusal_in_mode as refusal_in_mode_of};
+ghost use Rattle.bios_modes.specs.Modes.{mode_row as mode_row_of};
+ghost use Rattle.bios_services.specs.declared.reply.Table.TheVariants.{Empty};
+ghost use Rattle.bios_services.specs.Service.{cursor_cell as cursor_cell_of, set_mode_plan, in_mode_plan, read_mode_of, read_adapter_of, read_display_of, set_cursor_type_service, set_cursor_service, select_page_service, read_cell_service, teletype_service, plan_of, asked, service, served};
+
+use crate::call::{Call, Service, decode};
+use crate::cells::{cell_address, read_cell, write_cells};
+use crate::cursor::{cell_number, show_cursor, show_page};
+use crate::cycles::indexed;
+use crate::mode_set;
+use crate::refusals::{page_named, refusal_in_mode, unknown_refusal};
+use crate::regs::Regs;
+use crate::reply::{Reply, ServiceError, Table};
+use crate::teletype::teletype;
+use bios_modes::{Bda, Fonts, mode_row};
+use vga_bits::Refusal;
+use vga_card::Bus;
+
+/// The CRT controller's registers of the cursor's first and last scan line.
+const CURSOR_START: u8 = 0x0A;
+
+const CURSOR_END: u8 = 0x0B;
+
+/// Sets the cursor's first and last scan line.
+#[tactic(auto, using(crate::proofs::RunLemmas::run_bind), unfolding(crate::specs::Service::set_cursor_type_service))]
+fn set_cursor_type<B: Bus>(bus: &mut B, bda: &mut Bda, cursor_type: u16, regs: Regs) -> Regs
+    requires { IsSet bda.old }
+    ensures answer { (bus.new, (result, bda.new)) ≡ run B.meaning (set_cursor_type_service cursor_type bda.old regs) bus.old }
+    ensures stays { StaysInMode bda.old bda.new }
+{
+    let port = bda.crtc_address();
+    indexed(bus, port, CURSOR_START, (cursor_type / 256) as u8);
+    indexed(bus, port, CURSOR_END, (cursor_type % 256) as u8);
+    bda.set_cursor_type(cursor_type);
+    regs
+}
+
+/// Sets the cursor's place on a page.
+#[tactic(auto, using(crate::proofs::RunLemmas::run_bind), unfolding(crate::specs::Service::set_cursor_service))]
+fn set_cursor<B: Bus>(bus: &mut B, bda: &mut Bda, page: u8, place: u16, regs: Regs) -> Regs
+    requires data { IsSet bda.old }
+    requires page { page < pages_of bda.old }
+    ensures answer { (bus.new, (result, bda.new)) ≡ run B.meaning (set_cursor_service page place bda.old regs) bus.old }
+    ensures stays { StaysInMode bda.old bda.new }
+{
+    bda.set_cursor_place(page as usize, place);
+    show_cursor(bus, bda, page);
+    regs
+}
+
+/// Answers the cursor's type and its place on a page.
+fn read_cursor(bda: &Bda, page: u8, regs: Regs) -> Regs
+    requires { page < 8 }
+    ensures { result ≡ record regs { cx = bda.now.cursor_type; dx = place_of bda.now page } }
+{
+    Regs {
+        cx: bda.cursor_type(),
+        dx: bda.cursor_place(page as usize),
+        ..regs
+    }
+}
+
+/// Shows a page.
+#[tactic(auto, using(crate::proofs::RunLemmas::run_bind), unfolding(crate::specs::Service::select_page_service))]
+fn select_page<B: Bus>(bus: &mut B, bda: &mut Bda, page: u8, regs: Regs) -> Regs
+    requires data { IsSet bda.old }
+    requires page { page < pages_of bda.old }
+    ensures answer { (bus.new, (result, bda.new)) ≡ run B.meaning (select_page_service page bda.old regs) bus.old }
+    ensures stays { StaysInMode bda.old bda.new }
+{
+    show_page(bus, bda, page);
+    regs
+}
+
+/// The address of the cell at the cursor of a page.
+fn cursor_cell(bda: &Bda, page: u8) -> u32
+    requires data { IsSet bda.now }
+    requires page { page < pages_of bda.now }
+    ensures value { result ≡ cursor_cell_of bda.now page }
+    ensures small { result < 2 ^ 21 }
+{
+    let cell = cell_number(bda, bda.cursor_place(page as usize));
+    cell_address(bda, page, cell)
+}
+
+/// Answers character and attribute of the cell at the cursor of a page.
+#[tactic(auto, using(crate::proofs::RunLemmas::run_bind), unfolding(crate::specs::Service::read_cell_service))]
+fn read_cursor_cell<B: Bus>(bus: &mut B, bda: &Bda, page: u8, regs: Regs) -> Regs
+    requires data { IsSet bda.now }
+    requires page { page < pages_of bda.now }
+    ensures { (bus.new, (result, bda.now)) ≡ run B.meaning (read_cell_service page bda.now regs) bus.old }
+{
+    Regs {
+        ax: read_cell(bus, cursor_cell(bda, page)),
+        ..regs
+    }
+}
+
+/// Types a character at the cursor of the active page.
+#[tactic(auto, using(crate::proofs::RunLemmas::run_bind), unfolding(crate::specs::Service::teletype_service))]
+fn type_at_cursor<B: Bus>(bus: &mut B, bda: &mut Bda, character: u8, regs: Regs) -> Regs
+    requires data { IsSet bda.old }
+    requires row { row_of (place_of bda.old bda.old.page) ≤ bda.old.last_row }
+    ensures answer { (bus.new, (result, bda.new)) ≡ run B.meaning (teletype_service character bda.old regs) bus.old }
+    ensures stays { StaysInMode bda.old bda.new }
+{
+    teletype(bus, bda, character);
+    regs
+}
+
+/// Answers the mode, the columns and the active page.
+fn read_mode(bda: &Bda, regs: Regs) -> Regs
+    requires { IsSet bda.now }
+    ensures { result ≡ read_mode_of bda.now regs }
+{
+    Regs {
+        ax: bda.mode() as u16 + 256 * bda.columns(),
+        bx: regs.bx % 256 + 256 * bda.page() as u16,
+        ..regs
+    }
+}
+
+/// Answers what adapter there is.
+fn read_adapter(bda: &Bda, regs: Regs) -> Regs
+    ensures { result ≡ read_adapter_of bda.now regs }
+{
+    let bx = if bda.mode() == 0x07 { 0x0103 } else { 0x0003 };
+    Regs {
+        bx,
+        cx: 0x0009,
+        ..regs
+    }
+}
+
+/// Answers what display there is.
+fn read_display(regs: Regs) -> Regs
+    ensures { result ≡ read_display_of regs }
+{
+    Regs {
+        ax: 0x1A1A,
+        bx: 0x0008,
+        ..regs
+    }
+}
+
+/// Does what a service does that is not refused.
+#[tactic(auto, using(crate::proofs::RunLemmas::run_bind), unfolding(crate::specs::Service::plan_of, crate::specs::Refusals::refusal_in_mode))]
+fn perform<B: Bus>(bus: &mut B, bda: &mut Bda, service: Service, regs: Regs) -> Regs
+    requires allowed { refusal_in_mode_of service bda.old ≡ None }
+    requires data { IsSet bda.old }
+    ensures answer { (bus.new, (result, bda.new)) ≡ run B.meaning (plan_of service bda.old regs) bus.old }
+    ensures stays { StaysInMode bda.old bda.new }
+{
+    match service {
+        Service::SetCursorType { cursor_type } => set_cursor_type(bus, bda, cursor_type, regs),
+        Service::SetCursor { page, place } => {
+            let page = page_named(bda, page);
+            set_cursor(bus, bda, page, place, regs)
+        }
+        Service::ReadCursor { page } => read_cursor(bda, page_named(bda, page), regs),
+        Service::SelectPage { page } => select_page(bus, bda, page, regs),
+        Service::ScrollUp { scroll } => {
+            scroll.up(bus, bda);
+            regs
+        }
+        Service::ScrollDown { scroll } => {
+            scroll.down(bus, bda);
+            regs
+        }
+        Service::ReadCell { page } => read_cursor_cell(bus, bda, page_named(bda, page), regs),
+        Service::WriteCells {
+            page,
+            character,
+            colour,
+            count,
+        } => {
+            let address = cursor_cell(bda, page_named(bda, page));
+            write_cells(bus, address, character, colour, count as u32);
+            regs
+        }
+        Service::Teletype { character } => type_at_cursor(bus, bda, character, regs),
+        Service::ReadMode => read_mode(bda, regs),
+        Service::ReadAdapter => read_adapter(bda, regs),
+        Service::ReadDisplay => read_display(regs),
+    }
+}
+
+/// Does what a service does that is not refused, over valid data of a mode, which are valid again.
+#[tactic(auto, using(crate::proofs::BoundLemmas::set_of_valid, crate::proofs::BoundLemmas::stays_valid))]
+fn perform_allowed<B: Bus>(bus: &mut B, bda: &mut Bda, service: Service, regs: Regs) -> Regs
+    requires allowed { refusal_in_mode_of service bda.old ≡ None }
+    requires valid { IsValid bda.old }
+    requires set { bda.old.mode ≢ 0 }
+    ensures answer { (bus.new, (result, bda.new)) ≡ run B.meaning (plan_of service bda.old regs) bus.old }
+    ensures valid { IsValid bda.new }
+{
+    perform(bus, bda, service, regs)
+}
+
+/// The answer of registers alone.
+fn answered(regs: Regs) -> Result<Reply, Refusal>
+    ensures { result ≡ Ok (record { regs = regs; table = Empty }) }
+{
+    Ok(Reply {
+        regs,
+        table: Table::Empty,
+    })
+}
+
+/// Sets a mode, where there is one of this number.
+#[tactic(auto, using(crate::proofs::RunLemmas::run_bind, crate::proofs::BoundLemmas::begins_valid), unfolding(crate::specs::Service::set_mode_plan))]
+fn set_mode<B: Bus>(
+    bus: &mut B,
+    bda: &mut Bda,
+    fonts: &Fonts,
+    mode: u8,
+    keeps: bool,
+    regs: Regs,
+) -> Result<Reply, Refusal>
+    requires { IsValid bda.old }
+    ensures answer { (bus.new, (result, bda.new)) ≡ run B.meaning (set_mode_plan (mode_row_of mode) mode keeps fonts.now bda.old regs) bus.old }
+    ensures valid { IsValid bda.new }
+{
+    let Some(row) = mode_row(mode) else {
+        return Err(Refusal::BadMode);
+    };
+    mode_set::set_mode(bus, mode, &row, keeps, fonts);
+    bda.begin_mode(mode, &row);
+    answered(regs)
+}
+
+/// Does a service that needs a mode, unless it is refused.
+#[tactic(auto, using(crate::proofs::RunLemmas::run_bind, crate::proofs::BoundLemmas::set_of_valid), unfolding(crate::specs::Service::in_mode_plan, crate::specs::Service::unless))]
+fn in_mode<B: Bus>(
+    bus: &mut B,
+    bda: &mut Bda,
+    service: Service,
+    regs: Regs,
+) -> Result<Reply, Refusal>
+    requires { IsValid bda.old }
+    ensures answer { (bus.new, (result, bda.new)) ≡ run B.meaning (in_mode_plan service bda.old regs) bus.old }
+    ensures valid { IsValid bda.new }
+{
+    if bda.mode() == 0 {
+        return Err(Refusal::NoMode);
+    }
+    if let Some(why) = refusal_in_mode(service, bda) {
+        return Err(why);
+    }
+    answered(perform_allowed(bus, bda, service, regs))
+}
+
+/// Does what a call asks for, unless it is refused.
+fn do_call<B: Bus>(bus: &mut B, bda: &mut Bda, fonts: &Fonts, regs: Regs) -> Result<Reply, Refusal>
+    requires { IsValid bda.old }
+    ensures answer { (bus.new, (result, bda.new)) ≡ run B.meaning (asked (call_of regs) fonts.now bda.old regs) bus.old }
+    ensures valid { IsValid bda.new }
+{
+    match decode(regs) {
+        None => Err(unknown_refusal(bda)),
+        Some(Call::SetMode { mode, keeps }) => set_mode(bus, bda, fonts, mode, keeps, regs),
+        Some(Call::InMode(service)) => in_mode(bus, bda, service, regs),
+    }
+}
+
+/// Does the service that the registers ask for, as cycles over a bus.
+///
+/// Registers that a service does not answer stay as they are handed in. A service is refused by name, and
+/// then has no cycle and leaves the BIOS data: `NoMode` before a mode is set, `BadFunction`, `BadMode`,
+/// `BadPage`, `Outside` or `CountPast`; of several the first is answered. Within a service a cycle that the
+/// bus refuses does nothing, or gives FF (hexadecimal). The BIOS data must be valid, and are so afterwards.
+pub fn int10<B: Bus>(
+    bus: &mut B,
+    bda: &mut Bda,
+    fonts: &Fonts,
+    regs: Regs,
+    _block: &[u8],
+) -> Result<Reply, ServiceError>
+    requires { IsValid bda.old }
+    // The cycles of the service, in order.
+    ensures cycles { bus.new ≡ (run B.meaning (service fonts.now bda.old regs _block.now) bus.old).0 }
+    // Its answer, and the BIOS data afterwards.
+    ensures answer { result ≡ served (run B.meaning (service fonts.now bda.old regs _block.now) bus.old).1.0 }
+    ensures data { bda.new ≡ (run B.meaning (service fonts.now bda.old regs _block.now) bus.old).1.1 }
+    ensures valid { IsValid bda.new }
+{
+    match do_call(bus, bda, fonts, regs) {
+        Ok(reply) => Ok(reply),
+        Err(refusal) => Err(ServiceError::Refused(refusal)),
+    }
+}

@@ -1,0 +1,193 @@
+//! Setting a mode: every register, the palette, the font of a text mode, and the memory.
+ghost use Rattle.std.specs.Prelude.{◌≡◌, ◌<◌, ◌≤◌, ◌+◌, ◌*◌, ◌^◌, IsTrue, false, if◌then◌else◌};
+ghost use Rattle.bios_modes.specs.Palette.{is_mode, dac_entry as entry_of};
+ghost use Rattle.bios_services.specs.Plan.{run};
+ghost use Rattle.bios_services.specs.ModeSet.{is_text as is_text_mode, registers_plan, colour_plan, palette_plan, glyph_plan, glyphs_plan, font_plan, blank_byte as blank_byte_of, blank_plan, clear_plan, text_plan, memory_plan, mode_set_plan};
+
+use crate::cycles::{
+    GRAPHICS, SEQUENCER, attribute_group, expect_index, graphics, group, indexed, out, put,
+    sequencer, show_palette,
+};
+use bios_modes::{Font, Fonts, ModeRow, dac_entry};
+use vga_card::Bus;
+
+/// The ports of the miscellaneous output register and of the DAC.
+const MISCELLANEOUS: u16 = 0x3C2;
+
+const DAC_MASK: u16 = 0x3C6;
+
+const DAC_WRITE_INDEX: u16 = 0x3C8;
+
+const DAC_DATA: u16 = 0x3C9;
+
+/// The CRT controller's register that protects others by its bit 7.
+const VERTICAL_RETRACE_END: usize = 0x11;
+
+/// Where glyphs and the pages of graphics modes stand.
+const GRAPHICS_BASE: u32 = 0xA0000;
+
+/// How many bytes a text mode clears, and a graphics mode.
+const TEXT_LEN: u32 = 0x8000;
+
+const GRAPHICS_LEN: u32 = 0x10000;
+
+/// Whether a mode is one of the two of text.
+pub(crate) fn is_text(mode: u8) -> bool
+    ensures { result ≡ is_text_mode mode }
+{
+    mode == 0x03 || mode == 0x07
+}
+
+/// Writes all registers.
+#[tactic(auto, using(crate::proofs::RunLemmas::run_bind), unfolding(crate::specs::ModeSet::registers_plan))]
+fn write_registers<B: Bus>(bus: &mut B, row: &ModeRow)
+    requires { row.now.crtc_address < 1000 }
+    ensures { bus.new ≡ (run B.meaning (registers_plan row.now) bus.old).0 }
+{
+    out(bus, MISCELLANEOUS, row.misc);
+    group(bus, SEQUENCER, &row.sequencer);
+    let unprotected = row.crtc[VERTICAL_RETRACE_END] & 0x7F;
+    indexed(
+        bus,
+        row.crtc_address,
+        VERTICAL_RETRACE_END as u8,
+        unprotected,
+    );
+    group(bus, row.crtc_address, &row.crtc);
+    group(bus, GRAPHICS, &row.graphics);
+    expect_index(bus, row.crtc_address);
+    attribute_group(bus, &row.attribute);
+    show_palette(bus, row.crtc_address);
+}
+
+/// Writes red, green and blue of the DAC's next entry.
+#[tactic(auto, using(crate::proofs::RunLemmas::run_bind), unfolding(crate::specs::ModeSet::colour_plan))]
+fn write_colour<B: Bus>(bus: &mut B, colour: [u8; 3])
+    ensures { bus.new ≡ (run B.meaning (colour_plan colour) bus.old).0 }
+{
+    out(bus, DAC_DATA, colour[0]);
+    out(bus, DAC_DATA, colour[1]);
+    out(bus, DAC_DATA, colour[2]);
+}
+
+/// Writes the DAC's mask, and the first n entries of a mode's palette.
+#[tactic(auto, using(crate::proofs::RunLemmas::run_bind), unfolding(crate::specs::ModeSet::palette_plan))]
+fn write_palette<B: Bus>(bus: &mut B, mode: u8, n: u16)
+    requires mode { IsTrue (is_mode mode) }
+    requires few { n ≤ 256 }
+    ensures { bus.new ≡ (run B.meaning (palette_plan mode n) bus.old).0 }
+{
+    out(bus, DAC_MASK, 0xFF);
+    out(bus, DAC_WRITE_INDEX, 0x00);
+    for i in 0..n {
+        write_colour(bus, dac_entry(mode, i as u8));
+    }
+}
+
+/// Writes the 16 rows of a character's glyph.
+#[tactic(auto, using(crate::proofs::RunLemmas::run_bind), unfolding(crate::specs::ModeSet::glyph_plan))]
+fn write_glyph<B: Bus>(bus: &mut B, font: &Font<16>, c: u8)
+    ensures { bus.new ≡ (run B.meaning (glyph_plan font.now c) bus.old).0 }
+{
+    for r in 0..16 {
+        put(
+            bus,
+            GRAPHICS_BASE + 32 * c as u32 + r as u32,
+            font.byte(c, r),
+        );
+    }
+}
+
+/// Writes the glyphs of the first n characters.
+#[tactic(auto, using(crate::proofs::RunLemmas::run_bind), unfolding(crate::specs::ModeSet::glyphs_plan))]
+fn write_glyphs<B: Bus>(bus: &mut B, font: &Font<16>, n: u16)
+    requires { n ≤ 256 }
+    ensures { bus.new ≡ (run B.meaning (glyphs_plan font.now n) bus.old).0 }
+{
+    for c in 0..n {
+        write_glyph(bus, font, c as u8);
+    }
+}
+
+/// Writes the font to plane 2, and reaches planes 0 and 1 again, in the window of this value of graphics register 6.
+#[tactic(auto, using(crate::proofs::RunLemmas::run_bind), unfolding(crate::specs::ModeSet::font_plan))]
+fn write_font<B: Bus>(bus: &mut B, font: &Font<16>, window: u8)
+    ensures { bus.new ≡ (run B.meaning (font_plan font.now window) bus.old).0 }
+{
+    sequencer(bus, 2, 0x04);
+    sequencer(bus, 4, 0x06);
+    graphics(bus, 5, 0x00);
+    graphics(bus, 6, 0x04);
+    write_glyphs(bus, font, 256);
+    sequencer(bus, 2, 0x03);
+    sequencer(bus, 4, 0x02);
+    graphics(bus, 5, 0x10);
+    graphics(bus, 6, window);
+}
+
+/// Byte w of blank cells: a blank, or its attribute.
+fn blank_byte(w: u32) -> u8
+    ensures { result ≡ blank_byte_of w }
+{
+    if w % 2 == 0 { 0x20 } else { 0x07 }
+}
+
+/// Writes n bytes of blank cells from an address on.
+#[tactic(auto, using(crate::proofs::RunLemmas::run_bind), unfolding(crate::specs::ModeSet::blank_plan))]
+fn write_blanks<B: Bus>(bus: &mut B, base: u32, n: u32)
+    requires { base + n < 2 ^ 32 }
+    ensures { bus.new ≡ (run B.meaning (blank_plan base n) bus.old).0 }
+{
+    for w in 0..n {
+        put(bus, base + w, blank_byte(w));
+    }
+}
+
+/// Writes n bytes of 0 to the memory of a graphics mode.
+#[tactic(auto, using(crate::proofs::RunLemmas::run_bind), unfolding(crate::specs::ModeSet::clear_plan))]
+fn clear<B: Bus>(bus: &mut B, n: u32)
+    requires { n ≤ 65536 }
+    ensures { bus.new ≡ (run B.meaning (clear_plan n) bus.old).0 }
+{
+    for w in 0..n {
+        put(bus, GRAPHICS_BASE + w, 0);
+    }
+}
+
+/// Writes what a text mode has besides registers and palette.
+#[tactic(auto, using(crate::proofs::RunLemmas::run_bind), unfolding(crate::specs::ModeSet::text_plan))]
+fn write_text<B: Bus>(bus: &mut B, row: &ModeRow, keeps: bool, font: &Font<16>)
+    requires { row.now.base < 2 ^ 20 }
+    ensures { bus.new ≡ (run B.meaning (text_plan row.now keeps font.now) bus.old).0 }
+{
+    write_font(bus, font, row.graphics[6]);
+    if !keeps {
+        write_blanks(bus, row.base, TEXT_LEN);
+    }
+}
+
+/// Writes what a mode has besides registers and palette.
+#[tactic(auto, using(crate::proofs::RunLemmas::run_bind), unfolding(crate::specs::ModeSet::memory_plan))]
+fn write_memory<B: Bus>(bus: &mut B, mode: u8, row: &ModeRow, keeps: bool, font: &Font<16>)
+    requires { row.now.base < 2 ^ 20 }
+    ensures { bus.new ≡ (run B.meaning (memory_plan mode row.now keeps font.now) bus.old).0 }
+{
+    if is_text(mode) {
+        write_text(bus, row, keeps, font);
+    } else if !keeps {
+        clear(bus, GRAPHICS_LEN);
+    }
+}
+
+/// Sets a mode, and clears its memory unless it is kept.
+#[tactic(auto, using(crate::proofs::RunLemmas::run_bind), unfolding(crate::specs::ModeSet::mode_set_plan))]
+pub(crate) fn set_mode<B: Bus>(bus: &mut B, mode: u8, row: &ModeRow, keeps: bool, fonts: &Fonts)
+    requires mode { IsTrue (is_mode mode) }
+    requires port { row.now.crtc_address < 1000 }
+    requires base { row.now.base < 2 ^ 20 }
+    ensures { bus.new ≡ (run B.meaning (mode_set_plan mode row.now keeps fonts.now) bus.old).0 }
+{
+    write_registers(bus, row);
+    write_palette(bus, mode, 256);
+    write_memory(bus, mode, row, keeps, fonts.f16());
+}

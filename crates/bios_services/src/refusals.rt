@@ -1,0 +1,134 @@
+//! Why a service is refused.
+ghost use Rattle.std.specs.Prelude.{◌≡◌};
+ghost use Rattle.bios_services.specs.Bounds.{IsSet, pages_of};
+ghost use Rattle.bios_services.specs.Cursor.{place_of};
+ghost use Rattle.bios_services.specs.Refusals.{page_named as page_named_of, page_refusal as page_refusal_of, cursor_refusal as cursor_refusal_of, count_refusal as count_refusal_of, place_refusal as place_refusal_of, in_text as in_text_of, refusal_in_mode as refusal_in_mode_of, unknown_refusal as unknown_refusal_of};
+
+use crate::call::Service;
+use crate::cells::cells;
+use crate::cursor::cell_number;
+use crate::mode_set::is_text;
+use bios_modes::{Bda, mode_row};
+use vga_bits::Refusal;
+
+/// How many pages the mode has.
+pub(crate) fn pages(bda: &Bda) -> u8
+    ensures { result ≡ pages_of bda.now }
+{
+    match mode_row(bda.mode()) {
+        Some(row) => row.pages,
+        None => 0,
+    }
+}
+
+/// The page that a call names; where a mode has one page, that is meant.
+pub(crate) fn page_named(bda: &Bda, page: u8) -> u8
+    ensures { result ≡ page_named_of bda.now page }
+{
+    if pages(bda) == 1 { 0 } else { page }
+}
+
+/// Why a page is refused.
+fn page_refusal(bda: &Bda, page: u8) -> Option<Refusal>
+    ensures { result ≡ page_refusal_of bda.now page }
+{
+    if page < pages(bda) {
+        None
+    } else {
+        Some(Refusal::BadPage)
+    }
+}
+
+/// Why the cell at the cursor of a page is refused.
+fn cursor_refusal(bda: &Bda, page: u8) -> Option<Refusal>
+    requires { IsSet bda.now }
+    ensures { result ≡ cursor_refusal_of bda.now page }
+{
+    if page >= pages(bda) {
+        return Some(Refusal::BadPage);
+    }
+    if cell_number(bda, bda.cursor_place(page as usize)) >= cells(bda) {
+        return Some(Refusal::Outside);
+    }
+    None
+}
+
+/// Why so many cells from the cursor of a page on are refused.
+fn count_refusal(bda: &Bda, page: u8, count: u16) -> Option<Refusal>
+    requires { IsSet bda.now }
+    ensures { result ≡ count_refusal_of bda.now page count }
+{
+    if page >= pages(bda) {
+        return Some(Refusal::BadPage);
+    }
+    let first = cell_number(bda, bda.cursor_place(page as usize));
+    if first >= cells(bda) {
+        return Some(Refusal::Outside);
+    }
+    if first + count as u32 > cells(bda) {
+        return Some(Refusal::CountPast);
+    }
+    None
+}
+
+/// Why a place of text is refused.
+fn place_refusal(bda: &Bda, place: u16) -> Option<Refusal>
+    ensures { result ≡ place_refusal_of bda.now place }
+{
+    if place / 256 <= bda.last_row() as u16 && place % 256 < bda.columns() {
+        None
+    } else {
+        Some(Refusal::Outside)
+    }
+}
+
+/// Why a service that there is in text alone is refused, where text does not refuse it for this.
+fn in_text(bda: &Bda, refusal: Option<Refusal>) -> Option<Refusal>
+    ensures { result ≡ in_text_of bda.now refusal }
+{
+    if is_text(bda.mode()) {
+        refusal
+    } else {
+        Some(Refusal::BadFunction)
+    }
+}
+
+/// Why a service is refused in a mode.
+#[tactic(auto, unfolding(crate::specs::Refusals::refusal_in_mode))]
+pub(crate) fn refusal_in_mode(service: Service, bda: &Bda) -> Option<Refusal>
+    requires { IsSet bda.now }
+    ensures { result ≡ refusal_in_mode_of service bda.now }
+{
+    match service {
+        Service::SetCursor { page, .. } | Service::ReadCursor { page } => {
+            page_refusal(bda, page_named(bda, page))
+        }
+        Service::SelectPage { page } => page_refusal(bda, page),
+        Service::ScrollUp { .. } | Service::ScrollDown { .. } => in_text(bda, None),
+        Service::ReadCell { page } => in_text(bda, cursor_refusal(bda, page_named(bda, page))),
+        Service::WriteCells { page, count, .. } => {
+            in_text(bda, count_refusal(bda, page_named(bda, page), count))
+        }
+        Service::Teletype { .. } => {
+            in_text(
+                bda,
+                place_refusal(bda, bda.cursor_place(bda.page() as usize)),
+            )
+        }
+        Service::SetCursorType { .. }
+        | Service::ReadMode
+        | Service::ReadAdapter
+        | Service::ReadDisplay => None,
+    }
+}
+
+/// Why a call is refused that asks for no service.
+pub(crate) fn unknown_refusal(bda: &Bda) -> Refusal
+    ensures { result ≡ unknown_refusal_of bda.now }
+{
+    if bda.mode() == 0 {
+        Refusal::NoMode
+    } else {
+        Refusal::BadFunction
+    }
+}

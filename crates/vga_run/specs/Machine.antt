@@ -1,0 +1,9 @@
+-- An adapter with its video BIOS.
+use Rattle.vga_card.specs.Card.{power_on_card}
+use Rattle.bios_modes.specs.Bda.{power_on_data}
+use Rattle.bios_modes.specs.Fonts.{FontSet}
+use Rattle.vga_run.specs.declared.machine.Machine.{Machine}
+
+-- adapter and BIOS data at power-on, with the fonts that the BIOS has
+abbrev pub power_on_machine : FontSet → Machine
+power_on_machine fonts = record { card = power_on_card; bda = power_on_data; fonts = fonts }
