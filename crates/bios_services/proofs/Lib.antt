@@ -1,3 +1,3 @@
 pub mod RunLemmas
 pub mod BoundLemmas
-mod RefusedLemmas
+pub mod RefusedLemmas

@@ -21,7 +21,7 @@ use Rattle.bios_services.specs.Service.{Answered, answered, asked, in_mode_plan,
 use Rattle.bios_services.proofs.RunLemmas.{run_bind}
 
 -- what a plan does where its answer is a refusal: nothing
-DoesNothing : {S : Type 0} → Meaning S → Plan Answered → BiosData → Type 0
+abbrev DoesNothing : {S : Type 0} → Meaning S → Plan Answered → BiosData → Type 0
 DoesNothing {S} m p d = (s : S) (e : Refusal) → (run m p s).1.0 ≡ Err e → run m p s ≡ (s, (Err e, d))
 
 -- a refusal itself
@@ -29,9 +29,10 @@ refusal_does_nothing : {S : Type 0} (m : Meaning S) (why : Refusal) (d : BiosDat
 refusal_does_nothing m why d s e is = ap (λ (x : Result Reply Refusal). (s, (x, d))) is
 
 -- a plan whose answer is always registers is never refused
-answer_is_none : {S A : Type 0} (m : Meaning S) (p : Plan A) (regs : A → Regs) (data : A → BiosData) (d : BiosData) → DoesNothing m (p >>= λ a. Done (answered (regs a) (data a))) d
-answer_is_none m p regs data d s e is =
-    let whole = run_bind m p (λ a. Done (answered (regs a) (data a))) s in
+answer_is_none : {S A : Type 0} (m : Meaning S) (p : Plan A) (regs : A → Regs) (after : A → BiosData) (d : BiosData) → DoesNothing m (p >>= λ a. Done (answered (regs a) (after a))) d
+answer_is_none {S} m p regs after d s e is =
+    let whole = run_bind m p (λ a. Done (answered (regs a) (after a))) s in
+    let wrong = ap (λ (x : S × Answered). x.1.0) (sym whole) ∙ is in
     absurd (cc)
 
 set_mode_does_nothing : {S : Type 0} (m : Meaning S) (row : Option ModeRow) (mode : ℕ) (keeps : Bool) (fonts : FontSet) (d : BiosData) (r : Regs) → DoesNothing m (set_mode_plan row mode keeps fonts d r) d

@@ -1,5 +1,3 @@
-use Rattle.vga_card.specs.Card.{CardState}
-use Rattle.vga_card.specs.Bus.{card_meaning}
 use Rattle.vga_run.proofs.StepLemmas.{refused_step}
 use Rattle.vga_run.proofs.laws.refused_steps_change_nothing.Goals as goal
 
@@ -15,4 +13,4 @@ returns c =
       inp_word = law.inp_word;
       put_word = law.put_word;
       get_word = law.get_word;
-    }) (c.refused_services_do_nothing.ensures CardState card_meaning)
+    }) c.refused_services_do_nothing.ensures
