@@ -1,5 +1,6 @@
 //! The report of a script.
 ghost use Rattle.std.specs.Prelude.{◌≡◌, List, IfOk};
+ghost use Rattle.bios_modes.specs.Fonts.{fonts_of};
 ghost use Rattle.vga_run.specs.Report.{report_of, steps_until};
 ghost use Rattle.vga_script.specs.declared.step.Step.{Step};
 ghost use Rattle.vga_script.specs.Spelling.{Spells};
@@ -18,7 +19,7 @@ pub fn run_bytes(
     until: Option<u32>,
 ) -> Result<Vec<u8>, Fault>
     ensures { IfOk result (λ report. (steps : List Step) × Spells bytes.now steps
-        × (report.items ≡ report_of (steps_until until steps))) }
+        × (report.items ≡ report_of (fonts_of fonts.now) (steps_until until steps))) }
 {
     let mut report = Tracked::new(Vec::new(alloc));
     vga_run::run_bytes(alloc, bytes, fonts, &mut report, until)?;
@@ -33,7 +34,7 @@ pub fn run_text(
     until: Option<u32>,
 ) -> Result<Vec<u8>, Fault>
     ensures { IfOk result (λ report. (steps : List Step) × SpellsText text.now steps
-        × (report.items ≡ report_of (steps_until until steps))) }
+        × (report.items ≡ report_of (fonts_of fonts.now) (steps_until until steps))) }
 {
     let script = assemble(alloc, text)?;
     let mut report = Tracked::new(Vec::new(alloc));
