@@ -3,7 +3,7 @@ use Rattle.std.proofs.Common.{◌≡◌, ◌⊎◌, inl, inr, ℕ, Bool, false, 
 use Rattle.std.specs.declared.alloc.Global.{Global}
 use Rattle.vga_bits.specs.Tracked.{Writes, is_write_fault}
 use Rattle.vga_bits.specs.declared.fault.Fault.{Fault}
-use Rattle.vga_bits.specs.declared.fault.Fault.TheVariants.{FontSize, BadMagic, BadVersion, BadStep, Truncated, TooLong, BadLine, ReadFault, WriteFault, OutOfMemory}
+use Rattle.vga_bits.specs.declared.fault.Fault.TheVariants.{FontSize, BadMagic, BadVersion, BadStep, Truncated, TooLong, BadLine, WriteFault, OutOfMemory}
 use Rattle.vga_script.specs.declared.step.Step.{Step}
 use Rattle.vga_script.specs.Decoding.{IsFault, IsSpellingFault}
 use Rattle.vga_script.specs.Input.{IsInput, IsReadingFault}
