@@ -4,7 +4,7 @@ use Rattle.vga_bits.specs.declared.refusal.Refusal.{Refusal}
 use Rattle.vga_bits.specs.declared.refusal.Refusal.TheVariants.{TooFar}
 use Rattle.vga_card.specs.declared.shape.Shape.{Shape}
 use Rattle.vga_card.specs.Card.{CardState}
-use Rattle.vga_card.specs.Cycles.{out_cycle, inp_cycle, put_cycle, get_cycle}
+use Rattle.vga_card.specs.Cycles.{Written, out_cycle, inp_cycle, put_cycle, get_cycle}
 use Rattle.vga_card.specs.Words.{out_word_cycle, inp_word_cycle, put_word_cycle, get_word_cycle}
 use Rattle.vga_card.specs.Dots.{dots, most_dots}
 use Rattle.vga_card.specs.Frames.{frame}
@@ -19,9 +19,9 @@ use Rattle.bios_services.specs.Service.{Answered, service, served}
 use Rattle.vga_card.specs.Bus.{card_meaning}
 use Rattle.vga_run.specs.declared.machine.Machine.{Machine}
 use Rattle.vga_run.specs.declared.answer.Answer.{Answer}
-use Rattle.vga_run.specs.declared.answer.Answer.TheVariants.{Done, Refused}
+use Rattle.vga_run.specs.declared.answer.Answer.TheVariants.{Refused}
 use Rattle.vga_run.specs.Answer.{Plain, of_write, of_byte, of_word, of_service, of_shape}
-use Rattle.vga_run.specs.Step.{answer_to, after_step, called}
+use Rattle.vga_run.specs.Step.{advance_cycle, answer_to, after_step, called}
 
 -- the law that a refused cycle leaves the whole state
 pub record RefusedCyclesChangeNothing : Type 0 where
@@ -61,11 +61,14 @@ refused_word : (m : Machine) (next : CardState) (result : Result ℕ Refusal) (r
 refused_word m next (Ok v) refusal law is = absurd (cc)
 refused_word m next (Err e) refusal law is = ap (with_card m) (law e refl)
 
--- an advance whose answer is a refusal
-refused_advance : (m : Machine) (next : CardState) (few : Bool) (refusal : Refusal) → Plain (if few then Done else Refused TooFar) ≡ Plain (Refused refusal)
-    → with_card m (if few then next else m.card) ≡ m
-refused_advance m next true refusal is = absurd (cc)
-refused_advance m next false refusal is = refl
+-- an advance, by whether its dots are few
+abbrev advanced : Bool → CardState → CardState → Written
+advanced few card next = if few then (next, Ok tt) else (card, Err TooFar)
+
+-- an advance that is refused
+refused_advance : (few : Bool) (card next : CardState) (e : Refusal) → (advanced few card next).1 ≡ Err e → (advanced few card next).0 ≡ card
+refused_advance true card next e is = absurd (cc)
+refused_advance false card next e is = refl
 
 -- a service whose answer is a refusal
 refused_call : (m : Machine) (after : CardState × Answered) (refusal : Refusal) → ((e : Refusal) → after.1.0 ≡ Err e → after ≡ (m.card, (Err e, m.bda)))
@@ -92,6 +95,6 @@ refused_step law services m (GetWord address) refusal is = refused_word m (get_w
 refused_step law services m (Int ax bx cx dx block) refusal is =
     let asked : Regs = record { ax = ax; bx = bx; cx = cx; dx = dx } in
     refused_call m (run card_meaning (service m.fonts m.bda asked block) m.card) refusal (services m.fonts m.bda asked block m.card) is
-refused_step law services m (Advance count) refusal is = refused_advance m (dots count m.card) (nat_le count most_dots) refusal is
+refused_step law services m (Advance count) refusal is = refused_write m (advance_cycle m.card count).0 (advance_cycle m.card count).1 refusal (refused_advance (nat_le count most_dots) m.card (dots count m.card)) is
 refused_step law services m Frame refusal is = absurd (answered_frame (shape (frame m.card).drawn) (bytes_of (frame m.card).drawn) (Refused refusal) is)
 refused_step law services m (Show what) refusal is = absurd (cc)

@@ -1,10 +1,10 @@
 -- What each step of a script answers, and what it leaves: a cycle of the adapter, some dots, a frame, a service of the video
 -- BIOS, or a look at the machine.
-use Rattle.std.specs.Prelude.{ℕ, List, [], ◌∷◌, nat_le, if◌then◌else◌}
+use Rattle.std.specs.Prelude.{ℕ, List, [], ◌∷◌, nat_le, if◌then◌else◌, Ok, Err}
 use Rattle.vga_bits.specs.declared.refusal.Refusal.TheVariants.{TooFar}
 use Rattle.vga_card.specs.Card.{CardState}
 use Rattle.vga_card.specs.Bus.{card_meaning}
-use Rattle.vga_card.specs.Cycles.{out_cycle, inp_cycle, put_cycle, get_cycle}
+use Rattle.vga_card.specs.Cycles.{Written, out_cycle, inp_cycle, put_cycle, get_cycle}
 use Rattle.vga_card.specs.Words.{out_word_cycle, inp_word_cycle, put_word_cycle, get_word_cycle}
 use Rattle.vga_card.specs.Dots.{dots, most_dots}
 use Rattle.vga_card.specs.Frames.{frame}
@@ -21,7 +21,6 @@ use Rattle.vga_script.specs.declared.shown.Shown.TheVariants as shown
 use Rattle.vga_script.specs.declared.step.Step.{Step}
 use Rattle.vga_script.specs.declared.step.Step.TheVariants.{Out, OutWord, In, InWord, Put, PutWord, Get, GetWord, Int, Advance, Frame, Show}
 use Rattle.vga_run.specs.declared.machine.Machine.{Machine}
-use Rattle.vga_run.specs.declared.answer.Answer.TheVariants.{Done, Refused}
 use Rattle.vga_run.specs.Answer.{Reply, Plain, Dump, of_write, of_byte, of_word, of_service, of_frame}
 
 -- the dump of what a step shows
@@ -37,6 +36,10 @@ dump_text m shown.BiosData = bda_text m.bda
 unfoldable pub called : Machine → ℕ → ℕ → ℕ → ℕ → List ℕ → CardState × Answered
 called m ax bx cx dx block = run card_meaning (service m.fonts m.bda (record { ax = ax; bx = bx; cx = cx; dx = dx }) block) m.card
 
+-- so many dots of the clock, or none where they are more than one step may take
+abbrev pub advance_cycle : CardState → ℕ → Written
+advance_cycle card count = if nat_le count most_dots then (dots count card, Ok tt) else (card, Err TooFar)
+
 -- what a step answers
 unfoldable pub answer_to : Machine → Step → Reply
 answer_to m (Out port value) = Plain (of_write (out_cycle m.card port value).1)
@@ -48,7 +51,7 @@ answer_to m (PutWord address value) = Plain (of_write (put_word_cycle m.card add
 answer_to m (Get address) = Plain (of_byte (get_cycle m.card address).1)
 answer_to m (GetWord address) = Plain (of_word (get_word_cycle m.card address).1)
 answer_to m (Int ax bx cx dx block) = Plain (of_service (served (called m ax bx cx dx block).1.0))
-answer_to m (Advance count) = Plain (if nat_le count most_dots then Done else Refused TooFar)
+answer_to m (Advance count) = Plain (of_write (advance_cycle m.card count).1)
 answer_to m Frame = of_frame (frame m.card).drawn
 answer_to m (Show what) = Dump (dump_text m what)
 
@@ -63,7 +66,7 @@ after_step m (PutWord address value) = record m { card = (put_word_cycle m.card 
 after_step m (Get address) = record m { card = (get_cycle m.card address).0 }
 after_step m (GetWord address) = record m { card = (get_word_cycle m.card address).0 }
 after_step m (Int ax bx cx dx block) = let after = called m ax bx cx dx block in record m { card = after.0; bda = after.1.1 }
-after_step m (Advance count) = record m { card = if nat_le count most_dots then dots count m.card else m.card }
+after_step m (Advance count) = record m { card = (advance_cycle m.card count).0 }
 after_step m Frame = record m { card = frame m.card }
 after_step m (Show what) = m
 
