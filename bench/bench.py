@@ -22,6 +22,7 @@ HEADER = b"VGAS\x01"
 MOST_BYTES = 16_777_216
 MOST_DOTS = 16_777_216
 FRAMES = 50
+MODES = (0x03, 0x07, 0x0D, 0x10, 0x12, 0x13)
 
 
 def out(port, value):
@@ -42,6 +43,11 @@ def get(address):
 
 def advance(dots):
     return struct.pack("<BI", 0x0A, dots)
+
+
+def service(ax, bx=0, cx=0, dx=0):
+    """A call of the video BIOS, without a block."""
+    return struct.pack("<BHHHHH", 0x09, ax, bx, cx, dx, 0)
 
 
 # Memory on, all addresses alike, all planes written, all bits let through.
@@ -92,6 +98,32 @@ def byte_frames():
     return frames("byte-screen.vga")
 
 
+def mode_sets():
+    """The six modes in turn, each of which clears its memory."""
+    turn = b"".join(service(ax=mode) for mode in MODES)
+    return "run", HEADER + turn * 200, 1_200, "mode sets"
+
+
+def scrolls():
+    """A whole page of text, up by a row."""
+    scroll = service(0x0601, bx=0x0700, dx=0x184F)
+    return "run", HEADER + service(0x0003) + scroll * 10_000, 10_000, "scrolls"
+
+
+def teletype():
+    """A page of text typed to its last cell but one, again and again: it wraps, and never scrolls."""
+    page = b"".join(service(0x0E20 + i % 95) for i in range(1_999))
+    turn = service(0x0200) + page
+    return "run", HEADER + service(0x0003) + turn * 500, 1_999 * 500, "characters"
+
+
+def teletype_scrolling():
+    """Rows typed on the last row of the page, each of which scrolls it."""
+    row = b"".join(service(0x0E20 + i % 95) for i in range(80))
+    begin = service(0x0003) + service(0x0200, dx=0x1800)
+    return "run", HEADER + begin + row * 5_000, 400_000, "characters"
+
+
 def assembling():
     """The text of the most steps `int`, 11 bytes each, that a script may have."""
     count = (MOST_BYTES - len(HEADER)) // 11
@@ -104,7 +136,9 @@ def printing():
     return "dis", HEADER + (b"\x09" + bytes(10)) * count, count, "lines"
 
 
-SCRIPTS = (puts, cycles, dots, text_frames, planar_frames, byte_frames, assembling, printing)
+SCRIPTS = (
+    puts, cycles, dots, text_frames, planar_frames, byte_frames, mode_sets, scrolls, teletype, teletype_scrolling,
+    assembling, printing)
 
 
 def words(program, job, path):
@@ -115,11 +149,10 @@ def words(program, job, path):
     return [program, job, path, "--fonts", FONT]
 
 
-def rate(count, took, what):
+def rate(count, took):
     """How many in a second."""
-    if what == "frames":
-        return f"{count / took:.0f} a second"
-    return f"{count / took / 1e6:.1f} million a second"
+    a_second = count / took
+    return f"{a_second / 1e6:.1f} million a second" if a_second >= 1e6 else f"{a_second:,.0f} a second"
 
 
 def seconds(command):
@@ -161,7 +194,7 @@ def main():
             command = words(program, job, path)
             took = seconds(command)
             more = system_calls(command) + memory(command)
-            print(f"{script.__name__}: {count:,} {what} in {took:.2f} s, {rate(count, took, what)}{more}")
+            print(f"{script.__name__}: {count:,} {what} in {took:.2f} s, {rate(count, took)}{more}")
 
 
 if __name__ == "__main__":
