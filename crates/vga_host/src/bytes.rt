@@ -1,15 +1,8 @@
-//! The data path of a write, eight bits at once.
-ghost use Rattle.std.specs.Prelude.{◌≡◌, ◌==◌, ◌+◌, ◌%◌, ◌<◌, ℕ, if◌then◌else◌};
+//! The data path of a write and of a read that compares: eight bits, or the four bytes of a word, at once.
+ghost use Rattle.std.specs.Prelude.{◌≡◌, ◌==◌, ◌+◌, ◌%◌, ◌<◌, ◌&&◌, ℕ, if◌then◌else◌};
 ghost use Rattle.std.specs.Int.{bit_at};
+ghost use Rattle.vga_planes.specs.Words.{word_bit};
 ghost use Rattle.vga_host.specs.Write.{combined_by};
-
-/// All eight bits alike.
-#[tactic(auto, using(vga_bits::proofs::BitLemmas::ones_byte))]
-pub(crate) fn filled(bit: bool) -> u8
-    ensures { (i : ℕ) → i < 8 → bit_at result i ≡ (if bit then 1 else 0) }
-{
-    if bit { 0xFF } else { 0 }
-}
 
 /// The byte, rotated right by 0 to 7 places.
 #[tactic(auto, using(vga_bits::proofs::BitLemmas::bit_at_rotate))]
@@ -21,10 +14,10 @@ pub(crate) fn rotated(v: u8, by: u8) -> u8
 }
 
 /// Each bit of the source and the latch bit by the function, 0 to 3.
-#[tactic(auto, using(std::proofs::lemmas::Nat::Bits::bit_at_and, std::proofs::lemmas::Nat::Bits::bit_at_or, std::proofs::lemmas::Nat::Bits::bit_at_xor))]
-pub(crate) fn combined(function: u8, source: u8, latch: u8) -> u8
+#[tactic(auto, using(vga_planes::proofs::WordLemmas::word_bit_and, vga_planes::proofs::WordLemmas::word_bit_or, vga_planes::proofs::WordLemmas::word_bit_xor))]
+pub(crate) fn combined(function: u8, source: u32, latch: u32) -> u32
     requires { function < 4 }
-    ensures { (i : ℕ) → i < 8 → bit_at result i ≡ combined_by function (bit_at source i) (bit_at latch i) }
+    ensures { (p i : ℕ) → word_bit result p i ≡ combined_by function (word_bit source p i) (word_bit latch p i) }
 {
     match function {
         0 => source,
@@ -34,10 +27,12 @@ pub(crate) fn combined(function: u8, source: u8, latch: u8) -> u8
     }
 }
 
-/// The bits of the source where the mask has 1, and those of the latch elsewhere.
-#[tactic(auto, using(vga_bits::proofs::BitLemmas::bit_at_select))]
-pub(crate) fn selected(source: u8, mask: u8, latch: u8) -> u8
-    ensures { (i : ℕ) → i < 8 → bit_at result i ≡ (if bit_at mask i == 0 then bit_at latch i else bit_at source i) }
+/// The bits that are 0 in all four planes.
+#[tactic(auto, using(vga_planes::proofs::WordLemmas::word_bit_folded))]
+pub(crate) fn clear_in_all(word: u32) -> u8
+    ensures { (i : ℕ) → i < 8 → bit_at result i ≡ (if (word_bit word 0 i == 0) && ((word_bit word 1 i == 0) && ((word_bit word 2 i == 0) && (word_bit word 3 i == 0))) then 1 else 0) }
 {
-    (source & mask) | (latch & !mask)
+    let half = word | (word >> 16);
+    let all = half | (half >> 8);
+    !((all % 256) as u8)
 }

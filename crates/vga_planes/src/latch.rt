@@ -1,6 +1,8 @@
 //! One byte for each plane.
 ghost use Rattle.std.specs.Prelude.{◌≡◌, ◌<◌, ℕ, slice_index};
+ghost use Rattle.std.specs.Int.{bit_at};
 ghost use Rattle.vga_bits.specs.Four.{four, of_plane};
+ghost use Rattle.vga_planes.specs.Words.{bytes_of, word_bit};
 
 use std::marker::Model;
 
@@ -9,21 +11,23 @@ use std::marker::Model;
 /// Contracts see one number for each plane.
 #[derive(Clone, Copy)]
 pub struct Latch {
-    byte0: u8,
-    byte1: u8,
-    byte2: u8,
-    byte3: u8,
+    word: u32,
 }
 
 impl Model for Latch {
-    ghost use Rattle.std.specs.Prelude.{ℕ};
+    ghost use Rattle.std.specs.Prelude.{ℕ, ◌<◌};
     ghost use Rattle.vga_bits.specs.Four.{Four};
+    ghost use Rattle.vga_planes.specs.Words.{bytes_of, word_of, word_back};
 
     ghost Value = { Four ℕ };
 
-    ghost view = { λ l. record { plane0 = l.byte0; plane1 = l.byte1; plane2 = l.byte2; plane3 = l.byte3 } };
+    ghost view = { λ l. bytes_of l.word };
 
-    ghost inverse = { λ f. record { byte0 = f.plane0; byte1 = f.plane1; byte2 = f.plane2; byte3 = f.plane3 } };
+    ghost invariant = { λ l. l.word < 4294967296 };
+
+    ghost inverse = { λ f. record { word = word_of f } };
+
+    ghost inverse_ok = { λ l h i. record { word = word_back l.word h i } };
 }
 
 impl Latch {
@@ -32,35 +36,41 @@ impl Latch {
         ensures { result ≡ four (λ p. slice_index bytes p) }
     {
         let [byte0, byte1, byte2, byte3] = bytes;
+        let low = byte0 as u32 + byte1 as u32 * 0x100;
         Latch {
-            byte0,
-            byte1,
-            byte2,
-            byte3,
+            word: low + byte2 as u32 * 0x1_0000 + byte3 as u32 * 0x100_0000,
         }
+    }
+
+    /// The byte of plane p is bits 8p + 7 to 8p of the word.
+    pub fn from_word(word: u32) -> Latch
+        ensures { result ≡ bytes_of word }
+    {
+        Latch { word }
+    }
+
+    /// The four bytes as a word: bits 8p + 7 to 8p are the byte of plane p.
+    #[tactic(auto, using(crate::proofs::WordLemmas::word_bit_plane))]
+    pub fn word(&self) -> u32
+        ensures bytes { bytes_of result ≡ self.now }
+        ensures bits { (p i : ℕ) → p < 4 → i < 8 → word_bit result p i ≡ bit_at (of_plane self.now p) i }
+    {
+        self.word
     }
 
     /// Each byte is below 256. The clause is for proofs: nothing runs.
     pub fn bounds(&self)
         ensures { (p : ℕ) → p < 4 → of_plane self.now p < 256 }
     {
-        let plane0 = self.byte(0);
-        let plane1 = self.byte(1);
-        let plane2 = self.byte(2);
-        let plane3 = self.byte(3);
-        let _ = [plane0, plane1, plane2, plane3];
+        let _ = self.word();
     }
 
     /// The byte of a plane, 0 to 3.
+    #[tactic(auto, using(crate::proofs::WordLemmas::byte_of_plane))]
     pub fn byte(&self, plane: usize) -> u8
         requires { plane < 4 }
         ensures { result ≡ of_plane self.now plane }
     {
-        match plane {
-            0 => self.byte0,
-            1 => self.byte1,
-            2 => self.byte2,
-            _ => self.byte3,
-        }
+        ((self.word >> (8 * plane as u32)) % 256) as u8
     }
 }

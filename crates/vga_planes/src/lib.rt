@@ -3,6 +3,7 @@
 
 pub mod latch;
 pub mod planes;
+pub mod words;
 
 pub use latch::Latch;
 pub use planes::{PlaneSet, Planes};

@@ -1,5 +1,5 @@
 //! The place of an address, and the planes that a write there reaches.
-ghost use Rattle.std.specs.Prelude.{◌≡◌, ◌<◌, IsTrue};
+ghost use Rattle.std.specs.Prelude.{◌≡◌, IsTrue};
 ghost use Rattle.std.specs.Option.{SomeIff};
 ghost use Rattle.vga_bits.specs.Bits.{is_set};
 ghost use Rattle.vga_host.specs.Address.{window_start, window_len, is_decoded, window_offset, plane_offset};
@@ -55,25 +55,27 @@ impl Host {
         }
     }
 
-    /// Whether the address bits let a write at a place in the window through to a plane.
-    fn is_addressed(&self, place: u16, plane: usize) -> bool
-        requires { plane < 4 }
-        ensures { result ≡ is_addressed self.now place plane }
+    /// The planes that the address bits let a write at a place in the window through to.
+    fn addressed(&self, place: u16) -> PlaneSet
+        ensures plane0 { is_set result 0 ≡ is_addressed self.now place 0 }
+        ensures plane1 { is_set result 1 ≡ is_addressed self.now place 1 }
+        ensures plane2 { is_set result 2 ≡ is_addressed self.now place 2 }
+        ensures plane3 { is_set result 3 ≡ is_addressed self.now place 3 }
     {
-        let place = place as usize;
         if self.is_chain_four() {
-            plane == place % 4
+            match place % 4 {
+                0 => 0x01,
+                1 => 0x02,
+                2 => 0x04,
+                _ => 0x08,
+            }
+        } else if self.is_odd_even_off() {
+            0x0F
+        } else if place % 2 == 0 {
+            0x05
         } else {
-            self.is_odd_even_off() || plane % 2 == place % 2
+            0x0A
         }
-    }
-
-    /// Whether a write at a place in the window reaches a plane.
-    fn is_reached(&self, place: u16, plane: usize) -> bool
-        requires { plane < 4 }
-        ensures { result ≡ is_reached self.now place plane }
-    {
-        self.is_in_map_mask(plane) && self.is_addressed(place, plane)
     }
 
     /// The planes that a write at a place in the window reaches.
@@ -83,23 +85,6 @@ impl Host {
         ensures plane2 { is_set result 2 ≡ is_reached self.now place 2 }
         ensures plane3 { is_set result 3 ≡ is_reached self.now place 3 }
     {
-        plane_set(
-            self.is_reached(place, 0),
-            self.is_reached(place, 1),
-            self.is_reached(place, 2),
-            self.is_reached(place, 3),
-        )
+        self.map_mask() & self.addressed(place)
     }
-}
-
-/// The set of the planes whose flags are true.
-fn plane_set(plane0: bool, plane1: bool, plane2: bool, plane3: bool) -> PlaneSet
-    ensures plane0 { is_set result 0 ≡ plane0 }
-    ensures plane1 { is_set result 1 ≡ plane1 }
-    ensures plane2 { is_set result 2 ≡ plane2 }
-    ensures plane3 { is_set result 3 ≡ plane3 }
-{
-    let low = u8::from(plane0) + 2 * u8::from(plane1);
-    let high = 4 * u8::from(plane2) + 8 * u8::from(plane3);
-    low + high
 }

@@ -1,6 +1,7 @@
 //! The fields of the sequencer's and the graphics controller's registers, in the order of the registers.
-ghost use Rattle.std.specs.Prelude.{◌≡◌, ◌==◌, ◌<◌, ◌⊎◌, ℕ};
+ghost use Rattle.std.specs.Prelude.{◌≡◌, ◌<◌, ◌⊎◌, ℕ};
 ghost use Rattle.std.specs.Int.{bit_at};
+ghost use Rattle.vga_bits.specs.Bits.{is_set as is_set_of};
 ghost use Rattle.vga_host.specs.Fields.{is_memory_enabled as is_memory_enabled_of};
 ghost use Rattle.vga_host.specs.Fields.{is_eight_dots, character_width, is_screen_off, is_in_map_mask};
 ghost use Rattle.vga_host.specs.Fields.{character_map_a, character_map_b, is_odd_even_off, is_chain_four};
@@ -11,6 +12,7 @@ ghost use Rattle.vga_host.specs.Fields.{is_256_colours, is_chain_odd_even, memor
 
 use super::Host;
 use vga_bits::is_set;
+use vga_planes::PlaneSet;
 
 /// The sequencer's registers with fields that are looked at.
 mod sequencer {
@@ -74,12 +76,11 @@ impl Host {
         self.seq.bit(sequencer::CLOCKING_MODE, 5)
     }
 
-    /// Whether the map mask lets plane `plane` be written.
-    pub(super) fn is_in_map_mask(&self, plane: usize) -> bool
-        requires { plane < 4 }
-        ensures { result ≡ is_in_map_mask self.now plane }
+    /// The planes that the map mask lets be written.
+    pub(super) fn map_mask(&self) -> PlaneSet
+        ensures { (p : ℕ) → is_set_of result p ≡ is_in_map_mask self.now p }
     {
-        self.seq.bit(sequencer::MAP_MASK, plane as u32)
+        self.seq.read(sequencer::MAP_MASK)
     }
 
     /// The map, 0 to 7, of the characters whose attribute has bit 3.
@@ -114,28 +115,25 @@ impl Host {
         self.seq.bit(sequencer::MEMORY_MODE, 3)
     }
 
-    /// Whether the set/reset bit of a plane is 1.
-    pub(super) fn is_set_reset(&self, plane: usize) -> bool
-        requires { plane < 4 }
-        ensures { result ≡ (set_reset self.now plane == 1) }
+    /// The planes whose set/reset bit is 1.
+    pub(super) fn set_reset(&self) -> PlaneSet
+        ensures { (p : ℕ) → bit_at result p ≡ set_reset self.now p }
     {
-        self.gfx.bit(graphics::SET_RESET, plane as u32)
+        self.gfx.read(graphics::SET_RESET)
     }
 
-    /// Whether, in write mode 0, a plane takes its set/reset bit.
-    pub(super) fn is_set_reset_enabled(&self, plane: usize) -> bool
-        requires { plane < 4 }
-        ensures { result ≡ is_set_reset_enabled self.now plane }
+    /// The planes that, in write mode 0, take their set/reset bit.
+    pub(super) fn set_reset_enabled(&self) -> PlaneSet
+        ensures { (p : ℕ) → is_set_of result p ≡ is_set_reset_enabled self.now p }
     {
-        self.gfx.bit(graphics::ENABLE_SET_RESET, plane as u32)
+        self.gfx.read(graphics::ENABLE_SET_RESET)
     }
 
-    /// Whether the bit that a plane is compared with is 1.
-    pub(super) fn is_colour_compare(&self, plane: usize) -> bool
-        requires { plane < 4 }
-        ensures { result ≡ (colour_compare self.now plane == 1) }
+    /// The planes whose compare bit is 1.
+    pub(super) fn colour_compare(&self) -> PlaneSet
+        ensures { (p : ℕ) → bit_at result p ≡ colour_compare self.now p }
     {
-        self.gfx.bit(graphics::COLOUR_COMPARE, plane as u32)
+        self.gfx.read(graphics::COLOUR_COMPARE)
     }
 
     /// By how many places, 0 to 7, the byte written is rotated right.
@@ -222,12 +220,11 @@ impl Host {
         self.gfx.field(graphics::MISCELLANEOUS, 3, 2)
     }
 
-    /// Whether a plane is compared.
-    pub(super) fn is_compared(&self, plane: usize) -> bool
-        requires { plane < 4 }
-        ensures { result ≡ is_compared self.now plane }
+    /// The planes that are compared.
+    pub(super) fn compared_planes(&self) -> PlaneSet
+        ensures { (p : ℕ) → is_set_of result p ≡ is_compared self.now p }
     {
-        self.gfx.bit(graphics::COLOUR_DONT_CARE, plane as u32)
+        self.gfx.read(graphics::COLOUR_DONT_CARE)
     }
 
     /// The bit mask: bit i of each plane may change where its bit i is 1.

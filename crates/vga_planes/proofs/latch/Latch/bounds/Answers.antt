@@ -1,7 +1,8 @@
-use Rattle.std.proofs.Common.{◌<◌, arith}
+-- The bytes are those of a word, and each of a word's bytes is below 256.
+use Rattle.std.proofs.Common.{ℕ, ◌<◌, subst}
 use Rattle.vga_bits.specs.Four.{of_plane}
-use Rattle.vga_bits.proofs.FourLemmas.{by_plane}
+use Rattle.vga_planes.proofs.WordLemmas.{bytes_below}
 use Rattle.vga_planes.proofs.latch.Latch.bounds.Goals as goal
 
 pub returns : goal.returns
-returns c = by_plane (λ p. of_plane c.args.self.now p < 256) (omega arith) (omega arith) (omega arith) (omega arith)
+returns c = subst (λ bytes. (p : ℕ) → p < 4 → of_plane bytes p < 256) c.word.ensures.bytes (bytes_below c.word.result)
