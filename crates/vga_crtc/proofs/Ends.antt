@@ -109,6 +109,13 @@ line_taken cw old new width taken = record {
   ends = line_ends cw old.registers old.beam (omega arith);
 }
 
+-- the next line, come to at once
+pub line_left : (cw : ℕ) (old : CrtcState) (b : Beam) → (cw ≡ 8) ⊎ (cw ≡ 9) → b ≡ next_line old.registers (started old.registers old.beam) → IsLineTaken cw old (record old { beam = b })
+unfolding after_dots
+line_left cw old b width e =
+    let ends = line_ends cw old.registers old.beam (omega arith) in
+    line_taken cw old (record old { beam = b }) width (ap (λ (x : Beam). record old { beam = x }) (e ∙ sym ends.next))
+
 -- ---- a frame
 
 -- where no line starts, no frame does

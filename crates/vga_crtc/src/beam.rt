@@ -121,4 +121,14 @@ impl Beam {
             self.end_line(registers);
         }
     }
+
+    /// Moves from any dot of a line to the first dot of the next.
+    pub(crate) fn step_line(&mut self, registers: &Registers)
+        requires { IsBeam self.old }
+        ensures value { self.new ≡ next_line registers.now (started registers.now self.old) }
+        ensures place { IsBeam self.new }
+    {
+        self.take_start(registers);
+        self.end_line(registers);
+    }
 }

@@ -1,6 +1,6 @@
 //! Dots, lines and frames.
 ghost use Rattle.std.specs.Prelude.{ℕ, ◌≡◌, ◌≤◌, ◌⊎◌};
-ghost use Rattle.vga_crtc.specs.Beam.{after_start, after_dot, after_dots};
+ghost use Rattle.vga_crtc.specs.Beam.{after_start, after_dot};
 ghost use Rattle.vga_crtc.specs.Raster.{dots_in_line, dots_in_frame, IsLineTaken};
 
 use super::Crtc;
@@ -52,25 +52,12 @@ impl Crtc {
         after as u32 * line + self.dots_in_line(cw)
     }
 
-    /// Moves the beam by `n` dots, one at a time; a character is `cw` dots wide, 8 or 9.
-    #[tactic(auto, unfolding(crate::specs::Beam::after_dot, crate::specs::Beam::after_dots), using(crate::proofs::Dots::dots_none, crate::proofs::Dots::dots_more))]
-    fn step_dots(&mut self, cw: u8, n: u32)
-        requires { (cw ≡ 8) ⊎ (cw ≡ 9) }
-        ensures { self.new ≡ after_dots self.old cw n }
-    {
-        for _ in 0..n {
-            self.step_dot(cw);
-        }
-    }
-
     /// Moves the beam dot by dot, at least one, until it is at the first dot of a line again; a character
-    /// is `cw` dots wide, 8 or 9.
-    #[tactic(auto, using(crate::proofs::Ends::line_taken))]
+    /// is `cw` dots wide, 8 or 9. The beam goes there at once.
     pub fn step_line(&mut self, cw: u8)
         requires { (cw ≡ 8) ⊎ (cw ≡ 9) }
         ensures { IsLineTaken cw self.old self.new }
     {
-        let left = self.dots_in_line(cw);
-        self.step_dots(cw, left);
+        self.beam.step_line(&self.registers);
     }
 }
