@@ -1,1 +1,2 @@
 pub mod PaletteLemmas
+pub mod TableLemmas
