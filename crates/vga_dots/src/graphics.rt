@@ -8,7 +8,7 @@ use vga_crtc::Crtc;
 use vga_host::Host;
 
 /// Bit `i`, 0 to 7, of a byte, as 0 or 1.
-fn bit(byte: u8, i: u8) -> u8
+pub(crate) fn bit(byte: u8, i: u8) -> u8
     requires { i < 8 }
     ensures value { result ≡ bit_at byte i }
     ensures below { result < 2 }

@@ -15,7 +15,7 @@ pub struct SourceDot {
 
 /// By how many dots, 0 to 8, the picture is panned to the left.
 #[tactic(auto, unfolding(crate::specs::SourceDot::panned))]
-fn panned(host: &Host, crtc: &Crtc, attr: &Attr) -> u8
+pub(crate) fn panned(host: &Host, crtc: &Crtc, attr: &Attr) -> u8
     ensures value { result ≡ panned_dots host.now crtc.now attr.now }
     ensures few { result < 9 }
 {

@@ -35,7 +35,7 @@ pub struct Cell {
 
 /// The character and the attribute at a place.
 #[tactic(auto, unfolding(crate::specs::Text::cell_at))]
-fn cell_at(host: &Host, address: u16) -> Cell
+pub(crate) fn cell_at(host: &Host, address: u16) -> Cell
     ensures { result ≡ cell_of_place host.now address }
 {
     let planes = host.planes();
@@ -67,7 +67,7 @@ fn character_map(host: &Host, cell: Cell) -> u8
 
 /// The row of a cell's glyph at a scan line, 0 to 31.
 #[tactic(auto, unfolding(crate::specs::Text::glyph_row))]
-fn glyph_row(host: &Host, cell: Cell, scan: u8) -> u8
+pub(crate) fn glyph_row(host: &Host, cell: Cell, scan: u8) -> u8
     requires { scan < 32 }
     ensures { result ≡ row_of_glyph host.now cell scan }
 {
@@ -78,7 +78,7 @@ fn glyph_row(host: &Host, cell: Cell, scan: u8) -> u8
 
 /// Whether dot `i` of a row is of its glyph.
 #[tactic(auto, unfolding(crate::specs::Text::is_glyph_dot))]
-fn is_glyph_dot(attr: &Attr, character: u8, row: u8, i: u8) -> bool
+pub(crate) fn is_glyph_dot(attr: &Attr, character: u8, row: u8, i: u8) -> bool
     ensures { result ≡ is_dot_of_glyph attr.now character row i }
 {
     if i < 8 {
@@ -90,7 +90,7 @@ fn is_glyph_dot(attr: &Attr, character: u8, row: u8, i: u8) -> bool
 
 /// Whether a cell is underlined at the beam's scan line.
 #[tactic(auto, unfolding(crate::specs::Text::is_underlined))]
-fn is_underlined(crtc: &Crtc, attr: &Attr, cell: Cell) -> bool
+pub(crate) fn is_underlined(crtc: &Crtc, attr: &Attr, cell: Cell) -> bool
     ensures { result ≡ is_underlined_cell crtc.now attr.now cell }
 {
     attr.is_monochrome()
@@ -100,7 +100,7 @@ fn is_underlined(crtc: &Crtc, attr: &Attr, cell: Cell) -> bool
 
 /// Whether a cell is blinked away in the beam's frame.
 #[tactic(auto, unfolding(crate::specs::Text::is_blinked_away))]
-fn is_blinked_away(crtc: &Crtc, attr: &Attr, cell: Cell) -> bool
+pub(crate) fn is_blinked_away(crtc: &Crtc, attr: &Attr, cell: Cell) -> bool
     ensures { result ≡ is_blinked_cell crtc.now attr.now cell }
 {
     attr.is_blink() && is_set(cell.attribute, 7) && 16 <= crtc.beam().frame
@@ -108,7 +108,7 @@ fn is_blinked_away(crtc: &Crtc, attr: &Attr, cell: Cell) -> bool
 
 /// Whether the cursor is shown at a counter.
 #[tactic(auto, unfolding(crate::specs::Text::is_cursor_at))]
-fn is_cursor_at(crtc: &Crtc, counter: u16) -> bool
+pub(crate) fn is_cursor_at(crtc: &Crtc, counter: u16) -> bool
     ensures { result ≡ is_cursor_of crtc.now counter }
 {
     let registers = crtc.fields();
@@ -138,7 +138,7 @@ fn is_foreground(host: &Host, crtc: &Crtc, attr: &Attr, source: SourceDot, cell:
 }
 
 /// The four bits of a cell's background.
-fn background(attr: &Attr, cell: Cell) -> u8
+pub(crate) fn background(attr: &Attr, cell: Cell) -> u8
     ensures { result ≡ background_of attr.now cell }
 {
     if attr.is_blink() {

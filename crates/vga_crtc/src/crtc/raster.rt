@@ -28,7 +28,7 @@ impl Crtc {
 
     /// How many dots, at least one, lead to the next line; a character is `cw` dots wide, 8 or 9.
     #[tactic(auto, unfolding(crate::specs::Raster::dots_in_line))]
-    fn dots_in_line(&self, cw: u8) -> u32
+    pub fn dots_in_line(&self, cw: u8) -> u32
         requires { (cw ≡ 8) ⊎ (cw ≡ 9) }
         ensures value { result ≡ dots_in_line cw self.now.registers self.now.beam }
         ensures at_most { result ≤ 2340 }
