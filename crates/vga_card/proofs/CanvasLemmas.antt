@@ -5,7 +5,7 @@ use Rattle.std.proofs.lemmas.Bool.{cases_eq}
 use Rattle.std.proofs.lemmas.List.{length-set, get_or-set_same, get_or-set_other, append-nil, length-replicate, replicate-append-replicate, take-append-le, drop-append-le, take_all, length-drop}
 use Rattle.vga_bits.specs.Bytes.{zeros}
 use Rattle.vga_bits.proofs.ByteLemmas.{zeros_at}
-use Rattle.vga_card.specs.Picture.{Dot, widest, lines_of, lines_from}
+use Rattle.vga_card.specs.Picture.{Dot, widest, highest, lines_of, lines_from}
 use Rattle.vga_card.specs.Canvas.{Sheet, empty_sheet, dots_from, stored_dots, IsCanvas}
 
 -- no later line has a dot
@@ -154,3 +154,35 @@ shows_none buffer ws h = ap (λ (dots : List Dot). record { dots = dots; line = 
 
 pub blank : (n : ℕ) (ws : List ℕ) → ws ≡ zeros n → (j : ℕ) → slice_index ws j ≡ 0
 blank n ws e j = ap (λ x. slice_index x j) e ∙ zeros_at n j
+
+-- n dots more on line v, by the bytes of a row
+pub stored_line : (ws buffer colours : List ℕ) (v n : ℕ) → v < length ws → ((j : ℕ) → v < j → slice_index ws j ≡ 0) → length buffer ≡ 3 * length (lines_from 0 ws)
+    → stored_dots (slice_set ws v (slice_index ws v + n)) (buffer ++ colours) ≡ stored_dots ws buffer ++ dots_from (replicate n v) colours
+stored_line ws buffer colours v n l h e =
+    let z : 0 + v ≡ v = omega arith in
+    ap (λ x. dots_from x (buffer ++ colours)) (lines_more 0 v n ws l h)
+    ∙ dots-append (lines_from 0 ws) (replicate n (0 + v)) buffer colours e
+    ∙ ap (λ k. stored_dots ws buffer ++ dots_from (replicate n k) colours) z
+
+-- a canvas shows whether it has room for n dots more
+pub line_shown : (sheet : Sheet) (dots : List Dot) (ws : List ℕ) (line v n : ℕ) → record { dots = dots; line = line; width = slice_index ws line } ≡ sheet → v < highest → sheet.line ≤ v → n ≤ widest → (v ≡ sheet.line → sheet.width + n ≤ widest) → HasRoom ws line v n
+line_shown sheet dots ws line v n shown inside after few room =
+    let last = ap (λ (s : Sheet). s.line) shown in
+    record {
+      after = omega (arith, last, after);
+      inside = inside;
+      few = few;
+      beside = λ same. omega (arith, ap (λ (s : Sheet). s.width) shown, room (same ∙ last));
+    }
+
+-- more memory does no harm
+pub roomier : (capacity more : ℕ) (buffer ws : List ℕ) (line : ℕ) → capacity ≤ more → IsCanvas capacity buffer ws line → IsCanvas more buffer ws line
+roomier capacity more buffer ws line l is = record {
+  room = omega (arith, is.room, l);
+  lines = is.lines;
+  counted = is.counted;
+  inside = is.inside;
+  narrow = is.narrow;
+  fits = is.fits;
+  later = is.later;
+}

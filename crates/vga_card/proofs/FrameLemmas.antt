@@ -27,7 +27,7 @@ unfolding dots dot after_dot after_dots beam_dots
 dots_crtc zero c = refl
 dots_crtc (suc n) c = dots_crtc n (dot c)
 
-dots_host : (n : ℕ) (c : CardState) → (dots n c).host ≡ c.host
+pub dots_host : (n : ℕ) (c : CardState) → (dots n c).host ≡ c.host
 unfolding dots dot
 dots_host zero c = refl
 dots_host (suc n) c = dots_host n (dot c)
@@ -58,7 +58,7 @@ dots_keep (suc n) c = dots_keep n (dot c)
 abbrev pub FramesEnd : Type 0
 FramesEnd = (cw : ℕ) (r : List ℕ) (b : Beam) → 0 < cw → FrameEnds cw r b
 
-wide : (v : Bool) → 0 < (if v then 8 else 9)
+pub wide : (v : Bool) → 0 < (if v then 8 else 9)
 wide true = omega arith
 wide false = omega arith
 

@@ -5,3 +5,5 @@ pub mod PlaceLemmas
 pub mod DotLemmas
 pub mod FrameLemmas
 pub mod BoundLemmas
+pub mod RowLemmas
+pub mod LineLemmas

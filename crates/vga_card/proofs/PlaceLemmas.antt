@@ -40,11 +40,11 @@ drawn_unstarted stays crtc more line width is =
 is_first : (b : Beam) → IsFrameStart b → is_first_dot b ≡ true
 is_first b start = let line = start.line in let character = start.character in let dot = start.dot in grind (arith, nat_tests)
 
-decided : (v : Bool) (b : Beam) (line width : ℕ) → (v ≡ false → IsDrawnTo b 0 line width) → IsDrawnTo b 0 (if v then 0 else line) (if v then 0 else width)
+pub decided : (v : Bool) (b : Beam) (line width : ℕ) → (v ≡ false → IsDrawnTo b 0 line width) → IsDrawnTo b 0 (if v then 0 else line) (if v then 0 else width)
 decided true b line width h = record { below = omega arith; few = λ e. omega arith }
 decided false b line width h = h refl
 
-elsewhere : (b : Beam) → is_first_dot b ≡ false → ¬ IsFrameStart b
+pub elsewhere : (b : Beam) → is_first_dot b ≡ false → ¬ IsFrameStart b
 elsewhere b away start = let here = is_first b start in absurd (cc)
 
 -- one dot more is drawn, and the beam moves past it

@@ -9,3 +9,4 @@ pub mod Frames
 pub mod Valid
 pub mod Bounds
 pub mod Bus
+pub mod Line

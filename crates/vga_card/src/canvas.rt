@@ -1,10 +1,11 @@
 //! The dots that were drawn of the frame under way.
 ghost use Rattle.std.specs.Prelude.{◌≡◌, ℕ, ◌+◌, ◌*◌, ◌<◌, ◌≤◌, [], ◌∷◌, ◌++◌, length};
-ghost use Rattle.std.specs.Prelude.{slice_index, vec_len, vec_capacity, IfOk, IfSome, IsOkUnless};
+ghost use Rattle.std.specs.Prelude.{slice_index, take, replicate, vec_len, vec_capacity, IfOk, IfSome, IsOkUnless};
 ghost use Rattle.vga_bits.specs.Bytes.{zeros};
 ghost use Rattle.vga_card.specs.Picture.{Dot, widest, highest, bytes_of, shape, rows, IsPictureOf};
 ghost use Rattle.vga_card.specs.Frames.{IsSmall};
-ghost use Rattle.vga_card.specs.Canvas.{IsSmallShape, empty_sheet, width_with};
+ghost use Rattle.vga_card.specs.Canvas.{IsSmallShape, empty_sheet, width_with, dots_from};
+ghost use Rattle.vga_card.specs.Line.{width_after};
 
 use crate::drawn::Drawn;
 use crate::shape::{Shape, count_rows};
@@ -82,6 +83,18 @@ fn push_colour(buffer: &mut Vec<u8>, colour: [u8; 3])
     buffer.push_reserved(colour[2]);
 }
 
+/// Appends the first `len` bytes of a row, for which there is room.
+fn push_row(buffer: &mut Vec<u8>, row: &[u8], len: usize)
+    requires within { len ≤ length row.now }
+    requires room { vec_len buffer.old + len ≤ vec_capacity buffer.old }
+    ensures bytes { buffer.new.items ≡ buffer.old.items ++ take len row.now }
+    ensures capacity { vec_capacity buffer.old ≤ vec_capacity buffer.new }
+{
+    if buffer.extend_from_slice(&row[..len]).is_err() {
+        unreachable!();
+    }
+}
+
 impl Canvas {
     /// No dots, with room for the largest frame: no later call takes memory. It fails with
     /// `OutOfMemory` alone.
@@ -111,6 +124,24 @@ impl Canvas {
         push_colour(&mut self.buffer, colour);
         let width = &mut self.widths[line as usize];
         *width += 1;
+        self.line = line;
+    }
+
+    /// Adds the first `count` dots of a row, three bytes each, to the last line or to one after it. A line
+    /// is below 1,024 and has at most 2,304 dots.
+    pub(crate) fn add_line(&mut self, line: u16, count: usize, row: &[u8])
+        requires lines { line < highest }
+        requires after { self.old.line ≤ line }
+        requires few { count ≤ widest }
+        requires room { line ≡ self.old.line → self.old.width + count ≤ widest }
+        requires row { 3 * count ≤ length row.now }
+        ensures dots { self.new.dots ≡ self.old.dots ++ dots_from (replicate count line) (take (3 * count) row.now) }
+        ensures line { self.new.line ≡ line }
+        ensures width { self.new.width ≡ width_after self.old line count }
+    {
+        push_row(&mut self.buffer, row, 3 * count);
+        let width = &mut self.widths[line as usize];
+        *width += count as u32;
         self.line = line;
     }
 

@@ -1,7 +1,9 @@
 //! Dots of the adapter's clock.
 ghost use Rattle.std.specs.Prelude.{◌≡◌, ◌≤◌, ◌↔◌, ◌⊎◌, ◌++◌, IsOk, OnOk, IfErr};
 ghost use Rattle.vga_crtc.specs.Beam.{after_start, after_dot};
+ghost use Rattle.vga_crtc.specs.Raster.{IsLineStart};
 ghost use Rattle.vga_card.specs.Dots.{fresh_dots, display_dot, dot, dots, most_dots};
+ghost use Rattle.vga_card.specs.Line.{line_dots, line_count};
 ghost use Rattle.vga_card.specs.Valid.{fresh_count, IsDrawnTo};
 
 use super::Card;
@@ -11,11 +13,14 @@ use vga_bits::Refusal;
 use vga_crtc::laws::{dot_moves, start_is_taken_once};
 use vga_crtc::{Beam, Crtc};
 use vga_dac::Dac;
-use vga_dots::dot_colour;
+use vga_dots::{dot_colour, draw_line, shown_characters};
 use vga_host::Host;
 
 /// The most dots that one step may advance.
 const MOST_DOTS: u32 = 16_777_216;
+
+/// How many bytes the widest line has.
+const ROW_BYTES: usize = 6_912;
 
 /// Takes away the dots of the frame before, where a frame begins.
 fn clear_at_first_dot(beam: Beam, canvas: &mut Canvas)
@@ -46,7 +51,45 @@ fn draw_dot(host: &Host, crtc: &mut Crtc, attr: &Attr, dac: &Dac, canvas: &mut C
     crtc.step_dot(width);
 }
 
+/// Adds the display dots of the beam's line, the start of whose frame is taken.
+fn draw_row(host: &Host, crtc: &Crtc, attr: &Attr, dac: &Dac, canvas: &mut Canvas)
+    requires place { IsDrawnTo crtc.now.beam 0 canvas.old.line canvas.old.width }
+    requires start { IsLineStart crtc.now.beam }
+    ensures dots { canvas.new.dots ≡ canvas.old.dots ++ line_dots host.now crtc.now attr.now dac.now }
+    ensures below { canvas.new.line ≤ crtc.now.beam.line }
+{
+    if crtc.is_display() {
+        let mut row = [0; ROW_BYTES];
+        let count = shown_characters(crtc.fields()) as usize;
+        if host.is_eight_dots() {
+            draw_line::<8>(host, crtc, attr, dac, &mut row);
+            canvas.add_line(crtc.beam().line, count * 8, &row);
+        } else {
+            draw_line::<9>(host, crtc, attr, dac, &mut row);
+            canvas.add_line(crtc.beam().line, count * 9, &row);
+        }
+    }
+}
+
 impl Card {
+    /// Takes the dots of a whole line, at whose first dot the beam is.
+    fn take_line(&mut self)
+        requires { IsLineStart self.old.crtc.beam }
+        ensures { self.new ≡ dots (line_count self.old) self.old }
+    {
+        let width = self.host.character_width();
+        clear_at_first_dot(self.crtc.beam(), &mut self.canvas);
+        self.crtc.take_start();
+        draw_row(
+            &self.host,
+            &self.crtc,
+            &self.attr,
+            &self.dac,
+            &mut self.canvas,
+        );
+        self.crtc.step_line(width);
+    }
+
     /// Takes one dot.
     fn take_dot(&mut self)
         ensures { self.new ≡ dot self.old }
@@ -65,13 +108,22 @@ impl Card {
         );
     }
 
-    /// Takes so many dots.
-    #[tactic(auto, using(crate::proofs::DotLemmas::dots_none, crate::proofs::DotLemmas::dots_more))]
+    /// Takes so many dots, by whole lines where it can.
     pub(super) fn take_dots(&mut self, n: u32)
         ensures { self.new ≡ dots n self.old }
     {
-        for taken in 0..n {
-            self.take_dot();
+        let width = self.host.character_width();
+        let mut left = n;
+        while left > 0 {
+            let beam = self.crtc.beam();
+            let line = self.crtc.dots_in_line(width);
+            if beam.character == 0 && beam.dot == 0 && line <= left {
+                self.take_line();
+                left -= line;
+            } else {
+                self.take_dot();
+                left -= 1;
+            }
         }
     }
 

@@ -1,0 +1,216 @@
+-- A whole line is its dots, one at a time.
+use Rattle.std.proofs.Common.{◌≡◌, ℕ, zero, suc, ◌+◌, ◌-◌, ◌*◌, ◌/◌, ◌%◌, ◌<◌, ◌≤◌, ⊎_elim, inl, inr, refl, sym, ap, ◌∙◌, arith, Bool, true, false, List, [], ◌∷◌, ◌++◌, length, replicate, take, drop, slice_index}
+use Rattle.std.specs.Prelude.{if◌then◌else◌, ◌&&◌, nat_le, bit_and}
+use Rattle.std.proofs.lemmas.Bool.{cases_lt, le-leb, lt-leb}
+use Rattle.std.proofs.lemmas.Bool.Decides.{nat_tests}
+use Rattle.std.proofs.lemmas.Nat.{div-add-mod', div_below, mod_below, mul-le}
+use Rattle.std.proofs.lemmas.List.{append-nil, replicate-append-replicate, length-replicate, length-take, get_or-take, drop-drop}
+use Rattle.std.proofs.Math.Nat.{le_refl}
+use Rattle.vga_host.specs.Host.{HostState}
+use Rattle.vga_host.specs.Fields.{character_width as host_width, is_screen_off}
+use Rattle.vga_crtc.specs.Crtc.{CrtcState}
+use Rattle.vga_crtc.specs.Status.{is_display}
+use Rattle.vga_crtc.specs.Fields.{horizontal_display_end, vertical_display_end}
+use Rattle.vga_attr.specs.Attr.{AttrState}
+use Rattle.vga_dac.specs.Dac.{DacState}
+use Rattle.vga_dots.specs.Colour.{dot_colour, colour_number}
+use Rattle.vga_dots.specs.Line.{placed, shown_characters, IsLineDrawn}
+use Rattle.vga_crtc.specs.declared.beam.Beam.{Beam}
+use Rattle.vga_crtc.specs.Beam.{characters, started, moved, dot as beam_dot, dots as beam_dots}
+use Rattle.vga_crtc.proofs.Moves.{moved_in, moved_out, next_character, not_started, started_again, started_place}
+use Rattle.vga_crtc.proofs.Dots.{dots_none, dots_more, dots_started}
+use Rattle.vga_card.specs.Picture.{Dot}
+use Rattle.vga_card.specs.Canvas.{dots_from}
+use Rattle.vga_card.specs.Dots.{display_dot}
+use Rattle.vga_card.specs.Line.{line_dots}
+use Rattle.vga_card.specs.Frames.{collect}
+
+abbrev pub mk : Beam → ℕ → ℕ → Beam
+mk b x k = record b { character = x; dot = k }
+
+module _ (cw : ℕ) (r : List ℕ) (b : Beam) (some : 0 < cw) (free : started r b ≡ b) (first : b.character ≡ 0) (zeroth : b.dot ≡ 0) where
+  same : mk b 0 0 ≡ b
+  same = ap (λ n. mk b n 0) (sym first) ∙ ap (λ n. mk b b.character n) (sym zeroth)
+
+  pub steady : (x k : ℕ) → started r (mk b x k) ≡ mk b x k
+  steady zero zero = ap (started r) same ∙ free ∙ sym same
+  steady zero (suc k) = not_started r (mk b 0 (suc k)) (inl (omega arith))
+  steady (suc x) k = not_started r (mk b (suc x) k) (inr (inl (omega arith)))
+
+  on_dot : (n x k : ℕ) → beam_dots cw r n b ≡ mk b x 0 → k < cw → beam_dots cw r (n + k) b ≡ mk b x k
+  on_dot n x zero e l = let z : n + 0 ≡ n = omega arith in ap (λ m. beam_dots cw r m b) z ∙ e
+  on_dot n x (suc k) e l =
+      let z : n + suc k ≡ (n + k) + 1 = omega arith in
+      let i : k + 1 ≡ suc k = omega arith in
+      ap (λ m. beam_dots cw r m b) z ∙ dots_more cw r (n + k) b ∙ ap (beam_dot cw r) (on_dot n x k e (omega arith))
+      ∙ ap (moved cw r) (steady x k) ∙ moved_in cw r (mk b x k) (omega arith) ∙ ap (mk b x) i
+
+  on_character : (x : ℕ) → x < characters r → beam_dots cw r (x * cw) b ≡ mk b x 0
+  on_character zero l = let z : 0 * cw ≡ 0 = omega arith in ap (λ m. beam_dots cw r m b) z ∙ dots_none cw r b ∙ sym same
+  on_character (suc x) l =
+      let z : suc x * cw ≡ (x * cw + (cw - 1)) + 1 = omega arith in
+      let i : x + 1 ≡ suc x = omega arith in
+      ap (λ m. beam_dots cw r m b) z ∙ dots_more cw r (x * cw + (cw - 1)) b
+      ∙ ap (beam_dot cw r) (on_dot (x * cw) x (cw - 1) (on_character x (omega arith)) (omega arith))
+      ∙ ap (moved cw r) (steady x (cw - 1)) ∙ moved_out cw r (mk b x (cw - 1)) (omega arith)
+      ∙ next_character r (mk b x (cw - 1)) (omega arith) ∙ ap (λ n. mk b n 0) i
+
+  -- the place of dot i of a line
+  pub line_place : (i : ℕ) → i < characters r * cw → beam_dots cw r i b ≡ mk b (i / cw) (i % cw)
+  line_place i l =
+      ap (λ m. beam_dots cw r m b) (sym (div-add-mod' i cw))
+      ∙ on_dot (i / cw * cw) (i / cw) (i % cw) (on_character (i / cw) (div_below i cw (characters r) some l)) (mod_below i cw some)
+
+start_first : (cw : ℕ) (r : List ℕ) (n : ℕ) (b : Beam) → started r (beam_dots cw r n b) ≡ started r (beam_dots cw r n (started r b))
+start_first cw r zero b = ap (started r) (dots_none cw r b) ∙ sym (started_again r b) ∙ ap (started r) (sym (dots_none cw r (started r b)))
+start_first cw r (suc n) b = ap (started r) (dots_started cw r (suc n) b (omega arith))
+
+-- the beam at dot i of a line, whatever the start
+pub started_place_of : (cw : ℕ) (r : List ℕ) (b : Beam) (i : ℕ) → 0 < cw → b.character ≡ 0 → b.dot ≡ 0 → i < characters r * cw → started r (beam_dots cw r i b) ≡ mk (started r b) (i / cw) (i % cw)
+started_place_of cw r b i some first zeroth l =
+    let s : Beam = started r b in
+    let place = started_place r b in
+    start_first cw r i b ∙ ap (started r) (line_place cw r s some (started_again r b) (place.character ∙ first) (place.dot ∙ zeroth) i l)
+    ∙ steady cw r s some (started_again r b) (place.character ∙ first) (place.dot ∙ zeroth) (i / cw) (i % cw)
+
+-- ---- lists of dots
+
+pub collect_same : (f g : ℕ → List Dot) (n : ℕ) → ((i : ℕ) → i < n → f i ≡ g i) → collect f n ≡ collect g n
+collect_same f g zero h = refl
+collect_same f g (suc n) h = ap (λ x. x ++ f n) (collect_same f g n (λ i l. h i (omega arith))) ∙ ap (λ x. collect g n ++ x) (h n (omega arith))
+
+pub collect_none : (f : ℕ → List Dot) (m n : ℕ) → ((i : ℕ) → m ≤ i → i < m + n → f i ≡ []) → collect f (m + n) ≡ collect f m
+collect_none f m zero h = let z : m + 0 ≡ m = omega arith in ap (collect f) z
+collect_none f m (suc n) h =
+    let z : m + suc n ≡ suc (m + n) = omega arith in
+    ap (collect f) z ∙ ap (λ x. collect f (m + n) ++ x) (h (m + n) (omega arith) (omega arith)) ∙ append-nil (collect f (m + n)) ∙ collect_none f m n (λ i lo hi. h i lo (omega arith))
+
+dots_cut : (vs us bs : List ℕ) → dots_from (vs ++ us) bs ≡ dots_from vs bs ++ dots_from us (drop (3 * length vs) bs)
+unfolding dots_from
+dots_cut [] us bs = refl
+dots_cut (v ∷ vs) us bs =
+    let z : 3 + 3 * length vs ≡ 3 * suc (length vs) = omega arith in
+    let here : Dot = record { line = v; colour = take 3 bs } in
+    ap (λ x. here ∷ x) (dots_cut vs us (drop 3 bs))
+    ∙ ap (λ x. here ∷ (dots_from vs (drop 3 bs) ++ dots_from us x)) (drop-drop (3 * length vs) 3 bs ∙ ap (λ n. drop n bs) z)
+
+abbrev pub row_dot : ℕ → List ℕ → ℕ → List Dot
+row_dot v bs i = record { line = v; colour = take 3 (drop (3 * i) bs) } ∷ []
+
+pub collect_row : (v : ℕ) (bs : List ℕ) (n : ℕ) → collect (row_dot v bs) n ≡ dots_from (replicate n v) bs
+unfolding dots_from
+collect_row v bs zero = refl
+collect_row v bs (suc n) =
+    let z : n + 1 ≡ suc n = omega arith in
+    ap (λ x. x ++ row_dot v bs n) (collect_row v bs n)
+    ∙ ap (λ m. dots_from (replicate n v) bs ++ (record { line = v; colour = take 3 (drop (3 * m) bs) }) ∷ []) (sym (length-replicate n v))
+    ∙ sym (dots_cut (replicate n v) (v ∷ []) bs)
+    ∙ ap (λ x. dots_from x bs) (replicate-append-replicate n 1 v ∙ ap (λ m. replicate m v) z)
+
+three_at : (n : ℕ) (bs : List ℕ) → n + 3 ≤ length bs → take 3 (drop n bs) ≡ slice_index bs n ∷ slice_index bs (suc n) ∷ slice_index bs (suc (suc n)) ∷ []
+three_at zero [] l = absurd (omega arith)
+three_at zero (x ∷ []) l = absurd (omega arith)
+three_at zero (x ∷ y ∷ []) l = absurd (omega arith)
+three_at zero (x ∷ y ∷ z ∷ bs) l = refl
+three_at (suc n) [] l = absurd (omega arith)
+three_at (suc n) (x ∷ bs) l = three_at n bs (omega arith)
+
+-- three bytes are these
+pub three_are : (n : ℕ) (bs c : List ℕ) → n + 3 ≤ length bs → c ≡ slice_index c 0 ∷ slice_index c 1 ∷ slice_index c 2 ∷ []
+    → ((j : ℕ) → j < 3 → slice_index bs (n + j) ≡ slice_index c j) → take 3 (drop n bs) ≡ c
+three_are n bs c l three h =
+    let z : n + 0 ≡ n = omega arith in
+    let o : n + 1 ≡ suc n = omega arith in
+    let t : n + 2 ≡ suc (suc n) = omega arith in
+    three_at n bs l
+    ∙ ap (λ q. q ∷ slice_index bs (suc n) ∷ slice_index bs (suc (suc n)) ∷ []) (ap (slice_index bs) (sym z) ∙ h 0 (omega arith))
+    ∙ ap (λ q. slice_index c 0 ∷ q ∷ slice_index bs (suc (suc n)) ∷ []) (ap (slice_index bs) (sym o) ∙ h 1 (omega arith))
+    ∙ ap (λ q. slice_index c 0 ∷ slice_index c 1 ∷ q ∷ []) (ap (slice_index bs) (sym t) ∙ h 2 (omega arith))
+    ∙ sym three
+
+-- ---- the dots of a displayed line
+
+shown_dot : (h : HostState) (c : CrtcState) (a : AttrState) (d : DacState) (x k : ℕ) → x ≤ horizontal_display_end c.registers → c.beam.line ≤ vertical_display_end c.registers
+    → display_dot h (placed c x k) a d ≡ record { line = c.beam.line; colour = dot_colour h (placed c x k) a d } ∷ []
+unfolding display_dot
+shown_dot h c a d x k in_line in_frame =
+    let dots : List Dot = record { line = c.beam.line; colour = dot_colour h (placed c x k) a d } ∷ [] in
+    ap (λ v. if v && nat_le c.beam.line (vertical_display_end c.registers) then dots else []) (le-leb x (horizontal_display_end c.registers) in_line)
+    ∙ ap (λ v. if v then dots else []) (le-leb c.beam.line (vertical_display_end c.registers) in_frame)
+
+hidden_dot : (h : HostState) (c : CrtcState) (a : AttrState) (d : DacState) (x k : ℕ) → horizontal_display_end c.registers < x → display_dot h (placed c x k) a d ≡ []
+unfolding display_dot
+hidden_dot h c a d x k past =
+    let dots : List Dot = record { line = c.beam.line; colour = dot_colour h (placed c x k) a d } ∷ [] in
+    ap (λ v. if v && nat_le c.beam.line (vertical_display_end c.registers) then dots else []) (lt-leb x (horizontal_display_end c.registers) past)
+
+and_false : (v : Bool) (dots : List Dot) → (if v && false then dots else []) ≡ []
+and_false true dots = refl
+and_false false dots = refl
+
+hidden_line_dot : (h : HostState) (c : CrtcState) (a : AttrState) (d : DacState) (x k : ℕ) → vertical_display_end c.registers < c.beam.line → display_dot h (placed c x k) a d ≡ []
+unfolding display_dot
+hidden_line_dot h c a d x k past =
+    let dots : List Dot = record { line = c.beam.line; colour = dot_colour h (placed c x k) a d } ∷ [] in
+    ap (λ v. if nat_le x (horizontal_display_end c.registers) && v then dots else []) (lt-leb c.beam.line (vertical_display_end c.registers) past)
+    ∙ and_false (nat_le x (horizontal_display_end c.registers)) dots
+
+three_of : (v : Bool) (x y z : ℕ) → (if v then 0 ∷ 0 ∷ 0 ∷ [] else x ∷ y ∷ z ∷ []) ≡ slice_index (if v then 0 ∷ 0 ∷ 0 ∷ [] else x ∷ y ∷ z ∷ []) 0 ∷ slice_index (if v then 0 ∷ 0 ∷ 0 ∷ [] else x ∷ y ∷ z ∷ []) 1 ∷ slice_index (if v then 0 ∷ 0 ∷ 0 ∷ [] else x ∷ y ∷ z ∷ []) 2 ∷ []
+three_of true x y z = refl
+three_of false x y z = refl
+
+three_bytes : (h : HostState) (c : CrtcState) (a : AttrState) (d : DacState) → dot_colour h c a d ≡ slice_index (dot_colour h c a d) 0 ∷ slice_index (dot_colour h c a d) 1 ∷ slice_index (dot_colour h c a d) 2 ∷ []
+unfolding dot_colour
+three_bytes h c a d =
+    let n = bit_and (colour_number h c a) d.mask in
+    three_of (is_screen_off h) (slice_index d.reds n) (slice_index d.greens n) (slice_index d.blues n)
+
+module _ (h : HostState) (c : CrtcState) (a : AttrState) (d : DacState) (cw : ℕ) (wide : cw ≡ host_width h) (some : 0 < cw) where
+  abbrev place_dot : ℕ → List Dot
+  place_dot i = display_dot h (placed c (i / cw) (i % cw)) a d
+
+  by_width : line_dots h c a d ≡ collect place_dot (characters c.registers * cw)
+  unfolding line_dots
+  by_width = ap (λ w. collect (λ i. display_dot h (placed c (i / w) (i % w)) a d) (characters c.registers * w)) (sym wide)
+
+  none : (n : ℕ) → ((i : ℕ) → i < n → place_dot i ≡ []) → collect place_dot n ≡ []
+  none n f = let z : 0 + n ≡ n = omega arith in ap (collect place_dot) (sym z) ∙ collect_none place_dot 0 n (λ i lo hi. f i (omega arith))
+
+  -- a line that is not displayed has no display dot
+  pub hidden_line : vertical_display_end c.registers < c.beam.line → line_dots h c a d ≡ []
+  hidden_line past = by_width ∙ none (characters c.registers * cw) (λ i l. hidden_line_dot h c a d (i / cw) (i % cw) past)
+
+  -- a line that is displayed has those that are drawn
+  pub shown_line : (row old : List ℕ) → c.beam.line ≤ vertical_display_end c.registers → IsLineDrawn cw (shown_characters c.registers) h c a d old row → 3 * (shown_characters c.registers * cw) ≤ length row
+      → line_dots h c a d ≡ dots_from (replicate (shown_characters c.registers * cw) c.beam.line) (take (3 * (shown_characters c.registers * cw)) row)
+  shown_line row old in_frame drawn room =
+      let r = c.registers in
+      let n = shown_characters r in
+      let m = n * cw in
+      let bytes = take (3 * m) row in
+      let fits : n ≤ characters r = omega arith in
+      let whole : m + (characters r * cw - m) ≡ characters r * cw = omega (arith, mul-le n cw (characters r) cw fits (le_refl cw)) in
+      let long : length bytes ≡ 3 * m = omega (arith, length-take (3 * m) row) in
+      let at : (i : ℕ) → i / cw * cw + i % cw ≡ i = λ i. div-add-mod' i cw in
+      by_width ∙ ap (collect place_dot) (sym whole)
+      ∙ collect_none place_dot m (characters r * cw - m) (λ i lo hi.
+      let below : i < characters r * cw = omega arith in
+      let x = div_below i cw (characters r) some below in
+      ⊎_elim
+      (λ (l : i / cw < n). absurd (omega (arith, lo, at i, mod_below i cw some, mul-le (i / cw + 1) cw n cw (omega arith) (le_refl cw))))
+      (λ (l : n ≤ i / cw). hidden_dot h c a d (i / cw) (i % cw) (omega (arith, x, l)))
+      (cases_lt (i / cw) n))
+      ∙ collect_same place_dot (row_dot c.beam.line bytes) m (λ i l.
+      let x = div_below i cw n some l in
+      let k = mod_below i cw some in
+      let colour = dot_colour h (placed c (i / cw) (i % cw)) a d in
+      shown_dot h c a d (i / cw) (i % cw) (omega (arith, x)) in_frame
+      ∙ ap (λ (q : List ℕ). (record { line = c.beam.line; colour = q }) ∷ []) (sym (three_are (3 * i) bytes colour (omega (arith, long)) (three_bytes h (placed c (i / cw) (i % cw)) a d)
+      (λ j lj. get_or-take (3 * m) row (3 * i + j) 0 (omega arith) ∙ ap (λ q. slice_index row (3 * q + j)) (sym (at i)) ∙ drawn.inside (i / cw) (i % cw) j x k lj))))
+      ∙ collect_row c.beam.line bytes m
+
+pub is_shown : (r : List ℕ) (b : Beam) → is_display r b ≡ true → b.line ≤ vertical_display_end r
+is_shown r b h = grind (arith, nat_tests)
+
+pub is_hidden : (r : List ℕ) (b : Beam) → b.character ≡ 0 → is_display r b ≡ false → vertical_display_end r < b.line
+is_hidden r b first h = grind (arith, nat_tests)

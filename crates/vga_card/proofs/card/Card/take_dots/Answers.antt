@@ -1,0 +1,37 @@
+use Rattle.std.proofs.Common.{◌≡◌, sym, ap, ◌∙◌, arith}
+use Rattle.vga_crtc.specs.Raster.{dots_in_line}
+use Rattle.vga_card.specs.Card.{CardState}
+use Rattle.vga_card.specs.Dots.{character_width, dot, dots}
+use Rattle.vga_card.specs.Line.{line_count}
+use Rattle.vga_card.proofs.DotLemmas.{dots_none}
+use Rattle.vga_card.proofs.LineLemmas.{line_went, dot_went, width_kept, width_kept_dot, some_taken}
+use Rattle.vga_card.proofs.card.Card.take_dots.Goals as goal
+
+pub loop-left-smaller-then-line-left : goal.loop-left-smaller-then-line-left
+loop-left-smaller-then-line-left c =
+    let a = c.self-in-loop-left.inside in
+    let s = c.loop-left.self in
+    let count : c.dots_in_line-line.result ≡ line_count s = c.dots_in_line-line.ensures.value ∙ ap (λ w. dots_in_line w a.crtc.registers a.crtc.beam) c.loop-left.invariant.1
+    ∙ ap (λ (x : CardState). dots_in_line (character_width s) x.crtc.registers x.crtc.beam) c.self-in-loop-left.view_is in
+    some_taken c.loop-left.left c.dots_in_line-line.result s count (omega arith)
+
+pub loop-left-preserved-then-line-left : goal.loop-left-preserved-then-line-left
+loop-left-preserved-then-line-left c =
+    let a = c.self-in-loop-left.inside in
+    let s = c.loop-left.self in
+    let count : c.dots_in_line-line.result ≡ line_count s = c.dots_in_line-line.ensures.value ∙ ap (λ w. dots_in_line w a.crtc.registers a.crtc.beam) c.loop-left.invariant.1
+    ∙ ap (λ (x : CardState). dots_in_line (character_width s) x.crtc.registers x.crtc.beam) c.self-in-loop-left.view_is in
+    let taken : c.take_line.new.self ≡ dots (line_count s) s = c.take_line.ensures in
+    (line_went c.loop-left.left c.dots_in_line-line.result s c.take_line.new.self _ (omega arith) count taken c.loop-left.invariant.0, c.loop-left.invariant.1 ∙ width_kept (line_count s) s c.take_line.new.self taken)
+
+pub loop-left-preserved : goal.loop-left-preserved
+loop-left-preserved c =
+    let s = c.loop-left.self in
+    let taken : c.take_dot.new.self ≡ dot s = c.take_dot.ensures in
+    (dot_went c.loop-left.left s c.take_dot.new.self _ (omega arith) taken c.loop-left.invariant.0, c.loop-left.invariant.1 ∙ width_kept_dot s c.take_dot.new.self taken)
+
+pub returns : goal.returns
+returns c =
+    let s = c.loop-left.self in
+    let none : c.loop-left.left ≡ 0 = omega arith in
+    sym (ap (λ i. dots i s) none ∙ dots_none s) ∙ c.loop-left.invariant.0

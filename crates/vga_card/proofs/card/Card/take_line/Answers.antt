@@ -1,0 +1,36 @@
+use Rattle.std.proofs.Common.{◌++◌, sym, subst, ap, ◌∙◌, List}
+use Rattle.vga_crtc.specs.declared.beam.Beam.{Beam}
+use Rattle.vga_crtc.specs.Crtc.{CrtcState}
+use Rattle.vga_crtc.specs.Beam.{after_start}
+use Rattle.vga_crtc.specs.Raster.{IsLineStart}
+use Rattle.vga_crtc.proofs.Moves.{started_place}
+use Rattle.vga_card.specs.Picture.{Dot}
+use Rattle.vga_card.specs.Card.{CardState}
+use Rattle.vga_card.specs.Dots.{fresh_dots, dots}
+use Rattle.vga_card.specs.Line.{line_dots, line_count}
+use Rattle.vga_card.proofs.PlaceLemmas.{drawn_started}
+use Rattle.vga_card.proofs.LineLemmas.{line_is, line_moves, started_start}
+use Rattle.vga_card.proofs.card.Card.take_line.Goals as goal
+
+pub draw_row-requires-clause-place : goal.draw_row-requires-clause-place
+draw_row-requires-clause-place c =
+    rw (c.take_start.ensures.started, c.clear_at_first_dot.ensures.line, c.clear_at_first_dot.ensures.width, c.beam.ensures.value) (drawn_started started_place c.self.inside.crtc 0 _ _ c.self.invariant)
+
+pub draw_row-requires-clause-start : goal.draw_row-requires-clause-start
+draw_row-requires-clause-start c =
+    let here = subst (λ (x : CardState). IsLineStart x.crtc.beam) (sym c.self.view_is) c.requires in
+    rw c.take_start.ensures.started (started_start c.self.inside.crtc here)
+
+pub invariant_of-self : goal.invariant_of-self
+invariant_of-self c = line_moves _ c.take_start.new.self c.step_line.new.self _ _ c.step_line.ensures c.draw_row.ensures.below
+
+pub returns : goal.returns
+returns c =
+    let a = c.self.inside in
+    let old : CardState = record { host = a.host; crtc = a.crtc; attr = a.attr; dac = a.dac; misc = a.misc; drawn = a.canvas.dots } in
+    let here = subst (λ (x : CardState). IsLineStart x.crtc.beam) (sym c.self.view_is) c.requires in
+    let draws = c.draw_row.ensures.dots
+    ∙ ap (λ (x : CrtcState). c.clear_at_first_dot.new.canvas.dots ++ line_dots a.host x a.attr a.dac) c.take_start.ensures.started
+    ∙ ap (λ (dots : List Dot). dots ++ line_dots a.host (after_start a.crtc) a.attr a.dac) (c.clear_at_first_dot.ensures.dots ∙ ap (λ (b : Beam). fresh_dots b a.canvas.dots) c.beam.ensures.value) in
+    let moves = rw (c.take_start.ensures.started, c.character_width-width.ensures.value) at c.step_line.ensures in
+    line_is old c.step_line.new.self c.draw_row.new.canvas.dots here moves draws ∙ ap (λ (x : CardState). dots (line_count x) x) c.self.view_is
