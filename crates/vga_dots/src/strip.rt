@@ -27,36 +27,28 @@ fn masked(dac: &Dac, n: u8) -> [u8; 3]
     dac.entry(n & dac.mask())
 }
 
-/// The colour of four bits.
-#[tactic(auto, unfolding(crate::specs::Line::shade))]
-fn shade(attr: &Attr, dac: &Dac, n: u8) -> [u8; 3]
-    ensures { result ≡ shade_of attr.now dac.now n }
-{
-    masked(dac, attr.colour_index(n))
-}
-
 /// The colours of the 16 numbers that four bits have.
-#[tactic(auto, unfolding(crate::specs::Line::shades_of))]
 pub(crate) fn shades(attr: &Attr, dac: &Dac) -> [[u8; 3]; 16]
     ensures { result ≡ shades_of attr.now dac.now }
 {
+    let numbers = attr.table();
     [
-        shade(attr, dac, 0),
-        shade(attr, dac, 1),
-        shade(attr, dac, 2),
-        shade(attr, dac, 3),
-        shade(attr, dac, 4),
-        shade(attr, dac, 5),
-        shade(attr, dac, 6),
-        shade(attr, dac, 7),
-        shade(attr, dac, 8),
-        shade(attr, dac, 9),
-        shade(attr, dac, 10),
-        shade(attr, dac, 11),
-        shade(attr, dac, 12),
-        shade(attr, dac, 13),
-        shade(attr, dac, 14),
-        shade(attr, dac, 15),
+        masked(dac, numbers[0]),
+        masked(dac, numbers[1]),
+        masked(dac, numbers[2]),
+        masked(dac, numbers[3]),
+        masked(dac, numbers[4]),
+        masked(dac, numbers[5]),
+        masked(dac, numbers[6]),
+        masked(dac, numbers[7]),
+        masked(dac, numbers[8]),
+        masked(dac, numbers[9]),
+        masked(dac, numbers[10]),
+        masked(dac, numbers[11]),
+        masked(dac, numbers[12]),
+        masked(dac, numbers[13]),
+        masked(dac, numbers[14]),
+        masked(dac, numbers[15]),
     ]
 }
 
