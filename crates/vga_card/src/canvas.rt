@@ -65,11 +65,15 @@ fn zero_widths(alloc: Global, len: usize) -> Result<Vec<u32>, Fault>
     }
 }
 
-/// Makes all widths 0.
-fn clear_widths(widths: &mut [u32])
+/// Makes all widths 0, of which those behind `last` are.
+fn clear_widths(widths: &mut [u32], last: usize)
+    requires within { last < length widths.old }
+    requires later { (j : ℕ) → last < j → slice_index widths.old j ≡ 0 }
     ensures { (j : ℕ) → slice_index widths.new j ≡ 0 }
 {
-    widths.fill(0);
+    for line in 0..last + 1 {
+        widths[line] = 0;
+    }
 }
 
 /// Appends the three bytes of a dot, for which there is room.
@@ -150,7 +154,7 @@ impl Canvas {
         ensures { self.new ≡ empty_sheet }
     {
         self.buffer.clear();
-        clear_widths(self.widths.as_mut_slice());
+        clear_widths(self.widths.as_mut_slice(), self.line as usize);
         self.line = 0;
     }
 

@@ -22,6 +22,9 @@ const MOST_DOTS: u32 = 16_777_216;
 /// How many bytes the widest line has.
 const ROW_BYTES: usize = 6_912;
 
+/// Room for the dots of a line.
+type Row = [u8; ROW_BYTES];
+
 /// Takes away the dots of the frame before, where a frame begins.
 fn clear_at_first_dot(beam: Beam, canvas: &mut Canvas)
     ensures dots { canvas.new.dots ≡ fresh_dots beam canvas.old.dots }
@@ -51,29 +54,29 @@ fn draw_dot(host: &Host, crtc: &mut Crtc, attr: &Attr, dac: &Dac, canvas: &mut C
     crtc.step_dot(width);
 }
 
-/// Adds the display dots of the beam's line, the start of whose frame is taken.
-fn draw_row(host: &Host, crtc: &Crtc, attr: &Attr, dac: &Dac, canvas: &mut Canvas)
+/// Adds the display dots of the beam's line, the start of whose frame is taken. They are drawn in `row`
+/// first, which tells nothing before or after.
+fn draw_row(host: &Host, crtc: &Crtc, attr: &Attr, dac: &Dac, canvas: &mut Canvas, row: &mut Row)
     requires place { IsDrawnTo crtc.now.beam 0 canvas.old.line canvas.old.width }
     requires start { IsLineStart crtc.now.beam }
     ensures dots { canvas.new.dots ≡ canvas.old.dots ++ line_dots host.now crtc.now attr.now dac.now }
     ensures below { canvas.new.line ≤ crtc.now.beam.line }
 {
     if crtc.is_display() {
-        let mut row = [0; ROW_BYTES];
         let count = shown_characters(crtc.fields()) as usize;
         if host.is_eight_dots() {
-            draw_line::<8>(host, crtc, attr, dac, &mut row);
-            canvas.add_line(crtc.beam().line, count * 8, &row);
+            draw_line::<8>(host, crtc, attr, dac, row);
+            canvas.add_line(crtc.beam().line, count * 8, row);
         } else {
-            draw_line::<9>(host, crtc, attr, dac, &mut row);
-            canvas.add_line(crtc.beam().line, count * 9, &row);
+            draw_line::<9>(host, crtc, attr, dac, row);
+            canvas.add_line(crtc.beam().line, count * 9, row);
         }
     }
 }
 
 impl Card {
     /// Takes the dots of a whole line, at whose first dot the beam is.
-    fn take_line(&mut self)
+    fn take_line(&mut self, row: &mut Row)
         requires { IsLineStart self.old.crtc.beam }
         ensures { self.new ≡ dots (line_count self.old) self.old }
     {
@@ -86,6 +89,7 @@ impl Card {
             &self.attr,
             &self.dac,
             &mut self.canvas,
+            row,
         );
         self.crtc.step_line(width);
     }
@@ -113,12 +117,13 @@ impl Card {
         ensures { self.new ≡ dots n self.old }
     {
         let width = self.host.character_width();
+        let mut row = [0; ROW_BYTES];
         let mut left = n;
         while left > 0 {
             let beam = self.crtc.beam();
             let line = self.crtc.dots_in_line(width);
             if beam.character == 0 && beam.dot == 0 && line <= left {
-                self.take_line();
+                self.take_line(&mut row);
                 left -= line;
             } else {
                 self.take_dot();
