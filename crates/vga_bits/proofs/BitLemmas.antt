@@ -5,7 +5,7 @@ use Rattle.std.proofs.lemmas.Bool.Decides.{nat_tests}
 use Rattle.std.specs.Int.{bit_at, rotate_right}
 use Rattle.std.proofs.lemmas.Nat.Bits.{ones_shr, bit_at_or, bit_at_and, bit_at_not, bit_at_xor, bit_at-lt, bit_at-zero, bit_at_ones, bit_at_above, bit_at_cat_low, bit_at_cat_high}
 use Rattle.std.proofs.lemmas.Nat.{and_mask, xor_lt, shr-shr, pow_pos, div-add-mod'}
-use Rattle.vga_bits.specs.Bits.{byte_of}
+use Rattle.vga_bits.specs.Bits.{byte_of, is_set}
 
 -- a byte whose bits are given is the byte of them
 pub byte_from_bits : (b : ℕ) (f : ℕ → ℕ) → b < 256 → ((i : ℕ) → i < 8 → bit_at b i ≡ f i) → b ≡ byte_of f
@@ -50,35 +50,18 @@ field_mask n hi lo low high =
 pub ones_byte : (i : ℕ) → i < 8 → bit_at 255 i ≡ 1
 ones_byte i within = bit_at_ones 8 i within
 
--- the bits of `(d & m) | (l & !m)`
-pub bit_at_select : (d m l i : ℕ) → m < 256 → i < 8 → bit_at (bit_or (bit_and d m) (bit_and l (255 - m))) i ≡ (if bit_at m i == 0 then bit_at l i else bit_at d i)
-bit_at_select d m l i fits within =
-    let either = bit_at_or (bit_and d m) (bit_and l (255 - m)) i in
-    let chosen = bit_at_and d m i in
-    let other = bit_at_and l (255 - m) i in
-    let complement = bit_at_not w8 m i fits within in
-    let bit_d = bit_at-lt d i in
-    let bit_m = bit_at-lt m i in
-    let bit_l = bit_at-lt l i in
-    grind (arith, nat_tests)
-
--- the bits of `!(a ^ b)` tell where the two agree
-pub bit_at_same : (a b i : ℕ) → a < 256 → b < 256 → i < 8 → bit_at (255 - bit_xor a b) i ≡ (if bit_at a i == bit_at b i then 1 else 0)
-bit_at_same a b i fits_a fits_b within =
-    let differ = bit_at_xor a b i in
-    let complement = bit_at_not w8 (bit_xor a b) i (xor_lt 8 a b fits_a fits_b) within in
+-- whether a bit is set in both of two numbers
+pub is_set_and : (a b i : ℕ) → is_set (bit_and a b) i ≡ (is_set a i && is_set b i)
+is_set_and a b i =
+    let both = bit_at_and a b i in
     let bit_a = bit_at-lt a i in
     let bit_b = bit_at-lt b i in
     grind (arith, nat_tests)
 
--- the bits of two bytes that are put together by `&`, where each tells a test
-pub bit_at_both : (a b i : ℕ) (p q : Bool) → bit_at a i ≡ (if p then 1 else 0) → bit_at b i ≡ (if q then 1 else 0) → bit_at (bit_and a b) i ≡ (if p && q then 1 else 0)
-bit_at_both a b i p q tells_p tells_q = let both = bit_at_and a b i in grind (arith, nat_tests)
-
 -- ---- rotation
 
 -- the low bits of a number cut to w bits
-bit_at_cut : (x w i : ℕ) → i < w → bit_at (x % 2 ^ w) i ≡ bit_at x i
+pub bit_at_cut : (x w i : ℕ) → i < w → bit_at (x % 2 ^ w) i ≡ bit_at x i
 bit_at_cut x w i within = sym (bit_at_cat_low (x / 2 ^ w) w (x % 2 ^ w) i within) ∙ ap (λ y. bit_at y i) (div-add-mod' x (2 ^ w))
 
 -- a number shifted left by k has k bits 0, and then its own
@@ -89,7 +72,7 @@ bit_at_shl_high : (x k i : ℕ) → k ≤ i → bit_at (x * 2 ^ k) i ≡ bit_at 
 bit_at_shl_high x k i above = ap (λ y. bit_at y i) (sym (add-zero (x * 2 ^ k))) ∙ bit_at_cat_high x k 0 i (pow_pos k) above
 
 -- a number shifted right
-bit_at_shr : (x n i : ℕ) → bit_at (x / 2 ^ n) i ≡ bit_at x (n + i)
+pub bit_at_shr : (x n i : ℕ) → bit_at (x / 2 ^ n) i ≡ bit_at x (n + i)
 bit_at_shr x n i = ap (λ y. y % 2) (shr-shr x n i)
 
 -- a byte rotated right by n places, k short of all eight

@@ -8,3 +8,4 @@ pub mod Reading
 pub mod RegFile
 pub mod Tally
 pub mod Tracked
+pub mod Words

@@ -2,7 +2,7 @@
 ghost use Rattle.std.specs.Prelude.{◌≡◌, ◌<◌, ℕ, slice_index};
 ghost use Rattle.std.specs.Int.{bit_at};
 ghost use Rattle.vga_bits.specs.Four.{four, of_plane};
-ghost use Rattle.vga_planes.specs.Words.{bytes_of, word_bit};
+ghost use Rattle.vga_bits.specs.Words.{bytes_of, word_bit};
 
 use std::marker::Model;
 
@@ -17,7 +17,7 @@ pub struct Latch {
 impl Model for Latch {
     ghost use Rattle.std.specs.Prelude.{ℕ, ◌<◌};
     ghost use Rattle.vga_bits.specs.Four.{Four};
-    ghost use Rattle.vga_planes.specs.Words.{bytes_of, word_of, word_back};
+    ghost use Rattle.vga_bits.specs.Words.{bytes_of, word_of, word_back};
 
     ghost Value = { Four ℕ };
 
@@ -50,7 +50,7 @@ impl Latch {
     }
 
     /// The four bytes as a word: bits 8p + 7 to 8p are the byte of plane p.
-    #[tactic(auto, using(crate::proofs::WordLemmas::word_bit_plane))]
+    #[tactic(auto, using(vga_bits::proofs::WordLemmas::word_bit_plane))]
     pub fn word(&self) -> u32
         ensures bytes { bytes_of result ≡ self.now }
         ensures bits { (p i : ℕ) → p < 4 → i < 8 → word_bit result p i ≡ bit_at (of_plane self.now p) i }
@@ -66,7 +66,7 @@ impl Latch {
     }
 
     /// The byte of a plane, 0 to 3.
-    #[tactic(auto, using(crate::proofs::WordLemmas::byte_of_plane))]
+    #[tactic(auto, using(vga_bits::proofs::WordLemmas::byte_of_plane))]
     pub fn byte(&self, plane: usize) -> u8
         requires { plane < 4 }
         ensures { result ≡ of_plane self.now plane }

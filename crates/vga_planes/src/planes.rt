@@ -2,7 +2,7 @@
 ghost use Rattle.std.specs.Prelude.{◌≡◌, ◌<◌, vec_len, IfOk, IsOkUnless};
 ghost use Rattle.vga_bits.specs.Bytes.{zeros as zeros_of};
 ghost use Rattle.vga_planes.specs.Planes.{byte_at, bytes_at, with_bytes, zero_planes, IsMemory};
-ghost use Rattle.vga_planes.specs.Words.{bytes_of};
+ghost use Rattle.vga_bits.specs.Words.{bytes_of};
 
 use super::latch::Latch;
 use super::words::{filled, selected};

@@ -1,7 +1,7 @@
 -- The bytes are those of a word, and each of a word's bytes is below 256.
 use Rattle.std.proofs.Common.{ℕ, ◌<◌, subst}
 use Rattle.vga_bits.specs.Four.{of_plane}
-use Rattle.vga_planes.proofs.WordLemmas.{bytes_below}
+use Rattle.vga_bits.proofs.WordLemmas.{bytes_below}
 use Rattle.vga_planes.proofs.latch.Latch.bounds.Goals as goal
 
 pub returns : goal.returns

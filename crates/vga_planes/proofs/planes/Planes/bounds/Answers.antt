@@ -1,7 +1,7 @@
 -- Planes in 65,536 words are a memory.
 use Rattle.std.proofs.Common.{sym, ◌∙◌, subst}
 use Rattle.vga_planes.specs.Planes.{IsMemory}
-use Rattle.vga_planes.proofs.WordLemmas.{words_are_memory}
+use Rattle.vga_planes.proofs.PlaneLemmas.{words_are_memory}
 use Rattle.vga_planes.proofs.planes.Planes.bounds.Goals as goal
 
 pub returns : goal.returns
