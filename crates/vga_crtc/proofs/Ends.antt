@@ -130,9 +130,9 @@ whole_product : (n cw : ℕ) → 0 < n → 0 < cw → (n - (0 + 1)) * cw + (cw -
 whole_product zero cw some wide = absurd (omega arith)
 whole_product (suc n) cw some wide = let e : suc n - (0 + 1) ≡ n = omega arith in ap (λ m. m * cw + (cw - (0 + 1)) + 1) e ∙ omega arith
 
-pub from_line_start : (cw : ℕ) (r : List ℕ) (b : Beam) → 0 < cw → IsLineStart b → dots_in_line cw r b ≡ characters r * cw
+pub from_line_start : (cw : ℕ) (r : List ℕ) (b : Beam) → IsLineStart b → 0 < cw → dots_in_line cw r b ≡ characters r * cw
 unfolding dots_in_line
-from_line_start cw r b some start =
+from_line_start cw r b start some =
     ap (λ c. (characters r - (c + 1)) * cw + (cw - (b.dot + 1)) + 1) start.character
     ∙ ap (λ k. (characters r - (0 + 1)) * cw + (cw - (k + 1)) + 1) start.dot
     ∙ whole_product (characters r) cw (omega arith) some
@@ -152,7 +152,7 @@ to_frame_end cw r (suc i) b some left taken =
     let first = away_from_frame cw r n b next (whole_line cw r b some taken) in
     let below : 0 < next.line = omega (arith, place.0) in
     let rest = to_frame_end cw r i next some (omega (arith, place.0)) (not_started r next (inr (inr below))) in
-    let full = from_line_start cw r next some (next_line_start r b) in
+    let full = from_line_start cw r next (next_line_start r b) some in
     let e : n + (i * line + dots_in_line cw r next) ≡ suc i * line + n = omega (arith, full) in
     subst (λ f. Leads IsFrameStart cw r (suc i * line + n) b (first_dot ((f + 1) % 32))) place.1
     (counted IsFrameStart cw r b (first_dot ((next.frame + 1) % 32)) (n + (i * line + dots_in_line cw r next)) (suc i * line + n) e

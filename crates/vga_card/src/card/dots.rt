@@ -10,7 +10,7 @@ use super::Card;
 use crate::canvas::Canvas;
 use vga_attr::Attr;
 use vga_bits::Refusal;
-use vga_crtc::laws::{dot_moves, start_is_taken_once};
+use vga_crtc::laws::{beam_in_line, dot_moves, frame_ends, line_moves, start_is_taken_once};
 use vga_crtc::{Beam, Crtc};
 use vga_dac::Dac;
 use vga_dots::{dot_colour, draw_line, shown_characters};
@@ -80,6 +80,10 @@ impl Card {
         requires { IsLineStart self.old.crtc.beam }
         ensures { self.new ≡ dots (line_count self.old) self.old }
     {
+        start_is_taken_once();
+        beam_in_line();
+        line_moves();
+        frame_ends();
         let width = self.host.character_width();
         clear_at_first_dot(self.crtc.beam(), &mut self.canvas);
         self.crtc.take_start();
