@@ -1,11 +1,12 @@
 //! Dots: from the registers, the planes and the beam to the colour of a dot.
 #![tactic(auto)]
 
+mod character;
 pub mod colour;
 mod graphics;
 pub mod line;
+mod row;
 mod source_dot;
-mod strip;
 mod text;
 
 pub use colour::dot_colour;

@@ -1,14 +1,22 @@
 //! The dots of a line, a character at a time.
-ghost use Rattle.std.specs.Prelude.{◌≡◌, ℕ, ◌+◌, ◌*◌, ◌<◌, ◌≤◌, length};
-ghost use Rattle.vga_host.specs.Fields.{character_width};
-ghost use Rattle.vga_dots.specs.Line.{shown_characters as characters_shown, strip_colour, IsDotPut, IsCharacterDrawn, IsLineDrawn};
+ghost use Rattle.std.specs.Prelude.{◌≡◌, ◌+◌, ◌*◌, ◌<◌, ◌≤◌, false, true, length};
+ghost use Rattle.vga_host.specs.Fields.{character_width, is_screen_off, is_graphics, is_256_colours};
+ghost use Rattle.vga_attr.specs.Fields.{is_palette_shown};
+ghost use Rattle.vga_dots.specs.SourceDot.{panned as panned_dots};
+ghost use Rattle.vga_dots.specs.Row.{AreCharactersPut};
+ghost use Rattle.vga_dots.specs.Line.{shown_characters as characters_shown, unpanned_colour, IsLineDrawn};
 
+use crate::character::{masked, put_packed, put_planar, put_text, shades};
+use crate::colour::BLACK;
+use crate::row::{copy_dots, fill};
 use crate::source_dot::panned;
-use crate::strip::{Strip, shades, strip};
 use vga_attr::Attr;
 use vga_crtc::{Crtc, Registers};
 use vga_dac::Dac;
 use vga_host::Host;
+
+/// How many bytes the most characters of a line, and one more, have: 257 of nine dots.
+const UNPANNED_BYTES: usize = 6_939;
 
 /// How many characters of a line are displayed, 1 to 256.
 pub fn shown_characters(registers: &Registers) -> u16
@@ -18,42 +26,130 @@ pub fn shown_characters(registers: &Registers) -> u16
     (registers.horizontal_display_end() as u16 + 1).min(registers.characters())
 }
 
-/// Writes the three bytes of a dot.
-fn put_dot(row: &mut [u8], at: usize, colour: [u8; 3])
-    requires { 3 * at + 3 ≤ length row.old }
-    ensures { IsDotPut row.old row.new at colour }
-{
-    row[3 * at] = colour[0];
-    row[3 * at + 1] = colour[1];
-    row[3 * at + 2] = colour[2];
-}
-
-/// Dot `i` from a character's first on: past its end it is the next one's.
-#[tactic(auto, unfolding(crate::specs::Line::strip_colour))]
-fn strip_dot(cw: usize, here: &Strip, next: &Strip, i: usize) -> [u8; 3]
-    requires width { cw < 10 }
-    requires within { i < cw + 9 }
-    ensures { result ≡ strip_colour cw here.now next.now i }
-{
-    if i < cw { here[i] } else { next[i - cw] }
-}
-
-/// Writes the dots of a character, from dot `panned` of it on: those past its end are the next one's.
-fn draw_character<const CW: usize>(
+/// Draws the first characters of a line of text, as if it were not panned.
+fn draw_text<const CW: usize>(
+    host: &Host,
+    crtc: &Crtc,
+    attr: &Attr,
+    dac: &Dac,
+    count: usize,
     row: &mut [u8],
-    at: usize,
-    panned: usize,
-    here: &Strip,
-    next: &Strip,
 )
-    requires room { 3 * (at + CW) ≤ length row.old }
+    requires on { is_screen_off host.now ≡ false }
+    requires shown { is_palette_shown attr.now ≡ true }
+    requires few { is_256_colours host.now ≡ false }
+    requires text { is_graphics host.now ≡ false }
+    requires count { count ≤ 257 }
     requires width { CW < 10 }
-    requires panned { panned < 9 }
-    ensures { IsCharacterDrawn CW CW at panned here.now next.now row.old row.new }
+    requires room { 3 * (count * CW) ≤ length row.old }
+    ensures { AreCharactersPut CW count (unpanned_colour host.now crtc.now attr.now dac.now) row.old row.new }
 {
-    for k in 0..CW {
-        put_dot(row, at + k, strip_dot(CW, here, next, k + panned));
+    let table = shades(attr, dac);
+    let base = crtc.beam().base;
+    for x in 0..count {
+        let counter = base.wrapping_add(x as u16);
+        put_text::<CW>(host, crtc, attr, dac, &table, counter, row, x * CW);
     }
+}
+
+/// Draws the first characters of a line in 16 colours, as if it were not panned.
+fn draw_planar<const CW: usize>(
+    host: &Host,
+    crtc: &Crtc,
+    attr: &Attr,
+    dac: &Dac,
+    count: usize,
+    row: &mut [u8],
+)
+    requires on { is_screen_off host.now ≡ false }
+    requires shown { is_palette_shown attr.now ≡ true }
+    requires few { is_256_colours host.now ≡ false }
+    requires graphics { is_graphics host.now ≡ true }
+    requires count { count ≤ 257 }
+    requires width { CW < 10 }
+    requires room { 3 * (count * CW) ≤ length row.old }
+    ensures { AreCharactersPut CW count (unpanned_colour host.now crtc.now attr.now dac.now) row.old row.new }
+{
+    let table = shades(attr, dac);
+    let base = crtc.beam().base;
+    for x in 0..count {
+        let counter = base.wrapping_add(x as u16);
+        put_planar::<CW>(host, crtc, attr, dac, &table, counter, row, x * CW);
+    }
+}
+
+/// Draws the first characters of a line in 256 colours, as if it were not panned.
+fn draw_packed<const CW: usize>(
+    host: &Host,
+    crtc: &Crtc,
+    attr: &Attr,
+    dac: &Dac,
+    count: usize,
+    row: &mut [u8],
+)
+    requires on { is_screen_off host.now ≡ false }
+    requires shown { is_palette_shown attr.now ≡ true }
+    requires many { is_256_colours host.now ≡ true }
+    requires count { count ≤ 257 }
+    requires width { CW < 10 }
+    requires room { 3 * (count * CW) ≤ length row.old }
+    ensures { AreCharactersPut CW count (unpanned_colour host.now crtc.now attr.now dac.now) row.old row.new }
+{
+    let base = crtc.beam().base;
+    for x in 0..count {
+        let counter = base.wrapping_add(x as u16);
+        put_packed::<CW>(host, crtc, attr, dac, counter, row, x * CW);
+    }
+}
+
+/// Draws the first characters of the beam's line, which shows memory, as if it were not panned.
+fn draw_characters<const CW: usize>(
+    host: &Host,
+    crtc: &Crtc,
+    attr: &Attr,
+    dac: &Dac,
+    count: usize,
+    row: &mut [u8],
+)
+    requires on { is_screen_off host.now ≡ false }
+    requires shown { is_palette_shown attr.now ≡ true }
+    requires count { count ≤ 257 }
+    requires width { CW < 10 }
+    requires room { 3 * (count * CW) ≤ length row.old }
+    ensures { AreCharactersPut CW count (unpanned_colour host.now crtc.now attr.now dac.now) row.old row.new }
+{
+    if host.is_256_colours() {
+        draw_packed::<CW>(host, crtc, attr, dac, count, row);
+    } else if host.is_graphics() {
+        draw_planar::<CW>(host, crtc, attr, dac, count, row);
+    } else {
+        draw_text::<CW>(host, crtc, attr, dac, count, row);
+    }
+}
+
+/// Draws the first characters of the beam's line, which shows memory panned by so many dots: what is panned out on the
+/// left is drawn beside the row, and one character more on the right.
+fn draw_panned<const CW: usize>(
+    host: &Host,
+    crtc: &Crtc,
+    attr: &Attr,
+    dac: &Dac,
+    count: usize,
+    panned: usize,
+    row: &mut [u8],
+)
+    requires on { is_screen_off host.now ≡ false }
+    requires shown { is_palette_shown attr.now ≡ true }
+    requires count { count ≤ 256 }
+    requires width { CW ≡ character_width host.now }
+    requires panned { panned ≡ panned_dots host.now crtc.now attr.now }
+    requires few { panned < 9 }
+    requires room { 3 * (count * CW) ≤ length row.old }
+    ensures { IsLineDrawn CW count host.now crtc.now attr.now dac.now row.old row.new }
+{
+    let mut unpanned = [0; UNPANNED_BYTES];
+    draw_characters::<CW>(host, crtc, attr, dac, count + 1, &mut unpanned);
+    copy_dots(row, &unpanned, panned, count * CW);
 }
 
 /// Writes red, green and blue of each displayed dot of the beam's line, from its first dot on: as
@@ -64,21 +160,15 @@ pub fn draw_line<const CW: usize>(host: &Host, crtc: &Crtc, attr: &Attr, dac: &D
     requires room { 3 * (characters_shown crtc.now.registers * CW) ≤ length row.old }
     ensures { IsLineDrawn CW (characters_shown crtc.now.registers) host.now crtc.now attr.now dac.now row.old row.new }
 {
-    let table = shades(attr, dac);
     let panned = panned(host, crtc, attr) as usize;
-    let base = crtc.beam().base;
     let count = shown_characters(crtc.fields()) as usize;
-    let mut here = strip(host, crtc, attr, dac, &table, base);
-    for x in 0..count {
-        let next = strip(
-            host,
-            crtc,
-            attr,
-            dac,
-            &table,
-            base.wrapping_add(x as u16 + 1),
-        );
-        draw_character::<CW>(row, x * CW, panned, &here, &next);
-        here = next;
+    if host.is_screen_off() {
+        fill(row, count * CW, BLACK);
+    } else if !attr.is_palette_shown() {
+        fill(row, count * CW, masked(dac, attr.overscan()));
+    } else if panned == 0 {
+        draw_characters::<CW>(host, crtc, attr, dac, count, row);
+    } else {
+        draw_panned::<CW>(host, crtc, attr, dac, count, panned, row);
     }
 }

@@ -1,8 +1,8 @@
 -- The sixteen numbers of the attribute controller's table, each by its colour.
 use Rattle.std.proofs.Common.{ap, ◌∙◌, arith}
 use Rattle.vga_dots.specs.Line.{masked, shade, shades_of}
-use Rattle.vga_dots.proofs.StripLemmas.{sixteen_of}
-use Rattle.vga_dots.proofs.strip.shades.Goals as goal
+use Rattle.vga_dots.proofs.CharacterLemmas.{sixteen_of}
+use Rattle.vga_dots.proofs.character.shades.Goals as goal
 
 pub returns : goal.returns
 unfolding shade shades_of

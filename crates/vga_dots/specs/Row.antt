@@ -1,0 +1,27 @@
+-- Dots in a row of bytes: red, green and blue of each in turn.
+use Rattle.std.specs.Prelude.{◌≡◌, ℕ, ◌+◌, ◌*◌, ◌<◌, ◌≤◌, ◌⊎◌, List, [], ◌∷◌, slice_index}
+use Rattle.std.specs.Int.{bit_at}
+
+-- the three bytes of dot n
+abbrev pub dot_in : List ℕ → ℕ → List ℕ
+dot_in row n = slice_index row (3 * n) ∷ slice_index row (3 * n + 1) ∷ slice_index row (3 * n + 2) ∷ []
+
+-- bit i of each of four bytes, the first lowest
+abbrev pub four_bits : List ℕ → ℕ → ℕ
+four_bits bytes i = bit_at (slice_index bytes 0) i + 2 * bit_at (slice_index bytes 1) i + 4 * bit_at (slice_index bytes 2) i + 8 * bit_at (slice_index bytes 3) i
+
+-- a dot has this colour, and the other bytes stay
+pub record IsDotPut (old new : List ℕ) (at : ℕ) (colour : List ℕ) : Type 0 where
+  pub inside : (j : ℕ) → j < 3 → slice_index new (3 * at + j) ≡ slice_index colour j
+  pub outside : (k : ℕ) → (k < 3 * at) ⊎ (3 * at + 3 ≤ k) → slice_index new k ≡ slice_index old k
+
+-- n dots from dot `at` on have the colours f 0, f 1, .., and the other bytes stay
+pub record AreDotsPut (n at : ℕ) (f : ℕ → List ℕ) (old new : List ℕ) : Type 0 where
+  pub inside : (i j : ℕ) → i < n → j < 3 → slice_index new (3 * (at + i) + j) ≡ slice_index (f i) j
+  pub outside : (k : ℕ) → (k < 3 * at) ⊎ (3 * (at + n) ≤ k) → slice_index new k ≡ slice_index old k
+
+-- n characters from the first dot on, cw dots each, have at dot i of character x the colour f x i, and the other bytes
+-- stay
+pub record AreCharactersPut (cw n : ℕ) (f : ℕ → ℕ → List ℕ) (old new : List ℕ) : Type 0 where
+  pub inside : (x i j : ℕ) → x < n → i < cw → j < 3 → slice_index new (3 * (x * cw + i) + j) ≡ slice_index (f x i) j
+  pub outside : (k : ℕ) → 3 * (n * cw) ≤ k → slice_index new k ≡ slice_index old k

@@ -1,0 +1,124 @@
+//! Dots in a row of bytes: red, green and blue of each in turn.
+ghost use Rattle.std.specs.Prelude.{◌≡◌, ◌+◌, ◌-◌, ◌*◌, ◌/◌, ◌<◌, ◌≤◌, if◌then◌else◌, length, [], nat_lt, slice_index_or};
+ghost use Rattle.vga_bits.specs.Bits.{is_set};
+ghost use Rattle.vga_dots.specs.Row.{four_bits, dot_in, IsDotPut, AreDotsPut};
+
+use crate::graphics::bit;
+
+/// The colours of the 16 numbers that four bits have.
+pub(crate) type Shades = [[u8; 3]; 16];
+
+/// The four colours of a character in 256 colours, and that of its ninth dot.
+pub(crate) type Pixels = [[u8; 3]; 5];
+
+/// Writes the three bytes of a dot.
+fn put_dot(row: &mut [u8], at: usize, colour: [u8; 3])
+    requires { 3 * at + 3 ≤ length row.old }
+    ensures { IsDotPut row.old row.new at colour }
+{
+    row[3 * at] = colour[0];
+    row[3 * at + 1] = colour[1];
+    row[3 * at + 2] = colour[2];
+}
+
+/// Gives the first dots, as many as are told, one colour.
+pub(crate) fn fill(row: &mut [u8], count: usize, colour: [u8; 3])
+    requires { 3 * count ≤ length row.old }
+    ensures { AreDotsPut count 0 (λ i. colour) row.old row.new }
+{
+    for i in 0..count {
+        put_dot(row, i, colour);
+    }
+}
+
+/// Dot `n` of a row.
+fn dot_at(dots: &[u8], n: usize) -> [u8; 3]
+    requires { 3 * n + 3 ≤ length dots.now }
+    ensures { result ≡ dot_in dots.now n }
+{
+    [dots[3 * n], dots[3 * n + 1], dots[3 * n + 2]]
+}
+
+/// Copies as many dots as are told from dot `first` of a row on.
+pub(crate) fn copy_dots(row: &mut [u8], dots: &[u8], first: usize, count: usize)
+    requires room { 3 * count ≤ length row.old }
+    requires there { 3 * (first + count) ≤ length dots.now }
+    ensures { AreDotsPut count 0 (λ i. dot_in dots.now (first + i)) row.old row.new }
+{
+    for i in 0..count {
+        put_dot(row, i, dot_at(dots, first + i));
+    }
+}
+
+/// The colour of dot `i` of a line of a glyph, of which bit 8 of `lit` is the leftmost dot.
+fn glyph_dot(lit: u16, i: usize, fore: [u8; 3], back: [u8; 3]) -> [u8; 3]
+    requires { i < 9 }
+    ensures { result ≡ (if is_set lit (8 - i) then fore else back) }
+{
+    if (lit >> (8 - i)) % 2 == 1 {
+        fore
+    } else {
+        back
+    }
+}
+
+/// Writes the dots of a line of a glyph: in the one colour where `lit` has a bit, and in the other elsewhere.
+pub(crate) fn put_glyph<const CW: usize>(
+    row: &mut [u8],
+    at: usize,
+    lit: u16,
+    fore: [u8; 3],
+    back: [u8; 3],
+)
+    requires room { 3 * (at + CW) ≤ length row.old }
+    requires width { CW < 10 }
+    ensures { AreDotsPut CW at (λ i. if is_set lit (8 - i) then fore else back) row.old row.new }
+{
+    for i in 0..CW {
+        put_dot(row, at + i, glyph_dot(lit, i, fore, back));
+    }
+}
+
+/// Dot `i`, 0 to 8, of eight dots and a ninth, whose bits stand in four bytes.
+fn plane_dot(bytes: [u8; 4], i: usize) -> u8
+    requires { i < 9 }
+    ensures value { result ≡ (if nat_lt i 8 then four_bits bytes (7 - i) else 0) }
+    ensures small { result < 16 }
+{
+    if i < 8 {
+        let place = 7 - i as u8;
+        bit(bytes[0], place)
+            + 2 * bit(bytes[1], place)
+            + 4 * bit(bytes[2], place)
+            + 8 * bit(bytes[3], place)
+    } else {
+        0
+    }
+}
+
+/// Writes the dots of a character in 16 colours, whose bits stand in four bytes.
+pub(crate) fn put_planes<const CW: usize>(
+    row: &mut [u8],
+    at: usize,
+    bytes: [u8; 4],
+    table: &Shades,
+)
+    requires room { 3 * (at + CW) ≤ length row.old }
+    requires width { CW < 10 }
+    ensures { AreDotsPut CW at (λ i. slice_index_or table.now (if nat_lt i 8 then four_bits bytes (7 - i) else 0) []) row.old row.new }
+{
+    for i in 0..CW {
+        put_dot(row, at + i, table[plane_dot(bytes, i) as usize]);
+    }
+}
+
+/// Writes the dots of a character in 256 colours, two for each of its four colours, and a ninth.
+pub(crate) fn put_pixels<const CW: usize>(row: &mut [u8], at: usize, pixels: &Pixels)
+    requires room { 3 * (at + CW) ≤ length row.old }
+    requires width { CW < 10 }
+    ensures { AreDotsPut CW at (λ i. slice_index_or pixels.now (i / 2) []) row.old row.new }
+{
+    for i in 0..CW {
+        put_dot(row, at + i, pixels[i / 2]);
+    }
+}
