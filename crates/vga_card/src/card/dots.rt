@@ -6,7 +6,7 @@ ghost use Rattle.vga_card.specs.Dots.{fresh_dots, display_dot, dot, dots, most_d
 ghost use Rattle.vga_card.specs.Line.{line_dots, line_count};
 ghost use Rattle.vga_card.specs.Valid.{fresh_count, IsDrawnTo};
 
-use super::Card;
+use super::{Card, Row};
 use crate::canvas::Canvas;
 use vga_attr::Attr;
 use vga_bits::Refusal;
@@ -18,12 +18,6 @@ use vga_host::Host;
 
 /// The most dots that one step may advance.
 const MOST_DOTS: u32 = 16_777_216;
-
-/// How many bytes the widest line has.
-const ROW_BYTES: usize = 6_912;
-
-/// Room for the dots of a line.
-type Row = [u8; ROW_BYTES];
 
 /// Takes away the dots of the frame before, where a frame begins.
 fn clear_at_first_dot(beam: Beam, canvas: &mut Canvas)
@@ -76,7 +70,7 @@ fn draw_row(host: &Host, crtc: &Crtc, attr: &Attr, dac: &Dac, canvas: &mut Canva
 
 impl Card {
     /// Takes the dots of a whole line, at whose first dot the beam is.
-    fn take_line(&mut self, row: &mut Row)
+    fn take_line(&mut self)
         requires { IsLineStart self.old.crtc.beam }
         ensures { self.new ≡ dots (line_count self.old) self.old }
     {
@@ -93,7 +87,7 @@ impl Card {
             &self.attr,
             &self.dac,
             &mut self.canvas,
-            row,
+            &mut self.row,
         );
         self.crtc.step_line(width);
     }
@@ -121,13 +115,12 @@ impl Card {
         ensures { self.new ≡ dots n self.old }
     {
         let width = self.host.character_width();
-        let mut row = [0; ROW_BYTES];
         let mut left = n;
         while left > 0 {
             let beam = self.crtc.beam();
             let line = self.crtc.dots_in_line(width);
             if beam.character == 0 && beam.dot == 0 && line <= left {
-                self.take_line(&mut row);
+                self.take_line();
                 left -= line;
             } else {
                 self.take_dot();
