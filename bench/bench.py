@@ -21,7 +21,7 @@ EXAMPLES = os.path.join(HERE, "..", "examples")
 HEADER = b"VGAS\x01"
 MOST_BYTES = 16_777_216
 MOST_DOTS = 16_777_216
-FRAMES = 50
+FRAMES = 200
 MODES = (0x03, 0x07, 0x0D, 0x10, 0x12, 0x13)
 
 
@@ -71,7 +71,7 @@ def cycles():
 
 
 def dots():
-    """The most dots that one step may advance, one at a time."""
+    """The most dots that one step may advance, from power-on: lines of 45 dots, of which nine of every other are displayed."""
     return "run", HEADER + advance(MOST_DOTS), MOST_DOTS, "dots"
 
 
