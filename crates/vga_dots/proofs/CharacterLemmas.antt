@@ -150,22 +150,22 @@ module _ (h : HostState) (c : CrtcState) (a : AttrState) (d : DacState) (counter
   packed_shown : (i : ℕ) → is_screen_off h ≡ false → is_palette_shown a ≡ true → is_256_colours h ≡ true → packed_colour i ≡ source_colour h c a d (dot_of counter i)
   unfolding source_colour
   packed_shown i off shown packed = sym (ap (λ v. colour_by i v (is_palette_shown a) (is_256_colours h) (is_graphics h)) off
-    ∙ ap (λ v. colour_by i false v (is_256_colours h) (is_graphics h)) shown
-    ∙ ap (λ v. colour_by i false true v (is_graphics h)) packed)
+      ∙ ap (λ v. colour_by i false v (is_256_colours h) (is_graphics h)) shown
+      ∙ ap (λ v. colour_by i false true v (is_graphics h)) packed)
 
   planar_shown : (i : ℕ) → is_screen_off h ≡ false → is_palette_shown a ≡ true → is_256_colours h ≡ false → is_graphics h ≡ true → planar_colour i ≡ source_colour h c a d (dot_of counter i)
   unfolding source_colour
   planar_shown i off shown packed graphics = sym (ap (λ v. colour_by i v (is_palette_shown a) (is_256_colours h) (is_graphics h)) off
-    ∙ ap (λ v. colour_by i false v (is_256_colours h) (is_graphics h)) shown
-    ∙ ap (λ v. colour_by i false true v (is_graphics h)) packed
-    ∙ ap (λ v. colour_by i false true false v) graphics)
+      ∙ ap (λ v. colour_by i false v (is_256_colours h) (is_graphics h)) shown
+      ∙ ap (λ v. colour_by i false true v (is_graphics h)) packed
+      ∙ ap (λ v. colour_by i false true false v) graphics)
 
   text_shown : (i : ℕ) → is_screen_off h ≡ false → is_palette_shown a ≡ true → is_256_colours h ≡ false → is_graphics h ≡ false → text_colour i ≡ source_colour h c a d (dot_of counter i)
   unfolding source_colour
   text_shown i off shown packed graphics = sym (ap (λ v. colour_by i v (is_palette_shown a) (is_256_colours h) (is_graphics h)) off
-    ∙ ap (λ v. colour_by i false v (is_256_colours h) (is_graphics h)) shown
-    ∙ ap (λ v. colour_by i false true v (is_graphics h)) packed
-    ∙ ap (λ v. colour_by i false true false v) graphics)
+      ∙ ap (λ v. colour_by i false v (is_256_colours h) (is_graphics h)) shown
+      ∙ ap (λ v. colour_by i false true v (is_graphics h)) packed
+      ∙ ap (λ v. colour_by i false true false v) graphics)
 
   -- ---- 256 colours
 

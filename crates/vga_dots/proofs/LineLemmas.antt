@@ -1,5 +1,5 @@
 -- The colours of a line's dots, with its panning and without.
-use Rattle.std.proofs.Common.{◌≡◌, ℕ, ◌+◌, ◌-◌, ◌*◌, ◌<◌, ◌≤◌, inl, inr, ⊎_elim, refl, sym, ap, ◌∙◌, arith, Bool, true, false, List, [], ◌∷◌, slice_index}
+use Rattle.std.proofs.Common.{◌≡◌, ℕ, ◌+◌, ◌-◌, ◌*◌, ◌<◌, ◌≤◌, inr, ⊎_elim, refl, sym, ap, ◌∙◌, arith, Bool, true, false, List, [], ◌∷◌, slice_index}
 use Rattle.std.specs.Prelude.{nat_lt, not, if◌then◌else◌}
 use Rattle.std.proofs.lemmas.Bool.{cases_lt, lt-ltb, le-ltb}
 use Rattle.std.proofs.lemmas.Nat.{row_fits}

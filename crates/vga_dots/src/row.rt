@@ -97,12 +97,7 @@ fn plane_dot(bytes: [u8; 4], i: usize) -> u8
 }
 
 /// Writes the dots of a character in 16 colours, whose bits stand in four bytes.
-pub(crate) fn put_planes<const CW: usize>(
-    row: &mut [u8],
-    at: usize,
-    bytes: [u8; 4],
-    table: &Shades,
-)
+pub(crate) fn put_planes<const CW: usize>(row: &mut [u8], at: usize, bytes: [u8; 4], table: &Shades)
     requires room { 3 * (at + CW) ≤ length row.old }
     requires width { CW < 10 }
     ensures { AreDotsPut CW at (λ i. slice_index_or table.now (if nat_lt i 8 then four_bits bytes (7 - i) else 0) []) row.old row.new }

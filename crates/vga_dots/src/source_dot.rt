@@ -1,6 +1,6 @@
 //! Where the dot at the beam comes from.
-ghost use Rattle.std.specs.Prelude.{◌≡◌, ◌<◌, ◌≤◌};
-ghost use Rattle.vga_dots.specs.SourceDot.{panned as panned_dots, source_at as source_of_dot, source_dot, fetch_address as fetch_address_of};
+ghost use Rattle.std.specs.Prelude.{◌≡◌, ◌<◌};
+ghost use Rattle.vga_dots.specs.SourceDot.{panned as panned_dots, source_dot, fetch_address as fetch_address_of};
 
 use vga_attr::Attr;
 use vga_crtc::{Crtc, Registers};

@@ -1,5 +1,5 @@
 -- Eight dots are the bits of the row, and the ninth is below them.
-use Rattle.std.proofs.Common.{refl, sym, ◌∙◌, arith}
+use Rattle.std.proofs.Common.{sym, ◌∙◌, arith}
 use Rattle.vga_dots.proofs.CharacterLemmas.{glyph_bits}
 use Rattle.vga_dots.proofs.character.glyph_dots.Goals as goal
 

@@ -1,10 +1,8 @@
 -- The four bytes are fetched, and each dot is looked up by its bits.
-use Rattle.std.proofs.Common.{◌≡◌, ℕ, ◌-◌, refl, ap, ◌∙◌, [], if◌then◌else◌}
-use Rattle.std.specs.Prelude.{nat_lt, slice_index_or}
+use Rattle.std.proofs.Common.{◌≡◌, ℕ, refl, ap, ◌∙◌}
 use Rattle.vga_bits.specs.Four.{of_plane}
 use Rattle.vga_planes.specs.Planes.{byte_at, bytes_at}
 use Rattle.vga_dots.specs.SourceDot.{fetch_address}
-use Rattle.vga_dots.specs.Row.{four_bits}
 use Rattle.vga_dots.specs.Line.{dot_of, source_colour}
 use Rattle.vga_dots.proofs.RowLemmas.{dots_alike}
 use Rattle.vga_dots.proofs.CharacterLemmas.{planar_dot}
