@@ -270,7 +270,13 @@ class Suite(Files):
         self.case("a/one", "wait\n", "1 ok\n")
         path = self.write("list.txt", "\n".join(self.lines) + "\n")
         words = [sys.executable, PROGRAM, "suite", ADAPTER + " {fonts}", "--list", path]
-        process = subprocess.Popen(words, stdout=subprocess.PIPE, stderr=subprocess.PIPE)
+        # Who starts the tests in the background may have interrupts ignored, and the program would inherit that.
+        process = subprocess.Popen(
+            words,
+            stdout=subprocess.PIPE,
+            stderr=subprocess.PIPE,
+            preexec_fn=lambda: signal.signal(signal.SIGINT, signal.SIG_DFL),
+        )
         while process.poll() is None and not (self.folder / "two.fnt.waiting").exists():
             time.sleep(0.05)
         process.send_signal(signal.SIGINT)
