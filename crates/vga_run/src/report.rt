@@ -209,7 +209,13 @@ fn call_bios(machine: &mut Machine, regs: Regs, block: &Bytes) -> Answer
     ensures valid { IsValid machine.new.bda }
 {
     let block = block.as_slice();
-    let outcome = int10(&mut machine.card, &mut machine.bda, &machine.fonts, regs, block);
+    let outcome = int10(
+        &mut machine.card,
+        &mut machine.bda,
+        &machine.fonts,
+        regs,
+        block,
+    );
     Answer::of_service(outcome)
 }
 
@@ -235,7 +241,9 @@ fn write_step<W: Write>(
         Step::In { port } => Answer::of_byte(machine.card.inp(*port)),
         Step::InWord { port } => Answer::of_word(machine.card.inp_word(*port)),
         Step::Put { address, value } => Answer::of_write(machine.card.put(*address, *value)),
-        Step::PutWord { address, value } => Answer::of_write(machine.card.put_word(*address, *value)),
+        Step::PutWord { address, value } => Answer::of_write(
+            machine.card.put_word(*address, *value),
+        ),
         Step::Get { address } => Answer::of_byte(machine.card.get(*address)),
         Step::GetWord { address } => Answer::of_word(machine.card.get_word(*address)),
         Step::Int {
