@@ -1,11 +1,11 @@
 -- How large the numbers of valid BIOS data are.
-use Rattle.std.proofs.Common.{◌≡◌, ◌≢◌, ℕ, ◌*◌, ◌<◌, ◌≤◌, ap, sym, refl, subst, mul-zero, ◌∙◌, arith, IfSome, Bool, true, false, if◌then◌else◌, Option, Some, None, ◌⊎◌, inl, inr, ◌==◌}
+use Rattle.std.proofs.Common.{◌≡◌, ◌≢◌, ℕ, ◌*◌, ◌<◌, ◌≤◌, ap, sym, refl, subst, mul-zero, ◌∙◌, arith, IfSome, Bool, true, false, if◌then◌else◌, Option, Some, None, inl, inr, ◌==◌}
 use Rattle.bios_modes.specs.declared.modes.ModeRow.{ModeRow}
 use Rattle.bios_modes.specs.Modes.{mode_row, colour_text, monochrome_text, planes_320_by_200, planes_640_by_350, planes_640_by_480, bytes_320_by_200}
 use Rattle.bios_modes.specs.Bda.{BiosData}
 use Rattle.bios_modes.specs.Begin.{data_of_mode}
 use Rattle.bios_modes.specs.Valid.{IsOf, Fits, IsValid}
-use Rattle.bios_services.specs.Bounds.{IsSet, StaysInMode, pages_in, pages_of}
+use Rattle.bios_services.specs.Bounds.{IsSet, StaysInMode, pages_in}
 
 -- what holds of either branch holds of a choice
 on_either : {A : Type 0} (P : A → Type 0) (b : Bool) {x y : A} → P x → P y → P (if b then x else y)

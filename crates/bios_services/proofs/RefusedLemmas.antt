@@ -1,5 +1,5 @@
 -- A refused service has no cycle, and leaves the BIOS data.
-use Rattle.std.proofs.Common.{◌≡◌, ◌∙◌, ◌==◌, ℕ, Bool, true, false, if◌then◌else◌, Option, Some, None, List, Result, Ok, Err, refl, sym, ap}
+use Rattle.std.proofs.Common.{◌≡◌, ◌∙◌, ◌==◌, ℕ, Bool, true, false, if◌then◌else◌, Option, Some, None, List, length, Result, Err, sym, ap}
 use Rattle.vga_bits.specs.declared.refusal.Refusal.{Refusal}
 use Rattle.vga_bits.specs.declared.refusal.Refusal.TheVariants.{NoMode, BadMode}
 use Rattle.vga_card.specs.Bus.{Meaning}
@@ -40,26 +40,27 @@ unfolding set_mode_plan
 set_mode_does_nothing m None mode keeps fonts d r = refusal_does_nothing m BadMode d
 set_mode_does_nothing m (Some row) mode keeps fonts d r = answer_is_none m (mode_set_plan mode row keeps fonts) (λ _. r) (λ _. data_of_mode mode row) d
 
-unless_does_nothing : {S : Type 0} (m : Meaning S) (why : Option Refusal) (asked_for : Service) (d : BiosData) (r : Regs) → DoesNothing m (unless why asked_for d r) d
+unless_does_nothing : {S : Type 0} (m : Meaning S) (why : Option Refusal) (asked_for : Service) (d : BiosData) (r : Regs) (block : List ℕ) → DoesNothing m (unless why asked_for d r block) d
 unfolding unless
-unless_does_nothing m (Some why) asked_for d r = refusal_does_nothing m why d
-unless_does_nothing m None asked_for d r = answer_is_none m (plan_of asked_for d r) (λ o. o.0) (λ o. o.1) d
+unless_does_nothing m (Some why) asked_for d r block = refusal_does_nothing m why d
+unless_does_nothing m None asked_for d r block = answer_is_none m (plan_of asked_for d r block) (λ o. o.0) (λ o. o.1) d
 
 if_does_nothing : {S : Type 0} (m : Meaning S) (unset : Bool) (p : Plan Answered) (d : BiosData) → DoesNothing m p d → DoesNothing m (if unset then refused NoMode d else p) d
 if_does_nothing m true p d h = refusal_does_nothing m NoMode d
 if_does_nothing m false p d h = h
 
-in_mode_does_nothing : {S : Type 0} (m : Meaning S) (asked_for : Service) (d : BiosData) (r : Regs) → DoesNothing m (in_mode_plan asked_for d r) d
+in_mode_does_nothing : {S : Type 0} (m : Meaning S) (asked_for : Service) (d : BiosData) (r : Regs) (block : List ℕ) → DoesNothing m (in_mode_plan asked_for d r block) d
 unfolding in_mode_plan
-in_mode_does_nothing m asked_for d r =
-    if_does_nothing m (d.mode == 0) (unless (refusal_in_mode asked_for d) asked_for d r) d (unless_does_nothing m (refusal_in_mode asked_for d) asked_for d r)
+in_mode_does_nothing m asked_for d r block =
+    let why = refusal_in_mode asked_for d (length block) in
+    if_does_nothing m (d.mode == 0) (unless why asked_for d r block) d (unless_does_nothing m why asked_for d r block)
 
-asked_does_nothing : {S : Type 0} (m : Meaning S) (call : Option Call) (fonts : FontSet) (d : BiosData) (r : Regs) → DoesNothing m (asked call fonts d r) d
-asked_does_nothing m None fonts d r = refusal_does_nothing m (unknown_refusal d) d
-asked_does_nothing m (Some (SetMode mode keeps)) fonts d r = set_mode_does_nothing m (mode_row mode) mode keeps fonts d r
-asked_does_nothing m (Some (InMode asked_for)) fonts d r = in_mode_does_nothing m asked_for d r
+asked_does_nothing : {S : Type 0} (m : Meaning S) (call : Option Call) (fonts : FontSet) (d : BiosData) (r : Regs) (block : List ℕ) → DoesNothing m (asked call fonts d r block) d
+asked_does_nothing m None fonts d r block = refusal_does_nothing m (unknown_refusal d) d
+asked_does_nothing m (Some (SetMode mode keeps)) fonts d r block = set_mode_does_nothing m (mode_row mode) mode keeps fonts d r
+asked_does_nothing m (Some (InMode asked_for)) fonts d r block = in_mode_does_nothing m asked_for d r block
 
 -- so a refused service leaves bus and BIOS data
 pub refused_service : {S : Type 0} (m : Meaning S) (fonts : FontSet) (d : BiosData) (r : Regs) (block : List ℕ) (s : S) (e : Refusal)
     → (run m (service fonts d r block) s).1.0 ≡ Err e → run m (service fonts d r block) s ≡ (s, (Err e, d))
-refused_service m fonts d r block = asked_does_nothing m (call_of r) fonts d r
+refused_service m fonts d r block = asked_does_nothing m (call_of r) fonts d r block

@@ -4,15 +4,15 @@ use Rattle.std.specs.Prelude.{ℕ, ◌+◌, ◌*◌, ◌==◌, if◌then◌else�
 use Rattle.bios_modes.specs.Bda.{BiosData}
 use Rattle.bios_services.specs.Plan.{Plan, Done, ◌>>=◌, ◌>>◌, put, get, each}
 
--- where the pages of a text mode begin
-abbrev pub text_base : ℕ → ℕ
-text_base mode = if mode == 0x07 then 0xB0000 else 0xB8000
+-- where the pages of a mode begin
+abbrev pub page_base : ℕ → ℕ
+page_base mode = if mode == 0x03 then 0xB8000 else if mode == 0x07 then 0xB0000 else 0xA0000
 
--- where a page of text begins
+-- where a page begins
 abbrev pub page_address : BiosData → ℕ → ℕ
-page_address d page = text_base d.mode + d.size * page
+page_address d page = page_base d.mode + d.size * page
 
--- the address of cell q of a page; its attribute is at the next
+-- the address of cell q of a page of text; its attribute is at the next
 abbrev pub cell_address : BiosData → ℕ → ℕ → ℕ
 cell_address d page q = page_address d page + 2 * q
 

@@ -2,7 +2,7 @@
 -- From the IBM PS/2 and PC BIOS Interface Technical Reference, "Interrupt 10H - Video", (AH) = 01H, 02H, 03H and 05H.
 use Rattle.std.specs.Prelude.{ℕ, ◌+◌, ◌*◌, ◌/◌, ◌%◌, ◌==◌, if◌then◌else◌, slice_index, slice_set}
 use Rattle.bios_modes.specs.Bda.{BiosData}
-use Rattle.bios_services.specs.Plan.{Plan, Done, ◌>>=◌, ◌>>◌}
+use Rattle.bios_services.specs.Plan.{Plan, Done, ◌>>◌}
 use Rattle.bios_services.specs.Cycles.{crtc}
 use Rattle.bios_services.specs.ModeSet.{is_text}
 

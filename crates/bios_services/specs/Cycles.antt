@@ -1,7 +1,7 @@
 -- The cycles that services are made of: registers behind an index, and the palette's source.
 -- From the IBM PS/2 Hardware Interface Technical Reference, Video Subsystems, "Video Subsystem Registers".
 use Rattle.std.specs.Prelude.{ℕ, ◌+◌, List, length, slice_index}
-use Rattle.bios_services.specs.Plan.{Plan, Done, ◌>>=◌, ◌>>◌, out, inp, each}
+use Rattle.bios_services.specs.Plan.{Plan, Done, ◌>>◌, out, inp, each}
 
 -- the register i behind an index port, whose data port is the next
 abbrev pub indexed : ℕ → ℕ → ℕ → Plan (Unit {0})

@@ -2,10 +2,15 @@ pub mod Plan
 pub mod Cycles
 pub mod ModeSet
 pub mod Bounds
+pub mod Registers
 pub mod Cursor
 pub mod Cells
 pub mod Scroll
 pub mod Teletype
+pub mod Pixels
+pub mod Palette
+pub mod Dac
+pub mod Colours
 pub mod Calls
 pub mod Refusals
 pub mod Service

@@ -1,12 +1,11 @@
 -- Setting a mode: every register, the palette, the font of a text mode, and the memory; and the BIOS data afterwards.
 -- From the IBM PS/2 and PC BIOS Interface Technical Reference, "Interrupt 10H - Video", (AH) = 00H; the order of the cycles is
 -- this adapter's choice.
-use Rattle.std.specs.Prelude.{ℕ, ◌+◌, ◌*◌, ◌%◌, ◌==◌, ◌||◌, if◌then◌else◌, Bool, List, replicate, slice_index, bit_and}
+use Rattle.std.specs.Prelude.{ℕ, ◌+◌, ◌*◌, ◌%◌, ◌==◌, ◌||◌, if◌then◌else◌, Bool, List, slice_index, bit_and}
 use Rattle.bios_modes.specs.declared.modes.ModeRow.{ModeRow}
-use Rattle.bios_modes.specs.Bda.{BiosData}
 use Rattle.bios_modes.specs.Palette.{dac_entry}
 use Rattle.bios_modes.specs.Fonts.{FontSet, glyph_row}
-use Rattle.bios_services.specs.Plan.{Plan, Done, ◌>>=◌, ◌>>◌, out, put, each}
+use Rattle.bios_services.specs.Plan.{Plan, Done, ◌>>◌, out, put, each}
 use Rattle.bios_services.specs.Cycles.{sequencer, graphics, crtc, group, attribute_group, expect_index, show_palette}
 
 -- the two text modes

@@ -2,14 +2,16 @@
 -- From the IBM PS/2 and PC BIOS Interface Technical Reference, "Interrupt 10H - Video"; the refusals are this adapter's choice.
 use Rattle.std.specs.Prelude.{ℕ, ◌+◌, ◌==◌, ◌&&◌, nat_lt, nat_le, if◌then◌else◌, Option, Some, None}
 use Rattle.vga_bits.specs.declared.refusal.Refusal.{Refusal}
-use Rattle.vga_bits.specs.declared.refusal.Refusal.TheVariants.{NoMode, BadFunction, BadPage, Outside, CountPast}
+use Rattle.vga_bits.specs.declared.refusal.Refusal.TheVariants.{NoMode, BadFunction, WrongKind, BadPage, Outside, CountPast}
 use Rattle.bios_modes.specs.Bda.{BiosData}
 use Rattle.bios_services.specs.declared.call.Service.{Service}
-use Rattle.bios_services.specs.declared.call.Service.TheVariants.{SetCursorType, SetCursor, ReadCursor, SelectPage, ScrollUp, ScrollDown, ReadCell, WriteCells, Teletype, ReadMode, ReadAdapter, ReadDisplay}
+use Rattle.bios_services.specs.declared.call.Service.TheVariants.{SetCursorType, SetCursor, ReadCursor, SelectPage, ScrollUp, ScrollDown, ReadCell, WriteCells, WritePixel, ReadPixel, Teletype, ReadMode, Colours, ReadAdapter, ReadDisplay}
 use Rattle.bios_services.specs.ModeSet.{is_text}
 use Rattle.bios_services.specs.Bounds.{pages_of}
 use Rattle.bios_services.specs.Cursor.{row_of, column_of, cell_number, place_of}
 use Rattle.bios_services.specs.Cells.{cells_of}
+use Rattle.bios_services.specs.Pixels.{dots_across, dots_down}
+use Rattle.bios_services.specs.Colours.{colour_refusal}
 
 -- the page that a call names; where a mode has one page, that is meant whatever is named
 abbrev pub page_named : BiosData → ℕ → ℕ
@@ -43,20 +45,30 @@ place_refusal d place = if nat_le (row_of place) d.last_row && nat_lt (column_of
 abbrev pub in_text : BiosData → Option Refusal → Option Refusal
 in_text d refusal = if is_text d.mode then refusal else Some BadFunction
 
--- why a service is refused in a mode
-unfoldable pub refusal_in_mode : Service → BiosData → Option Refusal
-refusal_in_mode (SetCursorType cursor_type) d = None
-refusal_in_mode (SetCursor page place) d = page_refusal d (page_named d page)
-refusal_in_mode (ReadCursor page) d = page_refusal d (page_named d page)
-refusal_in_mode (SelectPage page) d = page_refusal d page
-refusal_in_mode (ScrollUp scroll) d = in_text d None
-refusal_in_mode (ScrollDown scroll) d = in_text d None
-refusal_in_mode (ReadCell page) d = in_text d (cursor_refusal d (page_named d page))
-refusal_in_mode (WriteCells page character colour count) d = in_text d (count_refusal d (page_named d page) count)
-refusal_in_mode (Teletype character) d = in_text d (place_refusal d (place_of d d.page))
-refusal_in_mode ReadMode d = None
-refusal_in_mode ReadAdapter d = None
-refusal_in_mode ReadDisplay d = None
+-- a dot of text, one of a page that the mode does not have, or one outside it
+abbrev pub pixel_refusal : BiosData → ℕ → ℕ → ℕ → Option Refusal
+pixel_refusal d page x y =
+    if is_text d.mode then Some WrongKind
+    else if nat_lt page (pages_of d) then (if nat_lt x (dots_across d) && nat_lt y (dots_down d) then None else Some Outside)
+    else Some BadPage
+
+-- why a service is refused in a mode, with a block of this length
+unfoldable pub refusal_in_mode : Service → BiosData → ℕ → Option Refusal
+refusal_in_mode (SetCursorType cursor_type) d len = None
+refusal_in_mode (SetCursor page place) d len = page_refusal d (page_named d page)
+refusal_in_mode (ReadCursor page) d len = page_refusal d (page_named d page)
+refusal_in_mode (SelectPage page) d len = page_refusal d page
+refusal_in_mode (ScrollUp scroll) d len = in_text d None
+refusal_in_mode (ScrollDown scroll) d len = in_text d None
+refusal_in_mode (ReadCell page) d len = in_text d (cursor_refusal d (page_named d page))
+refusal_in_mode (WriteCells page character colour count) d len = in_text d (count_refusal d (page_named d page) count)
+refusal_in_mode (WritePixel page x y colour) d len = pixel_refusal d (page_named d page) x y
+refusal_in_mode (ReadPixel page x y) d len = pixel_refusal d (page_named d page) x y
+refusal_in_mode (Teletype character) d len = in_text d (place_refusal d (place_of d d.page))
+refusal_in_mode ReadMode d len = None
+refusal_in_mode (Colours service) d len = colour_refusal service len
+refusal_in_mode ReadAdapter d len = None
+refusal_in_mode ReadDisplay d len = None
 
 -- why a call is refused that asks for no service
 abbrev pub unknown_refusal : BiosData → Refusal

@@ -4,7 +4,7 @@ use Rattle.std.specs.Prelude.{ℕ, ◌+◌, ◌-◌, ◌*◌, ◌^◌, ◌<◌, 
 use Rattle.bios_modes.specs.Bda.{BiosData}
 use Rattle.bios_services.specs.declared.scroll.Band.{Band}
 use Rattle.bios_services.specs.declared.scroll.Scroll.{Scroll}
-use Rattle.bios_services.specs.Plan.{Plan, Done, ◌>>=◌, ◌>>◌, put, move, each, each_down}
+use Rattle.bios_services.specs.Plan.{Plan, ◌>>◌, put, move, each, each_down}
 use Rattle.bios_services.specs.Cells.{page_address}
 
 -- the address of a cell of a page; its attribute is at the next

@@ -1,6 +1,6 @@
 -- A service whole: its cycles, the registers that it answers, and the BIOS data afterwards.
 -- From the IBM PS/2 and PC BIOS Interface Technical Reference, "Interrupt 10H - Video".
-use Rattle.std.specs.Prelude.{ℕ, ◌+◌, ◌*◌, ◌==◌, if◌then◌else◌, Bool, Option, Some, None, List, Result, Ok, Err}
+use Rattle.std.specs.Prelude.{ℕ, ◌+◌, ◌*◌, ◌==◌, if◌then◌else◌, Bool, Option, Some, None, List, length, Result, Ok, Err}
 use Rattle.vga_bits.specs.declared.refusal.Refusal.{Refusal}
 use Rattle.bios_modes.specs.declared.modes.ModeRow.{ModeRow}
 use Rattle.bios_modes.specs.Modes.{mode_row}
@@ -16,7 +16,7 @@ use Rattle.bios_services.specs.declared.reply.ServiceError.TheVariants.{Refused}
 use Rattle.bios_services.specs.declared.call.Call.{Call}
 use Rattle.bios_services.specs.declared.call.Call.TheVariants.{SetMode, InMode}
 use Rattle.bios_services.specs.declared.call.Service.{Service}
-use Rattle.bios_services.specs.declared.call.Service.TheVariants.{SetCursorType, SetCursor, ReadCursor, SelectPage, ScrollUp, ScrollDown, ReadCell, WriteCells, Teletype, ReadMode, ReadAdapter, ReadDisplay}
+use Rattle.bios_services.specs.declared.call.Service.TheVariants.{SetCursorType, SetCursor, ReadCursor, SelectPage, ScrollUp, ScrollDown, ReadCell, WriteCells, WritePixel, ReadPixel, Teletype, ReadMode, Colours, ReadAdapter, ReadDisplay}
 use Rattle.bios_services.specs.Plan.{Plan, Done, ◌>>=◌, ◌>>◌}
 use Rattle.bios_services.specs.Cycles.{crtc}
 use Rattle.bios_services.specs.ModeSet.{mode_set_plan}
@@ -24,7 +24,10 @@ use Rattle.bios_services.specs.Cursor.{cell_number, place_of, with_place, with_p
 use Rattle.bios_services.specs.Cells.{cell_address, read_cell_plan, write_cells_plan}
 use Rattle.bios_services.specs.Scroll.{scroll_up_plan, scroll_down_plan}
 use Rattle.bios_services.specs.Teletype.{teletype_plan}
-use Rattle.bios_services.specs.Calls.{high, low, call_of}
+use Rattle.bios_services.specs.Pixels.{write_pixel_plan, read_pixel_plan}
+use Rattle.bios_services.specs.Colours.{colours_plan}
+use Rattle.bios_services.specs.Registers.{high, low, with_low}
+use Rattle.bios_services.specs.Calls.{call_of}
 use Rattle.bios_services.specs.Refusals.{page_named, refusal_in_mode, unknown_refusal}
 
 -- the registers that a service answers, and the BIOS data after it
@@ -56,6 +59,11 @@ read_cell_service page d r = do
   ax ← read_cell_plan (cursor_cell d page)
   Done (record r { ax = ax }, d)
 
+unfoldable pub read_pixel_service : ℕ → ℕ → ℕ → BiosData → Regs → Plan Outcome
+read_pixel_service page x y d r = do
+  colour ← read_pixel_plan d page x y
+  Done (record r { ax = with_low r.ax colour }, d)
+
 unfoldable pub teletype_service : ℕ → BiosData → Regs → Plan Outcome
 teletype_service character d r = do
   after ← teletype_plan d character
@@ -74,19 +82,22 @@ abbrev pub read_display_of : Regs → Regs
 read_display_of r = record r { ax = 0x1A1A; bx = 0x0008 }
 
 -- what a service answers, and does, that is not refused
-unfoldable pub plan_of : Service → BiosData → Regs → Plan Outcome
-plan_of (SetCursorType cursor_type) d r = set_cursor_type_service cursor_type d r
-plan_of (SetCursor page place) d r = set_cursor_service (page_named d page) place d r
-plan_of (ReadCursor page) d r = Done (record r { cx = d.cursor_type; dx = place_of d (page_named d page) }, d)
-plan_of (SelectPage page) d r = select_page_service page d r
-plan_of (ScrollUp scroll) d r = scroll_up_plan d scroll >> Done (r, d)
-plan_of (ScrollDown scroll) d r = scroll_down_plan d scroll >> Done (r, d)
-plan_of (ReadCell page) d r = read_cell_service (page_named d page) d r
-plan_of (WriteCells page character colour count) d r = write_cells_plan (cursor_cell d (page_named d page)) character colour count >> Done (r, d)
-plan_of (Teletype character) d r = teletype_service character d r
-plan_of ReadMode d r = Done (read_mode_of d r, d)
-plan_of ReadAdapter d r = Done (read_adapter_of d r, d)
-plan_of ReadDisplay d r = Done (read_display_of r, d)
+unfoldable pub plan_of : Service → BiosData → Regs → List ℕ → Plan Outcome
+plan_of (SetCursorType cursor_type) d r block = set_cursor_type_service cursor_type d r
+plan_of (SetCursor page place) d r block = set_cursor_service (page_named d page) place d r
+plan_of (ReadCursor page) d r block = Done (record r { cx = d.cursor_type; dx = place_of d (page_named d page) }, d)
+plan_of (SelectPage page) d r block = select_page_service page d r
+plan_of (ScrollUp scroll) d r block = scroll_up_plan d scroll >> Done (r, d)
+plan_of (ScrollDown scroll) d r block = scroll_down_plan d scroll >> Done (r, d)
+plan_of (ReadCell page) d r block = read_cell_service (page_named d page) d r
+plan_of (WriteCells page character colour count) d r block = write_cells_plan (cursor_cell d (page_named d page)) character colour count >> Done (r, d)
+plan_of (WritePixel page x y colour) d r block = write_pixel_plan d (page_named d page) x y colour >> Done (r, d)
+plan_of (ReadPixel page x y) d r block = read_pixel_service (page_named d page) x y d r
+plan_of (Teletype character) d r block = teletype_service character d r
+plan_of ReadMode d r block = Done (read_mode_of d r, d)
+plan_of (Colours service) d r block = colours_plan service d.crtc_address r block >>= λ after. Done (after, d)
+plan_of ReadAdapter d r block = Done (read_adapter_of d r, d)
+plan_of ReadDisplay d r block = Done (read_display_of r, d)
 
 -- what a call answers, and the BIOS data after it
 abbrev pub Answered : Type 0
@@ -108,25 +119,25 @@ set_mode_plan (Some row) mode keeps fonts d r = do
   Done (answered r (data_of_mode mode row))
 
 -- a service in a mode, or why it is refused
-unfoldable pub unless : Option Refusal → Service → BiosData → Regs → Plan Answered
-unless (Some why) service d r = refused why d
-unless None service d r = do
-  outcome ← plan_of service d r
+unfoldable pub unless : Option Refusal → Service → BiosData → Regs → List ℕ → Plan Answered
+unless (Some why) service d r block = refused why d
+unless None service d r block = do
+  outcome ← plan_of service d r block
   Done (answered outcome.0 outcome.1)
 
 -- a service that needs a mode
-unfoldable pub in_mode_plan : Service → BiosData → Regs → Plan Answered
-in_mode_plan service d r = if d.mode == 0 then refused NoMode d else unless (refusal_in_mode service d) service d r
+unfoldable pub in_mode_plan : Service → BiosData → Regs → List ℕ → Plan Answered
+in_mode_plan service d r block = if d.mode == 0 then refused NoMode d else unless (refusal_in_mode service d (length block)) service d r block
 
 -- what a call asks for
-abbrev pub asked : Option Call → FontSet → BiosData → Regs → Plan Answered
-asked None fonts d r = refused (unknown_refusal d) d
-asked (Some (SetMode mode keeps)) fonts d r = set_mode_plan (mode_row mode) mode keeps fonts d r
-asked (Some (InMode service)) fonts d r = in_mode_plan service d r
+abbrev pub asked : Option Call → FontSet → BiosData → Regs → List ℕ → Plan Answered
+asked None fonts d r block = refused (unknown_refusal d) d
+asked (Some (SetMode mode keeps)) fonts d r block = set_mode_plan (mode_row mode) mode keeps fonts d r
+asked (Some (InMode service)) fonts d r block = in_mode_plan service d r block
 
--- the service that the registers ask for; none of them takes a block yet
+-- the service that the registers ask for; one that takes no block does not look at it
 abbrev pub service : FontSet → BiosData → Regs → List ℕ → Plan Answered
-service fonts d r block = asked (call_of r) fonts d r
+service fonts d r block = asked (call_of r) fonts d r block
 
 -- a refusal, as one of the reasons why a service answers nothing
 abbrev pub served : Result Reply Refusal → Result Reply ServiceError

@@ -1,8 +1,9 @@
 //! Which service the registers ask for.
 ghost use Rattle.std.specs.Prelude.{◌≡◌};
-ghost use Rattle.bios_services.specs.Calls.{high as high_of, low as low_of, scroll_of as scroll_of_regs, service_of as service_of_regs, call_of};
+ghost use Rattle.bios_services.specs.Calls.{scroll_of as scroll_of_regs, service_of as service_of_regs, call_of};
 
-use crate::regs::Regs;
+use crate::colours::{ColourService, colour_service_of};
+use crate::regs::{Regs, high, low};
 use crate::scroll::Scroll;
 
 /// What a call asks for.
@@ -53,29 +54,31 @@ pub enum Service {
         colour: Option<u8>,
         count: u16,
     },
+    /// 0C: writes a dot.
+    WritePixel {
+        page: u8,
+        x: u16,
+        y: u16,
+        colour: u8,
+    },
+    /// 0D: answers the colour of a dot.
+    ReadPixel {
+        page: u8,
+        x: u16,
+        y: u16,
+    },
     /// 0E: types a character at the cursor of the active page.
     Teletype {
         character: u8,
     },
     /// 0F: answers mode, columns and active page.
     ReadMode,
+    /// 10: palette, overscan colour, blinking, DAC.
+    Colours(ColourService),
     /// 12 with BL = 10: answers what adapter there is.
     ReadAdapter,
     /// 1A with AL = 00: answers what display there is.
     ReadDisplay,
-}
-
-/// The high byte of a register, and its low byte.
-fn high(register: u16) -> u8
-    ensures { result ≡ high_of register }
-{
-    (register / 256) as u8
-}
-
-fn low(register: u16) -> u8
-    ensures { result ≡ low_of register }
-{
-    (register % 256) as u8
 }
 
 /// The window that functions 06 and 07 name.
@@ -127,8 +130,23 @@ fn service_of(regs: Regs) -> Option<Service>
             colour: None,
             count: regs.cx,
         }),
+        0x0C => Some(Service::WritePixel {
+            page,
+            x: regs.cx,
+            y: regs.dx,
+            colour: al,
+        }),
+        0x0D => Some(Service::ReadPixel {
+            page,
+            x: regs.cx,
+            y: regs.dx,
+        }),
         0x0E => Some(Service::Teletype { character: al }),
         0x0F => Some(Service::ReadMode),
+        0x10 => match colour_service_of(regs) {
+            Some(service) => Some(Service::Colours(service)),
+            None => None,
+        },
         0x12 if low(regs.bx) == 0x10 => Some(Service::ReadAdapter),
         0x1A if al == 0x00 => Some(Service::ReadDisplay),
         _ => None,

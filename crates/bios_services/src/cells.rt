@@ -2,33 +2,43 @@
 ghost use Rattle.std.specs.Prelude.{◌≡◌, ◌<◌, ◌≤◌, ◌+◌, ◌*◌, ◌^◌};
 ghost use Rattle.bios_services.specs.Plan.{run};
 ghost use Rattle.bios_services.specs.Bounds.{IsSet, pages_of};
-ghost use Rattle.bios_services.specs.Cells.{page_address as page_address_of, cell_address as cell_address_of, cells_of, read_cell_plan, colour_plan, write_cell_plan, write_cells_plan};
+ghost use Rattle.bios_services.specs.Cells.{page_base as page_base_of, page_address as page_address_of, cell_address as cell_address_of, cells_of, read_cell_plan, colour_plan, write_cell_plan, write_cells_plan};
 
 use crate::cycles::{get, put};
 use bios_modes::Bda;
 use vga_card::Bus;
 
-/// Where the pages of mode 7 begin, and those of mode 3.
-const MONOCHROME_BASE: u32 = 0xB0000;
-
+/// Where the pages of mode 3 begin, and those of mode 7.
 const COLOUR_BASE: u32 = 0xB8000;
 
-/// Where a page of text begins.
+const MONOCHROME_BASE: u32 = 0xB0000;
+
+/// Where the pages of graphics modes begin, and glyphs stand.
+pub(crate) const GRAPHICS_BASE: u32 = 0xA0000;
+
+/// Where the pages of a mode begin.
+fn page_base(mode: u8) -> u32
+    ensures value { result ≡ page_base_of mode }
+    ensures small { result ≤ 0xB8000 }
+{
+    match mode {
+        0x03 => COLOUR_BASE,
+        0x07 => MONOCHROME_BASE,
+        _ => GRAPHICS_BASE,
+    }
+}
+
+/// Where a page begins.
 pub(crate) fn page_address(bda: &Bda, page: u8) -> u32
     requires data { IsSet bda.now }
     requires page { page < pages_of bda.now }
     ensures value { result ≡ page_address_of bda.now page }
     ensures small { result < 2 ^ 20 }
 {
-    let base = if bda.mode() == 0x07 {
-        MONOCHROME_BASE
-    } else {
-        COLOUR_BASE
-    };
-    base + bda.size() as u32 * page as u32
+    page_base(bda.mode()) + bda.size() as u32 * page as u32
 }
 
-/// The address of cell q of a page.
+/// The address of cell q of a page of text.
 pub(crate) fn cell_address(bda: &Bda, page: u8, q: u32) -> u32
     requires data { IsSet bda.now }
     requires page { page < pages_of bda.now }

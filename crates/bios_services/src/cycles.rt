@@ -13,7 +13,16 @@ pub(crate) const SEQUENCER: u16 = 0x3C4;
 
 pub(crate) const GRAPHICS: u16 = 0x3CE;
 
-const ATTRIBUTE: u16 = 0x3C0;
+pub(crate) const ATTRIBUTE: u16 = 0x3C0;
+
+/// The ports of the DAC: its mask, the index of reads, the index of writes, and the data.
+pub(crate) const DAC_MASK: u16 = 0x3C6;
+
+pub(crate) const DAC_READ_INDEX: u16 = 0x3C7;
+
+pub(crate) const DAC_WRITE_INDEX: u16 = 0x3C8;
+
+pub(crate) const DAC_DATA: u16 = 0x3C9;
 
 /// The attribute controller's index 0 with the palette address source on.
 const PALETTE_SHOWN: u8 = 0x20;
@@ -84,7 +93,7 @@ pub(crate) fn graphics<B: Bus>(bus: &mut B, i: u8, value: u8)
 }
 
 /// Writes a register of the attribute controller, where its next write is an index.
-fn attribute<B: Bus>(bus: &mut B, i: u8, value: u8)
+pub(crate) fn attribute<B: Bus>(bus: &mut B, i: u8, value: u8)
     ensures { bus.new ≡ (run B.meaning (attribute_plan i value) bus.old).0 }
 {
     out(bus, ATTRIBUTE, i);

@@ -1,5 +1,5 @@
 //! Interrupt 10: which service is asked for, whether it is refused, and what it does.
-ghost use Rattle.std.specs.Prelude.{◌≡◌, ◌≢◌, ◌<◌, ◌≤◌, ◌^◌, None, Ok};
+ghost use Rattle.std.specs.Prelude.{◌≡◌, ◌≢◌, ◌<◌, ◌≤◌, ◌^◌, None, Ok, length};
 ghost use Rattle.bios_modes.specs.Valid.{IsValid};
 ghost use Rattle.bios_services.specs.Plan.{run};
 ghost use Rattle.bios_services.specs.Calls.{call_of};
@@ -8,15 +8,17 @@ ghost use Rattle.bios_services.specs.Cursor.{place_of, row_of};
 ghost use Rattle.bios_services.specs.Refusals.{refusal_in_mode as refusal_in_mode_of};
 ghost use Rattle.bios_modes.specs.Modes.{mode_row as mode_row_of};
 ghost use Rattle.bios_services.specs.declared.reply.Table.TheVariants.{Empty};
-ghost use Rattle.bios_services.specs.Service.{cursor_cell as cursor_cell_of, set_mode_plan, in_mode_plan, read_mode_of, read_adapter_of, read_display_of, set_cursor_type_service, set_cursor_service, select_page_service, read_cell_service, teletype_service, plan_of, asked, service, served};
+ghost use Rattle.bios_services.specs.Service.{cursor_cell as cursor_cell_of, set_mode_plan, in_mode_plan, read_mode_of, read_adapter_of, read_display_of, set_cursor_type_service, set_cursor_service, select_page_service, read_cell_service, read_pixel_service, teletype_service, plan_of, asked, service, served};
 
 use crate::call::{Call, Service, decode};
 use crate::cells::{cell_address, read_cell, write_cells};
+use crate::colours::perform_colours;
 use crate::cursor::{cell_number, show_cursor, show_page};
 use crate::cycles::indexed;
 use crate::mode_set;
+use crate::pixels::{read_pixel, write_pixel};
 use crate::refusals::{page_named, refusal_in_mode, unknown_refusal};
-use crate::regs::Regs;
+use crate::regs::{Regs, with_low};
 use crate::reply::{Reply, ServiceError, Table};
 use crate::teletype::teletype;
 use bios_modes::{Bda, Fonts, mode_row};
@@ -103,6 +105,20 @@ fn read_cursor_cell<B: Bus>(bus: &mut B, bda: &Bda, page: u8, regs: Regs) -> Reg
     }
 }
 
+/// Answers the colour of a dot.
+#[tactic(auto, using(crate::proofs::RunLemmas::run_bind), unfolding(crate::specs::Service::read_pixel_service))]
+fn read_pixel_colour<B: Bus>(bus: &mut B, bda: &Bda, page: u8, x: u16, y: u16, regs: Regs) -> Regs
+    requires data { IsSet bda.now }
+    requires page { page < pages_of bda.now }
+    ensures { (bus.new, (result, bda.now)) ≡ run B.meaning (read_pixel_service page x y bda.now regs) bus.old }
+{
+    let colour = read_pixel(bus, bda, page, x, y);
+    Regs {
+        ax: with_low(regs.ax, colour),
+        ..regs
+    }
+}
+
 /// Types a character at the cursor of the active page.
 #[tactic(auto, using(crate::proofs::RunLemmas::run_bind), unfolding(crate::specs::Service::teletype_service))]
 fn type_at_cursor<B: Bus>(bus: &mut B, bda: &mut Bda, character: u8, regs: Regs) -> Regs
@@ -152,10 +168,10 @@ fn read_display(regs: Regs) -> Regs
 
 /// Does what a service does that is not refused.
 #[tactic(auto, using(crate::proofs::RunLemmas::run_bind), unfolding(crate::specs::Service::plan_of, crate::specs::Refusals::refusal_in_mode))]
-fn perform<B: Bus>(bus: &mut B, bda: &mut Bda, service: Service, regs: Regs) -> Regs
-    requires allowed { refusal_in_mode_of service bda.old ≡ None }
+fn perform<B: Bus>(bus: &mut B, bda: &mut Bda, service: Service, regs: Regs, block: &[u8]) -> Regs
+    requires allowed { refusal_in_mode_of service bda.old (length block.now) ≡ None }
     requires data { IsSet bda.old }
-    ensures answer { (bus.new, (result, bda.new)) ≡ run B.meaning (plan_of service bda.old regs) bus.old }
+    ensures answer { (bus.new, (result, bda.new)) ≡ run B.meaning (plan_of service bda.old regs block.now) bus.old }
     ensures stays { StaysInMode bda.old bda.new }
 {
     match service {
@@ -185,8 +201,18 @@ fn perform<B: Bus>(bus: &mut B, bda: &mut Bda, service: Service, regs: Regs) -> 
             write_cells(bus, address, character, colour, count as u32);
             regs
         }
+        Service::WritePixel { page, x, y, colour } => {
+            write_pixel(bus, bda, page_named(bda, page), x, y, colour);
+            regs
+        }
+        Service::ReadPixel { page, x, y } => {
+            read_pixel_colour(bus, bda, page_named(bda, page), x, y, regs)
+        }
         Service::Teletype { character } => type_at_cursor(bus, bda, character, regs),
         Service::ReadMode => read_mode(bda, regs),
+        Service::Colours(service) => {
+            perform_colours(bus, bda.crtc_address(), service, regs, block)
+        }
         Service::ReadAdapter => read_adapter(bda, regs),
         Service::ReadDisplay => read_display(regs),
     }
@@ -194,14 +220,20 @@ fn perform<B: Bus>(bus: &mut B, bda: &mut Bda, service: Service, regs: Regs) -> 
 
 /// Does what a service does that is not refused, over valid data of a mode, which are valid again.
 #[tactic(auto, using(crate::proofs::BoundLemmas::set_of_valid, crate::proofs::BoundLemmas::stays_valid))]
-fn perform_allowed<B: Bus>(bus: &mut B, bda: &mut Bda, service: Service, regs: Regs) -> Regs
-    requires allowed { refusal_in_mode_of service bda.old ≡ None }
+fn perform_allowed<B: Bus>(
+    bus: &mut B,
+    bda: &mut Bda,
+    service: Service,
+    regs: Regs,
+    block: &[u8],
+) -> Regs
+    requires allowed { refusal_in_mode_of service bda.old (length block.now) ≡ None }
     requires valid { IsValid bda.old }
     requires set { bda.old.mode ≢ 0 }
-    ensures answer { (bus.new, (result, bda.new)) ≡ run B.meaning (plan_of service bda.old regs) bus.old }
+    ensures answer { (bus.new, (result, bda.new)) ≡ run B.meaning (plan_of service bda.old regs block.now) bus.old }
     ensures valid { IsValid bda.new }
 {
-    perform(bus, bda, service, regs)
+    perform(bus, bda, service, regs, block)
 }
 
 /// The answer of registers alone.
@@ -243,30 +275,37 @@ fn in_mode<B: Bus>(
     bda: &mut Bda,
     service: Service,
     regs: Regs,
+    block: &[u8],
 ) -> Result<Reply, Refusal>
     requires { IsValid bda.old }
-    ensures answer { (bus.new, (result, bda.new)) ≡ run B.meaning (in_mode_plan service bda.old regs) bus.old }
+    ensures answer { (bus.new, (result, bda.new)) ≡ run B.meaning (in_mode_plan service bda.old regs block.now) bus.old }
     ensures valid { IsValid bda.new }
 {
     if bda.mode() == 0 {
         return Err(Refusal::NoMode);
     }
-    if let Some(why) = refusal_in_mode(service, bda) {
+    if let Some(why) = refusal_in_mode(service, bda, block.len()) {
         return Err(why);
     }
-    answered(perform_allowed(bus, bda, service, regs))
+    answered(perform_allowed(bus, bda, service, regs, block))
 }
 
 /// Does what a call asks for, unless it is refused.
-fn do_call<B: Bus>(bus: &mut B, bda: &mut Bda, fonts: &Fonts, regs: Regs) -> Result<Reply, Refusal>
+fn do_call<B: Bus>(
+    bus: &mut B,
+    bda: &mut Bda,
+    fonts: &Fonts,
+    regs: Regs,
+    block: &[u8],
+) -> Result<Reply, Refusal>
     requires { IsValid bda.old }
-    ensures answer { (bus.new, (result, bda.new)) ≡ run B.meaning (asked (call_of regs) fonts.now bda.old regs) bus.old }
+    ensures answer { (bus.new, (result, bda.new)) ≡ run B.meaning (asked (call_of regs) fonts.now bda.old regs block.now) bus.old }
     ensures valid { IsValid bda.new }
 {
     match decode(regs) {
         None => Err(unknown_refusal(bda)),
         Some(Call::SetMode { mode, keeps }) => set_mode(bus, bda, fonts, mode, keeps, regs),
-        Some(Call::InMode(service)) => in_mode(bus, bda, service, regs),
+        Some(Call::InMode(service)) => in_mode(bus, bda, service, regs, block),
     }
 }
 
@@ -274,24 +313,24 @@ fn do_call<B: Bus>(bus: &mut B, bda: &mut Bda, fonts: &Fonts, regs: Regs) -> Res
 ///
 /// Registers that a service does not answer stay as they are handed in. A service is refused by name, and
 /// then has no cycle and leaves the BIOS data: `NoMode` before a mode is set, `BadFunction`, `BadMode`,
-/// `BadPage`, `Outside` or `CountPast`; of several the first is answered. Within a service a cycle that the
+/// `WrongKind`, `BadPage`, `Outside`, `CountPast`, `BadRegister` or `BadBlock`; of several the first is answered. Within a service a cycle that the
 /// bus refuses does nothing, or gives FF (hexadecimal). The BIOS data must be valid, and are so afterwards.
 pub fn int10<B: Bus>(
     bus: &mut B,
     bda: &mut Bda,
     fonts: &Fonts,
     regs: Regs,
-    _block: &[u8],
+    block: &[u8],
 ) -> Result<Reply, ServiceError>
     requires { IsValid bda.old }
     // The cycles of the service, in order.
-    ensures cycles { bus.new ≡ (run B.meaning (service fonts.now bda.old regs _block.now) bus.old).0 }
+    ensures cycles { bus.new ≡ (run B.meaning (service fonts.now bda.old regs block.now) bus.old).0 }
     // Its answer, and the BIOS data afterwards.
-    ensures answer { result ≡ served (run B.meaning (service fonts.now bda.old regs _block.now) bus.old).1.0 }
-    ensures data { bda.new ≡ (run B.meaning (service fonts.now bda.old regs _block.now) bus.old).1.1 }
+    ensures answer { result ≡ served (run B.meaning (service fonts.now bda.old regs block.now) bus.old).1.0 }
+    ensures data { bda.new ≡ (run B.meaning (service fonts.now bda.old regs block.now) bus.old).1.1 }
     ensures valid { IsValid bda.new }
 {
-    match do_call(bus, bda, fonts, regs) {
+    match do_call(bus, bda, fonts, regs, block) {
         Ok(reply) => Ok(reply),
         Err(refusal) => Err(ServiceError::Refused(refusal)),
     }

@@ -3,11 +3,15 @@
 
 mod call;
 mod cells;
+mod colours;
 mod cursor;
 mod cycles;
+mod dac;
 mod interrupt;
 pub mod laws;
 mod mode_set;
+mod palette;
+mod pixels;
 mod refusals;
 mod regs;
 mod reply;

@@ -4,27 +4,19 @@ ghost use Rattle.bios_modes.specs.Palette.{is_mode, dac_entry as entry_of};
 ghost use Rattle.bios_services.specs.Plan.{run};
 ghost use Rattle.bios_services.specs.ModeSet.{is_text as is_text_mode, registers_plan, colour_plan, palette_plan, glyph_plan, glyphs_plan, font_plan, blank_byte as blank_byte_of, blank_plan, clear_plan, text_plan, memory_plan, mode_set_plan};
 
+use crate::cells::GRAPHICS_BASE;
 use crate::cycles::{
-    GRAPHICS, SEQUENCER, attribute_group, expect_index, graphics, group, indexed, out, put,
-    sequencer, show_palette,
+    DAC_DATA, DAC_MASK, DAC_WRITE_INDEX, GRAPHICS, SEQUENCER, attribute_group, expect_index,
+    graphics, group, indexed, out, put, sequencer, show_palette,
 };
 use bios_modes::{Font, Fonts, ModeRow, dac_entry};
 use vga_card::Bus;
 
-/// The ports of the miscellaneous output register and of the DAC.
+/// The port of the miscellaneous output register.
 const MISCELLANEOUS: u16 = 0x3C2;
-
-const DAC_MASK: u16 = 0x3C6;
-
-const DAC_WRITE_INDEX: u16 = 0x3C8;
-
-const DAC_DATA: u16 = 0x3C9;
 
 /// The CRT controller's register that protects others by its bit 7.
 const VERTICAL_RETRACE_END: usize = 0x11;
-
-/// Where glyphs and the pages of graphics modes stand.
-const GRAPHICS_BASE: u32 = 0xA0000;
 
 /// How many bytes a text mode clears, and a graphics mode.
 const TEXT_LEN: u32 = 0x8000;

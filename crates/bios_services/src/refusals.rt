@@ -2,12 +2,14 @@
 ghost use Rattle.std.specs.Prelude.{◌≡◌};
 ghost use Rattle.bios_services.specs.Bounds.{IsSet, pages_of};
 ghost use Rattle.bios_services.specs.Cursor.{place_of};
-ghost use Rattle.bios_services.specs.Refusals.{page_named as page_named_of, page_refusal as page_refusal_of, cursor_refusal as cursor_refusal_of, count_refusal as count_refusal_of, place_refusal as place_refusal_of, in_text as in_text_of, refusal_in_mode as refusal_in_mode_of, unknown_refusal as unknown_refusal_of};
+ghost use Rattle.bios_services.specs.Refusals.{page_named as page_named_of, page_refusal as page_refusal_of, cursor_refusal as cursor_refusal_of, count_refusal as count_refusal_of, pixel_refusal as pixel_refusal_of, place_refusal as place_refusal_of, in_text as in_text_of, refusal_in_mode as refusal_in_mode_of, unknown_refusal as unknown_refusal_of};
 
 use crate::call::Service;
 use crate::cells::cells;
+use crate::colours::colour_refusal;
 use crate::cursor::cell_number;
 use crate::mode_set::is_text;
+use crate::pixels::{dots_across, dots_down};
 use bios_modes::{Bda, mode_row};
 use vga_bits::Refusal;
 
@@ -93,11 +95,28 @@ fn in_text(bda: &Bda, refusal: Option<Refusal>) -> Option<Refusal>
     }
 }
 
-/// Why a service is refused in a mode.
+/// Why a dot is refused.
+fn pixel_refusal(bda: &Bda, page: u8, x: u16, y: u16) -> Option<Refusal>
+    ensures { result ≡ pixel_refusal_of bda.now page x y }
+{
+    if is_text(bda.mode()) {
+        return Some(Refusal::WrongKind);
+    }
+    if page >= pages(bda) {
+        return Some(Refusal::BadPage);
+    }
+    if (x as u32) < dots_across(bda) && (y as u32) < dots_down(bda) {
+        None
+    } else {
+        Some(Refusal::Outside)
+    }
+}
+
+/// Why a service is refused in a mode, with a block of this length.
 #[tactic(auto, unfolding(crate::specs::Refusals::refusal_in_mode))]
-pub(crate) fn refusal_in_mode(service: Service, bda: &Bda) -> Option<Refusal>
+pub(crate) fn refusal_in_mode(service: Service, bda: &Bda, len: usize) -> Option<Refusal>
     requires { IsSet bda.now }
-    ensures { result ≡ refusal_in_mode_of service bda.now }
+    ensures { result ≡ refusal_in_mode_of service bda.now len }
 {
     match service {
         Service::SetCursor { page, .. } | Service::ReadCursor { page } => {
@@ -109,12 +128,16 @@ pub(crate) fn refusal_in_mode(service: Service, bda: &Bda) -> Option<Refusal>
         Service::WriteCells { page, count, .. } => {
             in_text(bda, count_refusal(bda, page_named(bda, page), count))
         }
+        Service::WritePixel { page, x, y, .. } | Service::ReadPixel { page, x, y } => {
+            pixel_refusal(bda, page_named(bda, page), x, y)
+        }
         Service::Teletype { .. } => {
             in_text(
                 bda,
                 place_refusal(bda, bda.cursor_place(bda.page() as usize)),
             )
         }
+        Service::Colours(service) => colour_refusal(service, len),
         Service::SetCursorType { .. }
         | Service::ReadMode
         | Service::ReadAdapter

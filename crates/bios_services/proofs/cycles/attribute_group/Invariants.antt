@@ -1,4 +1,4 @@
-use Rattle.std.proofs.Common.{◌≡◌, ◌+◌, ◌-◌, slice_index, length}
+use Rattle.std.proofs.Common.{◌≡◌, ◌-◌, slice_index, length}
 use Rattle.bios_services.specs.Plan.{run, each}
 use Rattle.bios_services.specs.Cycles.{attribute}
 use Rattle.bios_services.proofs.cycles.attribute_group.Given as goal

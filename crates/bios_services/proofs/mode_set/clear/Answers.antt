@@ -1,4 +1,4 @@
-use Rattle.std.proofs.Common.{◌≡◌, ◌+◌, ◌-◌, arith}
+use Rattle.std.proofs.Common.{◌+◌, arith}
 use Rattle.bios_services.specs.Plan.{put}
 use Rattle.bios_services.proofs.RunLemmas.{next_turn}
 use Rattle.bios_services.proofs.mode_set.clear.Goals as goal

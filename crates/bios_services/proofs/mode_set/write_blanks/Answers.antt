@@ -1,4 +1,4 @@
-use Rattle.std.proofs.Common.{◌≡◌, ◌∙◌, ap, ◌+◌, ◌-◌, arith}
+use Rattle.std.proofs.Common.{◌∙◌, ap, ◌+◌, arith}
 use Rattle.bios_services.specs.Plan.{run, put}
 use Rattle.bios_services.specs.ModeSet.{blank_byte}
 use Rattle.bios_services.proofs.RunLemmas.{next_turn}

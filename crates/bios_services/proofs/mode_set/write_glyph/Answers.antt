@@ -1,4 +1,4 @@
-use Rattle.std.proofs.Common.{◌≡◌, ◌∙◌, ap, ◌+◌, ◌-◌, ◌*◌, arith}
+use Rattle.std.proofs.Common.{◌∙◌, ap, ◌+◌, ◌*◌, arith}
 use Rattle.bios_modes.specs.Fonts.{glyph_row}
 use Rattle.bios_services.specs.Plan.{run, put}
 use Rattle.bios_services.proofs.RunLemmas.{next_turn}

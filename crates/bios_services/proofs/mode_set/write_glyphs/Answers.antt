@@ -1,4 +1,4 @@
-use Rattle.std.proofs.Common.{◌≡◌, ◌+◌, ◌-◌, arith}
+use Rattle.std.proofs.Common.{arith}
 use Rattle.bios_services.specs.ModeSet.{glyph_plan}
 use Rattle.bios_services.proofs.RunLemmas.{next_turn}
 use Rattle.bios_services.proofs.mode_set.write_glyphs.Goals as goal

@@ -1,4 +1,4 @@
-use Rattle.std.proofs.Common.{◌≡◌, ◌+◌, ◌-◌}
+use Rattle.std.proofs.Common.{◌≡◌, ◌-◌}
 use Rattle.bios_services.specs.Plan.{run, each}
 use Rattle.bios_modes.specs.Palette.{dac_entry}
 use Rattle.bios_services.specs.ModeSet.{colour_plan}

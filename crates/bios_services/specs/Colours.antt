@@ -1,0 +1,92 @@
+-- Function 10: which subfunction is asked for, why it is refused, and what it does and answers in registers.
+-- From the IBM PS/2 and PC BIOS Interface Technical Reference, "Interrupt 10H - Video", (AH) = 10H; the refusals are this adapter's
+-- choice.
+use Rattle.std.specs.Prelude.{ℕ, Bool, ◌+◌, ◌*◌, ◌==◌, ◌&&◌, nat_lt, nat_le, if◌then◌else◌, Option, Some, None, List}
+use Rattle.vga_bits.specs.declared.refusal.Refusal.{Refusal}
+use Rattle.vga_bits.specs.declared.refusal.Refusal.TheVariants.{BadRegister, BadBlock}
+use Rattle.bios_services.specs.declared.regs.Regs.{Regs}
+use Rattle.bios_services.specs.declared.colours.ColourService.{ColourService}
+use Rattle.bios_services.specs.declared.colours.ColourService.TheVariants.{SetRegister, SetOverscan, SetPalette, SetBlinking, ReadRegister, ReadOverscan, SetEntry, SetEntries, ReadEntry, SetMask, ReadMask}
+use Rattle.bios_services.specs.Plan.{Plan, Done, ◌>>=◌, ◌>>◌, out, inp}
+use Rattle.bios_services.specs.Registers.{high, low, with_high, with_low}
+use Rattle.bios_services.specs.Palette.{set_register_plan, set_palette_plan, set_blinking_plan, read_register_plan}
+use Rattle.bios_services.specs.Dac.{set_entry_plan, set_entries_plan}
+
+-- the subfunction of AL, with its arguments
+abbrev pub colour_service_of : Regs → Option ColourService
+colour_service_of r =
+    let al = low r.ax in
+    let bl = low r.bx in
+    let bh = high r.bx in
+    if al == 0x00 then Some (SetRegister bl bh)
+    else if al == 0x01 then Some (SetOverscan bh)
+    else if al == 0x02 then Some SetPalette
+    else if al == 0x03 then Some (SetBlinking bl)
+    else if al == 0x07 then Some (ReadRegister bl)
+    else if al == 0x08 then Some ReadOverscan
+    else if al == 0x10 then Some (SetEntry r.bx (high r.dx) (high r.cx) (low r.cx))
+    else if al == 0x12 then Some (SetEntries r.bx r.cx)
+    else if al == 0x15 then Some (ReadEntry r.bx)
+    else if al == 0x18 then Some (SetMask bl)
+    else if al == 0x19 then Some ReadMask
+    else None
+
+-- there are 16 palette registers
+abbrev pub register_refusal : ℕ → Option Refusal
+register_refusal register = if nat_lt register 0x10 then None else Some BadRegister
+
+-- there are 256 entries of the DAC
+abbrev pub entry_refusal : ℕ → Option Refusal
+entry_refusal entry = if nat_lt entry 0x100 then None else Some BadRegister
+
+-- whether there are so many from one on
+abbrev pub has_entries : ℕ → ℕ → Bool
+has_entries first count = nat_lt first 0x100 && nat_le (first + count) 0x100
+
+-- a block has as many bytes as are taken
+abbrev pub block_refusal : ℕ → ℕ → Option Refusal
+block_refusal len taken = if len == taken then None else Some BadBlock
+
+-- why a subfunction is refused, with a block of this length
+unfoldable pub colour_refusal : ColourService → ℕ → Option Refusal
+colour_refusal (SetRegister register value) len = register_refusal register
+colour_refusal (SetOverscan value) len = None
+colour_refusal SetPalette len = block_refusal len 17
+colour_refusal (SetBlinking blinking) len = if nat_le blinking 1 then None else Some BadRegister
+colour_refusal (ReadRegister register) len = register_refusal register
+colour_refusal ReadOverscan len = None
+colour_refusal (SetEntry entry red green blue) len = entry_refusal entry
+colour_refusal (SetEntries first count) len = if has_entries first count then block_refusal len (3 * count) else Some BadRegister
+colour_refusal (ReadEntry entry) len = entry_refusal entry
+colour_refusal (SetMask mask) len = None
+colour_refusal ReadMask len = None
+
+-- 15: red in DH, green in CH, blue in CL
+unfoldable pub read_entry_plan : ℕ → Regs → Plan Regs
+read_entry_plan entry r = do
+  out 0x3C7 entry
+  red ← inp 0x3C9
+  green ← inp 0x3C9
+  blue ← inp 0x3C9
+  Done (record r { cx = 256 * green + blue; dx = with_high r.dx red })
+
+-- a byte that is answered in BH, and in BL
+abbrev pub in_bh : Regs → ℕ → Regs
+in_bh r byte = record r { bx = with_high r.bx byte }
+
+abbrev pub in_bl : Regs → ℕ → Regs
+in_bl r byte = record r { bx = with_low r.bx byte }
+
+-- what a subfunction does and answers that is not refused; the CRT controller's index is at this port
+unfoldable pub colours_plan : ColourService → ℕ → Regs → List ℕ → Plan Regs
+colours_plan (SetRegister register value) port r block = set_register_plan port register value >> Done r
+colours_plan (SetOverscan value) port r block = set_register_plan port 0x11 value >> Done r
+colours_plan SetPalette port r block = set_palette_plan port block >> Done r
+colours_plan (SetBlinking blinking) port r block = set_blinking_plan port blinking >> Done r
+colours_plan (ReadRegister register) port r block = read_register_plan port register >>= λ value. Done (in_bh r value)
+colours_plan ReadOverscan port r block = read_register_plan port 0x11 >>= λ value. Done (in_bh r value)
+colours_plan (SetEntry entry red green blue) port r block = set_entry_plan entry red green blue >> Done r
+colours_plan (SetEntries first count) port r block = set_entries_plan first block >> Done r
+colours_plan (ReadEntry entry) port r block = read_entry_plan entry r
+colours_plan (SetMask mask) port r block = out 0x3C6 mask >> Done r
+colours_plan ReadMask port r block = inp 0x3C6 >>= λ mask. Done (in_bl r mask)

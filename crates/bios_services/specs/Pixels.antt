@@ -1,0 +1,63 @@
+-- Writing and reading one dot.
+-- From the IBM PS/2 and PC BIOS Interface Technical Reference, "Interrupt 10H - Video", (AH) = 0CH and 0DH; the order of the cycles
+-- is this adapter's choice.
+use Rattle.std.specs.Prelude.{ℕ, ◌+◌, ◌-◌, ◌*◌, ◌/◌, ◌%◌, ◌^◌, ◌==◌, if◌then◌else◌}
+use Rattle.std.specs.Int.{bit_at}
+use Rattle.vga_bits.specs.Bits.{is_set}
+use Rattle.bios_modes.specs.Bda.{BiosData}
+use Rattle.bios_services.specs.Plan.{Plan, Done, ◌>>=◌, ◌>>◌, put, get}
+use Rattle.bios_services.specs.Cycles.{graphics}
+use Rattle.bios_services.specs.Cells.{page_address}
+
+-- how many dots a graphics mode has across, and down
+abbrev pub dots_across : BiosData → ℕ
+dots_across d = 8 * d.columns
+
+abbrev pub dots_down : BiosData → ℕ
+dots_down d = d.height * (d.last_row + 1)
+
+-- the address of a dot: mode 13 has a byte for each, the others a byte of each plane for eight
+abbrev pub pixel_address : BiosData → ℕ → ℕ → ℕ → ℕ
+pixel_address d page x y = page_address d page + (if d.mode == 0x13 then dots_across d * y + x else d.columns * y + x / 8)
+
+-- the function of planes, where bit 7 of a colour asks for XOR
+abbrev pub function_plan : ℕ → ℕ → Plan (Unit {0})
+function_plan colour function = if is_set colour 7 then graphics 3 function else Done tt
+
+-- a dot in 16 colours: its bit alone is written, in write mode 2, over what was read
+unfoldable pub write_dot_plan : ℕ → ℕ → ℕ → Plan (Unit {0})
+write_dot_plan address x colour = do
+  graphics 8 (0x80 / 2 ^ (x % 8))
+  function_plan colour 0x18
+  get address
+  graphics 5 0x02
+  put address colour
+  graphics 5 0x00
+  function_plan colour 0x00
+  graphics 8 0xFF
+
+-- 0C: a dot at a column and a line of a page
+unfoldable pub write_pixel_plan : BiosData → ℕ → ℕ → ℕ → ℕ → Plan (Unit {0})
+write_pixel_plan d page x y colour =
+    if d.mode == 0x13 then put (pixel_address d page x y) colour else write_dot_plan (pixel_address d page x y) x colour
+
+-- the byte of a plane, whose number is put into read map select
+abbrev pub plane_byte : ℕ → ℕ → Plan ℕ
+plane_byte plane address = do
+  graphics 4 plane
+  get address
+
+-- a dot in 16 colours: its bit of each plane
+unfoldable pub read_dot_plan : ℕ → ℕ → Plan ℕ
+read_dot_plan address x = do
+  b0 ← plane_byte 0 address
+  b1 ← plane_byte 1 address
+  b2 ← plane_byte 2 address
+  b3 ← plane_byte 3 address
+  graphics 4 0
+  Done (bit_at b0 (7 - x % 8) + 2 * bit_at b1 (7 - x % 8) + 4 * bit_at b2 (7 - x % 8) + 8 * bit_at b3 (7 - x % 8))
+
+-- 0D: the colour of a dot
+unfoldable pub read_pixel_plan : BiosData → ℕ → ℕ → ℕ → Plan ℕ
+read_pixel_plan d page x y =
+    if d.mode == 0x13 then get (pixel_address d page x y) else read_dot_plan (pixel_address d page x y) x

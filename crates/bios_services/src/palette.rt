@@ -1,0 +1,81 @@
+//! The palette registers, the overscan colour and blinking: function 10, subfunctions 00 to 08.
+ghost use Rattle.std.specs.Prelude.{◌≡◌, ◌<◌, ◌≤◌, length};
+ghost use Rattle.bios_services.specs.Plan.{run};
+ghost use Rattle.bios_services.specs.Palette.{set_register_plan, set_palette_plan, set_blinking_plan, register_plan, read_register_plan};
+
+use crate::cycles::{ATTRIBUTE, attribute, attribute_group, expect_index, inp, out, show_palette};
+use vga_card::Bus;
+
+/// The port at which a register of the attribute controller is read.
+const ATTRIBUTE_DATA: u16 = 0x3C1;
+
+/// The overscan register of the attribute controller, behind its 16 palette registers.
+pub(crate) const OVERSCAN: u8 = 0x11;
+
+const PALETTE_LEN: usize = 16;
+
+/// The attribute controller's index 10, of the mode control register, with the palette shown.
+const CONTROL_SHOWN: u8 = 0x30;
+
+/// 00 and 01: writes a register of the attribute controller.
+#[tactic(auto, using(crate::proofs::RunLemmas::run_bind), unfolding(crate::specs::Palette::set_register_plan))]
+pub(crate) fn set_register<B: Bus>(bus: &mut B, port: u16, i: u8, value: u8)
+    requires { port < 1000 }
+    ensures { bus.new ≡ (run B.meaning (set_register_plan port i value) bus.old).0 }
+{
+    expect_index(bus, port);
+    attribute(bus, i, value);
+    show_palette(bus, port);
+}
+
+/// 02: writes the palette registers and the overscan colour, of 17 bytes.
+#[tactic(auto, using(crate::proofs::RunLemmas::run_bind), unfolding(crate::specs::Palette::set_palette_plan))]
+pub(crate) fn set_palette<B: Bus>(bus: &mut B, port: u16, block: &[u8])
+    requires port { port < 1000 }
+    requires whole { length block.now ≡ 17 }
+    ensures { bus.new ≡ (run B.meaning (set_palette_plan port block.now) bus.old).0 }
+{
+    let (palette, _) = block.split_at(PALETTE_LEN);
+    expect_index(bus, port);
+    attribute_group(bus, palette);
+    attribute(bus, OVERSCAN, block[PALETTE_LEN]);
+    show_palette(bus, port);
+}
+
+/// 03: makes bit 7 of attributes blink, or bright.
+#[tactic(auto, using(crate::proofs::RunLemmas::run_bind), unfolding(crate::specs::Palette::set_blinking_plan))]
+pub(crate) fn set_blinking<B: Bus>(bus: &mut B, port: u16, blinking: u8)
+    requires port { port < 1000 }
+    requires blinking { blinking ≤ 1 }
+    ensures { bus.new ≡ (run B.meaning (set_blinking_plan port blinking) bus.old).0 }
+{
+    expect_index(bus, port);
+    out(bus, ATTRIBUTE, CONTROL_SHOWN);
+    let control = inp(bus, ATTRIBUTE_DATA);
+    out(bus, ATTRIBUTE, (control & 0xF7) | (8 * blinking));
+    show_palette(bus, port);
+}
+
+/// Reads a register of the attribute controller, where its next write is an index.
+#[tactic(auto, using(crate::proofs::RunLemmas::run_bind), unfolding(crate::specs::Palette::register_plan))]
+pub(crate) fn register<B: Bus>(bus: &mut B, port: u16, i: u8) -> u8
+    requires port { port < 1000 }
+    requires register { i < 32 }
+    ensures { (bus.new, result) ≡ run B.meaning (register_plan port i) bus.old }
+{
+    out(bus, ATTRIBUTE, 0x20 + i);
+    let value = inp(bus, ATTRIBUTE_DATA);
+    expect_index(bus, port);
+    value
+}
+
+/// 07 and 08: reads a register of the attribute controller.
+#[tactic(auto, using(crate::proofs::RunLemmas::run_bind), unfolding(crate::specs::Palette::read_register_plan))]
+pub(crate) fn read_register<B: Bus>(bus: &mut B, port: u16, i: u8) -> u8
+    requires port { port < 1000 }
+    requires register { i < 32 }
+    ensures { (bus.new, result) ≡ run B.meaning (read_register_plan port i) bus.old }
+{
+    expect_index(bus, port);
+    register(bus, port, i)
+}

@@ -1,0 +1,130 @@
+//! Functions 0C and 0D: writing and reading one dot.
+ghost use Rattle.std.specs.Prelude.{◌≡◌, ◌<◌, ◌≤◌, ◌+◌, ◌-◌, ◌*◌, ◌%◌, ◌^◌};
+ghost use Rattle.std.specs.Int.{bit_at};
+ghost use Rattle.bios_services.specs.Plan.{run};
+ghost use Rattle.bios_services.specs.Bounds.{IsSet, pages_of};
+ghost use Rattle.bios_services.specs.Pixels.{dots_across as dots_across_of, dots_down as dots_down_of, pixel_address as pixel_address_of, function_plan, write_dot_plan, write_pixel_plan, plane_byte as plane_byte_plan, read_dot_plan, read_pixel_plan};
+
+use crate::cells::page_address;
+use crate::cycles::{get, graphics, put};
+use bios_modes::Bda;
+use vga_bits::is_set;
+use vga_card::Bus;
+
+/// The mode that has a byte for each dot.
+const PACKED_MODE: u8 = 0x13;
+
+/// How many dots a graphics mode has across.
+pub(crate) fn dots_across(bda: &Bda) -> u32
+    ensures { result ≡ dots_across_of bda.now }
+{
+    8 * bda.columns() as u32
+}
+
+/// How many dots a graphics mode has down.
+pub(crate) fn dots_down(bda: &Bda) -> u32
+    ensures { result ≡ dots_down_of bda.now }
+{
+    bda.height() as u32 * (bda.last_row() as u32 + 1)
+}
+
+/// The address of a dot.
+fn pixel_address(bda: &Bda, page: u8, x: u16, y: u16) -> u32
+    requires data { IsSet bda.now }
+    requires page { page < pages_of bda.now }
+    ensures { result ≡ pixel_address_of bda.now page x y }
+{
+    let start = page_address(bda, page);
+    let columns = bda.columns() as u32;
+    if bda.mode() == PACKED_MODE {
+        start + (8 * columns * y as u32 + x as u32)
+    } else {
+        start + (columns * y as u32 + x as u32 / 8)
+    }
+}
+
+/// Sets the function of planes, where bit 7 of a colour asks for XOR.
+fn set_function<B: Bus>(bus: &mut B, colour: u8, function: u8)
+    ensures { bus.new ≡ (run B.meaning (function_plan colour function) bus.old).0 }
+{
+    if is_set(colour, 7) {
+        graphics(bus, 3, function);
+    }
+}
+
+/// Writes a dot in 16 colours.
+#[tactic(auto, using(crate::proofs::RunLemmas::run_bind), unfolding(crate::specs::Pixels::write_dot_plan))]
+fn write_dot<B: Bus>(bus: &mut B, address: u32, x: u16, colour: u8)
+    ensures { bus.new ≡ (run B.meaning (write_dot_plan address x colour) bus.old).0 }
+{
+    graphics(bus, 8, 0x80 >> (x as u32 % 8));
+    set_function(bus, colour, 0x18);
+    get(bus, address);
+    graphics(bus, 5, 0x02);
+    put(bus, address, colour);
+    graphics(bus, 5, 0x00);
+    set_function(bus, colour, 0x00);
+    graphics(bus, 8, 0xFF);
+}
+
+/// 0C: writes a dot at a column and a line of a page.
+#[tactic(auto, unfolding(crate::specs::Pixels::write_pixel_plan))]
+pub(crate) fn write_pixel<B: Bus>(bus: &mut B, bda: &Bda, page: u8, x: u16, y: u16, colour: u8)
+    requires data { IsSet bda.now }
+    requires page { page < pages_of bda.now }
+    ensures { bus.new ≡ (run B.meaning (write_pixel_plan bda.now page x y colour) bus.old).0 }
+{
+    let address = pixel_address(bda, page, x, y);
+    if bda.mode() == PACKED_MODE {
+        put(bus, address, colour);
+    } else {
+        write_dot(bus, address, x, colour);
+    }
+}
+
+/// Reads the byte of a plane.
+#[tactic(auto, using(crate::proofs::RunLemmas::run_bind))]
+fn plane_byte<B: Bus>(bus: &mut B, plane: u8, address: u32) -> u8
+    ensures { (bus.new, result) ≡ run B.meaning (plane_byte_plan plane address) bus.old }
+{
+    graphics(bus, 4, plane);
+    get(bus, address)
+}
+
+/// Bit i of a byte.
+fn bit(byte: u8, i: u32) -> u8
+    requires { i < 8 }
+    ensures value { result ≡ bit_at byte i }
+    ensures small { result ≤ 1 }
+{
+    (byte >> i) & 1
+}
+
+/// Reads a dot in 16 colours.
+#[tactic(auto, using(crate::proofs::RunLemmas::run_bind), unfolding(crate::specs::Pixels::read_dot_plan))]
+fn read_dot<B: Bus>(bus: &mut B, address: u32, x: u16) -> u8
+    ensures { (bus.new, result) ≡ run B.meaning (read_dot_plan address x) bus.old }
+{
+    let place = 7 - x as u32 % 8;
+    let b0 = bit(plane_byte(bus, 0, address), place);
+    let b1 = bit(plane_byte(bus, 1, address), place);
+    let b2 = bit(plane_byte(bus, 2, address), place);
+    let b3 = bit(plane_byte(bus, 3, address), place);
+    graphics(bus, 4, 0);
+    b0 + 2 * b1 + 4 * b2 + 8 * b3
+}
+
+/// 0D: reads the colour of a dot.
+#[tactic(auto, unfolding(crate::specs::Pixels::read_pixel_plan))]
+pub(crate) fn read_pixel<B: Bus>(bus: &mut B, bda: &Bda, page: u8, x: u16, y: u16) -> u8
+    requires data { IsSet bda.now }
+    requires page { page < pages_of bda.now }
+    ensures { (bus.new, result) ≡ run B.meaning (read_pixel_plan bda.now page x y) bus.old }
+{
+    let address = pixel_address(bda, page, x, y);
+    if bda.mode() == PACKED_MODE {
+        get(bus, address)
+    } else {
+        read_dot(bus, address, x)
+    }
+}
