@@ -22,6 +22,7 @@ record Small (row : ModeRow) : Type 0 where
   pub some_columns : 0 < row.columns
   pub columns : row.columns ≤ 80
   pub rows : row.last_row < 50
+  pub height : row.height ≤ 16
   pub port : row.crtc_address < 1000
   pub pages : row.pages ≤ 8
   pub memory : row.size * row.pages ≤ 65536
@@ -31,6 +32,7 @@ record Bounds (row : Option ModeRow) (d : BiosData) : Type 0 where
   pub some_columns : 0 < d.columns
   pub columns : d.columns ≤ 80
   pub rows : d.last_row < 50
+  pub height : d.height ≤ 16
   pub port : d.crtc_address < 1000
   pub pages : pages_in row ≤ 8
   pub page : d.page < pages_in row
@@ -40,28 +42,28 @@ record Bounds (row : Option ModeRow) (d : BiosData) : Type 0 where
 -- data of a small row are small
 of_row : (row : ModeRow) (d : BiosData) → Small row → IsOf row d → Bounds (Some row) d
 of_row row d s f =
-    let columns = f.columns in let last_row = f.last_row in let port = f.crtc_address in
+    let columns = f.columns in let last_row = f.last_row in let high = f.height in let port = f.crtc_address in
     let size = ap (λ n. n * row.pages) f.size in
-    let sc = s.some_columns in let c = s.columns in let r = s.rows in let p = s.port in let m = s.memory in
-    record { some_columns = omega arith; columns = omega arith; rows = omega arith; port = omega arith; pages = s.pages; page = f.page; start = f.start; memory = omega arith }
+    let sc = s.some_columns in let c = s.columns in let r = s.rows in let h = s.height in let p = s.port in let m = s.memory in
+    record { some_columns = omega arith; columns = omega arith; rows = omega arith; height = omega arith; port = omega arith; pages = s.pages; page = f.page; start = f.start; memory = omega arith }
 
 small_text : Small colour_text
-small_text = record { some_columns = omega arith; columns = omega arith; rows = omega arith; port = omega arith; pages = omega arith; memory = omega arith }
+small_text = record { some_columns = omega arith; columns = omega arith; rows = omega arith; height = omega arith; port = omega arith; pages = omega arith; memory = omega arith }
 
 small_monochrome : Small monochrome_text
-small_monochrome = record { some_columns = omega arith; columns = omega arith; rows = omega arith; port = omega arith; pages = omega arith; memory = omega arith }
+small_monochrome = record { some_columns = omega arith; columns = omega arith; rows = omega arith; height = omega arith; port = omega arith; pages = omega arith; memory = omega arith }
 
 small_0d : Small planes_320_by_200
-small_0d = record { some_columns = omega arith; columns = omega arith; rows = omega arith; port = omega arith; pages = omega arith; memory = omega arith }
+small_0d = record { some_columns = omega arith; columns = omega arith; rows = omega arith; height = omega arith; port = omega arith; pages = omega arith; memory = omega arith }
 
 small_10 : Small planes_640_by_350
-small_10 = record { some_columns = omega arith; columns = omega arith; rows = omega arith; port = omega arith; pages = omega arith; memory = omega arith }
+small_10 = record { some_columns = omega arith; columns = omega arith; rows = omega arith; height = omega arith; port = omega arith; pages = omega arith; memory = omega arith }
 
 small_12 : Small planes_640_by_480
-small_12 = record { some_columns = omega arith; columns = omega arith; rows = omega arith; port = omega arith; pages = omega arith; memory = omega arith }
+small_12 = record { some_columns = omega arith; columns = omega arith; rows = omega arith; height = omega arith; port = omega arith; pages = omega arith; memory = omega arith }
 
 small_13 : Small bytes_320_by_200
-small_13 = record { some_columns = omega arith; columns = omega arith; rows = omega arith; port = omega arith; pages = omega arith; memory = omega arith }
+small_13 = record { some_columns = omega arith; columns = omega arith; rows = omega arith; height = omega arith; port = omega arith; pages = omega arith; memory = omega arith }
 
 -- data that are those of their mode are small
 bounds_of : (d : BiosData) → Fits (mode_row d.mode) d → Bounds (mode_row d.mode) d
@@ -72,7 +74,7 @@ bounds_of d =
     (λ none. absurd none)
 
 set_of_bounds : (d : BiosData) → Bounds (mode_row d.mode) d → IsSet d
-set_of_bounds d b = record { some_columns = b.some_columns; columns = b.columns; rows = b.rows; port = b.port; pages = b.pages; page = b.page; start = b.start; memory = b.memory }
+set_of_bounds d b = record { some_columns = b.some_columns; columns = b.columns; rows = b.rows; height = b.height; port = b.port; pages = b.pages; page = b.page; start = b.start; memory = b.memory }
 
 -- valid data of a mode are small
 pub set_of_valid : (d : BiosData) → IsValid d → d.mode ≢ 0 → IsSet d

@@ -1,3 +1,4 @@
 pub mod RunLemmas
+pub mod GlyphLemmas
 pub mod BoundLemmas
 pub mod RefusedLemmas

@@ -40,25 +40,25 @@ unfolding set_mode_plan
 set_mode_does_nothing m None mode keeps fonts d r = refusal_does_nothing m BadMode d
 set_mode_does_nothing m (Some row) mode keeps fonts d r = answer_is_none m (mode_set_plan mode row keeps fonts) (λ _. r) (λ _. data_of_mode mode row) d
 
-unless_does_nothing : {S : Type 0} (m : Meaning S) (why : Option Refusal) (asked_for : Service) (d : BiosData) (r : Regs) (block : List ℕ) → DoesNothing m (unless why asked_for d r block) d
+unless_does_nothing : {S : Type 0} (m : Meaning S) (why : Option Refusal) (asked_for : Service) (fonts : FontSet) (d : BiosData) (r : Regs) (block : List ℕ) → DoesNothing m (unless why asked_for fonts d r block) d
 unfolding unless
-unless_does_nothing m (Some why) asked_for d r block = refusal_does_nothing m why d
-unless_does_nothing m None asked_for d r block = answer_is_none m (plan_of asked_for d r block) (λ o. o.0) (λ o. o.1) d
+unless_does_nothing m (Some why) asked_for fonts d r block = refusal_does_nothing m why d
+unless_does_nothing m None asked_for fonts d r block = answer_is_none m (plan_of asked_for fonts d r block) (λ o. o.0) (λ o. o.1) d
 
 if_does_nothing : {S : Type 0} (m : Meaning S) (unset : Bool) (p : Plan Answered) (d : BiosData) → DoesNothing m p d → DoesNothing m (if unset then refused NoMode d else p) d
 if_does_nothing m true p d h = refusal_does_nothing m NoMode d
 if_does_nothing m false p d h = h
 
-in_mode_does_nothing : {S : Type 0} (m : Meaning S) (asked_for : Service) (d : BiosData) (r : Regs) (block : List ℕ) → DoesNothing m (in_mode_plan asked_for d r block) d
+in_mode_does_nothing : {S : Type 0} (m : Meaning S) (asked_for : Service) (fonts : FontSet) (d : BiosData) (r : Regs) (block : List ℕ) → DoesNothing m (in_mode_plan asked_for fonts d r block) d
 unfolding in_mode_plan
-in_mode_does_nothing m asked_for d r block =
+in_mode_does_nothing m asked_for fonts d r block =
     let why = refusal_in_mode asked_for d (length block) in
-    if_does_nothing m (d.mode == 0) (unless why asked_for d r block) d (unless_does_nothing m why asked_for d r block)
+    if_does_nothing m (d.mode == 0) (unless why asked_for fonts d r block) d (unless_does_nothing m why asked_for fonts d r block)
 
 asked_does_nothing : {S : Type 0} (m : Meaning S) (call : Option Call) (fonts : FontSet) (d : BiosData) (r : Regs) (block : List ℕ) → DoesNothing m (asked call fonts d r block) d
 asked_does_nothing m None fonts d r block = refusal_does_nothing m (unknown_refusal d) d
 asked_does_nothing m (Some (SetMode mode keeps)) fonts d r block = set_mode_does_nothing m (mode_row mode) mode keeps fonts d r
-asked_does_nothing m (Some (InMode asked_for)) fonts d r block = in_mode_does_nothing m asked_for d r block
+asked_does_nothing m (Some (InMode asked_for)) fonts d r block = in_mode_does_nothing m asked_for fonts d r block
 
 -- so a refused service leaves bus and BIOS data
 pub refused_service : {S : Type 0} (m : Meaning S) (fonts : FontSet) (d : BiosData) (r : Regs) (block : List ℕ) (s : S) (e : Refusal)

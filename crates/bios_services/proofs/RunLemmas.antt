@@ -1,7 +1,8 @@
 -- What plans leave, one after another and turn by turn.
-use Rattle.std.proofs.Common.{◌≡◌, ℕ, suc, ◌+◌, ◌-◌, ◌<◌, refl, sym, ap, ◌∙◌, arith}
+use Rattle.std.proofs.Common.{◌≡◌, ℕ, suc, ◌+◌, ◌-◌, ◌<◌, ◌≤◌, refl, sym, ap, ◌∙◌, arith, List, [], ◌∷◌, ◌++◌, take, set, length, append_assoc}
+use Rattle.std.proofs.lemmas.List.{take_more_set, take_all, append-nil}
 use Rattle.vga_card.specs.Bus.{Meaning}
-use Rattle.bios_services.specs.Plan.{Plan, Done, Write, Read, ◌>>=◌, run, byte_of, each, each_down}
+use Rattle.bios_services.specs.Plan.{Plan, Done, Write, Read, ◌>>=◌, run, byte_of, each, each_down, fold, gather}
 
 -- a plan and then another leaves what the other leaves after it
 pub run_bind : {S A B : Type 0} (m : Meaning S) (p : Plan A) (f : A → Plan B) (s : S) → run m (p >>= f) s ≡ (let r = run m p s in run m (f r.1) r.0)
@@ -27,3 +28,43 @@ next_down m f b i s t r h now before =
     ap (run m (each_down f (i - 1 - b) b)) (now ∙ ap (λ j. (run m (f j) s).0) (sym k))
     ∙ sym (ap (λ j. run m (each_down f j b) s) n ∙ run_bind m (f (b + (i - 1 - b))) (λ _. each_down f (i - 1 - b) b) s)
     ∙ before
+
+-- a step of a loop that goes on with an answer: what the turns from i on leave and answer at s and x, those from i + 1 on do at
+-- what turn i left and answered
+pub next_answer : {S : Type 0} (m : Meaning S) (f : ℕ → ℕ → Plan ℕ) (i e : ℕ) (s t : S) (x y : ℕ) (r : S × ℕ) → i < e → (t, y) ≡ run m (f i x) s → run m (fold f (e - i) i x) s ≡ r → run m (fold f (e - (i + 1)) (i + 1) y) t ≡ r
+next_answer {S} m f i e s t x y r h now before =
+    let n : e - i ≡ suc (e - (i + 1)) = omega arith in
+    ap (λ (p : S × ℕ). run m (fold f (e - (i + 1)) (i + 1) p.1) p.0) now
+    ∙ sym (ap (λ k. run m (fold f k i x) s) n ∙ run_bind m (f i x) (λ y. fold f (e - (i + 1)) (i + 1) y) s)
+    ∙ before
+
+-- the first read, and then the others
+gather_more : {S : Type 0} (m : Meaning S) (f : ℕ → Plan ℕ) (i e : ℕ) (s t : S) (x : ℕ) → i < e → (t, x) ≡ run m (f i) s → run m (gather f (e - i) i) s ≡ (let r = run m (gather f (e - (i + 1)) (i + 1)) t in (r.0, x ∷ r.1))
+gather_more {S} m f i e s t x h now =
+    let n : e - i ≡ suc (e - (i + 1)) = omega arith in
+    let g : Plan (List ℕ) = gather f (e - (i + 1)) (i + 1) in
+    ap (λ k. run m (gather f k i) s) n
+    ∙ run_bind m (f i) (λ x. g >>= λ xs. Done (x ∷ xs)) s
+    ∙ ap (λ (p : S × ℕ). run m (g >>= λ xs. Done (p.1 ∷ xs)) p.0) (sym now)
+    ∙ run_bind m g (λ xs. Done (x ∷ xs)) t
+
+-- the numbers so far, and those that are still to come
+abbrev pub with_front : {S : Type 0} → List ℕ → S × List ℕ → S × List ℕ
+with_front front r = (r.0, front ++ r.1)
+
+-- a step of a loop that reads into the places of a list
+pub next_read : {S : Type 0} (m : Meaning S) (f : ℕ → Plan ℕ) (i e : ℕ) (s t : S) (x : ℕ) (into : List ℕ) (r : S × List ℕ) → i < e → i < length into → (t, x) ≡ run m (f i) s → with_front (take i into) (run m (gather f (e - i) i) s) ≡ r → with_front (take (i + 1) (set into i x)) (run m (gather f (e - (i + 1)) (i + 1)) t) ≡ r
+next_read {S} m f i e s t x into r h l now before =
+    let rest = run m (gather f (e - (i + 1)) (i + 1)) t in
+    ap (λ xs. with_front xs rest) (take_more_set into i x l)
+    ∙ ap (λ xs. let p : S × List ℕ = (rest.0, xs) in p) (append_assoc (take i into) (x ∷ []) rest.1)
+    ∙ ap (with_front (take i into)) (sym (gather_more m f i e s t x h now))
+    ∙ before
+
+-- the end of such a loop: the list is what was read
+pub all_read : {S : Type 0} (m : Meaning S) (f : ℕ → Plan ℕ) (i e : ℕ) (s : S) (into : List ℕ) (r : S × List ℕ) → e ≤ i → length into ≡ e → with_front (take i into) (run m (gather f (e - i) i) s) ≡ r → (s, into) ≡ r
+all_read {S} m f i e s into r h l before =
+    let n : e - i ≡ 0 = omega arith in
+    let all = take_all i into (omega arith) in
+    let same : into ≡ take i into ++ [] = sym (append-nil (take i into) ∙ all) in
+    ap (λ xs. let p : S × List ℕ = (s, xs) in p) same ∙ ap (λ k. with_front (take i into) (run m (gather f k i) s)) (sym n) ∙ before

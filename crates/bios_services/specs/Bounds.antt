@@ -17,6 +17,7 @@ pub record IsSet (d : BiosData) : Type 0 where
   pub some_columns : 0 < d.columns
   pub columns : d.columns ≤ 80
   pub rows : d.last_row < 50
+  pub height : d.height ≤ 16
   pub port : d.crtc_address < 1000
   pub pages : pages_of d ≤ 8
   pub page : d.page < pages_of d

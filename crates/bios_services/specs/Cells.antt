@@ -1,8 +1,9 @@
--- Cells of text: where they stand in memory, and how characters get there.
+-- Cells of characters: where they stand in memory, and how text is read and written.
 -- From the IBM PS/2 and PC BIOS Interface Technical Reference, "Interrupt 10H - Video", (AH) = 08H to 0AH.
-use Rattle.std.specs.Prelude.{ℕ, ◌+◌, ◌*◌, ◌==◌, if◌then◌else◌, Option, Some, None}
+use Rattle.std.specs.Prelude.{ℕ, ◌+◌, ◌*◌, ◌==◌, if◌then◌else◌}
 use Rattle.bios_modes.specs.Bda.{BiosData}
-use Rattle.bios_services.specs.Plan.{Plan, Done, ◌>>=◌, ◌>>◌, put, get, each}
+use Rattle.bios_services.specs.declared.ink.Ink.{Ink}
+use Rattle.bios_services.specs.Plan.{Plan, Done, ◌>>=◌, ◌>>◌, put, get}
 
 -- where the pages of a mode begin
 abbrev pub page_base : ℕ → ℕ
@@ -27,17 +28,12 @@ read_cell_plan address = do
   colour ← get (address + 1)
   Done (character + 256 * colour)
 
--- an attribute, where one is to be written
-abbrev pub colour_plan : ℕ → Option ℕ → Plan (Unit {0})
-colour_plan address None = Done tt
-colour_plan address (Some colour) = put address colour
+-- a colour, where it is to be the cell's attribute
+abbrev pub ink_plan : ℕ → Ink → Plan (Unit {0})
+ink_plan address ink = if ink.is_attribute then put address ink.colour else Done tt
 
--- a character in a cell, and then its attribute, where one is given
-unfoldable pub write_cell_plan : ℕ → ℕ → Option ℕ → Plan (Unit {0})
-write_cell_plan address character colour = do
+-- a character in a cell of text, and then its attribute, where it gets one
+unfoldable pub write_cell_plan : ℕ → ℕ → Ink → Plan (Unit {0})
+write_cell_plan address character ink = do
   put address character
-  colour_plan (address + 1) colour
-
--- the same in n cells from an address on
-unfoldable pub write_cells_plan : ℕ → ℕ → Option ℕ → ℕ → Plan (Unit {0})
-write_cells_plan address character colour n = each (λ i. write_cell_plan (address + 2 * i) character colour) n 0
+  ink_plan (address + 1) ink

@@ -1,11 +1,16 @@
 pub mod Plan
 pub mod Cycles
 pub mod ModeSet
+pub mod Kinds
 pub mod Bounds
 pub mod Registers
 pub mod Cursor
 pub mod Cells
+pub mod Bands
 pub mod Scroll
+pub mod Glyphs
+pub mod Drawing
+pub mod Reading
 pub mod Teletype
 pub mod Pixels
 pub mod Palette

@@ -1,5 +1,5 @@
 -- The plan of a service: its cycles in order, of which later ones may depend on the bytes that were read.
-use Rattle.std.specs.Prelude.{ℕ, zero, suc, ◌+◌, Result, Ok, Err}
+use Rattle.std.specs.Prelude.{ℕ, zero, suc, ◌+◌, List, [], ◌∷◌, Result, Ok, Err}
 use Rattle.vga_bits.specs.declared.refusal.Refusal.{Refusal}
 use Rattle.vga_card.specs.Bus.{Meaning, Place, AtPort, AtAddress}
 
@@ -58,3 +58,13 @@ each f (suc n) i = f i >>= λ _. each f n (i + 1)
 abbrev pub each_down : (ℕ → Plan (Unit {0})) → ℕ → ℕ → Plan (Unit {0})
 each_down f zero i = Done tt
 each_down f (suc n) i = f (i + n) >>= λ _. each_down f n i
+
+-- a plan for each number from i on, n of them, each of which knows what the one before answered
+abbrev pub fold : (ℕ → ℕ → Plan ℕ) → ℕ → ℕ → ℕ → Plan ℕ
+fold f zero i x = Done x
+fold f (suc n) i x = f i x >>= λ y. fold f n (i + 1) y
+
+-- the numbers that some plans answer, for each number from i on, n of them
+abbrev pub gather : (ℕ → Plan ℕ) → ℕ → ℕ → Plan (List ℕ)
+gather f zero i = Done []
+gather f (suc n) i = f i >>= λ x. gather f n (i + 1) >>= λ xs. Done (x ∷ xs)

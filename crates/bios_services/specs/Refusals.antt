@@ -41,10 +41,6 @@ count_refusal d page count =
 abbrev pub place_refusal : BiosData → ℕ → Option Refusal
 place_refusal d place = if nat_le (row_of place) d.last_row && nat_lt (column_of place) d.columns then None else Some Outside
 
--- a service that there is in text alone
-abbrev pub in_text : BiosData → Option Refusal → Option Refusal
-in_text d refusal = if is_text d.mode then refusal else Some BadFunction
-
 -- a dot of text, one of a page that the mode does not have, or one outside it
 abbrev pub pixel_refusal : BiosData → ℕ → ℕ → ℕ → Option Refusal
 pixel_refusal d page x y =
@@ -58,13 +54,13 @@ refusal_in_mode (SetCursorType cursor_type) d len = None
 refusal_in_mode (SetCursor page place) d len = page_refusal d (page_named d page)
 refusal_in_mode (ReadCursor page) d len = page_refusal d (page_named d page)
 refusal_in_mode (SelectPage page) d len = page_refusal d page
-refusal_in_mode (ScrollUp scroll) d len = in_text d None
-refusal_in_mode (ScrollDown scroll) d len = in_text d None
-refusal_in_mode (ReadCell page) d len = in_text d (cursor_refusal d (page_named d page))
-refusal_in_mode (WriteCells page character colour count) d len = in_text d (count_refusal d (page_named d page) count)
+refusal_in_mode (ScrollUp scroll) d len = None
+refusal_in_mode (ScrollDown scroll) d len = None
+refusal_in_mode (ReadCell page) d len = cursor_refusal d (page_named d page)
+refusal_in_mode (WriteCells page character ink count) d len = count_refusal d (page_named d page) count
 refusal_in_mode (WritePixel page x y colour) d len = pixel_refusal d (page_named d page) x y
 refusal_in_mode (ReadPixel page x y) d len = pixel_refusal d (page_named d page) x y
-refusal_in_mode (Teletype character) d len = in_text d (place_refusal d (place_of d d.page))
+refusal_in_mode (Teletype character colour) d len = place_refusal d (place_of d d.page)
 refusal_in_mode ReadMode d len = None
 refusal_in_mode (Colours service) d len = colour_refusal service len
 refusal_in_mode ReadAdapter d len = None

@@ -13,15 +13,18 @@ use Rattle.bios_services.specs.declared.reply.Reply.{Reply}
 use Rattle.bios_services.specs.declared.reply.Table.TheVariants.{Empty}
 use Rattle.bios_services.specs.declared.reply.ServiceError.{ServiceError}
 use Rattle.bios_services.specs.declared.reply.ServiceError.TheVariants.{Refused}
+use Rattle.bios_services.specs.declared.ink.Ink.{Ink}
 use Rattle.bios_services.specs.declared.call.Call.{Call}
 use Rattle.bios_services.specs.declared.call.Call.TheVariants.{SetMode, InMode}
 use Rattle.bios_services.specs.declared.call.Service.{Service}
 use Rattle.bios_services.specs.declared.call.Service.TheVariants.{SetCursorType, SetCursor, ReadCursor, SelectPage, ScrollUp, ScrollDown, ReadCell, WriteCells, WritePixel, ReadPixel, Teletype, ReadMode, Colours, ReadAdapter, ReadDisplay}
 use Rattle.bios_services.specs.Plan.{Plan, Done, ◌>>=◌, ◌>>◌}
 use Rattle.bios_services.specs.Cycles.{crtc}
-use Rattle.bios_services.specs.ModeSet.{mode_set_plan}
+use Rattle.bios_services.specs.ModeSet.{is_text, mode_set_plan}
 use Rattle.bios_services.specs.Cursor.{cell_number, place_of, with_place, with_page, cursor_plan, page_plan}
-use Rattle.bios_services.specs.Cells.{cell_address, read_cell_plan, write_cells_plan}
+use Rattle.bios_services.specs.Cells.{cell_address, read_cell_plan}
+use Rattle.bios_services.specs.Drawing.{cell_band, cell_row, characters_plan}
+use Rattle.bios_services.specs.Reading.{read_character_plan}
 use Rattle.bios_services.specs.Scroll.{scroll_up_plan, scroll_down_plan}
 use Rattle.bios_services.specs.Teletype.{teletype_plan}
 use Rattle.bios_services.specs.Pixels.{write_pixel_plan, read_pixel_plan}
@@ -34,9 +37,9 @@ use Rattle.bios_services.specs.Refusals.{page_named, refusal_in_mode, unknown_re
 abbrev pub Outcome : Type 0
 Outcome = Regs × BiosData
 
--- the address of the cell at the cursor of a page
+-- the number of the cell at the cursor of a page
 abbrev pub cursor_cell : BiosData → ℕ → ℕ
-cursor_cell d page = cell_address d page (cell_number d (place_of d page))
+cursor_cell d page = cell_number d (place_of d page)
 
 unfoldable pub set_cursor_type_service : ℕ → BiosData → Regs → Plan Outcome
 set_cursor_type_service cursor_type d r = do
@@ -54,20 +57,25 @@ select_page_service page d r = do
   page_plan d page
   Done (r, with_page d page)
 
-unfoldable pub read_cell_service : ℕ → BiosData → Regs → Plan Outcome
-read_cell_service page d r = do
-  ax ← read_cell_plan (cursor_cell d page)
-  Done (record r { ax = ax }, d)
+-- a character at n cells from the cursor on
+abbrev pub write_cells_plan : FontSet → ℕ → ℕ → Ink → ℕ → BiosData → Plan (Unit {0})
+write_cells_plan fonts page character ink n d = characters_plan fonts d page (cursor_cell d page) character ink n
+
+-- text has character and attribute at the cursor, as bytes of AX; dots have a character, in AL
+unfoldable pub read_cell_service : FontSet → ℕ → BiosData → Regs → Plan Outcome
+read_cell_service fonts page d r =
+    let q = cursor_cell d page in
+    if is_text d.mode then (do
+      ax ← read_cell_plan (cell_address d page q)
+      Done (record r { ax = ax }, d))
+    else (do
+      character ← read_character_plan (cell_band d page q) (cell_row d q) fonts
+      Done (record r { ax = with_low r.ax character }, d))
 
 unfoldable pub read_pixel_service : ℕ → ℕ → ℕ → BiosData → Regs → Plan Outcome
 read_pixel_service page x y d r = do
   colour ← read_pixel_plan d page x y
   Done (record r { ax = with_low r.ax colour }, d)
-
-unfoldable pub teletype_service : ℕ → BiosData → Regs → Plan Outcome
-teletype_service character d r = do
-  after ← teletype_plan d character
-  Done (r, after)
 
 -- the mode and the columns as low and high byte of AX, and the active page as high byte of BX
 abbrev pub read_mode_of : BiosData → Regs → Regs
@@ -82,22 +90,22 @@ abbrev pub read_display_of : Regs → Regs
 read_display_of r = record r { ax = 0x1A1A; bx = 0x0008 }
 
 -- what a service answers, and does, that is not refused
-unfoldable pub plan_of : Service → BiosData → Regs → List ℕ → Plan Outcome
-plan_of (SetCursorType cursor_type) d r block = set_cursor_type_service cursor_type d r
-plan_of (SetCursor page place) d r block = set_cursor_service (page_named d page) place d r
-plan_of (ReadCursor page) d r block = Done (record r { cx = d.cursor_type; dx = place_of d (page_named d page) }, d)
-plan_of (SelectPage page) d r block = select_page_service page d r
-plan_of (ScrollUp scroll) d r block = scroll_up_plan d scroll >> Done (r, d)
-plan_of (ScrollDown scroll) d r block = scroll_down_plan d scroll >> Done (r, d)
-plan_of (ReadCell page) d r block = read_cell_service (page_named d page) d r
-plan_of (WriteCells page character colour count) d r block = write_cells_plan (cursor_cell d (page_named d page)) character colour count >> Done (r, d)
-plan_of (WritePixel page x y colour) d r block = write_pixel_plan d (page_named d page) x y colour >> Done (r, d)
-plan_of (ReadPixel page x y) d r block = read_pixel_service (page_named d page) x y d r
-plan_of (Teletype character) d r block = teletype_service character d r
-plan_of ReadMode d r block = Done (read_mode_of d r, d)
-plan_of (Colours service) d r block = colours_plan service d.crtc_address r block >>= λ after. Done (after, d)
-plan_of ReadAdapter d r block = Done (read_adapter_of d r, d)
-plan_of ReadDisplay d r block = Done (read_display_of r, d)
+unfoldable pub plan_of : Service → FontSet → BiosData → Regs → List ℕ → Plan Outcome
+plan_of (SetCursorType cursor_type) fonts d r block = set_cursor_type_service cursor_type d r
+plan_of (SetCursor page place) fonts d r block = set_cursor_service (page_named d page) place d r
+plan_of (ReadCursor page) fonts d r block = Done (record r { cx = d.cursor_type; dx = place_of d (page_named d page) }, d)
+plan_of (SelectPage page) fonts d r block = select_page_service page d r
+plan_of (ScrollUp scroll) fonts d r block = scroll_up_plan d scroll >> Done (r, d)
+plan_of (ScrollDown scroll) fonts d r block = scroll_down_plan d scroll >> Done (r, d)
+plan_of (ReadCell page) fonts d r block = read_cell_service fonts (page_named d page) d r
+plan_of (WriteCells page character ink count) fonts d r block = write_cells_plan fonts (page_named d page) character ink count d >> Done (r, d)
+plan_of (WritePixel page x y colour) fonts d r block = write_pixel_plan d (page_named d page) x y colour >> Done (r, d)
+plan_of (ReadPixel page x y) fonts d r block = read_pixel_service (page_named d page) x y d r
+plan_of (Teletype character colour) fonts d r block = teletype_plan fonts d character colour >>= λ after. Done (r, after)
+plan_of ReadMode fonts d r block = Done (read_mode_of d r, d)
+plan_of (Colours service) fonts d r block = colours_plan service d.crtc_address r block >>= λ after. Done (after, d)
+plan_of ReadAdapter fonts d r block = Done (read_adapter_of d r, d)
+plan_of ReadDisplay fonts d r block = Done (read_display_of r, d)
 
 -- what a call answers, and the BIOS data after it
 abbrev pub Answered : Type 0
@@ -119,21 +127,21 @@ set_mode_plan (Some row) mode keeps fonts d r = do
   Done (answered r (data_of_mode mode row))
 
 -- a service in a mode, or why it is refused
-unfoldable pub unless : Option Refusal → Service → BiosData → Regs → List ℕ → Plan Answered
-unless (Some why) service d r block = refused why d
-unless None service d r block = do
-  outcome ← plan_of service d r block
+unfoldable pub unless : Option Refusal → Service → FontSet → BiosData → Regs → List ℕ → Plan Answered
+unless (Some why) service fonts d r block = refused why d
+unless None service fonts d r block = do
+  outcome ← plan_of service fonts d r block
   Done (answered outcome.0 outcome.1)
 
 -- a service that needs a mode
-unfoldable pub in_mode_plan : Service → BiosData → Regs → List ℕ → Plan Answered
-in_mode_plan service d r block = if d.mode == 0 then refused NoMode d else unless (refusal_in_mode service d (length block)) service d r block
+unfoldable pub in_mode_plan : Service → FontSet → BiosData → Regs → List ℕ → Plan Answered
+in_mode_plan service fonts d r block = if d.mode == 0 then refused NoMode d else unless (refusal_in_mode service d (length block)) service fonts d r block
 
 -- what a call asks for
 abbrev pub asked : Option Call → FontSet → BiosData → Regs → List ℕ → Plan Answered
 asked None fonts d r block = refused (unknown_refusal d) d
 asked (Some (SetMode mode keeps)) fonts d r block = set_mode_plan (mode_row mode) mode keeps fonts d r
-asked (Some (InMode service)) fonts d r block = in_mode_plan service d r block
+asked (Some (InMode service)) fonts d r block = in_mode_plan service fonts d r block
 
 -- the service that the registers ask for; one that takes no block does not look at it
 abbrev pub service : FontSet → BiosData → Regs → List ℕ → Plan Answered

@@ -3,6 +3,7 @@ ghost use Rattle.std.specs.Prelude.{◌≡◌};
 ghost use Rattle.bios_services.specs.Calls.{scroll_of as scroll_of_regs, service_of as service_of_regs, call_of};
 
 use crate::colours::{ColourService, colour_service_of};
+use crate::ink::Ink;
 use crate::regs::{Regs, high, low};
 use crate::scroll::Scroll;
 
@@ -43,15 +44,15 @@ pub enum Service {
     ScrollDown {
         scroll: Scroll,
     },
-    /// 08: answers character and attribute at the cursor.
+    /// 08: answers the character at the cursor, and in text its attribute.
     ReadCell {
         page: u8,
     },
-    /// 09 and 0A: writes a character to some cells from the cursor on; 09 writes the attribute too.
+    /// 09 and 0A: writes a character to some cells from the cursor on; in text 09 writes the attribute too.
     WriteCells {
         page: u8,
         character: u8,
-        colour: Option<u8>,
+        ink: Ink,
         count: u16,
     },
     /// 0C: writes a dot.
@@ -70,6 +71,7 @@ pub enum Service {
     /// 0E: types a character at the cursor of the active page.
     Teletype {
         character: u8,
+        colour: u8,
     },
     /// 0F: answers mode, columns and active page.
     ReadMode,
@@ -121,13 +123,19 @@ fn service_of(regs: Regs) -> Option<Service>
         0x09 => Some(Service::WriteCells {
             page,
             character: al,
-            colour: Some(low(regs.bx)),
+            ink: Ink {
+                colour: low(regs.bx),
+                is_attribute: true,
+            },
             count: regs.cx,
         }),
         0x0A => Some(Service::WriteCells {
             page,
             character: al,
-            colour: None,
+            ink: Ink {
+                colour: low(regs.bx),
+                is_attribute: false,
+            },
             count: regs.cx,
         }),
         0x0C => Some(Service::WritePixel {
@@ -141,7 +149,10 @@ fn service_of(regs: Regs) -> Option<Service>
             x: regs.cx,
             y: regs.dx,
         }),
-        0x0E => Some(Service::Teletype { character: al }),
+        0x0E => Some(Service::Teletype {
+            character: al,
+            colour: low(regs.bx),
+        }),
         0x0F => Some(Service::ReadMode),
         0x10 => match colour_service_of(regs) {
             Some(service) => Some(Service::Colours(service)),

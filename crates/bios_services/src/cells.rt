@@ -1,10 +1,11 @@
-//! Cells of text.
+//! Cells of characters, and how text is read and written.
 ghost use Rattle.std.specs.Prelude.{◌≡◌, ◌<◌, ◌≤◌, ◌+◌, ◌*◌, ◌^◌};
 ghost use Rattle.bios_services.specs.Plan.{run};
 ghost use Rattle.bios_services.specs.Bounds.{IsSet, pages_of};
-ghost use Rattle.bios_services.specs.Cells.{page_base as page_base_of, page_address as page_address_of, cell_address as cell_address_of, cells_of, read_cell_plan, colour_plan, write_cell_plan, write_cells_plan};
+ghost use Rattle.bios_services.specs.Cells.{page_base as page_base_of, page_address as page_address_of, cell_address as cell_address_of, cells_of, read_cell_plan, ink_plan, write_cell_plan};
 
 use crate::cycles::{get, put};
+use crate::ink::Ink;
 use bios_modes::Bda;
 use vga_card::Bus;
 
@@ -42,7 +43,7 @@ pub(crate) fn page_address(bda: &Bda, page: u8) -> u32
 pub(crate) fn cell_address(bda: &Bda, page: u8, q: u32) -> u32
     requires data { IsSet bda.now }
     requires page { page < pages_of bda.now }
-    requires cell { q < 100000 }
+    requires cell { q < 200000 }
     ensures value { result ≡ cell_address_of bda.now page q }
     ensures small { result < 2 ^ 21 }
 {
@@ -68,39 +69,21 @@ pub(crate) fn read_cell<B: Bus>(bus: &mut B, address: u32) -> u16
     character as u16 + 256 * colour as u16
 }
 
-/// Writes an attribute, where one is to be written.
-fn write_colour<B: Bus>(bus: &mut B, address: u32, colour: Option<u8>)
-    ensures { bus.new ≡ (run B.meaning (colour_plan address colour) bus.old).0 }
+/// Writes a colour as the cell's attribute, where it is to be that.
+fn write_ink<B: Bus>(bus: &mut B, address: u32, ink: Ink)
+    ensures { bus.new ≡ (run B.meaning (ink_plan address ink) bus.old).0 }
 {
-    if let Some(colour) = colour {
-        put(bus, address, colour);
+    if ink.is_attribute {
+        put(bus, address, ink.colour);
     }
 }
 
-/// Writes a character to a cell, and its attribute where one is given.
+/// Writes a character to a cell of text, and its attribute where it gets one.
 #[tactic(auto, using(crate::proofs::RunLemmas::run_bind), unfolding(crate::specs::Cells::write_cell_plan))]
-pub(crate) fn write_cell<B: Bus>(bus: &mut B, address: u32, character: u8, colour: Option<u8>)
+pub(crate) fn write_cell<B: Bus>(bus: &mut B, address: u32, character: u8, ink: Ink)
     requires { address < 2 ^ 30 }
-    ensures { bus.new ≡ (run B.meaning (write_cell_plan address character colour) bus.old).0 }
+    ensures { bus.new ≡ (run B.meaning (write_cell_plan address character ink) bus.old).0 }
 {
     put(bus, address, character);
-    write_colour(bus, address + 1, colour);
-}
-
-/// Writes a character to n cells, and its attribute where one is given.
-#[tactic(auto, using(crate::proofs::RunLemmas::run_bind), unfolding(crate::specs::Cells::write_cells_plan))]
-pub(crate) fn write_cells<B: Bus>(
-    bus: &mut B,
-    address: u32,
-    character: u8,
-    colour: Option<u8>,
-    n: u32,
-)
-    requires address { address < 2 ^ 21 }
-    requires few { n ≤ 65535 }
-    ensures { bus.new ≡ (run B.meaning (write_cells_plan address character colour n) bus.old).0 }
-{
-    for i in 0..n {
-        write_cell(bus, address + 2 * i, character, colour);
-    }
+    write_ink(bus, address + 1, ink);
 }

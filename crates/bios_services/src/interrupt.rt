@@ -4,20 +4,23 @@ ghost use Rattle.bios_modes.specs.Valid.{IsValid};
 ghost use Rattle.bios_services.specs.Plan.{run};
 ghost use Rattle.bios_services.specs.Calls.{call_of};
 ghost use Rattle.bios_services.specs.Bounds.{IsSet, StaysInMode, pages_of};
-ghost use Rattle.bios_services.specs.Cursor.{place_of, row_of};
+ghost use Rattle.bios_services.specs.Cursor.{place_of};
 ghost use Rattle.bios_services.specs.Refusals.{refusal_in_mode as refusal_in_mode_of};
 ghost use Rattle.bios_modes.specs.Modes.{mode_row as mode_row_of};
 ghost use Rattle.bios_services.specs.declared.reply.Table.TheVariants.{Empty};
-ghost use Rattle.bios_services.specs.Service.{cursor_cell as cursor_cell_of, set_mode_plan, in_mode_plan, read_mode_of, read_adapter_of, read_display_of, set_cursor_type_service, set_cursor_service, select_page_service, read_cell_service, read_pixel_service, teletype_service, plan_of, asked, service, served};
+ghost use Rattle.bios_services.specs.Service.{cursor_cell as cursor_cell_of, set_mode_plan, in_mode_plan, read_mode_of, read_adapter_of, read_display_of, set_cursor_type_service, set_cursor_service, select_page_service, read_cell_service, read_pixel_service, plan_of, asked, service, served};
 
 use crate::call::{Call, Service, decode};
-use crate::cells::{cell_address, read_cell, write_cells};
+use crate::cells::{cell_address, read_cell};
 use crate::colours::perform_colours;
 use crate::cursor::{cell_number, show_cursor, show_page};
 use crate::cycles::indexed;
+use crate::drawing::{cell_band, write_characters};
 use crate::mode_set;
+use crate::mode_set::is_text;
 use crate::pixels::{read_pixel, write_pixel};
 use crate::refusals::{page_named, refusal_in_mode, unknown_refusal};
+use crate::reading::read_character;
 use crate::regs::{Regs, with_low};
 use crate::reply::{Reply, ServiceError, Table};
 use crate::teletype::teletype;
@@ -81,33 +84,48 @@ fn select_page<B: Bus>(bus: &mut B, bda: &mut Bda, page: u8, regs: Regs) -> Regs
     regs
 }
 
-/// The address of the cell at the cursor of a page.
+/// The number of the cell at the cursor of a page.
 fn cursor_cell(bda: &Bda, page: u8) -> u32
     requires data { IsSet bda.now }
     requires page { page < pages_of bda.now }
     ensures value { result ≡ cursor_cell_of bda.now page }
-    ensures small { result < 2 ^ 21 }
+    ensures small { result ≤ 20655 }
 {
-    let cell = cell_number(bda, bda.cursor_place(page as usize));
-    cell_address(bda, page, cell)
+    cell_number(bda, bda.cursor_place(page as usize))
 }
 
-/// Answers character and attribute of the cell at the cursor of a page.
+/// Answers the character of the cell at the cursor of a page, and in text its attribute.
 #[tactic(auto, using(crate::proofs::RunLemmas::run_bind), unfolding(crate::specs::Service::read_cell_service))]
-fn read_cursor_cell<B: Bus>(bus: &mut B, bda: &Bda, page: u8, regs: Regs) -> Regs
+fn read_cursor_cell<B: Bus>(bus: &mut B, fonts: &Fonts, bda: &Bda, page: u8, regs: Regs) -> Regs
     requires data { IsSet bda.now }
     requires page { page < pages_of bda.now }
-    ensures { (bus.new, (result, bda.now)) ≡ run B.meaning (read_cell_service page bda.now regs) bus.old }
+    ensures { (bus.new, (result, bda.now)) ≡ run B.meaning (read_cell_service fonts.now page bda.now regs) bus.old }
 {
+    let q = cursor_cell(bda, page);
+    if is_text(bda.mode()) {
+        return Regs {
+            ax: read_cell(bus, cell_address(bda, page, q)),
+            ..regs
+        };
+    }
+    let row = q / bda.columns() as u32;
+    let character = read_character(bus, cell_band(bda, page, q), row, fonts);
     Regs {
-        ax: read_cell(bus, cursor_cell(bda, page)),
+        ax: with_low(regs.ax, character),
         ..regs
     }
 }
 
 /// Answers the colour of a dot.
 #[tactic(auto, using(crate::proofs::RunLemmas::run_bind), unfolding(crate::specs::Service::read_pixel_service))]
-fn read_pixel_colour<B: Bus>(bus: &mut B, bda: &Bda, page: u8, x: u16, y: u16, regs: Regs) -> Regs
+fn read_pixel_colour<B: Bus>(
+    bus: &mut B,
+    bda: &Bda,
+    page: u8,
+    x: u16,
+    y: u16,
+    regs: Regs,
+) -> Regs
     requires data { IsSet bda.now }
     requires page { page < pages_of bda.now }
     ensures { (bus.new, (result, bda.now)) ≡ run B.meaning (read_pixel_service page x y bda.now regs) bus.old }
@@ -117,18 +135,6 @@ fn read_pixel_colour<B: Bus>(bus: &mut B, bda: &Bda, page: u8, x: u16, y: u16, r
         ax: with_low(regs.ax, colour),
         ..regs
     }
-}
-
-/// Types a character at the cursor of the active page.
-#[tactic(auto, using(crate::proofs::RunLemmas::run_bind), unfolding(crate::specs::Service::teletype_service))]
-fn type_at_cursor<B: Bus>(bus: &mut B, bda: &mut Bda, character: u8, regs: Regs) -> Regs
-    requires data { IsSet bda.old }
-    requires row { row_of (place_of bda.old bda.old.page) ≤ bda.old.last_row }
-    ensures answer { (bus.new, (result, bda.new)) ≡ run B.meaning (teletype_service character bda.old regs) bus.old }
-    ensures stays { StaysInMode bda.old bda.new }
-{
-    teletype(bus, bda, character);
-    regs
 }
 
 /// Answers the mode, the columns and the active page.
@@ -168,10 +174,17 @@ fn read_display(regs: Regs) -> Regs
 
 /// Does what a service does that is not refused.
 #[tactic(auto, using(crate::proofs::RunLemmas::run_bind), unfolding(crate::specs::Service::plan_of, crate::specs::Refusals::refusal_in_mode))]
-fn perform<B: Bus>(bus: &mut B, bda: &mut Bda, service: Service, regs: Regs, block: &[u8]) -> Regs
+fn perform<B: Bus>(
+    bus: &mut B,
+    bda: &mut Bda,
+    fonts: &Fonts,
+    service: Service,
+    regs: Regs,
+    block: &[u8],
+) -> Regs
     requires allowed { refusal_in_mode_of service bda.old (length block.now) ≡ None }
     requires data { IsSet bda.old }
-    ensures answer { (bus.new, (result, bda.new)) ≡ run B.meaning (plan_of service bda.old regs block.now) bus.old }
+    ensures answer { (bus.new, (result, bda.new)) ≡ run B.meaning (plan_of service fonts.now bda.old regs block.now) bus.old }
     ensures stays { StaysInMode bda.old bda.new }
 {
     match service {
@@ -190,15 +203,18 @@ fn perform<B: Bus>(bus: &mut B, bda: &mut Bda, service: Service, regs: Regs, blo
             scroll.down(bus, bda);
             regs
         }
-        Service::ReadCell { page } => read_cursor_cell(bus, bda, page_named(bda, page), regs),
+        Service::ReadCell { page } => {
+            read_cursor_cell(bus, fonts, bda, page_named(bda, page), regs)
+        },
         Service::WriteCells {
             page,
             character,
-            colour,
+            ink,
             count,
         } => {
-            let address = cursor_cell(bda, page_named(bda, page));
-            write_cells(bus, address, character, colour, count as u32);
+            let page = page_named(bda, page);
+            let q = cursor_cell(bda, page);
+            write_characters(bus, fonts, bda, page, q, character, ink, count as u32);
             regs
         }
         Service::WritePixel { page, x, y, colour } => {
@@ -208,7 +224,10 @@ fn perform<B: Bus>(bus: &mut B, bda: &mut Bda, service: Service, regs: Regs, blo
         Service::ReadPixel { page, x, y } => {
             read_pixel_colour(bus, bda, page_named(bda, page), x, y, regs)
         }
-        Service::Teletype { character } => type_at_cursor(bus, bda, character, regs),
+        Service::Teletype { character, colour } => {
+            teletype(bus, fonts, bda, character, colour);
+            regs
+        }
         Service::ReadMode => read_mode(bda, regs),
         Service::Colours(service) => {
             perform_colours(bus, bda.crtc_address(), service, regs, block)
@@ -223,6 +242,7 @@ fn perform<B: Bus>(bus: &mut B, bda: &mut Bda, service: Service, regs: Regs, blo
 fn perform_allowed<B: Bus>(
     bus: &mut B,
     bda: &mut Bda,
+    fonts: &Fonts,
     service: Service,
     regs: Regs,
     block: &[u8],
@@ -230,10 +250,10 @@ fn perform_allowed<B: Bus>(
     requires allowed { refusal_in_mode_of service bda.old (length block.now) ≡ None }
     requires valid { IsValid bda.old }
     requires set { bda.old.mode ≢ 0 }
-    ensures answer { (bus.new, (result, bda.new)) ≡ run B.meaning (plan_of service bda.old regs block.now) bus.old }
+    ensures answer { (bus.new, (result, bda.new)) ≡ run B.meaning (plan_of service fonts.now bda.old regs block.now) bus.old }
     ensures valid { IsValid bda.new }
 {
-    perform(bus, bda, service, regs, block)
+    perform(bus, bda, fonts, service, regs, block)
 }
 
 /// The answer of registers alone.
@@ -273,12 +293,13 @@ fn set_mode<B: Bus>(
 fn in_mode<B: Bus>(
     bus: &mut B,
     bda: &mut Bda,
+    fonts: &Fonts,
     service: Service,
     regs: Regs,
     block: &[u8],
 ) -> Result<Reply, Refusal>
     requires { IsValid bda.old }
-    ensures answer { (bus.new, (result, bda.new)) ≡ run B.meaning (in_mode_plan service bda.old regs block.now) bus.old }
+    ensures answer { (bus.new, (result, bda.new)) ≡ run B.meaning (in_mode_plan service fonts.now bda.old regs block.now) bus.old }
     ensures valid { IsValid bda.new }
 {
     if bda.mode() == 0 {
@@ -287,7 +308,7 @@ fn in_mode<B: Bus>(
     if let Some(why) = refusal_in_mode(service, bda, block.len()) {
         return Err(why);
     }
-    answered(perform_allowed(bus, bda, service, regs, block))
+    answered(perform_allowed(bus, bda, fonts, service, regs, block))
 }
 
 /// Does what a call asks for, unless it is refused.
@@ -305,7 +326,7 @@ fn do_call<B: Bus>(
     match decode(regs) {
         None => Err(unknown_refusal(bda)),
         Some(Call::SetMode { mode, keeps }) => set_mode(bus, bda, fonts, mode, keeps, regs),
-        Some(Call::InMode(service)) => in_mode(bus, bda, service, regs, block),
+        Some(Call::InMode(service)) => in_mode(bus, bda, fonts, service, regs, block),
     }
 }
 

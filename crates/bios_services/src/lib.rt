@@ -1,17 +1,24 @@
 //! The services of interrupt 10 (hexadecimal), as cycles over a bus.
 #![tactic(auto)]
 
+mod band;
 mod call;
 mod cells;
 mod colours;
 mod cursor;
 mod cycles;
 mod dac;
+mod drawing;
+mod glyphs;
+mod ink;
 mod interrupt;
+mod kind;
 pub mod laws;
 mod mode_set;
+mod paint;
 mod palette;
 mod pixels;
+mod reading;
 mod refusals;
 mod regs;
 mod reply;

@@ -2,7 +2,7 @@
 ghost use Rattle.std.specs.Prelude.{◌≡◌};
 ghost use Rattle.bios_services.specs.Bounds.{IsSet, pages_of};
 ghost use Rattle.bios_services.specs.Cursor.{place_of};
-ghost use Rattle.bios_services.specs.Refusals.{page_named as page_named_of, page_refusal as page_refusal_of, cursor_refusal as cursor_refusal_of, count_refusal as count_refusal_of, pixel_refusal as pixel_refusal_of, place_refusal as place_refusal_of, in_text as in_text_of, refusal_in_mode as refusal_in_mode_of, unknown_refusal as unknown_refusal_of};
+ghost use Rattle.bios_services.specs.Refusals.{page_named as page_named_of, page_refusal as page_refusal_of, cursor_refusal as cursor_refusal_of, count_refusal as count_refusal_of, pixel_refusal as pixel_refusal_of, place_refusal as place_refusal_of, refusal_in_mode as refusal_in_mode_of, unknown_refusal as unknown_refusal_of};
 
 use crate::call::Service;
 use crate::cells::cells;
@@ -84,17 +84,6 @@ fn place_refusal(bda: &Bda, place: u16) -> Option<Refusal>
     }
 }
 
-/// Why a service that there is in text alone is refused, where text does not refuse it for this.
-fn in_text(bda: &Bda, refusal: Option<Refusal>) -> Option<Refusal>
-    ensures { result ≡ in_text_of bda.now refusal }
-{
-    if is_text(bda.mode()) {
-        refusal
-    } else {
-        Some(Refusal::BadFunction)
-    }
-}
-
 /// Why a dot is refused.
 fn pixel_refusal(bda: &Bda, page: u8, x: u16, y: u16) -> Option<Refusal>
     ensures { result ≡ pixel_refusal_of bda.now page x y }
@@ -123,22 +112,20 @@ pub(crate) fn refusal_in_mode(service: Service, bda: &Bda, len: usize) -> Option
             page_refusal(bda, page_named(bda, page))
         }
         Service::SelectPage { page } => page_refusal(bda, page),
-        Service::ScrollUp { .. } | Service::ScrollDown { .. } => in_text(bda, None),
-        Service::ReadCell { page } => in_text(bda, cursor_refusal(bda, page_named(bda, page))),
+        Service::ReadCell { page } => cursor_refusal(bda, page_named(bda, page)),
         Service::WriteCells { page, count, .. } => {
-            in_text(bda, count_refusal(bda, page_named(bda, page), count))
+            count_refusal(bda, page_named(bda, page), count)
         }
         Service::WritePixel { page, x, y, .. } | Service::ReadPixel { page, x, y } => {
             pixel_refusal(bda, page_named(bda, page), x, y)
         }
         Service::Teletype { .. } => {
-            in_text(
-                bda,
-                place_refusal(bda, bda.cursor_place(bda.page() as usize)),
-            )
+            place_refusal(bda, bda.cursor_place(bda.page() as usize))
         }
         Service::Colours(service) => colour_refusal(service, len),
         Service::SetCursorType { .. }
+        | Service::ScrollUp { .. }
+        | Service::ScrollDown { .. }
         | Service::ReadMode
         | Service::ReadAdapter
         | Service::ReadDisplay => None,

@@ -3,13 +3,16 @@ ghost use Rattle.std.specs.Prelude.{◌≡◌, ◌<◌, ◌≤◌, ◌+◌, ◌*
 ghost use Rattle.bios_services.specs.Plan.{run};
 ghost use Rattle.bios_services.specs.Bounds.{IsSet, StaysInMode, pages_of};
 ghost use Rattle.bios_services.specs.Cursor.{row_of, column_of, place_of};
-ghost use Rattle.bios_services.specs.Teletype.{feed_plan, advance_plan, show_plan, type_plan, teletype_plan};
+ghost use Rattle.bios_services.specs.Teletype.{fill_of_feed as fill_of_feed_plan, feed_plan, advance_plan, show_plan, type_plan, move_cursor_plan, teletype_plan};
 
-use crate::cells::{cell_address, write_cell};
+use crate::band::Band;
+use crate::cells::cell_address;
 use crate::cursor::{cell_number, show_cursor};
 use crate::cycles::get;
-use crate::scroll::Band;
-use bios_modes::Bda;
+use crate::drawing::write_character;
+use crate::ink::Ink;
+use crate::mode_set::is_text;
+use bios_modes::{Bda, Fonts};
 use vga_card::Bus;
 
 /// The control characters.
@@ -21,6 +24,20 @@ const LINE_FEED: u8 = 0x0A;
 
 const CARRIAGE_RETURN: u8 = 0x0D;
 
+/// What a new row is filled with: an attribute in text, and colour 0 in graphics.
+#[tactic(auto, using(crate::proofs::RunLemmas::run_bind), unfolding(crate::specs::Teletype::fill_of_feed))]
+fn fill_of_feed<B: Bus>(bus: &mut B, bda: &Bda, page: u8, place: u16) -> u8
+    requires data { IsSet bda.now }
+    requires page { page < pages_of bda.now }
+    ensures { (bus.new, result) ≡ run B.meaning (fill_of_feed_plan bda.now page place) bus.old }
+{
+    if !is_text(bda.mode()) {
+        return 0;
+    }
+    let cell = bda.columns() as u32 * bda.last_row() as u32 + (place % 256) as u32;
+    get(bus, cell_address(bda, page, cell) + 1)
+}
+
 /// The place below one; on the last row the place itself, with the page a row up.
 #[tactic(auto, using(crate::proofs::RunLemmas::run_bind), unfolding(crate::specs::Teletype::feed_plan))]
 fn feed<B: Bus>(bus: &mut B, bda: &Bda, page: u8, place: u16) -> u16
@@ -28,15 +45,14 @@ fn feed<B: Bus>(bus: &mut B, bda: &Bda, page: u8, place: u16) -> u16
     requires page { page < pages_of bda.now }
     requires row { row_of place ≤ bda.now.last_row }
     ensures place { (bus.new, result) ≡ run B.meaning (feed_plan bda.now page place) bus.old }
+    ensures row { row_of result ≤ bda.now.last_row }
 {
     let last = bda.last_row() as u16;
     if place / 256 < last {
         return place + 256;
     }
-    let columns = bda.columns();
-    let cell = columns as u32 * last as u32 + (place % 256) as u32;
-    let colour = get(bus, cell_address(bda, page, cell) + 1);
-    let whole = Band::of_page(bda, page, 0, (columns - 1) as u8);
+    let colour = fill_of_feed(bus, bda, page, place);
+    let whole = Band::of_page(bda, page, 0, (bda.columns() - 1) as u8);
     whole.up(bus, 0, last as u32 + 1, 1, colour);
     place
 }
@@ -47,7 +63,8 @@ fn advance<B: Bus>(bus: &mut B, bda: &Bda, page: u8, place: u16) -> u16
     requires data { IsSet bda.now }
     requires page { page < pages_of bda.now }
     requires row { row_of place ≤ bda.now.last_row }
-    ensures { (bus.new, result) ≡ run B.meaning (advance_plan bda.now page place) bus.old }
+    ensures place { (bus.new, result) ≡ run B.meaning (advance_plan bda.now page place) bus.old }
+    ensures row { row_of result ≤ bda.now.last_row }
 {
     if place % 256 + 1 < bda.columns() {
         return place + 1;
@@ -60,19 +77,21 @@ fn advance<B: Bus>(bus: &mut B, bda: &Bda, page: u8, place: u16) -> u16
 #[tactic(auto, using(crate::proofs::RunLemmas::run_bind), unfolding(crate::specs::Teletype::show_plan))]
 fn show<B: Bus>(
     bus: &mut B,
+    fonts: &Fonts,
     bda: &Bda,
     page: u8,
     place: u16,
     character: u8,
-    colour: Option<u8>,
+    ink: Ink,
 ) -> u16
     requires data { IsSet bda.now }
     requires page { page < pages_of bda.now }
     requires row { row_of place ≤ bda.now.last_row }
-    ensures { (bus.new, result) ≡ run B.meaning (show_plan bda.now page place character colour) bus.old }
+    ensures place { (bus.new, result) ≡ run B.meaning (show_plan fonts.now bda.now page place character ink) bus.old }
+    ensures row { row_of result ≤ bda.now.last_row }
 {
-    let address = cell_address(bda, page, cell_number(bda, place));
-    write_cell(bus, address, character, colour);
+    let q = cell_number(bda, place);
+    write_character(bus, fonts, bda, page, q, character, ink);
     advance(bus, bda, page, place)
 }
 
@@ -80,32 +99,46 @@ fn show<B: Bus>(
 #[tactic(auto, using(crate::proofs::RunLemmas::run_bind), unfolding(crate::specs::Teletype::type_plan))]
 pub(crate) fn type_character<B: Bus>(
     bus: &mut B,
+    fonts: &Fonts,
     bda: &Bda,
     page: u8,
     place: u16,
     character: u8,
-    colour: Option<u8>,
+    ink: Ink,
 ) -> u16
     requires data { IsSet bda.now }
     requires page { page < pages_of bda.now }
     requires row { row_of place ≤ bda.now.last_row }
-    ensures { (bus.new, result) ≡ run B.meaning (type_plan bda.now page place character colour) bus.old }
+    ensures place { (bus.new, result) ≡ run B.meaning (type_plan fonts.now bda.now page place character ink) bus.old }
+    ensures row { row_of result ≤ bda.now.last_row }
 {
     match character {
         BELL => place,
         BACKSPACE => { if place % 256 == 0 { place } else { place - 1 } }
         LINE_FEED => feed(bus, bda, page, place),
         CARRIAGE_RETURN => place / 256 * 256,
-        _ => show(bus, bda, page, place, character, colour),
+        _ => show(bus, fonts, bda, page, place, character, ink),
     }
+}
+
+/// Moves the cursor of a page to a place, and shows it there.
+#[tactic(auto, using(crate::proofs::RunLemmas::run_bind), unfolding(crate::specs::Teletype::move_cursor_plan))]
+pub(crate) fn move_cursor<B: Bus>(bus: &mut B, bda: &mut Bda, page: u8, place: u16)
+    requires data { IsSet bda.old }
+    requires page { page < pages_of bda.old }
+    ensures answer { (bus.new, bda.new) ≡ run B.meaning (move_cursor_plan bda.old page place) bus.old }
+    ensures stays { StaysInMode bda.old bda.new }
+{
+    bda.set_cursor_place(page as usize, place);
+    show_cursor(bus, bda, page);
 }
 
 /// Types a character at the cursor of the active page, which then stands behind it.
 #[tactic(auto, using(crate::proofs::RunLemmas::run_bind), unfolding(crate::specs::Teletype::teletype_plan))]
-pub(crate) fn teletype<B: Bus>(bus: &mut B, bda: &mut Bda, character: u8)
+pub(crate) fn teletype<B: Bus>(bus: &mut B, fonts: &Fonts, bda: &mut Bda, character: u8, colour: u8)
     requires data { IsSet bda.old }
     requires row { row_of (place_of bda.old bda.old.page) ≤ bda.old.last_row }
-    ensures answer { (bus.new, bda.new) ≡ run B.meaning (teletype_plan bda.old character) bus.old }
+    ensures answer { (bus.new, bda.new) ≡ run B.meaning (teletype_plan fonts.now bda.old character colour) bus.old }
     ensures stays { StaysInMode bda.old bda.new }
 {
     if character == BELL {
@@ -113,7 +146,10 @@ pub(crate) fn teletype<B: Bus>(bus: &mut B, bda: &mut Bda, character: u8)
     }
     let page = bda.page();
     let place = bda.cursor_place(page as usize);
-    let behind = type_character(bus, bda, page, place, character, None);
-    bda.set_cursor_place(page as usize, behind);
-    show_cursor(bus, bda, page);
+    let ink = Ink {
+        colour,
+        is_attribute: false,
+    };
+    let behind = type_character(bus, fonts, bda, page, place, character, ink);
+    move_cursor(bus, bda, page, behind);
 }

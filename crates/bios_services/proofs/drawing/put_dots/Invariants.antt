@@ -1,0 +1,11 @@
+use Rattle.std.proofs.Common.{◌≡◌, ◌-◌}
+use Rattle.bios_services.specs.Plan.{run, each, put}
+use Rattle.bios_services.specs.Bands.{address_in}
+use Rattle.bios_services.specs.Drawing.{dot_of, put_dots}
+use Rattle.bios_services.proofs.drawing.put_dots.Given as goal
+
+-- what the dots from here on leave is what the whole line leaves
+abbrev pub invariant-loop-i : goal.invariant-loop-i
+invariant-loop-i g l =
+    run g.B.Bus.meaning (each (λ i. put (address_in l.cell l.row l.line i) (dot_of l.dots l.colour i)) (8 - l.i) l.i) l.bus
+    ≡ run g.B.Bus.meaning (put_dots l.cell l.row l.line l.dots l.colour) l.fn.bus

@@ -1,0 +1,19 @@
+use Rattle.std.proofs.Common.{◌≡◌, ◌-◌, ◌∙◌, sym, ap, arith}
+use Rattle.bios_services.specs.Glyphs.{has_lines, first_of, first_character}
+use Rattle.bios_services.proofs.GlyphLemmas.{next_first, found_first}
+use Rattle.bios_services.proofs.glyphs.first_character.Goals as goal
+
+pub returns-then-has_lines : goal.returns-then-has_lines
+unfolding first_character
+returns-then-has_lines c =
+    found_first (has_lines c.args.fonts.now c.args.height c.args.lines.now) c.loop-character.character c.args.n _ (omega arith) (sym c.has_lines.ensures ∙ c.if-has_lines.true) c.loop-character.invariant
+
+pub loop-character-preserved : goal.loop-character-preserved
+loop-character-preserved c =
+    next_first (has_lines c.args.fonts.now c.args.height c.args.lines.now) c.loop-character.character c.args.n _ (omega arith) (sym c.has_lines.ensures ∙ c.if-has_lines.false) c.loop-character.invariant
+
+pub returns : goal.returns
+unfolding first_character
+returns c =
+    let none : c.args.n - c.loop-character.character ≡ 0 = omega arith in
+    sym (ap (λ k. first_of (has_lines c.args.fonts.now c.args.height c.args.lines.now) k c.loop-character.character) none) ∙ c.loop-character.invariant

@@ -1,0 +1,106 @@
+-- Some columns of a page, as bytes of its lines: rows that are copied, and rows that are painted.
+-- From the IBM PS/2 and PC BIOS Interface Technical Reference, "Interrupt 10H - Video", (AH) = 06H and 07H.
+use Rattle.std.specs.Prelude.{ℕ, ◌+◌, ◌-◌, ◌*◌, ◌%◌, ◌^◌, ◌<◌, ◌≤◌, ◌==◌, if◌then◌else◌, min}
+use Rattle.bios_modes.specs.Bda.{BiosData}
+use Rattle.bios_services.specs.declared.kind.Kind.{Kind}
+use Rattle.bios_services.specs.declared.kind.Kind.TheVariants.{Text, Planar, Packed}
+use Rattle.bios_services.specs.declared.band.Band.{Band}
+use Rattle.bios_services.specs.declared.paint.Paint.{Paint}
+use Rattle.bios_services.specs.Plan.{Plan, Done, ◌>>◌, put, move, each, each_down}
+use Rattle.bios_services.specs.Cycles.{sequencer, graphics}
+use Rattle.bios_services.specs.Kinds.{kind_of, column_bytes, row_lines}
+use Rattle.bios_services.specs.Cells.{page_address}
+
+-- the address of a byte of a line of a row of characters
+abbrev pub address_in : Band → ℕ → ℕ → ℕ → ℕ
+address_in band row line byte = band.start + band.pitch * (band.lines * row + line) + band.left + byte
+
+-- a band whose bytes the adapter may have
+pub record IsBand (band : Band) : Type 0 where
+  pub start : band.start < 2 ^ 20
+  pub pitch : band.pitch ≤ 640
+  pub lines : band.lines ≤ 16
+  pub left : band.left ≤ 2040
+  pub width : band.width ≤ 640
+
+-- the columns `left` to `right` of a page, as many as there are
+abbrev pub band_of : BiosData → ℕ → ℕ → ℕ → Band
+band_of d page left right =
+    let bytes = column_bytes (kind_of d.mode) in
+    record {
+      kind = kind_of d.mode;
+      start = page_address d page;
+      pitch = bytes * d.columns;
+      lines = row_lines (kind_of d.mode) d.height;
+      left = bytes * left;
+      width = bytes * (min right (d.columns - 1) + 1 - left);
+    }
+
+-- a line of a row is copied to another row, byte by byte
+unfoldable pub copy_line : Band → ℕ → ℕ → ℕ → Plan (Unit {0})
+copy_line band from to line = each (λ i. move (address_in band from line i) (address_in band to line i)) band.width 0
+
+-- a row is copied to another, line by line
+unfoldable pub copy_row : Band → ℕ → ℕ → Plan (Unit {0})
+copy_row band from to = each (copy_line band from to) band.lines 0
+
+-- count rows from row `top` on take what stands n rows below them, the highest first
+unfoldable pub raise_rows : Band → ℕ → ℕ → ℕ → Plan (Unit {0})
+raise_rows band n top count = each (λ row. copy_row band (row + n) row) count top
+
+-- count rows from row `top` on go n rows down, the lowest first
+unfoldable pub lower_rows : Band → ℕ → ℕ → ℕ → Plan (Unit {0})
+lower_rows band n top count = each_down (λ row. copy_row band row (row + n)) count top
+
+-- two bytes in turn: a blank and its attribute, or one byte everywhere
+abbrev pub blank : ℕ → Paint
+blank attribute = record { even = 0x20; odd = attribute }
+
+abbrev pub plain : ℕ → Paint
+plain byte = record { even = byte; odd = byte }
+
+-- what byte i of a line is painted with
+abbrev pub painted : Paint → ℕ → ℕ
+painted paint i = if i % 2 == 0 then paint.even else paint.odd
+
+-- a line of a row is painted, a row is, and count rows from row `top` on are
+unfoldable pub paint_line : Band → Paint → ℕ → ℕ → Plan (Unit {0})
+paint_line band paint row line = each (λ i. put (address_in band row line i) (painted paint i)) band.width 0
+
+unfoldable pub paint_row : Band → Paint → ℕ → Plan (Unit {0})
+paint_row band paint row = each (paint_line band paint row) band.lines 0
+
+unfoldable pub paint_rows : Band → Paint → ℕ → ℕ → Plan (Unit {0})
+paint_rows band paint top count = each (paint_row band paint) count top
+
+-- the graphics controller's read and write mode, which services change in 16 colours alone
+abbrev pub access_plan : Kind → ℕ → Plan (Unit {0})
+access_plan Text mode = Done tt
+access_plan Planar mode = graphics 5 mode
+access_plan Packed mode = Done tt
+
+-- count rows from row `top` on get one attribute, or one colour, which goes to the planes of its bits
+unfoldable pub fill_plan : Kind → Band → ℕ → ℕ → ℕ → Plan (Unit {0})
+fill_plan Text band colour top count = paint_rows band (blank colour) top count
+fill_plan Planar band colour top count = do
+  paint_rows band (plain 0x00) top count
+  sequencer 2 (colour % 16)
+  paint_rows band (plain 0xFF) top count
+  sequencer 2 0x0F
+fill_plan Packed band colour top count = paint_rows band (plain colour) top count
+
+-- height rows from row `top` on go up by n, and the last n are filled; planes are copied through the latches
+unfoldable pub up_plan : Band → ℕ → ℕ → ℕ → ℕ → Plan (Unit {0})
+up_plan band top height n colour = do
+  access_plan band.kind 0x01
+  raise_rows band n top (height - n)
+  access_plan band.kind 0x00
+  fill_plan band.kind band colour (top + (height - n)) n
+
+-- height rows from row `top` on go down by n, and the first n are filled
+unfoldable pub down_plan : Band → ℕ → ℕ → ℕ → ℕ → Plan (Unit {0})
+down_plan band top height n colour = do
+  access_plan band.kind 0x01
+  lower_rows band n top (height - n)
+  access_plan band.kind 0x00
+  fill_plan band.kind band colour top n

@@ -1,0 +1,83 @@
+-- Characters at cells of a page in any mode.
+-- From the IBM PS/2 and PC BIOS Interface Technical Reference, "Interrupt 10H - Video", (AH) = 09H and 0AH; the order of the cycles
+-- is this adapter's choice.
+use Rattle.std.specs.Prelude.{ℕ, ◌+◌, ◌-◌, ◌/◌, ◌%◌, if◌then◌else◌}
+use Rattle.vga_bits.specs.Bits.{is_set}
+use Rattle.bios_modes.specs.Bda.{BiosData}
+use Rattle.bios_modes.specs.Fonts.{FontSet}
+use Rattle.bios_services.specs.declared.ink.Ink.{Ink}
+use Rattle.bios_services.specs.declared.band.Band.{Band}
+use Rattle.bios_services.specs.declared.kind.Kind.{Kind}
+use Rattle.bios_services.specs.declared.kind.Kind.TheVariants.{Text, Planar, Packed}
+use Rattle.bios_services.specs.Plan.{Plan, ◌>>◌, put, get, each}
+use Rattle.bios_services.specs.Cycles.{sequencer, graphics}
+use Rattle.bios_services.specs.Kinds.{kind_of}
+use Rattle.bios_services.specs.Cells.{cell_address, write_cell_plan}
+use Rattle.bios_services.specs.Bands.{band_of, address_in, plain, paint_row}
+use Rattle.bios_services.specs.Glyphs.{glyph_line}
+
+-- cell q of a page of dots as a band of one column, and the row that it stands in
+abbrev pub cell_band : BiosData → ℕ → ℕ → Band
+cell_band d page q = band_of d page (q % d.columns) (q % d.columns)
+
+abbrev pub cell_row : BiosData → ℕ → ℕ
+cell_row d q = q / d.columns
+
+-- a glyph in a cell of planes, line by line
+unfoldable pub put_glyph : Band → ℕ → FontSet → ℕ → Plan (Unit {0})
+put_glyph cell row fonts character = each (λ r. put (address_in cell row r 0) (glyph_line fonts cell.lines character r)) cell.lines 0
+
+-- the same where each line is read first, so that the latches hold what it is combined with
+abbrev pub turn_byte : ℕ → ℕ → Plan (Unit {0})
+turn_byte address dots = do
+  get address
+  put address dots
+
+unfoldable pub turn_glyph : Band → ℕ → FontSet → ℕ → Plan (Unit {0})
+turn_glyph cell row fonts character = each (λ r. turn_byte (address_in cell row r 0) (glyph_line fonts cell.lines character r)) cell.lines 0
+
+-- a character in 16 colours: the cell is blanked, and the planes of the colour get the glyph
+unfoldable pub plain_plan : Band → ℕ → FontSet → ℕ → ℕ → Plan (Unit {0})
+plain_plan cell row fonts character colour = do
+  paint_row cell (plain 0x00) row
+  sequencer 2 (colour % 16)
+  put_glyph cell row fonts character
+  sequencer 2 0x0F
+
+-- a character by XOR: the planes of the colour are turned where the glyph has dots
+unfoldable pub turned_plan : Band → ℕ → FontSet → ℕ → ℕ → Plan (Unit {0})
+turned_plan cell row fonts character colour = do
+  graphics 3 0x18
+  sequencer 2 (colour % 16)
+  turn_glyph cell row fonts character
+  sequencer 2 0x0F
+  graphics 3 0x00
+
+-- a character in 16 colours; bit 7 of the colour asks for XOR
+unfoldable pub planar_plan : Band → ℕ → FontSet → ℕ → ℕ → Plan (Unit {0})
+planar_plan cell row fonts character colour =
+    if is_set colour 7 then turned_plan cell row fonts character colour else plain_plan cell row fonts character colour
+
+-- dot i of a line of a glyph in 256 colours
+abbrev pub dot_of : ℕ → ℕ → ℕ → ℕ
+dot_of dots colour i = if is_set dots (7 - i) then colour else 0
+
+-- a line of a glyph in 256 colours, dot by dot, and a character, line by line
+unfoldable pub put_dots : Band → ℕ → ℕ → ℕ → ℕ → Plan (Unit {0})
+put_dots cell row line dots colour = each (λ i. put (address_in cell row line i) (dot_of dots colour i)) 8 0
+
+unfoldable pub packed_plan : Band → ℕ → FontSet → ℕ → ℕ → Plan (Unit {0})
+packed_plan cell row fonts character colour = each (λ r. put_dots cell row r (glyph_line fonts cell.lines character r) colour) cell.lines 0
+
+-- a character at cell q of a page, by how the mode uses the memory
+unfoldable pub character_by : Kind → FontSet → BiosData → ℕ → ℕ → ℕ → Ink → Plan (Unit {0})
+character_by Text fonts d page q character ink = write_cell_plan (cell_address d page q) character ink
+character_by Planar fonts d page q character ink = planar_plan (cell_band d page q) (cell_row d q) fonts character ink.colour
+character_by Packed fonts d page q character ink = packed_plan (cell_band d page q) (cell_row d q) fonts character ink.colour
+
+abbrev pub character_plan : FontSet → BiosData → ℕ → ℕ → ℕ → Ink → Plan (Unit {0})
+character_plan fonts d page q character ink = character_by (kind_of d.mode) fonts d page q character ink
+
+-- a character at n cells from cell q on
+unfoldable pub characters_plan : FontSet → BiosData → ℕ → ℕ → ℕ → Ink → ℕ → Plan (Unit {0})
+characters_plan fonts d page q character ink n = each (λ i. character_plan fonts d page (q + i) character ink) n 0

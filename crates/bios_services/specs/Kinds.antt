@@ -1,0 +1,22 @@
+-- The three ways in which modes use the memory: text, a bit of each plane for a dot, and a byte for a dot.
+-- From the IBM PS/2 Hardware Interface Technical Reference, Video Subsystems, "Video Memory Organization".
+use Rattle.std.specs.Prelude.{ℕ, ◌==◌, if◌then◌else◌}
+use Rattle.bios_services.specs.declared.kind.Kind.{Kind}
+use Rattle.bios_services.specs.declared.kind.Kind.TheVariants.{Text, Planar, Packed}
+use Rattle.bios_services.specs.ModeSet.{is_text}
+
+-- how a mode uses the memory
+abbrev pub kind_of : ℕ → Kind
+kind_of mode = if is_text mode then Text else if mode == 0x13 then Packed else Planar
+
+-- how many bytes of a line a column of characters takes: a character and its attribute, eight dots of a plane, or eight dots
+abbrev pub column_bytes : Kind → ℕ
+column_bytes Text = 2
+column_bytes Planar = 1
+column_bytes Packed = 8
+
+-- how many lines of the memory a row of characters takes that are so many dots high
+abbrev pub row_lines : Kind → ℕ → ℕ
+row_lines Text height = 1
+row_lines Planar height = height
+row_lines Packed height = height

@@ -1,0 +1,215 @@
+//! Some columns of a page, as bytes of its lines.
+ghost use Rattle.std.specs.Prelude.{◌≡◌, ◌<◌, ◌≤◌, ◌+◌, ◌-◌, ◌*◌, ◌^◌};
+ghost use Rattle.bios_services.specs.Plan.{run};
+ghost use Rattle.bios_services.specs.Bounds.{IsSet, pages_of};
+ghost use Rattle.bios_services.specs.Bands.{IsBand, address_in, band_of, copy_line as copy_line_plan, copy_row as copy_row_plan, raise_rows as raise_rows_plan, lower_rows as lower_rows_plan, paint_line as paint_line_plan, paint_row as paint_row_plan, paint_rows as paint_rows_plan, access_plan, fill_plan, up_plan, down_plan};
+
+use crate::cells::page_address;
+use crate::cycles::{graphics, move_byte, put, sequencer};
+use crate::kind::{Kind, column_bytes, kind_of, row_lines};
+use crate::paint::Paint;
+use bios_modes::Bda;
+use vga_card::Bus;
+
+/// Some columns of a page, as bytes of its lines.
+#[derive(Clone, Copy)]
+pub struct Band {
+    /// How the mode uses the memory.
+    pub kind: Kind,
+    /// The address of the page.
+    pub start: u32,
+    /// How many bytes a line of the page has.
+    pub pitch: u32,
+    /// How many lines a row of characters has.
+    pub lines: u32,
+    /// The first byte of the band in a line.
+    pub left: u32,
+    /// How many bytes the band has in a line.
+    pub width: u32,
+}
+
+/// Sets the graphics controller's read and write mode, in 16 colours alone.
+pub(crate) fn set_access<B: Bus>(bus: &mut B, kind: Kind, mode: u8)
+    ensures { bus.new ≡ (run B.meaning (access_plan kind mode) bus.old).0 }
+{
+    match kind {
+        Kind::Planar => graphics(bus, 5, mode),
+        Kind::Text | Kind::Packed => {}
+    }
+}
+
+impl Band {
+    /// The columns from one to another of a page, as many as there are.
+    pub(crate) fn of_page(bda: &Bda, page: u8, left: u8, right: u8) -> Band
+        requires data { IsSet bda.now }
+        requires page { page < pages_of bda.now }
+        ensures value { result ≡ band_of bda.now page left right }
+        ensures band { IsBand result }
+    {
+        let kind = kind_of(bda.mode());
+        let bytes = column_bytes(kind);
+        let columns = bda.columns() as u32;
+        let end = (right as u32).min(columns - 1) + 1;
+        let count = end.saturating_sub(left as u32);
+        Band {
+            kind,
+            start: page_address(bda, page),
+            pitch: bytes * columns,
+            lines: row_lines(kind, bda.height()),
+            left: bytes * left as u32,
+            width: bytes * count,
+        }
+    }
+
+    /// The address of a byte of a line of a row of characters.
+    pub(crate) fn address(self, row: u32, line: u32, byte: u32) -> u32
+        requires band { IsBand self }
+        requires row { row < 200000 }
+        requires line { line ≤ 16 }
+        requires byte { byte ≤ 640 }
+        ensures value { result ≡ address_in self row line byte }
+        ensures small { result < 2 ^ 31 }
+    {
+        self.start + self.pitch * (self.lines * row + line) + self.left + byte
+    }
+
+    /// Copies a line of a row to another row.
+    #[tactic(auto, using(crate::proofs::RunLemmas::run_bind), unfolding(crate::specs::Bands::copy_line))]
+    fn copy_line<B: Bus>(self, bus: &mut B, from: u32, to: u32, line: u32)
+        requires band { IsBand self }
+        requires from { from < 400 }
+        requires to { to < 400 }
+        requires line { line ≤ 16 }
+        ensures { bus.new ≡ (run B.meaning (copy_line_plan self from to line) bus.old).0 }
+    {
+        for i in 0..self.width {
+            let source = self.address(from, line, i);
+            let target = self.address(to, line, i);
+            move_byte(bus, source, target);
+        }
+    }
+
+    /// Copies a row to another.
+    #[tactic(auto, using(crate::proofs::RunLemmas::run_bind), unfolding(crate::specs::Bands::copy_row))]
+    fn copy_row<B: Bus>(self, bus: &mut B, from: u32, to: u32)
+        requires band { IsBand self }
+        requires from { from < 400 }
+        requires to { to < 400 }
+        ensures { bus.new ≡ (run B.meaning (copy_row_plan self from to) bus.old).0 }
+    {
+        for line in 0..self.lines {
+            self.copy_line(bus, from, to, line);
+        }
+    }
+
+    /// Copies to the rows from one to another what stands n rows below, the highest first.
+    #[tactic(auto, using(crate::proofs::RunLemmas::run_bind), unfolding(crate::specs::Bands::raise_rows))]
+    fn raise_rows<B: Bus>(self, bus: &mut B, n: u32, top: u32, end: u32)
+        requires band { IsBand self }
+        requires end { end + n ≤ 400 }
+        ensures { bus.new ≡ (run B.meaning (raise_rows_plan self n top (end - top)) bus.old).0 }
+    {
+        for row in top..end {
+            self.copy_row(bus, row + n, row);
+        }
+    }
+
+    /// Copies the rows from one to another to n rows below, the lowest first.
+    #[tactic(auto, using(crate::proofs::RunLemmas::run_bind), unfolding(crate::specs::Bands::lower_rows))]
+    fn lower_rows<B: Bus>(self, bus: &mut B, n: u32, top: u32, end: u32)
+        requires band { IsBand self }
+        requires end { end + n ≤ 400 }
+        requires order { top ≤ end }
+        ensures { bus.new ≡ (run B.meaning (lower_rows_plan self n top (end - top)) bus.old).0 }
+    {
+        for row in (top..end).rev() {
+            self.copy_row(bus, row, row + n);
+        }
+    }
+
+    /// Paints a line of a row.
+    #[tactic(auto, using(crate::proofs::RunLemmas::run_bind), unfolding(crate::specs::Bands::paint_line))]
+    fn paint_line<B: Bus>(self, bus: &mut B, paint: Paint, row: u32, line: u32)
+        requires band { IsBand self }
+        requires row { row < 200000 }
+        requires line { line ≤ 16 }
+        ensures { bus.new ≡ (run B.meaning (paint_line_plan self paint row line) bus.old).0 }
+    {
+        for i in 0..self.width {
+            put(bus, self.address(row, line, i), paint.byte(i));
+        }
+    }
+
+    /// Paints a row.
+    #[tactic(auto, using(crate::proofs::RunLemmas::run_bind), unfolding(crate::specs::Bands::paint_row))]
+    pub(crate) fn paint_row<B: Bus>(self, bus: &mut B, paint: Paint, row: u32)
+        requires band { IsBand self }
+        requires row { row < 200000 }
+        ensures { bus.new ≡ (run B.meaning (paint_row_plan self paint row) bus.old).0 }
+    {
+        for line in 0..self.lines {
+            self.paint_line(bus, paint, row, line);
+        }
+    }
+
+    /// Paints the rows from one to another.
+    #[tactic(auto, using(crate::proofs::RunLemmas::run_bind), unfolding(crate::specs::Bands::paint_rows))]
+    fn paint_rows<B: Bus>(self, bus: &mut B, paint: Paint, top: u32, end: u32)
+        requires band { IsBand self }
+        requires end { end ≤ 400 }
+        ensures { bus.new ≡ (run B.meaning (paint_rows_plan self paint top (end - top)) bus.old).0 }
+    {
+        for row in top..end {
+            self.paint_row(bus, paint, row);
+        }
+    }
+
+    /// Fills the rows from one to another with an attribute or a colour.
+    #[tactic(auto, using(crate::proofs::RunLemmas::run_bind), unfolding(crate::specs::Bands::fill_plan))]
+    fn fill<B: Bus>(self, bus: &mut B, colour: u8, top: u32, end: u32)
+        requires band { IsBand self }
+        requires end { end ≤ 400 }
+        ensures { bus.new ≡ (run B.meaning (fill_plan self.kind self colour top (end - top)) bus.old).0 }
+    {
+        match self.kind {
+            Kind::Text => self.paint_rows(bus, Paint::blank(colour), top, end),
+            Kind::Planar => {
+                self.paint_rows(bus, Paint::plain(0x00), top, end);
+                sequencer(bus, 2, colour % 16);
+                self.paint_rows(bus, Paint::plain(0xFF), top, end);
+                sequencer(bus, 2, 0x0F);
+            }
+            Kind::Packed => self.paint_rows(bus, Paint::plain(colour), top, end),
+        }
+    }
+
+    /// Scrolls rows up by n: so many of the last are filled then.
+    #[tactic(auto, using(crate::proofs::RunLemmas::run_bind), unfolding(crate::specs::Bands::up_plan))]
+    pub(crate) fn up<B: Bus>(self, bus: &mut B, top: u32, height: u32, n: u32, colour: u8)
+        requires band { IsBand self }
+        requires rows { top + height ≤ 400 }
+        requires few { n ≤ height }
+        ensures { bus.new ≡ (run B.meaning (up_plan self top height n colour) bus.old).0 }
+    {
+        let kept = height - n;
+        set_access(bus, self.kind, 0x01);
+        self.raise_rows(bus, n, top, top + kept);
+        set_access(bus, self.kind, 0x00);
+        self.fill(bus, colour, top + kept, top + height);
+    }
+
+    /// Scrolls rows down by n: so many of the first are filled then.
+    #[tactic(auto, using(crate::proofs::RunLemmas::run_bind), unfolding(crate::specs::Bands::down_plan))]
+    pub(crate) fn down<B: Bus>(self, bus: &mut B, top: u32, height: u32, n: u32, colour: u8)
+        requires band { IsBand self }
+        requires rows { top + height ≤ 400 }
+        requires few { n ≤ height }
+        ensures { bus.new ≡ (run B.meaning (down_plan self top height n colour) bus.old).0 }
+    {
+        let kept = height - n;
+        set_access(bus, self.kind, 0x01);
+        self.lower_rows(bus, n, top, top + kept);
+        set_access(bus, self.kind, 0x00);
+        self.fill(bus, colour, top, top + n);
+    }
+}

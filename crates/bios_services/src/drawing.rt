@@ -1,0 +1,202 @@
+//! Characters at cells of a page in any mode.
+ghost use Rattle.std.specs.Prelude.{◌≡◌, ◌<◌, ◌≤◌, ◌+◌, ◌*◌, ◌^◌};
+ghost use Rattle.bios_services.specs.Plan.{run};
+ghost use Rattle.bios_services.specs.Bounds.{IsSet, pages_of};
+ghost use Rattle.bios_services.specs.Bands.{IsBand};
+ghost use Rattle.bios_services.specs.Drawing.{cell_band as cell_band_of, put_glyph as put_glyph_plan, turn_byte as turn_byte_plan, turn_glyph as turn_glyph_plan, plain_plan, turned_plan, planar_plan, dot_of, put_dots as put_dots_plan, packed_plan, character_plan, characters_plan};
+
+use crate::band::Band;
+use crate::cells::{cell_address, write_cell};
+use crate::cycles::{get, graphics, put, sequencer};
+use crate::glyphs::glyph_line;
+use crate::ink::Ink;
+use crate::kind::{Kind, kind_of};
+use crate::paint::Paint;
+use bios_modes::{Bda, Fonts};
+use vga_bits::is_set;
+use vga_card::Bus;
+
+/// Cell q of a page as a band of one column.
+pub(crate) fn cell_band(bda: &Bda, page: u8, q: u32) -> Band
+    requires data { IsSet bda.now }
+    requires page { page < pages_of bda.now }
+    ensures value { result ≡ cell_band_of bda.now page q }
+    ensures band { IsBand result }
+{
+    let column = (q % bda.columns() as u32) as u8;
+    Band::of_page(bda, page, column, column)
+}
+
+/// Writes a glyph to a cell of planes, line by line.
+#[tactic(auto, using(crate::proofs::RunLemmas::run_bind), unfolding(crate::specs::Drawing::put_glyph))]
+fn put_glyph<B: Bus>(bus: &mut B, cell: Band, row: u32, fonts: &Fonts, character: u8)
+    requires cell { IsBand cell }
+    requires row { row < 200000 }
+    ensures { bus.new ≡ (run B.meaning (put_glyph_plan cell row fonts.now character) bus.old).0 }
+{
+    for r in 0..cell.lines {
+        let dots = glyph_line(fonts, cell.lines, character, r);
+        put(bus, cell.address(row, r, 0), dots);
+    }
+}
+
+/// Reads a byte, so that the latches hold it, and writes dots over it.
+fn turn_byte<B: Bus>(bus: &mut B, address: u32, dots: u8)
+    ensures { bus.new ≡ (run B.meaning (turn_byte_plan address dots) bus.old).0 }
+{
+    get(bus, address);
+    put(bus, address, dots);
+}
+
+/// Writes a glyph to a cell of planes, each line after it was read.
+#[tactic(auto, using(crate::proofs::RunLemmas::run_bind), unfolding(crate::specs::Drawing::turn_glyph))]
+fn turn_glyph<B: Bus>(bus: &mut B, cell: Band, row: u32, fonts: &Fonts, character: u8)
+    requires cell { IsBand cell }
+    requires row { row < 200000 }
+    ensures { bus.new ≡ (run B.meaning (turn_glyph_plan cell row fonts.now character) bus.old).0 }
+{
+    for r in 0..cell.lines {
+        let dots = glyph_line(fonts, cell.lines, character, r);
+        turn_byte(bus, cell.address(row, r, 0), dots);
+    }
+}
+
+/// Draws a character in 16 colours.
+#[tactic(auto, using(crate::proofs::RunLemmas::run_bind), unfolding(crate::specs::Drawing::plain_plan))]
+fn draw_plain<B: Bus>(bus: &mut B, cell: Band, row: u32, fonts: &Fonts, character: u8, colour: u8)
+    requires cell { IsBand cell }
+    requires row { row < 200000 }
+    ensures { bus.new ≡ (run B.meaning (plain_plan cell row fonts.now character colour) bus.old).0 }
+{
+    cell.paint_row(bus, Paint::plain(0x00), row);
+    sequencer(bus, 2, colour % 16);
+    put_glyph(bus, cell, row, fonts, character);
+    sequencer(bus, 2, 0x0F);
+}
+
+/// Draws a character in 16 colours by XOR.
+#[tactic(auto, using(crate::proofs::RunLemmas::run_bind), unfolding(crate::specs::Drawing::turned_plan))]
+fn draw_turned<B: Bus>(bus: &mut B, cell: Band, row: u32, fonts: &Fonts, character: u8, colour: u8)
+    requires cell { IsBand cell }
+    requires row { row < 200000 }
+    ensures { bus.new ≡ (run B.meaning (turned_plan cell row fonts.now character colour) bus.old).0 }
+{
+    graphics(bus, 3, 0x18);
+    sequencer(bus, 2, colour % 16);
+    turn_glyph(bus, cell, row, fonts, character);
+    sequencer(bus, 2, 0x0F);
+    graphics(bus, 3, 0x00);
+}
+
+/// Draws a character in 16 colours, where bit 7 of the colour asks for XOR.
+#[tactic(auto, unfolding(crate::specs::Drawing::planar_plan))]
+fn draw_planar<B: Bus>(bus: &mut B, cell: Band, row: u32, fonts: &Fonts, character: u8, colour: u8)
+    requires cell { IsBand cell }
+    requires row { row < 200000 }
+    ensures { bus.new ≡ (run B.meaning (planar_plan cell row fonts.now character colour) bus.old).0 }
+{
+    if is_set(colour, 7) {
+        draw_turned(bus, cell, row, fonts, character, colour);
+    } else {
+        draw_plain(bus, cell, row, fonts, character, colour);
+    }
+}
+
+/// Dot i of a line of a glyph in 256 colours.
+fn dot(dots: u8, colour: u8, i: u32) -> u8
+    requires { i < 8 }
+    ensures { result ≡ dot_of dots colour i }
+{
+    if is_set(dots, 7 - i) { colour } else { 0 }
+}
+
+/// Draws a line of a glyph in 256 colours.
+#[tactic(auto, using(crate::proofs::RunLemmas::run_bind), unfolding(crate::specs::Drawing::put_dots))]
+fn put_dots<B: Bus>(bus: &mut B, cell: Band, row: u32, line: u32, dots: u8, colour: u8)
+    requires cell { IsBand cell }
+    requires row { row < 200000 }
+    requires line { line ≤ 16 }
+    ensures { bus.new ≡ (run B.meaning (put_dots_plan cell row line dots colour) bus.old).0 }
+{
+    for i in 0..8 {
+        put(bus, cell.address(row, line, i), dot(dots, colour, i));
+    }
+}
+
+/// Draws a character in 256 colours.
+#[tactic(auto, using(crate::proofs::RunLemmas::run_bind), unfolding(crate::specs::Drawing::packed_plan))]
+fn draw_packed<B: Bus>(bus: &mut B, cell: Band, row: u32, fonts: &Fonts, character: u8, colour: u8)
+    requires cell { IsBand cell }
+    requires row { row < 200000 }
+    ensures { bus.new ≡ (run B.meaning (packed_plan cell row fonts.now character colour) bus.old).0 }
+{
+    for r in 0..cell.lines {
+        let dots = glyph_line(fonts, cell.lines, character, r);
+        put_dots(bus, cell, row, r, dots, colour);
+    }
+}
+
+/// Writes a character to cell q of a page.
+#[tactic(auto, unfolding(crate::specs::Drawing::character_by))]
+pub(crate) fn write_character<B: Bus>(
+    bus: &mut B,
+    fonts: &Fonts,
+    bda: &Bda,
+    page: u8,
+    q: u32,
+    character: u8,
+    ink: Ink,
+)
+    requires data { IsSet bda.now }
+    requires page { page < pages_of bda.now }
+    requires cell { q < 200000 }
+    ensures { bus.new ≡ (run B.meaning (character_plan fonts.now bda.now page q character ink) bus.old).0 }
+{
+    let row = q / bda.columns() as u32;
+    match kind_of(bda.mode()) {
+        Kind::Text => write_cell(bus, cell_address(bda, page, q), character, ink),
+        Kind::Planar => {
+            draw_planar(
+                bus,
+                cell_band(bda, page, q),
+                row,
+                fonts,
+                character,
+                ink.colour,
+            )
+        }
+        Kind::Packed => {
+            draw_packed(
+                bus,
+                cell_band(bda, page, q),
+                row,
+                fonts,
+                character,
+                ink.colour,
+            )
+        }
+    }
+}
+
+/// Writes a character to n cells of a page from cell q on.
+#[tactic(auto, using(crate::proofs::RunLemmas::run_bind), unfolding(crate::specs::Drawing::characters_plan))]
+pub(crate) fn write_characters<B: Bus>(
+    bus: &mut B,
+    fonts: &Fonts,
+    bda: &Bda,
+    page: u8,
+    q: u32,
+    character: u8,
+    ink: Ink,
+    n: u32,
+)
+    requires data { IsSet bda.now }
+    requires page { page < pages_of bda.now }
+    requires cell { q < 100000 }
+    requires few { n ≤ 65535 }
+    ensures { bus.new ≡ (run B.meaning (characters_plan fonts.now bda.now page q character ink n) bus.old).0 }
+{
+    for i in 0..n {
+        write_character(bus, fonts, bda, page, q + i, character, ink);
+    }
+}

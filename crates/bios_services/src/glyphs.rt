@@ -1,0 +1,50 @@
+//! The glyphs of characters in the font of the mode's height.
+ghost use Rattle.std.specs.Prelude.{◌≡◌, ◌<◌, ◌≤◌, length};
+ghost use Rattle.bios_services.specs.Glyphs.{glyph_line as glyph_line_of, has_lines as has_lines_of, first_character as first_character_of};
+
+use bios_modes::Fonts;
+
+/// Line r of a character in the font of this height: a dot for each bit, bit 7 the leftmost.
+pub(crate) fn glyph_line(fonts: &Fonts, height: u32, character: u8, r: u32) -> u8
+    requires height { height ≤ 16 }
+    requires line { r < height }
+    ensures { result ≡ glyph_line_of fonts.now height character r }
+{
+    match height {
+        8 => fonts.f8().byte(character, r as usize),
+        14 => fonts.f14().byte(character, r as usize),
+        _ => fonts.f16().byte(character, r as usize),
+    }
+}
+
+/// Whether a character's glyph is these lines, as many as the font's height.
+#[tactic(auto, unfolding(crate::specs::Glyphs::has_lines))]
+fn has_lines(fonts: &Fonts, height: u32, lines: &[u8], character: u8) -> bool
+    requires height { height ≤ 16 }
+    requires whole { length lines.now ≡ height }
+    ensures { result ≡ has_lines_of fonts.now height lines.now character }
+{
+    for r in 0..height {
+        let same = glyph_line(fonts, height, character, r) == lines[r as usize];
+        if !same {
+            return false;
+        }
+    }
+    true
+}
+
+/// The first of n characters whose glyph is these lines, and 0 where there is none.
+#[tactic(auto, unfolding(crate::specs::Glyphs::first_character))]
+pub(crate) fn first_character(fonts: &Fonts, height: u32, lines: &[u8], n: u16) -> u8
+    requires height { height ≤ 16 }
+    requires whole { length lines.now ≡ height }
+    requires few { n ≤ 256 }
+    ensures { result ≡ first_character_of fonts.now height lines.now n }
+{
+    for character in 0..n {
+        if has_lines(fonts, height, lines, character as u8) {
+            return character as u8;
+        }
+    }
+    0
+}

@@ -1,0 +1,44 @@
+//! The bytes that rows are painted with.
+ghost use Rattle.std.specs.Prelude.{◌≡◌};
+ghost use Rattle.bios_services.specs.Bands.{painted, blank as blank_of, plain as plain_of};
+
+/// Two bytes in turn.
+#[derive(Clone, Copy)]
+pub struct Paint {
+    /// The first byte of a line, the third, and so on.
+    pub even: u8,
+    /// The second, the fourth, and so on.
+    pub odd: u8,
+}
+
+/// What a blank cell of text has as its character.
+const BLANK: u8 = 0x20;
+
+impl Paint {
+    /// Blank cells of an attribute.
+    pub(crate) fn blank(attribute: u8) -> Paint
+        ensures { result ≡ blank_of attribute }
+    {
+        Paint {
+            even: BLANK,
+            odd: attribute,
+        }
+    }
+
+    /// One byte everywhere.
+    pub(crate) fn plain(byte: u8) -> Paint
+        ensures { result ≡ plain_of byte }
+    {
+        Paint {
+            even: byte,
+            odd: byte,
+        }
+    }
+
+    /// What byte i of a line is painted with.
+    pub(crate) fn byte(self, i: u32) -> u8
+        ensures { result ≡ painted self i }
+    {
+        if i % 2 == 0 { self.even } else { self.odd }
+    }
+}
