@@ -1,6 +1,6 @@
 -- Which service the registers ask for.
 -- From the IBM PS/2 and PC BIOS Interface Technical Reference, "Interrupt 10H - Video": AH has the function.
-use Rattle.std.specs.Prelude.{ℕ, Bool, true, false, ◌%◌, ◌==◌, ◌&&◌, nat_le, if◌then◌else◌, Option, Some, None}
+use Rattle.std.specs.Prelude.{ℕ, Bool, true, false, ◌%◌, ◌==◌, ◌&&◌, nat_lt, nat_le, if◌then◌else◌, Option, Some, None}
 use Rattle.bios_services.specs.declared.regs.Regs.{Regs}
 use Rattle.bios_services.specs.declared.scroll.Scroll.{Scroll}
 use Rattle.bios_services.specs.declared.colours.ColourService.{ColourService}
@@ -8,9 +8,10 @@ use Rattle.bios_services.specs.declared.ink.Ink.{Ink}
 use Rattle.bios_services.specs.declared.call.Call.{Call}
 use Rattle.bios_services.specs.declared.call.Call.TheVariants.{SetMode, InMode}
 use Rattle.bios_services.specs.declared.call.Service.{Service}
-use Rattle.bios_services.specs.declared.call.Service.TheVariants.{SetCursorType, SetCursor, ReadCursor, SelectPage, ScrollUp, ScrollDown, ReadCell, WriteCells, WritePixel, ReadPixel, Teletype, ReadMode, Colours, ReadAdapter, ReadDisplay}
+use Rattle.bios_services.specs.declared.call.Service.TheVariants.{SetCursorType, SetCursor, ReadCursor, SelectPage, ScrollUp, ScrollDown, ReadCell, WriteCells, WritePixel, ReadPixel, Teletype, ReadMode, Colours, ReadAdapter, WriteString, ReadDisplay}
 use Rattle.bios_services.specs.Registers.{high, low}
 use Rattle.bios_services.specs.Colours.{colour_service_of}
+use Rattle.bios_services.specs.Strings.{string_of}
 
 -- the window of functions 06 and 07: AL rows, BH the attribute or colour of new rows, CX the upper left corner, DX the lower right one
 abbrev pub scroll_of : Regs → Scroll
@@ -47,6 +48,7 @@ service_of r =
     else if function == 0x0F then Some ReadMode
     else if function == 0x10 then as_colours (colour_service_of r)
     else if (function == 0x12) && (bl == 0x10) then Some ReadAdapter
+    else if (function == 0x13) && nat_lt al 4 then Some (WriteString (string_of r))
     else if (function == 0x1A) && (al == 0x00) then Some ReadDisplay
     else None
 

@@ -12,6 +12,7 @@ pub mod Glyphs
 pub mod Drawing
 pub mod Reading
 pub mod Teletype
+pub mod Strings
 pub mod Pixels
 pub mod Palette
 pub mod Dac

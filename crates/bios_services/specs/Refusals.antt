@@ -1,17 +1,19 @@
 -- Why a service is refused: of several reasons, the one with the lowest number.
 -- From the IBM PS/2 and PC BIOS Interface Technical Reference, "Interrupt 10H - Video"; the refusals are this adapter's choice.
-use Rattle.std.specs.Prelude.{ℕ, ◌+◌, ◌==◌, ◌&&◌, nat_lt, nat_le, if◌then◌else◌, Option, Some, None}
+use Rattle.std.specs.Prelude.{ℕ, Bool, ◌+◌, ◌==◌, ◌&&◌, nat_lt, nat_le, if◌then◌else◌, Option, Some, None}
 use Rattle.vga_bits.specs.declared.refusal.Refusal.{Refusal}
 use Rattle.vga_bits.specs.declared.refusal.Refusal.TheVariants.{NoMode, BadFunction, WrongKind, BadPage, Outside, CountPast}
 use Rattle.bios_modes.specs.Bda.{BiosData}
 use Rattle.bios_services.specs.declared.call.Service.{Service}
-use Rattle.bios_services.specs.declared.call.Service.TheVariants.{SetCursorType, SetCursor, ReadCursor, SelectPage, ScrollUp, ScrollDown, ReadCell, WriteCells, WritePixel, ReadPixel, Teletype, ReadMode, Colours, ReadAdapter, ReadDisplay}
+use Rattle.bios_services.specs.declared.call.Service.TheVariants.{SetCursorType, SetCursor, ReadCursor, SelectPage, ScrollUp, ScrollDown, ReadCell, WriteCells, WritePixel, ReadPixel, Teletype, ReadMode, Colours, ReadAdapter, WriteString, ReadDisplay}
 use Rattle.bios_services.specs.ModeSet.{is_text}
 use Rattle.bios_services.specs.Bounds.{pages_of}
 use Rattle.bios_services.specs.Cursor.{row_of, column_of, cell_number, place_of}
 use Rattle.bios_services.specs.Cells.{cells_of}
 use Rattle.bios_services.specs.Pixels.{dots_across, dots_down}
-use Rattle.bios_services.specs.Colours.{colour_refusal}
+use Rattle.bios_services.specs.declared.strings.StringCall.{StringCall}
+use Rattle.bios_services.specs.Strings.{string_len}
+use Rattle.bios_services.specs.Colours.{block_refusal, colour_refusal}
 
 -- the page that a call names; where a mode has one page, that is meant whatever is named
 abbrev pub page_named : BiosData → ℕ → ℕ
@@ -37,15 +39,26 @@ count_refusal d page count =
     else Some Outside)
     else Some BadPage
 
+-- whether the page has a place's row and column
+abbrev pub is_inside : BiosData → ℕ → Bool
+is_inside d place = nat_le (row_of place) d.last_row && nat_lt (column_of place) d.columns
+
 -- a place whose row or column the page does not have
 abbrev pub place_refusal : BiosData → ℕ → Option Refusal
-place_refusal d place = if nat_le (row_of place) d.last_row && nat_lt (column_of place) d.columns then None else Some Outside
+place_refusal d place = if is_inside d place then None else Some Outside
 
 -- a dot of text, one of a page that the mode does not have, or one outside it
 abbrev pub pixel_refusal : BiosData → ℕ → ℕ → ℕ → Option Refusal
 pixel_refusal d page x y =
     if is_text d.mode then Some WrongKind
     else if nat_lt page (pages_of d) then (if nat_lt x (dots_across d) && nat_lt y (dots_down d) then None else Some Outside)
+    else Some BadPage
+
+-- a string on a page that the mode does not have, at a place outside it, or with a block of another length
+abbrev pub string_refusal : BiosData → StringCall → ℕ → Option Refusal
+string_refusal d s len =
+    if nat_lt (page_named d s.page) (pages_of d)
+    then (if is_inside d s.place then block_refusal len (string_len s) else Some Outside)
     else Some BadPage
 
 -- why a service is refused in a mode, with a block of this length
@@ -64,6 +77,7 @@ refusal_in_mode (Teletype character colour) d len = place_refusal d (place_of d 
 refusal_in_mode ReadMode d len = None
 refusal_in_mode (Colours service) d len = colour_refusal service len
 refusal_in_mode ReadAdapter d len = None
+refusal_in_mode (WriteString string) d len = string_refusal d string len
 refusal_in_mode ReadDisplay d len = None
 
 -- why a call is refused that asks for no service

@@ -17,7 +17,7 @@ use Rattle.bios_services.specs.declared.ink.Ink.{Ink}
 use Rattle.bios_services.specs.declared.call.Call.{Call}
 use Rattle.bios_services.specs.declared.call.Call.TheVariants.{SetMode, InMode}
 use Rattle.bios_services.specs.declared.call.Service.{Service}
-use Rattle.bios_services.specs.declared.call.Service.TheVariants.{SetCursorType, SetCursor, ReadCursor, SelectPage, ScrollUp, ScrollDown, ReadCell, WriteCells, WritePixel, ReadPixel, Teletype, ReadMode, Colours, ReadAdapter, ReadDisplay}
+use Rattle.bios_services.specs.declared.call.Service.TheVariants.{SetCursorType, SetCursor, ReadCursor, SelectPage, ScrollUp, ScrollDown, ReadCell, WriteCells, WritePixel, ReadPixel, Teletype, ReadMode, Colours, ReadAdapter, WriteString, ReadDisplay}
 use Rattle.bios_services.specs.Plan.{Plan, Done, ◌>>=◌, ◌>>◌}
 use Rattle.bios_services.specs.Cycles.{crtc}
 use Rattle.bios_services.specs.ModeSet.{is_text, mode_set_plan}
@@ -29,6 +29,7 @@ use Rattle.bios_services.specs.Scroll.{scroll_up_plan, scroll_down_plan}
 use Rattle.bios_services.specs.Teletype.{teletype_plan}
 use Rattle.bios_services.specs.Pixels.{write_pixel_plan, read_pixel_plan}
 use Rattle.bios_services.specs.Colours.{colours_plan}
+use Rattle.bios_services.specs.Strings.{string_plan}
 use Rattle.bios_services.specs.Registers.{high, low, with_low}
 use Rattle.bios_services.specs.Calls.{call_of}
 use Rattle.bios_services.specs.Refusals.{page_named, refusal_in_mode, unknown_refusal}
@@ -105,6 +106,7 @@ plan_of (Teletype character colour) fonts d r block = teletype_plan fonts d char
 plan_of ReadMode fonts d r block = Done (read_mode_of d r, d)
 plan_of (Colours service) fonts d r block = colours_plan service d.crtc_address r block >>= λ after. Done (after, d)
 plan_of ReadAdapter fonts d r block = Done (read_adapter_of d r, d)
+plan_of (WriteString s) fonts d r block = string_plan fonts d (page_named d s.page) s block >>= λ after. Done (r, after)
 plan_of ReadDisplay fonts d r block = Done (read_display_of r, d)
 
 -- what a call answers, and the BIOS data after it

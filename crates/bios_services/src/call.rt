@@ -6,6 +6,7 @@ use crate::colours::{ColourService, colour_service_of};
 use crate::ink::Ink;
 use crate::regs::{Regs, high, low};
 use crate::scroll::Scroll;
+use crate::strings::StringCall;
 
 /// What a call asks for.
 #[derive(Clone, Copy)]
@@ -79,6 +80,8 @@ pub enum Service {
     Colours(ColourService),
     /// 12 with BL = 10: answers what adapter there is.
     ReadAdapter,
+    /// 13 with AL = 00 to 03: types a string.
+    WriteString(StringCall),
     /// 1A with AL = 00: answers what display there is.
     ReadDisplay,
 }
@@ -159,6 +162,7 @@ fn service_of(regs: Regs) -> Option<Service>
             None => None,
         },
         0x12 if low(regs.bx) == 0x10 => Some(Service::ReadAdapter),
+        0x13 if al < 4 => Some(Service::WriteString(StringCall::of(regs))),
         0x1A if al == 0x00 => Some(Service::ReadDisplay),
         _ => None,
     }

@@ -19,8 +19,8 @@ use crate::drawing::{cell_band, write_characters};
 use crate::mode_set;
 use crate::mode_set::is_text;
 use crate::pixels::{read_pixel, write_pixel};
-use crate::refusals::{page_named, refusal_in_mode, unknown_refusal};
 use crate::reading::read_character;
+use crate::refusals::{page_named, refusal_in_mode, unknown_refusal};
 use crate::regs::{Regs, with_low};
 use crate::reply::{Reply, ServiceError, Table};
 use crate::teletype::teletype;
@@ -118,14 +118,7 @@ fn read_cursor_cell<B: Bus>(bus: &mut B, fonts: &Fonts, bda: &Bda, page: u8, reg
 
 /// Answers the colour of a dot.
 #[tactic(auto, using(crate::proofs::RunLemmas::run_bind), unfolding(crate::specs::Service::read_pixel_service))]
-fn read_pixel_colour<B: Bus>(
-    bus: &mut B,
-    bda: &Bda,
-    page: u8,
-    x: u16,
-    y: u16,
-    regs: Regs,
-) -> Regs
+fn read_pixel_colour<B: Bus>(bus: &mut B, bda: &Bda, page: u8, x: u16, y: u16, regs: Regs) -> Regs
     requires data { IsSet bda.now }
     requires page { page < pages_of bda.now }
     ensures { (bus.new, (result, bda.now)) ≡ run B.meaning (read_pixel_service page x y bda.now regs) bus.old }
@@ -233,6 +226,11 @@ fn perform<B: Bus>(
             perform_colours(bus, bda.crtc_address(), service, regs, block)
         }
         Service::ReadAdapter => read_adapter(bda, regs),
+        Service::WriteString(string) => {
+            let page = page_named(bda, string.page);
+            string.write(bus, fonts, bda, page, block);
+            regs
+        }
         Service::ReadDisplay => read_display(regs),
     }
 }

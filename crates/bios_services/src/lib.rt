@@ -23,6 +23,7 @@ mod refusals;
 mod regs;
 mod reply;
 mod scroll;
+mod strings;
 mod teletype;
 
 pub use interrupt::int10;

@@ -2,14 +2,15 @@
 ghost use Rattle.std.specs.Prelude.{◌≡◌};
 ghost use Rattle.bios_services.specs.Bounds.{IsSet, pages_of};
 ghost use Rattle.bios_services.specs.Cursor.{place_of};
-ghost use Rattle.bios_services.specs.Refusals.{page_named as page_named_of, page_refusal as page_refusal_of, cursor_refusal as cursor_refusal_of, count_refusal as count_refusal_of, pixel_refusal as pixel_refusal_of, place_refusal as place_refusal_of, refusal_in_mode as refusal_in_mode_of, unknown_refusal as unknown_refusal_of};
+ghost use Rattle.bios_services.specs.Refusals.{page_named as page_named_of, page_refusal as page_refusal_of, cursor_refusal as cursor_refusal_of, count_refusal as count_refusal_of, pixel_refusal as pixel_refusal_of, string_refusal as string_refusal_of, is_inside as is_inside_of, place_refusal as place_refusal_of, refusal_in_mode as refusal_in_mode_of, unknown_refusal as unknown_refusal_of};
 
 use crate::call::Service;
 use crate::cells::cells;
-use crate::colours::colour_refusal;
+use crate::colours::{block_refusal, colour_refusal};
 use crate::cursor::cell_number;
 use crate::mode_set::is_text;
 use crate::pixels::{dots_across, dots_down};
+use crate::strings::StringCall;
 use bios_modes::{Bda, mode_row};
 use vga_bits::Refusal;
 
@@ -73,11 +74,18 @@ fn count_refusal(bda: &Bda, page: u8, count: u16) -> Option<Refusal>
     None
 }
 
-/// Why a place of text is refused.
+/// Whether the page has a place's row and column.
+fn is_inside(bda: &Bda, place: u16) -> bool
+    ensures { result ≡ is_inside_of bda.now place }
+{
+    place / 256 <= bda.last_row() as u16 && place % 256 < bda.columns()
+}
+
+/// Why a place is refused.
 fn place_refusal(bda: &Bda, place: u16) -> Option<Refusal>
     ensures { result ≡ place_refusal_of bda.now place }
 {
-    if place / 256 <= bda.last_row() as u16 && place % 256 < bda.columns() {
+    if is_inside(bda, place) {
         None
     } else {
         Some(Refusal::Outside)
@@ -101,6 +109,19 @@ fn pixel_refusal(bda: &Bda, page: u8, x: u16, y: u16) -> Option<Refusal>
     }
 }
 
+/// Why a string is refused, with a block of this length.
+fn string_refusal(bda: &Bda, string: StringCall, len: usize) -> Option<Refusal>
+    ensures { result ≡ string_refusal_of bda.now string len }
+{
+    if page_named(bda, string.page) >= pages(bda) {
+        return Some(Refusal::BadPage);
+    }
+    if !is_inside(bda, string.place) {
+        return Some(Refusal::Outside);
+    }
+    block_refusal(len, string.block_len())
+}
+
 /// Why a service is refused in a mode, with a block of this length.
 #[tactic(auto, unfolding(crate::specs::Refusals::refusal_in_mode))]
 pub(crate) fn refusal_in_mode(service: Service, bda: &Bda, len: usize) -> Option<Refusal>
@@ -119,9 +140,8 @@ pub(crate) fn refusal_in_mode(service: Service, bda: &Bda, len: usize) -> Option
         Service::WritePixel { page, x, y, .. } | Service::ReadPixel { page, x, y } => {
             pixel_refusal(bda, page_named(bda, page), x, y)
         }
-        Service::Teletype { .. } => {
-            place_refusal(bda, bda.cursor_place(bda.page() as usize))
-        }
+        Service::Teletype { .. } => { place_refusal(bda, bda.cursor_place(bda.page() as usize)) }
+        Service::WriteString(string) => string_refusal(bda, string, len),
         Service::Colours(service) => colour_refusal(service, len),
         Service::SetCursorType { .. }
         | Service::ScrollUp { .. }

@@ -1,0 +1,47 @@
+-- Typing a string: function 13.
+-- From the IBM PS/2 and PC BIOS Interface Technical Reference, "Interrupt 10H - Video", (AH) = 13H.
+use Rattle.std.specs.Prelude.{ℕ, ◌+◌, ◌*◌, ◌%◌, ◌==◌, nat_le, true, if◌then◌else◌, List, slice_index}
+use Rattle.bios_modes.specs.Bda.{BiosData}
+use Rattle.bios_modes.specs.Fonts.{FontSet}
+use Rattle.bios_services.specs.declared.regs.Regs.{Regs}
+use Rattle.bios_services.specs.declared.ink.Ink.{Ink}
+use Rattle.bios_services.specs.declared.strings.StringCall.{StringCall}
+use Rattle.bios_services.specs.Plan.{Plan, Done, ◌>>=◌, fold}
+use Rattle.bios_services.specs.Registers.{high, low}
+use Rattle.bios_services.specs.Teletype.{type_plan, move_cursor_plan}
+
+-- the string that the registers name: AL 02 and 03 have an attribute behind each character, AL 01 and 03 move the cursor
+abbrev pub string_of : Regs → StringCall
+string_of r = record {
+  page = high r.bx;
+  place = r.dx;
+  colour = low r.bx;
+  count = r.cx;
+  has_attributes = nat_le 2 (low r.ax);
+  moves_cursor = low r.ax % 2 == 1;
+}
+
+-- how many bytes of the block a character takes, and all of them
+abbrev pub stride : StringCall → ℕ
+stride s = if s.has_attributes then 2 else 1
+
+abbrev pub string_len : StringCall → ℕ
+string_len s = stride s * s.count
+
+-- character i of the block, and the colour that it is typed in
+abbrev pub character_at : StringCall → List ℕ → ℕ → ℕ
+character_at s block i = slice_index block (stride s * i)
+
+abbrev pub ink_at : StringCall → List ℕ → ℕ → Ink
+ink_at s block i = record { colour = (if s.has_attributes then slice_index block (2 * i + 1) else s.colour); is_attribute = true }
+
+-- the characters are typed one after another on a page; the answer is the place behind the last
+unfoldable pub typed_plan : FontSet → BiosData → ℕ → StringCall → List ℕ → Plan ℕ
+typed_plan fonts d page s block =
+    fold (λ i place. type_plan fonts d page place (character_at s block i) (ink_at s block i)) s.count 0 s.place
+
+-- a string is typed on a page, and the cursor moved behind it where that is asked
+unfoldable pub string_plan : FontSet → BiosData → ℕ → StringCall → List ℕ → Plan BiosData
+string_plan fonts d page s block = do
+  place ← typed_plan fonts d page s block
+  if s.moves_cursor then move_cursor_plan d page place else Done d
