@@ -1,25 +1,21 @@
 -- Which service the registers ask for.
 -- From the IBM PS/2 and PC BIOS Interface Technical Reference, "Interrupt 10H - Video": AH has the function.
-use Rattle.std.specs.Prelude.{ℕ, Bool, true, false, ◌%◌, ◌==◌, ◌&&◌, nat_lt, nat_le, if◌then◌else◌, Option, Some, None}
+use Rattle.std.specs.Prelude.{true, false, ◌%◌, ◌==◌, ◌&&◌, nat_lt, nat_le, if◌then◌else◌, Option, Some, None}
 use Rattle.bios_services.specs.declared.regs.Regs.{Regs}
 use Rattle.bios_services.specs.declared.scroll.Scroll.{Scroll}
 use Rattle.bios_services.specs.declared.colours.ColourService.{ColourService}
-use Rattle.bios_services.specs.declared.ink.Ink.{Ink}
 use Rattle.bios_services.specs.declared.call.Call.{Call}
 use Rattle.bios_services.specs.declared.call.Call.TheVariants.{SetMode, InMode}
 use Rattle.bios_services.specs.declared.call.Service.{Service}
 use Rattle.bios_services.specs.declared.call.Service.TheVariants.{SetCursorType, SetCursor, ReadCursor, SelectPage, ScrollUp, ScrollDown, ReadCell, WriteCells, WritePixel, ReadPixel, Teletype, ReadMode, Colours, ReadAdapter, WriteString, ReadDisplay}
 use Rattle.bios_services.specs.Registers.{high, low}
 use Rattle.bios_services.specs.Colours.{colour_service_of}
+use Rattle.bios_services.specs.CellRuns.{cell_run_of}
 use Rattle.bios_services.specs.Strings.{string_of}
 
 -- the window of functions 06 and 07: AL rows, BH the attribute or colour of new rows, CX the upper left corner, DX the lower right one
 abbrev pub scroll_of : Regs → Scroll
 scroll_of r = record { lines = low r.ax; fill = high r.bx; top = high r.cx; left = low r.cx; bottom = high r.dx; right = low r.dx }
-
--- a colour, which text takes as attribute or does not
-abbrev pub ink_of : ℕ → Bool → Ink
-ink_of colour is_attribute = record { colour = colour; is_attribute = is_attribute }
 
 -- a subfunction of function 10, if there is one
 abbrev pub as_colours : Option ColourService → Option Service
@@ -40,8 +36,8 @@ service_of r =
     else if function == 0x06 then Some (ScrollUp (scroll_of r))
     else if function == 0x07 then Some (ScrollDown (scroll_of r))
     else if function == 0x08 then Some (ReadCell bh)
-    else if function == 0x09 then Some (WriteCells bh al (ink_of bl true) r.cx)
-    else if function == 0x0A then Some (WriteCells bh al (ink_of bl false) r.cx)
+    else if function == 0x09 then Some (WriteCells (cell_run_of r true))
+    else if function == 0x0A then Some (WriteCells (cell_run_of r false))
     else if function == 0x0C then Some (WritePixel bh r.cx r.dx al)
     else if function == 0x0D then Some (ReadPixel bh r.cx r.dx)
     else if function == 0x0E then Some (Teletype al bl)

@@ -70,12 +70,17 @@ read_entry_plan entry r = do
   blue ← inp 0x3C9
   Done (record r { cx = 256 * green + blue; dx = with_high r.dx red })
 
--- a byte that is answered in BH, and in BL
-abbrev pub in_bh : Regs → ℕ → Regs
-in_bh r byte = record r { bx = with_high r.bx byte }
+-- 07 and 08: a register of the attribute controller in BH
+unfoldable pub read_register_in_bh : ℕ → ℕ → Regs → Plan Regs
+read_register_in_bh port register r = do
+  value ← read_register_plan port register
+  Done (record r { bx = with_high r.bx value })
 
-abbrev pub in_bl : Regs → ℕ → Regs
-in_bl r byte = record r { bx = with_low r.bx byte }
+-- 19: the mask in BL
+unfoldable pub read_mask_in_bl : Regs → Plan Regs
+read_mask_in_bl r = do
+  mask ← inp 0x3C6
+  Done (record r { bx = with_low r.bx mask })
 
 -- what a subfunction does and answers that is not refused; the CRT controller's index is at this port
 unfoldable pub colours_plan : ColourService → ℕ → Regs → List ℕ → Plan Regs
@@ -83,10 +88,10 @@ colours_plan (SetRegister register value) port r block = set_register_plan port 
 colours_plan (SetOverscan value) port r block = set_register_plan port 0x11 value >> Done r
 colours_plan SetPalette port r block = set_palette_plan port block >> Done r
 colours_plan (SetBlinking blinking) port r block = set_blinking_plan port blinking >> Done r
-colours_plan (ReadRegister register) port r block = read_register_plan port register >>= λ value. Done (in_bh r value)
-colours_plan ReadOverscan port r block = read_register_plan port 0x11 >>= λ value. Done (in_bh r value)
+colours_plan (ReadRegister register) port r block = read_register_in_bh port register r
+colours_plan ReadOverscan port r block = read_register_in_bh port 0x11 r
 colours_plan (SetEntry entry red green blue) port r block = set_entry_plan entry red green blue >> Done r
 colours_plan (SetEntries first count) port r block = set_entries_plan first block >> Done r
 colours_plan (ReadEntry entry) port r block = read_entry_plan entry r
 colours_plan (SetMask mask) port r block = out 0x3C6 mask >> Done r
-colours_plan ReadMask port r block = inp 0x3C6 >>= λ mask. Done (in_bl r mask)
+colours_plan ReadMask port r block = read_mask_in_bl r

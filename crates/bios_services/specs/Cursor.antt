@@ -21,6 +21,10 @@ cell_number d place = d.columns * row_of place + column_of place
 abbrev pub place_of : BiosData → ℕ → ℕ
 place_of d page = slice_index d.cursor_places page
 
+-- the number of the cell at the cursor of a page
+abbrev pub cursor_cell : BiosData → ℕ → ℕ
+cursor_cell d page = cell_number d (place_of d page)
+
 -- two registers of the CRT controller that hold a word, the high byte in the first
 unfoldable pub word_plan : ℕ → ℕ → ℕ → Plan (Unit {0})
 word_plan port i n = do
@@ -48,8 +52,22 @@ with_page d page = record d { page = page; start = d.size * page }
 abbrev pub start_address : BiosData → ℕ → ℕ
 start_address d page = if is_text d.mode then d.size * page / 2 else d.size * page
 
--- the start address of a page, and its cursor
-unfoldable pub page_plan : BiosData → ℕ → Plan (Unit {0})
+-- the cursor of a page goes to a place, and is shown there
+unfoldable pub move_cursor_plan : BiosData → ℕ → ℕ → Plan BiosData
+move_cursor_plan d page place = do
+  cursor_plan (with_place d page place) page
+  Done (with_place d page place)
+
+-- the scan lines from which the cursor is drawn and to which it is, the high and the low byte of its type
+unfoldable pub cursor_type_plan : BiosData → ℕ → Plan BiosData
+cursor_type_plan d cursor_type = do
+  crtc d.crtc_address 0x0A (cursor_type / 256)
+  crtc d.crtc_address 0x0B (cursor_type % 256)
+  Done (record d { cursor_type = cursor_type })
+
+-- a page is shown from its start address on, with its cursor, and is the active one
+unfoldable pub page_plan : BiosData → ℕ → Plan BiosData
 page_plan d page = do
   word_plan d.crtc_address 0x0C (start_address d page)
   cursor_plan (with_page d page) page
+  Done (with_page d page)

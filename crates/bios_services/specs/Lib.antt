@@ -10,6 +10,7 @@ pub mod Bands
 pub mod Scroll
 pub mod Glyphs
 pub mod Drawing
+pub mod CellRuns
 pub mod Reading
 pub mod Teletype
 pub mod Strings

@@ -13,24 +13,23 @@ use Rattle.bios_services.specs.declared.reply.Reply.{Reply}
 use Rattle.bios_services.specs.declared.reply.Table.TheVariants.{Empty}
 use Rattle.bios_services.specs.declared.reply.ServiceError.{ServiceError}
 use Rattle.bios_services.specs.declared.reply.ServiceError.TheVariants.{Refused}
-use Rattle.bios_services.specs.declared.ink.Ink.{Ink}
 use Rattle.bios_services.specs.declared.call.Call.{Call}
 use Rattle.bios_services.specs.declared.call.Call.TheVariants.{SetMode, InMode}
 use Rattle.bios_services.specs.declared.call.Service.{Service}
 use Rattle.bios_services.specs.declared.call.Service.TheVariants.{SetCursorType, SetCursor, ReadCursor, SelectPage, ScrollUp, ScrollDown, ReadCell, WriteCells, WritePixel, ReadPixel, Teletype, ReadMode, Colours, ReadAdapter, WriteString, ReadDisplay}
 use Rattle.bios_services.specs.Plan.{Plan, Done, ◌>>=◌, ◌>>◌}
-use Rattle.bios_services.specs.Cycles.{crtc}
 use Rattle.bios_services.specs.ModeSet.{is_text, mode_set_plan}
-use Rattle.bios_services.specs.Cursor.{cell_number, place_of, with_place, with_page, cursor_plan, page_plan}
+use Rattle.bios_services.specs.Cursor.{place_of, cursor_cell, move_cursor_plan, cursor_type_plan, page_plan}
 use Rattle.bios_services.specs.Cells.{cell_address, read_cell_plan}
-use Rattle.bios_services.specs.Drawing.{cell_band, cell_row, characters_plan}
+use Rattle.bios_services.specs.Drawing.{cell_band, cell_row}
+use Rattle.bios_services.specs.CellRuns.{cell_run_plan}
 use Rattle.bios_services.specs.Reading.{read_character_plan}
 use Rattle.bios_services.specs.Scroll.{scroll_up_plan, scroll_down_plan}
 use Rattle.bios_services.specs.Teletype.{teletype_plan}
 use Rattle.bios_services.specs.Pixels.{write_pixel_plan, read_pixel_plan}
 use Rattle.bios_services.specs.Colours.{colours_plan}
 use Rattle.bios_services.specs.Strings.{string_plan}
-use Rattle.bios_services.specs.Registers.{high, low, with_low}
+use Rattle.bios_services.specs.Registers.{low, with_low}
 use Rattle.bios_services.specs.Calls.{call_of}
 use Rattle.bios_services.specs.Refusals.{page_named, refusal_in_mode, unknown_refusal}
 
@@ -38,45 +37,26 @@ use Rattle.bios_services.specs.Refusals.{page_named, refusal_in_mode, unknown_re
 abbrev pub Outcome : Type 0
 Outcome = Regs × BiosData
 
--- the number of the cell at the cursor of a page
-abbrev pub cursor_cell : BiosData → ℕ → ℕ
-cursor_cell d page = cell_number d (place_of d page)
-
-unfoldable pub set_cursor_type_service : ℕ → BiosData → Regs → Plan Outcome
-set_cursor_type_service cursor_type d r = do
-  crtc d.crtc_address 0x0A (high cursor_type)
-  crtc d.crtc_address 0x0B (low cursor_type)
-  Done (r, record d { cursor_type = cursor_type })
-
-unfoldable pub set_cursor_service : ℕ → ℕ → BiosData → Regs → Plan Outcome
-set_cursor_service page place d r = do
-  cursor_plan (with_place d page place) page
-  Done (r, with_place d page place)
-
-unfoldable pub select_page_service : ℕ → BiosData → Regs → Plan Outcome
-select_page_service page d r = do
-  page_plan d page
-  Done (r, with_page d page)
-
--- a character at n cells from the cursor on
-abbrev pub write_cells_plan : FontSet → ℕ → ℕ → Ink → ℕ → BiosData → Plan (Unit {0})
-write_cells_plan fonts page character ink n d = characters_plan fonts d page (cursor_cell d page) character ink n
-
 -- text has character and attribute at the cursor, as bytes of AX; dots have a character, in AL
-unfoldable pub read_cell_service : FontSet → ℕ → BiosData → Regs → Plan Outcome
+unfoldable pub read_cell_service : FontSet → ℕ → BiosData → Regs → Plan Regs
 read_cell_service fonts page d r =
     let q = cursor_cell d page in
     if is_text d.mode then (do
       ax ← read_cell_plan (cell_address d page q)
-      Done (record r { ax = ax }, d))
+      Done (record r { ax = ax }))
     else (do
       character ← read_character_plan (cell_band d page q) (cell_row d q) fonts
-      Done (record r { ax = with_low r.ax character }, d))
+      Done (record r { ax = with_low r.ax character }))
 
-unfoldable pub read_pixel_service : ℕ → ℕ → ℕ → BiosData → Regs → Plan Outcome
+-- the colour of a dot, in AL
+unfoldable pub read_pixel_service : ℕ → ℕ → ℕ → BiosData → Regs → Plan Regs
 read_pixel_service page x y d r = do
   colour ← read_pixel_plan d page x y
-  Done (record r { ax = with_low r.ax colour }, d)
+  Done (record r { ax = with_low r.ax colour })
+
+-- the cursor's type in CX, and its place on a page in DX
+abbrev pub read_cursor_of : BiosData → ℕ → Regs → Regs
+read_cursor_of d page r = record r { cx = d.cursor_type; dx = place_of d page }
 
 -- the mode and the columns as low and high byte of AX, and the active page as high byte of BX
 abbrev pub read_mode_of : BiosData → Regs → Regs
@@ -92,16 +72,16 @@ read_display_of r = record r { ax = 0x1A1A; bx = 0x0008 }
 
 -- what a service answers, and does, that is not refused
 unfoldable pub plan_of : Service → FontSet → BiosData → Regs → List ℕ → Plan Outcome
-plan_of (SetCursorType cursor_type) fonts d r block = set_cursor_type_service cursor_type d r
-plan_of (SetCursor page place) fonts d r block = set_cursor_service (page_named d page) place d r
-plan_of (ReadCursor page) fonts d r block = Done (record r { cx = d.cursor_type; dx = place_of d (page_named d page) }, d)
-plan_of (SelectPage page) fonts d r block = select_page_service page d r
+plan_of (SetCursorType cursor_type) fonts d r block = cursor_type_plan d cursor_type >>= λ after. Done (r, after)
+plan_of (SetCursor page place) fonts d r block = move_cursor_plan d (page_named d page) place >>= λ after. Done (r, after)
+plan_of (ReadCursor page) fonts d r block = Done (read_cursor_of d (page_named d page) r, d)
+plan_of (SelectPage page) fonts d r block = page_plan d page >>= λ after. Done (r, after)
 plan_of (ScrollUp scroll) fonts d r block = scroll_up_plan d scroll >> Done (r, d)
 plan_of (ScrollDown scroll) fonts d r block = scroll_down_plan d scroll >> Done (r, d)
-plan_of (ReadCell page) fonts d r block = read_cell_service fonts (page_named d page) d r
-plan_of (WriteCells page character ink count) fonts d r block = write_cells_plan fonts (page_named d page) character ink count d >> Done (r, d)
+plan_of (ReadCell page) fonts d r block = read_cell_service fonts (page_named d page) d r >>= λ after. Done (after, d)
+plan_of (WriteCells cells) fonts d r block = cell_run_plan fonts d (page_named d cells.page) cells >> Done (r, d)
 plan_of (WritePixel page x y colour) fonts d r block = write_pixel_plan d (page_named d page) x y colour >> Done (r, d)
-plan_of (ReadPixel page x y) fonts d r block = read_pixel_service (page_named d page) x y d r
+plan_of (ReadPixel page x y) fonts d r block = read_pixel_service (page_named d page) x y d r >>= λ after. Done (after, d)
 plan_of (Teletype character colour) fonts d r block = teletype_plan fonts d character colour >>= λ after. Done (r, after)
 plan_of ReadMode fonts d r block = Done (read_mode_of d r, d)
 plan_of (Colours service) fonts d r block = colours_plan service d.crtc_address r block >>= λ after. Done (after, d)

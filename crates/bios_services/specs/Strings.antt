@@ -8,7 +8,8 @@ use Rattle.bios_services.specs.declared.ink.Ink.{Ink}
 use Rattle.bios_services.specs.declared.strings.StringCall.{StringCall}
 use Rattle.bios_services.specs.Plan.{Plan, Done, ◌>>=◌, fold}
 use Rattle.bios_services.specs.Registers.{high, low}
-use Rattle.bios_services.specs.Teletype.{type_plan, move_cursor_plan}
+use Rattle.bios_services.specs.Cursor.{move_cursor_plan}
+use Rattle.bios_services.specs.Teletype.{type_plan}
 
 -- the string that the registers name: AL 02 and 03 have an attribute behind each character, AL 01 and 03 move the cursor
 abbrev pub string_of : Regs → StringCall

@@ -6,7 +6,7 @@ use Rattle.bios_modes.specs.Fonts.{FontSet}
 use Rattle.bios_services.specs.declared.ink.Ink.{Ink}
 use Rattle.bios_services.specs.Plan.{Plan, Done, ◌>>=◌, ◌>>◌, get}
 use Rattle.bios_services.specs.ModeSet.{is_text}
-use Rattle.bios_services.specs.Cursor.{row_of, column_of, cell_number, place_of, with_place, cursor_plan}
+use Rattle.bios_services.specs.Cursor.{row_of, column_of, cell_number, place_of, move_cursor_plan}
 use Rattle.bios_services.specs.Cells.{cell_address}
 use Rattle.bios_services.specs.Bands.{band_of, up_plan}
 use Rattle.bios_services.specs.Drawing.{character_plan}
@@ -52,12 +52,6 @@ type_plan fonts d page place character ink =
     else if character == 0x0A then feed_plan d page place
     else if character == 0x0D then Done (line_start place)
     else show_plan fonts d page place character ink
-
--- the cursor of a page goes to a place, and is shown there
-unfoldable pub move_cursor_plan : BiosData → ℕ → ℕ → Plan BiosData
-move_cursor_plan d page place = do
-  cursor_plan (with_place d page place) page
-  Done (with_place d page place)
 
 -- a colour for dots; cells of text keep their attributes
 abbrev pub dots_in : ℕ → Ink

@@ -1,9 +1,10 @@
 //! Which service the registers ask for.
 ghost use Rattle.std.specs.Prelude.{◌≡◌};
-ghost use Rattle.bios_services.specs.Calls.{scroll_of as scroll_of_regs, service_of as service_of_regs, call_of};
+ghost use Rattle.bios_services.specs.Colours.{colour_service_of as colour_service_of_regs};
+ghost use Rattle.bios_services.specs.Calls.{scroll_of as scroll_of_regs, as_colours, service_of as service_of_regs, call_of};
 
+use crate::cell_run::CellRun;
 use crate::colours::{ColourService, colour_service_of};
-use crate::ink::Ink;
 use crate::regs::{Regs, high, low};
 use crate::scroll::Scroll;
 use crate::strings::StringCall;
@@ -50,12 +51,7 @@ pub enum Service {
         page: u8,
     },
     /// 09 and 0A: writes a character to some cells from the cursor on; in text 09 writes the attribute too.
-    WriteCells {
-        page: u8,
-        character: u8,
-        ink: Ink,
-        count: u16,
-    },
+    WriteCells(CellRun),
     /// 0C: writes a dot.
     WritePixel {
         page: u8,
@@ -100,67 +96,51 @@ fn scroll_of(regs: Regs) -> Scroll
     }
 }
 
+/// The subfunction of function 10 that the registers ask for, if there is one.
+fn colours_of(regs: Regs) -> Option<Service>
+    ensures { result ≡ as_colours (colour_service_of_regs regs) }
+{
+    match colour_service_of(regs) {
+        Some(service) => Some(Service::Colours(service)),
+        None => None,
+    }
+}
+
 /// Which service that needs a mode the registers ask for, if there is one.
 fn service_of(regs: Regs) -> Option<Service>
     ensures { result ≡ service_of_regs regs }
 {
     let al = low(regs.ax);
     let page = high(regs.bx);
+    let place = regs.dx;
+    let x = regs.cx;
+    let y = regs.dx;
+    let scroll = scroll_of(regs);
     match high(regs.ax) {
         0x01 => Some(Service::SetCursorType {
             cursor_type: regs.cx,
         }),
-        0x02 => Some(Service::SetCursor {
-            page,
-            place: regs.dx,
-        }),
+        0x02 => Some(Service::SetCursor { page, place }),
         0x03 => Some(Service::ReadCursor { page }),
         0x05 => Some(Service::SelectPage { page: al }),
-        0x06 => Some(Service::ScrollUp {
-            scroll: scroll_of(regs),
-        }),
-        0x07 => Some(Service::ScrollDown {
-            scroll: scroll_of(regs),
-        }),
+        0x06 => Some(Service::ScrollUp { scroll }),
+        0x07 => Some(Service::ScrollDown { scroll }),
         0x08 => Some(Service::ReadCell { page }),
-        0x09 => Some(Service::WriteCells {
-            page,
-            character: al,
-            ink: Ink {
-                colour: low(regs.bx),
-                is_attribute: true,
-            },
-            count: regs.cx,
-        }),
-        0x0A => Some(Service::WriteCells {
-            page,
-            character: al,
-            ink: Ink {
-                colour: low(regs.bx),
-                is_attribute: false,
-            },
-            count: regs.cx,
-        }),
+        0x09 => Some(Service::WriteCells(CellRun::of(regs, true))),
+        0x0A => Some(Service::WriteCells(CellRun::of(regs, false))),
         0x0C => Some(Service::WritePixel {
             page,
-            x: regs.cx,
-            y: regs.dx,
+            x,
+            y,
             colour: al,
         }),
-        0x0D => Some(Service::ReadPixel {
-            page,
-            x: regs.cx,
-            y: regs.dx,
-        }),
+        0x0D => Some(Service::ReadPixel { page, x, y }),
         0x0E => Some(Service::Teletype {
             character: al,
             colour: low(regs.bx),
         }),
         0x0F => Some(Service::ReadMode),
-        0x10 => match colour_service_of(regs) {
-            Some(service) => Some(Service::Colours(service)),
-            None => None,
-        },
+        0x10 => colours_of(regs),
         0x12 if low(regs.bx) == 0x10 => Some(Service::ReadAdapter),
         0x13 if al < 4 => Some(Service::WriteString(StringCall::of(regs))),
         0x1A if al == 0x00 => Some(Service::ReadDisplay),

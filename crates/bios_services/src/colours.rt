@@ -1,7 +1,7 @@
 //! Function 10, by its subfunction.
 ghost use Rattle.std.specs.Prelude.{◌≡◌, ◌<◌, None, length};
 ghost use Rattle.bios_services.specs.Plan.{run};
-ghost use Rattle.bios_services.specs.Colours.{colour_service_of as colour_service_of_regs, register_refusal as register_refusal_of, entry_refusal as entry_refusal_of, has_entries as has_entries_of, block_refusal as block_refusal_of, colour_refusal as colour_refusal_of, read_entry_plan, colours_plan};
+ghost use Rattle.bios_services.specs.Colours.{colour_service_of as colour_service_of_regs, register_refusal as register_refusal_of, entry_refusal as entry_refusal_of, has_entries as has_entries_of, block_refusal as block_refusal_of, colour_refusal as colour_refusal_of, read_entry_plan, read_register_in_bh, read_mask_in_bl, colours_plan};
 
 use crate::cycles::{DAC_DATA, DAC_MASK, DAC_READ_INDEX, inp, out};
 use crate::dac::{set_entries, set_entry};
@@ -173,18 +173,35 @@ pub(crate) fn colour_refusal(service: ColourService, len: usize) -> Option<Refus
 
 /// 15: answers red, green and blue of an entry of the DAC.
 #[tactic(auto, using(crate::proofs::RunLemmas::run_bind), unfolding(crate::specs::Colours::read_entry_plan))]
-fn read_entry<B: Bus>(bus: &mut B, entry: u8, regs: Regs) -> Regs
-    ensures { (bus.new, result) ≡ run B.meaning (read_entry_plan entry regs) bus.old }
+fn read_entry<B: Bus>(bus: &mut B, entry: u8, regs: &mut Regs)
+    ensures { (bus.new, regs.new) ≡ run B.meaning (read_entry_plan entry regs.old) bus.old }
 {
     out(bus, DAC_READ_INDEX, entry);
     let red = inp(bus, DAC_DATA);
     let green = inp(bus, DAC_DATA);
     let blue = inp(bus, DAC_DATA);
-    Regs {
-        cx: 256 * green as u16 + blue as u16,
-        dx: with_high(regs.dx, red),
-        ..regs
-    }
+    regs.cx = 256 * green as u16 + blue as u16;
+    regs.dx = with_high(regs.dx, red);
+}
+
+/// 07 and 08: answers a register of the attribute controller.
+#[tactic(auto, using(crate::proofs::RunLemmas::run_bind), unfolding(crate::specs::Colours::read_register_in_bh))]
+fn answer_register<B: Bus>(bus: &mut B, port: u16, register: u8, regs: &mut Regs)
+    requires port { port < 1000 }
+    requires register { register < 32 }
+    ensures { (bus.new, regs.new) ≡ run B.meaning (read_register_in_bh port register regs.old) bus.old }
+{
+    let value = read_register(bus, port, register);
+    regs.bx = with_high(regs.bx, value);
+}
+
+/// 19: answers the DAC's mask.
+#[tactic(auto, using(crate::proofs::RunLemmas::run_bind), unfolding(crate::specs::Colours::read_mask_in_bl))]
+fn answer_mask<B: Bus>(bus: &mut B, regs: &mut Regs)
+    ensures { (bus.new, regs.new) ≡ run B.meaning (read_mask_in_bl regs.old) bus.old }
+{
+    let mask = inp(bus, DAC_MASK);
+    regs.bx = with_low(regs.bx, mask);
 }
 
 /// Does what a subfunction does that is not refused.
@@ -193,68 +210,29 @@ pub(crate) fn perform_colours<B: Bus>(
     bus: &mut B,
     port: u16,
     service: ColourService,
-    regs: Regs,
+    regs: &mut Regs,
     block: &[u8],
-) -> Regs
+)
     requires port { port < 1000 }
     requires allowed { colour_refusal_of service (length block.now) ≡ None }
-    ensures { (bus.new, result) ≡ run B.meaning (colours_plan service port regs block.now) bus.old }
+    ensures { (bus.new, regs.new) ≡ run B.meaning (colours_plan service port regs.old block.now) bus.old }
 {
     match service {
-        ColourService::SetRegister { register, value } => {
-            set_register(bus, port, register, value);
-            regs
-        }
-        ColourService::SetOverscan { value } => {
-            set_register(bus, port, OVERSCAN, value);
-            regs
-        }
-        ColourService::SetPalette => {
-            set_palette(bus, port, block);
-            regs
-        }
-        ColourService::SetBlinking { blinking } => {
-            set_blinking(bus, port, blinking);
-            regs
-        }
-        ColourService::ReadRegister { register } => {
-            let value = read_register(bus, port, register);
-            Regs {
-                bx: with_high(regs.bx, value),
-                ..regs
-            }
-        }
-        ColourService::ReadOverscan => {
-            let value = read_register(bus, port, OVERSCAN);
-            Regs {
-                bx: with_high(regs.bx, value),
-                ..regs
-            }
-        }
+        ColourService::SetRegister { register, value } => set_register(bus, port, register, value),
+        ColourService::SetOverscan { value } => set_register(bus, port, OVERSCAN, value),
+        ColourService::SetPalette => set_palette(bus, port, block),
+        ColourService::SetBlinking { blinking } => set_blinking(bus, port, blinking),
+        ColourService::ReadRegister { register } => answer_register(bus, port, register, regs),
+        ColourService::ReadOverscan => answer_register(bus, port, OVERSCAN, regs),
         ColourService::SetEntry {
             entry,
             red,
             green,
             blue,
-        } => {
-            set_entry(bus, entry as u8, red, green, blue);
-            regs
-        }
-        ColourService::SetEntries { first, .. } => {
-            set_entries(bus, first as u8, block);
-            regs
-        }
+        } => set_entry(bus, entry as u8, red, green, blue),
+        ColourService::SetEntries { first, .. } => set_entries(bus, first as u8, block),
         ColourService::ReadEntry { entry } => read_entry(bus, entry as u8, regs),
-        ColourService::SetMask { mask } => {
-            out(bus, DAC_MASK, mask);
-            regs
-        }
-        ColourService::ReadMask => {
-            let mask = inp(bus, DAC_MASK);
-            Regs {
-                bx: with_low(regs.bx, mask),
-                ..regs
-            }
-        }
+        ColourService::SetMask { mask } => out(bus, DAC_MASK, mask),
+        ColourService::ReadMask => answer_mask(bus, regs),
     }
 }

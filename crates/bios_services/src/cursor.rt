@@ -1,15 +1,20 @@
 //! The cursor and the pages.
-ghost use Rattle.std.specs.Prelude.{◌≡◌, ◌<◌, ◌≤◌, ◌+◌, ◌*◌, ◌/◌, ◌^◌};
+ghost use Rattle.std.specs.Prelude.{◌≡◌, ◌<◌, ◌≤◌, ◌+◌, ◌*◌, ◌/◌};
 ghost use Rattle.bios_services.specs.Plan.{run};
-ghost use Rattle.bios_services.specs.Bounds.{IsSet, pages_of};
-ghost use Rattle.bios_services.specs.Cursor.{cell_number as cell_number_of, word_plan, cursor_address as cursor_address_of, cursor_plan, start_address as start_address_of, with_page, page_plan};
+ghost use Rattle.bios_services.specs.Bounds.{IsSet, StaysInMode, pages_of};
+ghost use Rattle.bios_services.specs.Cursor.{cell_number as cell_number_of, cursor_cell as cursor_cell_of, word_plan, cursor_address as cursor_address_of, cursor_plan, move_cursor_plan, cursor_type_plan, page_plan};
 
 use crate::cycles::indexed;
 use crate::mode_set::is_text;
 use bios_modes::Bda;
 use vga_card::Bus;
 
-/// The CRT controller's registers of the start address and of the cursor's address, each the first of two.
+/// The CRT controller's registers of the cursor's first and last scan line.
+const CURSOR_START: u8 = 0x0A;
+
+const CURSOR_END: u8 = 0x0B;
+
+/// Its registers of the start address and of the cursor's address, each the first of two.
 const START_ADDRESS: u8 = 0x0C;
 
 const CURSOR_ADDRESS: u8 = 0x0E;
@@ -21,6 +26,16 @@ pub(crate) fn cell_number(bda: &Bda, place: u16) -> u32
     ensures small { result ≤ 20655 }
 {
     bda.columns() as u32 * (place / 256) as u32 + (place % 256) as u32
+}
+
+/// The number of the cell at the cursor of a page.
+pub(crate) fn cursor_cell(bda: &Bda, page: u8) -> u32
+    requires data { IsSet bda.now }
+    requires page { page < pages_of bda.now }
+    ensures value { result ≡ cursor_cell_of bda.now page }
+    ensures small { result ≤ 20655 }
+{
+    cell_number(bda, bda.cursor_place(page as usize))
 }
 
 /// Writes a word to two registers of the CRT controller, the high byte to the first.
@@ -62,13 +77,38 @@ pub(crate) fn show_cursor<B: Bus>(bus: &mut B, bda: &Bda, page: u8)
     }
 }
 
+/// Moves the cursor of a page to a place, and shows it there.
+#[tactic(auto, using(crate::proofs::RunLemmas::run_bind), unfolding(crate::specs::Cursor::move_cursor_plan))]
+pub(crate) fn move_cursor<B: Bus>(bus: &mut B, bda: &mut Bda, page: u8, place: u16)
+    requires data { IsSet bda.old }
+    requires page { page < pages_of bda.old }
+    ensures answer { (bus.new, bda.new) ≡ run B.meaning (move_cursor_plan bda.old page place) bus.old }
+    ensures stays { StaysInMode bda.old bda.new }
+{
+    bda.set_cursor_place(page as usize, place);
+    show_cursor(bus, bda, page);
+}
+
+/// Sets the cursor's first and last scan line.
+#[tactic(auto, using(crate::proofs::RunLemmas::run_bind), unfolding(crate::specs::Cursor::cursor_type_plan))]
+pub(crate) fn set_cursor_type<B: Bus>(bus: &mut B, bda: &mut Bda, cursor_type: u16)
+    requires { IsSet bda.old }
+    ensures answer { (bus.new, bda.new) ≡ run B.meaning (cursor_type_plan bda.old cursor_type) bus.old }
+    ensures stays { StaysInMode bda.old bda.new }
+{
+    let port = bda.crtc_address();
+    indexed(bus, port, CURSOR_START, (cursor_type / 256) as u8);
+    indexed(bus, port, CURSOR_END, (cursor_type % 256) as u8);
+    bda.set_cursor_type(cursor_type);
+}
+
 /// Shows a page, with its cursor, and makes it the active one.
 #[tactic(auto, using(crate::proofs::RunLemmas::run_bind), unfolding(crate::specs::Cursor::page_plan))]
 pub(crate) fn show_page<B: Bus>(bus: &mut B, bda: &mut Bda, page: u8)
     requires data { IsSet bda.old }
     requires page { page < pages_of bda.old }
-    ensures cycles { bus.new ≡ (run B.meaning (page_plan bda.old page) bus.old).0 }
-    ensures data { bda.new ≡ with_page bda.old page }
+    ensures answer { (bus.new, bda.new) ≡ run B.meaning (page_plan bda.old page) bus.old }
+    ensures stays { StaysInMode bda.old bda.new }
 {
     let start = bda.size() as u32 * page as u32;
     let address = if is_text(bda.mode()) {

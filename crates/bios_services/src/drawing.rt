@@ -1,5 +1,5 @@
 //! Characters at cells of a page in any mode.
-ghost use Rattle.std.specs.Prelude.{◌≡◌, ◌<◌, ◌≤◌, ◌+◌, ◌*◌, ◌^◌};
+ghost use Rattle.std.specs.Prelude.{◌≡◌, ◌<◌, ◌≤◌, ◌+◌};
 ghost use Rattle.bios_services.specs.Plan.{run};
 ghost use Rattle.bios_services.specs.Bounds.{IsSet, pages_of};
 ghost use Rattle.bios_services.specs.Bands.{IsBand};

@@ -1,21 +1,19 @@
 //! Interrupt 10: which service is asked for, whether it is refused, and what it does.
-ghost use Rattle.std.specs.Prelude.{◌≡◌, ◌≢◌, ◌<◌, ◌≤◌, ◌^◌, None, Ok, length};
+ghost use Rattle.std.specs.Prelude.{◌≡◌, ◌≢◌, ◌<◌, None, Ok, length};
 ghost use Rattle.bios_modes.specs.Valid.{IsValid};
 ghost use Rattle.bios_services.specs.Plan.{run};
 ghost use Rattle.bios_services.specs.Calls.{call_of};
 ghost use Rattle.bios_services.specs.Bounds.{IsSet, StaysInMode, pages_of};
-ghost use Rattle.bios_services.specs.Cursor.{place_of};
 ghost use Rattle.bios_services.specs.Refusals.{refusal_in_mode as refusal_in_mode_of};
 ghost use Rattle.bios_modes.specs.Modes.{mode_row as mode_row_of};
 ghost use Rattle.bios_services.specs.declared.reply.Table.TheVariants.{Empty};
-ghost use Rattle.bios_services.specs.Service.{cursor_cell as cursor_cell_of, set_mode_plan, in_mode_plan, read_mode_of, read_adapter_of, read_display_of, set_cursor_type_service, set_cursor_service, select_page_service, read_cell_service, read_pixel_service, plan_of, asked, service, served};
+ghost use Rattle.bios_services.specs.Service.{set_mode_plan, in_mode_plan, read_cursor_of, read_mode_of, read_adapter_of, read_display_of, read_cell_service, read_pixel_service, plan_of, asked, service, served};
 
 use crate::call::{Call, Service, decode};
 use crate::cells::{cell_address, read_cell};
 use crate::colours::perform_colours;
-use crate::cursor::{cell_number, show_cursor, show_page};
-use crate::cycles::indexed;
-use crate::drawing::{cell_band, write_characters};
+use crate::cursor::{cursor_cell, move_cursor, set_cursor_type, show_page};
+use crate::drawing::cell_band;
 use crate::mode_set;
 use crate::mode_set::is_text;
 use crate::pixels::{read_pixel, write_pixel};
@@ -28,141 +26,66 @@ use bios_modes::{Bda, Fonts, mode_row};
 use vga_bits::Refusal;
 use vga_card::Bus;
 
-/// The CRT controller's registers of the cursor's first and last scan line.
-const CURSOR_START: u8 = 0x0A;
-
-const CURSOR_END: u8 = 0x0B;
-
-/// Sets the cursor's first and last scan line.
-#[tactic(auto, using(crate::proofs::RunLemmas::run_bind), unfolding(crate::specs::Service::set_cursor_type_service))]
-fn set_cursor_type<B: Bus>(bus: &mut B, bda: &mut Bda, cursor_type: u16, regs: Regs) -> Regs
-    requires { IsSet bda.old }
-    ensures answer { (bus.new, (result, bda.new)) ≡ run B.meaning (set_cursor_type_service cursor_type bda.old regs) bus.old }
-    ensures stays { StaysInMode bda.old bda.new }
-{
-    let port = bda.crtc_address();
-    indexed(bus, port, CURSOR_START, (cursor_type / 256) as u8);
-    indexed(bus, port, CURSOR_END, (cursor_type % 256) as u8);
-    bda.set_cursor_type(cursor_type);
-    regs
-}
-
-/// Sets the cursor's place on a page.
-#[tactic(auto, using(crate::proofs::RunLemmas::run_bind), unfolding(crate::specs::Service::set_cursor_service))]
-fn set_cursor<B: Bus>(bus: &mut B, bda: &mut Bda, page: u8, place: u16, regs: Regs) -> Regs
-    requires data { IsSet bda.old }
-    requires page { page < pages_of bda.old }
-    ensures answer { (bus.new, (result, bda.new)) ≡ run B.meaning (set_cursor_service page place bda.old regs) bus.old }
-    ensures stays { StaysInMode bda.old bda.new }
-{
-    bda.set_cursor_place(page as usize, place);
-    show_cursor(bus, bda, page);
-    regs
-}
-
 /// Answers the cursor's type and its place on a page.
-fn read_cursor(bda: &Bda, page: u8, regs: Regs) -> Regs
+fn read_cursor(bda: &Bda, page: u8, regs: &mut Regs)
     requires { page < 8 }
-    ensures { result ≡ record regs { cx = bda.now.cursor_type; dx = place_of bda.now page } }
+    ensures { regs.new ≡ read_cursor_of bda.now page regs.old }
 {
-    Regs {
-        cx: bda.cursor_type(),
-        dx: bda.cursor_place(page as usize),
-        ..regs
-    }
-}
-
-/// Shows a page.
-#[tactic(auto, using(crate::proofs::RunLemmas::run_bind), unfolding(crate::specs::Service::select_page_service))]
-fn select_page<B: Bus>(bus: &mut B, bda: &mut Bda, page: u8, regs: Regs) -> Regs
-    requires data { IsSet bda.old }
-    requires page { page < pages_of bda.old }
-    ensures answer { (bus.new, (result, bda.new)) ≡ run B.meaning (select_page_service page bda.old regs) bus.old }
-    ensures stays { StaysInMode bda.old bda.new }
-{
-    show_page(bus, bda, page);
-    regs
-}
-
-/// The number of the cell at the cursor of a page.
-fn cursor_cell(bda: &Bda, page: u8) -> u32
-    requires data { IsSet bda.now }
-    requires page { page < pages_of bda.now }
-    ensures value { result ≡ cursor_cell_of bda.now page }
-    ensures small { result ≤ 20655 }
-{
-    cell_number(bda, bda.cursor_place(page as usize))
+    regs.cx = bda.cursor_type();
+    regs.dx = bda.cursor_place(page as usize);
 }
 
 /// Answers the character of the cell at the cursor of a page, and in text its attribute.
 #[tactic(auto, using(crate::proofs::RunLemmas::run_bind), unfolding(crate::specs::Service::read_cell_service))]
-fn read_cursor_cell<B: Bus>(bus: &mut B, fonts: &Fonts, bda: &Bda, page: u8, regs: Regs) -> Regs
+fn read_cursor_cell<B: Bus>(bus: &mut B, fonts: &Fonts, bda: &Bda, page: u8, regs: &mut Regs)
     requires data { IsSet bda.now }
     requires page { page < pages_of bda.now }
-    ensures { (bus.new, (result, bda.now)) ≡ run B.meaning (read_cell_service fonts.now page bda.now regs) bus.old }
+    ensures { (bus.new, regs.new) ≡ run B.meaning (read_cell_service fonts.now page bda.now regs.old) bus.old }
 {
     let q = cursor_cell(bda, page);
     if is_text(bda.mode()) {
-        return Regs {
-            ax: read_cell(bus, cell_address(bda, page, q)),
-            ..regs
-        };
+        regs.ax = read_cell(bus, cell_address(bda, page, q));
+        return;
     }
     let row = q / bda.columns() as u32;
     let character = read_character(bus, cell_band(bda, page, q), row, fonts);
-    Regs {
-        ax: with_low(regs.ax, character),
-        ..regs
-    }
+    regs.ax = with_low(regs.ax, character);
 }
 
 /// Answers the colour of a dot.
 #[tactic(auto, using(crate::proofs::RunLemmas::run_bind), unfolding(crate::specs::Service::read_pixel_service))]
-fn read_pixel_colour<B: Bus>(bus: &mut B, bda: &Bda, page: u8, x: u16, y: u16, regs: Regs) -> Regs
+fn read_pixel_colour<B: Bus>(bus: &mut B, bda: &Bda, page: u8, x: u16, y: u16, regs: &mut Regs)
     requires data { IsSet bda.now }
     requires page { page < pages_of bda.now }
-    ensures { (bus.new, (result, bda.now)) ≡ run B.meaning (read_pixel_service page x y bda.now regs) bus.old }
+    ensures { (bus.new, regs.new) ≡ run B.meaning (read_pixel_service page x y bda.now regs.old) bus.old }
 {
     let colour = read_pixel(bus, bda, page, x, y);
-    Regs {
-        ax: with_low(regs.ax, colour),
-        ..regs
-    }
+    regs.ax = with_low(regs.ax, colour);
 }
 
 /// Answers the mode, the columns and the active page.
-fn read_mode(bda: &Bda, regs: Regs) -> Regs
+fn read_mode(bda: &Bda, regs: &mut Regs)
     requires { IsSet bda.now }
-    ensures { result ≡ read_mode_of bda.now regs }
+    ensures { regs.new ≡ read_mode_of bda.now regs.old }
 {
-    Regs {
-        ax: bda.mode() as u16 + 256 * bda.columns(),
-        bx: regs.bx % 256 + 256 * bda.page() as u16,
-        ..regs
-    }
+    regs.ax = bda.mode() as u16 + 256 * bda.columns();
+    regs.bx = regs.bx % 256 + 256 * bda.page() as u16;
 }
 
 /// Answers what adapter there is.
-fn read_adapter(bda: &Bda, regs: Regs) -> Regs
-    ensures { result ≡ read_adapter_of bda.now regs }
+fn read_adapter(bda: &Bda, regs: &mut Regs)
+    ensures { regs.new ≡ read_adapter_of bda.now regs.old }
 {
-    let bx = if bda.mode() == 0x07 { 0x0103 } else { 0x0003 };
-    Regs {
-        bx,
-        cx: 0x0009,
-        ..regs
-    }
+    regs.bx = if bda.mode() == 0x07 { 0x0103 } else { 0x0003 };
+    regs.cx = 0x0009;
 }
 
 /// Answers what display there is.
-fn read_display(regs: Regs) -> Regs
-    ensures { result ≡ read_display_of regs }
+fn read_display(regs: &mut Regs)
+    ensures { regs.new ≡ read_display_of regs.old }
 {
-    Regs {
-        ax: 0x1A1A,
-        bx: 0x0008,
-        ..regs
-    }
+    regs.ax = 0x1A1A;
+    regs.bx = 0x0008;
 }
 
 /// Does what a service does that is not refused.
@@ -172,55 +95,35 @@ fn perform<B: Bus>(
     bda: &mut Bda,
     fonts: &Fonts,
     service: Service,
-    regs: Regs,
+    regs: &mut Regs,
     block: &[u8],
-) -> Regs
+)
     requires allowed { refusal_in_mode_of service bda.old (length block.now) ≡ None }
     requires data { IsSet bda.old }
-    ensures answer { (bus.new, (result, bda.new)) ≡ run B.meaning (plan_of service fonts.now bda.old regs block.now) bus.old }
+    ensures answer { (bus.new, (regs.new, bda.new)) ≡ run B.meaning (plan_of service fonts.now bda.old regs.old block.now) bus.old }
     ensures stays { StaysInMode bda.old bda.new }
 {
     match service {
-        Service::SetCursorType { cursor_type } => set_cursor_type(bus, bda, cursor_type, regs),
+        Service::SetCursorType { cursor_type } => set_cursor_type(bus, bda, cursor_type),
         Service::SetCursor { page, place } => {
             let page = page_named(bda, page);
-            set_cursor(bus, bda, page, place, regs)
+            move_cursor(bus, bda, page, place);
         }
         Service::ReadCursor { page } => read_cursor(bda, page_named(bda, page), regs),
-        Service::SelectPage { page } => select_page(bus, bda, page, regs),
-        Service::ScrollUp { scroll } => {
-            scroll.up(bus, bda);
-            regs
-        }
-        Service::ScrollDown { scroll } => {
-            scroll.down(bus, bda);
-            regs
-        }
+        Service::SelectPage { page } => show_page(bus, bda, page),
+        Service::ScrollUp { scroll } => scroll.up(bus, bda),
+        Service::ScrollDown { scroll } => scroll.down(bus, bda),
         Service::ReadCell { page } => {
             read_cursor_cell(bus, fonts, bda, page_named(bda, page), regs)
-        },
-        Service::WriteCells {
-            page,
-            character,
-            ink,
-            count,
-        } => {
-            let page = page_named(bda, page);
-            let q = cursor_cell(bda, page);
-            write_characters(bus, fonts, bda, page, q, character, ink, count as u32);
-            regs
         }
+        Service::WriteCells(cells) => cells.write(bus, fonts, bda, page_named(bda, cells.page)),
         Service::WritePixel { page, x, y, colour } => {
-            write_pixel(bus, bda, page_named(bda, page), x, y, colour);
-            regs
+            write_pixel(bus, bda, page_named(bda, page), x, y, colour)
         }
         Service::ReadPixel { page, x, y } => {
             read_pixel_colour(bus, bda, page_named(bda, page), x, y, regs)
         }
-        Service::Teletype { character, colour } => {
-            teletype(bus, fonts, bda, character, colour);
-            regs
-        }
+        Service::Teletype { character, colour } => { teletype(bus, fonts, bda, character, colour) }
         Service::ReadMode => read_mode(bda, regs),
         Service::Colours(service) => {
             perform_colours(bus, bda.crtc_address(), service, regs, block)
@@ -229,7 +132,6 @@ fn perform<B: Bus>(
         Service::WriteString(string) => {
             let page = page_named(bda, string.page);
             string.write(bus, fonts, bda, page, block);
-            regs
         }
         Service::ReadDisplay => read_display(regs),
     }
@@ -251,7 +153,9 @@ fn perform_allowed<B: Bus>(
     ensures answer { (bus.new, (result, bda.new)) ≡ run B.meaning (plan_of service fonts.now bda.old regs block.now) bus.old }
     ensures valid { IsValid bda.new }
 {
-    perform(bus, bda, fonts, service, regs, block)
+    let mut answer = regs;
+    perform(bus, bda, fonts, service, &mut answer, block);
+    answer
 }
 
 /// The answer of registers alone.

@@ -3,6 +3,7 @@
 
 mod band;
 mod call;
+mod cell_run;
 mod cells;
 mod colours;
 mod cursor;

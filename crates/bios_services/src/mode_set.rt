@@ -1,6 +1,6 @@
 //! Setting a mode: every register, the palette, the font of a text mode, and the memory.
-ghost use Rattle.std.specs.Prelude.{◌≡◌, ◌<◌, ◌≤◌, ◌+◌, ◌*◌, ◌^◌, IsTrue, false, if◌then◌else◌};
-ghost use Rattle.bios_modes.specs.Palette.{is_mode, dac_entry as entry_of};
+ghost use Rattle.std.specs.Prelude.{◌≡◌, ◌<◌, ◌≤◌, ◌+◌, ◌*◌, ◌^◌, IsTrue, if◌then◌else◌};
+ghost use Rattle.bios_modes.specs.Palette.{is_mode};
 ghost use Rattle.bios_services.specs.Plan.{run};
 ghost use Rattle.bios_services.specs.ModeSet.{is_text as is_text_mode, registers_plan, colour_plan, palette_plan, glyph_plan, glyphs_plan, font_plan, blank_byte as blank_byte_of, blank_plan, clear_plan, text_plan, memory_plan, mode_set_plan};
 

@@ -1,5 +1,5 @@
 //! Functions 0C and 0D: writing and reading one dot.
-ghost use Rattle.std.specs.Prelude.{◌≡◌, ◌<◌, ◌≤◌, ◌+◌, ◌-◌, ◌*◌, ◌%◌, ◌^◌};
+ghost use Rattle.std.specs.Prelude.{◌≡◌, ◌<◌, ◌≤◌, ◌+◌, ◌-◌, ◌*◌, ◌%◌};
 ghost use Rattle.std.specs.Int.{bit_at};
 ghost use Rattle.bios_services.specs.Plan.{run};
 ghost use Rattle.bios_services.specs.Bounds.{IsSet, pages_of};

@@ -1,5 +1,5 @@
 //! The character that stands at a cell of dots.
-ghost use Rattle.std.specs.Prelude.{◌≡◌, ◌<◌, ◌≤◌, ◌+◌, ◌^◌, length};
+ghost use Rattle.std.specs.Prelude.{◌≡◌, ◌<◌, ◌+◌, ◌^◌, length};
 ghost use Rattle.bios_services.specs.Plan.{run};
 ghost use Rattle.bios_services.specs.Bands.{IsBand};
 ghost use Rattle.bios_services.specs.Reading.{shift_dot as shift_dot_plan, packed_line as packed_line_plan, line_plan, lines_plan, read_character_plan};

@@ -1,7 +1,6 @@
 //! Why a service is refused.
 ghost use Rattle.std.specs.Prelude.{◌≡◌};
 ghost use Rattle.bios_services.specs.Bounds.{IsSet, pages_of};
-ghost use Rattle.bios_services.specs.Cursor.{place_of};
 ghost use Rattle.bios_services.specs.Refusals.{page_named as page_named_of, page_refusal as page_refusal_of, cursor_refusal as cursor_refusal_of, count_refusal as count_refusal_of, pixel_refusal as pixel_refusal_of, string_refusal as string_refusal_of, is_inside as is_inside_of, place_refusal as place_refusal_of, refusal_in_mode as refusal_in_mode_of, unknown_refusal as unknown_refusal_of};
 
 use crate::call::Service;
@@ -134,8 +133,8 @@ pub(crate) fn refusal_in_mode(service: Service, bda: &Bda, len: usize) -> Option
         }
         Service::SelectPage { page } => page_refusal(bda, page),
         Service::ReadCell { page } => cursor_refusal(bda, page_named(bda, page)),
-        Service::WriteCells { page, count, .. } => {
-            count_refusal(bda, page_named(bda, page), count)
+        Service::WriteCells(cells) => {
+            count_refusal(bda, page_named(bda, cells.page), cells.count)
         }
         Service::WritePixel { page, x, y, .. } | Service::ReadPixel { page, x, y } => {
             pixel_refusal(bda, page_named(bda, page), x, y)

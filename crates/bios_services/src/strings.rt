@@ -5,9 +5,10 @@ ghost use Rattle.bios_services.specs.Bounds.{IsSet, StaysInMode, pages_of};
 ghost use Rattle.bios_services.specs.Cursor.{row_of};
 ghost use Rattle.bios_services.specs.Strings.{string_of as string_of_regs, string_len, character_at, ink_at, typed_plan, string_plan};
 
+use crate::cursor::move_cursor;
 use crate::ink::Ink;
 use crate::regs::{Regs, high, low};
-use crate::teletype::{move_cursor, type_character};
+use crate::teletype::type_character;
 use bios_modes::{Bda, Fonts};
 use vga_card::Bus;
 

@@ -1,13 +1,13 @@
 //! Writing characters one after another, with the cursor going on.
-ghost use Rattle.std.specs.Prelude.{◌≡◌, ◌<◌, ◌≤◌, ◌+◌, ◌*◌, ◌^◌};
+ghost use Rattle.std.specs.Prelude.{◌≡◌, ◌<◌, ◌≤◌, ◌+◌, ◌*◌};
 ghost use Rattle.bios_services.specs.Plan.{run};
 ghost use Rattle.bios_services.specs.Bounds.{IsSet, StaysInMode, pages_of};
-ghost use Rattle.bios_services.specs.Cursor.{row_of, column_of, place_of};
-ghost use Rattle.bios_services.specs.Teletype.{fill_of_feed as fill_of_feed_plan, feed_plan, advance_plan, show_plan, type_plan, move_cursor_plan, teletype_plan};
+ghost use Rattle.bios_services.specs.Cursor.{row_of, place_of};
+ghost use Rattle.bios_services.specs.Teletype.{fill_of_feed as fill_of_feed_plan, feed_plan, advance_plan, show_plan, type_plan, teletype_plan};
 
 use crate::band::Band;
 use crate::cells::cell_address;
-use crate::cursor::{cell_number, show_cursor};
+use crate::cursor::{cell_number, move_cursor};
 use crate::cycles::get;
 use crate::drawing::write_character;
 use crate::ink::Ink;
@@ -119,18 +119,6 @@ pub(crate) fn type_character<B: Bus>(
         CARRIAGE_RETURN => place / 256 * 256,
         _ => show(bus, fonts, bda, page, place, character, ink),
     }
-}
-
-/// Moves the cursor of a page to a place, and shows it there.
-#[tactic(auto, using(crate::proofs::RunLemmas::run_bind), unfolding(crate::specs::Teletype::move_cursor_plan))]
-pub(crate) fn move_cursor<B: Bus>(bus: &mut B, bda: &mut Bda, page: u8, place: u16)
-    requires data { IsSet bda.old }
-    requires page { page < pages_of bda.old }
-    ensures answer { (bus.new, bda.new) ≡ run B.meaning (move_cursor_plan bda.old page place) bus.old }
-    ensures stays { StaysInMode bda.old bda.new }
-{
-    bda.set_cursor_place(page as usize, place);
-    show_cursor(bus, bda, page);
 }
 
 /// Types a character at the cursor of the active page, which then stands behind it.

@@ -1,0 +1,49 @@
+//! Functions 09 and 0A: writing a character to some cells.
+ghost use Rattle.std.specs.Prelude.{◌≡◌, ◌<◌};
+ghost use Rattle.bios_services.specs.Plan.{run};
+ghost use Rattle.bios_services.specs.Bounds.{IsSet, pages_of};
+ghost use Rattle.bios_services.specs.CellRuns.{cell_run_of, cell_run_plan};
+
+use crate::cursor::cursor_cell;
+use crate::drawing::write_characters;
+use crate::ink::Ink;
+use crate::regs::{Regs, high, low};
+use bios_modes::{Bda, Fonts};
+use vga_card::Bus;
+
+/// Some cells that get one character, from the cursor of a page on.
+#[derive(Clone, Copy)]
+pub struct CellRun {
+    pub page: u8,
+    pub character: u8,
+    pub ink: Ink,
+    pub count: u16,
+}
+
+impl CellRun {
+    /// The cells that the registers name, which in text take an attribute or keep their own.
+    pub(crate) fn of(regs: Regs, is_attribute: bool) -> CellRun
+        ensures { result ≡ cell_run_of regs is_attribute }
+    {
+        CellRun {
+            page: high(regs.bx),
+            character: low(regs.ax),
+            ink: Ink {
+                colour: low(regs.bx),
+                is_attribute,
+            },
+            count: regs.cx,
+        }
+    }
+
+    /// Writes the character to the cells, on a page.
+    pub(crate) fn write<B: Bus>(self, bus: &mut B, fonts: &Fonts, bda: &Bda, page: u8)
+        requires data { IsSet bda.now }
+        requires page { page < pages_of bda.now }
+        ensures { bus.new ≡ (run B.meaning (cell_run_plan fonts.now bda.now page self) bus.old).0 }
+    {
+        let q = cursor_cell(bda, page);
+        let n = self.count as u32;
+        write_characters(bus, fonts, bda, page, q, self.character, self.ink, n);
+    }
+}
