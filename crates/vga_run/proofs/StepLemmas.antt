@@ -39,6 +39,12 @@ abbrev pub RefusedServicesDoNothing : Type 0
 RefusedServicesDoNothing = (fonts : FontSet) (d : BiosData) (r : Regs) (block : List ℕ) (c : CardState) (e : Refusal)
     → (run card_meaning (service fonts d r block) c).1.0 ≡ Err e → run card_meaning (service fonts d r block) c ≡ (c, (Err e, d))
 
+-- a call of the registers and the block that are handed in
+pub called_with : (m : Machine) (r : Regs) (given block : List ℕ) → given ≡ block
+    → run card_meaning (service m.fonts m.bda r given) m.card ≡ called m r.ax r.bx r.cx r.dx block
+unfolding called
+called_with m r given block same = ap (λ b. run card_meaning (service m.fonts m.bda r b) m.card) same
+
 -- a machine whose adapter is as before is as before
 abbrev with_card : Machine → CardState → Machine
 with_card m c = record m { card = c }
