@@ -6,7 +6,7 @@ ghost use Rattle.bios_services.specs.Bands.{IsBand, address_in, band_of, copy_li
 
 use crate::cells::page_address;
 use crate::cycles::{graphics, move_byte, put, sequencer};
-use crate::kind::{Kind, column_bytes, kind_of, row_lines};
+use crate::kind::{Kind, by_kind, column_bytes, kind_of, row_lines};
 use crate::paint::Paint;
 use bios_modes::Bda;
 use vga_card::Bus;
@@ -32,10 +32,7 @@ pub struct Band {
 pub(crate) fn set_access<B: Bus>(bus: &mut B, kind: Kind, mode: u8)
     ensures { bus.new ≡ (run B.meaning (access_plan kind mode) bus.old).0 }
 {
-    match kind {
-        Kind::Planar => graphics(bus, 5, mode),
-        Kind::Text | Kind::Packed => {}
-    }
+    by_kind!(kind, {}, graphics(bus, 5, mode), {})
 }
 
 impl Band {
@@ -171,16 +168,17 @@ impl Band {
         requires end { end ≤ 400 }
         ensures { bus.new ≡ (run B.meaning (fill_plan self.kind self colour top (end - top)) bus.old).0 }
     {
-        match self.kind {
-            Kind::Text => self.paint_rows(bus, Paint::blank(colour), top, end),
-            Kind::Planar => {
+        by_kind!(
+            self.kind,
+            self.paint_rows(bus, Paint::blank(colour), top, end),
+            {
                 self.paint_rows(bus, Paint::plain(0x00), top, end);
                 sequencer(bus, 2, colour % 16);
                 self.paint_rows(bus, Paint::plain(0xFF), top, end);
                 sequencer(bus, 2, 0x0F);
-            }
-            Kind::Packed => self.paint_rows(bus, Paint::plain(colour), top, end),
-        }
+            },
+            self.paint_rows(bus, Paint::plain(colour), top, end),
+        )
     }
 
     /// Scrolls rows up by n: so many of the last are filled then.

@@ -10,7 +10,7 @@ use crate::cells::{cell_address, write_cell};
 use crate::cycles::{get, graphics, put, sequencer};
 use crate::glyphs::glyph_line;
 use crate::ink::Ink;
-use crate::kind::{Kind, kind_of};
+use crate::kind::{by_kind, kind_of};
 use crate::paint::Paint;
 use bios_modes::{Bda, Fonts};
 use vga_bits::is_set;
@@ -153,29 +153,13 @@ pub(crate) fn write_character<B: Bus>(
     ensures { bus.new ≡ (run B.meaning (character_plan fonts.now bda.now page q character ink) bus.old).0 }
 {
     let row = q / bda.columns() as u32;
-    match kind_of(bda.mode()) {
-        Kind::Text => write_cell(bus, cell_address(bda, page, q), character, ink),
-        Kind::Planar => {
-            draw_planar(
-                bus,
-                cell_band(bda, page, q),
-                row,
-                fonts,
-                character,
-                ink.colour,
-            )
-        }
-        Kind::Packed => {
-            draw_packed(
-                bus,
-                cell_band(bda, page, q),
-                row,
-                fonts,
-                character,
-                ink.colour,
-            )
-        }
-    }
+    let colour = ink.colour;
+    by_kind!(
+        kind_of(bda.mode()),
+        write_cell(bus, cell_address(bda, page, q), character, ink),
+        draw_planar(bus, cell_band(bda, page, q), row, fonts, character, colour),
+        draw_packed(bus, cell_band(bda, page, q), row, fonts, character, colour),
+    )
 }
 
 /// Writes a character to n cells of a page from cell q on.

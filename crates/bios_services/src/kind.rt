@@ -24,16 +24,25 @@ pub(crate) fn kind_of(mode: u8) -> Kind
     }
 }
 
+/// What stands for text, for 16 colours and for 256 colours, by the kind.
+macro_rules! by_kind {
+    ($kind:expr, $text:expr, $planar:expr, $packed:expr $(,)?) => {
+        match $kind {
+            $crate::kind::Kind::Text => $text,
+            $crate::kind::Kind::Planar => $planar,
+            $crate::kind::Kind::Packed => $packed,
+        }
+    };
+}
+
+pub(crate) use by_kind;
+
 /// How many bytes of a line a column of characters takes.
 pub(crate) fn column_bytes(kind: Kind) -> u32
     ensures value { result ≡ column_bytes_of kind }
     ensures few { result ≤ 8 }
 {
-    match kind {
-        Kind::Text => 2,
-        Kind::Planar => 1,
-        Kind::Packed => 8,
-    }
+    by_kind!(kind, 2, 1, 8)
 }
 
 /// How many lines of the memory a row of characters takes, each of so many dots in height.
@@ -42,8 +51,5 @@ pub(crate) fn row_lines(kind: Kind, height: u16) -> u32
     ensures value { result ≡ row_lines_of kind height }
     ensures few { result ≤ 16 }
 {
-    match kind {
-        Kind::Text => 1,
-        Kind::Planar | Kind::Packed => height as u32,
-    }
+    by_kind!(kind, 1, height as u32, height as u32)
 }

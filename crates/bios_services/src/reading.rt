@@ -7,7 +7,7 @@ ghost use Rattle.bios_services.specs.Reading.{shift_dot as shift_dot_plan, packe
 use crate::band::{Band, set_access};
 use crate::cycles::get;
 use crate::glyphs::first_character;
-use crate::kind::Kind;
+use crate::kind::{Kind, by_kind};
 use bios_modes::Fonts;
 use vga_card::Bus;
 
@@ -45,11 +45,7 @@ fn read_line<B: Bus>(bus: &mut B, kind: Kind, address: u32) -> u8
     requires { address < 2 ^ 31 }
     ensures { (bus.new, result) ≡ run B.meaning (line_plan kind address) bus.old }
 {
-    match kind {
-        Kind::Text => 0,
-        Kind::Planar => 255 - get(bus, address),
-        Kind::Packed => packed_line(bus, address),
-    }
+    by_kind!(kind, 0, 255 - get(bus, address), packed_line(bus, address))
 }
 
 /// Reads the lines of a cell.
