@@ -18,6 +18,7 @@ pub mod Pixels
 pub mod Palette
 pub mod Dac
 pub mod Colours
+pub mod Tables
 pub mod Calls
 pub mod Refusals
 pub mod Service

@@ -1,7 +1,8 @@
 -- A service whole: its cycles, the registers that it answers, and the BIOS data afterwards.
 -- From the IBM PS/2 and PC BIOS Interface Technical Reference, "Interrupt 10H - Video".
-use Rattle.std.specs.Prelude.{ℕ, ◌+◌, ◌*◌, ◌==◌, if◌then◌else◌, Bool, Option, Some, None, List, length, Result, Ok, Err}
+use Rattle.std.specs.Prelude.{ℕ, ◌≡◌, ◌+◌, ◌*◌, ◌==◌, ◌&&◌, nat_lt, if◌then◌else◌, Bool, false, Option, Some, None, List, length, Result, Ok, Err}
 use Rattle.vga_bits.specs.declared.refusal.Refusal.{Refusal}
+use Rattle.vga_card.specs.Bus.{Meaning}
 use Rattle.bios_modes.specs.declared.modes.ModeRow.{ModeRow}
 use Rattle.bios_modes.specs.Modes.{mode_row}
 use Rattle.bios_modes.specs.Bda.{BiosData}
@@ -10,14 +11,16 @@ use Rattle.bios_modes.specs.Fonts.{FontSet}
 use Rattle.vga_bits.specs.declared.refusal.Refusal.TheVariants.{NoMode, BadMode}
 use Rattle.bios_services.specs.declared.regs.Regs.{Regs}
 use Rattle.bios_services.specs.declared.reply.Reply.{Reply}
+use Rattle.bios_services.specs.declared.reply.Table.{Table}
 use Rattle.bios_services.specs.declared.reply.Table.TheVariants.{Empty}
 use Rattle.bios_services.specs.declared.reply.ServiceError.{ServiceError}
-use Rattle.bios_services.specs.declared.reply.ServiceError.TheVariants.{Refused}
+use Rattle.bios_services.specs.declared.reply.ServiceError.TheVariants.{Refused, OutOfMemory}
+use Rattle.bios_services.specs.declared.tables.TableService.{TableService}
 use Rattle.bios_services.specs.declared.call.Call.{Call}
-use Rattle.bios_services.specs.declared.call.Call.TheVariants.{SetMode, InMode}
+use Rattle.bios_services.specs.declared.call.Call.TheVariants.{SetMode, ReadTable, InMode}
 use Rattle.bios_services.specs.declared.call.Service.{Service}
 use Rattle.bios_services.specs.declared.call.Service.TheVariants.{SetCursorType, SetCursor, ReadCursor, SelectPage, ScrollUp, ScrollDown, ReadCell, WriteCells, WritePixel, ReadPixel, Teletype, ReadMode, Colours, ReadAdapter, WriteString, ReadDisplay}
-use Rattle.bios_services.specs.Plan.{Plan, Done, ◌>>=◌, ◌>>◌}
+use Rattle.bios_services.specs.Plan.{Plan, Done, ◌>>=◌, ◌>>◌, run}
 use Rattle.bios_services.specs.ModeSet.{is_text, mode_set_plan}
 use Rattle.bios_services.specs.Cursor.{place_of, cursor_cell, move_cursor_plan, cursor_type_plan, page_plan}
 use Rattle.bios_services.specs.Cells.{cell_address, read_cell_plan}
@@ -28,6 +31,7 @@ use Rattle.bios_services.specs.Scroll.{scroll_up_plan, scroll_down_plan}
 use Rattle.bios_services.specs.Teletype.{teletype_plan}
 use Rattle.bios_services.specs.Pixels.{write_pixel_plan, read_pixel_plan}
 use Rattle.bios_services.specs.Colours.{colours_plan}
+use Rattle.bios_services.specs.Tables.{table_refusal, table_plan, table_takes_memory}
 use Rattle.bios_services.specs.Strings.{string_plan}
 use Rattle.bios_services.specs.Registers.{low, with_low}
 use Rattle.bios_services.specs.Calls.{call_of}
@@ -97,9 +101,12 @@ Answered = Result Reply Refusal × BiosData
 abbrev pub refused : Refusal → BiosData → Plan Answered
 refused why d = Done (Err why, d)
 
--- registers alone
+-- registers, with a table or alone
+abbrev pub answered_with : Table → Regs → BiosData → Answered
+answered_with table r d = (Ok (record { regs = r; table = table }), d)
+
 abbrev pub answered : Regs → BiosData → Answered
-answered r d = (Ok (record { regs = r; table = Empty }), d)
+answered r d = answered_with Empty r d
 
 -- setting a mode, where there is one of this number
 unfoldable pub set_mode_plan : Option ModeRow → ℕ → Bool → FontSet → BiosData → Regs → Plan Answered
@@ -119,10 +126,22 @@ unless None service fonts d r block = do
 unfoldable pub in_mode_plan : Service → FontSet → BiosData → Regs → List ℕ → Plan Answered
 in_mode_plan service fonts d r block = if d.mode == 0 then refused NoMode d else unless (refusal_in_mode service d (length block)) service fonts d r block
 
+-- a table in a mode, or why it is refused
+unfoldable pub table_unless : Option Refusal → TableService → BiosData → Regs → Plan Answered
+table_unless (Some why) service d r = refused why d
+table_unless None service d r = do
+  table ← table_plan service d.crtc_address
+  Done (answered_with table r d)
+
+-- a table, which needs a mode
+unfoldable pub table_in_mode_plan : TableService → BiosData → Regs → Plan Answered
+table_in_mode_plan service d r = if d.mode == 0 then refused NoMode d else table_unless (table_refusal service) service d r
+
 -- what a call asks for
 abbrev pub asked : Option Call → FontSet → BiosData → Regs → List ℕ → Plan Answered
 asked None fonts d r block = refused (unknown_refusal d) d
 asked (Some (SetMode mode keeps)) fonts d r block = set_mode_plan (mode_row mode) mode keeps fonts d r
+asked (Some (ReadTable service)) fonts d r block = table_in_mode_plan service d r
 asked (Some (InMode service)) fonts d r block = in_mode_plan service fonts d r block
 
 -- the service that the registers ask for; one that takes no block does not look at it
@@ -133,3 +152,15 @@ service fonts d r block = asked (call_of r) fonts d r block
 abbrev pub served : Result Reply Refusal → Result Reply ServiceError
 served (Ok reply) = Ok reply
 served (Err why) = Err (Refused why)
+
+-- whether a call takes memory, which it does before its first cycle: one for a table that takes some, in any mode
+abbrev pub takes_memory : Option Call → BiosData → Bool
+takes_memory (Some (ReadTable service)) d = nat_lt 0 d.mode && table_takes_memory service
+takes_memory _ d = false
+
+-- What a call answers and leaves that asks for this plan, where the bus was s and is t, and the BIOS data were d and are `after`:
+-- what the plan does; or there was no memory, and nothing has changed.
+abbrev pub Serves : {S : Type 0} → Meaning S → Plan Answered → S → BiosData → Result Reply ServiceError → S → BiosData → Type 0
+Serves m plan s d (Ok reply) t after = (t, (Ok reply, after)) ≡ run m plan s
+Serves m plan s d (Err (Refused why)) t after = (t, (Err why, after)) ≡ run m plan s
+Serves m plan s d (Err OutOfMemory) t after = (t ≡ s) × (after ≡ d)

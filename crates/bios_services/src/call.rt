@@ -8,12 +8,15 @@ use crate::colours::{ColourService, colour_service_of};
 use crate::regs::{Regs, high, low};
 use crate::scroll::Scroll;
 use crate::strings::StringCall;
+use crate::tables::{TableService, table_service_of};
 
 /// What a call asks for.
 #[derive(Clone, Copy)]
 pub enum Call {
     /// 00: sets a mode, and keeps the memory where bit 7 of AL is 1. It needs no mode to be set before.
     SetMode { mode: u8, keeps: bool },
+    /// 10 with AL = 09 or 17: answers a table.
+    ReadTable(TableService),
     /// Any other service.
     InMode(Service),
 }
@@ -158,6 +161,9 @@ pub(crate) fn decode(regs: Regs) -> Option<Call>
             mode: al % 128,
             keeps: al >= 128,
         });
+    }
+    if let Some(service) = table_service_of(regs) {
+        return Some(Call::ReadTable(service));
     }
     match service_of(regs) {
         Some(service) => Some(Call::InMode(service)),

@@ -1,5 +1,5 @@
 //! Interrupt 10: which service is asked for, whether it is refused, and what it does.
-ghost use Rattle.std.specs.Prelude.{◌≡◌, ◌≢◌, ◌<◌, None, Ok, length};
+ghost use Rattle.std.specs.Prelude.{◌≡◌, ◌≢◌, ◌<◌, true, None, Some, Ok, Err, length};
 ghost use Rattle.bios_modes.specs.Valid.{IsValid};
 ghost use Rattle.bios_services.specs.Plan.{run};
 ghost use Rattle.bios_services.specs.Calls.{call_of};
@@ -7,7 +7,9 @@ ghost use Rattle.bios_services.specs.Bounds.{IsSet, StaysInMode, pages_of};
 ghost use Rattle.bios_services.specs.Refusals.{refusal_in_mode as refusal_in_mode_of};
 ghost use Rattle.bios_modes.specs.Modes.{mode_row as mode_row_of};
 ghost use Rattle.bios_services.specs.declared.reply.Table.TheVariants.{Empty};
-ghost use Rattle.bios_services.specs.Service.{set_mode_plan, in_mode_plan, read_cursor_of, read_mode_of, read_adapter_of, read_display_of, read_cell_service, read_pixel_service, plan_of, asked, service, served};
+ghost use Rattle.bios_services.specs.declared.reply.ServiceError.TheVariants.{OutOfMemory};
+ghost use Rattle.bios_services.specs.declared.call.Call.TheVariants.{ReadTable};
+ghost use Rattle.bios_services.specs.Service.{set_mode_plan, in_mode_plan, read_cursor_of, read_mode_of, read_adapter_of, read_display_of, read_cell_service, read_pixel_service, plan_of, table_in_mode_plan, service, served as served_of, takes_memory, Serves};
 
 use crate::call::{Call, Service, decode};
 use crate::cells::{cell_address, read_cell};
@@ -21,8 +23,10 @@ use crate::reading::read_character;
 use crate::refusals::{page_named, refusal_in_mode, unknown_refusal};
 use crate::regs::{Regs, with_low};
 use crate::reply::{Reply, ServiceError, Table};
+use crate::tables::{TableService, read_table, table_refusal};
 use crate::teletype::teletype;
 use bios_modes::{Bda, Fonts, mode_row};
+use std::alloc::Global;
 use vga_bits::Refusal;
 use vga_card::Bus;
 
@@ -213,22 +217,38 @@ fn in_mode<B: Bus>(
     answered(perform_allowed(bus, bda, fonts, service, regs, block))
 }
 
-/// Does what a call asks for, unless it is refused.
-fn do_call<B: Bus>(
+/// Answers a table, unless that is refused.
+#[tactic(auto, using(crate::proofs::RunLemmas::run_bind, crate::proofs::BoundLemmas::set_of_valid), unfolding(crate::specs::Service::table_in_mode_plan, crate::specs::Service::table_unless))]
+fn table_in_mode<B: Bus>(
+    alloc: Global,
     bus: &mut B,
-    bda: &mut Bda,
-    fonts: &Fonts,
+    bda: &Bda,
+    service: TableService,
     regs: Regs,
-    block: &[u8],
-) -> Result<Reply, Refusal>
-    requires { IsValid bda.old }
-    ensures answer { (bus.new, (result, bda.new)) ≡ run B.meaning (asked (call_of regs) fonts.now bda.old regs block.now) bus.old }
-    ensures valid { IsValid bda.new }
+) -> Result<Reply, ServiceError>
+    requires { IsValid bda.now }
+    ensures answer { Serves B.meaning (table_in_mode_plan service bda.now regs) bus.old bda.now result bus.new bda.now }
+    ensures memory { result ≡ Err OutOfMemory → takes_memory (Some (ReadTable service)) bda.now ≡ true }
 {
-    match decode(regs) {
-        None => Err(unknown_refusal(bda)),
-        Some(Call::SetMode { mode, keeps }) => set_mode(bus, bda, fonts, mode, keeps, regs),
-        Some(Call::InMode(service)) => in_mode(bus, bda, fonts, service, regs, block),
+    if bda.mode() == 0 {
+        return Err(ServiceError::Refused(Refusal::NoMode));
+    }
+    if let Some(why) = table_refusal(service) {
+        return Err(ServiceError::Refused(why));
+    }
+    match read_table(alloc, bus, bda.crtc_address(), service) {
+        Ok(table) => Ok(Reply { regs, table }),
+        Err(_) => Err(ServiceError::OutOfMemory),
+    }
+}
+
+/// An answer, or a refusal as one of the reasons why there is none.
+fn served(outcome: Result<Reply, Refusal>) -> Result<Reply, ServiceError>
+    ensures { result ≡ served_of outcome }
+{
+    match outcome {
+        Ok(reply) => Ok(reply),
+        Err(refusal) => Err(ServiceError::Refused(refusal)),
     }
 }
 
@@ -238,7 +258,11 @@ fn do_call<B: Bus>(
 /// then has no cycle and leaves the BIOS data: `NoMode` before a mode is set, `BadFunction`, `BadMode`,
 /// `WrongKind`, `BadPage`, `Outside`, `CountPast`, `BadRegister` or `BadBlock`; of several the first is answered. Within a service a cycle that the
 /// bus refuses does nothing, or gives FF (hexadecimal). The BIOS data must be valid, and are so afterwards.
+///
+/// Function 10 with AL = 17 alone, which answers entries of the DAC as a table, takes memory, before its first
+/// cycle. Where that is refused, the answer is `OutOfMemory`, and nothing has changed.
 pub fn int10<B: Bus>(
+    alloc: Global,
     bus: &mut B,
     bda: &mut Bda,
     fonts: &Fonts,
@@ -246,15 +270,15 @@ pub fn int10<B: Bus>(
     block: &[u8],
 ) -> Result<Reply, ServiceError>
     requires { IsValid bda.old }
-    // The cycles of the service, in order.
-    ensures cycles { bus.new ≡ (run B.meaning (service fonts.now bda.old regs block.now) bus.old).0 }
-    // Its answer, and the BIOS data afterwards.
-    ensures answer { result ≡ served (run B.meaning (service fonts.now bda.old regs block.now) bus.old).1.0 }
-    ensures data { bda.new ≡ (run B.meaning (service fonts.now bda.old regs block.now) bus.old).1.1 }
+    // The cycles of the service in order, its answer, and the BIOS data afterwards; or no memory, and nothing.
+    ensures answer { Serves B.meaning (service fonts.now bda.old regs block.now) bus.old bda.old result bus.new bda.new }
+    ensures memory { result ≡ Err OutOfMemory → takes_memory (call_of regs) bda.old ≡ true }
     ensures valid { IsValid bda.new }
 {
-    match do_call(bus, bda, fonts, regs, block) {
-        Ok(reply) => Ok(reply),
-        Err(refusal) => Err(ServiceError::Refused(refusal)),
+    match decode(regs) {
+        None => Err(ServiceError::Refused(unknown_refusal(bda))),
+        Some(Call::SetMode { mode, keeps }) => served(set_mode(bus, bda, fonts, mode, keeps, regs)),
+        Some(Call::ReadTable(service)) => table_in_mode(alloc, bus, bda, service, regs),
+        Some(Call::InMode(service)) => served(in_mode(bus, bda, fonts, service, regs, block)),
     }
 }

@@ -25,6 +25,7 @@ mod regs;
 mod reply;
 mod scroll;
 mod strings;
+mod tables;
 mod teletype;
 
 pub use interrupt::int10;

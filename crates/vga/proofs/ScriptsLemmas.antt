@@ -11,8 +11,9 @@ use Rattle.vga_script.specs.Printing.{printed}
 use Rattle.vga_script.specs.Script.{IsScript, IsTextFault}
 use Rattle.vga_script.specs.Spelling.{Spells, encoding}
 use Rattle.vga_script.specs.Text.{SpellsText}
-use Rattle.vga_run.specs.Run.{RunsScript}
-use Rattle.vga.specs.Scripts.{Assembles, FindsScript, Prints, RunsText}
+use Rattle.bios_modes.specs.Fonts.{FontSet}
+use Rattle.vga_run.specs.Run.{RunsScript, StopsSteps}
+use Rattle.vga.specs.Scripts.{Assembles, FindsScript, Prints, RunsText, StopsText}
 
 -- ---- a text
 
@@ -61,6 +62,11 @@ script_is_run until file input before after steps (Err WriteFault) found (size, 
 script_is_run until file input before after steps (Err FontSize) found h = (h, (steps, found))
 script_is_run until file input before after steps (Err OutOfMemory) found h = tt
 script_is_run until file input before after steps (Err _) found h = absurd h.1
+
+-- and where its run stops
+pub script_stops : (until : Option ℕ) (fonts : FontSet) (input before after : Option (List ℕ)) (steps : List Step) → FindsScript input (Ok steps)
+    → StopsSteps until fonts steps before after → StopsText until fonts input before after
+script_stops until fonts input before after steps found stops = (steps, found, stops)
 
 -- ---- a script in bytes
 

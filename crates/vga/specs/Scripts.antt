@@ -12,7 +12,8 @@ use Rattle.vga_script.specs.Script.{SpellsTooMany}
 use Rattle.vga_script.specs.Spelling.{encoding}
 use Rattle.vga_script.specs.Text.{IsBadLine}
 use Rattle.vga_run.specs.Report.{report_of, steps_until}
-use Rattle.bios_modes.specs.Fonts.{file_len, fonts_of}
+use Rattle.vga_run.specs.Run.{StopsSteps}
+use Rattle.bios_modes.specs.Fonts.{FontSet, file_len, fonts_of}
 
 -- Why a text is not assembled: it or its steps have too many bytes, or this is its first bad line; or the reader failed, or
 -- memory ran out.
@@ -51,3 +52,7 @@ RunsText until file input before after (Ok done) = (length file ≡ file_len) ×
 RunsText until file input before after (Err WriteFault) = (length file ≡ file_len) × ((steps : List Step) × InputSpellsText input steps × AppendsFront before after (report_of (fonts_of file) (steps_until until steps)))
 RunsText until file input before after (Err FontSize) = (length file ≢ file_len) × ((steps : List Step) × InputSpellsText input steps)
 RunsText until file input before after (Err fault) = IsAssemblingFault input fault
+
+-- where memory runs out in the run of the script that a text spells
+abbrev pub StopsText : Option ℕ → FontSet → Option (List ℕ) → Option (List ℕ) → Option (List ℕ) → Type 0
+StopsText until fonts input before after = (steps : List Step) × InputSpellsText input steps × StopsSteps until fonts steps before after

@@ -1,10 +1,11 @@
 //! What the commands do, over readers and writers.
-ghost use Rattle.std.specs.Prelude.{◌≡◌, ◌≢◌, ◌≤◌, ◌+◌, false, IfErr};
-ghost use Rattle.vga_bits.specs.declared.fault.Fault.TheVariants.{WriteFault};
+ghost use Rattle.std.specs.Prelude.{◌≡◌, ◌≢◌, ◌⊎◌, ◌≤◌, ◌+◌, false, IfErr, Err};
+ghost use Rattle.vga_bits.specs.declared.fault.Fault.TheVariants.{WriteFault, OutOfMemory};
 ghost use Rattle.vga_bits.specs.Tracked.{inner_of, has_failed, is_write_fault, taken_of};
 ghost use Rattle.vga_bits.specs.Reading.{TakesAtMost, is_read_fault};
+ghost use Rattle.bios_modes.specs.Fonts.{fonts_of};
 ghost use Rattle.vga_script.specs.Spelling.{script_limit};
-ghost use Rattle.vga.specs.Scripts.{Assembles, FindsScript, Prints, RunsText};
+ghost use Rattle.vga.specs.Scripts.{Assembles, FindsScript, Prints, RunsText, StopsText};
 
 use super::writing::write_all;
 use std::alloc::Global;
@@ -85,7 +86,7 @@ pub fn print_script<R: Read, W: Write>(
 ///
 /// `ReadFault` where the reader fails, `TooLong` and `BadLine` as `assemble` says, and `OutOfMemory`; then
 /// the faults of `vga_run::run_script`.
-#[tactic(auto, using(crate::proofs::ScriptsLemmas::not_run, crate::proofs::ScriptsLemmas::no_write_fault, crate::proofs::ScriptsLemmas::script_is_run))]
+#[tactic(auto, using(crate::proofs::ScriptsLemmas::not_run, crate::proofs::ScriptsLemmas::no_write_fault, crate::proofs::ScriptsLemmas::script_is_run, crate::proofs::ScriptsLemmas::script_stops))]
 pub fn run_text<R: Read, W: Write>(
     alloc: Global,
     text: &mut Tracked<R>,
@@ -102,7 +103,9 @@ pub fn run_text<R: Read, W: Write>(
     ensures taken { TakesAtMost (script_limit + 1) (R.remaining (inner_of text.old))
         (R.remaining (inner_of text.new)) }
     ensures counted { taken_of text.new ≤ taken_of text.old + (script_limit + 1) }
-    ensures unwritten { IfErr result (λ e. e ≢ WriteFault → out.new ≡ out.old) }
+    ensures unwritten { IfErr result (λ e. e ≢ WriteFault → e ≢ OutOfMemory → out.new ≡ out.old) }
+    ensures stopped { result ≡ Err OutOfMemory → (out.new ≡ out.old) ⊎ StopsText until (fonts_of fonts.now) (R.remaining (inner_of text.old))
+        (W.contents (inner_of out.old)) (W.contents (inner_of out.new)) }
 {
     let script = script_of_text(alloc, text)?;
     vga_run::run_script(alloc, &script, fonts, out, until)

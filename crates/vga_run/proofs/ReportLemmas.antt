@@ -1,6 +1,7 @@
 -- Writing a report, line by line.
-use Rattle.std.proofs.Common.{◌≡◌, ℕ, zero, suc, ◌+◌, ◌<◌, ◌≤◌, Bool, false, List, [], ◌∷◌, ◌++◌, length, get_or, take, drop, Option, Result, arith, refl, sym, ap, ◌∙◌, subst, append_assoc, append-nil, add-one, drop-cons, codes}
-use Rattle.std.proofs.lemmas.List.{drop_all}
+use Rattle.std.proofs.Common.{◌≡◌, inl, inr, ℕ, zero, suc, ◌+◌, ◌<◌, ◌≤◌, Bool, false, List, [], ◌∷◌, ◌++◌, length, get_or, take, drop, Option, Result, Ok, Err, arith, refl, sym, ap, ◌∙◌, subst, append_assoc, append-nil, add-one, drop-cons, take-append-drop, codes}
+use Rattle.std.proofs.Math.Seq.{take-suc}
+use Rattle.std.proofs.lemmas.List.{take_all, length-take-le}
 use Rattle.std.specs.Io.KnownBytes.{Appends}
 use Rattle.std.proofs.KnownBytes.{Appends-nil, Appends-trans}
 use Rattle.vga_bits.specs.Tracked.{AppendsFront, Writes}
@@ -8,14 +9,26 @@ use Rattle.vga_bits.specs.declared.fault.Fault.{Fault}
 use Rattle.vga_bits.specs.Refusal.{refusal_name}
 use Rattle.vga_bits.specs.declared.refusal.Refusal.{Refusal}
 use Rattle.vga_bits.specs.declared.refusal.Refusal.TheVariants.{NotDecoded, NotInProfile, NoMode, BadFunction, BadMode, WrongKind, BadPage, Outside, CountPast, BadRegister, BadBlock, TooFar}
+use Rattle.bios_services.specs.declared.reply.Reply.{Reply as ServiceReply}
 use Rattle.vga_script.specs.declared.step.Step.{Step}
+use Rattle.vga_script.specs.declared.step.Step.TheVariants.{Int}
 use Rattle.vga_script.specs.Step.{IsInRange, AreInRange}
 use Rattle.vga_run.specs.declared.machine.Machine.{Machine}
 use Rattle.bios_modes.specs.Valid.{IsValid}
-use Rattle.vga_run.specs.Step.{answer_to, after_step, after_steps}
+use Rattle.vga_run.specs.Step.{TakesMemory, answer_to, after_step, after_steps, called}
+use Rattle.vga_run.specs.Run.{WritesStep, StopsIn, WritesReport}
 use Rattle.vga_show.specs.Ppm.{ppm}
-use Rattle.vga_bits.proofs.WritingLemmas.{writes_after, front_of_more}
-use Rattle.vga_run.specs.Answer.{Picture}
+use Rattle.vga_bits.proofs.WritingLemmas.{writes_after, writes_more, front_of_more}
+use Rattle.vga_card.specs.Card.{CardState}
+use Rattle.vga_card.specs.Bus.{card_meaning}
+use Rattle.bios_modes.specs.Bda.{BiosData}
+use Rattle.bios_services.specs.declared.reply.ServiceError.{ServiceError}
+use Rattle.bios_services.specs.declared.reply.ServiceError.TheVariants as service
+use Rattle.bios_services.specs.Tables.{table_bytes}
+use Rattle.bios_services.specs.Service.{Answered, Serves}
+use Rattle.bios_services.specs.Service.{service as asked_service}
+use Rattle.vga_run.specs.declared.answer.Answer.TheVariants.{Refused}
+use Rattle.vga_run.specs.Answer.{Plain, Served, Picture, of_service}
 use Rattle.vga_run.specs.Report.{picture_line, line, report_from}
 
 -- no refusal has a name of more than 15 bytes
@@ -33,76 +46,40 @@ name_is_short BadRegister = omega arith
 name_is_short BadBlock = omega arith
 name_is_short TooFar = omega arith
 
--- The lines of the first i steps are written, of which the first has this number.
-pub record Reported (old new : Option (List ℕ)) (failed : Bool) (start machine : Machine) (first : ℕ) (steps : List Step) (i : ℕ) : Type 0 where
-  pub done : List ℕ
-  pub whole : report_from start first steps ≡ done ++ report_from machine (first + i) (drop i steps)
-  pub state : after_steps start steps ≡ after_steps machine (drop i steps)
-  pub appended : Appends old new done
-  pub sound : failed ≡ false
-  pub valid : IsValid machine.bda
+-- what a call that writes the line of a step answers is what taking the step does
+pub step_is_written : (before after : Option (List ℕ)) (failed : Bool) (result : Result Unit Fault) (machine : Machine) (n : ℕ) (step : Step)
+    → Writes before after failed result (line n (answer_to machine step)) → WritesStep before after failed result machine n step
+step_is_written before after failed (Ok u) machine n step w = w
+step_is_written before after failed (Err e) machine n step w = inl w
 
--- the steps from step i on are this one and the others
-steps_from : (steps : List Step) (i : ℕ) (d step : Step) → i < length steps → step ≡ get_or steps i d → drop i steps ≡ step ∷ drop (i + 1) steps
-steps_from steps i d step within is = rw (add-one, drop-cons steps i d, is) refl
+-- what interrupt 10 answers and leaves
+abbrev pub Answers : Machine → ℕ → ℕ → ℕ → ℕ → List ℕ → Result ServiceReply ServiceError → CardState → BiosData → Type 0
+Answers m ax bx cx dx block result next bios = Serves card_meaning (asked_service m.fonts m.bda (record { ax = ax; bx = bx; cx = cx; dx = dx }) block) m.card m.bda result next bios
 
--- so the whole report is the lines so far, this one, and the rest
-report_goes_on : (start machine next : Machine) (first : ℕ) (steps : List Step) (i : ℕ) (step : Step) (done : List ℕ)
-    → drop i steps ≡ step ∷ drop (i + 1) steps → next ≡ after_step machine step
-    → report_from start first steps ≡ done ++ report_from machine (first + i) (drop i steps)
-    → report_from start first steps ≡ (done ++ line (first + i) (answer_to machine step)) ++ report_from next (first + (i + 1)) (drop (i + 1) steps)
-report_goes_on start machine next first steps i step done front en whole =
-    let here = line (first + i) (answer_to machine step) in
-    let rest = report_from next (first + (i + 1)) (drop (i + 1) steps) in
-    let next_number : first + i + 1 ≡ first + (i + 1) = omega arith in
-    let one : report_from machine (first + i) (drop i steps) ≡ here ++ rest =
-    ap (report_from machine (first + i)) front ∙ ap (λ (n : ℕ). here ++ report_from (after_step machine step) n (drop (i + 1) steps)) next_number
-    ∙ ap (λ (c : Machine). here ++ report_from c (first + (i + 1)) (drop (i + 1) steps)) (sym en) in
-    whole ∙ ap (λ (l : List ℕ). done ++ l) one ∙ sym (append_assoc done here rest)
+-- and so is what one answers that writes the line of a service
+pub reply_is_written : (before after : Option (List ℕ)) (failed : Bool) (result : Result Unit Fault) (machine : Machine) (n ax bx cx dx : ℕ) (block : List ℕ) (next : CardState) (bios : BiosData) (reply : ServiceReply)
+    → (next, (Ok reply, bios)) ≡ called machine ax bx cx dx block → Writes before after failed result (line n (Served reply.regs (table_bytes reply.table)))
+    → WritesStep before after failed result machine n (Int ax bx cx dx block)
+unfolding answer_to
+reply_is_written before after failed result machine n ax bx cx dx block next bios reply is w =
+    step_is_written before after failed result machine n (Int ax bx cx dx block) (subst (λ (c : CardState × Answered). Writes before after failed result (line n (of_service c.1.0))) is w)
 
--- no line yet
-pub reported_none : (old : Option (List ℕ)) (failed : Bool) (start : Machine) (first : ℕ) (steps : List Step) → failed ≡ false → IsValid start.bda → Reported old old failed start start first steps 0
-reported_none old failed start first steps e v =
-    let same : first ≡ first + 0 = omega arith in
-    record { done = []; whole = ap (λ (n : ℕ). report_from start n steps) same; state = refl; appended = Appends-nil old; sound = e; valid = v }
+pub refusal_is_written : (before after : Option (List ℕ)) (failed : Bool) (result : Result Unit Fault) (machine : Machine) (n ax bx cx dx : ℕ) (block : List ℕ) (next : CardState) (bios : BiosData) (error : ServiceError) (why : Refusal)
+    → error ≡ service.Refused why → Answers machine ax bx cx dx block (Err error) next bios → Writes before after failed result (line n (Plain (Refused why)))
+    → WritesStep before after failed result machine n (Int ax bx cx dx block)
+unfolding answer_to called
+refusal_is_written before after failed result machine n ax bx cx dx block next bios (service.Refused other) why e is w =
+    let same : other ≡ why = cc in
+    step_is_written before after failed result machine n (Int ax bx cx dx block)
+    (subst (λ (c : CardState × Answered). Writes before after failed result (line n (of_service c.1.0))) is (subst (λ (r : Refusal). Writes before after failed result (line n (Plain (Refused r)))) (sym same) w))
+refusal_is_written before after failed result machine n ax bx cx dx block next bios service.OutOfMemory why e is w = absurd (cc)
 
--- one more line
-pub reported_more : (old mid new : Option (List ℕ)) (was failed : Bool) (start machine next : Machine) (first : ℕ) (steps : List Step) (i : ℕ) (d step : Step)
-    → Reported old mid was start machine first steps i → i < length steps → step ≡ get_or steps i d → next ≡ after_step machine step
-    → Appends mid new (line (first + i) (answer_to machine step)) → failed ≡ false → IsValid next.bda → Reported old new failed start next first steps (i + 1)
-reported_more old mid new was failed start machine next first steps i d step h within is en a e v =
-    let front = steps_from steps i d step within is in
-    let here = line (first + i) (answer_to machine step) in
-    record {
-      done = h.done ++ here;
-      whole = report_goes_on start machine next first steps i step h.done front en h.whole;
-      state = h.state ∙ ap (after_steps machine) front ∙ ap (λ (c : Machine). after_steps c (drop (i + 1) steps)) (sym en);
-      appended = Appends-trans old mid new h.done here h.appended a;
-      sound = e;
-      valid = v;
-    }
+-- ---- some steps and others
 
--- a front of one more line
-pub reported_front : (old mid new : Option (List ℕ)) (was : Bool) (start machine next : Machine) (first : ℕ) (steps : List Step) (i : ℕ) (d step : Step)
-    → Reported old mid was start machine first steps i → i < length steps → step ≡ get_or steps i d → next ≡ after_step machine step
-    → AppendsFront mid new (line (first + i) (answer_to machine step)) → AppendsFront old new (report_from start first steps)
-reported_front old mid new was start machine next first steps i d step h within is en (front, back, parts, a) =
-    let rest = report_from next (first + (i + 1)) (drop (i + 1) steps) in
-    let whole = report_goes_on start machine next first steps i step h.done (steps_from steps i d step within is) en h.whole in (
-      h.done ++ front,
-      back ++ rest,
-      whole ∙ ap (λ (l : List ℕ). (h.done ++ l) ++ rest) parts ∙ simp append_assoc,
-      Appends-trans old mid new h.done front h.appended a,
-    )
-
--- the lines of all steps
-pub reported_all : (old new : Option (List ℕ)) (failed : Bool) (start machine : Machine) (first : ℕ) (steps : List Step) (i : ℕ)
-    → Reported old new failed start machine first steps i → length steps ≤ i → Appends old new (report_from start first steps) × (machine ≡ after_steps start steps)
-reported_all old new failed start machine first steps i h past =
-    let none : drop i steps ≡ [] = drop_all i steps past in (
-      subst (Appends old new) (sym (h.whole ∙ ap (λ (l : List Step). h.done ++ report_from machine (first + i) l) none ∙ append-nil h.done)) h.appended,
-      sym (h.state ∙ ap (after_steps machine) none),
-    )
+-- some steps and others lead where the others do from where the first lead
+state_joined : (machine : Machine) (steps others : List Step) → after_steps machine (steps ++ others) ≡ after_steps (after_steps machine steps) others
+state_joined machine [] others = refl
+state_joined machine (step ∷ steps) others = state_joined (after_step machine step) steps others
 
 -- the report of some steps and others is that of the first, and that of the others from where they lead
 report_joined : (machine : Machine) (n : ℕ) (steps others : List Step) → report_from machine n (steps ++ others) ≡ report_from machine n steps ++ report_from (after_steps machine steps) (n + length steps) others
@@ -115,20 +92,154 @@ report_joined machine n (step ∷ steps) others =
     ∙ sym (append_assoc here (report_from later (n + 1) steps) (report_from (after_steps later steps) (n + 1 + length steps) others))
     ∙ ap (λ (k : ℕ). (here ++ report_from later (n + 1) steps) ++ report_from (after_steps later steps) k others) same
 
--- behind the lines of some steps a call writes those of others
-pub writes_others : {U : Type 0} (old mid new : Option (List ℕ)) (failed : Bool) (result : Result U Fault) (machine next : Machine) (n k : ℕ) (steps others : List Step)
-    → next ≡ after_steps machine steps → k ≡ n + length steps → Appends old mid (report_from machine n steps) → Writes mid new failed result (report_from next k others)
-    → Writes old new failed result (report_from machine n (steps ++ others))
-writes_others {U} old mid new failed result machine next n k steps others state number a w =
-    let lines = report_from machine n steps in
-    let rest = report_from (after_steps machine steps) (n + length steps) others in
-    let behind = subst (λ (j : ℕ). Writes mid new failed result (report_from (after_steps machine steps) j others)) number (subst (λ (c : Machine). Writes mid new failed result (report_from c k others)) state w) in
-    subst (Writes old new failed result) (sym (report_joined machine n steps others)) (writes_after old mid new failed result lines rest a behind)
-
 -- a front of the lines of some steps is one of those of more
-pub front_of_steps : (old new : Option (List ℕ)) (machine : Machine) (n : ℕ) (steps others : List Step) → AppendsFront old new (report_from machine n steps) → AppendsFront old new (report_from machine n (steps ++ others))
+front_of_steps : (old new : Option (List ℕ)) (machine : Machine) (n : ℕ) (steps others : List Step) → AppendsFront old new (report_from machine n steps) → AppendsFront old new (report_from machine n (steps ++ others))
 front_of_steps old new machine n steps others a =
     subst (AppendsFront old new) (sym (report_joined machine n steps others)) (front_of_more old new (report_from machine n steps) (report_from (after_steps machine steps) (n + length steps) others) a)
+
+-- a front of what is written behind some bytes is, with these, one of both
+pub front_behind : (old mid new : Option (List ℕ)) (first second : List ℕ) → Appends old mid first → AppendsFront mid new second → AppendsFront old new (first ++ second)
+front_behind old mid new first second a (front, back, parts, more) =
+    (first ++ front, back, ap (λ (l : List ℕ). first ++ l) parts ∙ simp append_assoc, Appends-trans old mid new first front a more)
+
+-- memory that runs out among some steps runs out among more
+stops_in_front : (old new : Option (List ℕ)) (machine : Machine) (n : ℕ) (steps others : List Step) → StopsIn machine n steps old new → StopsIn machine n (steps ++ others) old new
+stops_in_front old new machine n steps others (done, step, rest, parts, takes, a) =
+    (done, step, rest ++ others, ap (λ (l : List Step). l ++ others) parts ∙ append_assoc done (step ∷ rest) others, takes, a)
+
+-- and memory that runs out among the others does so behind the first
+stops_behind : (old mid new : Option (List ℕ)) (machine : Machine) (n : ℕ) (steps others : List Step) → Appends old mid (report_from machine n steps)
+    → StopsIn (after_steps machine steps) (n + length steps) others mid new → StopsIn machine n (steps ++ others) old new
+stops_behind old mid new machine n steps others a (done, step, rest, parts, takes, more) =
+    let next = after_steps machine steps in (
+      steps ++ done,
+      step,
+      rest,
+      ap (λ (l : List Step). steps ++ l) parts ∙ sym (append_assoc steps done (step ∷ rest)),
+      subst (λ (m : Machine). TakesMemory m step) (sym (state_joined machine steps done)) takes,
+      subst (Appends old new) (sym (report_joined machine n steps done)) (Appends-trans old mid new (report_from machine n steps) (report_from next (n + length steps) done) a more),
+    )
+
+-- so what ends the first steps early ends them all
+pub err_of_more : (old new : Option (List ℕ)) (failed : Bool) (e : Fault) (machine : Machine) (n : ℕ) (steps others : List Step)
+    → WritesReport old new failed (Err e) machine n steps → WritesReport old new failed (Err e) machine n (steps ++ others)
+err_of_more old new failed e machine n steps others (inl (is, bad, front)) = inl (is, bad, front_of_steps old new machine n steps others front)
+err_of_more old new failed e machine n steps others (inr (is, sound, stops)) = inr (is, sound, stops_in_front old new machine n steps others stops)
+
+-- and the others are taken behind the first
+others_behind : (old mid new : Option (List ℕ)) (failed : Bool) (result : Result Unit Fault) (machine : Machine) (n : ℕ) (steps others : List Step)
+    → Appends old mid (report_from machine n steps) → WritesReport mid new failed result (after_steps machine steps) (n + length steps) others
+    → WritesReport old new failed result machine n (steps ++ others)
+others_behind old mid new failed (Ok u) machine n steps others a (more, sound) =
+    let rest = report_from (after_steps machine steps) (n + length steps) others in
+    (subst (Appends old new) (sym (report_joined machine n steps others)) (Appends-trans old mid new (report_from machine n steps) rest a more), sound)
+others_behind old mid new failed (Err e) machine n steps others a (inl (is, bad, front)) =
+    let rest = report_from (after_steps machine steps) (n + length steps) others in
+    inl (is, bad, subst (AppendsFront old new) (sym (report_joined machine n steps others)) (front_behind old mid new (report_from machine n steps) rest a front))
+others_behind old mid new failed (Err e) machine n steps others a (inr (is, sound, stops)) = inr (is, sound, stops_behind old mid new machine n steps others a stops)
+
+pub writes_others : (old mid new : Option (List ℕ)) (failed : Bool) (result : Result Unit Fault) (machine next : Machine) (n k : ℕ) (steps others : List Step)
+    → next ≡ after_steps machine steps → k ≡ n + length steps → Appends old mid (report_from machine n steps) → WritesReport mid new failed result next k others
+    → WritesReport old new failed result machine n (steps ++ others)
+writes_others old mid new failed result machine next n k steps others state number a w =
+    let from : WritesReport mid new failed result (after_steps machine steps) k others = subst (λ (m : Machine). WritesReport mid new failed result m k others) state w in
+    others_behind old mid new failed result machine n steps others a (subst (λ (j : ℕ). WritesReport mid new failed result (after_steps machine steps) j others) number from)
+
+-- ---- one step after another
+
+-- The first i steps are taken, of which the first has this number, and their lines are written.
+pub record Reported (old new : Option (List ℕ)) (failed : Bool) (start machine : Machine) (first : ℕ) (steps : List Step) (i : ℕ) : Type 0 where
+  pub state : machine ≡ after_steps start (take i steps)
+  pub appended : Appends old new (report_from start first (take i steps))
+  pub sound : failed ≡ false
+  pub valid : IsValid machine.bda
+
+-- the items of a list up to item i, and this one
+pub items_to : {X : Type 0} (items : List X) (i : ℕ) (d item : X) → i < length items → item ≡ get_or items i d → take (i + 1) items ≡ take i items ++ item ∷ []
+items_to items i d item within is = rw (add-one, take-suc items i d, is) refl
+
+-- the steps up to step i, this one, and the others
+steps_around : (steps : List Step) (i : ℕ) (d step : Step) → i < length steps → step ≡ get_or steps i d → steps ≡ take i steps ++ step ∷ drop (i + 1) steps
+steps_around steps i d step within is =
+    let from : drop i steps ≡ step ∷ drop (i + 1) steps = rw (add-one, drop-cons steps i d, is) refl in
+    sym (take-append-drop i steps) ∙ ap (λ (l : List Step). take i steps ++ l) from
+
+-- the line of step i, as the report of this step alone from where those before lead
+line_alone : (start machine : Machine) (first : ℕ) (steps : List Step) (i : ℕ) (step : Step) → i < length steps → machine ≡ after_steps start (take i steps)
+    → line (first + i) (answer_to machine step) ≡ report_from (after_steps start (take i steps)) (first + length (take i steps)) (step ∷ [])
+line_alone start machine first steps i step within state =
+    let count : i ≡ length (take i steps) = sym (length-take-le i steps (omega arith)) in
+    ap (λ (m : Machine). line (first + i) (answer_to m step)) state
+    ∙ ap (λ (k : ℕ). line (first + k) (answer_to (after_steps start (take i steps)) step)) count
+    ∙ sym (append-nil (line (first + length (take i steps)) (answer_to (after_steps start (take i steps)) step)))
+
+-- so the lines up to step i and its own are those of the steps up to this one
+lines_to : (start machine : Machine) (first : ℕ) (steps : List Step) (i : ℕ) (d step : Step) → i < length steps → step ≡ get_or steps i d → machine ≡ after_steps start (take i steps)
+    → report_from start first (take i steps) ++ line (first + i) (answer_to machine step) ≡ report_from start first (take (i + 1) steps)
+lines_to start machine first steps i d step within is state =
+    ap (λ (l : List ℕ). report_from start first (take i steps) ++ l) (line_alone start machine first steps i step within state)
+    ∙ sym (report_joined start first (take i steps) (step ∷ []))
+    ∙ ap (report_from start first) (sym (items_to steps i d step within is))
+
+-- no step yet
+pub reported_none : (old : Option (List ℕ)) (failed : Bool) (start : Machine) (first : ℕ) (steps : List Step) → failed ≡ false → IsValid start.bda → Reported old old failed start start first steps 0
+reported_none old failed start first steps e v = record { state = refl; appended = Appends-nil old; sound = e; valid = v }
+
+-- one more step
+pub reported_more : (old mid new : Option (List ℕ)) (was failed : Bool) (start machine next : Machine) (first : ℕ) (steps : List Step) (i : ℕ) (d step : Step)
+    → Reported old mid was start machine first steps i → i < length steps → step ≡ get_or steps i d → next ≡ after_step machine step
+    → Appends mid new (line (first + i) (answer_to machine step)) → failed ≡ false → IsValid next.bda → Reported old new failed start next first steps (i + 1)
+reported_more old mid new was failed start machine next first steps i d step h within is en a e v =
+    let here = line (first + i) (answer_to machine step) in
+    record {
+      state = en ∙ ap (λ (m : Machine). after_step m step) h.state ∙ sym (state_joined start (take i steps) (step ∷ [])) ∙ ap (after_steps start) (sym (items_to steps i d step within is));
+      appended = subst (Appends old new) (lines_to start machine first steps i d step within is h.state) (Appends-trans old mid new (report_from start first (take i steps)) here h.appended a);
+      sound = e;
+      valid = v;
+    }
+
+-- a front of one more line
+reported_front : (old mid new : Option (List ℕ)) (was : Bool) (start machine : Machine) (first : ℕ) (steps : List Step) (i : ℕ) (d step : Step)
+    → Reported old mid was start machine first steps i → i < length steps → step ≡ get_or steps i d
+    → AppendsFront mid new (line (first + i) (answer_to machine step)) → AppendsFront old new (report_from start first steps)
+reported_front old mid new was start machine first steps i d step h within is a =
+    let lines = report_from start first (take i steps) in
+    let here = line (first + i) (answer_to machine step) in
+    let front = subst (AppendsFront old new) (lines_to start machine first steps i d step within is h.state) (front_behind old mid new lines here h.appended a) in
+    subst (λ (l : List Step). AppendsFront old new (report_from start first l)) (take-append-drop (i + 1) steps) (front_of_steps old new start first (take (i + 1) steps) (drop (i + 1) steps) front)
+
+-- what ends one more step early ends them all
+pub reported_err : (old mid new : Option (List ℕ)) (was failed : Bool) (e : Fault) (start machine : Machine) (first : ℕ) (steps : List Step) (i : ℕ) (d step : Step)
+    → Reported old mid was start machine first steps i → i < length steps → step ≡ get_or steps i d
+    → WritesStep mid new failed (Err e) machine (first + i) step → WritesReport old new failed (Err e) start first steps
+reported_err old mid new was failed e start machine first steps i d step h within is (inl (fails, bad, front)) =
+    inl (fails, bad, reported_front old mid new was start machine first steps i d step h within is front)
+reported_err old mid new was failed e start machine first steps i d step h within is (inr (wants, sound, takes, same)) =
+    inr (
+      wants,
+      sound,
+      (
+        take i steps,
+        step,
+        drop (i + 1) steps,
+        steps_around steps i d step within is,
+        subst (λ (m : Machine). TakesMemory m step) h.state takes,
+        subst (λ (contents : Option (List ℕ)). Appends old contents (report_from start first (take i steps))) (sym same) h.appended,
+      ),
+    )
+
+-- all steps
+pub reported_all : (old new : Option (List ℕ)) (failed : Bool) (start machine : Machine) (first : ℕ) (steps : List Step) (i : ℕ)
+    → Reported old new failed start machine first steps i → length steps ≤ i → Appends old new (report_from start first steps) × (machine ≡ after_steps start steps)
+reported_all old new failed start machine first steps i h past =
+    let all : take i steps ≡ steps = take_all i steps past in
+    (subst (λ (l : List Step). Appends old new (report_from start first l)) all h.appended, h.state ∙ ap (after_steps start) all)
+
+-- a report is written where, behind it, nothing more is
+pub report_is_flushed : (old mid new : Option (List ℕ)) (failed : Bool) (result : Result Unit Fault) (machine : Machine) (n : ℕ) (steps : List Step)
+    → Appends old mid (report_from machine n steps) → Writes mid new failed result [] → WritesReport old new failed result machine n steps
+report_is_flushed old mid new failed (Ok u) machine n steps a w = writes_more {U = Unit} old mid new failed (Ok u) (report_from machine n steps) a w
+report_is_flushed old mid new failed (Err e) machine n steps a w = inl (writes_more {U = Unit} old mid new failed (Err e) (report_from machine n steps) a w)
 
 -- the fields of a step fit where those of all do
 pub one_in_range : (steps : List Step) (i : ℕ) (d step : Step) → AreInRange steps → i < length steps → step ≡ get_or steps i d → IsInRange step

@@ -1,5 +1,5 @@
 -- What a run answers, from what its parts answer.
-use Rattle.std.proofs.Common.{◌≡◌, ◌∙◌, ◌⊎◌, inl, inr, ℕ, ◌<◌, ◌≤◌, Bool, List, length, Option, None, Some, IfSome, Result, Ok, Err, arith, refl, sym, subst}
+use Rattle.std.proofs.Common.{◌≡◌, ◌∙◌, ◌⊎◌, inl, inr, ℕ, ◌<◌, ◌≤◌, Bool, List, length, Option, None, Some, IfSome, Result, Ok, Err, arith, refl, sym, ap, subst}
 use Rattle.vga_bits.specs.declared.fault.Fault.{Fault}
 use Rattle.vga_bits.specs.declared.fault.Fault.TheVariants.{FontSize, BadMagic, BadVersion, BadStep, Truncated, TooLong, ReadFault, WriteFault, OutOfMemory}
 use Rattle.bios_modes.specs.Fonts.{FontSet, IsFontFault, file_len, fonts_of}
@@ -8,8 +8,35 @@ use Rattle.vga_script.specs.Spelling.{Spells, script_limit}
 use Rattle.vga_bits.specs.Reading.{is_read_fault}
 use Rattle.vga_bits.specs.Tracked.{is_write_fault}
 use Rattle.vga_script.specs.Input.{InputHasFault, IsInput, IsReadingFault}
-use Rattle.vga_run.specs.Run.{Reports, ReportsSteps, RunAnswers, RunsGoodScripts, RunsScript}
+use Rattle.vga_run.specs.declared.machine.Machine.{Machine}
+use Rattle.vga_run.specs.Machine.{power_on_machine}
+use Rattle.vga_run.specs.Report.{steps_until}
+use Rattle.vga_run.specs.Run.{Reports, ReportsSteps, RunAnswers, RunsGoodScripts, RunsScript, StopsIn, StopsRun, StopsSteps, WritesReport}
 use Rattle.vga_script.specs.Decoding.{IsSpellingFault, IsFault}
+
+-- what taking the steps of a script answers is what its run does
+pub report_answers : (until : Option ℕ) (fonts : FontSet) (steps : List Step) (before after : Option (List ℕ)) (failed : Bool) (result : Result Unit Fault)
+    → WritesReport before after failed result (power_on_machine fonts) 1 (steps_until until steps) → ReportsSteps until fonts steps before after result
+report_answers until fonts steps before after failed (Ok u) w = w.0
+report_answers until fonts steps before after failed (Err e) (inl (is, bad, front)) = subst (λ (f : Fault). ReportsSteps until fonts steps before after (Err f)) (sym is) front
+report_answers until fonts steps before after failed (Err e) (inr (is, sound, stops)) = subst (λ (f : Fault). ReportsSteps until fonts steps before after (Err f)) (sym is) tt
+
+pub report_fails : (before after : Option (List ℕ)) (failed : Bool) (result : Result Unit Fault) (machine : Machine) (n : ℕ) (steps : List Step)
+    → WritesReport before after failed result machine n steps → failed ≡ is_write_fault result
+report_fails before after failed (Ok u) machine n steps w = w.1
+report_fails before after failed (Err e) machine n steps (inl (is, bad, front)) = bad ∙ ap (λ (f : Fault). is_write_fault {A = Unit} (Err f)) (sym is)
+report_fails before after failed (Err e) machine n steps (inr (is, sound, stops)) = sound ∙ ap (λ (f : Fault). is_write_fault {A = Unit} (Err f)) (sym is)
+
+pub report_stops : (before after : Option (List ℕ)) (failed : Bool) (result : Result Unit Fault) (machine : Machine) (n : ℕ) (steps : List Step)
+    → WritesReport before after failed result machine n steps → result ≡ Err OutOfMemory → StopsIn machine n steps before after
+report_stops before after failed (Ok u) machine n steps w out = absurd (cc)
+report_stops before after failed (Err e) machine n steps (inl (is, bad, front)) out = absurd (cc)
+report_stops before after failed (Err e) machine n steps (inr (is, sound, stops)) out = stops
+
+-- where memory runs out in the run of a script, it does in that of bytes that spell it
+pub stops_of_steps : (until : Option ℕ) (fonts : FontSet) (bytes : List ℕ) (before after : Option (List ℕ)) (steps : List Step)
+    → length bytes ≤ script_limit → Spells bytes steps → StopsSteps until fonts steps before after → StopsRun until fonts (Some bytes) before after
+stops_of_steps until fonts bytes before after steps few spelled stops = (steps, (bytes, (refl, few), spelled), stops)
 
 -- what the run of a script answers is the answer for bytes that spell it
 pub reports_of_steps : (until : Option ℕ) (fonts : FontSet) (bytes : List ℕ) (before after : Option (List ℕ)) (result : Result Unit Fault) (steps : List Step)
@@ -51,6 +78,10 @@ input_reports until fonts input before after bytes (Err WriteFault) read (steps,
     (steps, (others, read_bytes input bytes others read same, spelled), written)
 input_reports until fonts input before after bytes (Err OutOfMemory) read h = h
 input_reports until fonts input before after bytes (Err _) read (others, same, bad) = (others, read_bytes input bytes others read same, bad)
+
+pub input_stops : (until : Option ℕ) (fonts : FontSet) (input before after : Option (List ℕ)) (bytes : List ℕ)
+    → IsInput input bytes → StopsRun until fonts (Some bytes) before after → StopsRun until fonts input before after
+input_stops until fonts input before after bytes read (steps, (others, same, spelled), stops) = (steps, (others, read_bytes input bytes others read same, spelled), stops)
 
 -- what a run over the fonts of a file answers is what one over the file does
 of_file : (until : Option ℕ) (file : List ℕ) (input before after : Option (List ℕ)) (result : Result Unit Fault)

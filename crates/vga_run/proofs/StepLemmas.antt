@@ -15,7 +15,7 @@ use Rattle.bios_modes.specs.Bda.{BiosData}
 use Rattle.bios_modes.specs.Fonts.{FontSet}
 use Rattle.bios_services.specs.declared.regs.Regs.{Regs}
 use Rattle.bios_services.specs.Plan.{run}
-use Rattle.bios_services.specs.Service.{Answered, service, served}
+use Rattle.bios_services.specs.Service.{Answered, service}
 use Rattle.vga_card.specs.Bus.{card_meaning}
 use Rattle.vga_run.specs.declared.machine.Machine.{Machine}
 use Rattle.vga_run.specs.declared.answer.Answer.{Answer}
@@ -38,12 +38,6 @@ pub record RefusedCyclesChangeNothing : Type 0 where
 abbrev pub RefusedServicesDoNothing : Type 0
 RefusedServicesDoNothing = (fonts : FontSet) (d : BiosData) (r : Regs) (block : List ℕ) (c : CardState) (e : Refusal)
     → (run card_meaning (service fonts d r block) c).1.0 ≡ Err e → run card_meaning (service fonts d r block) c ≡ (c, (Err e, d))
-
--- a call of the registers and the block that are handed in
-pub called_with : (m : Machine) (r : Regs) (given block : List ℕ) → given ≡ block
-    → run card_meaning (service m.fonts m.bda r given) m.card ≡ called m r.ax r.bx r.cx r.dx block
-unfolding called
-called_with m r given block same = ap (λ b. run card_meaning (service m.fonts m.bda r b) m.card) same
 
 -- a machine whose adapter is as before is as before
 abbrev with_card : Machine → CardState → Machine
@@ -78,7 +72,7 @@ refused_advance false card next e is = refl
 
 -- a service whose answer is a refusal
 refused_call : (m : Machine) (after : CardState × Answered) (refusal : Refusal) → ((e : Refusal) → after.1.0 ≡ Err e → after ≡ (m.card, (Err e, m.bda)))
-    → Plain (of_service (served after.1.0)) ≡ Plain (Refused refusal) → record m { card = after.0; bda = after.1.1 } ≡ m
+    → of_service after.1.0 ≡ Plain (Refused refusal) → record m { card = after.0; bda = after.1.1 } ≡ m
 refused_call m (card, (Ok reply, bda)) refusal law is = absurd (cc)
 refused_call m (card, (Err e, bda)) refusal law is = ap (λ (a : CardState × Answered). record m { card = a.0; bda = a.1.1 }) (law e refl)
 

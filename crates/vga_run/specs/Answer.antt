@@ -1,15 +1,15 @@
 -- What a step answers, from what a cycle does and what a frame shows.
 use Rattle.std.specs.Prelude.{ℕ, List, Option, None, Some, Result, Ok, Err}
 use Rattle.vga_bits.specs.declared.refusal.Refusal.{Refusal}
+use Rattle.bios_services.specs.declared.regs.Regs.{Regs}
 use Rattle.bios_services.specs.declared.reply.Reply.{Reply as ServiceReply}
-use Rattle.bios_services.specs.declared.reply.ServiceError.{ServiceError}
-use Rattle.bios_services.specs.declared.reply.ServiceError.TheVariants as service
+use Rattle.bios_services.specs.Tables.{table_bytes}
 use Rattle.vga_card.specs.declared.shape.Shape.{Shape}
 use Rattle.vga_card.specs.declared.drawn.Drawn.{Drawn}
 use Rattle.vga_card.specs.declared.drawn.Drawn.TheVariants as drawn
 use Rattle.vga_card.specs.Picture.{Dot, shape, bytes_of}
 use Rattle.vga_run.specs.declared.answer.Answer.{Answer}
-use Rattle.vga_run.specs.declared.answer.Answer.TheVariants.{Done, Byte, Word, Registers, Refused}
+use Rattle.vga_run.specs.declared.answer.Answer.TheVariants.{Done, Byte, Word, Refused}
 
 -- the answer of a step that reads nothing
 abbrev pub of_write : Result (Unit {0}) Refusal → Answer
@@ -26,18 +26,19 @@ abbrev pub of_word : Result ℕ Refusal → Answer
 of_word (Ok value) = Word value
 of_word (Err refusal) = Refused refusal
 
--- the answer of a service
-abbrev pub of_service : Result ServiceReply ServiceError → Answer
-of_service (Ok reply) = Registers reply.regs
-of_service (Err (service.Refused refusal)) = Refused refusal
-
--- what a step answers: on its own line, or with a picture of so many dots in width and height, red, green and blue of
--- each; or that a frame is ragged; or the lines of a dump
+-- what a step answers: on its own line; or with four registers and the bytes of a table; or with a picture of so many dots in
+-- width and height, red, green and blue of each; or that a frame is ragged; or the lines of a dump
 pub data Reply : Type 0 where
   Plain : Answer → Reply
+  Served : Regs → List ℕ → Reply
   Picture : ℕ → ℕ → List ℕ → Reply
   Ragged : Reply
   Dump : List ℕ → Reply
+
+-- what a service answers
+abbrev pub of_service : Result ServiceReply Refusal → Reply
+of_service (Ok reply) = Served reply.regs (table_bytes reply.table)
+of_service (Err refusal) = Plain (Refused refusal)
 
 -- a picture of some shape, if there is one
 abbrev pub of_shape : Option Shape → List ℕ → Reply

@@ -1,30 +1,34 @@
 -- The report of a script: a line for each step, with its number and its answer, and behind it the picture of a frame.
-use Rattle.std.specs.Prelude.{ℕ, ◌+◌, List, [], ◌∷◌, ◌++◌, length, take, Option, None, Some, codes, decimal}
+use Rattle.std.specs.Prelude.{ℕ, ◌+◌, ◌==◌, if◌then◌else◌, List, [], ◌∷◌, ◌++◌, length, take, Option, None, Some, codes, decimal}
+use Rattle.std.specs.List.{flat_map}
 use Rattle.vga_bits.specs.Refusal.{refusal_name}
 use Rattle.vga_bits.specs.Hex.{hex_byte, hex_word}
 use Rattle.vga_script.specs.declared.step.Step.{Step}
 use Rattle.vga_script.specs.declared.step.Step.TheVariants.{Show}
 use Rattle.vga_script.specs.declared.shown.Shown.TheVariants as shown
 use Rattle.vga_run.specs.declared.answer.Answer.{Answer}
-use Rattle.vga_run.specs.declared.answer.Answer.TheVariants.{Done, Byte, Word, Registers, Refused}
+use Rattle.vga_run.specs.declared.answer.Answer.TheVariants.{Done, Byte, Word, Refused}
 use Rattle.bios_modes.specs.Fonts.{FontSet}
 use Rattle.bios_services.specs.declared.regs.Regs.{Regs}
 use Rattle.vga_run.specs.declared.machine.Machine.{Machine}
 use Rattle.vga_run.specs.Machine.{power_on_machine}
 use Rattle.vga_show.specs.Ppm.{ppm}
-use Rattle.vga_run.specs.Answer.{Reply, Plain, Picture, Ragged, Dump}
+use Rattle.vga_run.specs.Answer.{Reply, Plain, Served, Picture, Ragged, Dump}
 use Rattle.vga_run.specs.Step.{answer_to, after_step}
 
 -- the text of four registers
 unfoldable pub registers_text : Regs → List ℕ
 registers_text r = codes "ax=" ++ (hex_word r.ax ++ (codes " bx=" ++ (hex_word r.bx ++ (codes " cx=" ++ (hex_word r.cx ++ (codes " dx=" ++ hex_word r.dx))))))
 
--- the text of an answer: `ok`, the two digits of a byte, the four of a word, four registers, or the name of the refusal
+-- the text of a table behind four registers: the word block, and two digits for each byte; an empty one has none
+abbrev pub table_text : List ℕ → List ℕ
+table_text table = if length table == 0 then [] else codes " block " ++ flat_map hex_byte table
+
+-- the text of an answer: `ok`, the two digits of a byte, the four of a word, or the name of the refusal
 abbrev pub answer_text : Answer → List ℕ
 answer_text Done = codes "ok"
 answer_text (Byte value) = hex_byte value
 answer_text (Word value) = hex_word value
-answer_text (Registers regs) = registers_text regs
 answer_text (Refused refusal) = refusal_name refusal
 
 -- the number of a step in decimal, and a blank
@@ -39,6 +43,7 @@ picture_line n len = decimal n ++ (codes " picture " ++ (decimal len ++ codes "\
 -- tells how many bytes it has, with a newline of its own, and a dump has its own lines
 unfoldable pub line : ℕ → Reply → List ℕ
 line n (Plain answer) = decimal n ++ (codes " " ++ (answer_text answer ++ codes "\n"))
+line n (Served regs table) = (number_text n ++ registers_text regs) ++ (table_text table ++ codes "\n")
 line n (Picture width height bytes) =
     let picture = ppm width height bytes in
     picture_line n (length picture) ++ (picture ++ codes "\n")

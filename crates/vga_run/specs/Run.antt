@@ -1,5 +1,5 @@
 -- What a run answers.
-use Rattle.std.specs.Prelude.{ℕ, ⊤, ◌≡◌, ◌≢◌, ◌≤◌, Bool, false, List, length, Option, Some, IsOkUnless, Result, Ok, Err}
+use Rattle.std.specs.Prelude.{ℕ, ⊤, ◌⊎◌, ◌≡◌, ◌≢◌, ◌≤◌, Bool, true, false, List, ◌∷◌, ◌++◌, length, Option, Some, IsOkUnless, Result, Ok, Err}
 use Rattle.std.specs.Io.KnownBytes.{Appends}
 use Rattle.vga_bits.specs.Tracked.{AppendsFront}
 use Rattle.vga_bits.specs.declared.fault.Fault.{Fault}
@@ -7,8 +7,40 @@ use Rattle.vga_bits.specs.declared.fault.Fault.TheVariants.{FontSize, TooLong, R
 use Rattle.bios_modes.specs.Fonts.{FontSet, file_len, fonts_of}
 use Rattle.vga_script.specs.declared.step.Step.{Step}
 use Rattle.vga_script.specs.Spelling.{script_limit, Spells}
-use Rattle.vga_run.specs.Report.{report_of, steps_until}
 use Rattle.vga_script.specs.Input.{InputHasFault, InputSpells, IsTooLong}
+use Rattle.vga_run.specs.declared.machine.Machine.{Machine}
+use Rattle.vga_run.specs.Machine.{power_on_machine}
+use Rattle.vga_run.specs.Step.{TakesMemory, answer_to, after_steps}
+use Rattle.vga_run.specs.Report.{line, report_from, report_of, steps_until}
+
+-- What taking step n on this machine answers, over a writer that holds what is before and after, and may have failed: its line
+-- is written; or a front of it where the writer failed; or there was no memory, and nothing is written.
+abbrev pub WritesStep : Option (List ℕ) → Option (List ℕ) → Bool → Result Unit Fault → Machine → ℕ → Step → Type 0
+WritesStep before after failed (Ok u) m n step = Appends before after (line n (answer_to m step)) × (failed ≡ false)
+WritesStep before after failed (Err e) m n step =
+    ((e ≡ WriteFault) × (failed ≡ true) × AppendsFront before after (line n (answer_to m step)))
+    ⊎ ((e ≡ OutOfMemory) × (failed ≡ false) × TakesMemory m step × (after ≡ before))
+
+-- Where memory runs out while these steps are taken from this machine on, of which the first has the number n: in a step that
+-- takes some. The answers of the steps before it are written, whole.
+abbrev pub StopsIn : Machine → ℕ → List Step → Option (List ℕ) → Option (List ℕ) → Type 0
+StopsIn m n steps before after =
+    (done : List Step) × (step : Step) × (others : List Step) × (steps ≡ done ++ step ∷ others)
+    × TakesMemory (after_steps m done) step × Appends before after (report_from m n done)
+
+-- What taking these steps answers: their report is written; or a front of it where the writer failed; or memory ran out.
+abbrev pub WritesReport : Option (List ℕ) → Option (List ℕ) → Bool → Result Unit Fault → Machine → ℕ → List Step → Type 0
+WritesReport before after failed (Ok u) m n steps = Appends before after (report_from m n steps) × (failed ≡ false)
+WritesReport before after failed (Err e) m n steps =
+    ((e ≡ WriteFault) × (failed ≡ true) × AppendsFront before after (report_from m n steps))
+    ⊎ ((e ≡ OutOfMemory) × (failed ≡ false) × StopsIn m n steps before after)
+
+-- where memory runs out in the run of some steps from power-on, or in that of the script that an input spells
+abbrev pub StopsSteps : Option ℕ → FontSet → List Step → Option (List ℕ) → Option (List ℕ) → Type 0
+StopsSteps until fonts steps before after = StopsIn (power_on_machine fonts) 1 (steps_until until steps) before after
+
+abbrev pub StopsRun : Option ℕ → FontSet → Option (List ℕ) → Option (List ℕ) → Option (List ℕ) → Type 0
+StopsRun until fonts input before after = (steps : List Step) × InputSpells input steps × StopsSteps until fonts steps before after
 
 -- What the run of these steps over some fonts answers that is stopped after so many, or not, over a writer that holds what is
 -- before and after: it has written their report, or a front of it where the writer fails; or memory ran out.

@@ -1,6 +1,6 @@
 -- What each step of a script answers, and what it leaves: a cycle of the adapter, some dots, a frame, a service of the video
 -- BIOS, or a look at the machine.
-use Rattle.std.specs.Prelude.{ℕ, List, [], ◌∷◌, nat_le, if◌then◌else◌, Ok, Err}
+use Rattle.std.specs.Prelude.{ℕ, ◌≡◌, true, List, [], ◌∷◌, nat_le, if◌then◌else◌, Ok, Err}
 use Rattle.vga_bits.specs.declared.refusal.Refusal.TheVariants.{TooFar}
 use Rattle.vga_card.specs.Card.{CardState}
 use Rattle.vga_card.specs.Bus.{card_meaning}
@@ -9,7 +9,8 @@ use Rattle.vga_card.specs.Words.{out_word_cycle, inp_word_cycle, put_word_cycle,
 use Rattle.vga_card.specs.Dots.{dots, most_dots}
 use Rattle.vga_card.specs.Frames.{frame}
 use Rattle.bios_services.specs.Plan.{run}
-use Rattle.bios_services.specs.Service.{Answered, service, served}
+use Rattle.bios_services.specs.Calls.{call_of}
+use Rattle.bios_services.specs.Service.{Answered, service, takes_memory}
 use Rattle.vga_show.specs.Regs.{regs_text}
 use Rattle.vga_show.specs.Dac.{entry_text}
 use Rattle.vga_show.specs.Beam.{beam_text}
@@ -40,6 +41,11 @@ called m ax bx cx dx block = run card_meaning (service m.fonts m.bda (record { a
 abbrev pub advance_cycle : CardState → ℕ → Written
 advance_cycle card count = if nat_le count most_dots then (dots count card, Ok tt) else (card, Err TooFar)
 
+-- a step that takes memory on this machine: a call of interrupt 10 that does
+abbrev pub TakesMemory : Machine → Step → Type 0
+TakesMemory m (Int ax bx cx dx block) = takes_memory (call_of (record { ax = ax; bx = bx; cx = cx; dx = dx })) m.bda ≡ true
+TakesMemory m _ = ⊥
+
 -- what a step answers
 unfoldable pub answer_to : Machine → Step → Reply
 answer_to m (Out port value) = Plain (of_write (out_cycle m.card port value).1)
@@ -50,7 +56,7 @@ answer_to m (Put address value) = Plain (of_write (put_cycle m.card address valu
 answer_to m (PutWord address value) = Plain (of_write (put_word_cycle m.card address value).1)
 answer_to m (Get address) = Plain (of_byte (get_cycle m.card address).1)
 answer_to m (GetWord address) = Plain (of_word (get_word_cycle m.card address).1)
-answer_to m (Int ax bx cx dx block) = Plain (of_service (served (called m ax bx cx dx block).1.0))
+answer_to m (Int ax bx cx dx block) = of_service (called m ax bx cx dx block).1.0
 answer_to m (Advance count) = Plain (of_write (advance_cycle m.card count).1)
 answer_to m Frame = of_frame (frame m.card).drawn
 answer_to m (Show what) = Dump (dump_text m what)

@@ -1,7 +1,6 @@
 //! What a step answers.
 ghost use Rattle.std.specs.Prelude.{◌≡◌};
 
-use bios_services::{Regs, Reply, ServiceError};
 use vga_bits::Refusal;
 
 /// What a step answers.
@@ -13,14 +12,12 @@ pub enum Answer {
     Byte(u8),
     /// The word that was read.
     Word(u16),
-    /// The registers that a service answers.
-    Registers(Regs),
     /// The step is refused, and has changed nothing.
     Refused(Refusal),
 }
 
 impl Answer {
-    ghost use Rattle.vga_run.specs.Answer.{of_write as of_write_of, of_byte as of_byte_of, of_word as of_word_of, of_service as of_service_of};
+    ghost use Rattle.vga_run.specs.Answer.{of_write as of_write_of, of_byte as of_byte_of, of_word as of_word_of};
 
     /// The answer of a step that reads nothing.
     pub(crate) fn of_write(outcome: Result<(), Refusal>) -> Answer
@@ -49,16 +46,6 @@ impl Answer {
         match outcome {
             Ok(value) => Answer::Word(value),
             Err(refusal) => Answer::Refused(refusal),
-        }
-    }
-
-    /// The answer of a service.
-    pub(crate) fn of_service(outcome: Result<Reply, ServiceError>) -> Answer
-        ensures { result ≡ of_service_of outcome }
-    {
-        match outcome {
-            Ok(reply) => Answer::Registers(reply.regs),
-            Err(ServiceError::Refused(refusal)) => Answer::Refused(refusal),
         }
     }
 }

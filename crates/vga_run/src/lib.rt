@@ -3,9 +3,11 @@
 
 mod answer;
 mod laws;
+mod line;
 pub mod machine;
 mod report;
 mod runs;
+mod served;
 
 pub use answer::Answer;
 pub use laws::refused_steps_change_nothing;

@@ -3,90 +3,29 @@ ghost use Rattle.std.specs.Prelude.{◌≡◌, ◌+◌, ◌*◌, ◌<◌, ◌≤
 ghost use Rattle.vga_bits.specs.Tracked.{inner_of, has_failed, Writes};
 ghost use Rattle.vga_card.specs.Frames.{IsSmall};
 ghost use Rattle.vga_card.specs.Picture.{widest, highest};
-ghost use Rattle.vga_run.specs.Answer.{Plain, Picture, Ragged, Dump, of_drawn, of_service};
-ghost use Rattle.vga_run.specs.Step.{answer_to, after_step, after_steps, called, dump_text};
+ghost use Rattle.vga_run.specs.Answer.{Picture, Ragged, Dump, of_drawn};
+ghost use Rattle.vga_run.specs.Step.{after_step, after_steps, dump_text};
+ghost use Rattle.vga_run.specs.Run.{WritesStep, WritesReport};
 ghost use Rattle.vga_script.specs.Step.{IsInRange, AreInRange};
+ghost use Rattle.vga_script.specs.declared.step.Step.TheVariants.{Int};
 ghost use Rattle.vga_script.specs.Shown.{IsShownInRange};
-ghost use Rattle.vga_run.specs.Report.{answer_text, registers_text, line, picture_line as picture_line_of, number_text, report_from, steps_until};
+ghost use Rattle.vga_run.specs.Report.{line, picture_line as picture_line_of, steps_until};
 ghost use Rattle.vga_show.specs.Ppm.{ppm};
 ghost use Rattle.bios_modes.specs.Valid.{IsValid};
-ghost use Rattle.bios_services.specs.Service.{served};
 
 use super::answer::Answer;
+use super::line::{Line, numbered, write_line};
 use super::machine::Machine;
-use bios_services::{Regs, int10};
+use super::served::write_reply;
+use bios_services::{Regs, ServiceError, int10};
+use std::alloc::Global;
 use std::io::Write;
-use vga_bits::{Bytes, Fault, TextBuffer, Tracked, flush, write_whole};
+use vga_bits::{Bytes, Fault, Tracked, flush, write_whole};
 use vga_card::Drawn;
 use vga_script::{Shown, Step};
 use vga_show::{
     dump_bda, dump_beam, dump_dac, dump_latches, dump_plane, dump_regs, ppm_length, write_ppm,
 };
-
-/// Room for the longest line: a number of at most 20 digits, a blank, an answer of at most 31 bytes, which
-/// are four registers, and a newline.
-const LINE_LEN: usize = 53;
-
-/// The line of a step.
-type Line = TextBuffer<LINE_LEN>;
-
-/// Puts the text of four registers at the line's end.
-#[tactic(auto, using(std::proofs::lemmas::List::append_assoc), unfolding(crate::specs::Report::registers_text))]
-fn push_registers(line: &mut Line, regs: Regs)
-    requires { length line.old ≤ 21 }
-    ensures items { line.new ≡ line.old ++ registers_text regs }
-    ensures len { length line.new ≡ length line.old + 31 }
-{
-    line.push(b"ax=");
-    line.push_hex_word(regs.ax);
-    line.push(b" bx=");
-    line.push_hex_word(regs.bx);
-    line.push(b" cx=");
-    line.push_hex_word(regs.cx);
-    line.push(b" dx=");
-    line.push_hex_word(regs.dx);
-}
-
-/// Puts the text of an answer at the line's end.
-#[tactic(auto, using(crate::proofs::ReportLemmas::name_is_short))]
-fn push_answer(line: &mut Line, answer: Answer)
-    requires { length line.old ≤ 21 }
-    ensures items { line.new ≡ line.old ++ answer_text answer }
-    ensures len { length line.new ≤ length line.old + 31 }
-{
-    match answer {
-        Answer::Done => line.push(b"ok"),
-        Answer::Byte(value) => line.push_hex_byte(value),
-        Answer::Word(value) => line.push_hex_word(value),
-        Answer::Registers(regs) => push_registers(line, regs),
-        Answer::Refused(refusal) => line.push(refusal.name().as_bytes()),
-    }
-}
-
-/// The number of a step, and a blank.
-#[tactic(auto, unfolding(crate::specs::Report::number_text))]
-fn numbered(n: usize) -> Line
-    ensures items { result ≡ number_text n }
-    ensures len { length result ≤ 21 }
-{
-    let mut line = Line::new();
-    line.push_decimal_size(n);
-    line.push(b" ");
-    line
-}
-
-/// Writes the line of step n.
-#[tactic(auto, unfolding(crate::specs::Report::line, crate::specs::Report::number_text), using(std::proofs::lemmas::List::append_assoc))]
-fn write_line<W: Write>(out: &mut Tracked<W>, n: usize, answer: Answer) -> Result<(), Fault>
-    requires { has_failed out.old ≡ false }
-    ensures { Writes (W.contents (inner_of out.old)) (W.contents (inner_of out.new))
-        (has_failed out.new) result (line n (Plain answer)) }
-{
-    let mut line = numbered(n);
-    push_answer(&mut line, answer);
-    line.push(b"\n");
-    write_whole(out, line.as_slice())
-}
 
 /// The line of step n that stands before a picture: how many bytes the picture has.
 #[tactic(auto, unfolding(crate::specs::Report::picture_line, crate::specs::Report::number_text))]
@@ -200,28 +139,42 @@ fn write_shown<W: Write>(
     write_dump(out, machine, shown)
 }
 
-/// Calls the video BIOS.
-#[tactic(auto, unfolding(crate::specs::Step::called))]
-fn call_bios(machine: &mut Machine, regs: Regs, block: &Bytes) -> Answer
-    requires { IsValid machine.old.bda }
-    ensures answer { result ≡ of_service (served (called machine.old regs.ax regs.bx regs.cx regs.dx block.now).1.0) }
-    ensures after { machine.new ≡ (let after = called machine.old regs.ax regs.bx regs.cx regs.dx block.now in record machine.old { card = after.0; bda = after.1.1 }) }
+/// Calls the video BIOS, and writes what it answers as step n.
+#[tactic(auto, unfolding(crate::specs::Step::called, crate::specs::Step::answer_to, crate::specs::Step::after_step))]
+fn write_service<W: Write>(
+    alloc: Global,
+    out: &mut Tracked<W>,
+    n: usize,
+    machine: &mut Machine,
+    regs: Regs,
+    block: &Bytes,
+) -> Result<(), Fault>
+    requires writer { has_failed out.old ≡ false }
+    requires valid { IsValid machine.old.bda }
+    ensures text { WritesStep (W.contents (inner_of out.old)) (W.contents (inner_of out.new))
+        (has_failed out.new) result machine.old n (Int regs.ax regs.bx regs.cx regs.dx block.now) }
+    ensures after { OnOk result (machine.new ≡ after_step machine.old (Int regs.ax regs.bx regs.cx regs.dx block.now)) }
     ensures valid { IsValid machine.new.bda }
 {
-    let block = block.as_slice();
     let outcome = int10(
+        alloc,
         &mut machine.card,
         &mut machine.bda,
         &machine.fonts,
         regs,
-        block,
+        block.as_slice(),
     );
-    Answer::of_service(outcome)
+    match outcome {
+        Ok(reply) => write_reply(out, n, &reply),
+        Err(ServiceError::Refused(refusal)) => write_line(out, n, Answer::Refused(refusal)),
+        Err(ServiceError::OutOfMemory) => Err(Fault::OutOfMemory),
+    }
 }
 
 /// Takes a step, and writes what it answers as step n.
-#[tactic(auto, unfolding(crate::specs::Step::answer_to, crate::specs::Step::after_step))]
+#[tactic(auto, using(crate::proofs::ReportLemmas::step_is_written), unfolding(crate::specs::Step::answer_to, crate::specs::Step::after_step))]
 fn write_step<W: Write>(
+    alloc: Global,
     out: &mut Tracked<W>,
     n: usize,
     machine: &mut Machine,
@@ -230,9 +183,9 @@ fn write_step<W: Write>(
     requires writer { has_failed out.old ≡ false }
     requires range { IsInRange step.now }
     requires valid { IsValid machine.old.bda }
-    ensures text { Writes (W.contents (inner_of out.old)) (W.contents (inner_of out.new))
-        (has_failed out.new) result (line n (answer_to machine.old step.now)) }
-    ensures after { machine.new ≡ after_step machine.old step.now }
+    ensures text { WritesStep (W.contents (inner_of out.old)) (W.contents (inner_of out.new))
+        (has_failed out.new) result machine.old n step.now }
+    ensures after { OnOk result (machine.new ≡ after_step machine.old step.now) }
     ensures valid { IsValid machine.new.bda }
 {
     let answer = match step {
@@ -259,7 +212,7 @@ fn write_step<W: Write>(
                 cx: *cx,
                 dx: *dx,
             };
-            call_bios(machine, regs, block)
+            return write_service(alloc, out, n, machine, regs, block);
         }
         Step::Advance { dots } => Answer::of_write(machine.card.advance(*dots)),
         Step::Frame => return write_drawn(out, n, machine.card.frame()),
@@ -272,6 +225,7 @@ fn write_step<W: Write>(
 /// number.
 #[tactic(auto, using(crate::proofs::ReportLemmas::reported_none, crate::proofs::ReportLemmas::reported_all))]
 fn write_lines<W: Write>(
+    alloc: Global,
     out: &mut Tracked<W>,
     machine: &mut Machine,
     first: usize,
@@ -281,20 +235,21 @@ fn write_lines<W: Write>(
     requires numbers { first + length steps.now < 2 ^ 64 }
     requires range { AreInRange steps.now }
     requires valid { IsValid machine.old.bda }
-    ensures text { Writes (W.contents (inner_of out.old)) (W.contents (inner_of out.new))
-        (has_failed out.new) result (report_from machine.old first steps.now) }
+    ensures text { WritesReport (W.contents (inner_of out.old)) (W.contents (inner_of out.new))
+        (has_failed out.new) result machine.old first steps.now }
     ensures after { OnOk result (machine.new ≡ after_steps machine.old steps.now) }
     ensures valid { IsValid machine.new.bda }
 {
     for (i, step) in steps.iter().enumerate() {
-        write_step(out, first + i, machine, step)?;
+        write_step(alloc, out, first + i, machine, step)?;
     }
     Ok(())
 }
 
 /// Takes so many of the first steps, all if there are fewer, and then the last looks.
-#[tactic(auto, using(crate::proofs::ReportLemmas::writes_others, crate::proofs::ReportLemmas::front_of_steps, crate::proofs::ReportLemmas::first_in_range))]
+#[tactic(auto, using(crate::proofs::ReportLemmas::first_in_range))]
 fn write_until<W: Write>(
+    alloc: Global,
     out: &mut Tracked<W>,
     machine: &mut Machine,
     steps: &[Step],
@@ -303,12 +258,12 @@ fn write_until<W: Write>(
     requires writer { has_failed out.old ≡ false }
     requires range { AreInRange steps.now }
     requires valid { IsValid machine.old.bda }
-    ensures { Writes (W.contents (inner_of out.old)) (W.contents (inner_of out.new))
-        (has_failed out.new) result (report_from machine.old 1 (steps_until (Some most) steps.now)) }
+    ensures { WritesReport (W.contents (inner_of out.old)) (W.contents (inner_of out.new))
+        (has_failed out.new) result machine.old 1 (steps_until (Some most) steps.now) }
 {
     let count = (most as usize).min(steps.len());
     let (taken, _) = steps.split_at(count);
-    write_lines(out, machine, 1, taken)?;
+    write_lines(alloc, out, machine, 1, taken)?;
     let last_looks = [
         Step::Show {
             shown: Shown::Registers,
@@ -321,11 +276,12 @@ fn write_until<W: Write>(
             shown: Shown::BiosData,
         },
     ];
-    write_lines(out, machine, count + 1, &last_looks)
+    write_lines(alloc, out, machine, count + 1, &last_looks)
 }
 
 /// Takes the steps on this machine, all of them or so many of the first with the last looks.
 fn write_steps<W: Write>(
+    alloc: Global,
     out: &mut Tracked<W>,
     machine: &mut Machine,
     steps: &[Step],
@@ -334,20 +290,21 @@ fn write_steps<W: Write>(
     requires writer { has_failed out.old ≡ false }
     requires range { AreInRange steps.now }
     requires valid { IsValid machine.old.bda }
-    ensures { Writes (W.contents (inner_of out.old)) (W.contents (inner_of out.new))
-        (has_failed out.new) result (report_from machine.old 1 (steps_until until steps.now)) }
+    ensures { WritesReport (W.contents (inner_of out.old)) (W.contents (inner_of out.new))
+        (has_failed out.new) result machine.old 1 (steps_until until steps.now) }
 {
     match until {
-        Some(most) => write_until(out, machine, steps, most),
-        None => write_lines(out, machine, 1, steps),
+        Some(most) => write_until(alloc, out, machine, steps, most),
+        None => write_lines(alloc, out, machine, 1, steps),
     }
 }
 
 /// Takes the steps on this machine, all of them or so many of the first with the last looks, writes what each
-/// answers, of which the first has the number 1, and flushes the writer. It fails with `WriteFault` alone,
-/// where the writer does, which then has a front of the report.
-#[tactic(auto, using(vga_bits::proofs::WritingLemmas::writes_more))]
+/// answers, of which the first has the number 1, and flushes the writer. It fails with `WriteFault` where the
+/// writer does, which then has a front of the report, and with `OutOfMemory` before a step that takes memory.
+#[tactic(auto, using(crate::proofs::ReportLemmas::report_is_flushed))]
 pub(crate) fn write_report<W: Write>(
+    alloc: Global,
     out: &mut Tracked<W>,
     machine: &mut Machine,
     steps: &[Step],
@@ -356,9 +313,9 @@ pub(crate) fn write_report<W: Write>(
     requires writer { has_failed out.old ≡ false }
     requires range { AreInRange steps.now }
     requires valid { IsValid machine.old.bda }
-    ensures { Writes (W.contents (inner_of out.old)) (W.contents (inner_of out.new))
-        (has_failed out.new) result (report_from machine.old 1 (steps_until until steps.now)) }
+    ensures { WritesReport (W.contents (inner_of out.old)) (W.contents (inner_of out.new))
+        (has_failed out.new) result machine.old 1 (steps_until until steps.now) }
 {
-    write_steps(out, machine, steps, until)?;
+    write_steps(alloc, out, machine, steps, until)?;
     flush(out)
 }

@@ -1,11 +1,11 @@
 //! A run of a script.
-ghost use Rattle.std.specs.Prelude.{◌≡◌, ◌≢◌, ◌≤◌, ◌+◌, length, false, IfErr, IfOk, Some};
-ghost use Rattle.vga_bits.specs.declared.fault.Fault.TheVariants.{WriteFault};
+ghost use Rattle.std.specs.Prelude.{◌≡◌, ◌≢◌, ◌⊎◌, ◌≤◌, ◌+◌, length, false, IfErr, IfOk, Some, Err};
+ghost use Rattle.vga_bits.specs.declared.fault.Fault.TheVariants.{WriteFault, OutOfMemory};
 ghost use Rattle.vga_bits.specs.Tracked.{inner_of, has_failed, is_write_fault, taken_of};
 ghost use Rattle.vga_bits.specs.Reading.{TakesAtMost, is_read_fault};
-ghost use Rattle.bios_modes.specs.Fonts.{file_len};
+ghost use Rattle.bios_modes.specs.Fonts.{file_len, fonts_of};
 ghost use Rattle.vga_script.specs.Spelling.{script_limit};
-ghost use Rattle.vga_run.specs.Run.{Reports, ReportsSteps, RunAnswers, RunsGoodScripts, RunsScript};
+ghost use Rattle.vga_run.specs.Run.{Reports, ReportsSteps, RunAnswers, RunsGoodScripts, RunsScript, StopsRun, StopsSteps};
 
 use super::machine::Machine;
 use super::report::write_report;
@@ -29,8 +29,9 @@ use vga_script::{Script, decode, one_fault, read_script};
 /// - `BadMagic`, `BadVersion`, `BadStep`, `Truncated`: the bytes are no script.
 /// - `WriteFault`: the writer failed, and has a front of the report.
 ///
-/// `OutOfMemory` comes where a request for memory was refused. Each fault but `WriteFault` comes
-/// before the first byte is written.
+/// `OutOfMemory` comes where a request for memory was refused: before the first byte is written, or in a
+/// step that takes memory, and then the answers of the steps before it are written, whole. Each other fault
+/// but `WriteFault` comes before the first byte is written.
 pub fn run<R: Read, W: Write>(
     alloc: Global,
     script: &mut Tracked<R>,
@@ -57,14 +58,17 @@ pub fn run<R: Read, W: Write>(
         (R.remaining (inner_of script.new)) }
     ensures counted { taken_of script.new ≤ taken_of script.old + (script_limit + 1) }
     ensures unread { length fonts.now ≢ file_len → script.new ≡ script.old }
-    ensures unwritten { IfErr result (λ e. e ≢ WriteFault → out.new ≡ out.old) }
+    // What is written at a fault that is not the writer's: nothing, or whole answers before want of memory.
+    ensures unwritten { IfErr result (λ e. e ≢ WriteFault → e ≢ OutOfMemory → out.new ≡ out.old) }
+    ensures stopped { result ≡ Err OutOfMemory → (out.new ≡ out.old) ⊎ StopsRun until (fonts_of fonts.now) (R.remaining (inner_of script.old))
+        (W.contents (inner_of out.old)) (W.contents (inner_of out.new)) }
 {
     one_fault(); // A script has no fault.
     run_steps(alloc, script, fonts, out, until)
 }
 
 /// What `run` does.
-#[tactic(auto, using(crate::proofs::RunLemmas::input_answers, crate::proofs::RunLemmas::font_answers, crate::proofs::RunLemmas::unread_answers))]
+#[tactic(auto, using(crate::proofs::RunLemmas::input_answers, crate::proofs::RunLemmas::input_stops, crate::proofs::RunLemmas::font_answers, crate::proofs::RunLemmas::unread_answers))]
 fn run_steps<R: Read, W: Write>(
     alloc: Global,
     script: &mut Tracked<R>,
@@ -82,7 +86,9 @@ fn run_steps<R: Read, W: Write>(
         (R.remaining (inner_of script.new)) }
     ensures counted { taken_of script.new ≤ taken_of script.old + (script_limit + 1) }
     ensures unread { length fonts.now ≢ file_len → script.new ≡ script.old }
-    ensures unwritten { IfErr result (λ e. e ≢ WriteFault → out.new ≡ out.old) }
+    ensures unwritten { IfErr result (λ e. e ≢ WriteFault → e ≢ OutOfMemory → out.new ≡ out.old) }
+    ensures stopped { result ≡ Err OutOfMemory → (out.new ≡ out.old) ⊎ StopsRun until (fonts_of fonts.now) (R.remaining (inner_of script.old))
+        (W.contents (inner_of out.old)) (W.contents (inner_of out.new)) }
 {
     let fonts = Fonts::from_bytes(alloc, fonts)?; // Nothing is read before.
     let bytes = read_script(alloc, script)?;
@@ -103,16 +109,19 @@ pub fn run_bytes<W: Write>(
     ensures answer { RunAnswers until fonts.now (Some script.now)
         (W.contents (inner_of out.old)) (W.contents (inner_of out.new)) result }
     ensures unread { is_read_fault result ≡ false }
-    // The writer fails exactly where the answer says so, and is left untouched by any other fault.
+    // The writer fails exactly where the answer says so, and is left untouched by any other fault; but before
+    // want of memory in a step the answers of the steps before are written, whole.
     ensures write_failed { has_failed out.new ≡ is_write_fault result }
-    ensures unwritten { IfErr result (λ e. e ≢ WriteFault → out.new ≡ out.old) }
+    ensures unwritten { IfErr result (λ e. e ≢ WriteFault → e ≢ OutOfMemory → out.new ≡ out.old) }
+    ensures stopped { result ≡ Err OutOfMemory → (out.new ≡ out.old) ⊎ StopsRun until (fonts_of fonts.now) (Some script.now)
+        (W.contents (inner_of out.old)) (W.contents (inner_of out.new)) }
 {
     let fonts = Fonts::from_bytes(alloc, fonts)?; // Nothing is decoded before.
     run_bytes_over(alloc, script, fonts, out, until)
 }
 
 /// Runs a script whose bytes are at hand over some fonts.
-#[tactic(auto, using(crate::proofs::RunLemmas::reports_of_steps, crate::proofs::RunLemmas::fault_answers))]
+#[tactic(auto, using(crate::proofs::RunLemmas::reports_of_steps, crate::proofs::RunLemmas::stops_of_steps, crate::proofs::RunLemmas::fault_answers))]
 fn run_bytes_over<W: Write>(
     alloc: Global,
     script: &[u8],
@@ -125,7 +134,9 @@ fn run_bytes_over<W: Write>(
         (W.contents (inner_of out.old)) (W.contents (inner_of out.new)) result }
     ensures unread { is_read_fault result ≡ false }
     ensures write_failed { has_failed out.new ≡ is_write_fault result }
-    ensures unwritten { IfErr result (λ e. e ≢ WriteFault → out.new ≡ out.old) }
+    ensures unwritten { IfErr result (λ e. e ≢ WriteFault → e ≢ OutOfMemory → out.new ≡ out.old) }
+    ensures stopped { result ≡ Err OutOfMemory → (out.new ≡ out.old) ⊎ StopsRun until fonts (Some script.now)
+        (W.contents (inner_of out.old)) (W.contents (inner_of out.new)) }
 {
     let script = decode(alloc, script)?;
     run_over(alloc, &script, fonts, out, until)
@@ -145,15 +156,19 @@ pub fn run_script<W: Write>(
     // The report of the script's steps, or the first fault.
     ensures answer { RunsScript until fonts.now script.now
         (W.contents (inner_of out.old)) (W.contents (inner_of out.new)) result }
-    // The writer fails exactly where the answer says so, and is left untouched by any other fault.
+    // The writer fails exactly where the answer says so, and is left untouched by any other fault; but before
+    // want of memory in a step the answers of the steps before are written, whole.
     ensures write_failed { has_failed out.new ≡ is_write_fault result }
-    ensures unwritten { IfErr result (λ e. e ≢ WriteFault → out.new ≡ out.old) }
+    ensures unwritten { IfErr result (λ e. e ≢ WriteFault → e ≢ OutOfMemory → out.new ≡ out.old) }
+    ensures stopped { result ≡ Err OutOfMemory → (out.new ≡ out.old) ⊎ StopsSteps until (fonts_of fonts.now) script.now
+        (W.contents (inner_of out.old)) (W.contents (inner_of out.new)) }
 {
     let fonts = Fonts::from_bytes(alloc, fonts)?;
     run_over(alloc, script, fonts, out, until)
 }
 
 /// Runs a script over some fonts.
+#[tactic(auto, using(crate::proofs::RunLemmas::report_answers, crate::proofs::RunLemmas::report_fails, crate::proofs::RunLemmas::report_stops))]
 fn run_over<W: Write>(
     alloc: Global,
     script: &Script,
@@ -165,8 +180,10 @@ fn run_over<W: Write>(
     ensures answer { ReportsSteps until fonts script.now
         (W.contents (inner_of out.old)) (W.contents (inner_of out.new)) result }
     ensures write_failed { has_failed out.new ≡ is_write_fault result }
-    ensures unwritten { IfErr result (λ e. e ≢ WriteFault → out.new ≡ out.old) }
+    ensures unwritten { IfErr result (λ e. e ≢ WriteFault → e ≢ OutOfMemory → out.new ≡ out.old) }
+    ensures stopped { result ≡ Err OutOfMemory → (out.new ≡ out.old) ⊎ StopsSteps until fonts script.now
+        (W.contents (inner_of out.old)) (W.contents (inner_of out.new)) }
 {
     let mut machine = Machine::power_on(alloc, fonts)?;
-    write_report(out, &mut machine, script.list(), until)
+    write_report(alloc, out, &mut machine, script.list(), until)
 }

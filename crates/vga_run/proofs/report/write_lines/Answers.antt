@@ -1,15 +1,13 @@
 use Rattle.std.proofs.Common.{arith}
 use Rattle.std.proofs.lemmas.Result.{err_from_is_err_and}
-use Rattle.vga_run.proofs.ReportLemmas.{reported_more, reported_front}
+use Rattle.vga_run.proofs.ReportLemmas.{reported_more, reported_err}
 use Rattle.vga_run.proofs.report.write_lines.Goals as goal
 
--- where the writer fails, it has a front of the next line
+-- where a step ends the run, the steps before it are whole
 pub returns-in_err-write_step-clause-text : goal.returns-in_err-write_step-clause-text
 returns-in_err-write_step-clause-text g c =
-    let w = c.in_err-write_step.ensures.text in
     let p = err_from_is_err_and c.from_residual.result c.from_residual.ensures.1 in
-    let front = reported_front _ _ _ _ _ _ _ c.args.first _ _ _ _ c.loop-i.invariant (omega arith) c.index-steps-i.is c.in_err-write_step.ensures.after w.2 in
-    rw (p.1, p.2) (w.0, w.1, front)
+    rw (p.1, p.2) (reported_err _ _ _ _ _ _ _ _ c.args.first _ _ _ _ c.loop-i.invariant (omega arith) c.index-steps-i.is c.in_err-write_step.ensures.text)
 
 -- one more line
 pub loop-i-preserved : goal.loop-i-preserved

@@ -1,0 +1,65 @@
+-- Tables that function 10 answers in the caller's memory: subfunctions 09 and 17.
+-- From the IBM PS/2 and PC BIOS Interface Technical Reference, "Interrupt 10H - Video", (AH) = 10H; the order of the cycles and the
+-- refusals are this adapter's choice.
+use Rattle.std.specs.Prelude.{ℕ, Bool, false, ◌*◌, ◌==◌, if◌then◌else◌, Option, Some, None, List, []}
+use Rattle.vga_bits.specs.declared.refusal.Refusal.{Refusal}
+use Rattle.vga_bits.specs.declared.refusal.Refusal.TheVariants.{BadRegister}
+use Rattle.bios_services.specs.declared.regs.Regs.{Regs}
+use Rattle.bios_services.specs.declared.reply.Table.{Table}
+use Rattle.bios_services.specs.declared.reply.Table.TheVariants.{Empty, Palette, Dac}
+use Rattle.bios_services.specs.declared.tables.TableService.{TableService}
+use Rattle.bios_services.specs.declared.tables.TableService.TheVariants.{ReadPalette, ReadEntries}
+use Rattle.bios_services.specs.Plan.{Plan, Done, ◌>>=◌, ◌>>◌, out, inp, gather}
+use Rattle.bios_services.specs.Cycles.{expect_index}
+use Rattle.bios_services.specs.Palette.{register_plan}
+use Rattle.bios_services.specs.Colours.{has_entries}
+
+-- the subfunction that answers a table, with its arguments
+abbrev pub table_service_of : Regs → Option TableService
+table_service_of r =
+    if r.ax == 0x1009 then Some ReadPalette
+    else if r.ax == 0x1017 then Some (ReadEntries r.bx r.cx)
+    else None
+
+-- why it is refused
+abbrev pub table_refusal : TableService → Option Refusal
+table_refusal ReadPalette = None
+table_refusal (ReadEntries first count) = if has_entries first count then None else Some BadRegister
+
+-- whether it takes memory: entries of the DAC do that are not refused
+abbrev pub table_takes_memory : TableService → Bool
+table_takes_memory ReadPalette = false
+table_takes_memory (ReadEntries first count) = has_entries first count
+
+-- the register whose value is byte i of the palette: the 16 palette registers, and then the overscan colour
+abbrev pub palette_register : ℕ → ℕ
+palette_register i = if i == 16 then 0x11 else i
+
+-- 09: the palette registers and the overscan colour, 17 bytes
+unfoldable pub registers_plan : ℕ → Plan (List ℕ)
+registers_plan port = gather (λ i. register_plan port (palette_register i)) 17 0
+
+unfoldable pub read_palette_plan : ℕ → Plan (List ℕ)
+read_palette_plan port = do
+  expect_index port
+  registers_plan port
+
+-- 17: red, green and blue of count entries from one on
+unfoldable pub read_components_plan : ℕ → Plan (List ℕ)
+read_components_plan n = gather (λ i. inp 0x3C9) n 0
+
+unfoldable pub read_entries_plan : ℕ → ℕ → Plan (List ℕ)
+read_entries_plan first count = do
+  out 0x3C7 first
+  read_components_plan (3 * count)
+
+-- what a subfunction does and answers that is not refused; the CRT controller's index is at this port
+unfoldable pub table_plan : TableService → ℕ → Plan Table
+table_plan ReadPalette port = read_palette_plan port >>= λ values. Done (Palette values)
+table_plan (ReadEntries first count) port = read_entries_plan first count >>= λ values. Done (Dac values)
+
+-- the bytes of a table
+abbrev pub table_bytes : Table → List ℕ
+table_bytes Empty = []
+table_bytes (Palette values) = values
+table_bytes (Dac values) = values

@@ -1,0 +1,139 @@
+//! Tables that function 10 answers in the caller's memory: subfunctions 09 and 17.
+ghost use Rattle.std.specs.Prelude.{◌≡◌, ◌<◌, IfOk, OnErr, None, length, true};
+ghost use Rattle.bios_services.specs.Plan.{run};
+ghost use Rattle.bios_services.specs.Tables.{table_service_of as table_service_of_regs, table_refusal as table_refusal_of, palette_register as palette_register_of, registers_plan, read_palette_plan, read_components_plan, read_entries_plan, table_plan, table_takes_memory};
+
+use crate::colours::has_entries;
+use crate::cycles::{DAC_DATA, DAC_READ_INDEX, expect_index, inp, out};
+use crate::palette::{OVERSCAN, register};
+use crate::regs::Regs;
+use crate::reply::Table;
+use std::alloc::{AllocError, Global};
+use vga_bits::{Bytes, Refusal};
+use vga_card::Bus;
+
+/// How many bytes the palette registers and the overscan colour have.
+pub(crate) const PALETTE_BYTES: usize = 17;
+
+/// What function 10 answers as a table.
+#[derive(Clone, Copy)]
+pub enum TableService {
+    /// 09: answers the palette registers and the overscan colour.
+    ReadPalette,
+    /// 17: answers some entries of the DAC.
+    ReadEntries { first: u16, count: u16 },
+}
+
+/// Which subfunction that answers a table the registers ask for, if they do.
+pub(crate) fn table_service_of(regs: Regs) -> Option<TableService>
+    ensures { result ≡ table_service_of_regs regs }
+{
+    match regs.ax {
+        0x1009 => Some(TableService::ReadPalette),
+        0x1017 => {
+            Some(TableService::ReadEntries {
+                first: regs.bx,
+                count: regs.cx,
+            })
+        }
+        _ => None,
+    }
+}
+
+/// Why such a subfunction is refused.
+pub(crate) fn table_refusal(service: TableService) -> Option<Refusal>
+    ensures { result ≡ table_refusal_of service }
+{
+    match service {
+        TableService::ReadPalette => None,
+        TableService::ReadEntries { first, count } => {
+            if has_entries(first, count) {
+                None
+            } else {
+                Some(Refusal::BadRegister)
+            }
+        }
+    }
+}
+
+/// The register whose value is byte i of the palette.
+fn palette_register(i: usize) -> u8
+    requires { i < 17 }
+    ensures value { result ≡ palette_register_of i }
+    ensures small { result < 32 }
+{
+    if i == 16 { OVERSCAN } else { i as u8 }
+}
+
+/// Reads the palette registers and the overscan colour, where the attribute controller's next write is an index.
+#[tactic(auto, using(crate::proofs::RunLemmas::run_bind), unfolding(crate::specs::Tables::registers_plan))]
+fn read_registers<B: Bus>(bus: &mut B, port: u16, values: &mut [u8])
+    requires port { port < 1000 }
+    requires whole { length values.old ≡ 17 }
+    ensures { (bus.new, values.new) ≡ run B.meaning (registers_plan port) bus.old }
+{
+    for i in 0..values.len() {
+        values[i] = register(bus, port, palette_register(i));
+    }
+}
+
+/// 09: reads the palette registers and the overscan colour.
+#[tactic(auto, using(crate::proofs::RunLemmas::run_bind), unfolding(crate::specs::Tables::read_palette_plan))]
+fn read_palette<B: Bus>(bus: &mut B, port: u16) -> [u8; PALETTE_BYTES]
+    requires { port < 1000 }
+    ensures { (bus.new, result) ≡ run B.meaning (read_palette_plan port) bus.old }
+{
+    let mut values = [0u8; PALETTE_BYTES];
+    expect_index(bus, port);
+    read_registers(bus, port, &mut values);
+    values
+}
+
+/// Reads bytes from the DAC's data.
+#[tactic(auto, using(crate::proofs::RunLemmas::run_bind), unfolding(crate::specs::Tables::read_components_plan))]
+fn read_components<B: Bus>(bus: &mut B, values: &mut [u8])
+    ensures { (bus.new, values.new) ≡ run B.meaning (read_components_plan (length values.old)) bus.old }
+{
+    for i in 0..values.len() {
+        values[i] = inp(bus, DAC_DATA);
+    }
+}
+
+/// 17: reads red, green and blue of some entries from one on. The memory for them is taken before the
+/// first cycle.
+#[tactic(auto, using(crate::proofs::RunLemmas::run_bind), unfolding(crate::specs::Tables::read_entries_plan))]
+fn read_entries<B: Bus>(
+    alloc: Global,
+    bus: &mut B,
+    first: u8,
+    count: u16,
+) -> Result<Bytes, AllocError>
+    ensures ok { IfOk result (λ values. (bus.new, values) ≡ run B.meaning (read_entries_plan first count) bus.old) }
+    ensures err { OnErr result (bus.new ≡ bus.old) }
+{
+    let mut values = vec![in alloc; 0; 3 * count as usize]?;
+    out(bus, DAC_READ_INDEX, first);
+    read_components(bus, &mut values);
+    Ok(Bytes::from_vec(values))
+}
+
+/// Does what a subfunction does that is not refused. Memory is taken for entries of the DAC alone.
+#[tactic(auto, using(crate::proofs::RunLemmas::run_bind), unfolding(crate::specs::Tables::table_plan))]
+pub(crate) fn read_table<B: Bus>(
+    alloc: Global,
+    bus: &mut B,
+    port: u16,
+    service: TableService,
+) -> Result<Table, AllocError>
+    requires port { port < 1000 }
+    requires allowed { table_refusal_of service ≡ None }
+    ensures ok { IfOk result (λ table. (bus.new, table) ≡ run B.meaning (table_plan service port) bus.old) }
+    ensures err { OnErr result ((bus.new ≡ bus.old) × (table_takes_memory service ≡ true)) }
+{
+    match service {
+        TableService::ReadPalette => Ok(Table::Palette(read_palette(bus, port))),
+        TableService::ReadEntries { first, count } => {
+            Ok(Table::Dac(read_entries(alloc, bus, first as u8, count)?))
+        }
+    }
+}
