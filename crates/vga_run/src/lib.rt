@@ -12,6 +12,3 @@ mod served;
 pub use answer::Answer;
 pub use laws::refused_steps_change_nothing;
 pub use runs::{run, run_bytes, run_script};
-
-#[cfg(test)]
-mod tests;

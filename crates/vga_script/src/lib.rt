@@ -32,6 +32,3 @@ pub use printing::print;
 pub use script::Script;
 pub use shown::Shown;
 pub use step::Step;
-
-#[cfg(test)]
-mod tests;

@@ -17,6 +17,3 @@ pub use latches::dump_latches;
 pub use plane::dump_plane;
 pub use ppm::{ppm_length, write_ppm};
 pub use regs::dump_regs;
-
-#[cfg(test)]
-mod tests;

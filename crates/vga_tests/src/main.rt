@@ -1,17 +1,33 @@
 //! Compares the adapter with plain, slow models of the register table, on pseudo-random registers, memory
-//! and colours, and prints how each comparison ended. The exit status is 1 where any model differs.
+//! and colours; checks scripts, dumps, pictures and runs where no script of the suite can, as with writers
+//! that fail; and prints how each comparison and each group of checks ended. The exit status is 1 where
+//! any model differs or any check fails.
 #![tactic(auto)]
 
+mod checks;
 mod dots;
+mod dumps;
 mod host_path;
+mod pictures;
 mod plain_dots;
 mod plain_host;
 mod random_registers;
+mod runs;
+mod script_bytes;
+mod script_texts;
+mod sink;
+mod source;
 
 use anyhow::Result;
+use checks::Checks;
 use dots::compare_dots;
+use dumps::check_dumps;
 use host_path::compare_host_path;
+use pictures::check_pictures;
 use random_registers::DotSource;
+use runs::check_runs;
+use script_bytes::check_script_bytes;
+use script_texts::check_script_texts;
 use std::process::ExitCode;
 use vga_bits::Tally;
 
@@ -22,9 +38,16 @@ const KINDS: [(&str, DotSource, u64); 3] = [
     ("256 colours", DotSource::Colours256, 3),
 ];
 
-fn main(rt: HostRuntime) -> Result<ExitCode> {
+/// Prints how the checks of a group ended, and counts the group.
+fn tell<R: Print>(rt: &R, tally: &mut Tally, group: &str, checks: Checks) -> Result<()> {
+    println!(rt; "{group}: {checks}")?;
+    tally.count(checks.have_passed());
+    Ok(())
+}
+
+/// Compares the adapter with the models, and prints how each comparison ended.
+fn compare_models<R: Print + AllocGlobal>(rt: &R, tally: &mut Tally) -> Result<()> {
     let alloc = rt.alloc();
-    let mut tally = Tally::new();
     let path = compare_host_path(alloc)?;
     println!(rt; "host path: {path}")?;
     tally.count(path.is_alike());
@@ -33,6 +56,23 @@ fn main(rt: HostRuntime) -> Result<ExitCode> {
         println!(rt; "{name}: {dots}")?;
         tally.count(dots.is_alike());
     }
+    Ok(())
+}
+
+/// Checks the crates, a group for each part, and prints how each ended.
+fn check_crates<R: Print + AllocGlobal>(rt: &R, tally: &mut Tally) -> Result<()> {
+    let alloc = rt.alloc();
+    tell(rt, tally, "texts of scripts", check_script_texts(alloc)?)?;
+    tell(rt, tally, "bytes of scripts", check_script_bytes(alloc)?)?;
+    tell(rt, tally, "dumps", check_dumps(alloc)?)?;
+    tell(rt, tally, "pictures", check_pictures(alloc))?;
+    tell(rt, tally, "runs", check_runs(alloc)?)
+}
+
+fn main(rt: HostRuntime) -> Result<ExitCode> {
+    let mut tally = Tally::new();
+    compare_models(&rt, &mut tally)?;
+    check_crates(&rt, &mut tally)?;
     println!(rt; "{tally}")?;
     Ok(ExitCode::from(tally.status()))
 }

@@ -7,32 +7,47 @@ use std::io;
 use std::io::Write;
 use vga_bits::Tracked;
 
-/// A writer that takes one byte a call, so many in all, and then nothing more.
+/// A writer that takes one byte a call, so many in all, and then nothing more. It flushes until it is full.
 #[derive(Drop)]
-pub(super) struct Sink {
+pub struct Sink {
     room: usize,
     taken: Vec<u8>,
+    calls: usize,
+    flushes: usize,
 }
 
 impl Sink {
     /// One with room for so many bytes.
-    pub(super) fn new(alloc: Global, room: usize) -> Tracked<Sink>
+    pub fn new(alloc: Global, room: usize) -> Tracked<Sink>
         ensures { has_failed result ≡ false }
     {
         Tracked::new(Sink {
             room,
             taken: Vec::new(alloc),
+            calls: 0,
+            flushes: 0,
         })
     }
 
     /// What it has taken.
-    pub(super) fn taken(&self) -> &[u8] {
+    pub fn taken(&self) -> &[u8] {
         self.taken.as_slice()
+    }
+
+    /// How often it was to take bytes.
+    pub fn calls(&self) -> usize {
+        self.calls
+    }
+
+    /// How often it was flushed.
+    pub fn flushes(&self) -> usize {
+        self.flushes
     }
 }
 
 impl Write for Sink {
     fn write(&mut self, buf: &[u8]) -> io::Result<usize> {
+        self.calls = self.calls.saturating_add(1);
         if self.room == 0 || buf.is_empty() {
             return Ok(0);
         }
@@ -42,6 +57,10 @@ impl Write for Sink {
     }
 
     fn flush(&mut self) -> io::Result<()> {
+        self.flushes = self.flushes.saturating_add(1);
+        if self.room == 0 {
+            return Err(io::Error::from(io::ErrorKind::Other));
+        }
         Ok(())
     }
 }

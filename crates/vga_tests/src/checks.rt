@@ -1,0 +1,48 @@
+//! How the checks of a group ended.
+
+use std::fmt;
+
+/// How the checks of a group ended: how many passed before the first that failed, and what that one
+/// checks. The others are not counted.
+#[derive(Clone, Copy)]
+pub struct Checks {
+    passed: u32,
+    failed: Option<&'static str>,
+}
+
+impl Checks {
+    /// No check yet.
+    pub fn new() -> Checks {
+        Checks {
+            passed: 0,
+            failed: None,
+        }
+    }
+
+    /// Takes how the next check ended, and what it checks.
+    pub fn note(&mut self, what: &'static str, has_passed: bool) {
+        if self.failed.is_some() {
+            return;
+        }
+        if has_passed {
+            self.passed = self.passed.saturating_add(1);
+        } else {
+            self.failed = Some(what);
+        }
+    }
+
+    /// Whether each check passed.
+    pub fn have_passed(&self) -> bool {
+        self.failed.is_none()
+    }
+}
+
+impl fmt::Display for Checks {
+    fn fmt<W: fmt::Write>(&self, f: &mut fmt::Formatter<W>) -> fmt::Result {
+        let passed = self.passed;
+        match self.failed {
+            None => write!(f, "{passed} checks passed"),
+            Some(what) => write!(f, "failed after {passed} checks: {what}"),
+        }
+    }
+}

@@ -1,0 +1,88 @@
+//! Each dump on writers that take one byte a call, and that fail.
+ghost use Rattle.std.specs.Prelude.{◌≡◌, false};
+ghost use Rattle.vga_bits.specs.Tracked.{has_failed};
+
+use crate::checks::Checks;
+use crate::sink::Sink;
+use anyhow::Result;
+use bios_modes::Bda;
+use std::alloc::Global;
+use std::io::Write;
+use vga_bits::{Fault, Tracked};
+use vga_card::Card;
+use vga_show::{dump_bda, dump_beam, dump_dac, dump_latches, dump_plane, dump_regs};
+
+/// A dump.
+#[derive(Clone, Copy)]
+enum Dump {
+    Regs,
+    Dac,
+    Beam,
+    Latches,
+    Plane,
+    Bda,
+}
+
+const DUMPS: [Dump; 6] = [
+    Dump::Regs,
+    Dump::Dac,
+    Dump::Beam,
+    Dump::Latches,
+    Dump::Plane,
+    Dump::Bda,
+];
+
+/// Writes a dump of an adapter and of BIOS data at power-on.
+fn write_dump<W: Write>(dump: Dump, out: &mut Tracked<W>, card: &Card) -> Result<(), Fault>
+    requires { has_failed out.old ≡ false }
+{
+    match dump {
+        Dump::Regs => dump_regs(out, card),
+        Dump::Dac => dump_dac(out, card, 0x0C),
+        Dump::Beam => dump_beam(out, card),
+        Dump::Latches => dump_latches(out, card),
+        Dump::Plane => dump_plane(out, card, 3, 0xFFF0, 16),
+        Dump::Bda => dump_bda(out, &Bda::new()),
+    }
+}
+
+/// The text of a dump.
+fn text_of(alloc: Global, dump: Dump, card: &Card) -> Result<Vec<u8>, Fault> {
+    let mut out = Tracked::new(Vec::new(alloc));
+    write_dump(dump, &mut out, card)?;
+    Ok(out.into_inner())
+}
+
+/// Whether a writer with room for so many bytes, and no more, answers so and then has these.
+fn takes(alloc: Global, dump: Dump, card: &Card, taken: &[u8], answer: Result<(), Fault>) -> bool {
+    let mut out = Sink::new(alloc, taken.len());
+    write_dump(dump, &mut out, card) == answer
+        && out.failed() == answer.is_err()
+        && out.into_inner().taken() == taken
+}
+
+/// Whether each writer that has too little room for a dump fails, and has a front of its text.
+fn are_fronts_taken(alloc: Global, dump: Dump, card: &Card, text: &[u8]) -> bool {
+    for room in 0..text.len() {
+        if !takes(alloc, dump, card, &text[..room], Err(Fault::WriteFault)) {
+            return false;
+        }
+    }
+    true
+}
+
+/// Checks how the dumps are written.
+pub fn check_dumps(alloc: Global) -> Result<Checks> {
+    let mut checks = Checks::new();
+    let card = Card::new(alloc)?;
+    for dump in DUMPS {
+        let text = text_of(alloc, dump, &card)?;
+        let text = text.as_slice();
+        checks.note("a whole dump", takes(alloc, dump, &card, text, Ok(())));
+        checks.note(
+            "a front of a dump",
+            are_fronts_taken(alloc, dump, &card, text),
+        );
+    }
+    Ok(checks)
+}

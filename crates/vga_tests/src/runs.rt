@@ -1,0 +1,197 @@
+//! Runs of scripts at hand, and of readers and writers that fail, that have no end, or that take one byte a
+//! call.
+
+use crate::checks::Checks;
+use crate::sink::Sink;
+use crate::source::{Endless, Source};
+use anyhow::Result;
+use std::alloc::Global;
+use vga_bits::{Fault, Tracked};
+use vga_run::{run, run_bytes, run_script};
+use vga_script::assemble;
+
+/// The size of a font file.
+const FONTS_LEN: usize = 9728;
+
+/// A script of nine steps: a byte is written to plane 0, and read back.
+const FIRST_PATH: [u8; 44] = *b"VGAS\x01\
+    \x01\xC2\x03\x02\
+    \x01\xC4\x03\x04\
+    \x01\xC5\x03\x06\
+    \x01\xC4\x03\x02\
+    \x01\xC5\x03\x01\
+    \x01\xCE\x03\x08\
+    \x01\xCF\x03\xFF\
+    \x05\x00\x00\x0A\x00\x55\
+    \x07\x00\x00\x0A\x00";
+
+/// Its report.
+const FIRST_REPORT: [u8; 45] = *b"1 ok\n2 ok\n3 ok\n4 ok\n5 ok\n6 ok\n7 ok\n8 ok\n9 55\n";
+
+/// The text of such a script.
+const FIRST_TEXT: &[u8] =
+    b"out 3C2 2\nout 3C4 4\nout 3C5 6\nout 3C4 2\nout 3C5 1\nout 3CE 8\nout 3CF FF\n\
+    put A0000 55\nget A0000";
+
+/// Fronts of a script, and how many bytes of them a call reads.
+const FRONTS: [(&[u8], usize); 4] = [(b"", 1), (b"V", 1), (b"VGAS\x01", 2), (&FIRST_PATH, 7)];
+
+/// Room for nothing, a part of a line, whole lines, and all but the last byte.
+const ROOMS: [usize; 8] = [0, 1, 4, 5, 6, 23, 40, FIRST_REPORT.len() - 1];
+
+/// Whether bytes at hand answer so over these fonts, and what is then written.
+fn is_bytes_run(
+    alloc: Global,
+    bytes: &[u8],
+    fonts: &[u8],
+    answer: Result<(), Fault>,
+    report: &[u8],
+) -> bool {
+    let mut out = Tracked::new(Vec::new(alloc));
+    run_bytes(alloc, bytes, fonts, &mut out, None) == answer
+        && out.into_inner().as_slice() == report
+}
+
+/// Whether steps at hand answer so over these fonts, and what is then written.
+fn is_script_run(
+    alloc: Global,
+    fonts: &[u8],
+    answer: Result<(), Fault>,
+    report: &[u8],
+) -> Result<bool, Fault> {
+    let script = assemble(alloc, FIRST_TEXT)?;
+    let mut out = Tracked::new(Vec::new(alloc));
+    let answered = run_script(alloc, &script, fonts, &mut out, None);
+    Ok(answered == answer && out.into_inner().as_slice() == report)
+}
+
+/// Checks scripts at hand: their reports, and that the size of the fonts is judged before the bytes.
+fn check_at_hand(alloc: Global, fonts: &[u8], checks: &mut Checks) -> Result<()> {
+    let font_size = Err(Fault::FontSize);
+    let bad_magic = Err(Fault::BadMagic);
+    checks.note(
+        "bytes at hand",
+        is_bytes_run(alloc, &FIRST_PATH, fonts, Ok(()), &FIRST_REPORT),
+    );
+    checks.note(
+        "steps at hand",
+        is_script_run(alloc, fonts, Ok(()), &FIRST_REPORT)?,
+    );
+    checks.note(
+        "bytes that are no script",
+        is_bytes_run(alloc, b"VGA", fonts, bad_magic, b""),
+    );
+    checks.note(
+        "fonts before bytes",
+        is_bytes_run(alloc, b"VGA", &[], font_size, b""),
+    );
+    checks.note(
+        "fonts before steps",
+        is_script_run(alloc, &[], font_size, b"")?,
+    );
+    Ok(())
+}
+
+/// Whether fonts of another size are refused before anything is read or written.
+fn is_font_size_first(alloc: Global, fonts: &[u8]) -> bool {
+    let mut reader = Tracked::new(Source::of(b"VGAX", 4));
+    let mut out = Sink::new(alloc, 100);
+    let answer = run(alloc, &mut reader, fonts, &mut out, None);
+    answer == Err(Fault::FontSize)
+        && !reader.failed()
+        && reader.into_inner().calls() == 0
+        && !out.failed()
+        && out.into_inner().calls() == 0
+}
+
+/// Whether a reader that fails behind these bytes, so many a call, leaves the writer.
+fn is_writer_left(alloc: Global, fonts: &[u8], front: &[u8], piece: usize) -> bool {
+    let mut reader = Tracked::new(Source::of(front, piece));
+    let mut out = Sink::new(alloc, 100);
+    let answer = run(alloc, &mut reader, fonts, &mut out, None);
+    answer == Err(Fault::ReadFault)
+        && reader.failed()
+        && !out.failed()
+        && out.into_inner().calls() == 0
+}
+
+/// Whether of a reader with no end one byte more is read than the longest script has.
+fn is_endless_too_long(alloc: Global, fonts: &[u8]) -> bool {
+    let mut reader = Tracked::new(Endless::new());
+    let mut out = Sink::new(alloc, 100);
+    let answer = run(alloc, &mut reader, fonts, &mut out, None);
+    answer == Err(Fault::TooLong)
+        && reader.into_inner().given() == 16_777_217
+        && out.into_inner().calls() == 0
+}
+
+/// Whether a run into a writer with room for so many bytes, a byte a call, answers so; and whether the writer then
+/// has taken these, and was flushed so often.
+fn takes(
+    alloc: Global,
+    fonts: &[u8],
+    room: usize,
+    answer: Result<(), Fault>,
+    taken: &[u8],
+    flushes: usize,
+) -> bool {
+    let mut reader = Tracked::new(FIRST_PATH.as_slice());
+    let mut out = Sink::new(alloc, room);
+    let answered = run(alloc, &mut reader, fonts, &mut out, None);
+    let failed = out.failed();
+    let sink = out.into_inner();
+    answered == answer
+        && failed == answer.is_err()
+        && sink.taken() == taken
+        && sink.flushes() == flushes
+}
+
+/// Checks readers that fail, and that have no end.
+fn check_readers(alloc: Global, fonts: &[u8], checks: &mut Checks) -> Result<()> {
+    for len in [0, FONTS_LEN - 1, FONTS_LEN + 1] {
+        let other = vec![in alloc; 0; len]?;
+        checks.note(
+            "the size of the fonts",
+            is_font_size_first(alloc, other.as_slice()),
+        );
+    }
+    for (front, piece) in FRONTS {
+        checks.note(
+            "a reader that fails",
+            is_writer_left(alloc, fonts, front, piece),
+        );
+    }
+    checks.note("a reader with no end", is_endless_too_long(alloc, fonts));
+    Ok(())
+}
+
+/// Checks writers that take a byte a call, and that fail.
+fn check_writers(alloc: Global, fonts: &[u8], checks: &mut Checks) {
+    let len = FIRST_REPORT.len();
+    let fault = Err(Fault::WriteFault);
+    checks.note(
+        "a byte a call",
+        takes(alloc, fonts, len + 1, Ok(()), &FIRST_REPORT, 1),
+    );
+    checks.note(
+        "a flush that fails",
+        takes(alloc, fonts, len, fault, &FIRST_REPORT, 1),
+    );
+    for room in ROOMS {
+        let front = &FIRST_REPORT[..room];
+        checks.note(
+            "a writer that fails",
+            takes(alloc, fonts, room, fault, front, 0),
+        );
+    }
+}
+
+/// Checks runs.
+pub fn check_runs(alloc: Global) -> Result<Checks> {
+    let mut checks = Checks::new();
+    let fonts = vec![in alloc; 0; FONTS_LEN]?;
+    check_at_hand(alloc, fonts.as_slice(), &mut checks)?;
+    check_readers(alloc, fonts.as_slice(), &mut checks)?;
+    check_writers(alloc, fonts.as_slice(), &mut checks);
+    Ok(checks)
+}

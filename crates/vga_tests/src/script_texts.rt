@@ -1,0 +1,204 @@
+//! Texts of scripts: their bytes and their printed text, worked out by hand, and texts with a fault.
+
+use crate::checks::Checks;
+use anyhow::Result;
+use std::alloc::{AllocError, Global};
+use vga_bits::Fault;
+use vga_script::{assemble, decode, encode, print};
+
+/// How long the longest text is.
+const LIMIT: usize = 16_777_216;
+
+/// A line of each step, and the same as it is printed.
+const EVERY_STEP: &[u8] =
+    b"out 3c4 2\noutw 3ce ff08\nin 3da\ninw 3C4\nput b8000 41\nputw 1234567 741\n\
+    get 0\ngetw FFFFffff\nint bx=1 cx=FfFf block 00fF\nadvance 007\nframe\nshow regs\nSHOW Dac 1f\n\
+    show BEAM\nshow latches\nshow plane 2 0 00256\nshow plane 3 ffFf 1\nshow bda";
+
+/// How those lines are printed.
+const EVERY_STEP_PRINTED: &[u8] = b"out 3C4 02\noutw 3CE FF08\nin 3DA\ninw 3C4\nput B8000 41\n\
+    putw 1234567 0741\nget 00000\ngetw FFFFFFFF\n\
+    int ax=0000 bx=0001 cx=FFFF dx=0000 block 00FF\nadvance 7\nframe\nshow regs\nshow dac 1F\n\
+    show beam\nshow latches\nshow plane 2 0000 256\nshow plane 3 FFFF 1\nshow bda\n";
+
+/// Their bytes.
+const EVERY_STEP_BYTES: &[u8] =
+    b"VGAS\x01\x01\xC4\x03\x02\x02\xCE\x03\x08\xFF\x03\xDA\x03\x04\xC4\x03\
+    \x05\x00\x80\x0B\x00\x41\x06\x67\x45\x23\x01\x41\x07\x07\x00\x00\x00\x00\x08\xFF\xFF\xFF\xFF\
+    \x09\x00\x00\x01\x00\xFF\xFF\x00\x00\x02\x00\x00\xFF\x0A\x07\x00\x00\x00\x0B\
+    \x0C\x00\x0C\x01\x1F\x0C\x02\x0C\x03\x0C\x04\x02\x00\x00\x00\x01\x0C\x04\x03\xFF\xFF\x01\x00\x0C\x05";
+
+/// Numbers of few and of many digits.
+const NUMBERS: &[u8] = b"in 0\nin fff\nin 1000\nget fffff\nget 100000\nget fffffff\nget 10000000\n\
+    advance 4294967295\nadvance 000000000000000000000";
+
+/// How they are printed.
+const NUMBERS_PRINTED: &[u8] =
+    b"in 000\nin FFF\nin 1000\nget FFFFF\nget 100000\nget FFFFFFF\nget 10000000\n\
+    advance 4294967295\nadvance 0\n";
+
+/// Lines that are no steps.
+const BAD_LINES: [&[u8]; 65] = [
+    // Words that are missing, or too many.
+    b"out 3C4",
+    b"out",
+    b"outw 3C4 1 2",
+    b"in",
+    b"in 3DA 0",
+    b"put A0000",
+    b"get",
+    b"advance",
+    b"advance 1 2",
+    b"frame 1",
+    b"int block",
+    b"int block 00 00",
+    // Digits that are too many, or none.
+    b"in 003DA",
+    b"out 3C4 002",
+    b"outw 3C4 00002",
+    b"put 0000A0000 1",
+    b"getw 123456789",
+    b"int ax=",
+    b"int ax=00013",
+    b"int block 0",
+    b"int block 000",
+    b"int block 0G",
+    b"int block +0",
+    b"in +3DA",
+    b"in 0x3DA",
+    b"in 3D:",
+    b"in 3DG",
+    b"advance 4294967296",
+    b"advance 99999999999999999999",
+    b"advance -1",
+    b"advance A",
+    // Registers out of order, twice, or with a blank.
+    b"int bx=1 ax=1",
+    b"int ax=1 ax=1",
+    b"int dx=1 cx=1",
+    b"int ax= 1",
+    b"int ax =1",
+    b"int ex=1",
+    b"int block 00 ax=1",
+    // What is shown has no name, another, too many words or too few.
+    b"show",
+    b"show cells",
+    b"show reg",
+    b"regs",
+    b"show regs x",
+    b"show beam 0",
+    b"show latches 0",
+    b"show bda 0",
+    b"show dac",
+    b"show dac 100",
+    b"show dac 1 2",
+    b"show plane 0 0",
+    b"show plane 0 0 1 1",
+    // Bytes of a plane that is none, too many digits, no bytes or too many, or bytes past the end.
+    b"show plane 4 0 1",
+    b"show plane 10 0 1",
+    b"show plane 2 10000 1",
+    b"show plane 2 0 0",
+    b"show plane 2 0 257",
+    b"show plane 2 0 A",
+    b"show plane 2 FFFF 2",
+    // Words that are no name.
+    b"outb 3C4 2",
+    b"version 2",
+    b"repeat 2",
+    b"\xC3\xB6ut 3C4 2",
+    b"in\x0C3DA",
+    b"in 3DA\x00",
+    b"in 3DA\x80",
+];
+
+/// The bytes and the printed text of a text's script, after its bytes were decoded.
+fn there_and_back(alloc: Global, text: &[u8]) -> Result<(Vec<u8>, Vec<u8>), Fault> {
+    let assembled = assemble(alloc, text)?;
+    let bytes = encode(alloc, &assembled)?;
+    let script = decode(alloc, bytes.as_slice())?;
+    let printed = print(alloc, &script)?;
+    Ok((bytes, printed))
+}
+
+/// The fault of a text, where it has one.
+fn text_fault(alloc: Global, text: &[u8]) -> Option<Fault> {
+    assemble(alloc, text).err()
+}
+
+/// Whether a text that has a line of every step has their bytes, and is printed in full.
+fn is_every_step_spelled(alloc: Global, text: &[u8]) -> Result<bool, Fault> {
+    let (bytes, printed) = there_and_back(alloc, text)?;
+    let count = assemble(alloc, text)?.list().len();
+    Ok(
+        bytes.as_slice() == EVERY_STEP_BYTES
+            && printed.as_slice() == EVERY_STEP_PRINTED
+            && count == 18,
+    )
+}
+
+/// Whether numbers are printed with the digits that they are to have.
+fn are_numbers_in_full(alloc: Global) -> Result<bool, Fault> {
+    let (_bytes, printed) = there_and_back(alloc, NUMBERS)?;
+    Ok(printed.as_slice() == NUMBERS_PRINTED)
+}
+
+/// Whether a bad line is named by its number, as the first and as the fourth line of a text.
+fn is_bad_line(alloc: Global, line: &[u8]) -> Result<bool, AllocError> {
+    let mut text = Vec::from_slice(alloc, b"\r\n; in\nframe\n")?;
+    text.extend_from_slice(line)?;
+    text.extend_from_slice(b" ; bad\r\nnor this\n")?;
+    Ok(
+        text_fault(alloc, line) == Some(Fault::BadLine(1))
+            && text_fault(alloc, text.as_slice()) == Some(Fault::BadLine(4)),
+    )
+}
+
+/// The line of a call of the BIOS with a block of so many bytes.
+fn block_line(alloc: Global, len: usize) -> Result<Vec<u8>, AllocError> {
+    let mut text = Vec::from_slice(alloc, b"int block ")?;
+    for _ in 0..len {
+        text.extend_from_slice(b"a5")?;
+    }
+    Ok(text)
+}
+
+/// Whether a block of 65,535 bytes is read and printed, and one of more is not.
+fn is_longest_block_read(alloc: Global) -> Result<bool> {
+    let text = block_line(alloc, 65_535)?;
+    let (bytes, printed) = there_and_back(alloc, text.as_slice())?;
+    let longer = block_line(alloc, 65_536)?;
+    Ok(
+        bytes.len() == 5 + 11 + 65_535
+            && printed.len() == 35 + 7 + 131_070 + 1
+            && text_fault(alloc, longer.as_slice()) == Some(Fault::BadLine(1)),
+    )
+}
+
+/// Whether a text of 16,777,216 bytes is read and one of more is not, whatever its first line is.
+fn is_longest_text_read(alloc: Global) -> Result<bool, AllocError> {
+    let mut text = vec![in alloc; b';'; LIMIT]?;
+    let longest = text_fault(alloc, text.as_slice());
+    text.push(b'\n')?;
+    let longer = text_fault(alloc, text.as_slice());
+    let bad = vec![in alloc; b'?'; LIMIT + 1]?;
+    let too_long = Some(Fault::TooLong);
+    Ok(longest.is_none() && longer == too_long && text_fault(alloc, bad.as_slice()) == too_long)
+}
+
+/// Checks texts of scripts.
+pub fn check_script_texts(alloc: Global) -> Result<Checks> {
+    let mut checks = Checks::new();
+    checks.note("every step", is_every_step_spelled(alloc, EVERY_STEP)?);
+    checks.note(
+        "every printed step",
+        is_every_step_spelled(alloc, EVERY_STEP_PRINTED)?,
+    );
+    checks.note("numbers in full", are_numbers_in_full(alloc)?);
+    for line in BAD_LINES {
+        checks.note("a bad line", is_bad_line(alloc, line)?);
+    }
+    checks.note("the longest block", is_longest_block_read(alloc)?);
+    checks.note("the longest text", is_longest_text_read(alloc)?);
+    Ok(checks)
+}

@@ -1,0 +1,67 @@
+//! Readers that fail, and that have no end.
+
+use std::io;
+use std::io::Read;
+
+/// A reader that gives these bytes, so many a call, and then fails.
+#[derive(Drop)]
+pub struct Source<'a> {
+    bytes: &'a [u8],
+    piece: usize,
+    calls: usize,
+}
+
+impl Source<'_> {
+    /// One of these bytes, so many a call.
+    pub fn of(bytes: &[u8], piece: usize) -> Source<'_> {
+        Source {
+            bytes,
+            piece,
+            calls: 0,
+        }
+    }
+
+    /// How often it was to give bytes.
+    pub fn calls(&self) -> usize {
+        self.calls
+    }
+}
+
+impl Read for Source<'_> {
+    fn read(&mut self, buf: &mut [u8]) -> io::Result<usize> {
+        self.calls = self.calls.saturating_add(1);
+        if self.bytes.is_empty() {
+            return Err(io::Error::from(io::ErrorKind::Other));
+        }
+        let n = self.piece.min(self.bytes.len()).min(buf.len());
+        let (front, rest) = self.bytes.split_at(n);
+        buf[..n].copy_from_slice(front);
+        self.bytes = rest;
+        Ok(n)
+    }
+}
+
+/// A reader with no end.
+#[derive(Drop)]
+pub struct Endless {
+    given: usize,
+}
+
+impl Endless {
+    /// One that has given nothing yet.
+    pub fn new() -> Endless {
+        Endless { given: 0 }
+    }
+
+    /// How many bytes it has given.
+    pub fn given(&self) -> usize {
+        self.given
+    }
+}
+
+impl Read for Endless {
+    fn read(&mut self, buf: &mut [u8]) -> io::Result<usize> {
+        self.given = self.given.saturating_add(buf.len());
+        Ok(buf.len())
+    }
+}
