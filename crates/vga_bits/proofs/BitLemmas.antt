@@ -1,10 +1,10 @@
 -- A byte is known by its eight bits, and the bits of what the operations on bytes give.
-use Rattle.std.proofs.Common.{Bool, ◌&&◌, ◌≡◌, refl, ℕ, ◌+◌, ◌-◌, ◌*◌, ◌/◌, ◌%◌, ◌^◌, ◌<◌, ◌≤◌, arith, sym, ap, ◌∙◌, inl, inr, add-zero, bit_and, bit_or, bit_xor, ◌==◌, if◌then◌else◌, w8}
+use Rattle.std.proofs.Common.{◌&&◌, ◌≡◌, refl, ℕ, ◌+◌, ◌-◌, ◌*◌, ◌/◌, ◌%◌, ◌^◌, ◌<◌, ◌≤◌, arith, sym, ap, ◌∙◌, inl, inr, add-zero, bit_and, bit_or, w8}
 use Rattle.std.proofs.lemmas.Bool.{cases_lt}
 use Rattle.std.proofs.lemmas.Bool.Decides.{nat_tests}
 use Rattle.std.specs.Int.{bit_at, rotate_right}
-use Rattle.std.proofs.lemmas.Nat.Bits.{ones_shr, bit_at_or, bit_at_and, bit_at_not, bit_at_xor, bit_at-lt, bit_at-zero, bit_at_ones, bit_at_above, bit_at_cat_low, bit_at_cat_high}
-use Rattle.std.proofs.lemmas.Nat.{and_mask, xor_lt, shr-shr, pow_pos, div-add-mod'}
+use Rattle.std.proofs.lemmas.Nat.Bits.{ones_shr, bit_at_or, bit_at_and, bit_at-lt, bit_at-zero, bit_at_ones, bit_at_above, bit_at_cat_low, bit_at_cat_high}
+use Rattle.std.proofs.lemmas.Nat.{and_mask, shr-shr, pow_pos, div-add-mod'}
 use Rattle.vga_bits.specs.Bits.{byte_of, is_set}
 
 -- a byte whose bits are given is the byte of them

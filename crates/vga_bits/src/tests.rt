@@ -54,6 +54,8 @@ fn a_text_grows_at_its_end(rt: HostRuntime) {
         b"port 03DA:0C dots 4294967295 at 18446744073709551615".as_slice()
     );
     assert_eq!(rt; text.len(), 52);
+    text.truncate(12);
+    assert_eq!(rt; text.as_slice(), b"port 03DA:0C".as_slice());
 }
 
 #[test]

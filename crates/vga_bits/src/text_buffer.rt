@@ -1,5 +1,5 @@
 //! Text that is made piece by piece, with no memory taken.
-ghost use Rattle.std.specs.Prelude.{◌≡◌, ◌+◌, ◌<◌, ◌≤◌, ◌++◌, [], length, decimal};
+ghost use Rattle.std.specs.Prelude.{◌≡◌, ◌+◌, ◌<◌, ◌≤◌, ◌++◌, [], length, take, decimal};
 ghost use Rattle.vga_bits.specs.Hex.{hex, hex_digit as hex_digit_of, hex_byte, hex_word};
 
 use arrayvec::ArrayVec;
@@ -56,6 +56,15 @@ impl<const ROOM: usize> TextBuffer<ROOM> {
         let _ = self.bytes.try_extend_from_slice(text);
     }
 
+    /// Keeps the first `len` bytes alone.
+    pub fn truncate(&mut self, len: usize)
+        requires { len ≤ length self.old }
+        ensures items { self.new ≡ take len self.old }
+        ensures len { length self.new ≡ len }
+    {
+        self.bytes.truncate(len);
+    }
+
     /// Puts a number at the end, in decimal. There is room for ten digits.
     pub fn push_decimal(&mut self, n: u32)
         requires { length self.old + 10 ≤ ROOM }
@@ -90,21 +99,28 @@ impl<const ROOM: usize> TextBuffer<ROOM> {
     }
 
     /// Puts the two digits of a byte at the end, in hexadecimal.
+    #[tactic(auto, using(crate::proofs::HexLemmas::hex_of_byte))]
     pub fn push_hex_byte(&mut self, v: u8)
         requires { length self.old + 2 ≤ ROOM }
         ensures items { self.new ≡ self.old ++ hex_byte v }
         ensures len { length self.new ≡ length self.old + 2 }
     {
-        self.push_hex(v as u32, 2);
+        self.push(&[hex_digit(v / 16), hex_digit(v % 16)]);
     }
 
     /// Puts the four digits of a word at the end, in hexadecimal.
+    #[tactic(auto, using(crate::proofs::HexLemmas::hex_of_word))]
     pub fn push_hex_word(&mut self, v: u16)
         requires { length self.old + 4 ≤ ROOM }
         ensures items { self.new ≡ self.old ++ hex_word v }
         ensures len { length self.new ≡ length self.old + 4 }
     {
-        self.push_hex(v as u32, 4);
+        self.push(&[
+            hex_digit((v / 4096) as u8),
+            hex_digit((v / 256 % 16) as u8),
+            hex_digit((v / 16 % 16) as u8),
+            hex_digit((v % 16) as u8),
+        ]);
     }
 
     /// The bytes.

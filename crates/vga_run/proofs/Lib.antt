@@ -1,3 +1,4 @@
+pub mod NumberLemmas
 pub mod ReportLemmas
 pub mod RunLemmas
 pub mod ServedLemmas

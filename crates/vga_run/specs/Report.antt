@@ -1,5 +1,5 @@
 -- The report of a script: a line for each step, with its number and its answer, and behind it the picture of a frame.
-use Rattle.std.specs.Prelude.{ℕ, ◌+◌, ◌==◌, if◌then◌else◌, List, [], ◌∷◌, ◌++◌, length, take, Option, None, Some, codes, decimal}
+use Rattle.std.specs.Prelude.{◌≡◌, ℕ, ◌+◌, ◌==◌, if◌then◌else◌, List, [], ◌∷◌, ◌++◌, length, take, Option, None, Some, codes, decimal}
 use Rattle.std.specs.List.{flat_map}
 use Rattle.vga_bits.specs.Refusal.{refusal_name}
 use Rattle.vga_bits.specs.Hex.{hex_byte, hex_word}
@@ -34,6 +34,11 @@ answer_text (Refused refusal) = refusal_name refusal
 -- the number of a step in decimal, and a blank
 unfoldable pub number_text : ℕ → List ℕ
 number_text n = decimal n ++ codes " "
+
+-- a line has the number of a step and a blank at its front, which is so long
+pub record HasNumber (text : List ℕ) (front n : ℕ) : Type 0 where
+  pub is : take front text ≡ number_text n
+  pub whole : front ≡ length (number_text n)
 
 -- the line of step n that stands before a picture of so many bytes
 unfoldable pub picture_line : ℕ → ℕ → List ℕ

@@ -5,6 +5,7 @@ mod answer;
 mod laws;
 mod line;
 pub mod machine;
+mod numbered_line;
 mod report;
 mod runs;
 mod served;

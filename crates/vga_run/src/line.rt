@@ -16,7 +16,7 @@ pub(crate) type Line = TextBuffer<LINE_LEN>;
 
 /// Puts the text of an answer at the line's end.
 #[tactic(auto, using(crate::proofs::ReportLemmas::name_is_short))]
-fn push_answer(line: &mut Line, answer: Answer)
+pub(crate) fn push_answer(line: &mut Line, answer: Answer)
     requires { length line.old ≤ 21 }
     ensures items { line.new ≡ line.old ++ answer_text answer }
     ensures len { length line.new ≤ length line.old + 15 }

@@ -9,13 +9,14 @@ ghost use Rattle.vga_run.specs.Run.{WritesStep, WritesReport};
 ghost use Rattle.vga_script.specs.Step.{IsInRange, AreInRange};
 ghost use Rattle.vga_script.specs.declared.step.Step.TheVariants.{Int};
 ghost use Rattle.vga_script.specs.Shown.{IsShownInRange};
-ghost use Rattle.vga_run.specs.Report.{line, picture_line as picture_line_of, steps_until};
+ghost use Rattle.vga_run.specs.Report.{line as line_of, picture_line as picture_line_of, steps_until};
 ghost use Rattle.vga_show.specs.Ppm.{ppm};
 ghost use Rattle.bios_modes.specs.Valid.{IsValid};
 
 use super::answer::Answer;
 use super::line::{Line, numbered, write_line};
 use super::machine::Machine;
+use super::numbered_line::NumberedLine;
 use super::served::write_reply;
 use bios_services::{Regs, ServiceError, int10};
 use std::alloc::Global;
@@ -68,7 +69,7 @@ fn write_picture<W: Write>(
     requires height { height ≤ highest }
     requires whole { length bytes.now ≡ 3 * (width * height) }
     ensures { Writes (W.contents (inner_of out.old)) (W.contents (inner_of out.new))
-        (has_failed out.new) result (line n (Picture width height bytes.now)) }
+        (has_failed out.new) result (line_of n (Picture width height bytes.now)) }
 {
     let line = picture_line(n, ppm_length(width, height));
     write_whole(out, line.as_slice())?;
@@ -80,7 +81,7 @@ fn write_picture<W: Write>(
 fn write_ragged<W: Write>(out: &mut Tracked<W>, n: usize) -> Result<(), Fault>
     requires { has_failed out.old ≡ false }
     ensures { Writes (W.contents (inner_of out.old)) (W.contents (inner_of out.new))
-        (has_failed out.new) result (line n Ragged) }
+        (has_failed out.new) result (line_of n Ragged) }
 {
     let mut line = numbered(n);
     line.push(b"ragged\n");
@@ -92,7 +93,7 @@ fn write_drawn<W: Write>(out: &mut Tracked<W>, n: usize, drawn: Drawn<'_>) -> Re
     requires writer { has_failed out.old ≡ false }
     requires few { IsSmall drawn }
     ensures { Writes (W.contents (inner_of out.old)) (W.contents (inner_of out.new))
-        (has_failed out.new) result (line n (of_drawn drawn.entry)) }
+        (has_failed out.new) result (line_of n (of_drawn drawn.entry)) }
 {
     match drawn {
         Drawn::Picture(width, height, bytes) => write_picture(out, n, width, height, bytes),
@@ -133,7 +134,7 @@ fn write_shown<W: Write>(
     requires writer { has_failed out.old ≡ false }
     requires range { IsShownInRange shown }
     ensures { Writes (W.contents (inner_of out.old)) (W.contents (inner_of out.new))
-        (has_failed out.new) result (line n (Dump (dump_text machine.now shown))) }
+        (has_failed out.new) result (line_of n (Dump (dump_text machine.now shown))) }
 {
     write_whole(out, numbered(n).as_slice())?;
     write_dump(out, machine, shown)
@@ -171,12 +172,12 @@ fn write_service<W: Write>(
     }
 }
 
-/// Takes a step, and writes what it answers as step n.
+/// Takes a step, and writes what it answers, in the line of its number.
 #[tactic(auto, using(crate::proofs::ReportLemmas::step_is_written), unfolding(crate::specs::Step::answer_to, crate::specs::Step::after_step))]
 fn write_step<W: Write>(
     alloc: Global,
     out: &mut Tracked<W>,
-    n: usize,
+    line: &mut NumberedLine,
     machine: &mut Machine,
     step: &Step,
 ) -> Result<(), Fault>
@@ -184,7 +185,8 @@ fn write_step<W: Write>(
     requires range { IsInRange step.now }
     requires valid { IsValid machine.old.bda }
     ensures text { WritesStep (W.contents (inner_of out.old)) (W.contents (inner_of out.new))
-        (has_failed out.new) result machine.old n step.now }
+        (has_failed out.new) result machine.old line.old step.now }
+    ensures number { line.new ≡ line.old }
     ensures after { OnOk result (machine.new ≡ after_step machine.old step.now) }
     ensures valid { IsValid machine.new.bda }
 {
@@ -212,13 +214,13 @@ fn write_step<W: Write>(
                 cx: *cx,
                 dx: *dx,
             };
-            return write_service(alloc, out, n, machine, regs, block);
+            return write_service(alloc, out, line.number(), machine, regs, block);
         }
         Step::Advance { dots } => Answer::of_write(machine.card.advance(*dots)),
-        Step::Frame => return write_drawn(out, n, machine.card.frame()),
-        Step::Show { shown } => return write_shown(out, n, machine, *shown),
+        Step::Frame => return write_drawn(out, line.number(), machine.card.frame()),
+        Step::Show { shown } => return write_shown(out, line.number(), machine, *shown),
     };
-    write_line(out, n, answer)
+    line.write(out, answer)
 }
 
 /// Takes the steps on this machine, and writes a line for each, of which the first has this
@@ -240,8 +242,10 @@ fn write_lines<W: Write>(
     ensures after { OnOk result (machine.new ≡ after_steps machine.old steps.now) }
     ensures valid { IsValid machine.new.bda }
 {
-    for (i, step) in steps.iter().enumerate() {
-        write_step(alloc, out, first + i, machine, step)?;
+    let mut line = NumberedLine::of(first);
+    for step in steps {
+        write_step(alloc, out, &mut line, machine, step)?;
+        line.count_up();
     }
     Ok(())
 }

@@ -1,0 +1,91 @@
+//! The line of a step, whose number is counted up from step to step.
+ghost use Rattle.std.specs.Prelude.{◌≡◌, ◌+◌, ◌<◌, ◌^◌, false};
+ghost use Rattle.vga_bits.specs.Tracked.{inner_of, has_failed, Writes};
+ghost use Rattle.vga_run.specs.Answer.{Plain};
+ghost use Rattle.vga_run.specs.Report.{line as line_of};
+
+use super::answer::Answer;
+use super::line::{Line, numbered, push_answer};
+use std::io::Write;
+use std::marker::Model;
+use vga_bits::{Fault, Tracked, write_whole};
+
+/// The line of a step. Its number and a blank stand at its front, and stay there from step to step: to print
+/// a number anew takes longer than many a step.
+///
+/// Contracts see the number.
+#[derive(Drop)]
+pub(crate) struct NumberedLine {
+    number: usize,
+    line: Line,
+    front: usize,
+}
+
+impl Model for NumberedLine {
+    ghost use Rattle.std.specs.Prelude.{ℕ};
+    ghost use Rattle.vga_run.specs.Report.{HasNumber};
+
+    ghost Value = { ℕ };
+
+    ghost view = { λ l. l.number };
+
+    ghost invariant = { λ l. HasNumber l.line l.front l.number };
+}
+
+impl NumberedLine {
+    /// The line of the step with this number.
+    #[tactic(auto, using(crate::proofs::NumberLemmas::number_first))]
+    pub(crate) fn of(number: usize) -> NumberedLine
+        ensures { result ≡ number }
+    {
+        let line = numbered(number);
+        let front = line.len();
+        NumberedLine {
+            number,
+            line,
+            front,
+        }
+    }
+
+    /// The number.
+    pub(crate) fn number(&self) -> usize
+        ensures { result ≡ self.now }
+    {
+        self.number
+    }
+
+    /// Goes on to the next step. Only where the last digit is 9 are the others printed anew.
+    #[tactic(auto, using(crate::proofs::NumberLemmas::front_is_long, crate::proofs::NumberLemmas::front_is_short, crate::proofs::NumberLemmas::number_counted))]
+    pub(crate) fn count_up(&mut self)
+        requires { self.old + 1 < 2 ^ 64 }
+        ensures { self.new ≡ self.old + 1 }
+    {
+        let digit = (self.number % 10) as u8;
+        self.number += 1;
+        if digit < 9 {
+            self.line.truncate(self.front - 2);
+            self.line.push(&[b'1' + digit, b' ']);
+        } else {
+            self.line = numbered(self.number);
+            self.front = self.line.len();
+        }
+    }
+
+    /// Writes the line with this answer.
+    #[tactic(auto, unfolding(crate::specs::Report::line, crate::specs::Report::number_text), using(std::proofs::lemmas::List::append_assoc, crate::proofs::NumberLemmas::front_is_short, crate::proofs::NumberLemmas::number_behind))]
+    pub(crate) fn write<W: Write>(
+        &mut self,
+        out: &mut Tracked<W>,
+        answer: Answer,
+    ) -> Result<(), Fault>
+        requires { has_failed out.old ≡ false }
+        ensures text { Writes (W.contents (inner_of out.old)) (W.contents (inner_of out.new))
+            (has_failed out.new) result (line_of self.old (Plain answer)) }
+        ensures number { self.new ≡ self.old }
+    {
+        self.line.truncate(self.front);
+        push_answer(&mut self.line, answer);
+        self.line.push(b"\n");
+        write_whole(out, self.line.as_slice())
+    }
+}
