@@ -60,6 +60,11 @@ impl<'a> Case<'a> {
             is_wrong,
         })
     }
+
+    /// Whether it is a text that is run to its end, with the report that is right.
+    pub fn is_of_whole_text(&self) -> bool {
+        matches!(self.form, Form::Vga) && self.until.is_none() && !self.is_wrong
+    }
 }
 
 impl<'a> Item<'a> {

@@ -12,14 +12,18 @@ mod picture;
 mod running;
 mod setting;
 mod shown;
+mod single_dots;
 
 use anyhow::{Context, Result, bail};
 use difference::{Difference, first_difference};
 use item::{Case, Form, Item};
 use setting::Setting;
 use shown::shown_report;
+use single_dots::{answers, by_single_dots};
+use std::alloc::Global;
 use std::process::ExitCode;
 use std::rt::{Env, Files};
+use std::str::from_utf8;
 use std::{env, fs};
 use vga_bits::Tally;
 
@@ -42,14 +46,20 @@ fn read_text<R: Files + AllocGlobal>(rt: &R, path: &str) -> Result<String> {
     fs::read_to_string(rt, path).context(format_args!("{path}"))
 }
 
+/// The text of a case, behind the front.
+fn text_of<R: Files + AllocGlobal>(rt: &R, case: &Case, setting: &Setting) -> Result<Vec<u8>> {
+    let alloc = rt.alloc();
+    let text = read_bytes(rt, setting.path(alloc, case.name, ".vga")?.as_str())?;
+    Ok(setting.behind_front(alloc, text.as_slice())?)
+}
+
 /// What a case reports.
 fn report_of<R: Files + AllocGlobal>(rt: &R, case: &Case, setting: &Setting) -> Result<Vec<u8>> {
     let alloc = rt.alloc();
     let fonts = setting.fonts();
     let answer = match case.form {
         Form::Vga => {
-            let script = read_bytes(rt, setting.path(alloc, case.name, ".vga")?.as_str())?;
-            let text = setting.behind_front(alloc, script.as_slice())?;
+            let text = text_of(rt, case, setting)?;
             running::run_text(alloc, text.as_slice(), fonts, case.until)
         }
         Form::Hex => {
@@ -91,6 +101,55 @@ fn check_case<R: Files + Print + AllocGlobal>(
     Ok(difference.is_some() == case.is_wrong)
 }
 
+/// What a text answers, if it is run to its end.
+fn answers_of(alloc: Global, text: &str, setting: &Setting) -> Result<Option<String>> {
+    let Ok(report) = running::run_text(alloc, text.as_bytes(), setting.fonts(), None) else {
+        return Ok(None);
+    };
+    let shown = shown_report(alloc, report.as_slice(), "")?;
+    Ok(Some(answers(alloc, shown.as_str())?))
+}
+
+/// Where a text answers otherwise if its advances are taken by single dots; None where there is nothing
+/// to compare, since it has no advance for that or is no script.
+fn difference_by_single_dots(
+    alloc: Global,
+    text: &str,
+    setting: &Setting,
+) -> Result<Option<Option<Difference>>> {
+    let Some(single) = by_single_dots(alloc, text)? else {
+        return Ok(None);
+    };
+    let Some(expected) = answers_of(alloc, text, setting)? else {
+        return Ok(None);
+    };
+    let got = answers_of(alloc, single.as_str(), setting)?.unwrap_or(String::new(alloc));
+    Ok(Some(first_difference(alloc, got.as_str(), expected.as_str())?))
+}
+
+/// Takes the advances of a case by single dots, prints whether it answers the same, and counts it.
+fn check_single_dots<R: Files + Print + AllocGlobal>(
+    rt: &R,
+    case: &Case,
+    setting: &Setting,
+    tally: &mut Tally,
+) -> Result<()> {
+    let name = case.name;
+    let text = text_of(rt, case, setting)?;
+    let Ok(text) = from_utf8(text.as_slice()) else {
+        return Ok(());
+    };
+    let Some(difference) = difference_by_single_dots(rt.alloc(), text, setting)? else {
+        return Ok(());
+    };
+    match &difference {
+        None => println!(rt; "{name} ok by single dots")?,
+        Some(difference) => println!(rt; "{name} by single dots differs at {difference}")?,
+    }
+    tally.count(difference.is_none());
+    Ok(())
+}
+
 /// Does what a line of the list asks for.
 fn take_item<R: Files + Print + AllocGlobal>(
     rt: &R,
@@ -108,7 +167,12 @@ fn take_item<R: Files + Print + AllocGlobal>(
         Item::Front(file) => {
             setting.set_front(read_bytes(rt, setting.path(alloc, file, "")?.as_str())?);
         }
-        Item::Case(case) => tally.count(check_case(rt, &case, setting)?),
+        Item::Case(case) => {
+            tally.count(check_case(rt, &case, setting)?);
+            if case.is_of_whole_text() {
+                check_single_dots(rt, &case, setting, tally)?;
+            }
+        }
     }
     Ok(())
 }
