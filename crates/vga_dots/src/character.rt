@@ -63,8 +63,10 @@ fn shade_in(attr: &Attr, dac: &Dac, table: &Shades, n: u8) -> [u8; 3]
 }
 
 /// The dots of a line of a glyph, of which bit 8 is the leftmost.
+#[inline(always)]
 fn glyph_dots(attr: &Attr, character: u8, row: u8) -> u16
-    ensures { (i : ℕ) → i < 9 → is_set result (8 - i) ≡ is_dot_of_glyph attr.now character row i }
+    ensures dots { (i : ℕ) → i < 9 → is_set result (8 - i) ≡ is_dot_of_glyph attr.now character row i }
+    ensures nine { result < 512 }
 {
     if is_glyph_dot(attr, character, row, 8) {
         2 * row as u16 + 1
@@ -74,8 +76,10 @@ fn glyph_dots(attr: &Attr, character: u8, row: u8) -> u16
 }
 
 /// The dots of a counter's cell that have its foreground, of which bit 8 is the leftmost.
+#[inline(always)]
 fn lit_dots(host: &Host, crtc: &Crtc, attr: &Attr, counter: u16, cell: Cell) -> u16
-    ensures { (i : ℕ) → i < 9 → is_set result (8 - i) ≡ is_foreground host.now crtc.now attr.now (dot_of counter i) cell }
+    ensures dots { (i : ℕ) → i < 9 → is_set result (8 - i) ≡ is_foreground host.now crtc.now attr.now (dot_of counter i) cell }
+    ensures nine { result < 512 }
 {
     if is_cursor_at(crtc, counter) {
         ALL_DOTS
@@ -93,6 +97,7 @@ fn lit_dots(host: &Host, crtc: &Crtc, attr: &Attr, counter: u16, cell: Cell) -> 
 }
 
 /// Writes the dots of a character of text.
+#[inline(always)]
 pub(crate) fn put_text<const CW: usize>(
     host: &Host,
     crtc: &Crtc,

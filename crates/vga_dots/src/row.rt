@@ -1,9 +1,10 @@
 //! Dots in a row of bytes: red, green and blue of each in turn.
 ghost use Rattle.std.specs.Prelude.{◌≡◌, ◌+◌, ◌-◌, ◌*◌, ◌/◌, ◌<◌, ◌≤◌, if◌then◌else◌, length, [], nat_lt, slice_index_or};
-ghost use Rattle.vga_bits.specs.Bits.{is_set};
+ghost use Rattle.vga_bits.specs.Bits.{is_set as is_set_of};
 ghost use Rattle.vga_dots.specs.Row.{four_bits, dot_in, IsDotPut, AreDotsPut};
 
 use crate::graphics::bit;
+use vga_bits::is_set;
 
 /// The colours of the 16 numbers that four bits have.
 pub(crate) type Shades = [[u8; 3]; 16];
@@ -50,16 +51,27 @@ pub(crate) fn copy_dots(row: &mut [u8], dots: &[u8], first: usize, count: usize)
     }
 }
 
+/// Whether dot `i` of a line of a glyph is lit, of which bit 8 of `lit` is the leftmost dot. Eight dots are
+/// looked up in a byte, since a processor tests more bytes at once than words.
+fn is_dot_lit(lit: u16, i: usize) -> bool
+    requires dots { lit < 512 }
+    requires dot { i < 9 }
+    ensures { result ≡ is_set_of lit (8 - i) }
+{
+    if i < 8 {
+        is_set((lit >> 1) as u8, 7 - i as u32)
+    } else {
+        lit % 2 == 1
+    }
+}
+
 /// The colour of dot `i` of a line of a glyph, of which bit 8 of `lit` is the leftmost dot.
 fn glyph_dot(lit: u16, i: usize, fore: [u8; 3], back: [u8; 3]) -> [u8; 3]
-    requires { i < 9 }
-    ensures { result ≡ (if is_set lit (8 - i) then fore else back) }
+    requires dots { lit < 512 }
+    requires dot { i < 9 }
+    ensures { result ≡ (if is_set_of lit (8 - i) then fore else back) }
 {
-    if (lit >> (8 - i)) % 2 == 1 {
-        fore
-    } else {
-        back
-    }
+    if is_dot_lit(lit, i) { fore } else { back }
 }
 
 /// Writes the dots of a line of a glyph: in the one colour where `lit` has a bit, and in the other elsewhere.
@@ -70,9 +82,10 @@ pub(crate) fn put_glyph<const CW: usize>(
     fore: [u8; 3],
     back: [u8; 3],
 )
+    requires dots { lit < 512 }
     requires room { 3 * (at + CW) ≤ length row.old }
     requires width { CW < 10 }
-    ensures { AreDotsPut CW at (λ i. if is_set lit (8 - i) then fore else back) row.old row.new }
+    ensures { AreDotsPut CW at (λ i. if is_set_of lit (8 - i) then fore else back) row.old row.new }
 {
     for i in 0..CW {
         put_dot(row, at + i, glyph_dot(lit, i, fore, back));

@@ -25,4 +25,4 @@ returns g c =
     let is_back = c.shade_in-back.ensures ∙ ap (shade a d) (c.background.ensures ∙ ap (background a) is_cell) in
     dots_alike g.row.CW c.args.at (λ i. if is_set c.lit_dots-lit.result (8 - i) then fore else back) (λ i. source_colour h r a d (dot_of n i)) c.args.row.now c.put_glyph.new.row c.put_glyph.ensures
     (λ i l. text_dot h r a d n fore back (is_set c.lit_dots-lit.result (8 - i)) i need.on need.shown need.few need.text is_fore is_back
-    (c.lit_dots-lit.ensures i (omega (arith, l, need.width)) ∙ ap (is_foreground h r a (dot_of n i)) is_cell))
+    (c.lit_dots-lit.ensures.dots i (omega (arith, l, need.width)) ∙ ap (is_foreground h r a (dot_of n i)) is_cell))
