@@ -2,17 +2,16 @@
 ghost use Rattle.std.specs.Prelude.{◌≡◌, ℕ, ◌+◌, ◌-◌, ◌*◌, ◌<◌, ◌≤◌, false, true, length};
 ghost use Rattle.vga_bits.specs.Bits.{is_set};
 ghost use Rattle.vga_host.specs.Fields.{is_screen_off, is_graphics, is_256_colours};
-ghost use Rattle.vga_attr.specs.Fields.{is_palette_shown};
+ghost use Rattle.vga_attr.specs.Fields.{is_palette_shown, is_line_graphics};
 ghost use Rattle.vga_dots.specs.Text.{is_glyph_dot as is_dot_of_glyph, is_foreground};
+ghost use Rattle.vga_dots.specs.TextLine.{text_line};
 ghost use Rattle.vga_dots.specs.Row.{AreDotsPut};
 ghost use Rattle.vga_dots.specs.Line.{masked as colour_masked, shade as shade_of, shades_of, dot_of, source_colour};
 
 use crate::row::{Shades, put_glyph, put_pixels, put_planes};
 use crate::source_dot::fetch_address;
-use crate::text::{
-    Cell, background, cell_at, glyph_row, is_blinked_away, is_cursor_at, is_glyph_dot,
-    is_underlined,
-};
+use crate::text::{Cell, GLYPHS, cell_at};
+use crate::text_line::TextLine;
 use vga_attr::Attr;
 use vga_crtc::Crtc;
 use vga_dac::Dac;
@@ -64,11 +63,12 @@ fn shade_in(attr: &Attr, dac: &Dac, table: &Shades, n: u8) -> [u8; 3]
 
 /// The dots of a line of a glyph, of which bit 8 is the leftmost.
 #[inline(always)]
-fn glyph_dots(attr: &Attr, character: u8, row: u8) -> u16
+fn glyph_dots(attr: &Attr, line: &TextLine, character: u8, row: u8) -> u16
+    requires line { line.now.is_line_graphics ≡ is_line_graphics attr.now }
     ensures dots { (i : ℕ) → i < 9 → is_set result (8 - i) ≡ is_dot_of_glyph attr.now character row i }
     ensures nine { result < 512 }
 {
-    if is_glyph_dot(attr, character, row, 8) {
+    if line.has_ninth_dot(character, row) {
         2 * row as u16 + 1
     } else {
         2 * row as u16
@@ -77,22 +77,22 @@ fn glyph_dots(attr: &Attr, character: u8, row: u8) -> u16
 
 /// The dots of a counter's cell that have its foreground, of which bit 8 is the leftmost.
 #[inline(always)]
-fn lit_dots(host: &Host, crtc: &Crtc, attr: &Attr, counter: u16, cell: Cell) -> u16
+fn lit_dots(host: &Host, crtc: &Crtc, attr: &Attr, line: &TextLine, counter: u16, cell: Cell) -> u16
+    requires line { line.now ≡ text_line host.now crtc.now attr.now }
+    requires few_a { line.now.map_a ≤ 57375 }
+    requires few_b { line.now.map_b ≤ 57375 }
     ensures dots { (i : ℕ) → i < 9 → is_set result (8 - i) ≡ is_foreground host.now crtc.now attr.now (dot_of counter i) cell }
     ensures nine { result < 512 }
 {
-    if is_cursor_at(crtc, counter) {
+    if line.has_cursor_at(counter) {
         ALL_DOTS
-    } else if is_blinked_away(crtc, attr, cell) {
+    } else if line.blinks_away(cell) {
         0
-    } else if is_underlined(crtc, attr, cell) {
+    } else if line.underlines(cell) {
         ALL_DOTS
     } else {
-        glyph_dots(
-            attr,
-            cell.character,
-            glyph_row(host, cell, crtc.beam().scan),
-        )
+        let row = host.planes().byte(GLYPHS, line.glyph_place(cell));
+        glyph_dots(attr, line, cell.character, row)
     }
 }
 
@@ -104,11 +104,15 @@ pub(crate) fn put_text<const CW: usize>(
     attr: &Attr,
     dac: &Dac,
     table: &Shades,
+    line: &TextLine,
     counter: u16,
     row: &mut [u8],
     at: usize,
 )
     requires table { table.now ≡ shades_of attr.now dac.now }
+    requires line { line.now ≡ text_line host.now crtc.now attr.now }
+    requires few_a { line.now.map_a ≤ 57375 }
+    requires few_b { line.now.map_b ≤ 57375 }
     requires on { is_screen_off host.now ≡ false }
     requires shown { is_palette_shown attr.now ≡ true }
     requires few { is_256_colours host.now ≡ false }
@@ -119,12 +123,13 @@ pub(crate) fn put_text<const CW: usize>(
 {
     let cell = cell_at(host, fetch_address(crtc.fields(), counter));
     let fore = shade_in(attr, dac, table, cell.attribute % 16);
-    let back = shade_in(attr, dac, table, background(attr, cell));
-    let lit = lit_dots(host, crtc, attr, counter, cell);
+    let back = shade_in(attr, dac, table, line.background(cell));
+    let lit = lit_dots(host, crtc, attr, line, counter, cell);
     put_glyph::<CW>(row, at, lit, fore, back);
 }
 
 /// Writes the dots of a character in 16 colours.
+#[inline(always)]
 pub(crate) fn put_planar<const CW: usize>(
     host: &Host,
     crtc: &Crtc,
@@ -156,6 +161,7 @@ pub(crate) fn put_planar<const CW: usize>(
 }
 
 /// Writes the dots of a character in 256 colours.
+#[inline(always)]
 pub(crate) fn put_packed<const CW: usize>(
     host: &Host,
     crtc: &Crtc,

@@ -8,6 +8,7 @@ pub mod line;
 mod row;
 mod source_dot;
 mod text;
+mod text_line;
 
 pub use colour::dot_colour;
 pub use line::{draw_line, shown_characters};

@@ -10,6 +10,7 @@ use crate::character::{masked, put_packed, put_planar, put_text, shades};
 use crate::colour::BLACK;
 use crate::row::{copy_dots, fill};
 use crate::source_dot::panned;
+use crate::text_line::TextLine;
 use vga_attr::Attr;
 use vga_crtc::{Crtc, Registers};
 use vga_dac::Dac;
@@ -45,10 +46,11 @@ fn draw_text<const CW: usize>(
     ensures { AreCharactersPut CW count (unpanned_colour host.now crtc.now attr.now dac.now) row.old row.new }
 {
     let table = shades(attr, dac);
+    let line = TextLine::at_beam(host, crtc, attr);
     let base = crtc.beam().base;
     for x in 0..count {
         let counter = base.wrapping_add(x as u16);
-        put_text::<CW>(host, crtc, attr, dac, &table, counter, row, x * CW);
+        put_text::<CW>(host, crtc, attr, dac, &table, &line, counter, row, x * CW);
     }
 }
 

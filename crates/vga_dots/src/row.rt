@@ -74,7 +74,31 @@ fn glyph_dot(lit: u16, i: usize, fore: [u8; 3], back: [u8; 3]) -> [u8; 3]
     if is_dot_lit(lit, i) { fore } else { back }
 }
 
+/// Writes the dots of a character in one colour.
+fn put_blank<const CW: usize>(row: &mut [u8], at: usize, colour: [u8; 3])
+    requires { 3 * (at + CW) ≤ length row.old }
+    ensures { AreDotsPut CW at (λ i. colour) row.old row.new }
+{
+    for i in 0..CW {
+        put_dot(row, at + i, colour);
+    }
+}
+
+/// Writes the dots of a line of a glyph one by one, as `put_glyph` does.
+fn put_lit<const CW: usize>(row: &mut [u8], at: usize, lit: u16, fore: [u8; 3], back: [u8; 3])
+    requires dots { lit < 512 }
+    requires room { 3 * (at + CW) ≤ length row.old }
+    requires width { CW < 10 }
+    ensures { AreDotsPut CW at (λ i. if is_set_of lit (8 - i) then fore else back) row.old row.new }
+{
+    for i in 0..CW {
+        put_dot(row, at + i, glyph_dot(lit, i, fore, back));
+    }
+}
+
 /// Writes the dots of a line of a glyph: in the one colour where `lit` has a bit, and in the other elsewhere.
+/// Most of a page of text is blank, so that is not looked up dot by dot.
+#[inline(always)]
 pub(crate) fn put_glyph<const CW: usize>(
     row: &mut [u8],
     at: usize,
@@ -87,8 +111,10 @@ pub(crate) fn put_glyph<const CW: usize>(
     requires width { CW < 10 }
     ensures { AreDotsPut CW at (λ i. if is_set_of lit (8 - i) then fore else back) row.old row.new }
 {
-    for i in 0..CW {
-        put_dot(row, at + i, glyph_dot(lit, i, fore, back));
+    if lit == 0 {
+        put_blank::<CW>(row, at, back);
+    } else {
+        put_lit::<CW>(row, at, lit, fore, back);
     }
 }
 

@@ -18,13 +18,13 @@ const CHARACTERS: usize = 0;
 
 const ATTRIBUTES: usize = 1;
 
-const GLYPHS: usize = 2;
+pub(crate) const GLYPHS: usize = 2;
 
 /// How many bytes a glyph has in its map.
-const GLYPH_BYTES: u16 = 32;
+pub(crate) const GLYPH_BYTES: u16 = 32;
 
 /// The bits of an attribute that tell an underlined one.
-const UNDERLINE_BITS: u8 = 0x77;
+pub(crate) const UNDERLINE_BITS: u8 = 0x77;
 
 /// A character and its attribute.
 #[derive(Clone, Copy)]
@@ -46,7 +46,7 @@ pub(crate) fn cell_at(host: &Host, address: u16) -> Cell
 }
 
 /// Where a character map, 0 to 7, begins in its plane.
-fn map_start(map: u8) -> u16
+pub(crate) fn map_start(map: u8) -> u16
     requires { map < 8 }
     ensures { result ≡ start_of_map map }
 {

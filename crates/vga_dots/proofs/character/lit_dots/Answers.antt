@@ -1,26 +1,60 @@
 -- Cursor, blinking and underline decide for all dots alike, and else the glyph does.
-use Rattle.std.proofs.Common.{sym, ap, ◌∙◌}
-use Rattle.vga_crtc.specs.declared.beam.Beam.{Beam}
-use Rattle.vga_dots.specs.Text.{glyph_row, is_glyph_dot}
+use Rattle.std.proofs.Common.{ap, ◌∙◌, sym}
+use Rattle.vga_planes.specs.Planes.{byte_at}
+use Rattle.vga_dots.specs.Text.{is_glyph_dot}
 use Rattle.vga_dots.proofs.CharacterLemmas.{all_dots, no_dots, by_cursor, by_blinking, by_underline, by_glyph}
+use Rattle.vga_dots.proofs.TextLineLemmas.{cursor_at, blinked_away, underlined, row_of_glyph, line_graphics}
 use Rattle.vga_dots.proofs.character.lit_dots.Goals as goal
 
-pub returns-then-is_cursor_at-clause-dots : goal.returns-then-is_cursor_at-clause-dots
-returns-then-is_cursor_at-clause-dots c = λ i l. all_dots _ i l (by_cursor c.args.host.now c.args.crtc.now c.args.attr.now c.args.cell c.args.counter i (sym c.is_cursor_at.ensures ∙ c.if-is_cursor_at.true))
+pub glyph_dots-requires : goal.glyph_dots-requires
+glyph_dots-requires c = record { line = line_graphics c.args.host.now c.args.crtc.now c.args.attr.now c.args.line.now c.requires.line c.args.cell }
 
-pub returns-then-is_blinked_away-clause-dots : goal.returns-then-is_blinked_away-clause-dots
-returns-then-is_blinked_away-clause-dots c = λ i l. no_dots _ i (by_blinking c.args.host.now c.args.crtc.now c.args.attr.now c.args.cell c.args.counter i
-    (sym c.is_cursor_at.ensures ∙ c.if-is_cursor_at.false) (sym c.is_blinked_away.ensures ∙ c.if-is_blinked_away.true))
-
-pub returns-then-is_underlined-clause-dots : goal.returns-then-is_underlined-clause-dots
-returns-then-is_underlined-clause-dots c = λ i l. all_dots _ i l (by_underline c.args.host.now c.args.crtc.now c.args.attr.now c.args.cell c.args.counter i
-    (sym c.is_cursor_at.ensures ∙ c.if-is_cursor_at.false) (sym c.is_blinked_away.ensures ∙ c.if-is_blinked_away.false) (sym c.is_underlined.ensures ∙ c.if-is_underlined.true))
-
-pub returns-else-is_underlined-clause-dots : goal.returns-else-is_underlined-clause-dots
-returns-else-is_underlined-clause-dots c = λ i l.
+pub returns-then-has_cursor_at-clause-dots : goal.returns-then-has_cursor_at-clause-dots
+returns-then-has_cursor_at-clause-dots c = λ i l.
     let h = c.args.host.now in
+    let r = c.args.crtc.now in
+    let a = c.args.attr.now in
+    let n = c.args.counter in
     let cell = c.args.cell in
+    all_dots _ i l (by_cursor h r a cell n i (cursor_at h r a c.args.line.now c.requires.line cell n _ c.has_cursor_at.ensures ∙ c.if-has_cursor_at.true))
+
+pub returns-then-blinks_away-clause-dots : goal.returns-then-blinks_away-clause-dots
+returns-then-blinks_away-clause-dots c = λ i l.
+    let h = c.args.host.now in
+    let r = c.args.crtc.now in
+    let a = c.args.attr.now in
+    let n = c.args.counter in
+    let cell = c.args.cell in
+    let line = c.args.line.now in
+    no_dots _ i (by_blinking h r a cell n i
+    (cursor_at h r a line c.requires.line cell n _ c.has_cursor_at.ensures ∙ c.if-has_cursor_at.false)
+    (blinked_away h r a line c.requires.line cell _ c.blinks_away.ensures ∙ c.if-blinks_away.true))
+
+pub returns-then-underlines-clause-dots : goal.returns-then-underlines-clause-dots
+returns-then-underlines-clause-dots c = λ i l.
+    let h = c.args.host.now in
+    let r = c.args.crtc.now in
+    let a = c.args.attr.now in
+    let n = c.args.counter in
+    let cell = c.args.cell in
+    let line = c.args.line.now in
+    all_dots _ i l (by_underline h r a cell n i
+    (cursor_at h r a line c.requires.line cell n _ c.has_cursor_at.ensures ∙ c.if-has_cursor_at.false)
+    (blinked_away h r a line c.requires.line cell _ c.blinks_away.ensures ∙ c.if-blinks_away.false)
+    (underlined h r a line c.requires.line cell _ c.underlines.ensures ∙ c.if-underlines.true))
+
+pub returns-else-underlines-clause-dots : goal.returns-else-underlines-clause-dots
+returns-else-underlines-clause-dots c = λ i l.
+    let h = c.args.host.now in
+    let r = c.args.crtc.now in
+    let a = c.args.attr.now in
+    let n = c.args.counter in
+    let cell = c.args.cell in
+    let line = c.args.line.now in
+    let row = c.byte-row.ensures ∙ ap (λ m. byte_at m 2 c.glyph_place.result) c.planes.ensures ∙ row_of_glyph h r a line c.requires.line cell _ c.glyph_place.ensures in
     c.glyph_dots.ensures.dots i l
-    ∙ ap (λ row. is_glyph_dot c.args.attr.now cell.character row i) (c.glyph_row.ensures ∙ ap (λ (b : Beam). glyph_row h cell b.scan) c.beam.ensures.value)
-    ∙ sym (by_glyph h c.args.crtc.now c.args.attr.now cell c.args.counter i
-    (sym c.is_cursor_at.ensures ∙ c.if-is_cursor_at.false) (sym c.is_blinked_away.ensures ∙ c.if-is_blinked_away.false) (sym c.is_underlined.ensures ∙ c.if-is_underlined.false))
+    ∙ ap (λ row. is_glyph_dot a cell.character row i) row
+    ∙ sym (by_glyph h r a cell n i
+    (cursor_at h r a line c.requires.line cell n _ c.has_cursor_at.ensures ∙ c.if-has_cursor_at.false)
+    (blinked_away h r a line c.requires.line cell _ c.blinks_away.ensures ∙ c.if-blinks_away.false)
+    (underlined h r a line c.requires.line cell _ c.underlines.ensures ∙ c.if-underlines.false))

@@ -1,7 +1,7 @@
 use Rattle.std.proofs.Common.{◌-◌, if◌then◌else◌}
 use Rattle.vga_bits.specs.Bits.{is_set}
 use Rattle.vga_dots.specs.Row.{AreDotsPut}
-use Rattle.vga_dots.proofs.row.put_glyph.Given as goal
+use Rattle.vga_dots.proofs.row.put_lit.Given as goal
 
 -- the dots so far are written
 abbrev pub invariant-loop-i : goal.invariant-loop-i
