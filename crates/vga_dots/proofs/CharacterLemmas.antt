@@ -5,7 +5,10 @@ use Rattle.std.specs.Int.{bit_at}
 use Rattle.std.proofs.lemmas.Bool.{cases_lt, lt-ltb}
 use Rattle.std.proofs.lemmas.Nat.Bits.{bit_at-lt, bit_at-zero, bit_at_ones, bit_at_cat_low, bit_at_cat_high}
 use Rattle.vga_bits.specs.Bits.{is_set, field}
-use Rattle.vga_planes.specs.Planes.{byte_at}
+use Rattle.vga_bits.specs.Four.{of_plane}
+use Rattle.vga_bits.specs.Words.{bytes_of, word_bit}
+use Rattle.vga_bits.proofs.WordLemmas.{word_bit_plane}
+use Rattle.vga_planes.specs.Planes.{byte_at, bytes_at}
 use Rattle.vga_host.specs.Host.{HostState}
 use Rattle.vga_host.specs.Fields.{is_screen_off, is_graphics, is_256_colours}
 use Rattle.vga_crtc.specs.Crtc.{CrtcState}
@@ -17,7 +20,7 @@ use Rattle.vga_dots.specs.declared.text.Cell.{Cell}
 use Rattle.vga_dots.specs.SourceDot.{fetch_address}
 use Rattle.vga_dots.specs.Text.{text_nibble, cell_at, background, is_foreground, is_underlined, is_blinked_away, is_cursor_at, is_glyph_dot, glyph_row}
 use Rattle.vga_dots.specs.Graphics.{plane_bits, planar_nibble, packed_byte}
-use Rattle.vga_dots.specs.Row.{four_bits}
+use Rattle.vga_dots.specs.Row.{nibble_of}
 use Rattle.vga_dots.specs.Line.{masked, shade, shades_of, dot_of, source_colour}
 
 pub shades_at : (a : AttrState) (d : DacState) (n : ℕ) → n < 16 → slice_index_or (shades_of a d) n [] ≡ shade a d n
@@ -50,15 +53,16 @@ pub sixteen_of : (f : ℕ → List ℕ) (a0 a1 a2 a3 a4 a5 a6 a7 a8 a9 a10 a11 a
     → a0 ∷ a1 ∷ a2 ∷ a3 ∷ a4 ∷ a5 ∷ a6 ∷ a7 ∷ a8 ∷ a9 ∷ a10 ∷ a11 ∷ a12 ∷ a13 ∷ a14 ∷ a15 ∷ [] ≡ f 0 ∷ f 1 ∷ f 2 ∷ f 3 ∷ f 4 ∷ f 5 ∷ f 6 ∷ f 7 ∷ f 8 ∷ f 9 ∷ f 10 ∷ f 11 ∷ f 12 ∷ f 13 ∷ f 14 ∷ f 15 ∷ []
 sixteen_of f a0 a1 a2 a3 a4 a5 a6 a7 a8 a9 a10 a11 a12 a13 a14 a15 e0 e1 e2 e3 e4 e5 e6 e7 e8 e9 e10 e11 e12 e13 e14 e15 = rw (e0, e1, e2, e3, e4, e5, e6, e7, e8, e9, e10, e11, e12, e13, e14, e15) refl
 
--- four bits of four bytes
-pub bits_are : (h : HostState) (address i v b0 b1 b2 b3 : ℕ) → b0 ≡ byte_at h.memory 0 address → b1 ≡ byte_at h.memory 1 address → b2 ≡ byte_at h.memory 2 address → b3 ≡ byte_at h.memory 3 address
-    → v ≡ bit_at b0 i + 2 * bit_at b1 i + 4 * bit_at b2 i + 8 * bit_at b3 i → v ≡ plane_bits h address i
+-- a bit of each plane of a word is one of each byte that was fetched
+pub bits_are : (h : HostState) (address i word : ℕ) → i < 8 → bytes_of word ≡ bytes_at h.memory address → nibble_of word i ≡ plane_bits h address i
 unfolding plane_bits
-bits_are h address i v b0 b1 b2 b3 e0 e1 e2 e3 e =
-    e ∙ ap (λ x. bit_at x i + 2 * bit_at b1 i + 4 * bit_at b2 i + 8 * bit_at b3 i) e0
-    ∙ ap (λ x. bit_at (byte_at h.memory 0 address) i + 2 * bit_at x i + 4 * bit_at b2 i + 8 * bit_at b3 i) e1
-    ∙ ap (λ x. bit_at (byte_at h.memory 0 address) i + 2 * bit_at (byte_at h.memory 1 address) i + 4 * bit_at x i + 8 * bit_at b3 i) e2
-    ∙ ap (λ x. bit_at (byte_at h.memory 0 address) i + 2 * bit_at (byte_at h.memory 1 address) i + 4 * bit_at (byte_at h.memory 2 address) i + 8 * bit_at x i) e3
+bits_are h address i word within e =
+    let bit : (p : ℕ) → p < 4 → word_bit word p i ≡ bit_at (of_plane (bytes_at h.memory address) p) i =
+    λ p plane. word_bit_plane word p i plane within ∙ ap (λ l. bit_at (of_plane l p) i) e in
+    ap (λ x. x + 2 * word_bit word 1 i + 4 * word_bit word 2 i + 8 * word_bit word 3 i) (bit 0 (omega arith))
+    ∙ ap (λ x. bit_at (byte_at h.memory 0 address) i + 2 * x + 4 * word_bit word 2 i + 8 * word_bit word 3 i) (bit 1 (omega arith))
+    ∙ ap (λ x. bit_at (byte_at h.memory 0 address) i + 2 * bit_at (byte_at h.memory 1 address) i + 4 * x + 8 * word_bit word 3 i) (bit 2 (omega arith))
+    ∙ ap (λ x. bit_at (byte_at h.memory 0 address) i + 2 * bit_at (byte_at h.memory 1 address) i + 4 * bit_at (byte_at h.memory 2 address) i + 8 * x) (bit 3 (omega arith))
 
 -- four bits are below 16
 bits_small : (h : HostState) (address i : ℕ) → plane_bits h address i < 16
@@ -179,15 +183,15 @@ module _ (h : HostState) (c : CrtcState) (a : AttrState) (d : DacState) (counter
 
   -- ---- 16 colours
 
-  -- the bits of four bytes are those of the planes, looked up in the table
-  pub planar_dot : (table : List (List ℕ)) (b0 b1 b2 b3 i : ℕ) → table ≡ shades_of a d → is_screen_off h ≡ false → is_palette_shown a ≡ true → is_256_colours h ≡ false → is_graphics h ≡ true
-      → b0 ≡ byte_at h.memory 0 place → b1 ≡ byte_at h.memory 1 place → b2 ≡ byte_at h.memory 2 place → b3 ≡ byte_at h.memory 3 place
-      → slice_index_or table (if nat_lt i 8 then four_bits (b0 ∷ b1 ∷ b2 ∷ b3 ∷ []) (7 - i) else 0) [] ≡ source_colour h c a d (dot_of counter i)
+  -- the bits of a word are those of the planes, looked up in the table
+  pub planar_dot : (table : List (List ℕ)) (word i : ℕ) → table ≡ shades_of a d → is_screen_off h ≡ false → is_palette_shown a ≡ true → is_256_colours h ≡ false → is_graphics h ≡ true
+      → bytes_of word ≡ bytes_at h.memory place
+      → slice_index_or table (if nat_lt i 8 then nibble_of word (7 - i) else 0) [] ≡ source_colour h c a d (dot_of counter i)
   unfolding planar_nibble
-  planar_dot table b0 b1 b2 b3 i is off shown packed graphics e0 e1 e2 e3 =
+  planar_dot table word i is off shown packed graphics e =
       let n = planar_nibble h c (dot_of counter i) in
-      ap (λ t. slice_index_or t (if nat_lt i 8 then four_bits (b0 ∷ b1 ∷ b2 ∷ b3 ∷ []) (7 - i) else 0) []) is
-      ∙ ap (λ m. slice_index_or (shades_of a d) (if nat_lt i 8 then m else 0) []) (bits_are h place (7 - i) _ b0 b1 b2 b3 e0 e1 e2 e3 refl)
+      ap (λ t. slice_index_or t (if nat_lt i 8 then nibble_of word (7 - i) else 0) []) is
+      ∙ ap (λ m. slice_index_or (shades_of a d) (if nat_lt i 8 then m else 0) []) (bits_are h place (7 - i) word (omega arith) e)
       ∙ shades_at a d n (small_if (nat_lt i 8) _ (bits_small h place (7 - i))) ∙ planar_shown i off shown packed graphics
 
   -- ---- text

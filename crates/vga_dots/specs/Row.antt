@@ -1,14 +1,14 @@
 -- Dots in a row of bytes: red, green and blue of each in turn.
 use Rattle.std.specs.Prelude.{◌≡◌, ℕ, ◌+◌, ◌*◌, ◌<◌, ◌≤◌, ◌⊎◌, List, [], ◌∷◌, slice_index}
-use Rattle.std.specs.Int.{bit_at}
+use Rattle.vga_bits.specs.Words.{word_bit}
 
 -- the three bytes of dot n
 abbrev pub dot_in : List ℕ → ℕ → List ℕ
 dot_in row n = slice_index row (3 * n) ∷ slice_index row (3 * n + 1) ∷ slice_index row (3 * n + 2) ∷ []
 
--- bit i of each of four bytes, the first lowest
-abbrev pub four_bits : List ℕ → ℕ → ℕ
-four_bits bytes i = bit_at (slice_index bytes 0) i + 2 * bit_at (slice_index bytes 1) i + 4 * bit_at (slice_index bytes 2) i + 8 * bit_at (slice_index bytes 3) i
+-- bit i of each plane of a word, the first plane lowest
+abbrev pub nibble_of : ℕ → ℕ → ℕ
+nibble_of word i = word_bit word 0 i + 2 * word_bit word 1 i + 4 * word_bit word 2 i + 8 * word_bit word 3 i
 
 -- a dot has this colour, and the other bytes stay
 pub record IsDotPut (old new : List ℕ) (at : ℕ) (colour : List ℕ) : Type 0 where

@@ -150,14 +150,7 @@ pub(crate) fn put_planar<const CW: usize>(
     ensures { AreDotsPut CW at (λ i. source_colour host.now crtc.now attr.now dac.now (dot_of counter i)) row.old row.new }
 {
     let address = fetch_address(crtc.fields(), counter);
-    let fetched = host.planes().load(address);
-    let bytes = [
-        fetched.byte(0),
-        fetched.byte(1),
-        fetched.byte(2),
-        fetched.byte(3),
-    ];
-    put_planes::<CW>(row, at, bytes, table);
+    put_planes::<CW>(row, at, host.planes().word(address), table);
 }
 
 /// Writes the dots of a character in 256 colours.

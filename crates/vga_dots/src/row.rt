@@ -1,9 +1,8 @@
 //! Dots in a row of bytes: red, green and blue of each in turn.
 ghost use Rattle.std.specs.Prelude.{◌≡◌, ◌+◌, ◌-◌, ◌*◌, ◌/◌, ◌<◌, ◌≤◌, if◌then◌else◌, length, [], nat_lt, slice_index_or};
 ghost use Rattle.vga_bits.specs.Bits.{is_set as is_set_of};
-ghost use Rattle.vga_dots.specs.Row.{four_bits, dot_in, IsDotPut, AreDotsPut};
+ghost use Rattle.vga_dots.specs.Row.{nibble_of, dot_in, IsDotPut, AreDotsPut};
 
-use crate::graphics::bit;
 use vga_bits::is_set;
 
 /// The colours of the 16 numbers that four bits have.
@@ -11,6 +10,12 @@ pub(crate) type Shades = [[u8; 3]; 16];
 
 /// The four colours of a character in 256 colours, and that of its ninth dot.
 pub(crate) type Pixels = [[u8; 3]; 5];
+
+/// The lowest bit of each plane of a word.
+const LOWEST_BITS: u32 = 0x0101_0101;
+
+/// What brings the lowest bits of the four planes together in the highest byte.
+const TOGETHER: u32 = 0x0102_0408;
 
 /// Writes the three bytes of a dot.
 fn put_dot(row: &mut [u8], at: usize, colour: [u8; 3])
@@ -32,23 +37,13 @@ pub(crate) fn fill(row: &mut [u8], count: usize, colour: [u8; 3])
     }
 }
 
-/// Dot `n` of a row.
-fn dot_at(dots: &[u8], n: usize) -> [u8; 3]
-    requires { 3 * n + 3 ≤ length dots.now }
-    ensures { result ≡ dot_in dots.now n }
-{
-    [dots[3 * n], dots[3 * n + 1], dots[3 * n + 2]]
-}
-
 /// Copies as many dots as are told from dot `first` of a row on.
 pub(crate) fn copy_dots(row: &mut [u8], dots: &[u8], first: usize, count: usize)
     requires room { 3 * count ≤ length row.old }
     requires there { 3 * (first + count) ≤ length dots.now }
     ensures { AreDotsPut count 0 (λ i. dot_in dots.now (first + i)) row.old row.new }
 {
-    for i in 0..count {
-        put_dot(row, i, dot_at(dots, first + i));
-    }
+    row[..3 * count].copy_from_slice(&dots[3 * first..3 * (first + count)]);
 }
 
 /// Whether dot `i` of a line of a glyph is lit, of which bit 8 of `lit` is the leftmost dot. Eight dots are
@@ -118,31 +113,34 @@ pub(crate) fn put_glyph<const CW: usize>(
     }
 }
 
-/// Dot `i`, 0 to 8, of eight dots and a ninth, whose bits stand in four bytes.
-fn plane_dot(bytes: [u8; 4], i: usize) -> u8
-    requires { i < 9 }
-    ensures value { result ≡ (if nat_lt i 8 then four_bits bytes (7 - i) else 0) }
+/// Bit `place`, 0 to 7, of each plane of a word as one number, the first plane lowest: the four bits stand
+/// apart, and a product brings them together in its highest byte.
+fn nibble(word: u32, place: u32) -> u8
+    requires { place < 8 }
+    ensures value { result ≡ nibble_of word place }
     ensures small { result < 16 }
 {
-    if i < 8 {
-        let place = 7 - i as u8;
-        bit(bytes[0], place)
-            + 2 * bit(bytes[1], place)
-            + 4 * bit(bytes[2], place)
-            + 8 * bit(bytes[3], place)
-    } else {
-        0
-    }
+    let bits = (word >> place) & LOWEST_BITS;
+    (bits.wrapping_mul(TOGETHER) >> 24) as u8
 }
 
-/// Writes the dots of a character in 16 colours, whose bits stand in four bytes.
-pub(crate) fn put_planes<const CW: usize>(row: &mut [u8], at: usize, bytes: [u8; 4], table: &Shades)
+/// Dot `i`, 0 to 8, of eight dots and a ninth, whose bits stand in the planes of a word.
+fn plane_dot(word: u32, i: usize) -> u8
+    requires { i < 9 }
+    ensures value { result ≡ (if nat_lt i 8 then nibble_of word (7 - i) else 0) }
+    ensures small { result < 16 }
+{
+    if i < 8 { nibble(word, 7 - i as u32) } else { 0 }
+}
+
+/// Writes the dots of a character in 16 colours, whose bits stand in the planes of a word.
+pub(crate) fn put_planes<const CW: usize>(row: &mut [u8], at: usize, word: u32, table: &Shades)
     requires room { 3 * (at + CW) ≤ length row.old }
     requires width { CW < 10 }
-    ensures { AreDotsPut CW at (λ i. slice_index_or table.now (if nat_lt i 8 then four_bits bytes (7 - i) else 0) []) row.old row.new }
+    ensures { AreDotsPut CW at (λ i. slice_index_or table.now (if nat_lt i 8 then nibble_of word (7 - i) else 0) []) row.old row.new }
 {
     for i in 0..CW {
-        put_dot(row, at + i, table[plane_dot(bytes, i) as usize]);
+        put_dot(row, at + i, table[plane_dot(word, i) as usize]);
     }
 }
 
