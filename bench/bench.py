@@ -71,8 +71,8 @@ def cycles():
 
 
 def dots():
-    """The most dots that one step may advance, from power-on: lines of 45 dots, of which nine of every other are displayed."""
-    return "run", HEADER + advance(MOST_DOTS), MOST_DOTS, "dots"
+    """Advances by the most dots that one may have, from power-on: lines of 45 dots, of which nine of every other are displayed."""
+    return "run", HEADER + advance(MOST_DOTS) * 16, 16 * MOST_DOTS, "dots"
 
 
 def frames(example):

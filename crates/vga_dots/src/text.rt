@@ -1,5 +1,6 @@
 //! Text: the four bits of a dot of a character with its attribute.
-ghost use Rattle.std.specs.Prelude.{◌≡◌, ◌<◌};
+ghost use Rattle.std.specs.Prelude.{◌≡◌, ◌<◌, if◌then◌else◌};
+ghost use Rattle.vga_bits.specs.Bits.{field};
 ghost use Rattle.vga_dots.specs.Text.{cell_at as cell_of_place, map_start as start_of_map};
 ghost use Rattle.vga_dots.specs.Text.{character_map as map_of_cell, glyph_row as row_of_glyph};
 ghost use Rattle.vga_dots.specs.Text.{is_glyph_dot as is_dot_of_glyph, is_underlined as is_underlined_cell};
@@ -137,15 +138,23 @@ fn is_foreground(host: &Host, crtc: &Crtc, attr: &Attr, source: SourceDot, cell:
     }
 }
 
-/// The four bits of a cell's background.
-pub(crate) fn background(attr: &Attr, cell: Cell) -> u8
-    ensures { result ≡ background_of attr.now cell }
+/// The four bits of a cell's background, or three where bit 7 of attributes blinks.
+pub(crate) fn background_bits(cell: Cell, is_blink: bool) -> u8
+    ensures value { result ≡ (if is_blink then field cell.attribute 6 4 else field cell.attribute 7 4) }
+    ensures small { result < 16 }
 {
-    if attr.is_blink() {
+    if is_blink {
         (cell.attribute >> 4) % 8
     } else {
         cell.attribute >> 4
     }
+}
+
+/// The four bits of a cell's background.
+fn background(attr: &Attr, cell: Cell) -> u8
+    ensures { result ≡ background_of attr.now cell }
+{
+    background_bits(cell, attr.is_blink())
 }
 
 /// The four bits of a dot of a cell.

@@ -4,7 +4,7 @@ ghost use Rattle.vga_bits.specs.Bits.{is_set as is_set_of, field};
 ghost use Rattle.vga_crtc.specs.Fields.{is_cursor_off, cursor_start, cursor_end};
 ghost use Rattle.vga_dots.specs.TextLine.{text_line};
 
-use crate::text::{Cell, GLYPH_BYTES, UNDERLINE_BITS, map_start};
+use crate::text::{Cell, GLYPH_BYTES, UNDERLINE_BITS, background_bits, map_start};
 use vga_attr::Attr;
 use vga_bits::is_set;
 use vga_crtc::Crtc;
@@ -112,10 +112,6 @@ impl TextLine {
         ensures value { result ≡ (if self.now.is_blink then field cell.attribute 6 4 else field cell.attribute 7 4) }
         ensures small { result < 16 }
     {
-        if self.is_blink {
-            (cell.attribute >> 4) % 8
-        } else {
-            cell.attribute >> 4
-        }
+        background_bits(cell, self.is_blink)
     }
 }
