@@ -35,11 +35,13 @@ impl Host {
     pub(super) fn decoded(&self, address: u32, misc: u8) -> Option<u16>
         ensures { SomeIff result (IsTrue (is_decoded self.now misc address)) (window_offset self.now address) }
     {
-        if !self.decodes(address, misc) {
-            return None;
+        let (start, len) = self.window();
+        let offset = address.wrapping_sub(start);
+        if is_memory_enabled(misc) && offset < len {
+            Some((offset % 65536) as u16)
+        } else {
+            None
         }
-        let (start, _) = self.window();
-        Some(((address - start) % 65536) as u16)
     }
 
     /// The offset in each plane of a place in the window.
