@@ -22,6 +22,3 @@ pub use reg_file::RegFile;
 pub use tally::Tally;
 pub use text_buffer::{TextBuffer, hex_digit};
 pub use tracked::{Tracked, flush, write_whole};
-
-#[cfg(test)]
-mod tests;

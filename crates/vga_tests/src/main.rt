@@ -8,27 +8,34 @@ mod checks;
 mod dots;
 mod dumps;
 mod host_path;
+mod names;
 mod pictures;
 mod plain_dots;
 mod plain_host;
 mod random_registers;
+mod registers;
 mod runs;
 mod script_bytes;
 mod script_texts;
+mod scripted;
 mod sink;
 mod source;
+mod tracking;
 
 use anyhow::Result;
 use checks::Checks;
 use dots::compare_dots;
 use dumps::check_dumps;
 use host_path::compare_host_path;
+use names::check_names;
 use pictures::check_pictures;
 use random_registers::DotSource;
+use registers::check_registers;
 use runs::check_runs;
 use script_bytes::check_script_bytes;
 use script_texts::check_script_texts;
 use std::process::ExitCode;
+use tracking::check_tracking;
 use vga_bits::Tally;
 
 /// The kinds of dots that are compared, each by its own pseudo-random numbers.
@@ -62,6 +69,14 @@ fn compare_models<R: Print + AllocGlobal>(rt: &R, tally: &mut Tally) -> Result<(
 /// Checks the crates, a group for each part, and prints how each ended.
 fn check_crates<R: Print + AllocGlobal>(rt: &R, tally: &mut Tally) -> Result<()> {
     let alloc = rt.alloc();
+    tell(
+        rt,
+        tally,
+        "registers, bytes and text",
+        check_registers(alloc)?,
+    )?;
+    tell(rt, tally, "names", check_names(alloc)?)?;
+    tell(rt, tally, "readers and writers", check_tracking(alloc)?)?;
     tell(rt, tally, "texts of scripts", check_script_texts(alloc)?)?;
     tell(rt, tally, "bytes of scripts", check_script_bytes(alloc)?)?;
     tell(rt, tally, "dumps", check_dumps(alloc)?)?;

@@ -1,0 +1,57 @@
+//! The names of refusals and faults.
+
+use crate::checks::Checks;
+use anyhow::Result;
+use std::alloc::Global;
+use vga_bits::{Fault, Refusal};
+
+const REFUSALS: [(Refusal, &str); 12] = [
+    (Refusal::NotDecoded, "E1 NotDecoded"),
+    (Refusal::NotInProfile, "E2 NotInProfile"),
+    (Refusal::NoMode, "E3 NoMode"),
+    (Refusal::BadFunction, "E4 BadFunction"),
+    (Refusal::BadMode, "E5 BadMode"),
+    (Refusal::WrongKind, "E6 WrongKind"),
+    (Refusal::BadPage, "E7 BadPage"),
+    (Refusal::Outside, "E8 Outside"),
+    (Refusal::CountPast, "E9 CountPast"),
+    (Refusal::BadRegister, "E10 BadRegister"),
+    (Refusal::BadBlock, "E11 BadBlock"),
+    (Refusal::TooFar, "E12 TooFar"),
+];
+
+const FAULTS: [(Fault, &str); 10] = [
+    (Fault::FontSize, "F1 FontSize"),
+    (Fault::BadMagic, "F2 BadMagic"),
+    (Fault::BadVersion, "F3 BadVersion"),
+    (Fault::BadStep(9), "F4 BadStep(9)"),
+    (Fault::Truncated(16777215), "F5 Truncated(16777215)"),
+    (Fault::TooLong, "F6 TooLong"),
+    (
+        Fault::BadLine(18446744073709551615),
+        "F7 BadLine(18446744073709551615)",
+    ),
+    (Fault::ReadFault, "F8 ReadFault"),
+    (Fault::WriteFault, "F9 WriteFault"),
+    (Fault::OutOfMemory, "F10 OutOfMemory"),
+];
+
+/// Checks that refusals and faults have their numbers, names and places, and are printed so.
+pub fn check_names(alloc: Global) -> Result<Checks> {
+    let mut checks = Checks::new();
+    for (refusal, name) in REFUSALS {
+        let printed = format!(in alloc; "{refusal}")?;
+        checks.note(
+            "a refusal",
+            refusal.name() == name && printed.as_str() == name,
+        );
+    }
+    for (fault, name) in FAULTS {
+        let printed = format!(in alloc; "{fault}")?;
+        checks.note(
+            "a fault",
+            fault.name().as_str() == name && printed.as_str() == name,
+        );
+    }
+    Ok(checks)
+}

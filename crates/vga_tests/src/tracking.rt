@@ -1,0 +1,138 @@
+//! Tracked readers and writers: that each call is passed on, and that failures are remembered.
+
+use crate::checks::Checks;
+use crate::scripted::{Answer, Scripted};
+use anyhow::Result;
+use std::alloc::Global;
+use std::io::{ErrorKind, Read, Write};
+use vga_bits::{Fault, Tracked, flush, read_front, write_whole};
+
+const BROKEN: ErrorKind = ErrorKind::BrokenPipe;
+
+const FULL: ErrorKind = ErrorKind::StorageFull;
+
+/// Checks that each read is passed on and counted.
+fn check_reads(alloc: Global, checks: &mut Checks) {
+    let answers = [
+        Answer::Bytes(3),
+        Answer::Bytes(0),
+        Answer::Error(BROKEN),
+        Answer::Bytes(2),
+    ];
+    let mut reader = Scripted::of(alloc, &answers);
+    let mut buffer = *b"....";
+    let some = reader.read(&mut buffer).ok() == Some(3) && buffer == *b"***.";
+    checks.note("a read of some bytes", some);
+    let end = reader.read(&mut buffer).ok() == Some(0) && !reader.failed();
+    checks.note("a read at the end", end && reader.taken() == 3);
+    let kind = reader.read(&mut buffer).err().map(|e| e.kind());
+    checks.note("a read that fails", kind == Some(BROKEN) && reader.failed());
+    let again = reader.read(&mut buffer).ok() == Some(2) && reader.failed();
+    checks.note("a read behind a failure", again && reader.taken() == 5);
+    checks.note("one call for each read", reader.into_inner().has_taken(b""));
+}
+
+/// Checks that each write is passed on.
+fn check_writes(alloc: Global, checks: &mut Checks) {
+    let answers = [
+        Answer::Bytes(0),
+        Answer::Bytes(2),
+        Answer::Bytes(0),
+        Answer::Error(FULL),
+    ];
+    let mut writer = Scripted::of(alloc, &answers);
+    let none = writer.write(b"").ok() == Some(0);
+    checks.note("a write of nothing", none && !writer.failed());
+    let some = writer.write(b"abc").ok() == Some(2);
+    checks.note("a write of some bytes", some && !writer.failed());
+    let refused = writer.write(b"c").ok() == Some(0);
+    checks.note("a write that takes nothing", refused && writer.failed());
+    let kind = writer.write(b"c").err().map(|e| e.kind());
+    checks.note("a write that fails", kind == Some(FULL));
+    checks.note(
+        "one call for each write",
+        writer.into_inner().has_taken(b"ab"),
+    );
+}
+
+/// Checks that each flush is passed on.
+fn check_flushes(alloc: Global, checks: &mut Checks) {
+    let answers = [Answer::Bytes(0), Answer::Error(FULL)];
+    let mut writer = Scripted::of(alloc, &answers);
+    let flushed = writer.flush().is_ok() && !writer.failed();
+    checks.note("a flush", flushed);
+    let kind = writer.flush().err().map(|e| e.kind());
+    checks.note("a flush that fails", kind == Some(FULL) && writer.failed());
+    checks.note(
+        "one call for each flush",
+        writer.into_inner().has_taken(b""),
+    );
+    let mut writer = Scripted::of(alloc, &answers[1..]);
+    let answer = flush(&mut writer);
+    checks.note("the fault of a flush", answer == Err(Fault::WriteFault));
+}
+
+/// Checks that bytes are written in the pieces that are taken.
+fn check_pieces(alloc: Global, checks: &mut Checks) {
+    let answers = [Answer::Bytes(1), Answer::Bytes(3), Answer::Bytes(9)];
+    let mut writer = Scripted::of(alloc, &answers);
+    let written = write_whole(&mut writer, b"9 55\n").is_ok() && !writer.failed();
+    checks.note(
+        "bytes in pieces",
+        written && writer.into_inner().has_taken(b"9 55\n"),
+    );
+    let mut writer = Scripted::of(alloc, &answers[..2]);
+    let refused = write_whole(&mut writer, b"9 55\n") == Err(Fault::WriteFault) && writer.failed();
+    checks.note(
+        "a front of the bytes",
+        refused && writer.into_inner().has_taken(b"9 55"),
+    );
+}
+
+/// Checks that the front of a reader is read, and no more.
+fn check_front(alloc: Global, checks: &mut Checks) -> Result<()> {
+    let mut reader = Tracked::new(b"VGAS".as_slice());
+    let none = read_front(alloc, &mut reader, 0)?;
+    checks.note("no bytes of a reader", none.is_empty());
+    let front = read_front(alloc, &mut reader, 3)?;
+    checks.note(
+        "the front of a reader",
+        front.as_slice() == b"VGA".as_slice(),
+    );
+    let rest = read_front(alloc, &mut reader, 3)?;
+    checks.note("the rest of a reader", rest.as_slice() == b"S".as_slice());
+    checks.note(
+        "bytes that were read",
+        !reader.failed() && reader.taken() == 4,
+    );
+    Ok(())
+}
+
+/// Checks that a front is read in the pieces that come, and a failure behind it is a fault.
+fn check_front_in_pieces(alloc: Global, checks: &mut Checks) -> Result<()> {
+    let answers = [Answer::Bytes(1), Answer::Bytes(3), Answer::Error(BROKEN)];
+    let mut reader = Scripted::of(alloc, &answers);
+    let front = read_front(alloc, &mut reader, 4)?;
+    checks.note(
+        "a front in pieces",
+        front.as_slice() == b"****".as_slice() && !reader.failed(),
+    );
+    let fault = read_front(alloc, &mut reader, 1).err();
+    checks.note(
+        "a reader that fails",
+        fault == Some(Fault::ReadFault) && reader.failed(),
+    );
+    Ok(())
+}
+
+/// Checks tracked readers and writers.
+pub fn check_tracking(alloc: Global) -> Result<Checks> {
+    let mut checks = Checks::new();
+    check_reads(alloc, &mut checks);
+    check_writes(alloc, &mut checks);
+    check_flushes(alloc, &mut checks);
+    check_pieces(alloc, &mut checks);
+    check_front(alloc, &mut checks)?;
+    check_front_in_pieces(alloc, &mut checks)?;
+    Ok(checks)
+}
