@@ -186,14 +186,15 @@ pub reported_none : (old : Option (List ℕ)) (failed : Bool) (start : Machine) 
 reported_none old failed start first steps e v = record { state = refl; appended = Appends-nil old; sound = e; valid = v }
 
 -- one more step
-pub reported_more : (old mid new : Option (List ℕ)) (was failed : Bool) (start machine next : Machine) (first : ℕ) (steps : List Step) (i : ℕ) (d step : Step)
-    → Reported old mid was start machine first steps i → i < length steps → step ≡ get_or steps i d → next ≡ after_step machine step
-    → Appends mid new (line (first + i) (answer_to machine step)) → failed ≡ false → IsValid next.bda → Reported old new failed start next first steps (i + 1)
-reported_more old mid new was failed start machine next first steps i d step h within is en a e v =
+pub reported_more : (old mid new : Option (List ℕ)) (was failed : Bool) (start machine next : Machine) (first : ℕ) (steps : List Step) (i n : ℕ) (d step : Step)
+    → Reported old mid was start machine first steps i → n ≡ first + i → i < length steps → step ≡ get_or steps i d → next ≡ after_step machine step
+    → Appends mid new (line n (answer_to machine step)) → failed ≡ false → IsValid next.bda → Reported old new failed start next first steps (i + 1)
+reported_more old mid new was failed start machine next first steps i n d step h number within is en a e v =
     let here = line (first + i) (answer_to machine step) in
+    let more = subst (λ k. Appends mid new (line k (answer_to machine step))) number a in
     record {
       state = en ∙ ap (λ (m : Machine). after_step m step) h.state ∙ sym (state_joined start (take i steps) (step ∷ [])) ∙ ap (after_steps start) (sym (items_to steps i d step within is));
-      appended = subst (Appends old new) (lines_to start machine first steps i d step within is h.state) (Appends-trans old mid new (report_from start first (take i steps)) here h.appended a);
+      appended = subst (Appends old new) (lines_to start machine first steps i d step within is h.state) (Appends-trans old mid new (report_from start first (take i steps)) here h.appended more);
       sound = e;
       valid = v;
     }
@@ -209,12 +210,12 @@ reported_front old mid new was start machine first steps i d step h within is a 
     subst (λ (l : List Step). AppendsFront old new (report_from start first l)) (take-append-drop (i + 1) steps) (front_of_steps old new start first (take (i + 1) steps) (drop (i + 1) steps) front)
 
 -- what ends one more step early ends them all
-pub reported_err : (old mid new : Option (List ℕ)) (was failed : Bool) (e : Fault) (start machine : Machine) (first : ℕ) (steps : List Step) (i : ℕ) (d step : Step)
+err_reported : (old mid new : Option (List ℕ)) (was failed : Bool) (e : Fault) (start machine : Machine) (first : ℕ) (steps : List Step) (i : ℕ) (d step : Step)
     → Reported old mid was start machine first steps i → i < length steps → step ≡ get_or steps i d
     → WritesStep mid new failed (Err e) machine (first + i) step → WritesReport old new failed (Err e) start first steps
-reported_err old mid new was failed e start machine first steps i d step h within is (inl (fails, bad, front)) =
+err_reported old mid new was failed e start machine first steps i d step h within is (inl (fails, bad, front)) =
     inl (fails, bad, reported_front old mid new was start machine first steps i d step h within is front)
-reported_err old mid new was failed e start machine first steps i d step h within is (inr (wants, sound, takes, same)) =
+err_reported old mid new was failed e start machine first steps i d step h within is (inr (wants, sound, takes, same)) =
     inr (
       wants,
       sound,
@@ -227,6 +228,12 @@ reported_err old mid new was failed e start machine first steps i d step h withi
         subst (λ (contents : Option (List ℕ)). Appends old contents (report_from start first (take i steps))) (sym same) h.appended,
       ),
     )
+
+pub reported_err : (old mid new : Option (List ℕ)) (was failed : Bool) (e : Fault) (start machine : Machine) (first : ℕ) (steps : List Step) (i n : ℕ) (d step : Step)
+    → Reported old mid was start machine first steps i → n ≡ first + i → i < length steps → step ≡ get_or steps i d
+    → WritesStep mid new failed (Err e) machine n step → WritesReport old new failed (Err e) start first steps
+reported_err old mid new was failed e start machine first steps i n d step h number within is w =
+    err_reported old mid new was failed e start machine first steps i d step h within is (subst (λ k. WritesStep mid new failed (Err e) machine k step) number w)
 
 -- all steps
 pub reported_all : (old new : Option (List ℕ)) (failed : Bool) (start machine : Machine) (first : ℕ) (steps : List Step) (i : ℕ)
