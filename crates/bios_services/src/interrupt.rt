@@ -272,6 +272,7 @@ pub fn int10<B: Bus>(
     requires { IsValid bda.old }
     // The cycles of the service in order, its answer, and the BIOS data afterwards; or no memory, and nothing.
     ensures answer { Serves B.meaning (service fonts.now bda.old regs block.now) bus.old bda.old result bus.new bda.new }
+    // Entries of the DAC as a table alone take memory.
     ensures memory { result ≡ Err OutOfMemory → takes_memory (call_of regs) bda.old ≡ true }
     ensures valid { IsValid bda.new }
 {

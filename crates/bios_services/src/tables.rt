@@ -13,7 +13,7 @@ use vga_bits::{Bytes, Refusal};
 use vga_card::Bus;
 
 /// How many bytes the palette registers and the overscan colour have.
-pub(crate) const PALETTE_BYTES: usize = 17;
+const PALETTE_BYTES: usize = 17;
 
 /// What function 10 answers as a table.
 #[derive(Clone, Copy)]

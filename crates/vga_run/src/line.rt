@@ -8,10 +8,11 @@ use super::answer::Answer;
 use std::io::Write;
 use vga_bits::{Fault, TextBuffer, Tracked, write_whole};
 
-/// Room for the longest of them: a number of at most 20 digits, a blank, and four registers of 31 bytes.
+/// Room for the longest text that is put together here: a number of at most 20 digits, a blank, and four
+/// registers of 31 bytes.
 const LINE_LEN: usize = 52;
 
-/// The line of a step, or the first of more pieces.
+/// The line of a step, or its first piece.
 pub(crate) type Line = TextBuffer<LINE_LEN>;
 
 /// Puts the text of an answer at the line's end.
