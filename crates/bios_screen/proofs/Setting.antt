@@ -1,0 +1,48 @@
+-- The registers that a cycle of memory looks at, and what it does where they are known.
+use Rattle.std.proofs.Common.{◌≡◌, ℕ, List, true, sym, ap, ◌∙◌}
+use Rattle.vga_bits.specs.Four.{Four}
+use Rattle.vga_host.specs.Host.{HostState}
+use Rattle.vga_host.specs.Address.{is_decoded, window_offset}
+use Rattle.vga_host.specs.Write.{memory_after_put, after_put}
+use Rattle.vga_host.specs.Read.{loaded, read_byte, after_get}
+use Rattle.vga_card.specs.Bus.{card_meaning}
+use Rattle.vga_card.specs.Card.{CardState}
+use Rattle.vga_card.specs.Cycles.{written_where, answered_where}
+use Rattle.bios_services.specs.Plan.{run, put, get, byte_of}
+
+pub record Setting : Type 0 where
+  pub misc : ℕ
+  pub seq : List ℕ
+  pub gfx : List ℕ
+
+abbrev pub setting : CardState → Setting
+setting c = record { misc = c.misc; seq = c.host.seq; gfx = c.host.gfx }
+
+-- a host path whose registers are these
+abbrev pub host_at : HostState → Setting → HostState
+host_at h s = record h { seq = s.seq; gfx = s.gfx }
+
+-- an adapter whose registers are these; at its own setting it is the adapter itself, by computation
+abbrev pub card_at : CardState → Setting → CardState
+card_at c s = record c { host = host_at c.host s; misc = s.misc }
+
+-- the adapter with other memory
+abbrev pub with_memory : CardState → Four (List ℕ) → CardState
+with_memory c m = record c { host = record c.host { memory = m } }
+
+-- a Put at a decoded address: one equation for every setting
+pub put_decoded : (c : CardState) (s : Setting) (a v : ℕ) → setting c ≡ s → is_decoded (host_at c.host s) s.misc a ≡ true → (run card_meaning (put a v) c).0 ≡ with_memory c (memory_after_put (host_at c.host s) (window_offset (host_at c.host s) a) v)
+put_decoded c s a v e d =
+    let memory = memory_after_put (host_at c.host s) (window_offset (host_at c.host s) a) v in
+    ap (λ x. (run card_meaning (put a v) (card_at c x)).0) e
+    ∙ ap (λ b. (written_where b (card_at c s) (record (card_at c s) { host = after_put (host_at c.host s) a v })).0) d
+    ∙ ap (λ x. let y : CardState = record (card_at c x) { host = record (host_at c.host x) { memory = memory } } in y) (sym e)
+
+-- a Get at a decoded address
+pub get_decoded : (c : CardState) (s : Setting) (a : ℕ) → setting c ≡ s → is_decoded (host_at c.host s) s.misc a ≡ true → run card_meaning (get a) c ≡ (record c { host = record c.host { latches = loaded (host_at c.host s) a } }, read_byte (host_at c.host s) a)
+get_decoded c s a e d =
+    let latches = loaded (host_at c.host s) a in
+    let v = read_byte (host_at c.host s) a in
+    ap (λ x. run card_meaning (get a) (card_at c x)) e
+    ∙ ap (λ b. let r = answered_where b (card_at c s) (record (card_at c s) { host = after_get (host_at c.host s) a }) v in let p : CardState × ℕ = (r.0, byte_of r.1) in p) d
+    ∙ ap (λ x. let p : CardState × ℕ = (record (card_at c x) { host = record (host_at c.host x) { latches = latches } }, v) in p) (sym e)

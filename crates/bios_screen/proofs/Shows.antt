@@ -1,0 +1,145 @@
+-- What a shown screen says of registers and data, and what has to be known for a screen to be shown.
+use Rattle.std.proofs.Common.{◌≡◌, ℕ, ◌*◌, ◌<◌, ◌≤◌, refl, ap, ◌∙◌, arith, Bool, true, false, List, Option, Some, None}
+use Rattle.std.specs.Prelude.{◌==◌, ◌&&◌, nat_lt, nat_le, if◌then◌else◌}
+use Rattle.std.specs.Str.{bytes_eq}
+use Rattle.std.proofs.lemmas.Bool.Decides.{nat_tests}
+use Rattle.std.proofs.lemmas.Slice.Eq.{bytes_eq-Decides}
+use Rattle.vga_card.specs.Card.{CardState}
+use Rattle.bios_modes.specs.declared.modes.ModeRow.{ModeRow}
+use Rattle.bios_modes.specs.Modes.{mode_row}
+use Rattle.bios_modes.specs.Bda.{BiosData}
+use Rattle.bios_services.specs.ModeSet.{is_text}
+use Rattle.bios_screen.specs.Screen.{Screen}
+use Rattle.bios_screen.specs.Shown.{shows_memory, crtc_shown, shows_attribute, shows_data, shows_text, text_screen, shown_by, shown}
+use Rattle.bios_screen.proofs.Setting.{Setting, setting}
+use Rattle.bios_screen.proofs.Display.{Display, text_setting, text_sequencer, misc_of, IsTextRow, text_row_is}
+
+pub both_true : (a b : Bool) → (a && b) ≡ true → (a ≡ true) × (b ≡ true)
+both_true true b h = (refl, h)
+both_true false b h = absurd (cc)
+
+pub if_some : {Y : Type 0} (b : Bool) (x y : Y) → (if b then Some x else None) ≡ Some y → (b ≡ true) × (x ≡ y)
+if_some true x y h = (refl, cc)
+if_some false x y h = absurd (cc)
+
+pub none_some : {Y Z : Type 0} (y : Y) → None ≡ Some y → Z
+none_some y h = absurd (cc)
+
+pub same : {x y : ℕ} → (x == y) ≡ true → x ≡ y
+same {x} {y} e = grind (arith, nat_tests)
+
+pub lt_is : (a b : ℕ) → nat_lt a b ≡ true → a < b
+lt_is a b h = grind (arith, nat_tests)
+
+pub le_is : (a b : ℕ) → nat_le a b ≡ true → a ≤ b
+le_is a b h = grind (arith, nat_tests)
+
+pub lt_test : (a b : ℕ) → a < b → nat_lt a b ≡ true
+lt_test a b h = grind (arith, nat_tests)
+
+pub le_test : (a b : ℕ) → a ≤ b → nat_le a b ≡ true
+le_test a b h = grind (arith, nat_tests)
+
+pub not_lt : (a b : ℕ) → b ≤ a → nat_lt a b ≡ false
+not_lt a b m = grind (arith, nat_tests)
+
+pub not_le : (a b : ℕ) → b < a → nat_le a b ≡ false
+not_le a b m = grind (arith, nat_tests)
+
+pub both_are : (a b : Bool) → a ≡ true → b ≡ true → (a && b) ≡ true
+both_are a b g h = ap (λ x. x && b) g ∙ h
+
+bytes_same : (l : List ℕ) → bytes_eq l l ≡ true
+bytes_same l = (bytes_eq-Decides l l).1 refl
+
+-- the data as numbers
+pub record HasData (row : ModeRow) (d : BiosData) : Type 0 where
+  pub columns : d.columns ≡ row.columns
+  pub size : d.size ≡ row.size
+  pub last_row : d.last_row ≡ row.last_row
+  pub height : d.height ≡ row.height
+  pub port : d.crtc_address ≡ row.crtc_address
+  pub start : d.start ≡ d.size * d.page
+  pub page : d.page < row.pages
+
+data_is : (row : ModeRow) (d : BiosData) → shows_data row d ≡ true → HasData row d
+data_is row d h =
+    let a = both_true (d.columns == row.columns) _ h in
+    let b = both_true (d.size == row.size) _ a.1 in
+    let e = both_true (d.last_row == row.last_row) _ b.1 in
+    let f = both_true (d.height == row.height) _ e.1 in
+    let g = both_true (d.crtc_address == row.crtc_address) _ f.1 in
+    let i = both_true (d.start == d.size * d.page) _ g.1 in
+    record { columns = same a.0; size = same b.0; last_row = same e.0; height = same f.0; port = same g.0; start = same i.0; page = lt_is d.page row.pages i.1 }
+
+-- the test's parts
+pub record Tests (row : ModeRow) (c : CardState) (d : BiosData) : Type 0 where
+  pub is_text : is_text d.mode ≡ true
+  pub memory : shows_memory row c ≡ true
+  pub data_test : shows_data row d ≡ true
+  pub crtc : c.crtc.registers ≡ crtc_shown row d
+  pub attribute : shows_attribute row c.attr ≡ true
+
+pub tests_of : (row : ModeRow) (c : CardState) (d : BiosData) → shows_text row c d ≡ true → Tests row c d
+unfolding shows_text
+tests_of row c d h =
+    let a = both_true (is_text d.mode) (shows_memory row c && (shows_data row d && (bytes_eq c.crtc.registers (crtc_shown row d) && shows_attribute row c.attr))) h in
+    let b = both_true (shows_memory row c) (shows_data row d && (bytes_eq c.crtc.registers (crtc_shown row d) && shows_attribute row c.attr)) a.1 in
+    let e = both_true (shows_data row d) (bytes_eq c.crtc.registers (crtc_shown row d) && shows_attribute row c.attr) b.1 in
+    let f = both_true (bytes_eq c.crtc.registers (crtc_shown row d)) (shows_attribute row c.attr) e.1 in
+    record { is_text = a.0; memory = b.0; data_test = e.0; crtc = (bytes_eq-Decides c.crtc.registers (crtc_shown row d)).0 f.0; attribute = f.1 }
+
+pub test_of : (row : ModeRow) (c : CardState) (d : BiosData) → Tests row c d → shows_text row c d ≡ true
+unfolding shows_text
+test_of row c d t =
+    ap (λ b. b && (shows_memory row c && (shows_data row d && (bytes_eq c.crtc.registers (crtc_shown row d) && shows_attribute row c.attr)))) t.is_text
+    ∙ ap (λ b. b && (shows_data row d && (bytes_eq c.crtc.registers (crtc_shown row d) && shows_attribute row c.attr))) t.memory
+    ∙ ap (λ b. b && (bytes_eq c.crtc.registers (crtc_shown row d) && shows_attribute row c.attr)) t.data_test
+    ∙ ap (λ l. bytes_eq l (crtc_shown row d) && shows_attribute row c.attr) t.crtc
+    ∙ ap (λ b. b && shows_attribute row c.attr) (bytes_same (crtc_shown row d))
+    ∙ t.attribute
+
+-- the test gives the setting as a literal
+setting_is : (disp : Display) (mode : ℕ) (row : ModeRow) (c : CardState) → IsTextRow disp mode row → shows_memory row c ≡ true → setting c ≡ text_setting disp
+setting_is disp mode row c text h =
+    let a = both_true (c.misc == row.misc) (bytes_eq c.host.seq row.sequencer && bytes_eq c.host.gfx row.graphics) h in
+    let b = both_true (bytes_eq c.host.seq row.sequencer) (bytes_eq c.host.gfx row.graphics) a.1 in
+    ap (λ x. let r : Setting = record { misc = x; seq = c.host.seq; gfx = c.host.gfx } in r) (same a.0 ∙ text.misc)
+    ∙ ap (λ x. let r : Setting = record { misc = misc_of disp; seq = x; gfx = c.host.gfx } in r) ((bytes_eq-Decides c.host.seq row.sequencer).0 b.0 ∙ text.sequencer)
+    ∙ ap (λ x. let r : Setting = record { misc = misc_of disp; seq = text_sequencer; gfx = x } in r) ((bytes_eq-Decides c.host.gfx row.graphics).0 b.1 ∙ text.graphics)
+
+-- all that a shown screen says
+pub record IsShown (c : CardState) (d : BiosData) : Type 0 where
+  pub row : ModeRow
+  pub mode : mode_row d.mode ≡ Some row
+  pub display : Display
+  pub text : IsTextRow display d.mode row
+  pub tests : Tests row c d
+  pub has : HasData row d
+  pub setting : setting c ≡ text_setting display
+
+abbrev pub screen_shown : (c : CardState) (d : BiosData) → IsShown c d → Screen
+screen_shown c d h = text_screen h.row c d
+
+-- the screen that is shown, and what is known then
+pub record Shows (c : CardState) (d : BiosData) (s : Screen) : Type 0 where
+  pub is : IsShown c d
+  pub screen : screen_shown c d is ≡ s
+
+pub shown_is : (c : CardState) (d : BiosData) (s : Screen) → shown c d ≡ Some s → Shows c d s
+shown_is c d s h = by_row (mode_row d.mode) refl h
+  where
+    by_row : (x : Option ModeRow) → mode_row d.mode ≡ x → shown_by x c d ≡ Some s → Shows c d s
+    by_row None e g = none_some s g
+    by_row (Some row) e g =
+        let parts = if_some (shows_text row c d) (text_screen row c d) s g in
+        let t = tests_of row c d parts.0 in
+        let text = text_row_is d.mode row t.is_text e in
+        record {
+          is = record { row = row; mode = e; display = text.display; text = text.is; tests = t; has = data_is row d t.data_test; setting = setting_is text.display d.mode row c text.is t.memory };
+          screen = parts.1;
+        }
+
+-- and back
+pub shown_of : (c : CardState) (d : BiosData) (row : ModeRow) → mode_row d.mode ≡ Some row → Tests row c d → shown c d ≡ Some (text_screen row c d)
+shown_of c d row e t = ap (λ x. shown_by x c d) e ∙ ap (λ b. if b then Some (text_screen row c d) else None) (test_of row c d t)

@@ -1,0 +1,50 @@
+-- The screen that a clearing mode set leaves.
+-- From the IBM PS/2 and PC BIOS Interface Technical Reference, "Interrupt 10H - Video", (AH) = 00H.
+use Rattle.std.specs.Prelude.{ℕ, ◌+◌, ◌/◌, List, replicate, take, slice_index}
+use Rattle.vga_bits.specs.Bits.{is_set}
+use Rattle.bios_modes.specs.declared.modes.ModeRow.{ModeRow}
+use Rattle.bios_modes.specs.Palette.{dac_entry}
+use Rattle.bios_screen.specs.Listing.{listing}
+use Rattle.bios_screen.specs.Screen.{Cell, Cells, Layout, Palette, Screen}
+use Rattle.bios_screen.specs.Shown.{all_cells}
+
+-- n blank cells
+unfoldable pub blank_cells : ℕ → List Cell
+blank_cells n = replicate n (0x20, 0x07)
+
+-- one component of the first n entries of a mode's default palette: 0 red, 1 green, 2 blue
+unfoldable pub default_component : ℕ → ℕ → ℕ → List ℕ
+default_component mode i n = listing (λ k. slice_index (dac_entry mode k) i) 0 n
+
+-- the first n bytes of a font
+unfoldable pub font_bytes : List ℕ → ℕ → List ℕ
+font_bytes font n = listing (slice_index font) 0 n
+
+-- the colours of a mode
+abbrev pub fresh_palette : ℕ → ModeRow → Palette
+fresh_palette mode row = record {
+  values = take 16 row.attribute;
+  reds = default_component mode 0 256;
+  greens = default_component mode 1 256;
+  blues = default_component mode 2 256;
+  mask = 0xFF;
+}
+
+abbrev pub fresh_layout : ModeRow → Layout
+fresh_layout row = record { columns = row.columns; rows = row.last_row + 1; height = row.height; distance = row.size / 2; pages = row.pages }
+
+-- blank cells, the cursors in the upper left corner, the mode's type, colours and font; the frame number stays
+abbrev pub fresh_screen : ℕ → ModeRow → List ℕ → ℕ → Screen
+fresh_screen mode row font frame = record {
+  mode = mode;
+  layout = fresh_layout row;
+  contents = Cells (blank_cells all_cells);
+  places = replicate 8 0;
+  cursor_type = row.cursor_type;
+  page = 0;
+  palette = fresh_palette mode row;
+  overscan = slice_index row.attribute 0x11;
+  is_blink = is_set (slice_index row.attribute 0x10) 3;
+  glyphs = font_bytes font 4096;
+  frame = frame;
+}

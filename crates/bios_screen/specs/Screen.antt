@@ -1,0 +1,73 @@
+-- A plain screen: what programs see that use the video BIOS alone, with no register and no address.
+-- From the IBM PS/2 and PC BIOS Interface Technical Reference, "Interrupt 10H - Video".
+use Rattle.std.specs.Prelude.{ℕ, ◌+◌, ◌*◌, Bool, List, get_or, slice_index}
+use Rattle.bios_services.specs.Cursor.{row_of, column_of}
+
+-- a cell of text: its character and its attribute
+abbrev pub Cell : Type 0
+Cell = ℕ × ℕ
+
+-- what is on the screen: the cells of text, page after page, or the pixels of each page, row after row
+pub data Contents : Type 0 where
+  Cells : List Cell → Contents
+  Pixels : List (List ℕ) → Contents
+
+-- how the contents are cut: columns and rows of characters on a page, scan lines of a character, how many cells lead from
+-- a page to the next, and how many pages there are
+pub record Layout : Type 0 where
+  pub columns : ℕ
+  pub rows : ℕ
+  pub height : ℕ
+  pub distance : ℕ
+  pub pages : ℕ
+
+-- the colours: sixteen values of a palette, red, green and blue of the entries that they name, and the mask of these names
+pub record Palette : Type 0 where
+  pub values : List ℕ
+  pub reds : List ℕ
+  pub greens : List ℕ
+  pub blues : List ℕ
+  pub mask : ℕ
+
+-- the places of the cursor, one for each page, have the row as high byte and the column as low one; the cursor's type has
+-- its first scan line as high byte and its last as low one; glyphs have sixteen bytes a character, top row first
+pub record Screen : Type 0 where
+  pub mode : ℕ
+  pub layout : Layout
+  pub contents : Contents
+  pub places : List ℕ
+  pub cursor_type : ℕ
+  pub page : ℕ
+  pub palette : Palette
+  pub overscan : ℕ
+  pub is_blink : Bool
+  pub glyphs : List ℕ
+  pub frame : ℕ
+
+-- a cell that is none
+abbrev pub no_cell : Cell
+no_cell = (0, 0)
+
+-- the cells of a list by their numbers
+abbrev pub cell_of : List Cell → ℕ → Cell
+cell_of cells k = get_or cells k no_cell
+
+-- how many cells a page shows
+abbrev pub page_cells : Screen → ℕ
+page_cells s = s.layout.columns * s.layout.rows
+
+-- the number of a page's first cell
+abbrev pub page_start : Screen → ℕ → ℕ
+page_start s page = s.layout.distance * page
+
+-- the number of the cell at a place, counted along the rows of its page
+abbrev pub place_number : Screen → ℕ → ℕ
+place_number s place = s.layout.columns * row_of place + column_of place
+
+-- the cursor's place on a page
+abbrev pub cursor_place : Screen → ℕ → ℕ
+cursor_place s page = slice_index s.places page
+
+-- the number of the cell at a page's cursor, counted from the first cell of page 0
+abbrev pub cursor_cell : Screen → ℕ → ℕ
+cursor_cell s page = page_start s page + place_number s (cursor_place s page)

@@ -1,0 +1,117 @@
+-- Whether the adapter shows a screen, and which: a test of registers and BIOS data, and then a reading.
+-- From the IBM PS/2 Hardware Interface Technical Reference, Video Subsystems, and the IBM PS/2 and PC BIOS Interface Technical
+-- Reference, "BIOS Data Area".
+use Rattle.std.specs.Prelude.{ℕ, ◌+◌, ◌*◌, ◌/◌, ◌%◌, ◌==◌, ◌&&◌, nat_lt, Bool, if◌then◌else◌, List, take, drop, slice_index, bit_and, Option, Some, None}
+use Rattle.std.specs.Str.{bytes_eq}
+use Rattle.vga_attr.specs.Attr.{AttrState}
+use Rattle.vga_attr.specs.Fields.{is_palette_shown, is_blink, overscan}
+use Rattle.vga_card.specs.Card.{CardState}
+use Rattle.bios_modes.specs.declared.modes.ModeRow.{ModeRow}
+use Rattle.bios_modes.specs.Modes.{mode_row}
+use Rattle.bios_modes.specs.Bda.{BiosData}
+use Rattle.bios_services.specs.ModeSet.{is_text}
+use Rattle.bios_services.specs.Cursor.{cursor_address, start_address}
+use Rattle.bios_screen.specs.Listing.{listing}
+use Rattle.bios_screen.specs.Screen.{Cell, Cells, Layout, Palette, Screen}
+
+-- ---- the test
+
+-- the registers that memory cycles look at are the mode's
+abbrev pub shows_memory : ModeRow → CardState → Bool
+shows_memory row c = (c.misc == row.misc) && (bytes_eq c.host.seq row.sequencer && bytes_eq c.host.gfx row.graphics)
+
+-- register i of the CRT controller for this cursor's type, start address and cursor location; all others are the mode's
+abbrev pub crtc_register : ModeRow → ℕ → ℕ → ℕ → ℕ → ℕ
+crtc_register row cursor_type start location i =
+    if i == 0x0A then bit_and (cursor_type / 256) 0x3F
+    else if i == 0x0B then bit_and (cursor_type % 256) 0x7F
+    else if i == 0x0C then start / 256
+    else if i == 0x0D then start % 256
+    else if i == 0x0E then location / 256
+    else if i == 0x0F then location % 256
+    else slice_index row.crtc i
+
+-- all 25 of them
+abbrev pub crtc_registers : ModeRow → ℕ → ℕ → ℕ → List ℕ
+crtc_registers row cursor_type start location = listing (crtc_register row cursor_type start location) 0 25
+
+-- as the data say: the active page is shown, with its cursor
+abbrev pub crtc_shown : ModeRow → BiosData → List ℕ
+crtc_shown row d = crtc_registers row d.cursor_type (start_address d d.page) (cursor_address d d.page)
+
+-- the attribute controller shows its palette, and its registers from mode control on are the mode's, but blink, which is
+-- bit 3 of mode control, and overscan
+abbrev pub shows_attribute : ModeRow → AttrState → Bool
+shows_attribute row a =
+    is_palette_shown a && ((bit_and (slice_index a.registers 0x10) 0xF7 == bit_and (slice_index row.attribute 0x10) 0xF7)
+    && bytes_eq (drop 0x12 a.registers) (drop 0x12 row.attribute))
+
+-- the data are those of the mode, and the page is one of its pages
+abbrev pub shows_data : ModeRow → BiosData → Bool
+shows_data row d =
+    (d.columns == row.columns) && ((d.size == row.size) && ((d.last_row == row.last_row) && ((d.height == row.height)
+    && ((d.crtc_address == row.crtc_address) && ((d.start == d.size * d.page) && nat_lt d.page row.pages)))))
+
+-- the adapter and the data show a text screen
+unfoldable pub shows_text : ModeRow → CardState → BiosData → Bool
+shows_text row c d =
+    is_text d.mode && (shows_memory row c && (shows_data row d && (bytes_eq c.crtc.registers (crtc_shown row d) && shows_attribute row c.attr)))
+
+-- ---- the reading
+
+-- cell k of text memory: a character in plane 0, and its attribute in plane 1
+abbrev pub cell_in : List ℕ → List ℕ → ℕ → Cell
+cell_in plane0 plane1 k = (slice_index plane0 (2 * k), slice_index plane1 (2 * k))
+
+-- the first n cells
+unfoldable pub cells_in : List ℕ → List ℕ → ℕ → List Cell
+cells_in plane0 plane1 n = listing (cell_in plane0 plane1) 0 n
+
+-- byte i of the glyphs, of which each has 16 rows at the head of 32 bytes in plane 2
+abbrev pub glyph_byte : List ℕ → ℕ → ℕ
+glyph_byte plane2 i = slice_index plane2 (32 * (i / 16) + i % 16)
+
+-- the first n bytes of the glyphs
+unfoldable pub glyphs_in : List ℕ → ℕ → List ℕ
+glyphs_in plane2 n = listing (glyph_byte plane2) 0 n
+
+-- the palette's registers, the DAC's entries and its mask
+abbrev pub palette_in : CardState → Palette
+palette_in c = record { values = take 16 c.attr.registers; reds = c.dac.reds; greens = c.dac.greens; blues = c.dac.blues; mask = c.dac.mask }
+
+-- how text is cut: a cell has two bytes of a page
+abbrev pub layout_of : ModeRow → BiosData → Layout
+layout_of row d = record { columns = d.columns; rows = d.last_row + 1; height = d.height; distance = d.size / 2; pages = row.pages }
+
+-- the screen with these cells
+abbrev pub screen_with : ModeRow → CardState → BiosData → List Cell → Screen
+screen_with row c d cells = record {
+  mode = d.mode;
+  layout = layout_of row d;
+  contents = Cells cells;
+  places = d.cursor_places;
+  cursor_type = d.cursor_type;
+  page = d.page;
+  palette = palette_in c;
+  overscan = overscan c.attr;
+  is_blink = is_blink c.attr;
+  glyphs = glyphs_in c.host.memory.plane2 4096;
+  frame = c.crtc.beam.frame;
+}
+
+-- how many cells text memory has
+abbrev pub all_cells : ℕ
+all_cells = 16384
+
+-- the text screen
+abbrev pub text_screen : ModeRow → CardState → BiosData → Screen
+text_screen row c d = screen_with row c d (cells_in c.host.memory.plane0 c.host.memory.plane1 all_cells)
+
+-- the screen that is shown, if there is one, where the mode has this row
+abbrev pub shown_by : Option ModeRow → CardState → BiosData → Option Screen
+shown_by None c d = None
+shown_by (Some row) c d = if shows_text row c d then Some (text_screen row c d) else None
+
+-- the screen that the adapter shows with these data, if it shows one
+abbrev pub shown : CardState → BiosData → Option Screen
+shown c d = shown_by (mode_row d.mode) c d

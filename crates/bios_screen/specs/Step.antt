@@ -1,0 +1,210 @@
+-- What a service does to a plain screen, what it answers, and why it is refused.
+-- From the IBM PS/2 and PC BIOS Interface Technical Reference, "Interrupt 10H - Video".
+use Rattle.std.specs.Prelude.{ℕ, ◌+◌, ◌-◌, ◌*◌, ◌/◌, ◌%◌, ◌==◌, ◌&&◌, ◌||◌, nat_lt, nat_le, Bool, if◌then◌else◌, List, [], length, slice_set, min, Option, Some, None}
+use Rattle.vga_bits.specs.declared.refusal.Refusal.{Refusal}
+use Rattle.vga_bits.specs.declared.refusal.Refusal.TheVariants.{BadPage, Outside, CountPast}
+use Rattle.bios_services.specs.declared.regs.Regs.{Regs}
+use Rattle.bios_services.specs.declared.scroll.Scroll.{Scroll}
+use Rattle.bios_services.specs.declared.call.Service.{Service}
+use Rattle.bios_services.specs.declared.call.Service.TheVariants.{SetCursorType, SetCursor, ReadCursor, SelectPage, ScrollUp, ScrollDown, ReadCell, WriteCells, Teletype, ReadMode, ReadAdapter, ReadDisplay}
+use Rattle.bios_services.specs.Calls.{low}
+use Rattle.bios_services.specs.Teletype.{line_start}
+use Rattle.bios_services.specs.Cursor.{row_of, column_of}
+use Rattle.bios_screen.specs.Listing.{listing}
+use Rattle.bios_screen.specs.Screen.{Cell, Contents, Cells, Pixels, Screen, cell_of, page_cells, page_start, place_number, cursor_place, cursor_cell}
+
+-- ---- why a service is refused
+
+-- the page that a call names; where there is one page, that is meant whatever is named
+abbrev pub page_meant : Screen → ℕ → ℕ
+page_meant s page = if s.layout.pages == 1 then 0 else page
+
+-- a page that there is not
+abbrev pub page_refused : Screen → ℕ → Option Refusal
+page_refused s page = if nat_lt page s.layout.pages then None else Some BadPage
+
+-- a page that there is not, or a cursor outside its page
+abbrev pub cursor_refused : Screen → ℕ → Option Refusal
+cursor_refused s page =
+    if nat_lt page s.layout.pages
+    then (if nat_lt (place_number s (cursor_place s page)) (page_cells s) then None else Some Outside)
+    else Some BadPage
+
+-- and more cells from the cursor on than the page has
+abbrev pub count_refused : Screen → ℕ → ℕ → Option Refusal
+count_refused s page count =
+    if nat_lt page s.layout.pages
+    then (if nat_lt (place_number s (cursor_place s page)) (page_cells s)
+    then (if nat_le (place_number s (cursor_place s page) + count) (page_cells s) then None else Some CountPast)
+    else Some Outside)
+    else Some BadPage
+
+-- a place whose row or column there is not
+abbrev pub place_refused : Screen → ℕ → Option Refusal
+place_refused s place = if nat_lt (row_of place) s.layout.rows && nat_lt (column_of place) s.layout.columns then None else Some Outside
+
+-- why a service is refused on a text screen
+unfoldable pub refused_on : Screen → Service → Option Refusal
+refused_on s (SetCursorType cursor_type) = None
+refused_on s (SetCursor page place) = page_refused s (page_meant s page)
+refused_on s (ReadCursor page) = page_refused s (page_meant s page)
+refused_on s (SelectPage page) = page_refused s page
+refused_on s (ScrollUp window) = None
+refused_on s (ScrollDown window) = None
+refused_on s (ReadCell page) = cursor_refused s (page_meant s page)
+refused_on s (WriteCells page character colour count) = count_refused s (page_meant s page) count
+refused_on s (Teletype character) = place_refused s (cursor_place s s.page)
+refused_on s ReadMode = None
+refused_on s ReadAdapter = None
+refused_on s ReadDisplay = None
+
+-- ---- what it does to the cells
+
+-- the cells of a screen, and cell k of them
+abbrev pub cells_on : Contents → List Cell
+cells_on (Cells cells) = cells
+cells_on (Pixels pages) = []
+
+abbrev pub cell_on : Screen → ℕ → Cell
+cell_on s k = cell_of (cells_on s.contents) k
+
+-- as many cells, each given by its number and all the old ones
+abbrev pub renewed : ((ℕ → Cell) → ℕ → Cell) → Contents → Contents
+renewed new (Cells cells) = Cells (listing (new (cell_of cells)) 0 (length cells))
+renewed new (Pixels pages) = Pixels pages
+
+abbrev pub with_cells : Screen → ((ℕ → Cell) → ℕ → Cell) → Screen
+with_cells s new = record s { contents = renewed new s.contents }
+
+-- a character with an attribute; where none is given the cell keeps its own
+abbrev pub character_over : ℕ → Option ℕ → Cell → Cell
+character_over character None cell = (character, cell.1)
+character_over character (Some colour) cell = (character, colour)
+
+-- count cells from the first on become a character, and all others stay
+abbrev pub written : ℕ → ℕ → ℕ → Option ℕ → (ℕ → Cell) → ℕ → Cell
+written first count character colour old k =
+    if nat_le first k && nat_lt k (first + count) then character_over character colour (old k) else old k
+
+-- row and column of cell k on a page
+abbrev pub row_on : Screen → ℕ → ℕ → ℕ
+row_on s page k = (k - page_start s page) / s.layout.columns
+
+abbrev pub column_on : Screen → ℕ → ℕ → ℕ
+column_on s page k = (k - page_start s page) % s.layout.columns
+
+-- how many rows and columns of a window are on a page, and by how many rows it goes: by all for 0 or for more than it has
+abbrev pub window_rows : Screen → Scroll → ℕ
+window_rows s w = min w.bottom (s.layout.rows - 1) + 1 - w.top
+
+abbrev pub window_columns : Screen → Scroll → ℕ
+window_columns s w = min w.right (s.layout.columns - 1) + 1 - w.left
+
+abbrev pub window_lines : Screen → Scroll → ℕ
+window_lines s w = if (w.lines == 0) || nat_lt (window_rows s w) w.lines then window_rows s w else w.lines
+
+-- whether cell k is in a window of a page
+abbrev pub is_inside : Screen → ℕ → Scroll → ℕ → Bool
+is_inside s page w k =
+    nat_le (page_start s page) k && (nat_le w.top (row_on s page k) && (nat_lt (row_on s page k) (w.top + window_rows s w)
+    && (nat_le w.left (column_on s page k) && nat_lt (column_on s page k) (w.left + window_columns s w))))
+
+-- a blank with the window's attribute
+abbrev pub blank_of : Scroll → Cell
+blank_of w = (0x20, w.fill)
+
+-- the window goes up: a cell takes what stood some rows below it, the last rows are blank, and all outside stays
+abbrev pub gone_up : Screen → ℕ → Scroll → (ℕ → Cell) → ℕ → Cell
+gone_up s page w old k =
+    if is_inside s page w k
+    then (if nat_lt (row_on s page k + window_lines s w) (w.top + window_rows s w) then old (k + s.layout.columns * window_lines s w) else blank_of w)
+    else old k
+
+-- the window goes down: a cell takes what stood some rows above it, the first rows are blank, and all outside stays
+abbrev pub gone_down : Screen → ℕ → Scroll → (ℕ → Cell) → ℕ → Cell
+gone_down s page w old k =
+    if is_inside s page w k
+    then (if nat_le (w.top + window_lines s w) (row_on s page k) then old (k - s.layout.columns * window_lines s w) else blank_of w)
+    else old k
+
+-- ---- typing
+
+-- a whole page that goes up by a row, with this attribute for blanks
+abbrev pub whole_page : Screen → ℕ → Scroll
+whole_page s colour = record { lines = 1; fill = colour; top = 0; left = 0; bottom = s.layout.rows - 1; right = s.layout.columns - 1 }
+
+-- the attribute in the last row of a page, at the column of a place
+abbrev pub last_colour : Screen → ℕ → ℕ → ℕ
+last_colour s page place = (cell_on s (page_start s page + (s.layout.columns * (s.layout.rows - 1) + column_of place))).1
+
+-- the row below a place; from the last row the page goes up instead, with a row blank in that attribute
+abbrev pub fed : Screen → ℕ → ℕ → Screen × ℕ
+fed s page place =
+    if nat_lt (row_of place) (s.layout.rows - 1) then (s, place + 256)
+    else (with_cells s (gone_up s page (whole_page s (last_colour s page place))), place)
+
+-- the place behind: the next column, or the first one of the row below
+abbrev pub advanced : Screen → ℕ → ℕ → Screen × ℕ
+advanced s page place =
+    if nat_lt (column_of place + 1) s.layout.columns then (s, place + 1)
+    else ((fed s page place).0, line_start (fed s page place).1)
+
+-- a character at a place, and the place behind
+abbrev pub put_on : Screen → ℕ → ℕ → ℕ → Option ℕ → Screen
+put_on s page place character colour = with_cells s (written (page_start s page + place_number s place) 1 character colour)
+
+-- a character is typed at a place: a bell does nothing, a backspace goes a column back, a line feed a row down, a carriage
+-- return to the first column; any other is shown
+unfoldable pub typed : Screen → ℕ → ℕ → ℕ → Option ℕ → Screen × ℕ
+typed s page place character colour =
+    if character == 0x07 then (s, place)
+    else if character == 0x08 then (s, if column_of place == 0 then place else place - 1)
+    else if character == 0x0A then fed s page place
+    else if character == 0x0D then (s, line_start place)
+    else advanced (put_on s page place character colour) page place
+
+-- a cursor at another place of a page
+abbrev pub with_place : Screen → ℕ → ℕ → Screen
+with_place s page place = record s { places = slice_set s.places page place }
+
+-- a character is typed at the cursor of the active page, which then stands behind it; a bell leaves it
+abbrev pub typed_at_cursor : Screen → ℕ → Screen
+typed_at_cursor s character =
+    if character == 0x07 then s
+    else with_place (typed s s.page (cursor_place s s.page) character None).0 s.page (typed s s.page (cursor_place s s.page) character None).1
+
+-- ---- services
+
+-- the screen after a service that is not refused
+unfoldable pub next : Screen → Service → Screen
+next s (SetCursorType cursor_type) = record s { cursor_type = cursor_type }
+next s (SetCursor page place) = with_place s (page_meant s page) place
+next s (ReadCursor page) = s
+next s (SelectPage page) = record s { page = page }
+next s (ScrollUp window) = with_cells s (gone_up s s.page window)
+next s (ScrollDown window) = with_cells s (gone_down s s.page window)
+next s (ReadCell page) = s
+next s (WriteCells page character colour count) = with_cells s (written (cursor_cell s (page_meant s page)) count character colour)
+next s (Teletype character) = typed_at_cursor s character
+next s ReadMode = s
+next s ReadAdapter = s
+next s ReadDisplay = s
+
+-- character and attribute at the cursor of a page, as low and high byte
+abbrev pub cell_read : Screen → ℕ → ℕ
+cell_read s page = (cell_on s (cursor_cell s page)).0 + 256 * (cell_on s (cursor_cell s page)).1
+
+-- the registers that it answers
+unfoldable pub answer_on : Screen → Service → Regs → Regs
+answer_on s (SetCursorType cursor_type) r = r
+answer_on s (SetCursor page place) r = r
+answer_on s (ReadCursor page) r = record r { cx = s.cursor_type; dx = cursor_place s (page_meant s page) }
+answer_on s (SelectPage page) r = r
+answer_on s (ScrollUp window) r = r
+answer_on s (ScrollDown window) r = r
+answer_on s (ReadCell page) r = record r { ax = cell_read s (page_meant s page) }
+answer_on s (WriteCells page character colour count) r = r
+answer_on s (Teletype character) r = r
+answer_on s ReadMode r = record r { ax = s.mode + 256 * s.layout.columns; bx = low r.bx + 256 * s.page }
+answer_on s ReadAdapter r = record r { bx = (if s.mode == 0x07 then 0x0103 else 0x0003); cx = 0x0009 }
+answer_on s ReadDisplay r = record r { ax = 0x1A1A; bx = 0x0008 }

@@ -1,0 +1,52 @@
+//! Laws of plain screens, each of which is a contract, and nothing that runs: from a state that shows a
+//! screen a service leads to one that shows the next, with the screen's answer or refusal.
+ghost use Rattle.std.specs.Prelude.{ℕ, ◌<◌, Option, IfSome};
+ghost use Rattle.bios_services.specs.declared.scroll.Scroll.{Scroll};
+ghost use Rattle.bios_services.specs.declared.call.Service.TheVariants.{SetCursorType, SetCursor, ReadCursor, SelectPage, ReadCell, WriteCells, ScrollUp, ScrollDown, Teletype, ReadMode, ReadAdapter, ReadDisplay};
+ghost use Rattle.bios_modes.specs.Modes.{colour_text, monochrome_text};
+ghost use Rattle.bios_screen.specs.Served.{Serves, SetsFresh};
+
+use vga_card::laws::bounds_stay;
+
+/// Function 00, a mode set to text that clears the memory: from any state to one that shows the fresh
+/// screen.
+pub fn mode_set_is_fresh()
+    ensures colour { SetsFresh 0x03 colour_text }
+    ensures monochrome { SetsFresh 0x07 monochrome_text }
+{
+    bounds_stay();
+}
+
+/// Functions 03, 0F, 12 and 1A: cursor, mode, adapter and display are answered.
+pub fn readers_are_served()
+    ensures cursor { (page : ℕ) → Serves (ReadCursor page) }
+    ensures mode { Serves ReadMode }
+    ensures adapter { Serves ReadAdapter }
+    ensures display { Serves ReadDisplay }
+{}
+
+/// Functions 01, 02 and 05: the cursor's type, its place on a page, and the active page are set.
+pub fn cursor_is_served()
+    ensures kind { (cursor_type : ℕ) → Serves (SetCursorType cursor_type) }
+    ensures place { (page place : ℕ) → place < 65536 → Serves (SetCursor page place) }
+    ensures page { (page : ℕ) → Serves (SelectPage page) }
+{}
+
+/// Functions 08, 09 and 0A: the cell at the cursor is read, and cells from it on are written.
+pub fn cells_are_served()
+    ensures read { (page : ℕ) → Serves (ReadCell page) }
+    ensures written { (page character : ℕ) (colour : Option ℕ) (count : ℕ) → character < 256 → IfSome colour (λ a. a < 256) → Serves (WriteCells page character colour count) }
+{}
+
+/// Functions 06 and 07: a window of the active page goes up or down.
+pub fn windows_are_served()
+    ensures up { (window : Scroll) → window.fill < 256 → Serves (ScrollUp window) }
+    ensures down { (window : Scroll) → window.fill < 256 → Serves (ScrollDown window) }
+{}
+
+/// Function 0E: a character is typed at the cursor of the active page.
+pub fn typing_is_served()
+    ensures { (character : ℕ) → character < 256 → Serves (Teletype character) }
+{
+    bounds_stay();
+}

@@ -1,0 +1,4 @@
+//! The plain screen that the adapter shows: how it is read, and why services lead from one to the next.
+#![tactic(auto)]
+
+pub mod laws;
