@@ -24,3 +24,4 @@ pub mod Entries
 pub mod Glyphs
 pub mod Fresh
 pub mod Served
+pub mod Examples
