@@ -24,4 +24,5 @@ pub mod Entries
 pub mod Glyphs
 pub mod Fresh
 pub mod Served
+pub mod Calls
 pub mod Examples

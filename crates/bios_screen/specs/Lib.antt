@@ -5,3 +5,4 @@ pub mod Step
 pub mod Bounds
 pub mod Fresh
 pub mod Served
+pub mod Called

@@ -1,10 +1,23 @@
 //! Laws of plain screens, each of which is a contract, and nothing that runs: from a state that shows a
 //! screen a service leads to one that shows the next, with the screen's answer or refusal.
-ghost use Rattle.std.specs.Prelude.{ℕ, ◌<◌, Option, IfSome};
+ghost use Rattle.std.specs.Prelude.{ℕ, ◌≡◌, ◌<◌, List, Option, Some, None, Err, IfSome};
+ghost use Rattle.vga_bits.specs.declared.refusal.Refusal.TheVariants.{BadFunction};
+ghost use Rattle.vga_card.specs.Bounds.{IsCard};
+ghost use Rattle.vga_card.specs.Card.{CardState};
+ghost use Rattle.bios_modes.specs.Bda.{BiosData};
+ghost use Rattle.bios_modes.specs.Fonts.{FontSet};
+ghost use Rattle.bios_services.specs.declared.regs.Regs.{Regs};
 ghost use Rattle.bios_services.specs.declared.scroll.Scroll.{Scroll};
+ghost use Rattle.bios_services.specs.declared.call.Call.TheVariants.{InMode};
+ghost use Rattle.bios_services.specs.declared.call.Service.{Service};
+ghost use Rattle.bios_services.specs.Calls.{call_of};
 ghost use Rattle.bios_services.specs.declared.call.Service.TheVariants.{SetCursorType, SetCursor, ReadCursor, SelectPage, ReadCell, WriteCells, ScrollUp, ScrollDown, Teletype, ReadMode, ReadAdapter, ReadDisplay};
 ghost use Rattle.bios_modes.specs.Modes.{colour_text, monochrome_text};
-ghost use Rattle.bios_screen.specs.Served.{Serves, SetsFresh};
+ghost use Rattle.bios_screen.specs.Bounds.{IsBda};
+ghost use Rattle.bios_screen.specs.Screen.{Screen};
+ghost use Rattle.bios_screen.specs.Shown.{shown};
+ghost use Rattle.bios_screen.specs.Served.{Serves, SetsFresh, after_call};
+ghost use Rattle.bios_screen.specs.Called.{AreWords, IsCalled};
 
 use vga_card::laws::bounds_stay;
 
@@ -47,6 +60,17 @@ pub fn windows_are_served()
 /// Function 0E: a character is typed at the cursor of the active page.
 pub fn typing_is_served()
     ensures { (character : ℕ) → character < 256 → Serves (Teletype character) }
+{
+    bounds_stay();
+}
+
+/// From every state that shows a screen a call for a service replies as on the screen, or is refused as
+/// there, and leads to a state that shows the next screen; a call for no service changes nothing.
+pub fn calls_lead_to_screens()
+    ensures served { (service : Service) (fonts : FontSet) (r : Regs) (block : List ℕ) (c : CardState) (d : BiosData) (s : Screen) →
+        IsCard c → IsBda d → AreWords r → shown c d ≡ Some s → call_of r ≡ Some (InMode service) → IsCalled service fonts r block c d s }
+    ensures unknown { (fonts : FontSet) (r : Regs) (block : List ℕ) (c : CardState) (d : BiosData) (s : Screen) →
+        shown c d ≡ Some s → call_of r ≡ None → after_call fonts r block c d ≡ (c, (Err BadFunction, d)) }
 {
     bounds_stay();
 }

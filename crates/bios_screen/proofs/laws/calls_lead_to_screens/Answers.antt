@@ -1,0 +1,8 @@
+use Rattle.bios_screen.proofs.Calls.{calls_lead, unknown_refused}
+use Rattle.bios_screen.proofs.laws.calls_lead_to_screens.Goals as goal
+
+pub returns-clause-served : goal.returns-clause-served
+returns-clause-served c = calls_lead (record { out = c.bounds_stay.ensures.out; inp = c.bounds_stay.ensures.inp; put = c.bounds_stay.ensures.put; get = c.bounds_stay.ensures.get })
+
+pub returns-clause-unknown : goal.returns-clause-unknown
+returns-clause-unknown c = unknown_refused
