@@ -26,3 +26,4 @@ pub mod Fresh
 pub mod Served
 pub mod Calls
 pub mod Examples
+pub mod PictureExamples

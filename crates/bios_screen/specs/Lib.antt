@@ -4,5 +4,6 @@ pub mod Shown
 pub mod Step
 pub mod Bounds
 pub mod Fresh
+pub mod Picture
 pub mod Served
 pub mod Called

@@ -1,0 +1,77 @@
+-- The picture of a plain screen of text, dot by dot.
+-- From the IBM PS/2 and PC BIOS Interface Technical Reference, "Interrupt 10H - Video", and the IBM PS/2 Hardware Interface
+-- Technical Reference, Video Subsystems, "Alphanumeric Modes"; at which frames characters and cursor blink, and what comes
+-- first of underline, blink and cursor, is this adapter's choice.
+use Rattle.std.specs.Prelude.{ℕ, ◌+◌, ◌-◌, ◌*◌, ◌/◌, ◌%◌, ◌==◌, ◌&&◌, not, nat_lt, nat_le, Bool, true, false, if◌then◌else◌, List, [], ◌∷◌, slice_index, bit_and}
+use Rattle.vga_bits.specs.Bits.{is_set, field}
+use Rattle.bios_services.specs.Calls.{high, low}
+use Rattle.bios_screen.specs.Screen.{Cell, Palette, Screen, page_start, cursor_cell}
+use Rattle.bios_screen.specs.Step.{cell_on}
+
+-- row r of a character's glyph
+abbrev pub glyph_row : Screen → ℕ → ℕ → ℕ
+glyph_row s character r = slice_index s.glyphs (16 * character + r)
+
+-- whether dot i of a row is of its glyph: the leftmost dot is bit 7; the ninth repeats the eighth for the line-drawing
+-- characters C0 to DF, and is else none
+abbrev pub is_glyph_dot : ℕ → ℕ → ℕ → Bool
+is_glyph_dot character byte i =
+    if nat_lt i 8 then is_set byte (7 - i) else nat_le 0xC0 character && (nat_le character 0xDF && is_set byte 0)
+
+-- the monochrome display underlines attributes of this pattern, in the last row of a character
+abbrev pub is_underlined : Screen → Cell → ℕ → Bool
+is_underlined s cell r = (s.mode == 0x07) && ((bit_and cell.1 0x77 == 1) && (r == s.layout.height - 1))
+
+-- where attributes blink, a cell whose attribute has bit 7 is gone in the second 16 of 32 frames
+abbrev pub is_blinked_away : Screen → Cell → Bool
+is_blinked_away s cell = s.is_blink && (is_set cell.1 7 && nat_le 16 s.frame)
+
+-- the cursor of the active page is shown in its rows, unless bit 5 of its first row turns it off, in the first 8 of 16 frames;
+-- k is the number of a cell, counted from the first cell of page 0
+abbrev pub is_cursor : Screen → ℕ → ℕ → Bool
+is_cursor s k r =
+    (k == cursor_cell s s.page) && (not (is_set (high s.cursor_type) 5) && (nat_le (field (high s.cursor_type) 4 0) r
+    && (nat_le r (field (low s.cursor_type) 4 0) && nat_lt (s.frame % 16) 8)))
+
+-- whether dot i of row r of cell k has the cell's foreground: of underline, blink and cursor the last that applies decides
+unfoldable pub is_foreground : Screen → ℕ → ℕ → ℕ → Bool
+is_foreground s k r i =
+    if is_cursor s k r then true
+    else if is_blinked_away s (cell_on s k) then false
+    else if is_underlined s (cell_on s k) r then true
+    else is_glyph_dot (cell_on s k).0 (glyph_row s (cell_on s k).0 r) i
+
+-- the four bits of a cell's background: where attributes blink the highest is left out
+abbrev pub background : Screen → Cell → ℕ
+background s cell = if s.is_blink then field cell.1 6 4 else field cell.1 7 4
+
+-- the four bits of dot i of row r of cell k
+unfoldable pub nibble : Screen → ℕ → ℕ → ℕ → ℕ
+nibble s k r i = if is_foreground s k r i then field (cell_on s k).1 3 0 else background s (cell_on s k)
+
+-- red, green and blue of a number, which the mask cuts
+abbrev pub tint : Palette → ℕ → List ℕ
+tint p n = slice_index p.reds (bit_and n p.mask) ∷ slice_index p.greens (bit_and n p.mask) ∷ slice_index p.blues (bit_and n p.mask) ∷ []
+
+-- red, green and blue of four bits, which pick a value of the palette
+abbrev pub shade : Palette → ℕ → List ℕ
+shade p n = tint p (slice_index p.values n)
+
+-- the cell at column x of line y of the picture of a page: a cell has nine dots, and the lines of a character
+abbrev pub cell_shown : Screen → ℕ → ℕ → ℕ → ℕ
+cell_shown s page x y = page_start s page + (s.layout.columns * (y / s.layout.height) + x / 9)
+
+-- the colour of the dot at column x of line y, where this page is shown
+unfoldable pub dot_at : Screen → ℕ → ℕ → ℕ → List ℕ
+dot_at s page x y = shade s.palette (nibble s (cell_shown s page x y) (y % s.layout.height) (x % 9))
+
+-- how wide and how high the picture is; the overscan is no part of it
+abbrev pub picture_width : Screen → ℕ
+picture_width s = 9 * s.layout.columns
+
+abbrev pub picture_height : Screen → ℕ
+picture_height s = s.layout.height * s.layout.rows
+
+-- the screen after a frame
+abbrev pub next_frame : Screen → Screen
+next_frame s = record s { frame = (s.frame + 1) % 32 }
