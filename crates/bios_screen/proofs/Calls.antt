@@ -1,5 +1,5 @@
 -- Calls: the service that the registers ask for, whole.
-use Rattle.std.proofs.Common.{◌≡◌, ℕ, ◌/◌, ◌%◌, ◌<◌, refl, sym, ap, ◌∙◌, subst, arith, List, Option, Some, None, Bool, true, false, Err}
+use Rattle.std.proofs.Common.{◌≡◌, ℕ, ◌%◌, ◌<◌, refl, sym, ap, ◌∙◌, subst, arith, List, Option, Some, None, Bool, true, false, Err}
 use Rattle.std.specs.Prelude.{◌==◌, ◌&&◌, ◌||◌, nat_le, if◌then◌else◌, IfSome}
 use Rattle.std.proofs.lemmas.Bool.Decides.{nat_tests}
 use Rattle.vga_bits.specs.declared.refusal.Refusal.{Refusal}
@@ -17,7 +17,7 @@ use Rattle.bios_services.specs.declared.call.Service.TheVariants.{ReadDisplay}
 use Rattle.bios_services.specs.Plan.{Plan, run, Done, ◌>>=◌}
 use Rattle.bios_services.specs.Calls.{high, low, scroll_of, service_of, in_mode, call_of}
 use Rattle.bios_services.specs.ModeSet.{is_text}
-use Rattle.bios_services.specs.Refusals.{refusal_in_mode, unknown_refusal}
+use Rattle.bios_services.specs.Refusals.{refusal_in_mode}
 use Rattle.bios_services.specs.Service.{plan_of, Outcome, Answered, answered, refused, unless, in_mode_plan, asked}
 use Rattle.bios_screen.specs.Bounds.{IsBda}
 use Rattle.bios_screen.specs.Screen.{Screen}

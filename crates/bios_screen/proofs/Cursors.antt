@@ -33,7 +33,8 @@ use Rattle.bios_screen.proofs.Places.{half_start, ends_before, few_cells}
 use Rattle.bios_screen.proofs.Kept.{plan_beam}
 use Rattle.bios_screen.proofs.Setting.{Setting, setting, card_at}
 use Rattle.bios_screen.proofs.Display.{Display, port_of, text_setting, IsTextRow}
-use Rattle.bios_screen.proofs.Shows.{both_true, both_are, lt_is, lt_test, HasData, IsShown, screen_shown, shown_of}
+use Rattle.bios_screen.proofs.TestLemmas.{both_true, both_are, lt_is, lt_test}
+use Rattle.bios_screen.proofs.Shows.{HasData, IsShown, screen_shown, shown_of}
 use Rattle.bios_screen.proofs.Readers.{meant_is, page_refusal_is, named_refusal_is}
 use Rattle.bios_screen.proofs.Display.Display.{Colour, Monochrome}
 

@@ -1,12 +1,12 @@
 -- The two text displays, and the rows of the mode table that are text.
 use Rattle.std.proofs.Common.{◌≡◌, ℕ, ◌+◌, ◌*◌, ◌<◌, ◌≤◌, refl, sym, subst, arith, List, [], ◌∷◌, length, Bool, true, false, Some}
 use Rattle.std.specs.Prelude.{◌==◌, ◌||◌}
-use Rattle.std.proofs.lemmas.Bool.Decides.{nat_tests}
 use Rattle.bios_modes.specs.declared.modes.ModeRow.{ModeRow}
 use Rattle.bios_modes.specs.Modes.{mode_row, colour_text, monochrome_text}
 use Rattle.bios_services.specs.ModeSet.{is_text}
 use Rattle.bios_services.specs.Cells.{text_base}
 use Rattle.bios_screen.proofs.Setting.{Setting}
+use Rattle.bios_screen.proofs.TestLemmas.{same, some_same}
 
 pub data Display : Type 0 where
   Colour : Display
@@ -65,12 +65,6 @@ colour_row = record { misc = refl; sequencer = refl; graphics = refl; port = ref
 
 monochrome_row : IsTextRow Monochrome 7 monochrome_text
 monochrome_row = record { misc = refl; sequencer = refl; graphics = refl; port = refl; base = refl; crtc = refl; columns = omega arith; some_columns = omega arith; half = 2048; even = refl; fits = omega arith; memory = omega arith; pages = omega arith; last_row = omega arith }
-
-same : {x y : ℕ} → (x == y) ≡ true → x ≡ y
-same {x} {y} e = grind (arith, nat_tests)
-
-some_same : {Y : Type 0} (x y : Y) → Some x ≡ Some y → x ≡ y
-some_same x y h = cc
 
 pub text_row_is : (mode : ℕ) (row : ModeRow) → is_text mode ≡ true → mode_row mode ≡ Some row → TextRow mode row
 text_row_is mode row t e = by_tests (mode == 0x03) (mode == 0x07) refl refl t

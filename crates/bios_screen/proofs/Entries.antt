@@ -2,7 +2,6 @@
 use Rattle.std.proofs.Common.{◌≡◌, ◌≢◌, ℕ, ◌+◌, ◌%◌, ◌<◌, ◌≤◌, ⊎_elim, refl, sym, ap, ◌∙◌, subst, arith, List, [], length, true}
 use Rattle.std.specs.Prelude.{◌==◌, slice_index, slice_set, bit_and}
 use Rattle.std.proofs.lemmas.Bool.{cases_eq, agree_below_at}
-use Rattle.std.proofs.lemmas.Bool.Decides.{nat_tests}
 use Rattle.std.proofs.lemmas.List.{get_or-set_same, get_or-set_other, length-set}
 use Rattle.vga_dac.specs.declared.component.Component.TheVariants.{Red}
 use Rattle.vga_dac.specs.Dac.{DacState}
@@ -15,6 +14,7 @@ use Rattle.bios_services.specs.Plan.{run, each}
 use Rattle.bios_services.specs.ModeSet.{colour_plan}
 use Rattle.bios_screen.proofs.Flat.{Edited, Leaves, set_cell, set_same, set_other}
 use Rattle.bios_screen.proofs.Edits.{one_edit, edits}
+use Rattle.bios_screen.proofs.TestLemmas.{same}
 
 pub record Colour : Type 0 where
   pub red : ℕ
@@ -104,9 +104,6 @@ entries_set rest mode n s c l small t =
     (λ r s c lb w t. one_entry rest (dac_entry mode r) r s c (omega arith) t)
     n 0 s c (omega arith) (omega arith) t in
     record { cells = all.cells; shown = all.shown; fact = λ k h. all.fact.inside (record { turn = k; from = omega arith; before = h; place = tt }) ∙ small k h }
-
-same : {x y : ℕ} → (x == y) ≡ true → x ≡ y
-same {x} {y} e = grind (arith, nat_tests)
 
 pub keeps_3 : keeps_entries 3 256
 keeps_3 k l =

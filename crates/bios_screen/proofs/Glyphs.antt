@@ -5,6 +5,7 @@ use Rattle.std.proofs.lemmas.Bool.{cases_eq}
 use Rattle.std.proofs.lemmas.Bool.Decides.{nat_tests}
 use Rattle.std.proofs.lemmas.List.{get_or-set_same, get_or-set_other, length-set}
 use Rattle.vga_bits.specs.Bits.{byte_of}
+use Rattle.vga_bits.proofs.BitLemmas.{byte_bits}
 use Rattle.vga_bits.specs.Four.{Four}
 use Rattle.vga_host.specs.Host.{HostState}
 use Rattle.vga_host.specs.Address.{is_decoded, window_offset}
@@ -20,7 +21,6 @@ use Rattle.bios_screen.proofs.Edits.{one_edit, edits}
 use Rattle.bios_screen.proofs.Setting.{Setting, setting, host_at, with_memory, put_decoded}
 use Rattle.bios_screen.proofs.Display.{Display, misc_of}
 use Rattle.bios_screen.proofs.Display.Display.{Colour, Monochrome}
-use Rattle.bios_screen.proofs.Text.{byte_bits}
 
 -- plane 2 alone, at A0000
 abbrev pub glyph_setting : Display → Setting

@@ -3,6 +3,7 @@ pub mod PlanLemmas
 pub mod Edits
 pub mod Moves
 pub mod ListLemmas
+pub mod TestLemmas
 pub mod Places
 pub mod Kept
 pub mod Setting

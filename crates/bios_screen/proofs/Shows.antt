@@ -1,8 +1,7 @@
 -- What a shown screen says of registers and data, and what has to be known for a screen to be shown.
-use Rattle.std.proofs.Common.{◌≡◌, ℕ, ◌*◌, ◌<◌, ◌≤◌, refl, ap, ◌∙◌, arith, Bool, true, false, List, Option, Some, None}
-use Rattle.std.specs.Prelude.{◌==◌, ◌&&◌, nat_lt, nat_le, if◌then◌else◌}
+use Rattle.std.proofs.Common.{◌≡◌, ℕ, ◌*◌, ◌<◌, refl, ap, ◌∙◌, true, List, Option, Some, None}
+use Rattle.std.specs.Prelude.{◌==◌, ◌&&◌, if◌then◌else◌}
 use Rattle.std.specs.Str.{bytes_eq}
-use Rattle.std.proofs.lemmas.Bool.Decides.{nat_tests}
 use Rattle.std.proofs.lemmas.Slice.Eq.{bytes_eq-Decides}
 use Rattle.vga_card.specs.Card.{CardState}
 use Rattle.bios_modes.specs.declared.modes.ModeRow.{ModeRow}
@@ -11,43 +10,9 @@ use Rattle.bios_modes.specs.Bda.{BiosData}
 use Rattle.bios_services.specs.ModeSet.{is_text}
 use Rattle.bios_screen.specs.Screen.{Screen}
 use Rattle.bios_screen.specs.Shown.{shows_memory, crtc_shown, shows_attribute, shows_data, shows_text, text_screen, shown_by, shown}
+use Rattle.bios_screen.proofs.TestLemmas.{both_true, if_some, none_some, same, lt_is}
 use Rattle.bios_screen.proofs.Setting.{Setting, setting}
 use Rattle.bios_screen.proofs.Display.{Display, text_setting, text_sequencer, misc_of, IsTextRow, text_row_is}
-
-pub both_true : (a b : Bool) → (a && b) ≡ true → (a ≡ true) × (b ≡ true)
-both_true true b h = (refl, h)
-both_true false b h = absurd (cc)
-
-pub if_some : {Y : Type 0} (b : Bool) (x y : Y) → (if b then Some x else None) ≡ Some y → (b ≡ true) × (x ≡ y)
-if_some true x y h = (refl, cc)
-if_some false x y h = absurd (cc)
-
-pub none_some : {Y Z : Type 0} (y : Y) → None ≡ Some y → Z
-none_some y h = absurd (cc)
-
-pub same : {x y : ℕ} → (x == y) ≡ true → x ≡ y
-same {x} {y} e = grind (arith, nat_tests)
-
-pub lt_is : (a b : ℕ) → nat_lt a b ≡ true → a < b
-lt_is a b h = grind (arith, nat_tests)
-
-pub le_is : (a b : ℕ) → nat_le a b ≡ true → a ≤ b
-le_is a b h = grind (arith, nat_tests)
-
-pub lt_test : (a b : ℕ) → a < b → nat_lt a b ≡ true
-lt_test a b h = grind (arith, nat_tests)
-
-pub le_test : (a b : ℕ) → a ≤ b → nat_le a b ≡ true
-le_test a b h = grind (arith, nat_tests)
-
-pub not_lt : (a b : ℕ) → b ≤ a → nat_lt a b ≡ false
-not_lt a b m = grind (arith, nat_tests)
-
-pub not_le : (a b : ℕ) → b < a → nat_le a b ≡ false
-not_le a b m = grind (arith, nat_tests)
-
-pub both_are : (a b : Bool) → a ≡ true → b ≡ true → (a && b) ≡ true
-both_are a b g h = ap (λ x. x && b) g ∙ h
 
 bytes_same : (l : List ℕ) → bytes_eq l l ≡ true
 bytes_same l = (bytes_eq-Decides l l).1 refl

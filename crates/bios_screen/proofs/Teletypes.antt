@@ -22,7 +22,8 @@ use Rattle.bios_screen.specs.Step.{place_refused, refused_on, next, answer_on, w
 use Rattle.bios_screen.specs.Served.{IsServed}
 use Rattle.bios_screen.proofs.PlanLemmas.{run_bind, then_runs, then_answers}
 use Rattle.bios_screen.proofs.Kept.{KeepsBounds, plan_beam}
-use Rattle.bios_screen.proofs.Shows.{lt_is, IsShown, screen_shown, shown_is, shown_of}
+use Rattle.bios_screen.proofs.TestLemmas.{lt_is}
+use Rattle.bios_screen.proofs.Shows.{IsShown, screen_shown, shown_is, shown_of}
 use Rattle.bios_screen.proofs.Cursors.{placed_shown}
 use Rattle.bios_screen.proofs.Writes.{in_text_is}
 use Rattle.bios_screen.proofs.Typing.{page_again, is_typed}

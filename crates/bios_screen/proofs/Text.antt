@@ -1,10 +1,12 @@
 -- Text memory as one flat memory of bytes, with all else kept.
 use Rattle.std.proofs.Common.{◌≡◌, ◌≢◌, ℕ, zero, suc, Bool, List, [], ◌+◌, ◌*◌, ◌/◌, ◌%◌, ◌<◌, ⊎_elim, refl, sym, ap, ◌∙◌, subst, arith, length, true, false}
 use Rattle.std.specs.Prelude.{slice_index, slice_set, ◌==◌, if◌then◌else◌}
-use Rattle.std.proofs.lemmas.Bool.{cases_eq, agree_below_at}
+use Rattle.std.proofs.lemmas.Bool.{cases_eq}
 use Rattle.std.proofs.lemmas.Bool.Decides.{nat_tests}
 use Rattle.std.proofs.lemmas.List.{get_or-set_same, get_or-set_other, length-set}
+use Rattle.std.specs.Int.{bit_at}
 use Rattle.vga_bits.specs.Bits.{byte_of}
+use Rattle.vga_bits.proofs.BitLemmas.{byte_bits}
 use Rattle.vga_bits.specs.Four.{Four}
 use Rattle.vga_host.specs.Host.{HostState}
 use Rattle.vga_host.specs.Address.{is_decoded, window_offset}
@@ -19,10 +21,7 @@ use Rattle.bios_screen.proofs.Display.Display.{Colour, Monochrome}
 
 -- a byte by its bits
 abbrev pub bits_of : ℕ → ℕ
-bits_of b = b / 1 % 2 + 2 * (b / 2 % 2) + 4 * (b / 4 % 2) + 8 * (b / 8 % 2) + 16 * (b / 16 % 2) + 32 * (b / 32 % 2) + 64 * (b / 64 % 2) + 128 * (b / 128 % 2)
-
-pub byte_bits : (b : ℕ) → b < 256 → bits_of b ≡ b
-byte_bits b l = let t = agree_below_at (λ n. bits_of n == n) (λ _. true) 256 b refl l in grind (arith, nat_tests)
+bits_of b = byte_of (bit_at b)
 
 -- all of an adapter but the planes of characters and attributes, and the latches
 abbrev pub without_text : CardState → CardState

@@ -3,6 +3,7 @@ use Rattle.std.proofs.Common.{◌≡◌, ◌≢◌, ℕ, ◌+◌, ◌*◌, ◌/�
 use Rattle.std.specs.Prelude.{slice_index}
 use Rattle.std.proofs.lemmas.Bool.{cases_eq}
 use Rattle.vga_bits.specs.Bits.{byte_of}
+use Rattle.vga_bits.proofs.BitLemmas.{byte_bits}
 use Rattle.vga_bits.specs.Four.{of_plane}
 use Rattle.vga_planes.specs.Planes.{bytes_at}
 use Rattle.vga_host.specs.Host.{HostState}
@@ -14,7 +15,7 @@ use Rattle.bios_services.specs.Plan.{run, get}
 use Rattle.bios_screen.proofs.Setting.{host_at, get_decoded}
 use Rattle.bios_screen.proofs.Display.{Display, base_of, text_setting}
 use Rattle.bios_screen.proofs.Display.Display.{Colour, Monochrome}
-use Rattle.bios_screen.proofs.Text.{bits_of, byte_bits, IsTextual, decoded, window_is}
+use Rattle.bios_screen.proofs.Text.{bits_of, IsTextual, decoded, window_is}
 
 -- the byte that a read answers, by computation
 read_at : (disp : Display) (h : HostState) (w : ℕ) → byte_of (λ i. read_bit (host_at h (text_setting disp)) w (bytes_at h.memory (plane_offset (host_at h (text_setting disp)) w)) i) ≡ bits_of (of_plane (bytes_at h.memory (w / 2 * 2)) (0 + w % 2))

@@ -22,7 +22,8 @@ use Rattle.bios_screen.proofs.Places.{ends_before}
 use Rattle.bios_screen.proofs.Kept.{KeepsBounds, plan_bounds}
 use Rattle.bios_screen.proofs.Text.{without_text}
 use Rattle.bios_screen.proofs.Cells.{has_cells, cell_written, attribute_get, attribute_small}
-use Rattle.bios_screen.proofs.Shows.{not_lt, IsShown, screen_shown, shown_is, shown_of}
+use Rattle.bios_screen.proofs.TestLemmas.{not_lt}
+use Rattle.bios_screen.proofs.Shows.{IsShown, screen_shown, shown_is, shown_of}
 use Rattle.bios_screen.proofs.Renewed.{cells_at, renewed_shown, same_shown}
 use Rattle.bios_screen.proofs.Writes.{lies, address_is, inside_test, before_test, behind_test}
 use Rattle.bios_screen.proofs.Windows.{page_fits, up_shown}

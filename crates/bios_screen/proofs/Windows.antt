@@ -24,7 +24,8 @@ use Rattle.bios_screen.proofs.Places.{ends_before, same_place, rows_further, row
 use Rattle.bios_screen.proofs.Kept.{plan_beam}
 use Rattle.bios_screen.proofs.Text.{without_text}
 use Rattle.bios_screen.proofs.Cells.{has_cells}
-use Rattle.bios_screen.proofs.Shows.{both_true, lt_is, le_is, both_are, lt_test, le_test, not_lt, not_le, IsShown, screen_shown}
+use Rattle.bios_screen.proofs.TestLemmas.{both_true, lt_is, le_is, both_are, lt_test, le_test, not_lt, not_le}
+use Rattle.bios_screen.proofs.Shows.{IsShown, screen_shown}
 use Rattle.bios_screen.proofs.Renewed.{cells_at, renewed_shown}
 use Rattle.bios_screen.proofs.Writes.{lies, address_is, in_text_is}
 use Rattle.bios_screen.proofs.Scroll as scroll

@@ -30,7 +30,8 @@ use Rattle.bios_screen.proofs.Kept.{plan_beam}
 use Rattle.bios_screen.proofs.Display.{Display, base_of}
 use Rattle.bios_screen.proofs.Text.{without_text}
 use Rattle.bios_screen.proofs.Cells.{IsCells, has_cells, cell_written, character_get, attribute_get}
-use Rattle.bios_screen.proofs.Shows.{lt_is, le_is, IsShown, screen_shown}
+use Rattle.bios_screen.proofs.TestLemmas.{lt_is, le_is}
+use Rattle.bios_screen.proofs.Shows.{IsShown, screen_shown}
 use Rattle.bios_screen.proofs.Renewed.{cells_at, renewed_shown, same_shown}
 use Rattle.bios_screen.proofs.Readers.{meant_is}
 

@@ -1,0 +1,42 @@
+-- What tests say, and what makes them so.
+use Rattle.std.proofs.Common.{◌≡◌, ℕ, ◌<◌, ◌≤◌, refl, ap, ◌∙◌, arith, Bool, true, false, Some, None}
+use Rattle.std.specs.Prelude.{◌==◌, ◌&&◌, nat_lt, nat_le, if◌then◌else◌}
+use Rattle.std.proofs.lemmas.Bool.Decides.{nat_tests}
+
+pub both_true : (a b : Bool) → (a && b) ≡ true → (a ≡ true) × (b ≡ true)
+both_true true b h = (refl, h)
+both_true false b h = absurd (cc)
+
+pub both_are : (a b : Bool) → a ≡ true → b ≡ true → (a && b) ≡ true
+both_are a b g h = ap (λ x. x && b) g ∙ h
+
+pub if_some : {Y : Type 0} (b : Bool) (x y : Y) → (if b then Some x else None) ≡ Some y → (b ≡ true) × (x ≡ y)
+if_some true x y h = (refl, cc)
+if_some false x y h = absurd (cc)
+
+pub none_some : {Y Z : Type 0} (y : Y) → None ≡ Some y → Z
+none_some y h = absurd (cc)
+
+pub some_same : {Y : Type 0} (x y : Y) → Some x ≡ Some y → x ≡ y
+some_same x y h = cc
+
+pub same : {x y : ℕ} → (x == y) ≡ true → x ≡ y
+same {x} {y} e = grind (arith, nat_tests)
+
+pub lt_is : (a b : ℕ) → nat_lt a b ≡ true → a < b
+lt_is a b h = grind (arith, nat_tests)
+
+pub le_is : (a b : ℕ) → nat_le a b ≡ true → a ≤ b
+le_is a b h = grind (arith, nat_tests)
+
+pub lt_test : (a b : ℕ) → a < b → nat_lt a b ≡ true
+lt_test a b h = grind (arith, nat_tests)
+
+pub le_test : (a b : ℕ) → a ≤ b → nat_le a b ≡ true
+le_test a b h = grind (arith, nat_tests)
+
+pub not_lt : (a b : ℕ) → b ≤ a → nat_lt a b ≡ false
+not_lt a b m = grind (arith, nat_tests)
+
+pub not_le : (a b : ℕ) → b < a → nat_le a b ≡ false
+not_le a b m = grind (arith, nat_tests)
