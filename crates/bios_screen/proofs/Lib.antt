@@ -28,3 +28,5 @@ pub mod Served
 pub mod Calls
 pub mod Examples
 pub mod PictureExamples
+pub mod DotLists
+pub mod FrameLemmas

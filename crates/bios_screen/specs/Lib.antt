@@ -5,5 +5,6 @@ pub mod Step
 pub mod Bounds
 pub mod Fresh
 pub mod Picture
+pub mod Raster
 pub mod Served
 pub mod Called
