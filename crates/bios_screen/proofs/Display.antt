@@ -55,10 +55,20 @@ pub record IsTextRow (k : Display) (mode : ℕ) (row : ModeRow) : Type 0 where
   pub pages : row.pages ≤ 8
   pub last_row : row.last_row < 255
 
+-- the row of a display, and its mode
+abbrev pub row_of : Display → ModeRow
+row_of Colour = colour_text
+row_of Monochrome = monochrome_text
+
+abbrev pub number_of : Display → ℕ
+number_of Colour = 0x03
+number_of Monochrome = 0x07
+
 -- which display a mode of text has
 pub record TextRow (mode : ℕ) (row : ModeRow) : Type 0 where
   pub display : Display
   pub is : IsTextRow display mode row
+  pub row_is : row ≡ row_of display
 
 colour_row : IsTextRow Colour 3 colour_text
 colour_row = record { misc = refl; sequencer = refl; graphics = refl; port = refl; base = refl; crtc = refl; columns = omega arith; some_columns = omega arith; half = 2048; even = refl; fits = omega arith; memory = omega arith; pages = omega arith; last_row = omega arith }
@@ -74,10 +84,10 @@ text_row_is mode row t e = by_tests (mode == 0x03) (mode == 0x07) refl refl t
         let m : mode ≡ 3 = same ea in
         let z : mode_row 3 ≡ Some row = subst (λ n. mode_row n ≡ Some row) m e in
         let r : colour_text ≡ row = some_same colour_text row z in
-        subst (λ x. TextRow x row) (sym m) (subst (TextRow 3) r (record { display = Colour; is = colour_row }))
+        subst (λ x. TextRow x row) (sym m) (subst (TextRow 3) r (record { display = Colour; is = colour_row; row_is = refl }))
     by_tests false true ea eb h =
         let m : mode ≡ 7 = same eb in
         let z : mode_row 7 ≡ Some row = subst (λ n. mode_row n ≡ Some row) m e in
         let r : monochrome_text ≡ row = some_same monochrome_text row z in
-        subst (λ x. TextRow x row) (sym m) (subst (TextRow 7) r (record { display = Monochrome; is = monochrome_row }))
+        subst (λ x. TextRow x row) (sym m) (subst (TextRow 7) r (record { display = Monochrome; is = monochrome_row; row_is = refl }))
     by_tests false false ea eb h = absurd (cc)

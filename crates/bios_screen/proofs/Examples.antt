@@ -1,10 +1,9 @@
 -- What services do to a screen of two rows of three cells, computed.
-use Rattle.std.proofs.Common.{◌≡◌, ℕ, refl, List, [], ◌∷◌, Option, Some, None, true}
+use Rattle.std.proofs.Common.{◌≡◌, ℕ, refl, List, [], ◌∷◌, Some, None, true}
 use Rattle.vga_bits.specs.declared.refusal.Refusal.TheVariants.{BadPage, Outside, CountPast}
-use Rattle.bios_services.specs.declared.scroll.Scroll.{Scroll}
 use Rattle.bios_services.specs.declared.call.Service.{Service}
 use Rattle.bios_services.specs.declared.call.Service.TheVariants.{SetCursor, SelectPage, ScrollUp, ScrollDown, WriteCells, Teletype}
-use Rattle.bios_screen.specs.Screen.{Cell, Contents, Cells, Layout, Palette, Screen}
+use Rattle.bios_screen.specs.Screen.{Cell, Cells, Screen}
 use Rattle.bios_screen.specs.Step.{refused_on, next, typed, cells_on}
 
 -- a page of these cells, with the cursor at this place

@@ -9,8 +9,7 @@ use Rattle.vga_card.specs.Bus.{card_meaning}
 use Rattle.vga_card.specs.Card.{CardState}
 use Rattle.vga_card.specs.Port.{port_of as reached_by}
 use Rattle.vga_card.specs.Cycles.{out_at}
-use Rattle.bios_modes.specs.declared.modes.ModeRow.{ModeRow}
-use Rattle.bios_modes.specs.Modes.{mode_row, colour_text, monochrome_text}
+use Rattle.bios_modes.specs.Modes.{mode_row}
 use Rattle.bios_modes.specs.Palette.{dac_entry}
 use Rattle.bios_modes.specs.Fonts.{FontSet}
 use Rattle.bios_modes.specs.Begin.{data_of_mode}
@@ -32,7 +31,7 @@ use Rattle.bios_screen.proofs.Edits.{one_edit, edits}
 use Rattle.bios_screen.proofs.ListLemmas.{same_from_0, blank_listing, spelled}
 use Rattle.bios_screen.proofs.Kept.{KeepsBounds, plan_bounds, plan_beam}
 use Rattle.bios_screen.proofs.Setting.{setting}
-use Rattle.bios_screen.proofs.Display.{Display, base_of, text_setting}
+use Rattle.bios_screen.proofs.Display.{Display, base_of, text_setting, row_of, number_of}
 use Rattle.bios_screen.proofs.Display.Display.{Colour, Monochrome}
 use Rattle.bios_screen.proofs.Text.{IsTextual, without_text, text_put}
 use Rattle.bios_screen.proofs.Cells.{has_cells}
@@ -82,14 +81,6 @@ unfolding cells_in blank_cells
 cells_blank p0 p1 n h = blank_listing (cell_in p0 p1) (0x20, 0x07) 0 n (λ k l. let z : 0 + k ≡ k = omega arith in ap (cell_in p0 p1) z ∙ h k l)
 
 -- ---- one text mode
-
-abbrev row_of : Display → ModeRow
-row_of Colour = colour_text
-row_of Monochrome = monochrome_text
-
-abbrev number_of : Display → ℕ
-number_of Colour = 0x03
-number_of Monochrome = 0x07
 
 keeps : (disp : Display) → keeps_entries (number_of disp) 256
 keeps Colour = keeps_3

@@ -30,3 +30,4 @@ pub mod Examples
 pub mod PictureExamples
 pub mod DotLists
 pub mod FrameLemmas
+pub mod TextFrames

@@ -6,5 +6,6 @@ pub mod Bounds
 pub mod Fresh
 pub mod Picture
 pub mod Raster
+pub mod Framed
 pub mod Served
 pub mod Called

@@ -1,11 +1,15 @@
 //! Laws of frames, whatever a mode shows: from the numbers of its lines and the colour of each place to the
 //! picture that a frame draws. Each is a contract, and nothing that runs.
-ghost use Rattle.std.specs.Prelude.{◌≡◌, ℕ, List};
+ghost use Rattle.std.specs.Prelude.{◌≡◌, ℕ, List, Some};
 ghost use Rattle.vga_crtc.specs.Beam.{first_counter};
 ghost use Rattle.vga_crtc.specs.Raster.{IsFrameStart};
 ghost use Rattle.vga_card.specs.Picture.{Dot};
 ghost use Rattle.vga_card.specs.Card.{CardState};
 ghost use Rattle.vga_card.specs.Frames.{collect};
+ghost use Rattle.bios_modes.specs.Bda.{BiosData};
+ghost use Rattle.bios_screen.specs.Screen.{Screen};
+ghost use Rattle.bios_screen.specs.Shown.{shown};
+ghost use Rattle.bios_screen.specs.Framed.{IsFramed};
 ghost use Rattle.bios_screen.specs.Raster.{Raster, IsRaster, HasRaster, IsAtDot, Colours, Draws, PlacesDrawn, GoesOn, FrameEnded, FrameDrawn, picture_dot, all_dots, IsPictureOf};
 
 use vga_card::laws::{dots_are_places, dots_keep, frame_ends_first, regular_shape};
@@ -35,6 +39,22 @@ pub fn dots_are_picture()
 pub fn frame_is_picture()
     ensures all { (m : Raster) (drawn : List Dot) (f : Colours) → IsRaster m → drawn ≡ collect (picture_dot m f) (all_dots m) → IsPictureOf m drawn f }
     ensures whole { (m : Raster) (c : CardState) (f : Colours) → HasRaster m c → IsFrameStart c.crtc.beam → Draws m c (first_counter c.crtc.registers) f → FrameDrawn m c f }
+{
+    dots_split();
+    start_is_taken_once();
+    beam_at_dot();
+    beam_goes_on();
+    frame_left();
+    dots_keep();
+    frame_ends_first();
+    dots_are_places();
+    regular_shape();
+}
+
+/// From a state that shows a text screen, at the first dot of a frame, a frame draws a picture of the size of
+/// the screen's, and leaves the screen with the next frame's number, again at the first dot of a frame.
+pub fn frame_of_text_is_framed()
+    ensures { (c : CardState) (d : BiosData) (s : Screen) → shown c d ≡ Some s → IsFrameStart c.crtc.beam → IsFramed c d s }
 {
     dots_split();
     start_is_taken_once();
