@@ -69,6 +69,7 @@ pub record TextRow (mode : ℕ) (row : ModeRow) : Type 0 where
   pub display : Display
   pub is : IsTextRow display mode row
   pub row_is : row ≡ row_of display
+  pub number : mode ≡ number_of display
 
 colour_row : IsTextRow Colour 3 colour_text
 colour_row = record { misc = refl; sequencer = refl; graphics = refl; port = refl; base = refl; crtc = refl; columns = omega arith; some_columns = omega arith; half = 2048; even = refl; fits = omega arith; memory = omega arith; pages = omega arith; last_row = omega arith }
@@ -84,10 +85,10 @@ text_row_is mode row t e = by_tests (mode == 0x03) (mode == 0x07) refl refl t
         let m : mode ≡ 3 = same ea in
         let z : mode_row 3 ≡ Some row = subst (λ n. mode_row n ≡ Some row) m e in
         let r : colour_text ≡ row = some_same colour_text row z in
-        subst (λ x. TextRow x row) (sym m) (subst (TextRow 3) r (record { display = Colour; is = colour_row; row_is = refl }))
+        subst (λ x. TextRow x row) (sym m) (subst (TextRow 3) r (record { display = Colour; is = colour_row; row_is = refl; number = refl }))
     by_tests false true ea eb h =
         let m : mode ≡ 7 = same eb in
         let z : mode_row 7 ≡ Some row = subst (λ n. mode_row n ≡ Some row) m e in
         let r : monochrome_text ≡ row = some_same monochrome_text row z in
-        subst (λ x. TextRow x row) (sym m) (subst (TextRow 7) r (record { display = Monochrome; is = monochrome_row; row_is = refl }))
+        subst (λ x. TextRow x row) (sym m) (subst (TextRow 7) r (record { display = Monochrome; is = monochrome_row; row_is = refl; number = refl }))
     by_tests false false ea eb h = absurd (cc)

@@ -31,3 +31,5 @@ pub mod PictureExamples
 pub mod DotLists
 pub mod FrameLemmas
 pub mod TextFrames
+pub mod TextDots
+pub mod TextPictures

@@ -12,7 +12,7 @@ use Rattle.bios_screen.specs.Screen.{Screen}
 use Rattle.bios_screen.specs.Shown.{shows_memory, crtc_shown, shows_attribute, shows_data, shows_text, text_screen, shown_by, shown}
 use Rattle.bios_screen.proofs.TestLemmas.{both_true, if_some, none_some, same, lt_is}
 use Rattle.bios_screen.proofs.Setting.{Setting, setting}
-use Rattle.bios_screen.proofs.Display.{Display, text_setting, text_sequencer, misc_of, IsTextRow, text_row_is, row_of}
+use Rattle.bios_screen.proofs.Display.{Display, text_setting, text_sequencer, misc_of, IsTextRow, text_row_is, row_of, number_of}
 
 bytes_same : (l : List ℕ) → bytes_eq l l ≡ true
 bytes_same l = (bytes_eq-Decides l l).1 refl
@@ -80,6 +80,7 @@ pub record IsShown (c : CardState) (d : BiosData) : Type 0 where
   pub display : Display
   pub text : IsTextRow display d.mode row
   pub row_is : row ≡ row_of display
+  pub number : d.mode ≡ number_of display
   pub tests : Tests row c d
   pub has : HasData row d
   pub setting : setting c ≡ text_setting display
@@ -102,7 +103,7 @@ shown_is c d s h = by_row (mode_row d.mode) refl h
         let t = tests_of row c d parts.0 in
         let text = text_row_is d.mode row t.is_text e in
         record {
-          is = record { row = row; mode = e; display = text.display; text = text.is; row_is = text.row_is; tests = t; has = data_is row d t.data_test; setting = setting_is text.display d.mode row c text.is t.memory };
+          is = record { row = row; mode = e; display = text.display; text = text.is; row_is = text.row_is; number = text.number; tests = t; has = data_is row d t.data_test; setting = setting_is text.display d.mode row c text.is t.memory };
           screen = parts.1;
         }
 

@@ -1,38 +1,32 @@
 -- A frame of a text screen: the numbers of its lines, and what it leaves.
-use Rattle.std.proofs.Common.{◌≡◌, ℕ, ◌+◌, ◌*◌, ◌/◌, ◌%◌, refl, sym, ap, subst, ◌∙◌, arith, List, Some}
+use Rattle.std.proofs.Common.{◌≡◌, ℕ, ◌+◌, ◌*◌, refl, sym, ap, subst, ◌∙◌, arith, List}
 use Rattle.std.specs.Prelude.{if◌then◌else◌, slice_index}
-use Rattle.std.proofs.lemmas.Nat.{div-mul-add, mod-mul-add}
 use Rattle.vga_bits.specs.Bits.{is_set}
-use Rattle.vga_crtc.specs.Crtc.{first_dot}
 use Rattle.vga_crtc.specs.Fields.{horizontal_total, horizontal_display_end, vertical_total, preset_row_scan, vertical_display_end, line_compare}
-use Rattle.vga_crtc.specs.Beam.{characters, lines, first_counter}
-use Rattle.vga_crtc.specs.Raster.{IsFrameStart, IsRegular}
+use Rattle.vga_crtc.specs.Beam.{characters, lines}
+use Rattle.vga_crtc.specs.Raster.{IsRegular}
 use Rattle.vga_card.specs.declared.shape.Shape.{Shape}
 use Rattle.vga_card.specs.Card.{CardState}
-use Rattle.vga_card.specs.Frames.{frame}
 use Rattle.bios_modes.specs.declared.modes.ModeRow.{ModeRow}
 use Rattle.bios_modes.specs.Bda.{BiosData}
 use Rattle.bios_services.specs.Cursor.{cursor_address, start_address}
-use Rattle.bios_screen.specs.Screen.{Screen}
-use Rattle.bios_screen.specs.Shown.{crtc_registers, shown}
+use Rattle.bios_screen.specs.Shown.{crtc_registers}
 use Rattle.bios_screen.specs.Picture.{picture_width, picture_height}
-use Rattle.bios_screen.specs.Raster.{Raster, raster_of, HasRaster, Colours, colour_at, Draws}
-use Rattle.bios_screen.specs.Framed.{IsFramed}
+use Rattle.bios_screen.specs.Raster.{Raster, raster_of, HasRaster}
 use Rattle.bios_screen.proofs.Setting.{Setting}
 use Rattle.bios_screen.proofs.Display.{Display, row_of}
 use Rattle.bios_screen.proofs.Display.Display.{Colour, Monochrome}
-use Rattle.bios_screen.proofs.Shows.{IsShown, screen_shown, shown_is, shown_of}
-use Rattle.bios_screen.proofs.FrameLemmas.{DotLaws, frame_is_picture}
+use Rattle.bios_screen.proofs.Shows.{IsShown, screen_shown}
 
 -- the numbers of a text mode's frames
-abbrev text_raster : Raster
+abbrev pub text_raster : Raster
 text_raster = record { dots = 9; columns = 80; height = 400; characters = 100; lines = 449 }
 
 -- registers of text, whatever the data say of cursor and page
-abbrev registers_of : Display → ℕ → ℕ → ℕ → List ℕ
+abbrev pub registers_of : Display → ℕ → ℕ → ℕ → List ℕ
 registers_of disp type start location = crtc_registers (row_of disp) type start location
 
-registers_are : (c : CardState) (d : BiosData) (h : IsShown c d) → c.crtc.registers ≡ registers_of h.display d.cursor_type (start_address d d.page) (cursor_address d d.page)
+pub registers_are : (c : CardState) (d : BiosData) (h : IsShown c d) → c.crtc.registers ≡ registers_of h.display d.cursor_type (start_address d d.page) (cursor_address d d.page)
 registers_are c d h = h.tests.crtc ∙ ap (λ (r : ModeRow). crtc_registers r d.cursor_type (start_address d d.page) (cursor_address d d.page)) h.row_is
 
 numbers_by : (disp : Display) (type start location : ℕ) → (let l = registers_of disp type start location in let m : Raster = record { dots = 9; columns = horizontal_display_end l + 1; height = vertical_display_end l + 1; characters = characters l; lines = lines l } in m ≡ text_raster)
@@ -60,20 +54,12 @@ has_raster c d h = record {
   numbers = numbers_are c d h;
 }
 
--- the colours that the adapter gives, by column and line
-abbrev own_colours : CardState → ℕ → Colours
-own_colours c start x y = colour_at c start y (x / 9) (x % 9)
-
-draws_own : (c : CardState) (start : ℕ) → Draws text_raster c start (own_colours c start)
-draws_own c start v x k lv lx lk =
-    sym (ap (λ a. colour_at c start v a ((x * 9 + k) % 9)) (div-mul-add x 9 k lk) ∙ ap (colour_at c start v x) (mod-mul-add x 9 k lk))
-
 -- the size of the screen's picture
 size_of : (disp : Display) → (let m : Shape = record { width = 9 * (row_of disp).columns; height = (row_of disp).height * ((row_of disp).last_row + 1) } in m ≡ record { width = 720; height = 400 })
 size_of Colour = refl
 size_of Monochrome = refl
 
-size_is : (c : CardState) (d : BiosData) (h : IsShown c d) → (let m : Shape = record { width = 720; height = 400 } in m ≡ record { width = picture_width (screen_shown c d h); height = picture_height (screen_shown c d h) })
+pub size_is : (c : CardState) (d : BiosData) (h : IsShown c d) → (let m : Shape = record { width = 720; height = 400 } in m ≡ record { width = picture_width (screen_shown c d h); height = picture_height (screen_shown c d h) })
 size_is c d h =
     let has = h.has in
     sym (ap (λ n. let m : Shape = record { width = 9 * n; height = d.height * (d.last_row + 1) } in m) has.columns
@@ -81,18 +67,3 @@ size_is c d h =
     ∙ ap (λ n. let m : Shape = record { width = 9 * h.row.columns; height = h.row.height * (n + 1) } in m) has.last_row
     ∙ ap (λ (r : ModeRow). let m : Shape = record { width = 9 * r.columns; height = r.height * (r.last_row + 1) } in m) h.row_is
     ∙ size_of h.display)
-
-framed : (law : DotLaws) (c : CardState) (d : BiosData) (h : IsShown c d) → IsFrameStart c.crtc.beam → IsFramed c d (screen_shown c d h)
-framed law c d h start =
-    let first = first_counter c.crtc.registers in
-    let drawn = frame_is_picture law text_raster c (own_colours c first) (has_raster c d h) start (draws_own c first) in
-    let y : CardState = record c { crtc = record c.crtc { beam = first_dot ((c.crtc.beam.frame + 1) % 32) }; drawn = (frame c).drawn } in
-    let t = h.tests in
-    record {
-      size = drawn.picture.shape ∙ ap (λ (m : Shape). Some m) (size_is c d h);
-      next = ap (λ x. shown x d) drawn.leaves ∙ shown_of y d h.row h.mode (record { is_text = t.is_text; memory = t.memory; data_test = t.data_test; crtc = t.crtc; attribute = t.attribute });
-      start = subst (λ (x : CardState). IsFrameStart x.crtc.beam) (sym drawn.leaves) (record { line = refl; character = refl; dot = refl });
-    }
-
-pub frame_framed : (law : DotLaws) (c : CardState) (d : BiosData) (s : Screen) → shown c d ≡ Some s → IsFrameStart c.crtc.beam → IsFramed c d s
-frame_framed law c d s e start = let x = shown_is c d s e in subst (IsFramed c d) x.screen (framed law c d x.is start)

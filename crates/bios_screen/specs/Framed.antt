@@ -1,17 +1,19 @@
 -- What a frame of a plain screen leaves.
 use Rattle.std.specs.Prelude.{◌≡◌, Some}
 use Rattle.vga_crtc.specs.Raster.{IsFrameStart}
-use Rattle.vga_card.specs.Picture.{shape}
+use Rattle.vga_card.specs.Picture.{shape, bytes_of}
 use Rattle.vga_card.specs.Card.{CardState}
 use Rattle.vga_card.specs.Frames.{frame}
 use Rattle.bios_modes.specs.Bda.{BiosData}
 use Rattle.bios_screen.specs.Screen.{Screen}
 use Rattle.bios_screen.specs.Shown.{shown}
-use Rattle.bios_screen.specs.Picture.{picture_width, picture_height, next_frame}
+use Rattle.bios_screen.specs.Picture.{dot_at, picture_width, picture_height, next_frame}
+use Rattle.bios_screen.specs.Raster.{picture_bytes}
 
--- a frame's picture has the size of the screen's, and the frame leaves the screen with the next frame's number, again at the
+-- a frame draws the screen's picture, of the active page, and leaves the screen with the next frame's number, again at the
 -- first dot of a frame
 pub record IsFramed (c : CardState) (d : BiosData) (s : Screen) : Type 0 where
   pub size : shape (frame c).drawn ≡ Some (record { width = picture_width s; height = picture_height s })
+  pub colours : bytes_of (frame c).drawn ≡ picture_bytes (picture_width s) (picture_height s) (dot_at s s.page)
   pub next : shown (frame c) d ≡ Some (next_frame s)
   pub start : IsFrameStart (frame c).crtc.beam

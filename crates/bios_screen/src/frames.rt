@@ -3,6 +3,7 @@
 ghost use Rattle.std.specs.Prelude.{◌≡◌, ℕ, List, Some};
 ghost use Rattle.vga_crtc.specs.Beam.{first_counter};
 ghost use Rattle.vga_crtc.specs.Raster.{IsFrameStart};
+ghost use Rattle.vga_card.specs.Bounds.{IsCard};
 ghost use Rattle.vga_card.specs.Picture.{Dot};
 ghost use Rattle.vga_card.specs.Card.{CardState};
 ghost use Rattle.vga_card.specs.Frames.{collect};
@@ -51,10 +52,10 @@ pub fn frame_is_picture()
     regular_shape();
 }
 
-/// From a state that shows a text screen, at the first dot of a frame, a frame draws a picture of the size of
-/// the screen's, and leaves the screen with the next frame's number, again at the first dot of a frame.
-pub fn frame_of_text_is_framed()
-    ensures { (c : CardState) (d : BiosData) (s : Screen) → shown c d ≡ Some s → IsFrameStart c.crtc.beam → IsFramed c d s }
+/// From a state that shows a text screen, at the first dot of a frame, a frame draws the screen's picture, and
+/// leaves the screen with the next frame's number, again at the first dot of a frame.
+pub fn frame_draws_text()
+    ensures { (c : CardState) (d : BiosData) (s : Screen) → IsCard c → shown c d ≡ Some s → IsFrameStart c.crtc.beam → IsFramed c d s }
 {
     dots_split();
     start_is_taken_once();

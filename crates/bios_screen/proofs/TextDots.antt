@@ -1,0 +1,435 @@
+-- The dot at a place of a text screen's frame is the screen's.
+use Rattle.std.proofs.Common.{◌≡◌, ℕ, zero, suc, ◌+◌, ◌-◌, ◌*◌, ◌/◌, ◌%◌, ◌<◌, refl, sym, ap, ◌∙◌, arith, Bool, true, false, List, [], ◌∷◌}
+use Rattle.std.specs.Prelude.{nat_lt, nat_le, not, if◌then◌else◌, ◌==◌, ◌&&◌, slice_index, bit_and, drop, take}
+use Rattle.std.specs.Int.{bit_at}
+use Rattle.std.specs.Str.{bytes_eq}
+use Rattle.std.proofs.lemmas.Slice.Eq.{bytes_eq-Decides}
+use Rattle.std.proofs.lemmas.Nat.{and_mask}
+use Rattle.std.proofs.lemmas.Nat.Bits.{bit_at-lt}
+use Rattle.vga_bits.specs.Bits.{is_set, field}
+use Rattle.vga_bits.proofs.BitLemmas.{bit_at_both}
+use Rattle.vga_planes.specs.Planes.{byte_at}
+use Rattle.vga_host.specs.Fields.{is_eight_dots, character_width as host_width, is_screen_off, character_map_a, character_map_b, is_graphics, is_256_colours}
+use Rattle.vga_crtc.specs.declared.beam.Beam.{Beam}
+use Rattle.vga_crtc.specs.Crtc.{CrtcState}
+use Rattle.vga_crtc.specs.Fields.{cursor_start, is_cursor_off, cursor_end, cursor_location, underline_location, is_double_word, is_address_wrap, is_byte_mode, maximum_scan_line, is_double_scan, offset}
+use Rattle.vga_crtc.specs.Raster.{regular_beam}
+use Rattle.vga_attr.specs.Fields.{is_palette_shown, is_monochrome, is_line_graphics, is_colour_select_wide, colour_select_high, colour_select_middle, overscan, panning}
+use Rattle.vga_attr.specs.Colour.{picked, colour_index}
+use Rattle.vga_dac.specs.Dac.{entry_of}
+use Rattle.vga_dots.specs.declared.source_dot.SourceDot.{SourceDot}
+use Rattle.vga_dots.specs.declared.text.Cell.{Cell as DotCell}
+use Rattle.vga_dots.specs.SourceDot.{panned, counter_of, source_at, source_dot, fetch_address}
+use Rattle.vga_dots.specs.Text.{cell_at, map_start, glyph_row as row_of_glyph, is_glyph_dot as is_dot_of_glyph, is_underlined as is_cell_underlined, is_blinked_away as is_cell_blinked, is_cursor_at, is_foreground as is_cell_foreground, cell_nibble, text_nibble}
+use Rattle.vga_dots.specs.Graphics.{planar_nibble, packed_byte}
+use Rattle.vga_dots.specs.Colour.{nibble as dot_nibble, colour_number, dot_colour}
+use Rattle.vga_card.specs.Bounds.{IsCard}
+use Rattle.vga_card.specs.Card.{CardState}
+use Rattle.bios_modes.specs.declared.modes.ModeRow.{ModeRow}
+use Rattle.bios_modes.specs.Bda.{BiosData}
+use Rattle.bios_services.specs.Calls.{high, low}
+use Rattle.bios_services.specs.Cursor.{cursor_address, start_address, cell_number, place_of}
+use Rattle.bios_screen.specs.Screen.{Cell, Screen, cursor_cell}
+use Rattle.bios_screen.specs.Shown.{cell_in, glyph_byte, glyphs_in, all_cells}
+use Rattle.bios_screen.specs.Step.{cell_on}
+use Rattle.bios_screen.specs.Picture.{glyph_row, is_glyph_dot, is_underlined, is_blinked_away, is_cursor, is_foreground, background, nibble, shade}
+use Rattle.bios_screen.proofs.ListLemmas.{listed_at, spelled}
+use Rattle.bios_screen.proofs.TestLemmas.{both_true, same, lt_test}
+use Rattle.bios_screen.proofs.Setting.{Setting}
+use Rattle.bios_screen.proofs.Display.{Display, row_of, number_of, window_of}
+use Rattle.bios_screen.proofs.Display.Display.{Colour, Monochrome}
+use Rattle.bios_screen.proofs.Shows.{IsShown, screen_shown}
+use Rattle.bios_screen.proofs.Renewed.{cells_at}
+use Rattle.bios_screen.proofs.Writes.{lies}
+use Rattle.bios_screen.proofs.TextFrames.{registers_of, registers_are}
+
+-- ---- what differs between the two displays
+
+not_graphics : (k : Display) → is_set (window_of k) 0 ≡ false
+not_graphics Colour = refl
+not_graphics Monochrome = refl
+
+-- mode control without blink
+abbrev control_of : Display → ℕ
+control_of Colour = 0x04
+control_of Monochrome = 0x06
+
+control_by : (k : Display) → bit_and (slice_index (row_of k).attribute 0x10) 0xF7 ≡ control_of k
+control_by Colour = refl
+control_by Monochrome = refl
+
+mono_by : (k : Display) → is_set (control_of k) 1 ≡ (number_of k == 0x07)
+mono_by Colour = refl
+mono_by Monochrome = refl
+
+line_by : (k : Display) → is_set (control_of k) 2 ≡ true
+line_by Colour = refl
+line_by Monochrome = refl
+
+wide_by : (k : Display) → is_set (control_of k) 7 ≡ false
+wide_by Colour = refl
+wide_by Monochrome = refl
+
+planes_by : (k : Display) → slice_index (drop 0x12 (row_of k).attribute) 0 ≡ 0x0F
+planes_by Colour = refl
+planes_by Monochrome = refl
+
+panning_by : (k : Display) → slice_index (drop 0x12 (row_of k).attribute) 1 ≡ 0x08
+panning_by Colour = refl
+panning_by Monochrome = refl
+
+select_by : (k : Display) → slice_index (drop 0x12 (row_of k).attribute) 2 ≡ 0
+select_by Colour = refl
+select_by Monochrome = refl
+
+-- a bit of mode control
+bit_of : (b : ℕ) → b < 2 → b ≡ (if b == 1 then 1 else 0)
+bit_of zero l = refl
+bit_of (suc zero) l = refl
+bit_of (suc (suc b)) l = absurd (omega arith)
+
+test_of_bit : (b v : Bool) → (let x : ℕ = (if b then 1 else 0) in x) ≡ (if v then 1 else 0) → b ≡ v
+test_of_bit true true h = refl
+test_of_bit false false h = refl
+test_of_bit true false h = absurd (omega arith)
+test_of_bit false true h = absurd (omega arith)
+
+off_right : (b : Bool) → (b && true) ≡ b
+off_right true = refl
+off_right false = refl
+
+control_bit : (v n i : ℕ) → bit_and v 0xF7 ≡ n → bit_at 0xF7 i ≡ 1 → is_set v i ≡ is_set n i
+control_bit v n i e one =
+    let both : bit_at (bit_and v 0xF7) i ≡ (if is_set v i && true then 1 else 0) = bit_at_both v 0xF7 i (is_set v i) true (bit_of (bit_at v i) (bit_at-lt v i)) one in
+    let left : (let x : ℕ = (if is_set v i then 1 else 0) in x) ≡ (if is_set n i then 1 else 0) =
+    ap (λ b. let x : ℕ = (if b then 1 else 0) in x) (sym (off_right (is_set v i))) ∙ sym both ∙ ap (λ m. bit_at m i) e ∙ bit_of (bit_at n i) (bit_at-lt n i) in
+    test_of_bit (is_set v i) (is_set n i) left
+
+-- ---- numbers
+
+counter_is : (page v x : ℕ) → page < 8 → v < 400 → x < 80 → (2048 * page + 80 * (v / 16) + x) % 65536 ≡ 2048 * page + (80 * (v / 16) + x)
+counter_is page v x lp lv lx = omega arith
+
+address_is : (page q : ℕ) → page < 8 → q < 2000 → 2 * (2048 * page + q) % 65536 + bit_at (2048 * page + q) 15 ≡ 2 * (2048 * page + q)
+address_is page q lp lq = omega arith
+
+base_is : (g v : ℕ) → g < 8 → v < 400 → (2048 * g + 2 * 40 * (v / 16)) % 65536 ≡ 2048 * g + 80 * (v / 16)
+base_is g v lg lv = omega arith
+
+start_field : (n : ℕ) → field (bit_and n 0x3F) 4 0 ≡ field n 4 0
+start_field n = let e = and_mask n 6 in omega (arith, e)
+
+end_field : (n : ℕ) → field (bit_and n 0x7F) 4 0 ≡ field n 4 0
+end_field n = let e = and_mask n 7 in omega (arith, e)
+
+off_bit : (n : ℕ) → is_set (bit_and n 0x3F) 5 ≡ is_set n 5
+off_bit n = let e = and_mask n 6 in let f : bit_at (bit_and n 0x3F) 5 ≡ bit_at n 5 = omega (arith, e) in ap (λ b. b == 1) f
+
+two_bytes : (n : ℕ) → 256 * (n / 256) + n % 256 ≡ n
+two_bytes n = omega arith
+
+low_fields : (p : ℕ) → p < 64 → field p 3 0 + 16 * field p 5 4 + 64 * 0 ≡ p
+low_fields p l = omega arith
+
+same_nibble : (n : ℕ) → n < 16 → bit_and n 15 ≡ n
+same_nibble n l = let e = and_mask n 4 in omega (arith, e)
+
+glyphs_at : (plane2 : List ℕ) (n i : ℕ) → i < n → slice_index (glyphs_in plane2 n) i ≡ glyph_byte plane2 i
+unfolding glyphs_in
+glyphs_at plane2 n i l = listed_at (glyph_byte plane2) n i 0 l
+
+-- the beam at a place of a picture of page g
+abbrev pub text_beam : ℕ → ℕ → ℕ → ℕ → ℕ → Beam
+text_beam g frame v x k = record { frame = frame; line = v; character = x; dot = k; base = 2048 * g + 80 * (v / 16); scan = v % 16; half = false; split = false }
+
+regular_by : (disp : Display) (type start location g frame v x k : ℕ) → g < 8 → v < 400 → regular_beam (registers_of disp type start location) (2048 * g) frame v x k ≡ text_beam g frame v x k
+unfolding maximum_scan_line is_double_scan offset
+regular_by Colour type start location g frame v x k lg lv = ap (λ b. record (text_beam g frame v x k) { base = b }) (base_is g v lg lv)
+regular_by Monochrome type start location g frame v x k lg lv = ap (λ b. record (text_beam g frame v x k) { base = b }) (base_is g v lg lv)
+
+fetch_by : (disp : Display) (type start location n : ℕ) → fetch_address (registers_of disp type start location) n ≡ 2 * n % 65536 + bit_at n 15
+unfolding fetch_address is_double_word is_byte_mode is_address_wrap
+fetch_by Colour type start location n = refl
+fetch_by Monochrome type start location n = refl
+
+underline_by : (disp : Display) (type start location : ℕ) (v : Bool) (r : ℕ) → ((number_of disp == 0x07) && v && r == underline_location (registers_of disp type start location)) ≡ ((number_of disp == 0x07) && (v && (r == 15)))
+unfolding underline_location
+underline_by Colour type start location v r = refl
+underline_by Monochrome type start location true r = refl
+underline_by Monochrome type start location false r = refl
+
+cursor_by : (disp : Display) (type start location k r : ℕ) (f : Bool) → (let l = registers_of disp type start location in (k == cursor_location l) && not (is_cursor_off l) && nat_le (cursor_start l) r && nat_le r (cursor_end l) && f)
+    ≡ ((k == 256 * (location / 256) + location % 256) && not (is_set (bit_and (high type) 0x3F) 5) && nat_le (field (bit_and (high type) 0x3F) 4 0) r && nat_le r (field (bit_and (low type) 0x7F) 4 0) && f)
+unfolding cursor_location is_cursor_off cursor_start cursor_end
+cursor_by Colour type start location k r f = refl
+cursor_by Monochrome type start location k r f = refl
+
+-- ---- the dot k of character x of line v
+
+module _ (c : CardState) (d : BiosData) (h : IsShown c d) (z : IsCard c) (g : ℕ) (lg : g < 8) where
+  abbrev s : Screen
+  s = screen_shown c d h
+
+  abbrev disp : Display
+  disp = h.display
+
+  -- ---- registers
+
+  graphics_off : is_graphics c.host ≡ false
+  graphics_off = ap (λ (t : Setting). is_set (slice_index t.gfx 6) 0) h.setting ∙ not_graphics disp
+
+  many_colours_off : is_256_colours c.host ≡ false
+  many_colours_off = ap (λ w. w && is_set (slice_index c.host.gfx 5) 6) graphics_off
+
+  eight_dots_off : is_eight_dots c.host ≡ false
+  eight_dots_off = ap (λ (t : Setting). is_set (slice_index t.seq 1) 0) h.setting
+
+  screen_on : is_screen_off c.host ≡ false
+  screen_on = ap (λ (t : Setting). is_set (slice_index t.seq 1) 5) h.setting
+
+  palette_on : is_palette_shown c.attr ≡ true
+  palette_on = (both_true (is_palette_shown c.attr) _ h.tests.attribute).0
+
+  control_is : bit_and (slice_index c.attr.registers 0x10) 0xF7 ≡ control_of disp
+  control_is =
+      let a = both_true (is_palette_shown c.attr) _ h.tests.attribute in
+      let b = both_true (bit_and (slice_index c.attr.registers 0x10) 0xF7 == bit_and (slice_index h.row.attribute 0x10) 0xF7) _ a.1 in
+      same b.0 ∙ ap (λ (r : ModeRow). bit_and (slice_index r.attribute 0x10) 0xF7) h.row_is ∙ control_by disp
+
+  last_registers : drop 0x12 c.attr.registers ≡ drop 0x12 (row_of disp).attribute
+  last_registers =
+      let a = both_true (is_palette_shown c.attr) _ h.tests.attribute in
+      let b = both_true (bit_and (slice_index c.attr.registers 0x10) 0xF7 == bit_and (slice_index h.row.attribute 0x10) 0xF7) (bytes_eq (drop 0x12 c.attr.registers) (drop 0x12 h.row.attribute)) a.1 in
+      (bytes_eq-Decides (drop 0x12 c.attr.registers) (drop 0x12 h.row.attribute)).0 b.1 ∙ ap (λ (r : ModeRow). drop 0x12 r.attribute) h.row_is
+
+  spelled_registers : drop 0x12 c.attr.registers ≡ slice_index c.attr.registers 0x12 ∷ slice_index c.attr.registers 0x13 ∷ slice_index c.attr.registers 0x14 ∷ []
+  spelled_registers = ap (drop 0x12) (spelled c.attr.registers 21 z.attr.size)
+
+  planes_are : slice_index c.attr.registers 0x12 ≡ 0x0F
+  planes_are = ap (λ l. slice_index l 0) (sym spelled_registers ∙ last_registers) ∙ planes_by disp
+
+  panning_is : panning c.attr ≡ 8
+  panning_is = ap (λ l. slice_index l 1) (sym spelled_registers ∙ last_registers) ∙ panning_by disp
+
+  select_is : slice_index c.attr.registers 0x14 ≡ 0
+  select_is = ap (λ l. slice_index l 2) (sym spelled_registers ∙ last_registers) ∙ select_by disp
+
+  mono_is : is_monochrome c.attr ≡ (d.mode == 0x07)
+  mono_is = control_bit (slice_index c.attr.registers 0x10) (control_of disp) 1 control_is refl ∙ mono_by disp ∙ ap (λ n. n == 0x07) (sym h.number)
+
+  line_is : is_line_graphics c.attr ≡ true
+  line_is = control_bit (slice_index c.attr.registers 0x10) (control_of disp) 2 control_is refl ∙ line_by disp
+
+  wide_is : is_colour_select_wide c.attr ≡ false
+  wide_is = control_bit (slice_index c.attr.registers 0x10) (control_of disp) 7 control_is refl ∙ wide_by disp
+
+  -- ---- where a dot comes from
+
+  -- the CRT controller at a place
+  abbrev placed : ℕ → ℕ → ℕ → CrtcState
+  placed v x k = record c.crtc { beam = text_beam g c.crtc.beam.frame v x k }
+
+  pub beam_is : (v x k : ℕ) → v < 400 → regular_beam c.crtc.registers (2048 * g) c.crtc.beam.frame v x k ≡ text_beam g c.crtc.beam.frame v x k
+  beam_is v x k lv =
+      ap (λ r. regular_beam r (2048 * g) c.crtc.beam.frame v x k) (registers_are c d h)
+      ∙ regular_by disp d.cursor_type (start_address d d.page) (cursor_address d d.page) g c.crtc.beam.frame v x k lg lv
+
+  unpanned : (v x k : ℕ) → panned c.host (placed v x k) c.attr ≡ 0
+  unfolding panned
+  unpanned v x k =
+      let p = panning c.attr in
+      ap (λ w. if w then bit_and p 6 else if is_eight_dots c.host then p % 8 else if p == 8 then 0 else p % 8 + 1) many_colours_off
+      ∙ ap (λ w. if w then p % 8 else if p == 8 then 0 else p % 8 + 1) eight_dots_off
+      ∙ ap (λ n. if n == 8 then 0 else n % 8 + 1) panning_is
+
+  source_is : (v x k : ℕ) → v < 400 → x < 80 → k < 9 → source_dot c.host (placed v x k) c.attr ≡ record { counter = 2048 * g + (80 * (v / 16) + x); dot = k }
+  unfolding source_dot
+  source_is v x k lv lx lk =
+      let at = placed v x k in
+      let none : k + 0 ≡ k = omega arith in
+      ap (λ p. source_at at (host_width c.host) (k + p)) (unpanned v x k)
+      ∙ ap (source_at at (host_width c.host)) none
+      ∙ ap (λ w. source_at at (if w then 8 else 9) k) eight_dots_off
+      ∙ ap (λ w. if w then (let q : SourceDot = record { counter = counter_of at x; dot = k } in q) else record { counter = counter_of at (x + 1); dot = k - 9 }) (lt_test k 9 lk)
+      ∙ ap (λ n. let q : SourceDot = record { counter = n; dot = k } in q) (counter_is g v x lg lv lx)
+
+  -- the cell q of the page, as the planes have it
+  abbrev there : ℕ → Cell
+  there q = cell_in c.host.memory.plane0 c.host.memory.plane1 (2048 * g + q)
+
+  abbrev dot_cell : ℕ → DotCell
+  dot_cell q = record { character = (there q).0; attribute = (there q).1 }
+
+  cell_is : (q : ℕ) → q < 2000 → cell_at c.host (fetch_address c.crtc.registers (2048 * g + q)) ≡ dot_cell q
+  unfolding cell_at
+  cell_is q lq =
+      let n = 2048 * g + q in
+      ap (λ r. cell_at c.host (fetch_address r n)) (registers_are c d h)
+      ∙ ap (cell_at c.host) (fetch_by disp d.cursor_type (start_address d d.page) (cursor_address d d.page) n ∙ address_is g q lg lq)
+
+  on_screen : (q : ℕ) → q < 2000 → cell_on s (2048 * g + q) ≡ there q
+  on_screen q lq = cells_at c.host.memory.plane0 c.host.memory.plane1 all_cells (2048 * g + q) (omega arith)
+
+  -- ---- the glyph
+
+  map_none : (b : Bool) → (if b then character_map_a c.host else character_map_b c.host) ≡ 0
+  map_none true = ap (λ (t : Setting). field (slice_index t.seq 3) 3 2 + 4 * bit_at (slice_index t.seq 3) 5) h.setting
+  map_none false = ap (λ (t : Setting). field (slice_index t.seq 3) 1 0 + 4 * bit_at (slice_index t.seq 3) 4) h.setting
+
+  row_is : (q r : ℕ) → r < 16 → row_of_glyph c.host (dot_cell q) r ≡ glyph_row s (there q).0 r
+  unfolding row_of_glyph
+  row_is q r lr =
+      let ch = (there q).0 in
+      let small : ch < 256 = z.host.memory.bytes 0 (omega arith) (2 * (2048 * g + q)) in
+      let e : 0 + 32 * ch + r ≡ 32 * ((16 * ch + r) / 16) + (16 * ch + r) % 16 = omega arith in
+      ap (λ i. byte_at c.host.memory 2 (map_start i + 32 * ch + r)) (map_none (is_set (there q).1 3))
+      ∙ ap (byte_at c.host.memory 2) e
+      ∙ sym (glyphs_at c.host.memory.plane2 4096 (16 * ch + r) (omega arith))
+
+  glyph_dot_is : (q r i : ℕ) → r < 16 → is_dot_of_glyph c.attr (there q).0 (row_of_glyph c.host (dot_cell q) r) i ≡ is_glyph_dot (there q).0 (glyph_row s (there q).0 r) i
+  unfolding is_dot_of_glyph
+  glyph_dot_is q r i lr =
+      let ch = (there q).0 in
+      let byte = glyph_row s ch r in
+      ap (λ b. if nat_lt i 8 then is_set b (7 - i) else is_line_graphics c.attr && nat_le 0xC0 ch && nat_le ch 0xDF && is_set b 0) (row_is q r lr)
+      ∙ ap (λ w. if nat_lt i 8 then is_set byte (7 - i) else w && nat_le 0xC0 ch && nat_le ch 0xDF && is_set byte 0) line_is
+      ∙ ap (λ w. if nat_lt i 8 then is_set byte (7 - i) else w) (regrouped (nat_le 0xC0 ch) (nat_le ch 0xDF) (is_set byte 0))
+    where
+      regrouped : (a b e : Bool) → (true && a && b && e) ≡ (a && (b && e))
+      regrouped true b e = refl
+      regrouped false b e = refl
+
+  -- ---- underline, blink, cursor
+
+  underlined_is : (q v x k : ℕ) → is_cell_underlined (placed v x k) c.attr (dot_cell q) ≡ is_underlined s (there q) (v % 16)
+  unfolding is_cell_underlined
+  underlined_is q v x k =
+      let a = bit_and (there q).1 0x77 == 1 in
+      let height : d.height - 1 ≡ 15 = let e = h.has.height in let f = sixteen in omega arith in
+      ap (λ w. w && a && v % 16 == underline_location c.crtc.registers) mono_is
+      ∙ ap (λ r. (d.mode == 0x07) && a && v % 16 == underline_location r) (registers_are c d h)
+      ∙ ap (λ n. (n == 0x07) && a && v % 16 == underline_location (registers_of disp d.cursor_type (start_address d d.page) (cursor_address d d.page))) h.number
+      ∙ underline_by disp d.cursor_type (start_address d d.page) (cursor_address d d.page) a (v % 16)
+      ∙ ap (λ n. (n == 0x07) && (a && (v % 16 == 15))) (sym h.number)
+      ∙ ap (λ n. (d.mode == 0x07) && (a && (v % 16 == n))) (sym height)
+    where
+      height_by : (k : Display) → (row_of k).height ≡ 16
+      height_by Colour = refl
+      height_by Monochrome = refl
+
+      sixteen : h.row.height ≡ 16
+      sixteen = ap (λ (r : ModeRow). r.height) h.row_is ∙ height_by disp
+
+  blinked_is : (q v x k : ℕ) → is_cell_blinked (placed v x k) c.attr (dot_cell q) ≡ is_blinked_away s (there q)
+  unfolding is_cell_blinked
+  blinked_is q v x k = three (is_set_blink) (is_set (there q).1 7) (nat_le 16 c.crtc.beam.frame)
+    where
+      is_set_blink : Bool
+      is_set_blink = s.is_blink
+
+      three : (a b e : Bool) → (a && b && e) ≡ (a && (b && e))
+      three true b e = refl
+      three false b e = refl
+
+  -- the cursor's location, as the screen has it
+  location_is : cursor_address d d.page ≡ cursor_cell s d.page
+  location_is =
+      let e = (lies c d h).even d.page in
+      let n = d.size / 2 * d.page in
+      let halved : d.size * d.page / 2 ≡ n = omega arith in
+      ap (λ a. a + cell_number d (place_of d d.page)) halved
+
+  cursor_is : (n v x k : ℕ) → is_cursor_at (placed v x k) n ≡ is_cursor s n (v % 16)
+  unfolding is_cursor_at
+  cursor_is n v x k =
+      let r = v % 16 in
+      let location = cursor_address d d.page in
+      let type = d.cursor_type in
+      let f = nat_lt (c.crtc.beam.frame % 16) 8 in
+      ap (λ l. (n == cursor_location l) && not (is_cursor_off l) && nat_le (cursor_start l) r && nat_le r (cursor_end l) && f) (registers_are c d h)
+      ∙ cursor_by disp type (start_address d d.page) location n r f
+      ∙ ap (λ m. (n == m) && not (is_set (bit_and (high type) 0x3F) 5) && nat_le (field (bit_and (high type) 0x3F) 4 0) r && nat_le r (field (bit_and (low type) 0x7F) 4 0) && f) (two_bytes location ∙ location_is)
+      ∙ ap (λ w. (n == cursor_cell s d.page) && not w && nat_le (field (bit_and (high type) 0x3F) 4 0) r && nat_le r (field (bit_and (low type) 0x7F) 4 0) && f) (off_bit (high type))
+      ∙ ap (λ m. (n == cursor_cell s d.page) && not (is_set (high type) 5) && nat_le m r && nat_le r (field (bit_and (low type) 0x7F) 4 0) && f) (start_field (high type))
+      ∙ ap (λ m. (n == cursor_cell s d.page) && not (is_set (high type) 5) && nat_le (field (high type) 4 0) r && nat_le r m && f) (end_field (low type))
+      ∙ regrouped (n == cursor_cell s d.page) (not (is_set (high type) 5)) (nat_le (field (high type) 4 0) r) (nat_le r (field (low type) 4 0)) f
+    where
+      regrouped : (a b e q w : Bool) → (a && b && e && q && w) ≡ (a && (b && (e && (q && w))))
+      regrouped true true true q w = refl
+      regrouped true true false q w = refl
+      regrouped true false e q w = refl
+      regrouped false b e q w = refl
+
+  -- ---- the four bits of a dot
+
+  -- whether a dot has its cell's foreground
+  on_is : (q v x k : ℕ) → q < 2000 → is_cell_foreground c.host (placed v x k) c.attr (record { counter = 2048 * g + q; dot = k }) (dot_cell q) ≡ is_foreground s (2048 * g + q) (v % 16) k
+  unfolding is_cell_foreground is_foreground
+  on_is q v x k lq =
+      let r = v % 16 in
+      let lr : v % 16 < 16 = omega arith in
+      let n = 2048 * g + q in
+      let glyph = is_dot_of_glyph c.attr (there q).0 (row_of_glyph c.host (dot_cell q) r) k in
+      let under = is_cell_underlined (placed v x k) c.attr (dot_cell q) in
+      ap (λ w. if w then true else if is_cell_blinked (placed v x k) c.attr (dot_cell q) then false else if under then true else glyph) (cursor_is n v x k)
+      ∙ ap (λ w. if is_cursor s n r then true else if w then false else if under then true else glyph) (blinked_is q v x k)
+      ∙ ap (λ w. if is_cursor s n r then true else if is_blinked_away s (there q) then false else if w then true else glyph) (underlined_is q v x k)
+      ∙ ap (λ w. if is_cursor s n r then true else if is_blinked_away s (there q) then false else if is_underlined s (there q) r then true else w) (glyph_dot_is q r k lr)
+      ∙ ap (λ (p : Cell). if is_cursor s n r then true else if is_blinked_away s p then false else if is_underlined s p r then true else is_glyph_dot p.0 (glyph_row s p.0 r) k) (sym (on_screen q lq))
+
+  nibble_is : (q v x k : ℕ) → q < 2000 → text_nibble c.host (placed v x k) c.attr (record { counter = 2048 * g + q; dot = k }) ≡ nibble s (2048 * g + q) (v % 16) k
+  unfolding text_nibble nibble
+  nibble_is q v x k lq =
+      let source : SourceDot = record { counter = 2048 * g + q; dot = k } in
+      let n = 2048 * g + q in
+      ap (cell_nibble c.host (placed v x k) c.attr source) (cell_is q lq)
+      ∙ ap (λ w. if w then field (there q).1 3 0 else background s (there q)) (on_is q v x k lq)
+      ∙ ap (λ (p : Cell). if is_foreground s n (v % 16) k then field p.1 3 0 else background s p) (sym (on_screen q lq))
+
+  dot_bits : (v x k : ℕ) → v < 400 → x < 80 → k < 9 → dot_nibble c.host (placed v x k) c.attr ≡ nibble s (2048 * g + (80 * (v / 16) + x)) (v % 16) k
+  unfolding dot_nibble
+  dot_bits v x k lv lx lk =
+      let at = placed v x k in
+      ap (λ w. if w then planar_nibble c.host at (source_dot c.host at c.attr) else text_nibble c.host at c.attr (source_dot c.host at c.attr)) graphics_off
+      ∙ ap (text_nibble c.host at c.attr) (source_is v x k lv lx lk)
+      ∙ nibble_is (80 * (v / 16) + x) v x k (omega arith)
+
+  small_if : (b w : Bool) (x y q : ℕ) → x < 16 → y < 16 → q < 16 → (if b then x else if w then y else q) < 16
+  small_if true w x y q lx ly lq = lx
+  small_if false true x y q lx ly lq = ly
+  small_if false false x y q lx ly lq = lq
+
+  nibble_small : (n r i : ℕ) → nibble s n r i < 16
+  unfolding nibble
+  nibble_small n r i = let a = (cell_on s n).1 in small_if (is_foreground s n r i) s.is_blink (field a 3 0) (field a 6 4) (field a 7 4) (omega arith) (omega arith) (omega arith)
+
+  -- ---- its colour
+
+  value_is : (n : ℕ) → n < 16 → slice_index s.palette.values n ≡ slice_index c.attr.registers n
+  value_is n l = ap (λ r. slice_index (take 16 r) n) (spelled c.attr.registers 21 z.attr.size) ∙ listed_at (slice_index c.attr.registers) 16 n 0 l
+
+  index_is : (n : ℕ) → n < 16 → colour_index c.attr n ≡ slice_index s.palette.values n
+  index_is n l =
+      let p = slice_index c.attr.registers n in
+      let e : picked c.attr n ≡ p = ap (λ (i : ℕ). slice_index c.attr.registers (bit_and n (field i 3 0))) planes_are ∙ ap (slice_index c.attr.registers) (same_nibble n l) in
+      ap (λ i. field i 3 0 + 16 * (if is_colour_select_wide c.attr then colour_select_middle c.attr else field i 5 4) + 64 * colour_select_high c.attr) e
+      ∙ ap (λ w. field p 3 0 + 16 * (if w then colour_select_middle c.attr else field p 5 4) + 64 * colour_select_high c.attr) wide_is
+      ∙ ap (λ i. field p 3 0 + 16 * field p 5 4 + 64 * field i 3 2) select_is
+      ∙ low_fields p (z.attr.palette n l)
+      ∙ sym (value_is n l)
+
+  number_is : (t : CrtcState) → colour_number c.host t c.attr ≡ colour_index c.attr (dot_nibble c.host t c.attr)
+  unfolding colour_number
+  number_is t =
+      ap (λ w. if not w then overscan c.attr else if is_256_colours c.host then packed_byte c.host t (source_dot c.host t c.attr) else colour_index c.attr (dot_nibble c.host t c.attr)) palette_on
+      ∙ ap (λ w. if w then packed_byte c.host t (source_dot c.host t c.attr) else colour_index c.attr (dot_nibble c.host t c.attr)) many_colours_off
+
+  dot_shade : (t : CrtcState) (n : ℕ) → dot_nibble c.host t c.attr ≡ n → n < 16 → dot_colour c.host t c.attr c.dac ≡ shade s.palette n
+  unfolding dot_colour
+  dot_shade t n e l =
+      ap (λ w. if w then 0 ∷ 0 ∷ 0 ∷ [] else entry_of c.dac (bit_and (colour_number c.host t c.attr) c.dac.mask)) screen_on
+      ∙ ap (λ i. entry_of c.dac (bit_and i c.dac.mask)) (number_is t ∙ ap (colour_index c.attr) e ∙ index_is n l)
+
+  -- the dot at the place has the screen's colour
+  pub place_is : (v x k : ℕ) → v < 400 → x < 80 → k < 9 → dot_colour c.host (placed v x k) c.attr c.dac ≡ shade s.palette (nibble s (2048 * g + (80 * (v / 16) + x)) (v % 16) k)
+  place_is v x k lv lx lk = dot_shade (placed v x k) (nibble s (2048 * g + (80 * (v / 16) + x)) (v % 16) k) (dot_bits v x k lv lx lk) (nibble_small (2048 * g + (80 * (v / 16) + x)) (v % 16) k)
