@@ -3,7 +3,7 @@ use Rattle.std.proofs.Common.{◌≡◌, ℕ, refl, List, [], ◌∷◌, Bool, t
 use Rattle.bios_screen.specs.Screen.{Cells, Screen}
 use Rattle.bios_screen.specs.Picture.{is_glyph_dot, is_foreground, nibble, tint, dot_at}
 
--- character 0 has no dot, and character 1 has the outer dots of row 0
+-- character 0 has no dot, and character 1 has the outer dots of its top row
 abbrev two_glyphs : List ℕ
 two_glyphs = 0 ∷ 0 ∷ 0 ∷ 0 ∷ 0 ∷ 0 ∷ 0 ∷ 0 ∷ 0 ∷ 0 ∷ 0 ∷ 0 ∷ 0 ∷ 0 ∷ 0 ∷ 0 ∷ 0x81 ∷ 0 ∷ 0 ∷ 0 ∷ 0 ∷ 0 ∷ 0 ∷ 0 ∷ 0 ∷ 0 ∷ 0 ∷ 0 ∷ 0 ∷ 0 ∷ 0 ∷ 0 ∷ []
 
