@@ -1,6 +1,6 @@
 -- Calls: the service that the registers ask for, whole.
-use Rattle.std.proofs.Common.{◌≡◌, ℕ, ◌%◌, ◌<◌, refl, sym, ap, ◌∙◌, subst, arith, List, Option, Some, None, Bool, true, false, Err}
-use Rattle.std.specs.Prelude.{◌==◌, ◌&&◌, ◌||◌, nat_le, if◌then◌else◌, IfSome}
+use Rattle.std.proofs.Common.{◌≡◌, ℕ, ◌%◌, ◌<◌, refl, sym, ap, ◌∙◌, subst, arith, List, length, Option, Some, None, Bool, true, false, Err}
+use Rattle.std.specs.Prelude.{◌==◌, ◌&&◌, ◌||◌, nat_lt, nat_le, if◌then◌else◌, IfSome}
 use Rattle.std.proofs.lemmas.Bool.Decides.{nat_tests}
 use Rattle.vga_bits.specs.declared.refusal.Refusal.{Refusal}
 use Rattle.vga_bits.specs.declared.refusal.Refusal.TheVariants.{NoMode, BadFunction}
@@ -15,7 +15,12 @@ use Rattle.bios_services.specs.declared.call.Call.TheVariants.{SetMode, InMode}
 use Rattle.bios_services.specs.declared.call.Service.{Service}
 use Rattle.bios_services.specs.declared.call.Service.TheVariants.{ReadDisplay}
 use Rattle.bios_services.specs.Plan.{Plan, run, Done, ◌>>=◌}
-use Rattle.bios_services.specs.Calls.{high, low, scroll_of, service_of, in_mode, call_of}
+use Rattle.bios_services.specs.declared.colours.ColourService.{ColourService}
+use Rattle.bios_services.specs.Registers.{high, low}
+use Rattle.bios_services.specs.Colours.{colour_service_of}
+use Rattle.bios_services.specs.CellRuns.{cell_run_of}
+use Rattle.bios_services.specs.Strings.{string_of}
+use Rattle.bios_services.specs.Calls.{scroll_of, as_colours, service_of, in_mode, call_of}
 use Rattle.bios_services.specs.ModeSet.{is_text}
 use Rattle.bios_services.specs.Refusals.{refusal_in_mode}
 use Rattle.bios_services.specs.Service.{plan_of, Outcome, Answered, answered, refused, unless, in_mode_plan, asked}
@@ -23,8 +28,8 @@ use Rattle.bios_screen.specs.Bounds.{IsBda}
 use Rattle.bios_screen.specs.Screen.{Screen}
 use Rattle.bios_screen.specs.Shown.{shown}
 use Rattle.bios_screen.specs.Step.{refused_on, next, answer_on}
-use Rattle.bios_screen.specs.Served.{IsServed, Serves, after_call}
-use Rattle.bios_screen.specs.Called.{AreWords, reply_unless, screen_unless, IsCalled}
+use Rattle.bios_screen.specs.Served.{AreBytes, IsServed, Serves, after_call}
+use Rattle.bios_screen.specs.Called.{AreWords, is_colours, reply_unless, screen_unless, IsCalled}
 use Rattle.bios_screen.proofs.PlanLemmas.{run_bind}
 use Rattle.bios_screen.proofs.Kept.{KeepsBounds, plan_beam}
 use Rattle.bios_screen.proofs.Shows.{shown_is}
@@ -32,9 +37,17 @@ use Rattle.bios_screen.proofs.Served as served
 
 -- ---- each service that registers ask for is served
 
-choose : (b : Bool) (x y : Option Service) → IfSome x Serves → IfSome y Serves → IfSome (if b then x else y) Serves
+-- what is claimed of a service
+abbrev Told : Service → Type 0
+Told service = is_colours service ≡ false → Serves service
+
+choose : (b : Bool) (x y : Option Service) → IfSome x Told → IfSome y Told → IfSome (if b then x else y) Told
 choose true x y f g = f
 choose false x y f g = g
+
+colours_told : (x : Option ColourService) → IfSome (as_colours x) Told
+colours_told None = tt
+colours_told (Some service) = λ e. absurd (cc)
 
 high_small : (n : ℕ) → n < 65536 → high n < 256
 high_small n l = omega arith
@@ -42,21 +55,25 @@ high_small n l = omega arith
 low_small : (n : ℕ) → low n < 256
 low_small n = omega arith
 
-asked_is_served : KeepsBounds → (r : Regs) → AreWords r → IfSome (service_of r) Serves
+asked_is_served : KeepsBounds → (r : Regs) → AreWords r → IfSome (service_of r) Told
 asked_is_served law r w =
-    choose (high r.ax == 0x01) _ _ (served.set_cursor_type r.cx)
-    (choose (high r.ax == 0x02) _ _ (served.set_cursor (high r.bx) r.dx w.dx)
-    (choose (high r.ax == 0x03) _ _ (served.read_cursor (high r.bx))
-    (choose (high r.ax == 0x05) _ _ (served.select_page (low r.ax))
-    (choose (high r.ax == 0x06) _ _ (served.scroll_up (scroll_of r) (high_small r.bx w.bx))
-    (choose (high r.ax == 0x07) _ _ (served.scroll_down (scroll_of r) (high_small r.bx w.bx))
-    (choose (high r.ax == 0x08) _ _ (served.read_cell (high r.bx))
-    (choose (high r.ax == 0x09) _ _ (served.write_cells (high r.bx) (low r.ax) (Some (low r.bx)) r.cx (low_small r.ax) (low_small r.bx))
-    (choose (high r.ax == 0x0A) _ _ (served.write_cells (high r.bx) (low r.ax) None r.cx (low_small r.ax) tt)
-    (choose (high r.ax == 0x0E) _ _ (served.teletype law (low r.ax) (low_small r.ax))
-    (choose (high r.ax == 0x0F) _ _ served.read_mode
-    (choose ((high r.ax == 0x12) && (low r.bx == 0x10)) _ _ served.read_adapter
-    (choose ((high r.ax == 0x1A) && (low r.ax == 0x00)) (Some ReadDisplay) None served.read_display tt))))))))))))
+    choose (high r.ax == 0x01) _ _ (λ _. served.set_cursor_type r.cx)
+    (choose (high r.ax == 0x02) _ _ (λ _. served.set_cursor (high r.bx) r.dx w.dx)
+    (choose (high r.ax == 0x03) _ _ (λ _. served.read_cursor (high r.bx))
+    (choose (high r.ax == 0x05) _ _ (λ _. served.select_page (low r.ax))
+    (choose (high r.ax == 0x06) _ _ (λ _. served.scroll_up (scroll_of r) (high_small r.bx w.bx))
+    (choose (high r.ax == 0x07) _ _ (λ _. served.scroll_down (scroll_of r) (high_small r.bx w.bx))
+    (choose (high r.ax == 0x08) _ _ (λ _. served.read_cell (high r.bx))
+    (choose (high r.ax == 0x09) _ _ (λ _. served.write_cells (cell_run_of r true) (low_small r.ax) (low_small r.bx))
+    (choose (high r.ax == 0x0A) _ _ (λ _. served.write_cells (cell_run_of r false) (low_small r.ax) (low_small r.bx))
+    (choose (high r.ax == 0x0C) _ _ (λ _. served.write_pixel (high r.bx) r.cx r.dx (low r.ax))
+    (choose (high r.ax == 0x0D) _ _ (λ _. served.read_pixel (high r.bx) r.cx r.dx)
+    (choose (high r.ax == 0x0E) _ _ (λ _. served.teletype law (low r.ax) (low r.bx) (low_small r.ax) (low_small r.bx))
+    (choose (high r.ax == 0x0F) _ _ (λ _. served.read_mode)
+    (choose (high r.ax == 0x10) _ _ (colours_told (colour_service_of r))
+    (choose ((high r.ax == 0x12) && (low r.bx == 0x10)) _ _ (λ _. served.read_adapter)
+    (choose ((high r.ax == 0x13) && nat_lt (low r.ax) 4) _ _ (λ _. served.write_string law (string_of r) (low_small r.bx))
+    (choose ((high r.ax == 0x1A) && (low r.ax == 0x00)) (Some ReadDisplay) None (λ _. served.read_display) tt))))))))))))))))
 
 -- ---- the call around a service
 
@@ -69,42 +86,42 @@ text_is_set mode t = by_tests (mode == 0x03) (mode == 0x07) refl refl t
     by_tests false false e f h = absurd (cc)
 
 -- what a service's plan leaves, wrapped as an answer of a call
-pub record IsDone (service : Service) (r : Regs) (c : CardState) (d : BiosData) (s : Screen) (x : CardState × Answered) : Type 0 where
-  pub reply : x.1.0 ≡ reply_unless (refused_on s service) (answer_on s service r)
-  pub shows : shown x.0 x.1.1 ≡ Some (screen_unless (refused_on s service) s (next s service))
+pub record IsDone (service : Service) (r : Regs) (block : List ℕ) (c : CardState) (d : BiosData) (s : Screen) (x : CardState × Answered) : Type 0 where
+  pub reply : x.1.0 ≡ reply_unless (refused_on s service (length block)) (answer_on s service r)
+  pub shows : shown x.0 x.1.1 ≡ Some (screen_unless (refused_on s service (length block)) s (next s service block))
 
-done_unless : (service : Service) (r : Regs) (c : CardState) (d : BiosData) (s : Screen) → shown c d ≡ Some s → IsServed service r c d s → IsDone service r c d s (run card_meaning (unless (refused_on s service) service d r) c)
+done_unless : (service : Service) (fonts : FontSet) (r : Regs) (block : List ℕ) (c : CardState) (d : BiosData) (s : Screen) → shown c d ≡ Some s → IsServed service fonts r block c d s → IsDone service r block c d s (run card_meaning (unless (refused_on s service (length block)) service fonts d r block) c)
 unfolding unless
-done_unless service r c d s old i = by_refusal (refused_on s service) refl
+done_unless service fonts r block c d s old i = by_refusal (refused_on s service (length block)) refl
   where
     done : Outcome → Plan Answered
     done outcome = Done (answered outcome.0 outcome.1)
 
-    by_refusal : (x : Option Refusal) → refused_on s service ≡ x → IsDone service r c d s (run card_meaning (unless (refused_on s service) service d r) c)
+    by_refusal : (x : Option Refusal) → refused_on s service (length block) ≡ x → IsDone service r block c d s (run card_meaning (unless (refused_on s service (length block)) service fonts d r block) c)
     by_refusal (Some why) e =
-        let runs : run card_meaning (unless (refused_on s service) service d r) c ≡ (c, (Err why, d)) = ap (λ x. run card_meaning (unless x service d r) c) e in
+        let runs : run card_meaning (unless (refused_on s service (length block)) service fonts d r block) c ≡ (c, (Err why, d)) = ap (λ x. run card_meaning (unless x service fonts d r block) c) e in
         record {
           reply = ap (λ x. x.1.0) runs ∙ sym (ap (λ x. reply_unless x (answer_on s service r)) e);
-          shows = ap (λ x. shown x.0 x.1.1) runs ∙ old ∙ sym (ap (λ x. Some (screen_unless x s (next s service))) e);
+          shows = ap (λ x. shown x.0 x.1.1) runs ∙ old ∙ sym (ap (λ x. Some (screen_unless x s (next s service block))) e);
         }
     by_refusal None e =
-        let runs : run card_meaning (unless (refused_on s service) service d r) c ≡ run card_meaning (plan_of service d r >>= done) c = ap (λ x. run card_meaning (unless x service d r) c) e in
-        let bound = run_bind card_meaning (plan_of service d r) done c in
+        let runs : run card_meaning (unless (refused_on s service (length block)) service fonts d r block) c ≡ run card_meaning (plan_of service fonts d r block >>= done) c = ap (λ x. run card_meaning (unless x service fonts d r block) c) e in
+        let bound = run_bind card_meaning (plan_of service fonts d r block) done c in
         record {
           reply = ap (λ x. x.1.0) (runs ∙ bound) ∙ ap (λ q. reply_unless None q) (i.answer e) ∙ sym (ap (λ x. reply_unless x (answer_on s service r)) e);
-          shows = ap (λ x. shown x.0 x.1.1) (runs ∙ bound) ∙ i.shows e ∙ sym (ap (λ x. Some (screen_unless x s (next s service))) e);
+          shows = ap (λ x. shown x.0 x.1.1) (runs ∙ bound) ∙ i.shows e ∙ sym (ap (λ x. Some (screen_unless x s (next s service block))) e);
         }
 
-call_done : (service : Service) (fonts : FontSet) (r : Regs) (block : List ℕ) (c : CardState) (d : BiosData) (s : Screen) → call_of r ≡ Some (InMode service) → shown c d ≡ Some s → IsServed service r c d s → IsCalled service fonts r block c d s
+call_done : (service : Service) (fonts : FontSet) (r : Regs) (block : List ℕ) (c : CardState) (d : BiosData) (s : Screen) → call_of r ≡ Some (InMode service) → shown c d ≡ Some s → IsServed service fonts r block c d s → IsCalled service fonts r block c d s
 unfolding in_mode_plan
 call_done service fonts r block c d s e old i =
     let x = shown_is c d s old in
-    let plan = unless (refused_on s service) service d r in
+    let plan = unless (refused_on s service (length block)) service fonts d r block in
     let runs : after_call fonts r block c d ≡ run card_meaning plan c =
-    ap (λ (q : Option Call). run card_meaning (asked q fonts d r) c) e
-    ∙ ap (λ b. run card_meaning (if b then refused NoMode d else unless (refusal_in_mode service d) service d r) c) (text_is_set d.mode x.is.tests.is_text)
-    ∙ ap (λ q. run card_meaning (unless q service d r) c) i.refusal in
-    let t = done_unless service r c d s old i in
+    ap (λ (q : Option Call). run card_meaning (asked q fonts d r block) c) e
+    ∙ ap (λ b. run card_meaning (if b then refused NoMode d else unless (refusal_in_mode service d (length block)) service fonts d r block) c) (text_is_set d.mode x.is.tests.is_text)
+    ∙ ap (λ q. run card_meaning (unless q service fonts d r block) c) i.refusal in
+    let t = done_unless service fonts r block c d s old i in
     record {
       reply = ap (λ y. y.1.0) runs ∙ t.reply;
       shows = ap (λ y. shown y.0 y.1.1) runs ∙ t.shows;
@@ -120,17 +137,17 @@ service_is r service e = by_test (high r.ax == 0x00) (service_of r) e
     by_test false None h = absurd (cc)
     by_test false (Some t) h = cc
 
-served_if : (x : Option Service) (service : Service) → x ≡ Some service → IfSome x Serves → Serves service
-served_if x service e f = subst (λ y. IfSome y Serves) e f
+served_if : (x : Option Service) (service : Service) → x ≡ Some service → IfSome x Told → Told service
+served_if x service e f = subst (λ y. IfSome y Told) e f
 
-pub calls_lead : KeepsBounds → (service : Service) (fonts : FontSet) (r : Regs) (block : List ℕ) (c : CardState) (d : BiosData) (s : Screen) → IsCard c → IsBda d → AreWords r → shown c d ≡ Some s → call_of r ≡ Some (InMode service) → IsCalled service fonts r block c d s
-calls_lead law service fonts r block c d s z bda w old e =
-    let serves = served_if (service_of r) service (service_is r service e) (asked_is_served law r w) in
-    call_done service fonts r block c d s e old (serves r c d s z bda old)
+pub calls_lead : KeepsBounds → (service : Service) (fonts : FontSet) (r : Regs) (block : List ℕ) (c : CardState) (d : BiosData) (s : Screen) → IsCard c → IsBda d → AreWords r → AreBytes block → is_colours service ≡ false → shown c d ≡ Some s → call_of r ≡ Some (InMode service) → IsCalled service fonts r block c d s
+calls_lead law service fonts r block c d s z bda w bytes told old e =
+    let serves = served_if (service_of r) service (service_is r service e) (asked_is_served law r w) told in
+    call_done service fonts r block c d s e old (serves fonts r block c d s bytes z bda old)
 
 -- a call for no service is refused
 pub unknown_refused : (fonts : FontSet) (r : Regs) (block : List ℕ) (c : CardState) (d : BiosData) (s : Screen) → shown c d ≡ Some s → call_of r ≡ None → after_call fonts r block c d ≡ (c, (Err BadFunction, d))
 unknown_refused fonts r block c d s old e =
     let x = shown_is c d s old in
-    ap (λ (q : Option Call). run card_meaning (asked q fonts d r) c) e
+    ap (λ (q : Option Call). run card_meaning (asked q fonts d r block) c) e
     ∙ ap (λ b. let y : CardState × Answered = (c, (Err (if b then NoMode else BadFunction), d)) in y) (text_is_set d.mode x.is.tests.is_text)

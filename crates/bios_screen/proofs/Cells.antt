@@ -1,12 +1,13 @@
 -- Text memory as one flat memory of cells, each a character and its attribute.
-use Rattle.std.proofs.Common.{◌≡◌, ◌≢◌, ℕ, ◌+◌, ◌*◌, ◌%◌, ◌-◌, ◌<◌, ⊎_elim, refl, sym, ap, ◌∙◌, subst, arith, List, Bool, true, false, Option, Some, None}
-use Rattle.std.specs.Prelude.{slice_index, ◌==◌, if◌then◌else◌, IfSome}
+use Rattle.std.proofs.Common.{◌≡◌, ◌≢◌, ℕ, ◌+◌, ◌*◌, ◌%◌, ◌-◌, ◌<◌, ⊎_elim, refl, sym, ap, ◌∙◌, subst, arith, List, Bool, true, false}
+use Rattle.std.specs.Prelude.{slice_index, ◌==◌, if◌then◌else◌}
 use Rattle.std.proofs.lemmas.Bool.{cases_eq}
 use Rattle.std.proofs.lemmas.Bool.Decides.{nat_tests}
 use Rattle.vga_host.specs.Bounds.{IsHost}
 use Rattle.vga_card.specs.Bus.{card_meaning}
 use Rattle.vga_card.specs.Card.{CardState}
-use Rattle.bios_services.specs.Plan.{run, put, get, move, ◌>>◌}
+use Rattle.bios_services.specs.declared.ink.Ink.{Ink}
+use Rattle.bios_services.specs.Plan.{run, put, get, Done, ◌>>◌}
 use Rattle.bios_services.specs.Cells.{write_cell_plan}
 use Rattle.bios_screen.specs.Screen.{Cell}
 use Rattle.bios_screen.specs.Shown.{cell_in}
@@ -110,10 +111,13 @@ cell_given disp rest c f at k v a e l lv la t =
     cells_same disp rest (run card_meaning (put (at + 1) a) c1).0 (with_attribute (with_character f k v) k a) (set_cell f k (v, a)) (over_is f k v a)
     (attribute_put disp rest c1 (with_character f k v) at k a e l la (character_put disp rest c f at k v e l lv t))
 
-pub cell_written : (disp : Display) (rest c : CardState) (f : ℕ → Cell) (at k v : ℕ) (colour : Option ℕ) → at ≡ base_of disp + 2 * k → k < 16384 → v < 256 → IfSome colour (λ a. a < 256) → IsCells disp rest c f → IsCells disp rest (run card_meaning (write_cell_plan at v colour) c).0 (set_cell f k (character_over v colour (f k)))
+pub cell_written : (disp : Display) (rest c : CardState) (f : ℕ → Cell) (at k v : ℕ) (ink : Ink) → at ≡ base_of disp + 2 * k → k < 16384 → v < 256 → ink.colour < 256 → IsCells disp rest c f → IsCells disp rest (run card_meaning (write_cell_plan at v ink) c).0 (set_cell f k (character_over v ink (f k)))
 unfolding write_cell_plan
-cell_written disp rest c f at k v None e l lv la t = character_put disp rest c f at k v e l lv t
-cell_written disp rest c f at k v (Some a) e l lv la t = cell_given disp rest c f at k v a e l lv la t
+cell_written disp rest c f at k v ink e l lv la t = by_test ink.is_attribute
+  where
+    by_test : (b : Bool) → IsCells disp rest (run card_meaning (put at v >> (if b then put (at + 1) ink.colour else Done tt)) c).0 (set_cell f k (let x : Cell = (v, if b then ink.colour else (f k).1) in x))
+    by_test false = character_put disp rest c f at k v e l lv t
+    by_test true = cell_given disp rest c f at k v ink.colour e l lv la t
 
 -- ---- a byte of a cell is read
 
@@ -138,44 +142,16 @@ attribute_get disp rest c f at k e l t =
       answer = a.answer ∙ sym (t.attribute k l);
     })
 
--- ---- a cell is moved
-
--- its two bytes one after another are the cell
-moved_is : (f : ℕ → Cell) (i j k : ℕ) → set_cell f j (f i) k ≡ with_attribute (with_character f j (f i).0) j (with_character f j (f i).0 i).1 k
-moved_is f i j k =
-    let x : Cell = ((f i).0, (f j).1) in
-    let g : ℕ → Cell = with_character f j (f i).0 in
-    let source : (g i).1 ≡ (f i).1 = ⊎_elim
-    (λ (z : i ≡ j). ap (λ (y : Cell). y.1) (set_same f j x i z) ∙ ap (λ n. (f n).1) (sym z))
-    (λ (n : i ≢ j). ap (λ (y : Cell). y.1) (set_other f j x i n))
-    (cases_eq i j) in
-    over_is f j (f i).0 (f i).1 k ∙ ap (λ a. with_attribute g j a k) (sym source)
-
-pub cell_moved : (disp : Display) (rest c : CardState) (f : ℕ → Cell) (from to i j : ℕ) → from ≡ base_of disp + 2 * i → to ≡ base_of disp + 2 * j → i < 16384 → j < 16384 → IsCells disp rest c f → IsCells disp rest (run card_meaning (move from to >> move (from + 1) (to + 1)) c).0 (set_cell f j (f i))
-cell_moved disp rest c f from to i j ei ej li lj t =
-    let v = (f i).0 in
-    let g : ℕ → Cell = with_character f j v in
-    let a = (g i).1 in
-    let first = character_get disp rest c f from i ei li t in
-    let r1 = run card_meaning (get from) c in
-    let p1 = subst (λ x. IsCells disp rest (run card_meaning (put to x) r1.0).0 g) (sym first.answer) (character_put disp rest r1.0 f to j v ej lj (character_small disp rest c f i li t) first.cells) in
-    let c1 = (run card_meaning (move from to) c).0 in
-    let second = attribute_get disp rest c1 g from i ei li p1 in
-    let r2 = run card_meaning (get (from + 1)) c1 in
-    let p2 = subst (λ x. IsCells disp rest (run card_meaning (put (to + 1) x) r2.0).0 (with_attribute g j a)) (sym second.answer) (attribute_put disp rest r2.0 g to j a ej lj (attribute_small disp rest c1 g i li p1) second.cells) in
-    let c2 = (run card_meaning (move (from + 1) (to + 1)) c1).0 in
-    cells_same disp rest c2 (with_attribute g j a) (set_cell f j (f i)) (moved_is f i j) p2
-
 -- ---- the cells of the planes
 
 -- the bytes of two planes by place
 abbrev pub woven : List ℕ → List ℕ → ℕ → ℕ
 woven p0 p1 w = if w % 2 == 0 then slice_index p0 w else slice_index p1 (w - 1)
 
-woven_even : (p0 p1 : List ℕ) (q : ℕ) → slice_index p0 (2 * q) ≡ woven p0 p1 (2 * q)
+pub woven_even : (p0 p1 : List ℕ) (q : ℕ) → slice_index p0 (2 * q) ≡ woven p0 p1 (2 * q)
 woven_even p0 p1 q = let t : (2 * q % 2 == 0) ≡ true = grind (arith, nat_tests) in sym (ap (λ b. if b then slice_index p0 (2 * q) else slice_index p1 (2 * q - 1)) t)
 
-woven_odd : (p0 p1 : List ℕ) (q : ℕ) → slice_index p1 (2 * q) ≡ woven p0 p1 (2 * q + 1)
+pub woven_odd : (p0 p1 : List ℕ) (q : ℕ) → slice_index p1 (2 * q) ≡ woven p0 p1 (2 * q + 1)
 woven_odd p0 p1 q =
     let t : ((2 * q + 1) % 2 == 0) ≡ false = grind (arith, nat_tests) in
     let z : 2 * q + 1 - 1 ≡ 2 * q = omega arith in
@@ -188,25 +164,29 @@ woven_small p0 p1 w h k = by_test (w % 2 == 0)
     by_test true = h w
     by_test false = k (w - 1)
 
--- an adapter in text, whose planes are memory, has the cells of its planes
-pub has_cells : (disp : Display) (c : CardState) → setting c ≡ text_setting disp → IsHost c.host → IsCells disp (without_text c) c (cell_in c.host.memory.plane0 c.host.memory.plane1)
-has_cells disp c e z =
+-- an adapter in text, whose planes are memory, has the bytes of its planes
+pub has_bytes : (disp : Display) (c : CardState) → setting c ≡ text_setting disp → IsHost c.host → IsTextual disp (without_text c) c (woven c.host.memory.plane0 c.host.memory.plane1)
+has_bytes disp c e z =
     let p0 = c.host.memory.plane0 in
     let p1 = c.host.memory.plane1 in
     record {
-      bytes = woven p0 p1;
-      is = record {
-        mode = e;
-        size0 = z.memory.size 0 (omega arith);
-        size1 = z.memory.size 1 (omega arith);
-        character = λ k l. woven_even p0 p1 k;
-        attribute = λ k l. woven_odd p0 p1 k;
-        small = λ w l. woven_small p0 p1 w (z.memory.bytes 0 (omega arith)) (z.memory.bytes 1 (omega arith));
-        others = refl;
-      };
+      mode = e;
+      size0 = z.memory.size 0 (omega arith);
+      size1 = z.memory.size 1 (omega arith);
       character = λ k l. woven_even p0 p1 k;
       attribute = λ k l. woven_odd p0 p1 k;
+      small = λ w l. woven_small p0 p1 w (z.memory.bytes 0 (omega arith)) (z.memory.bytes 1 (omega arith));
+      others = refl;
     }
+
+-- and their cells
+pub has_cells : (disp : Display) (c : CardState) → setting c ≡ text_setting disp → IsHost c.host → IsCells disp (without_text c) c (cell_in c.host.memory.plane0 c.host.memory.plane1)
+has_cells disp c e z = record {
+  bytes = woven c.host.memory.plane0 c.host.memory.plane1;
+  is = has_bytes disp c e z;
+  character = λ k l. woven_even c.host.memory.plane0 c.host.memory.plane1 k;
+  attribute = λ k l. woven_odd c.host.memory.plane0 c.host.memory.plane1 k;
+}
 
 -- and the other way round
 pub cells_are : (disp : Display) (rest c : CardState) (f : ℕ → Cell) (k : ℕ) → k < 16384 → IsCells disp rest c f → cell_in c.host.memory.plane0 c.host.memory.plane1 k ≡ f k
@@ -214,3 +194,26 @@ cells_are disp rest c f k l t =
     let x : slice_index c.host.memory.plane0 (2 * k) ≡ (f k).0 = t.is.character k l ∙ sym (t.character k l) in
     let y : slice_index c.host.memory.plane1 (2 * k) ≡ (f k).1 = t.is.attribute k l ∙ sym (t.attribute k l) in
     ap (λ a. let p : Cell = (a, slice_index c.host.memory.plane1 (2 * k)) in p) x ∙ ap (λ b. let p : Cell = ((f k).0, b) in p) y
+
+-- ---- bytes and cells
+
+-- the cells of bytes
+abbrev pub cells_of_bytes : (ℕ → ℕ) → ℕ → Cell
+cells_of_bytes m k = (m (2 * k), m (2 * k + 1))
+
+pub bytes_are_cells : (disp : Display) (rest c : CardState) (m : ℕ → ℕ) → IsTextual disp rest c m → IsCells disp rest c (cells_of_bytes m)
+bytes_are_cells disp rest c m t = record { bytes = m; is = t; character = λ k l. refl; attribute = λ k l. refl }
+
+pub same_pair : {a b x y : ℕ} → a ≡ x → b ≡ y → (let p : Cell = (a, b) in p) ≡ (x, y)
+same_pair {a} {b} {x} {y} e f = ap (λ n. let p : Cell = (n, b) in p) e ∙ ap (λ n. let p : Cell = (x, n) in p) f
+
+-- cells whose two bytes are the same
+pub same_cell : (g f : ℕ → ℕ) (k q : ℕ) → ((j : ℕ) → j < 2 → g (2 * k + j) ≡ f (2 * q + j)) → cells_of_bytes g k ≡ cells_of_bytes f q
+same_cell g f k q e =
+    let zk : 2 * k + 0 ≡ 2 * k = omega arith in
+    let zq : 2 * q + 0 ≡ 2 * q = omega arith in
+    same_pair (ap g (sym zk) ∙ e 0 (omega arith) ∙ ap f zq) (e 1 (omega arith))
+
+-- and one whose bytes are those of a blank
+pub blank_cell : (g : ℕ → ℕ) (colour k : ℕ) → ((j : ℕ) → j < 2 → g (2 * k + j) ≡ (if j == 0 then 0x20 else colour)) → cells_of_bytes g k ≡ (0x20, colour)
+blank_cell g colour k e = let z : 2 * k + 0 ≡ 2 * k = omega arith in same_pair (ap g (sym z) ∙ e 0 (omega arith)) (e 1 (omega arith))

@@ -14,21 +14,22 @@ use Rattle.vga_card.specs.Cycles.{out_at}
 use Rattle.vga_card.specs.Bus.{card_meaning}
 use Rattle.bios_modes.specs.declared.modes.ModeRow.{ModeRow}
 use Rattle.bios_modes.specs.Bda.{BiosData}
+use Rattle.bios_modes.specs.Fonts.{FontSet}
 use Rattle.bios_modes.specs.Modes.{mode_row}
 use Rattle.bios_screen.specs.Bounds.{IsBda}
 use Rattle.bios_services.specs.declared.regs.Regs.{Regs}
 use Rattle.bios_services.specs.declared.call.Service.TheVariants.{SetCursorType, SetCursor, SelectPage}
-use Rattle.bios_services.specs.Plan.{Plan, run, Done, ◌>>◌}
-use Rattle.bios_services.specs.Calls.{high, low}
+use Rattle.bios_services.specs.Plan.{Plan, run, Done, ◌>>=◌, ◌>>◌}
+use Rattle.bios_services.specs.Registers.{high, low}
 use Rattle.bios_services.specs.Cycles.{crtc}
 use Rattle.bios_services.specs.ModeSet.{is_text}
-use Rattle.bios_services.specs.Cursor.{word_plan, cursor_plan, page_plan, cursor_address, start_address, place_of, with_place, with_page}
+use Rattle.bios_services.specs.Cursor.{word_plan, cursor_plan, page_plan, cursor_address, start_address, place_of, with_place, with_page, move_cursor_plan, cursor_type_plan}
 use Rattle.bios_services.specs.Refusals.{page_named, refusal_in_mode}
-use Rattle.bios_services.specs.Service.{plan_of, set_cursor_type_service, set_cursor_service, select_page_service, Outcome}
+use Rattle.bios_services.specs.Service.{plan_of, Outcome}
 use Rattle.bios_screen.specs.Shown.{crtc_registers, crtc_shown, shows_attribute, shows_data, text_screen, shown}
 use Rattle.bios_screen.specs.Step.{page_meant, refused_on, next, answer_on, with_place as placed_on}
 use Rattle.bios_screen.specs.Served.{IsServed}
-use Rattle.bios_screen.proofs.PlanLemmas.{then_runs, then_answers}
+use Rattle.bios_screen.proofs.PlanLemmas.{run_bind}
 use Rattle.bios_screen.proofs.Places.{half_start, ends_before, few_cells}
 use Rattle.bios_screen.proofs.Kept.{plan_beam}
 use Rattle.bios_screen.proofs.Setting.{Setting, setting, card_at}
@@ -173,9 +174,16 @@ page_allowed n pages h = by_test (nat_lt n pages) refl h
 
 -- ---- functions 01, 02 and 05
 
-pub set_cursor_type : (type : ℕ) (r : Regs) (c : CardState) (d : BiosData) (h : IsShown c d) → IsServed (SetCursorType type) r c d (screen_shown c d h)
-unfolding plan_of set_cursor_type_service refusal_in_mode refused_on next answer_on
-set_cursor_type type r c d h =
+-- a plan that leaves BIOS data, and after it the same registers
+abbrev pub then_data : Plan BiosData → Regs → Plan Outcome
+then_data p r = p >>= λ after. Done (r, after)
+
+pub data_runs : (p : Plan BiosData) (r : Regs) (c : CardState) → run card_meaning (then_data p r) c ≡ (let x = run card_meaning p c in let y : CardState × Outcome = (x.0, (r, x.1)) in y)
+data_runs p r c = run_bind card_meaning p (λ after. Done (r, after)) c
+
+pub set_cursor_type : (type : ℕ) (fonts : FontSet) (r : Regs) (block : List ℕ) (c : CardState) (d : BiosData) (h : IsShown c d) → IsServed (SetCursorType type) fonts r block c d (screen_shown c d h)
+unfolding plan_of cursor_type_plan refusal_in_mode refused_on next answer_on
+set_cursor_type type fonts r block c d h =
     let t = h.tests in
     let e : BiosData = record d { cursor_type = type } in
     let port = h.has.port ∙ h.text.port in
@@ -190,25 +198,32 @@ set_cursor_type type r c d h =
       beam = plan_beam (crtc d.crtc_address 0x0A (high type) >> crtc d.crtc_address 0x0B (low type)) c;
     }
 
-pub set_cursor : (page place : ℕ) (r : Regs) (c : CardState) (d : BiosData) (h : IsShown c d) → place < 65536 → IsBda d → IsServed (SetCursor page place) r c d (screen_shown c d h)
-unfolding plan_of set_cursor_service refusal_in_mode refused_on next answer_on
-set_cursor page place r c d h l bda =
+-- the cursor is moved, and its data follow
+pub moved_shown : (c : CardState) (d : BiosData) (h : IsShown c d) (p place : ℕ) → IsBda d → p < h.row.pages → place < 65536 → (let x = run card_meaning (move_cursor_plan d p place) c in shown x.0 x.1) ≡ Some (placed_on (screen_shown c d h) p place)
+unfolding move_cursor_plan
+moved_shown c d h p place bda lp l =
+    let plan = cursor_plan (with_place d p place) p in
+    let done : Plan BiosData = Done (with_place d p place) in
+    ap (λ x. shown x.0 x.1) (run_bind card_meaning plan (λ _. done) c) ∙ placed_shown c d h p place bda lp l
+
+pub set_cursor : (page place : ℕ) (fonts : FontSet) (r : Regs) (block : List ℕ) (c : CardState) (d : BiosData) (h : IsShown c d) → place < 65536 → IsBda d → IsServed (SetCursor page place) fonts r block c d (screen_shown c d h)
+unfolding plan_of refusal_in_mode refused_on next answer_on
+set_cursor page place fonts r block c d h l bda =
     let s = screen_shown c d h in
     let p = page_named d page in
     let q = page_meant s page in
     let named : p ≡ q = meant_is c d h page in
-    let plan = cursor_plan (with_place d p place) p in
-    let done : Plan Outcome = Done (r, with_place d p place) in
+    let plan = move_cursor_plan d p place in
+    let runs = data_runs plan r c in
     record {
       refusal = named_refusal_is c d h page;
-      answer = λ _. ap (λ (x : Outcome). x.0) (then_answers plan done c);
+      answer = λ _. ap (λ x. x.1.0) runs;
       shows = λ allowed.
           let lp : p < h.row.pages = let w = page_allowed q h.row.pages allowed in omega arith in
-          ap (λ x. shown x (run card_meaning (plan >> done) c).1.1) (then_runs plan done c)
-          ∙ ap (λ (x : Outcome). shown (run card_meaning plan c).0 x.1) (then_answers plan done c)
-          ∙ placed_shown c d h p place bda lp l
+          ap (λ x. shown x.0 x.1.1) runs
+          ∙ moved_shown c d h p place bda lp l
           ∙ ap (λ n. Some (placed_on s n place)) named;
-      beam = plan_beam (plan >> done) c;
+      beam = plan_beam (then_data plan r) c;
     }
 
 same_test : (n : ℕ) → (n == n) ≡ true
@@ -226,7 +241,7 @@ page_data row d page h l =
     (both_are (d.height == row.height) _ f.0 (both_are (d.crtc_address == row.crtc_address) _ g.0
     (both_are (d.size * page == d.size * page) (nat_lt page row.pages) (same_test (d.size * page)) (lt_test page row.pages l))))))
 
-pub page_shown : (c : CardState) (d : BiosData) (h : IsShown c d) (page : ℕ) → IsBda d → page < h.row.pages → shown (run card_meaning (page_plan d page) c).0 (with_page d page) ≡ Some (record (screen_shown c d h) { page = page })
+pub page_shown : (c : CardState) (d : BiosData) (h : IsShown c d) (page : ℕ) → IsBda d → page < h.row.pages → (let x = run card_meaning (page_plan d page) c in shown x.0 x.1) ≡ Some (record (screen_shown c d h) { page = page })
 unfolding page_plan
 page_shown c d h page bda lp =
     let row = h.row in
@@ -244,23 +259,21 @@ page_shown c d h page bda lp =
     let first : (run card_meaning (word_plan d.crtc_address 0x0C n) c).0 ≡ c1 =
     ap (λ q. (run card_meaning (word_plan q 0x0C n) c).0) port
     ∙ start_set h.display c row d.cursor_type (start_address d d.page) (cursor_address d d.page) n h.setting t.crtc few in
-    let runs : (run card_meaning (word_plan d.crtc_address 0x0C n >> cursor_plan e page) c).0 ≡ y =
-    then_runs (word_plan d.crtc_address 0x0C n) (cursor_plan e page) c
-    ∙ ap (λ x. (run card_meaning (cursor_plan e page) x).0) first
-    ∙ cursor_active h.display c1 row e page d.cursor_type n (cursor_address d d.page) text port h.setting refl small refl in
-    ap (λ s. shown s e) runs ∙ other_data c y d e h refl refl t.attribute (page_data row d page t.data_test lp) refl
+    let cursor : Plan BiosData = cursor_plan e page >> (let done : Plan BiosData = Done e in done) in
+    ap (λ x. shown x.0 x.1) (run_bind card_meaning (word_plan d.crtc_address 0x0C n) (λ _. cursor) c)
+    ∙ ap (λ x. let z = run card_meaning cursor x in shown z.0 z.1) first
+    ∙ ap (λ x. shown x.0 x.1) (run_bind card_meaning (cursor_plan e page) (λ _. let done : Plan BiosData = Done e in done) c1)
+    ∙ ap (λ s. shown s e) (cursor_active h.display c1 row e page d.cursor_type n (cursor_address d d.page) text port h.setting refl small refl)
+    ∙ other_data c y d e h refl refl t.attribute (page_data row d page t.data_test lp) refl
 
-pub select_page : (page : ℕ) (r : Regs) (c : CardState) (d : BiosData) (h : IsShown c d) → IsBda d → IsServed (SelectPage page) r c d (screen_shown c d h)
-unfolding plan_of select_page_service refusal_in_mode refused_on next answer_on
-select_page page r c d h bda =
+pub select_page : (page : ℕ) (fonts : FontSet) (r : Regs) (block : List ℕ) (c : CardState) (d : BiosData) (h : IsShown c d) → IsBda d → IsServed (SelectPage page) fonts r block c d (screen_shown c d h)
+unfolding plan_of refusal_in_mode refused_on next answer_on
+select_page page fonts r block c d h bda =
     let plan = page_plan d page in
-    let done : Plan Outcome = Done (r, with_page d page) in
+    let runs = data_runs plan r c in
     record {
       refusal = page_refusal_is c d h page;
-      answer = λ _. ap (λ (x : Outcome). x.0) (then_answers plan done c);
-      shows = λ allowed.
-          ap (λ x. shown x (run card_meaning (plan >> done) c).1.1) (then_runs plan done c)
-          ∙ ap (λ (x : Outcome). shown (run card_meaning plan c).0 x.1) (then_answers plan done c)
-          ∙ page_shown c d h page bda (page_allowed page h.row.pages allowed);
-      beam = plan_beam (plan >> done) c;
+      answer = λ _. ap (λ x. x.1.0) runs;
+      shows = λ allowed. ap (λ x. shown x.0 x.1.1) runs ∙ page_shown c d h page bda (page_allowed page h.row.pages allowed);
+      beam = plan_beam (then_data plan r) c;
     }

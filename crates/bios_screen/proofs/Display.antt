@@ -4,7 +4,7 @@ use Rattle.std.specs.Prelude.{◌==◌, ◌||◌}
 use Rattle.bios_modes.specs.declared.modes.ModeRow.{ModeRow}
 use Rattle.bios_modes.specs.Modes.{mode_row, colour_text, monochrome_text}
 use Rattle.bios_services.specs.ModeSet.{is_text}
-use Rattle.bios_services.specs.Cells.{text_base}
+use Rattle.bios_services.specs.Cells.{page_base}
 use Rattle.bios_screen.proofs.Setting.{Setting}
 use Rattle.bios_screen.proofs.TestLemmas.{same, some_same}
 
@@ -44,7 +44,7 @@ pub record IsTextRow (k : Display) (mode : ℕ) (row : ModeRow) : Type 0 where
   pub sequencer : row.sequencer ≡ text_sequencer
   pub graphics : row.graphics ≡ text_graphics k
   pub port : row.crtc_address ≡ port_of k
-  pub base : text_base mode ≡ base_of k
+  pub base : page_base mode ≡ base_of k
   pub crtc : length row.crtc ≡ 25
   pub columns : row.columns ≤ 80
   pub some_columns : 0 < row.columns

@@ -1,8 +1,9 @@
 -- What services do to a screen of two rows of three cells, computed.
-use Rattle.std.proofs.Common.{◌≡◌, ℕ, refl, List, [], ◌∷◌, Some, None, true}
-use Rattle.vga_bits.specs.declared.refusal.Refusal.TheVariants.{BadPage, Outside, CountPast}
+use Rattle.std.proofs.Common.{◌≡◌, ℕ, refl, List, [], ◌∷◌, Some, None, Bool, true, false}
+use Rattle.vga_bits.specs.declared.refusal.Refusal.TheVariants.{WrongKind, BadPage, Outside, CountPast, BadBlock}
+use Rattle.bios_services.specs.declared.cell_run.CellRun.{CellRun}
 use Rattle.bios_services.specs.declared.call.Service.{Service}
-use Rattle.bios_services.specs.declared.call.Service.TheVariants.{SetCursor, SelectPage, ScrollUp, ScrollDown, WriteCells, Teletype}
+use Rattle.bios_services.specs.declared.call.Service.TheVariants.{SetCursor, SelectPage, ScrollUp, ScrollDown, WriteCells, WritePixel, Teletype, WriteString}
 use Rattle.bios_screen.specs.Screen.{Cell, Cells, Screen}
 use Rattle.bios_screen.specs.Step.{refused_on, next, typed, cells_on}
 
@@ -26,20 +27,24 @@ small cells place = record {
 abbrev six : List Cell
 six = (1, 11) ∷ (2, 12) ∷ (3, 13) ∷ (4, 14) ∷ (5, 15) ∷ (6, 16) ∷ (7, 17) ∷ (8, 18) ∷ []
 
+-- so many cells of a character in this colour, which is an attribute or is not
+abbrev run : ℕ → ℕ → Bool → ℕ → CellRun
+run character colour is_attribute count = record { page = 0; character = character; ink = record { colour = colour; is_attribute = is_attribute }; count = count }
+
 abbrev after : Screen → Service → List Cell
-after s service = cells_on (next s service).contents
+after s service = cells_on (next s service []).contents
 
 -- 09 writes the attribute too, and 0A does not
-coloured_write : after (small six 1) (WriteCells 0 65 (Some 30) 2) ≡ (1, 11) ∷ (65, 30) ∷ (65, 30) ∷ (4, 14) ∷ (5, 15) ∷ (6, 16) ∷ (7, 17) ∷ (8, 18) ∷ []
+coloured_write : after (small six 1) (WriteCells (run 65 30 true 2)) ≡ (1, 11) ∷ (65, 30) ∷ (65, 30) ∷ (4, 14) ∷ (5, 15) ∷ (6, 16) ∷ (7, 17) ∷ (8, 18) ∷ []
 unfolding next
 coloured_write = refl
 
-plain_write : after (small six 256) (WriteCells 0 65 None 3) ≡ (1, 11) ∷ (2, 12) ∷ (3, 13) ∷ (65, 14) ∷ (65, 15) ∷ (65, 16) ∷ (7, 17) ∷ (8, 18) ∷ []
+plain_write : after (small six 256) (WriteCells (run 65 30 false 3)) ≡ (1, 11) ∷ (2, 12) ∷ (3, 13) ∷ (65, 14) ∷ (65, 15) ∷ (65, 16) ∷ (7, 17) ∷ (8, 18) ∷ []
 unfolding next
 plain_write = refl
 
 -- four cells from the second row on are past the page's last
-long_write : refused_on (small six 256) (WriteCells 0 65 None 4) ≡ Some CountPast
+long_write : refused_on (small six 256) (WriteCells (run 65 30 false 4)) 0 ≡ Some CountPast
 unfolding refused_on
 long_write = refl
 
@@ -63,36 +68,60 @@ unfolding next
 no_window = refl
 
 -- a character in the last cell is written before the page goes up, with the attribute of its column
-last_cell : next (small six 258) (Teletype 65) ≡ small ((4, 14) ∷ (5, 15) ∷ (65, 16) ∷ (0x20, 16) ∷ (0x20, 16) ∷ (0x20, 16) ∷ (7, 17) ∷ (8, 18) ∷ []) 256
+last_cell : next (small six 258) (Teletype 65 9) [] ≡ small ((4, 14) ∷ (5, 15) ∷ (65, 16) ∷ (0x20, 16) ∷ (0x20, 16) ∷ (0x20, 16) ∷ (7, 17) ∷ (8, 18) ∷ []) 256
 unfolding next typed
 last_cell = refl
 
 -- a bell, a backspace, a line feed and a carriage return
-pub bell : next (small six 258) (Teletype 0x07) ≡ small six 258
+pub bell : next (small six 258) (Teletype 0x07 9) [] ≡ small six 258
 unfolding next typed
 bell = refl
 
-backspace : next (small six 258) (Teletype 0x08) ≡ small six 257
+backspace : next (small six 258) (Teletype 0x08 9) [] ≡ small six 257
 unfolding next typed
 backspace = refl
 
-line_feed : next (small six 1) (Teletype 0x0A) ≡ small six 257
+line_feed : next (small six 1) (Teletype 0x0A 9) [] ≡ small six 257
 unfolding next typed
 line_feed = refl
 
-carriage_return : next (small six 258) (Teletype 0x0D) ≡ small six 256
+carriage_return : next (small six 258) (Teletype 0x0D 9) [] ≡ small six 256
 unfolding next typed
 carriage_return = refl
 
 -- with one page every page that is named is meant, but another page can't be shown
-page_named : refused_on (small six 0) (SetCursor 5 0) ≡ None
+page_named : refused_on (small six 0) (SetCursor 5 0) 0 ≡ None
 unfolding refused_on
 page_named = refl
 
-page_shown : refused_on (small six 0) (SelectPage 1) ≡ Some BadPage
+page_shown : refused_on (small six 0) (SelectPage 1) 0 ≡ Some BadPage
 unfolding refused_on
 page_shown = refl
 
-typed_outside : refused_on (small six 3) (Teletype 65) ≡ Some Outside
+typed_outside : refused_on (small six 3) (Teletype 65 9) 0 ≡ Some Outside
 unfolding refused_on
 typed_outside = refl
+
+-- a string with attributes over the end of a row, which moves the cursor or leaves it
+abbrev string : Bool → Service
+string moves = WriteString (record { page = 0; place = 2; colour = 0; count = 2; has_attributes = true; moves_cursor = moves })
+
+abbrev two : List ℕ
+two = 65 ∷ 30 ∷ 66 ∷ 31 ∷ []
+
+string_moved : next (small six 0) (string true) two ≡ small ((1, 11) ∷ (2, 12) ∷ (65, 30) ∷ (66, 31) ∷ (5, 15) ∷ (6, 16) ∷ (7, 17) ∷ (8, 18) ∷ []) 257
+unfolding next typed
+string_moved = refl
+
+string_left : next (small six 0) (string false) two ≡ small ((1, 11) ∷ (2, 12) ∷ (65, 30) ∷ (66, 31) ∷ (5, 15) ∷ (6, 16) ∷ (7, 17) ∷ (8, 18) ∷ []) 0
+unfolding next typed
+string_left = refl
+
+short_block : refused_on (small six 0) (string true) 3 ≡ Some BadBlock
+unfolding refused_on
+short_block = refl
+
+-- text has no dots
+no_dots : refused_on (small six 0) (WritePixel 0 0 0 1) 0 ≡ Some WrongKind
+unfolding refused_on
+no_dots = refl

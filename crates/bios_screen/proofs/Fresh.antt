@@ -24,7 +24,7 @@ use Rattle.bios_services.specs.ModeSet.{registers_plan, colour_plan, palette_pla
 use Rattle.bios_screen.specs.Screen.{Cell, Screen}
 use Rattle.bios_screen.specs.Shown.{cell_in, cells_in, glyph_byte, glyphs_in, shows_text, screen_with, text_screen, all_cells, shown, shown_by}
 use Rattle.bios_screen.specs.Fresh.{blank_cells, default_component, font_bytes, fresh_screen}
-use Rattle.bios_screen.specs.Served.{IsFont, SetsFresh}
+use Rattle.bios_screen.specs.Served.{AreBytes, SetsFresh}
 use Rattle.bios_screen.proofs.Flat.{Edited, Turn, Leaves, set_cell}
 use Rattle.bios_screen.proofs.PlanLemmas.{then_runs, then_answers}
 use Rattle.bios_screen.proofs.Edits.{one_edit, edits}
@@ -165,7 +165,7 @@ record FreshState (disp : Display) (font : List ℕ) (c s : CardState) : Type 0 
   glyphs : glyphs_in plane2 4096 ≡ font_bytes font 4096
   cells : cells_in s.host.memory.plane0 s.host.memory.plane1 all_cells ≡ blank_cells all_cells
 
-fresh_state : (disp : Display) (law : KeepsBounds) (c : CardState) (fonts : FontSet) → IsCard c → IsFont fonts.f16 → FreshState disp fonts.f16 c (run card_meaning (mode_set_plan (number_of disp) (row_of disp) false fonts) c).0
+fresh_state : (disp : Display) (law : KeepsBounds) (c : CardState) (fonts : FontSet) → IsCard c → AreBytes fonts.f16 → FreshState disp fonts.f16 c (run card_meaning (mode_set_plan (number_of disp) (row_of disp) false fonts) c).0
 unfolding mode_set_plan
 fresh_state disp law c fonts z small =
     let mode = number_of disp in
@@ -234,7 +234,7 @@ fresh_state disp law c fonts z small =
     } in
     subst (FreshState disp font c) (sym whole) state
 
-pub mode_shown : (disp : Display) (law : KeepsBounds) (c : CardState) (fonts : FontSet) → IsCard c → IsFont fonts.f16 → shown (run card_meaning (mode_set_plan (number_of disp) (row_of disp) false fonts) c).0 (data_of_mode (number_of disp) (row_of disp)) ≡ Some (fresh_screen (number_of disp) (row_of disp) fonts.f16 c.crtc.beam.frame)
+pub mode_shown : (disp : Display) (law : KeepsBounds) (c : CardState) (fonts : FontSet) → IsCard c → AreBytes fonts.f16 → shown (run card_meaning (mode_set_plan (number_of disp) (row_of disp) false fonts) c).0 (data_of_mode (number_of disp) (row_of disp)) ≡ Some (fresh_screen (number_of disp) (row_of disp) fonts.f16 c.crtc.beam.frame)
 mode_shown disp law c fonts z small =
     let mode = number_of disp in
     let row = row_of disp in
@@ -256,10 +256,10 @@ mode_shown disp law c fonts z small =
     ∙ ap (λ k. let x : Screen = record new { glyphs = k } in Some x) t.glyphs
 
 -- the call's plan is the mode's
-call_is : (disp : Display) (fonts : FontSet) (r : Regs) (d : BiosData) (c : CardState) → run card_meaning (asked (Some (SetMode (number_of disp) false)) fonts d r) c ≡ run card_meaning (mode_set_plan (number_of disp) (row_of disp) false fonts >> (let q : Plan Answered = Done (answered r (data_of_mode (number_of disp) (row_of disp))) in q)) c
+call_is : (disp : Display) (fonts : FontSet) (r : Regs) (block : List ℕ) (d : BiosData) (c : CardState) → run card_meaning (asked (Some (SetMode (number_of disp) false)) fonts d r block) c ≡ run card_meaning (mode_set_plan (number_of disp) (row_of disp) false fonts >> (let q : Plan Answered = Done (answered r (data_of_mode (number_of disp) (row_of disp))) in q)) c
 unfolding set_mode_plan
-call_is Colour fonts r d c = refl
-call_is Monochrome fonts r d c = refl
+call_is Colour fonts r block d c = refl
+call_is Monochrome fonts r block d c = refl
 
 pub sets_fresh : (disp : Display) (law : KeepsBounds) → SetsFresh (number_of disp) (row_of disp)
 sets_fresh disp law fonts r block c d z small e =
@@ -267,7 +267,7 @@ sets_fresh disp law fonts r block c d z small e =
     let row = row_of disp in
     let plan = mode_set_plan mode row false fonts in
     let done : Plan Answered = Done (answered r (data_of_mode mode row)) in
-    let runs : run card_meaning (whole_service fonts d r block) c ≡ run card_meaning (plan >> done) c = ap (λ (x : Option Call). run card_meaning (asked x fonts d r) c) e ∙ call_is disp fonts r d c in
+    let runs : run card_meaning (whole_service fonts d r block) c ≡ run card_meaning (plan >> done) c = ap (λ (x : Option Call). run card_meaning (asked x fonts d r block) c) e ∙ call_is disp fonts r block d c in
     record {
       answer = ap (λ x. x.1.0) runs ∙ ap (λ (x : Answered). x.0) (then_answers plan done c);
       shows = ap (λ x. shown x.0 x.1.1) runs

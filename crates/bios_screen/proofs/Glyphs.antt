@@ -15,7 +15,7 @@ use Rattle.vga_card.specs.Card.{CardState}
 use Rattle.bios_modes.specs.Fonts.{glyph_row}
 use Rattle.bios_services.specs.Plan.{run, put}
 use Rattle.bios_services.specs.ModeSet.{glyph_plan, glyphs_plan}
-use Rattle.bios_screen.specs.Served.{IsFont}
+use Rattle.bios_screen.specs.Served.{AreBytes}
 use Rattle.bios_screen.proofs.Flat.{Edited, Turn, Leaves, set_cell, set_same, set_other}
 use Rattle.bios_screen.proofs.Edits.{one_edit, edits}
 use Rattle.bios_screen.proofs.Setting.{Setting, setting, host_at, with_memory, put_decoded}
@@ -69,7 +69,7 @@ glyph_put disp rest c g a v l h t =
     (sym (put_decoded c (glyph_setting disp) (0xA0000 + a) v t.mode (glyph_decoded disp c.host a l) ∙ ap (λ o. with_memory c (memory_after_put (host_at c.host (glyph_setting disp)) o v)) (glyph_window disp c.host a l) ∙ ap (with_memory c) (glyph_memory disp c.host a v h)))
     still
 
-glyph_loaded : (disp : Display) (rest c : CardState) (g : ℕ → ℕ) (font : List ℕ) (ch : ℕ) → ch < 256 → IsFont font → IsLoading disp rest c g → Leaves CardState ℕ (IsLoading disp rest) (run card_meaning (glyph_plan font ch) c).0 (Edited ℕ (Turn (λ _. Unit {0}) 0 16) (λ h. 32 * ch + h.turn) (λ h x. glyph_row 16 font ch h.turn) g)
+glyph_loaded : (disp : Display) (rest c : CardState) (g : ℕ → ℕ) (font : List ℕ) (ch : ℕ) → ch < 256 → AreBytes font → IsLoading disp rest c g → Leaves CardState ℕ (IsLoading disp rest) (run card_meaning (glyph_plan font ch) c).0 (Edited ℕ (Turn (λ _. Unit {0}) 0 16) (λ h. 32 * ch + h.turn) (λ h x. glyph_row 16 font ch h.turn) g)
 unfolding glyph_plan
 glyph_loaded disp rest c g font ch lc small t =
     edits CardState ℕ card_meaning (λ r. put (0xA0000 + 32 * ch + r) (glyph_row 16 font ch r)) (λ _. IsLoading disp rest) 0 16 (λ _. Unit {0}) (λ r _. 32 * ch + r) (λ r _ x. glyph_row 16 font ch r)
@@ -84,7 +84,7 @@ glyph_loaded disp rest c g font ch lc small t =
     })
     16 0 c g (omega arith) (omega arith) t
 
-pub glyphs_loaded : (disp : Display) (rest c : CardState) (g : ℕ → ℕ) (font : List ℕ) (characters : ℕ) → characters ≤ 256 → IsFont font → IsLoading disp rest c g → Leaves CardState ℕ (IsLoading disp rest) (run card_meaning (glyphs_plan font characters) c).0 (Edited ℕ (Turn (λ _. Turn (λ _. Unit {0}) 0 16) 0 characters) (λ h. 32 * h.turn + h.place.turn) (λ h x. glyph_row 16 font h.turn h.place.turn) g)
+pub glyphs_loaded : (disp : Display) (rest c : CardState) (g : ℕ → ℕ) (font : List ℕ) (characters : ℕ) → characters ≤ 256 → AreBytes font → IsLoading disp rest c g → Leaves CardState ℕ (IsLoading disp rest) (run card_meaning (glyphs_plan font characters) c).0 (Edited ℕ (Turn (λ _. Turn (λ _. Unit {0}) 0 16) 0 characters) (λ h. 32 * h.turn + h.place.turn) (λ h x. glyph_row 16 font h.turn h.place.turn) g)
 unfolding glyphs_plan
 glyphs_loaded disp rest c g font characters lc small t =
     edits CardState ℕ card_meaning (glyph_plan font) (λ _. IsLoading disp rest) 0 characters (λ _. Turn (λ _. Unit {0}) 0 16) (λ ch h. 32 * ch + h.turn) (λ ch h x. glyph_row 16 font ch h.turn)

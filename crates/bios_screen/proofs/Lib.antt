@@ -16,10 +16,11 @@ pub mod Renewed
 pub mod Readers
 pub mod Cursors
 pub mod Writes
-pub mod Scroll
+pub mod Bands
 pub mod Windows
 pub mod Typing
 pub mod Teletypes
+pub mod Strings
 pub mod ModeRegisters
 pub mod Entries
 pub mod Glyphs

@@ -7,7 +7,10 @@ use Rattle.vga_card.specs.Card.{CardState}
 use Rattle.bios_modes.specs.declared.modes.ModeRow.{ModeRow}
 use Rattle.bios_modes.specs.Modes.{mode_row}
 use Rattle.bios_modes.specs.Bda.{BiosData}
+use Rattle.bios_services.specs.declared.kind.Kind.{Kind}
+use Rattle.bios_services.specs.declared.kind.Kind.TheVariants.{Text, Planar, Packed}
 use Rattle.bios_services.specs.ModeSet.{is_text}
+use Rattle.bios_services.specs.Kinds.{kind_of}
 use Rattle.bios_screen.specs.Screen.{Screen}
 use Rattle.bios_screen.specs.Shown.{shows_memory, crtc_shown, shows_attribute, shows_data, shows_text, text_screen, shown_by, shown}
 use Rattle.bios_screen.proofs.TestLemmas.{both_true, if_some, none_some, same, lt_is}
@@ -110,3 +113,7 @@ shown_is c d s h = by_row (mode_row d.mode) refl h
 -- and back
 pub shown_of : (c : CardState) (d : BiosData) (row : ModeRow) → mode_row d.mode ≡ Some row → Tests row c d → shown c d ≡ Some (text_screen row c d)
 shown_of c d row e t = ap (λ x. shown_by x c d) e ∙ ap (λ b. if b then Some (text_screen row c d) else None) (test_of row c d t)
+
+-- the mode uses the memory for text
+pub kind_is : (c : CardState) (d : BiosData) → IsShown c d → kind_of d.mode ≡ Text
+kind_is c d h = ap (λ b. let k : Kind = (if b then Text else if d.mode == 0x13 then Packed else Planar) in k) h.tests.is_text

@@ -1,13 +1,12 @@
 -- The dot at a place of a text screen's frame is the screen's.
-use Rattle.std.proofs.Common.{◌≡◌, ℕ, zero, suc, ◌+◌, ◌-◌, ◌*◌, ◌/◌, ◌%◌, ◌<◌, refl, sym, ap, ◌∙◌, arith, Bool, true, false, List, [], ◌∷◌}
+use Rattle.std.proofs.Common.{◌≡◌, ℕ, ◌+◌, ◌-◌, ◌*◌, ◌/◌, ◌%◌, ◌<◌, refl, sym, ap, ◌∙◌, arith, Bool, true, false, List, [], ◌∷◌}
 use Rattle.std.specs.Prelude.{nat_lt, nat_le, not, if◌then◌else◌, ◌==◌, ◌&&◌, slice_index, bit_and, drop, take}
 use Rattle.std.specs.Int.{bit_at}
 use Rattle.std.specs.Str.{bytes_eq}
 use Rattle.std.proofs.lemmas.Slice.Eq.{bytes_eq-Decides}
 use Rattle.std.proofs.lemmas.Nat.{and_mask}
-use Rattle.std.proofs.lemmas.Nat.Bits.{bit_at-lt}
 use Rattle.vga_bits.specs.Bits.{is_set, field}
-use Rattle.vga_bits.proofs.BitLemmas.{bit_at_both}
+use Rattle.vga_bits.proofs.BitLemmas.{is_set_and}
 use Rattle.vga_planes.specs.Planes.{byte_at}
 use Rattle.vga_host.specs.Fields.{is_eight_dots, character_width as host_width, is_screen_off, character_map_a, character_map_b, is_graphics, is_256_colours}
 use Rattle.vga_crtc.specs.declared.beam.Beam.{Beam}
@@ -27,7 +26,7 @@ use Rattle.vga_card.specs.Bounds.{IsCard}
 use Rattle.vga_card.specs.Card.{CardState}
 use Rattle.bios_modes.specs.declared.modes.ModeRow.{ModeRow}
 use Rattle.bios_modes.specs.Bda.{BiosData}
-use Rattle.bios_services.specs.Calls.{high, low}
+use Rattle.bios_services.specs.Registers.{high, low}
 use Rattle.bios_services.specs.Cursor.{cursor_address, start_address, cell_number, place_of}
 use Rattle.bios_screen.specs.Screen.{Cell, Screen, cursor_cell}
 use Rattle.bios_screen.specs.Shown.{cell_in, glyph_byte, glyphs_in, all_cells}
@@ -83,27 +82,12 @@ select_by Colour = refl
 select_by Monochrome = refl
 
 -- a bit of mode control
-bit_of : (b : ℕ) → b < 2 → b ≡ (if b == 1 then 1 else 0)
-bit_of zero l = refl
-bit_of (suc zero) l = refl
-bit_of (suc (suc b)) l = absurd (omega arith)
-
-test_of_bit : (b v : Bool) → (let x : ℕ = (if b then 1 else 0) in x) ≡ (if v then 1 else 0) → b ≡ v
-test_of_bit true true h = refl
-test_of_bit false false h = refl
-test_of_bit true false h = absurd (omega arith)
-test_of_bit false true h = absurd (omega arith)
-
 off_right : (b : Bool) → (b && true) ≡ b
 off_right true = refl
 off_right false = refl
 
-control_bit : (v n i : ℕ) → bit_and v 0xF7 ≡ n → bit_at 0xF7 i ≡ 1 → is_set v i ≡ is_set n i
-control_bit v n i e one =
-    let both : bit_at (bit_and v 0xF7) i ≡ (if is_set v i && true then 1 else 0) = bit_at_both v 0xF7 i (is_set v i) true (bit_of (bit_at v i) (bit_at-lt v i)) one in
-    let left : (let x : ℕ = (if is_set v i then 1 else 0) in x) ≡ (if is_set n i then 1 else 0) =
-    ap (λ b. let x : ℕ = (if b then 1 else 0) in x) (sym (off_right (is_set v i))) ∙ sym both ∙ ap (λ m. bit_at m i) e ∙ bit_of (bit_at n i) (bit_at-lt n i) in
-    test_of_bit (is_set v i) (is_set n i) left
+control_bit : (v n i : ℕ) → bit_and v 0xF7 ≡ n → is_set 0xF7 i ≡ true → is_set v i ≡ is_set n i
+control_bit v n i e one = sym (off_right (is_set v i)) ∙ ap (λ b. is_set v i && b) (sym one) ∙ sym (is_set_and v 0xF7 i) ∙ ap (λ m. is_set m i) e
 
 -- ---- numbers
 

@@ -1,6 +1,6 @@
 -- Typing a character: from a state that shows a screen to one that shows the next, plan after plan.
 use Rattle.std.proofs.Common.{◌≡◌, ◌≢◌, ℕ, ◌+◌, ◌-◌, ◌*◌, ◌<◌, ◌≤◌, ⊎_elim, refl, sym, ap, ◌∙◌, subst, arith, Option, Some, Bool, true, false}
-use Rattle.std.specs.Prelude.{◌==◌, ◌&&◌, ◌||◌, nat_lt, nat_le, if◌then◌else◌, IfSome}
+use Rattle.std.specs.Prelude.{◌==◌, ◌&&◌, ◌||◌, nat_lt, nat_le, if◌then◌else◌}
 use Rattle.std.proofs.lemmas.Bool.{cases_lt, cases_eq}
 use Rattle.vga_card.specs.Bounds.{IsCard}
 use Rattle.vga_card.specs.Bus.{card_meaning}
@@ -10,9 +10,13 @@ use Rattle.bios_modes.specs.Modes.{mode_row}
 use Rattle.bios_modes.specs.Bda.{BiosData}
 use Rattle.bios_services.specs.Plan.{Plan, run, Done, get, ◌>>=◌, ◌>>◌}
 use Rattle.bios_services.specs.Cursor.{row_of, column_of, cell_number}
+use Rattle.bios_modes.specs.Fonts.{FontSet}
+use Rattle.bios_services.specs.declared.ink.Ink.{Ink}
 use Rattle.bios_services.specs.Cells.{cell_address, write_cell_plan}
-use Rattle.bios_services.specs.Scroll.{band_of, up_plan, height_of, lines_of}
-use Rattle.bios_services.specs.Teletype.{line_start, feed_plan, advance_plan, show_plan, type_plan}
+use Rattle.bios_services.specs.Bands.{band_of, up_plan}
+use Rattle.bios_services.specs.Drawing.{character_by, character_plan}
+use Rattle.bios_services.specs.Scroll.{height_of, lines_of}
+use Rattle.bios_services.specs.Teletype.{line_start, fill_of_feed, feed_plan, advance_plan, show_plan, type_plan}
 use Rattle.bios_screen.specs.Screen.{Cell, Screen, page_start}
 use Rattle.bios_screen.specs.Shown.{cell_in, all_cells, shown}
 use Rattle.bios_screen.specs.Step.{character_over, written, gone_up, whole_page, last_colour, fed, advanced, put_on, typed, with_cells, cell_on}
@@ -23,7 +27,7 @@ use Rattle.bios_screen.proofs.Kept.{KeepsBounds, plan_bounds}
 use Rattle.bios_screen.proofs.Text.{without_text}
 use Rattle.bios_screen.proofs.Cells.{has_cells, cell_written, attribute_get, attribute_small}
 use Rattle.bios_screen.proofs.TestLemmas.{not_lt}
-use Rattle.bios_screen.proofs.Shows.{IsShown, screen_shown, shown_is, shown_of}
+use Rattle.bios_screen.proofs.Shows.{IsShown, screen_shown, shown_is, shown_of, kind_is}
 use Rattle.bios_screen.proofs.Renewed.{cells_at, renewed_shown, same_shown}
 use Rattle.bios_screen.proofs.Writes.{lies, address_is, inside_test, before_test, behind_test}
 use Rattle.bios_screen.proofs.Windows.{page_fits, up_shown}
@@ -104,10 +108,18 @@ module _ (law : KeepsBounds) (d : BiosData) (p place : ℕ) where
               ∙ up;
         }
 
+    -- in text a new row takes the attribute that is read
+    fill_is : fill_of_feed d p place ≡ get (cell_address d p (d.columns * d.last_row + column_of place) + 1)
+    unfolding fill_of_feed
+    fill_is = ap (λ b. let x : Plan ℕ = (if b then get (cell_address d p (d.columns * d.last_row + column_of place) + 1) else Done 0) in x) h.tests.is_text
+
     pub feeds : Leads (feed_plan d p place) c d (fed s p place).0 (fed s p place).1
     unfolding feed_plan
-    feeds = by_test (nat_lt (row_of place) d.last_row) refl
+    feeds = subst (λ q. Leads (if nat_lt (row_of place) d.last_row then Done (place + 256) else (q >>= up)) c d (fed s p place).0 (fed s p place).1) (sym fill_is) (by_test (nat_lt (row_of place) d.last_row) refl)
       where
+        up : ℕ → Plan ℕ
+        up colour = up_plan (band_of d p 0 (d.columns - 1)) 0 (d.last_row + 1) 1 colour >> Done place
+
         last_is : d.last_row + 1 - 1 ≡ d.last_row
         last_is = omega arith
 
@@ -160,21 +172,21 @@ module _ (law : KeepsBounds) (d : BiosData) (p place : ℕ) where
 
 -- ---- a character
 
-one_written : (first v : ℕ) (colour : Option ℕ) (f old : ℕ → Cell) (k : ℕ) → old k ≡ f k → set_cell f first (character_over v colour (f first)) k ≡ written first 1 v colour old k
-one_written first v colour f old k same = ⊎_elim
+one_written : (first v : ℕ) (ink : Ink) (f old : ℕ → Cell) (k : ℕ) → old k ≡ f k → set_cell f first (character_over v ink (f first)) k ≡ written first 1 v ink old k
+one_written first v ink f old k same = ⊎_elim
     (λ (e : k ≡ first).
-    set_same f first (character_over v colour (f first)) k e ∙ ap (λ n. character_over v colour (f n)) (sym e) ∙ ap (character_over v colour) (sym same)
-    ∙ ap (λ b. if b then character_over v colour (old k) else old k) (sym (inside_test first k 1 (omega arith) (omega arith))))
+    set_same f first (character_over v ink (f first)) k e ∙ ap (λ n. character_over v ink (f n)) (sym e) ∙ ap (character_over v ink) (sym same)
+    ∙ ap (λ b. if b then character_over v ink (old k) else old k) (sym (inside_test first k 1 (omega arith) (omega arith))))
     (λ (n : k ≢ first). ⊎_elim
     (λ (l : k < first). other n (before_test first k 1 l))
     (λ (l : first ≤ k). other n (behind_test first k 1 (omega arith)))
     (cases_lt k first))
     (cases_eq k first)
   where
-    other : k ≢ first → (nat_le first k && nat_lt k (first + 1)) ≡ false → set_cell f first (character_over v colour (f first)) k ≡ written first 1 v colour old k
-    other n t = set_other f first (character_over v colour (f first)) k n ∙ sym same ∙ ap (λ b. if b then character_over v colour (old k) else old k) (sym t)
+    other : k ≢ first → (nat_le first k && nat_lt k (first + 1)) ≡ false → set_cell f first (character_over v ink (f first)) k ≡ written first 1 v ink old k
+    other n t = set_other f first (character_over v ink (f first)) k n ∙ sym same ∙ ap (λ b. if b then character_over v ink (old k) else old k) (sym t)
 
-module _ (law : KeepsBounds) (d : BiosData) (p place v : ℕ) (colour : Option ℕ) (lv : v < 256) (la : IfSome colour (λ a. a < 256)) (c : CardState) (h : IsShown c d) (z : IsCard c) (lp : p < h.row.pages) (lr : row_of place < d.last_row + 1) (lc : column_of place < d.columns) where
+module _ (law : KeepsBounds) (fonts : FontSet) (d : BiosData) (p place v : ℕ) (ink : Ink) (lv : v < 256) (la : ink.colour < 256) (c : CardState) (h : IsShown c d) (z : IsCard c) (lp : p < h.row.pages) (lr : row_of place < d.last_row + 1) (lc : column_of place < d.columns) where
   abbrev old : Screen
   old = screen_shown c d h
 
@@ -184,32 +196,38 @@ module _ (law : KeepsBounds) (d : BiosData) (p place v : ℕ) (colour : Option �
   first_within : first < 16384
   first_within = let a = ends_before d.columns (row_of place) (d.last_row + 1) lr in let b = page_fits c d h p lp (whole_page old 0) in omega arith
 
-  pub is_put : shown (run card_meaning (write_cell_plan (cell_address d p (cell_number d place)) v colour) c).0 d ≡ Some (put_on old p place v colour)
+  pub is_put : shown (run card_meaning (write_cell_plan (cell_address d p (cell_number d place)) v ink) c).0 d ≡ Some (put_on old p place v ink)
   is_put =
       let m = c.host.memory in
       let f = cell_in m.plane0 m.plane1 in
       let at = cell_address d p (cell_number d place) in
-      let y = (run card_meaning (write_cell_plan at v colour) c).0 in
-      let done = cell_written h.display (without_text c) c f at first v colour (address_is d h.display h.row.pages p (cell_number d place) (lies c d h)) first_within lv la (has_cells h.display c h.setting z.host) in
-      renewed_shown h.display (without_text c) c y d h (written first 1 v colour) (set_cell f first (character_over v colour (f first))) done.is.others done
-      (λ k l. one_written first v colour f (cell_on old) k (cells_at m.plane0 m.plane1 all_cells k l))
+      let y = (run card_meaning (write_cell_plan at v ink) c).0 in
+      let done = cell_written h.display (without_text c) c f at first v ink (address_is d h.display h.row.pages p (cell_number d place) (lies c d h)) first_within lv la (has_cells h.display c h.setting z.host) in
+      renewed_shown h.display (without_text c) c y d h (written first 1 v ink) (set_cell f first (character_over v ink (f first))) done.is.others done
+      (λ k l. one_written first v ink f (cell_on old) k (cells_at m.plane0 m.plane1 all_cells k l))
 
-  pub is_shown : Leads (show_plan d p place v colour) c d (advanced (put_on old p place v colour) p place).0 (advanced (put_on old p place v colour) p place).1
+  -- in text the plan of a character is that of its cell
+  character_is : character_plan fonts d p (cell_number d place) v ink ≡ write_cell_plan (cell_address d p (cell_number d place)) v ink
+  unfolding character_by
+  character_is = ap (λ k. character_by k fonts d p (cell_number d place) v ink) (kind_is c d h)
+
+  pub is_shown : Leads (show_plan fonts d p place v ink) c d (advanced (put_on old p place v ink) p place).0 (advanced (put_on old p place v ink) p place).1
   unfolding show_plan
   is_shown =
-      let write = write_cell_plan (cell_address d p (cell_number d place)) v colour in
+      let write = write_cell_plan (cell_address d p (cell_number d place)) v ink in
       let c1 = (run card_meaning write c).0 in
-      let x = shown_is c1 d (put_on old p place v colour) is_put in
+      let x = shown_is c1 d (put_on old p place v ink) is_put in
       let next = advances law d p place c1 x.is (plan_bounds law write c z) (page_again c c1 d h x.is p lp) lc in
-      let moved : Leads (advance_plan d p place) c1 d (advanced (put_on old p place v colour) p place).0 (advanced (put_on old p place v colour) p place).1 =
+      let moved : Leads (advance_plan d p place) c1 d (advanced (put_on old p place v ink) p place).0 (advanced (put_on old p place v ink) p place).1 =
       subst (λ (w : Screen). Leads (advance_plan d p place) c1 d (advanced w p place).0 (advanced w p place).1) x.screen next in
-      record {
+      let whole : Leads (write >> advance_plan d p place) c d (advanced (put_on old p place v ink) p place).0 (advanced (put_on old p place v ink) p place).1 = record {
         answer = then_answers write (advance_plan d p place) c ∙ moved.answer;
         shows = ap (λ y. shown y d) (then_runs write (advance_plan d p place) c) ∙ moved.shows;
-      }
+      } in
+      subst (λ (q : Plan (Unit {0})). Leads (q >> advance_plan d p place) c d (advanced (put_on old p place v ink) p place).0 (advanced (put_on old p place v ink) p place).1) (sym character_is) whole
 
   -- what is typed, and where the cursor is then
-  pub is_typed : Leads (type_plan d p place v colour) c d (typed old p place v colour).0 (typed old p place v colour).1
+  pub is_typed : Leads (type_plan fonts d p place v ink) c d (typed old p place v ink).0 (typed old p place v ink).1
   unfolding type_plan typed
   is_typed = by_tests (v == 0x07) (v == 0x08) (v == 0x0A) (v == 0x0D)
     where
@@ -220,10 +238,10 @@ module _ (law : KeepsBounds) (d : BiosData) (p place v : ℕ) (colour : Option �
       back = if column_of place == 0 then place else place - 1
 
       shows : Plan ℕ
-      shows = show_plan d p place v colour
+      shows = show_plan fonts d p place v ink
 
       on : Screen × ℕ
-      on = advanced (put_on old p place v colour) p place
+      on = advanced (put_on old p place v ink) p place
 
       by_tests : (a b e f : Bool) → Leads (if a then Done place else if b then Done back else if e then feed_plan d p place else if f then Done (line_start place) else shows) c d (let x : Screen × ℕ = (if a then (old, place) else if b then (old, back) else if e then fed old p place else if f then (old, line_start place) else on) in x.0) (let x : Screen × ℕ = (if a then (old, place) else if b then (old, back) else if e then fed old p place else if f then (old, line_start place) else on) in x.1)
       by_tests true b e f = record { answer = refl; shows = stays }

@@ -1,29 +1,36 @@
 -- Reading the cell at the cursor, and writing cells from it on.
-use Rattle.std.proofs.Common.{◌≡◌, ◌≢◌, ℕ, ◌+◌, ◌-◌, ◌*◌, ◌/◌, ◌<◌, ◌≤◌, ⊎_elim, refl, sym, ap, ◌∙◌, arith, Option, Some, None, Bool, true, false}
-use Rattle.std.specs.Prelude.{◌&&◌, nat_lt, nat_le, if◌then◌else◌, IfSome}
+use Rattle.std.proofs.Common.{◌≡◌, ◌≢◌, ℕ, ◌+◌, ◌-◌, ◌*◌, ◌/◌, ◌<◌, ◌≤◌, ⊎_elim, refl, sym, ap, ◌∙◌, arith, List, Option, Some, None, Bool, true, false}
+use Rattle.std.specs.Prelude.{◌&&◌, nat_lt, nat_le, if◌then◌else◌}
 use Rattle.std.proofs.lemmas.Bool.{cases_lt}
 use Rattle.std.proofs.lemmas.Bool.Decides.{nat_tests}
 use Rattle.vga_bits.specs.declared.refusal.Refusal.{Refusal}
-use Rattle.vga_bits.specs.declared.refusal.Refusal.TheVariants.{BadPage, Outside, CountPast, BadFunction}
+use Rattle.vga_bits.specs.declared.refusal.Refusal.TheVariants.{BadPage, Outside, CountPast}
 use Rattle.vga_card.specs.Bounds.{IsCard}
 use Rattle.vga_card.specs.Bus.{card_meaning}
 use Rattle.vga_card.specs.Card.{CardState}
 use Rattle.bios_modes.specs.declared.modes.ModeRow.{ModeRow}
 use Rattle.bios_modes.specs.Bda.{BiosData}
+use Rattle.bios_modes.specs.Fonts.{FontSet}
 use Rattle.bios_services.specs.declared.regs.Regs.{Regs}
 use Rattle.bios_services.specs.declared.call.Service.TheVariants.{ReadCell, WriteCells}
-use Rattle.bios_services.specs.Plan.{Plan, run, Done, get, ◌>>◌}
+use Rattle.bios_services.specs.declared.ink.Ink.{Ink}
+use Rattle.bios_services.specs.declared.cell_run.CellRun.{CellRun}
+use Rattle.bios_services.specs.Plan.{Plan, run, Done, get, each, ◌>>=◌, ◌>>◌}
 use Rattle.bios_services.specs.Bounds.{pages_in}
-use Rattle.bios_services.specs.Cells.{text_base, cell_address, cells_of, read_cell_plan, write_cell_plan, write_cells_plan}
-use Rattle.bios_services.specs.Cursor.{cell_number, place_of}
-use Rattle.bios_services.specs.Refusals.{page_named, cursor_refusal, count_refusal, in_text, refusal_in_mode}
-use Rattle.bios_services.specs.Service.{plan_of, read_cell_service, cursor_cell as cursor_address, Outcome}
+use Rattle.bios_services.specs.Cells.{page_base, cell_address, cells_of, read_cell_plan, write_cell_plan}
+use Rattle.bios_services.specs.Cursor.{cell_number, place_of, cursor_cell as cell_at_cursor}
+use Rattle.bios_services.specs.Drawing.{cell_band, cell_row, character_by, characters_plan}
+use Rattle.bios_services.specs.CellRuns.{cell_run_plan}
+use Rattle.bios_services.specs.Reading.{read_character_plan}
+use Rattle.bios_services.specs.Registers.{with_low}
+use Rattle.bios_services.specs.Refusals.{page_named, cursor_refusal, count_refusal, refusal_in_mode}
+use Rattle.bios_services.specs.Service.{plan_of, read_cell_service, Outcome}
 use Rattle.bios_screen.specs.Screen.{Cell, cursor_cell}
 use Rattle.bios_screen.specs.Shown.{cell_in, all_cells, shown}
 use Rattle.bios_screen.specs.Step.{page_meant, cursor_refused, count_refused, refused_on, next, answer_on, character_over, cell_on, cell_read, written, with_cells}
 use Rattle.bios_screen.specs.Served.{IsServed}
 use Rattle.bios_screen.proofs.Flat.{Edited, Turn, Leaves, set_cell}
-use Rattle.bios_screen.proofs.PlanLemmas.{then_runs, then_answers}
+use Rattle.bios_screen.proofs.PlanLemmas.{run_bind, then_runs, then_answers}
 use Rattle.bios_screen.proofs.Edits.{changed_edit, edits}
 use Rattle.bios_screen.proofs.Places.{twice, ends_before}
 use Rattle.bios_screen.proofs.Kept.{plan_beam}
@@ -31,7 +38,7 @@ use Rattle.bios_screen.proofs.Display.{Display, base_of}
 use Rattle.bios_screen.proofs.Text.{without_text}
 use Rattle.bios_screen.proofs.Cells.{IsCells, has_cells, cell_written, character_get, attribute_get}
 use Rattle.bios_screen.proofs.TestLemmas.{lt_is, le_is}
-use Rattle.bios_screen.proofs.Shows.{IsShown, screen_shown}
+use Rattle.bios_screen.proofs.Shows.{IsShown, screen_shown, kind_is}
 use Rattle.bios_screen.proofs.Renewed.{cells_at, renewed_shown, same_shown}
 use Rattle.bios_screen.proofs.Readers.{meant_is}
 
@@ -39,7 +46,7 @@ use Rattle.bios_screen.proofs.Readers.{meant_is}
 
 -- the pages lie within the cells
 pub record Lies (d : BiosData) (disp : Display) (pages : ℕ) : Type 0 where
-  pub base : text_base d.mode ≡ base_of disp
+  pub base : page_base d.mode ≡ base_of disp
   pub even : (p : ℕ) → d.size * p ≡ 2 * (d.size / 2 * p)
   pub fits : d.columns * (d.last_row + 1) ≤ d.size / 2
   pub within : (p : ℕ) → p < pages → d.size / 2 * p + d.size / 2 ≤ 16384
@@ -75,17 +82,22 @@ address_is d disp pages p q w =
 
 -- ---- writing
 
--- some cells from one on
-pub cells_written : (disp : Display) (rest c : CardState) (f : ℕ → Cell) (at k v n : ℕ) (colour : Option ℕ) → at ≡ base_of disp + 2 * k → k + n ≤ 16384 → v < 256 → IfSome colour (λ a. a < 256) → IsCells disp rest c f → Leaves CardState Cell (IsCells disp rest) (run card_meaning (write_cells_plan at v colour n) c).0 (Edited Cell (Turn (λ _. Unit {0}) 0 n) (λ h. k + h.turn) (λ h y. character_over v colour y) f)
-unfolding write_cells_plan
-cells_written disp rest c f at k v n colour e l lv la t =
-    edits CardState Cell card_meaning (λ i. write_cell_plan (at + 2 * i) v colour) (λ _. IsCells disp rest) 0 n (λ _. Unit {0}) (λ r h. k + r) (λ r h y. character_over v colour y) (λ i j g h lb lo hi. omega arith)
-    (λ r s x lb w u. record {
-      cells = set_cell x (k + r) (character_over v colour (x (k + r)));
-      shown = cell_written disp rest s x (at + 2 * r) (k + r) v colour (omega arith) (omega arith) lv la u;
-      fact = changed_edit (k + r) (character_over v colour) x;
+-- some cells of a page from one on
+pub cells_written : (d : BiosData) (disp : Display) (pages : ℕ) (w : Lies d disp pages) (rest c : CardState) (f : ℕ → Cell) (p q v n : ℕ) (ink : Ink) → d.size / 2 * p + q + n ≤ 16384 → v < 256 → ink.colour < 256 → IsCells disp rest c f → Leaves CardState Cell (IsCells disp rest) (run card_meaning (each (λ i. write_cell_plan (cell_address d p (q + i)) v ink) n 0) c).0 (Edited Cell (Turn (λ _. Unit {0}) 0 n) (λ h. d.size / 2 * p + q + h.turn) (λ h y. character_over v ink y) f)
+cells_written d disp pages w rest c f p q v n ink l lv la t =
+    let k = d.size / 2 * p + q in
+    edits CardState Cell card_meaning (λ i. write_cell_plan (cell_address d p (q + i)) v ink) (λ _. IsCells disp rest) 0 n (λ _. Unit {0}) (λ r h. k + r) (λ r h y. character_over v ink y) (λ i j g h lb lo hi. omega arith)
+    (λ r s x lb hi u. record {
+      cells = set_cell x (k + r) (character_over v ink (x (k + r)));
+      shown = cell_written disp rest s x (cell_address d p (q + r)) (k + r) v ink (let e = address_is d disp pages p (q + r) w in omega arith) (omega arith) lv la u;
+      fact = changed_edit (k + r) (character_over v ink) x;
     })
     n 0 c f (omega arith) (omega arith) t
+
+-- in text the plan of some characters is that of their cells
+characters_are : (fonts : FontSet) (c : CardState) (d : BiosData) (h : IsShown c d) (p q v n : ℕ) (ink : Ink) → characters_plan fonts d p q v ink n ≡ each (λ i. write_cell_plan (cell_address d p (q + i)) v ink) n 0
+unfolding characters_plan character_by
+characters_are fonts c d h p q v n ink = ap (λ k. each (λ i. character_by k fonts d p (q + i) v ink) n 0) (kind_is c d h)
 
 pub inside_test : (first k n : ℕ) → first ≤ k → k < first + n → (nat_le first k && nat_lt k (first + n)) ≡ true
 inside_test first k n a b = grind (arith, nat_tests)
@@ -97,27 +109,24 @@ pub behind_test : (first k n : ℕ) → first + n ≤ k → (nat_le first k && n
 behind_test first k n a = grind (arith, nat_tests)
 
 -- each cell is as the screen's step has it
-pub written_is : (first n v : ℕ) (colour : Option ℕ) (f g old : ℕ → Cell) → Edited Cell (Turn (λ _. Unit {0}) 0 n) (λ h. first + h.turn) (λ h y. character_over v colour y) f g → (k : ℕ) → old k ≡ f k → g k ≡ written first n v colour old k
-written_is first n v colour f g old edited k same = ⊎_elim
+pub written_is : (first n v : ℕ) (ink : Ink) (f g old : ℕ → Cell) → Edited Cell (Turn (λ _. Unit {0}) 0 n) (λ h. first + h.turn) (λ h y. character_over v ink y) f g → (k : ℕ) → old k ≡ f k → g k ≡ written first n v ink old k
+written_is first n v ink f g old edited k same = ⊎_elim
     (λ (a : k < first). outside (before_test first k n a) (λ h. omega arith))
     (λ (a : first ≤ k). ⊎_elim
     (λ (b : k < first + n).
     let j = k - first in
     let e : first + j ≡ k = omega arith in
-    ap g (sym e) ∙ edited.inside (record { turn = j; from = omega arith; before = omega arith; place = tt }) ∙ ap (λ i. character_over v colour (f i)) e
-    ∙ ap (character_over v colour) (sym same)
-    ∙ ap (λ t. if t then character_over v colour (old k) else old k) (sym (inside_test first k n a b)))
+    ap g (sym e) ∙ edited.inside (record { turn = j; from = omega arith; before = omega arith; place = tt }) ∙ ap (λ i. character_over v ink (f i)) e
+    ∙ ap (character_over v ink) (sym same)
+    ∙ ap (λ t. if t then character_over v ink (old k) else old k) (sym (inside_test first k n a b)))
     (λ (b : first + n ≤ k). outside (behind_test first k n b) (λ h. let z = h.before in omega arith))
     (cases_lt k (first + n)))
     (cases_lt k first)
   where
-    outside : (nat_le first k && nat_lt k (first + n)) ≡ false → ((h : Turn (λ _. Unit {0}) 0 n) → k ≢ first + h.turn) → g k ≡ written first n v colour old k
-    outside t o = edited.outside k o ∙ sym same ∙ ap (λ b. if b then character_over v colour (old k) else old k) (sym t)
+    outside : (nat_le first k && nat_lt k (first + n)) ≡ false → ((h : Turn (λ _. Unit {0}) 0 n) → k ≢ first + h.turn) → g k ≡ written first n v ink old k
+    outside t o = edited.outside k o ∙ sym same ∙ ap (λ b. if b then character_over v ink (old k) else old k) (sym t)
 
 -- ---- refusals
-
-pub in_text_is : (c : CardState) (d : BiosData) (h : IsShown c d) (x : Option Refusal) → in_text d x ≡ x
-in_text_is c d h x = ap (λ b. if b then x else Some BadFunction) h.tests.is_text
 
 cursor_refusal_is : (c : CardState) (d : BiosData) (h : IsShown c d) (p : ℕ) → cursor_refusal d p ≡ cursor_refused (screen_shown c d h) p
 cursor_refusal_is c d h p = ap (λ (x : Option ModeRow). let y : Option Refusal = (if nat_lt p (pages_in x) then (if nat_lt (cell_number d (place_of d p)) (cells_of d) then None else Some Outside) else Some BadPage) in y) h.mode
@@ -157,52 +166,65 @@ first_cell d p = d.size / 2 * p + cell_number d (place_of d p)
 
 -- ---- functions 09 and 0A
 
-write_shown : (c : CardState) (d : BiosData) (h : IsShown c d) (p character count : ℕ) (colour : Option ℕ) → IsCard c → CountAllowed h.row.pages p (cell_number d (place_of d p)) count (cells_of d) → character < 256 → IfSome colour (λ a. a < 256)
-    → shown (run card_meaning (write_cells_plan (cursor_address d p) character colour count) c).0 d ≡ Some (with_cells (screen_shown c d h) (written (cursor_cell (screen_shown c d h) p) count character colour))
-write_shown c d h p character count colour z allowed lv la =
+write_shown : (fonts : FontSet) (c : CardState) (d : BiosData) (h : IsShown c d) (p : ℕ) (cells : CellRun) → IsCard c → CountAllowed h.row.pages p (cell_number d (place_of d p)) cells.count (cells_of d) → cells.character < 256 → cells.ink.colour < 256
+    → shown (run card_meaning (cell_run_plan fonts d p cells) c).0 d ≡ Some (with_cells (screen_shown c d h) (written (cursor_cell (screen_shown c d h) p) cells.count cells.character cells.ink))
+write_shown fonts c d h p cells z allowed lv la =
     let m = c.host.memory in
     let f = cell_in m.plane0 m.plane1 in
     let w = lies c d h in
+    let q = cell_number d (place_of d p) in
     let first = first_cell d p in
-    let fits : first + count ≤ 16384 = let a = allowed.within in let b = w.fits in let e = w.within p allowed.page in omega arith in
-    let done = cells_written h.display (without_text c) c f (cursor_address d p) first character count colour (address_is d h.display h.row.pages p (cell_number d (place_of d p)) w) fits lv la (has_cells h.display c h.setting z.host) in
-    renewed_shown h.display (without_text c) c (run card_meaning (write_cells_plan (cursor_address d p) character colour count) c).0 d h (written first count character colour) done.cells done.shown.is.others done.shown
-    (λ k l. written_is first count character colour f done.cells (cell_on (screen_shown c d h)) done.fact k (cells_at m.plane0 m.plane1 all_cells k l))
+    let plan = each (λ i. write_cell_plan (cell_address d p (q + i)) cells.character cells.ink) cells.count 0 in
+    let fits : first + cells.count ≤ 16384 = let a = allowed.within in let b = w.fits in let e = w.within p allowed.page in omega arith in
+    let done = cells_written d h.display h.row.pages w (without_text c) c f p q cells.character cells.count cells.ink fits lv la (has_cells h.display c h.setting z.host) in
+    ap (λ x. shown (run card_meaning x c).0 d) (characters_are fonts c d h p q cells.character cells.count cells.ink)
+    ∙ renewed_shown h.display (without_text c) c (run card_meaning plan c).0 d h (written first cells.count cells.character cells.ink) done.cells done.shown.is.others done.shown
+    (λ k l. written_is first cells.count cells.character cells.ink f done.cells (cell_on (screen_shown c d h)) done.fact k (cells_at m.plane0 m.plane1 all_cells k l))
 
-pub write_cells : (page character : ℕ) (colour : Option ℕ) (count : ℕ) (r : Regs) (c : CardState) (d : BiosData) (h : IsShown c d) → IsCard c → character < 256 → IfSome colour (λ a. a < 256) → IsServed (WriteCells page character colour count) r c d (screen_shown c d h)
+pub write_cells : (cells : CellRun) (fonts : FontSet) (r : Regs) (block : List ℕ) (c : CardState) (d : BiosData) (h : IsShown c d) → IsCard c → cells.character < 256 → cells.ink.colour < 256 → IsServed (WriteCells cells) fonts r block c d (screen_shown c d h)
 unfolding plan_of refusal_in_mode refused_on next answer_on
-write_cells page character colour count r c d h z lv la =
+write_cells cells fonts r block c d h z lv la =
     let s = screen_shown c d h in
-    let p = page_named d page in
-    let q = page_meant s page in
-    let named : p ≡ q = meant_is c d h page in
-    let plan = write_cells_plan (cursor_address d p) character colour count in
+    let p = page_named d cells.page in
+    let q = page_meant s cells.page in
+    let named : p ≡ q = meant_is c d h cells.page in
+    let plan = cell_run_plan fonts d p cells in
     let done : Plan Outcome = Done (r, d) in
     record {
-      refusal = in_text_is c d h (count_refusal d p count) ∙ ap (λ n. count_refusal d n count) named ∙ count_refusal_is c d h q count;
+      refusal = ap (λ n. count_refusal d n cells.count) named ∙ count_refusal_is c d h q cells.count;
       answer = λ _. ap (λ (x : Outcome). x.0) (then_answers plan done c);
       shows = λ allowed.
           ap (λ x. shown x (run card_meaning (plan >> done) c).1.1) (then_runs plan done c)
           ∙ ap (λ (x : Outcome). shown (run card_meaning plan c).0 x.1) (then_answers plan done c)
-          ∙ ap (λ n. shown (run card_meaning (write_cells_plan (cursor_address d n) character colour count) c).0 d) named
-          ∙ write_shown c d h q character count colour z (count_allowed h.row.pages q (cell_number d (place_of d q)) count (cells_of d) allowed) lv la;
+          ∙ ap (λ n. shown (run card_meaning (cell_run_plan fonts d n cells) c).0 d) named
+          ∙ write_shown fonts c d h q cells z (count_allowed h.row.pages q (cell_number d (place_of d q)) cells.count (cells_of d) allowed) lv la;
       beam = plan_beam (plan >> done) c;
     }
 
 -- ---- function 08
 
+-- in text the cell at the cursor is read as a word
+abbrev text_read : BiosData → Regs → ℕ → Plan Regs
+text_read d r p = read_cell_plan (cell_address d p (cell_at_cursor d p)) >>= λ ax. Done (record r { ax = ax })
+
+read_is : (fonts : FontSet) (r : Regs) (c : CardState) (d : BiosData) (h : IsShown c d) (p : ℕ) → read_cell_service fonts p d r ≡ text_read d r p
+unfolding read_cell_service
+read_is fonts r c d h p =
+    let dots : Plan Regs = read_character_plan (cell_band d p (cell_at_cursor d p)) (cell_row d (cell_at_cursor d p)) fonts >>= λ character. Done (record r { ax = with_low r.ax character }) in
+    ap (λ b. let x : Plan Regs = (if b then text_read d r p else dots) in x) h.tests.is_text
+
 record ReadBack (r : Regs) (c : CardState) (d : BiosData) (h : IsShown c d) (p : ℕ) : Type 0 where
-  answer : (run card_meaning (read_cell_service p d r) c).1.0 ≡ record r { ax = cell_read (screen_shown c d h) p }
-  shows : shown (run card_meaning (read_cell_service p d r) c).0 d ≡ Some (screen_shown c d h)
+  answer : (run card_meaning (text_read d r p) c).1 ≡ record r { ax = cell_read (screen_shown c d h) p }
+  shows : shown (run card_meaning (text_read d r p) c).0 d ≡ Some (screen_shown c d h)
 
 read_back : (r : Regs) (c : CardState) (d : BiosData) (h : IsShown c d) (p : ℕ) → IsCard c → CursorAllowed h.row.pages p (cell_number d (place_of d p)) (cells_of d) → ReadBack r c d h p
-unfolding read_cell_service read_cell_plan
+unfolding read_cell_plan
 read_back r c d h p z allowed =
     let m = c.host.memory in
     let f = cell_in m.plane0 m.plane1 in
     let w = lies c d h in
     let k = first_cell d p in
-    let at = cursor_address d p in
+    let at = cell_address d p (cell_at_cursor d p) in
     let there = address_is d h.display h.row.pages p (cell_number d (place_of d p)) w in
     let l : k < 16384 = let a = allowed.within in let b = w.fits in let e = w.within p allowed.page in omega arith in
     let first = character_get h.display (without_text c) c f at k there l (has_cells h.display c h.setting z.host) in
@@ -217,22 +239,22 @@ read_back r c d h p z allowed =
       shows = same_shown h.display (without_text c) c c2 d h f second.cells.is.others second.cells (λ j b. refl);
     }
 
-data_stays : (p : ℕ) (r : Regs) (c : CardState) (d : BiosData) → (run card_meaning (read_cell_service p d r) c).1.1 ≡ d
-unfolding read_cell_service read_cell_plan
-data_stays p r c d = refl
-
-pub read_cell : (page : ℕ) (r : Regs) (c : CardState) (d : BiosData) (h : IsShown c d) → IsCard c → IsServed (ReadCell page) r c d (screen_shown c d h)
+pub read_cell : (page : ℕ) (fonts : FontSet) (r : Regs) (block : List ℕ) (c : CardState) (d : BiosData) (h : IsShown c d) → IsCard c → IsServed (ReadCell page) fonts r block c d (screen_shown c d h)
 unfolding plan_of refusal_in_mode refused_on next answer_on
-read_cell page r c d h z =
+read_cell page fonts r block c d h z =
     let s = screen_shown c d h in
     let p = page_named d page in
     let q = page_meant s page in
     let named : p ≡ q = meant_is c d h page in
+    let done : Regs → Plan Outcome = λ after. Done (after, d) in
+    let runs : run card_meaning (read_cell_service fonts p d r >>= done) c ≡ (let x = run card_meaning (text_read d r q) c in let y : CardState × Outcome = (x.0, (x.1, d)) in y) =
+    run_bind card_meaning (read_cell_service fonts p d r) done c
+    ∙ ap (λ n. let x = run card_meaning (read_cell_service fonts n d r) c in let y : CardState × Outcome = (x.0, (x.1, d)) in y) named
+    ∙ ap (λ w. let x = run card_meaning w c in let y : CardState × Outcome = (x.0, (x.1, d)) in y) (read_is fonts r c d h q) in
     record {
-      refusal = in_text_is c d h (cursor_refusal d p) ∙ ap (cursor_refusal d) named ∙ cursor_refusal_is c d h q;
-      answer = λ allowed. ap (λ n. (run card_meaning (read_cell_service n d r) c).1.0) named ∙ (read_back r c d h q z (cursor_allowed h.row.pages q (cell_number d (place_of d q)) (cells_of d) allowed)).answer;
-      shows = λ allowed. ap (λ n. shown (run card_meaning (read_cell_service n d r) c).0 (run card_meaning (read_cell_service n d r) c).1.1) named
-          ∙ ap (λ e. shown (run card_meaning (read_cell_service q d r) c).0 e) (data_stays q r c d)
+      refusal = ap (cursor_refusal d) named ∙ cursor_refusal_is c d h q;
+      answer = λ allowed. ap (λ x. x.1.0) runs ∙ (read_back r c d h q z (cursor_allowed h.row.pages q (cell_number d (place_of d q)) (cells_of d) allowed)).answer;
+      shows = λ allowed. ap (λ x. shown x.0 x.1.1) runs
           ∙ (read_back r c d h q z (cursor_allowed h.row.pages q (cell_number d (place_of d q)) (cells_of d) allowed)).shows;
-      beam = plan_beam (read_cell_service p d r) c;
+      beam = plan_beam (read_cell_service fonts p d r >>= done) c;
     }

@@ -1,6 +1,7 @@
 pub mod Listing
 pub mod Screen
 pub mod Shown
+pub mod Colours
 pub mod Step
 pub mod Bounds
 pub mod Fresh

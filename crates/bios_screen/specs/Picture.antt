@@ -4,7 +4,7 @@
 -- first of underline, blink and cursor, is this adapter's choice.
 use Rattle.std.specs.Prelude.{ℕ, ◌+◌, ◌-◌, ◌*◌, ◌/◌, ◌%◌, ◌==◌, ◌&&◌, not, nat_lt, nat_le, Bool, true, false, if◌then◌else◌, List, [], ◌∷◌, slice_index, bit_and}
 use Rattle.vga_bits.specs.Bits.{is_set, field}
-use Rattle.bios_services.specs.Calls.{high, low}
+use Rattle.bios_services.specs.Registers.{high, low}
 use Rattle.bios_screen.specs.Screen.{Cell, Palette, Screen, page_start, cursor_cell}
 use Rattle.bios_screen.specs.Step.{cell_on}
 

@@ -1,16 +1,21 @@
 -- What a service does to a plain screen, what it answers, and why it is refused.
 -- From the IBM PS/2 and PC BIOS Interface Technical Reference, "Interrupt 10H - Video".
-use Rattle.std.specs.Prelude.{ℕ, ◌+◌, ◌-◌, ◌*◌, ◌/◌, ◌%◌, ◌==◌, ◌&&◌, ◌||◌, nat_lt, nat_le, Bool, if◌then◌else◌, List, [], length, slice_set, min, Option, Some, None}
+use Rattle.std.specs.Prelude.{ℕ, zero, suc, ◌+◌, ◌-◌, ◌*◌, ◌/◌, ◌%◌, ◌==◌, ◌&&◌, ◌||◌, nat_lt, nat_le, Bool, if◌then◌else◌, List, [], length, slice_set, min, Option, Some, None}
 use Rattle.vga_bits.specs.declared.refusal.Refusal.{Refusal}
-use Rattle.vga_bits.specs.declared.refusal.Refusal.TheVariants.{BadPage, Outside, CountPast}
+use Rattle.vga_bits.specs.declared.refusal.Refusal.TheVariants.{WrongKind, BadPage, Outside, CountPast}
 use Rattle.bios_services.specs.declared.regs.Regs.{Regs}
+use Rattle.bios_services.specs.declared.ink.Ink.{Ink}
 use Rattle.bios_services.specs.declared.scroll.Scroll.{Scroll}
+use Rattle.bios_services.specs.declared.strings.StringCall.{StringCall}
 use Rattle.bios_services.specs.declared.call.Service.{Service}
-use Rattle.bios_services.specs.declared.call.Service.TheVariants.{SetCursorType, SetCursor, ReadCursor, SelectPage, ScrollUp, ScrollDown, ReadCell, WriteCells, Teletype, ReadMode, ReadAdapter, ReadDisplay}
-use Rattle.bios_services.specs.Calls.{low}
-use Rattle.bios_services.specs.Teletype.{line_start}
+use Rattle.bios_services.specs.declared.call.Service.TheVariants.{SetCursorType, SetCursor, ReadCursor, SelectPage, ScrollUp, ScrollDown, ReadCell, WriteCells, WritePixel, ReadPixel, Teletype, ReadMode, Colours, ReadAdapter, WriteString, ReadDisplay}
+use Rattle.bios_services.specs.Registers.{low}
+use Rattle.bios_services.specs.Teletype.{line_start, dots_in}
+use Rattle.bios_services.specs.Strings.{string_len, character_at, ink_at}
+use Rattle.bios_services.specs.Colours.{block_refusal, colour_refusal}
 use Rattle.bios_services.specs.Cursor.{row_of, column_of}
 use Rattle.bios_screen.specs.Listing.{listing}
+use Rattle.bios_screen.specs.Colours.{coloured, colours_read}
 use Rattle.bios_screen.specs.Screen.{Cell, Contents, Cells, Pixels, Screen, cell_of, page_cells, page_start, place_number, cursor_place, cursor_cell}
 
 -- ---- why a service is refused
@@ -43,20 +48,31 @@ count_refused s page count =
 abbrev pub place_refused : Screen → ℕ → Option Refusal
 place_refused s place = if nat_lt (row_of place) s.layout.rows && nat_lt (column_of place) s.layout.columns then None else Some Outside
 
--- why a service is refused on a text screen
-unfoldable pub refused_on : Screen → Service → Option Refusal
-refused_on s (SetCursorType cursor_type) = None
-refused_on s (SetCursor page place) = page_refused s (page_meant s page)
-refused_on s (ReadCursor page) = page_refused s (page_meant s page)
-refused_on s (SelectPage page) = page_refused s page
-refused_on s (ScrollUp window) = None
-refused_on s (ScrollDown window) = None
-refused_on s (ReadCell page) = cursor_refused s (page_meant s page)
-refused_on s (WriteCells page character colour count) = count_refused s (page_meant s page) count
-refused_on s (Teletype character) = place_refused s (cursor_place s s.page)
-refused_on s ReadMode = None
-refused_on s ReadAdapter = None
-refused_on s ReadDisplay = None
+-- a page that there is not, a place outside it, or a block of another length than the string has
+abbrev pub string_refused : Screen → StringCall → ℕ → Option Refusal
+string_refused s call len =
+    if nat_lt (page_meant s call.page) s.layout.pages
+    then (if nat_lt (row_of call.place) s.layout.rows && nat_lt (column_of call.place) s.layout.columns then block_refusal len (string_len call) else Some Outside)
+    else Some BadPage
+
+-- why a service is refused on a text screen, with a block of this length
+unfoldable pub refused_on : Screen → Service → ℕ → Option Refusal
+refused_on s (SetCursorType cursor_type) len = None
+refused_on s (SetCursor page place) len = page_refused s (page_meant s page)
+refused_on s (ReadCursor page) len = page_refused s (page_meant s page)
+refused_on s (SelectPage page) len = page_refused s page
+refused_on s (ScrollUp window) len = None
+refused_on s (ScrollDown window) len = None
+refused_on s (ReadCell page) len = cursor_refused s (page_meant s page)
+refused_on s (WriteCells cells) len = count_refused s (page_meant s cells.page) cells.count
+refused_on s (WritePixel page x y colour) len = Some WrongKind
+refused_on s (ReadPixel page x y) len = Some WrongKind
+refused_on s (Teletype character colour) len = place_refused s (cursor_place s s.page)
+refused_on s ReadMode len = None
+refused_on s (Colours service) len = colour_refusal service len
+refused_on s ReadAdapter len = None
+refused_on s (WriteString call) len = string_refused s call len
+refused_on s ReadDisplay len = None
 
 -- ---- what it does to the cells
 
@@ -77,14 +93,13 @@ abbrev pub with_cells : Screen → ((ℕ → Cell) → ℕ → Cell) → Screen
 with_cells s new = record s { contents = renewed new s.contents }
 
 -- a character with an attribute; where none is given the cell keeps its own
-abbrev pub character_over : ℕ → Option ℕ → Cell → Cell
-character_over character None cell = (character, cell.1)
-character_over character (Some colour) cell = (character, colour)
+abbrev pub character_over : ℕ → Ink → Cell → Cell
+character_over character ink cell = (character, if ink.is_attribute then ink.colour else cell.1)
 
 -- count cells from the first on become a character, and all others stay
-abbrev pub written : ℕ → ℕ → ℕ → Option ℕ → (ℕ → Cell) → ℕ → Cell
-written first count character colour old k =
-    if nat_le first k && nat_lt k (first + count) then character_over character colour (old k) else old k
+abbrev pub written : ℕ → ℕ → ℕ → Ink → (ℕ → Cell) → ℕ → Cell
+written first count character ink old k =
+    if nat_le first k && nat_lt k (first + count) then character_over character ink (old k) else old k
 
 -- row and column of cell k on a page
 abbrev pub row_on : Screen → ℕ → ℕ → ℕ
@@ -150,45 +165,60 @@ advanced s page place =
     else ((fed s page place).0, line_start (fed s page place).1)
 
 -- a character at a place, and the place behind
-abbrev pub put_on : Screen → ℕ → ℕ → ℕ → Option ℕ → Screen
-put_on s page place character colour = with_cells s (written (page_start s page + place_number s place) 1 character colour)
+abbrev pub put_on : Screen → ℕ → ℕ → ℕ → Ink → Screen
+put_on s page place character ink = with_cells s (written (page_start s page + place_number s place) 1 character ink)
 
 -- a character is typed at a place: a bell does nothing, a backspace goes a column back, a line feed a row down, a carriage
 -- return to the first column; any other is shown
-unfoldable pub typed : Screen → ℕ → ℕ → ℕ → Option ℕ → Screen × ℕ
-typed s page place character colour =
+unfoldable pub typed : Screen → ℕ → ℕ → ℕ → Ink → Screen × ℕ
+typed s page place character ink =
     if character == 0x07 then (s, place)
     else if character == 0x08 then (s, if column_of place == 0 then place else place - 1)
     else if character == 0x0A then fed s page place
     else if character == 0x0D then (s, line_start place)
-    else advanced (put_on s page place character colour) page place
+    else advanced (put_on s page place character ink) page place
 
 -- a cursor at another place of a page
 abbrev pub with_place : Screen → ℕ → ℕ → Screen
 with_place s page place = record s { places = slice_set s.places page place }
 
 -- a character is typed at the cursor of the active page, which then stands behind it; a bell leaves it
-abbrev pub typed_at_cursor : Screen → ℕ → Screen
-typed_at_cursor s character =
+abbrev pub typed_at_cursor : Screen → ℕ → ℕ → Screen
+typed_at_cursor s character colour =
     if character == 0x07 then s
-    else with_place (typed s s.page (cursor_place s s.page) character None).0 s.page (typed s s.page (cursor_place s s.page) character None).1
+    else with_place (typed s s.page (cursor_place s s.page) character (dots_in colour)).0 s.page (typed s s.page (cursor_place s s.page) character (dots_in colour)).1
+
+-- n characters of a string, from character i on, are typed one after another on a page, from a screen and a place on
+abbrev pub typed_on : StringCall → List ℕ → ℕ → ℕ → ℕ → Screen × ℕ → Screen × ℕ
+typed_on call block page zero i at = at
+typed_on call block page (suc n) i at = typed_on call block page n (i + 1) (typed at.0 page at.1 (character_at call block i) (ink_at call block i))
+
+-- a whole string is typed on a page, and the cursor goes behind it where that is asked
+abbrev pub string_typed : Screen → ℕ → StringCall → List ℕ → Screen
+string_typed s page call block =
+    let after = typed_on call block page call.count 0 (s, call.place) in
+    if call.moves_cursor then with_place after.0 page after.1 else after.0
 
 -- ---- services
 
 -- the screen after a service that is not refused
-unfoldable pub next : Screen → Service → Screen
-next s (SetCursorType cursor_type) = record s { cursor_type = cursor_type }
-next s (SetCursor page place) = with_place s (page_meant s page) place
-next s (ReadCursor page) = s
-next s (SelectPage page) = record s { page = page }
-next s (ScrollUp window) = with_cells s (gone_up s s.page window)
-next s (ScrollDown window) = with_cells s (gone_down s s.page window)
-next s (ReadCell page) = s
-next s (WriteCells page character colour count) = with_cells s (written (cursor_cell s (page_meant s page)) count character colour)
-next s (Teletype character) = typed_at_cursor s character
-next s ReadMode = s
-next s ReadAdapter = s
-next s ReadDisplay = s
+unfoldable pub next : Screen → Service → List ℕ → Screen
+next s (SetCursorType cursor_type) block = record s { cursor_type = cursor_type }
+next s (SetCursor page place) block = with_place s (page_meant s page) place
+next s (ReadCursor page) block = s
+next s (SelectPage page) block = record s { page = page }
+next s (ScrollUp window) block = with_cells s (gone_up s s.page window)
+next s (ScrollDown window) block = with_cells s (gone_down s s.page window)
+next s (ReadCell page) block = s
+next s (WriteCells cells) block = with_cells s (written (cursor_cell s (page_meant s cells.page)) cells.count cells.character cells.ink)
+next s (WritePixel page x y colour) block = s
+next s (ReadPixel page x y) block = s
+next s (Teletype character colour) block = typed_at_cursor s character colour
+next s ReadMode block = s
+next s (Colours service) block = coloured s service block
+next s ReadAdapter block = s
+next s (WriteString call) block = string_typed s (page_meant s call.page) call block
+next s ReadDisplay block = s
 
 -- character and attribute at the cursor of a page, as low and high byte
 abbrev pub cell_read : Screen → ℕ → ℕ
@@ -203,8 +233,12 @@ answer_on s (SelectPage page) r = r
 answer_on s (ScrollUp window) r = r
 answer_on s (ScrollDown window) r = r
 answer_on s (ReadCell page) r = record r { ax = cell_read s (page_meant s page) }
-answer_on s (WriteCells page character colour count) r = r
-answer_on s (Teletype character) r = r
+answer_on s (WriteCells cells) r = r
+answer_on s (WritePixel page x y colour) r = r
+answer_on s (ReadPixel page x y) r = r
+answer_on s (Teletype character colour) r = r
 answer_on s ReadMode r = record r { ax = s.mode + 256 * s.layout.columns; bx = low r.bx + 256 * s.page }
+answer_on s (Colours service) r = colours_read s service r
 answer_on s ReadAdapter r = record r { bx = (if s.mode == 0x07 then 0x0103 else 0x0003); cx = 0x0009 }
+answer_on s (WriteString call) r = r
 answer_on s ReadDisplay r = record r { ax = 0x1A1A; bx = 0x0008 }

@@ -1,6 +1,6 @@
 //! Laws of plain screens, each of which is a contract, and nothing that runs: from a state that shows a
 //! screen a service leads to one that shows the next, with the screen's answer or refusal.
-ghost use Rattle.std.specs.Prelude.{ℕ, ◌≡◌, ◌<◌, List, Option, Some, None, Err, IfSome};
+ghost use Rattle.std.specs.Prelude.{ℕ, ◌≡◌, ◌<◌, false, List, Some, None, Err};
 ghost use Rattle.vga_bits.specs.declared.refusal.Refusal.TheVariants.{BadFunction};
 ghost use Rattle.vga_card.specs.Bounds.{IsCard};
 ghost use Rattle.vga_card.specs.Card.{CardState};
@@ -8,16 +8,18 @@ ghost use Rattle.bios_modes.specs.Bda.{BiosData};
 ghost use Rattle.bios_modes.specs.Fonts.{FontSet};
 ghost use Rattle.bios_services.specs.declared.regs.Regs.{Regs};
 ghost use Rattle.bios_services.specs.declared.scroll.Scroll.{Scroll};
+ghost use Rattle.bios_services.specs.declared.cell_run.CellRun.{CellRun};
+ghost use Rattle.bios_services.specs.declared.strings.StringCall.{StringCall};
 ghost use Rattle.bios_services.specs.declared.call.Call.TheVariants.{InMode};
 ghost use Rattle.bios_services.specs.declared.call.Service.{Service};
 ghost use Rattle.bios_services.specs.Calls.{call_of};
-ghost use Rattle.bios_services.specs.declared.call.Service.TheVariants.{SetCursorType, SetCursor, ReadCursor, SelectPage, ReadCell, WriteCells, ScrollUp, ScrollDown, Teletype, ReadMode, ReadAdapter, ReadDisplay};
+ghost use Rattle.bios_services.specs.declared.call.Service.TheVariants.{SetCursorType, SetCursor, ReadCursor, SelectPage, ReadCell, WriteCells, ScrollUp, ScrollDown, WritePixel, ReadPixel, Teletype, WriteString, ReadMode, ReadAdapter, ReadDisplay};
 ghost use Rattle.bios_modes.specs.Modes.{colour_text, monochrome_text};
 ghost use Rattle.bios_screen.specs.Bounds.{IsBda};
 ghost use Rattle.bios_screen.specs.Screen.{Screen};
 ghost use Rattle.bios_screen.specs.Shown.{shown};
-ghost use Rattle.bios_screen.specs.Served.{Serves, SetsFresh, after_call};
-ghost use Rattle.bios_screen.specs.Called.{AreWords, IsCalled};
+ghost use Rattle.bios_screen.specs.Served.{AreBytes, Serves, SetsFresh, after_call};
+ghost use Rattle.bios_screen.specs.Called.{AreWords, is_colours, IsCalled};
 
 use vga_card::laws::bounds_stay;
 
@@ -48,7 +50,7 @@ pub fn cursor_is_served()
 /// Functions 08, 09 and 0A: the cell at the cursor is read, and cells from it on are written.
 pub fn cells_are_served()
     ensures read { (page : ℕ) → Serves (ReadCell page) }
-    ensures written { (page character : ℕ) (colour : Option ℕ) (count : ℕ) → character < 256 → IfSome colour (λ a. a < 256) → Serves (WriteCells page character colour count) }
+    ensures written { (cells : CellRun) → cells.character < 256 → cells.ink.colour < 256 → Serves (WriteCells cells) }
 {}
 
 /// Functions 06 and 07: a window of the active page goes up or down.
@@ -57,18 +59,25 @@ pub fn windows_are_served()
     ensures down { (window : Scroll) → window.fill < 256 → Serves (ScrollDown window) }
 {}
 
-/// Function 0E: a character is typed at the cursor of the active page.
+/// Functions 0E and 13: a character is typed at the cursor of the active page, and a string from a place on.
 pub fn typing_is_served()
-    ensures { (character : ℕ) → character < 256 → Serves (Teletype character) }
+    ensures character { (character colour : ℕ) → character < 256 → colour < 256 → Serves (Teletype character colour) }
+    ensures string { (call : StringCall) → call.colour < 256 → Serves (WriteString call) }
 {
     bounds_stay();
 }
 
-/// From every state that shows a screen a call for a service replies as on the screen, or is refused as
+/// Functions 0C and 0D: text has no dots.
+pub fn dots_are_refused()
+    ensures written { (page x y colour : ℕ) → Serves (WritePixel page x y colour) }
+    ensures read { (page x y : ℕ) → Serves (ReadPixel page x y) }
+{}
+
+/// From every state that shows a screen a call for a service other than those of colours replies as on the screen, or is refused as
 /// there, and leads to a state that shows the next screen; a call for no service changes nothing.
 pub fn calls_lead_to_screens()
     ensures served { (service : Service) (fonts : FontSet) (r : Regs) (block : List ℕ) (c : CardState) (d : BiosData) (s : Screen) →
-        IsCard c → IsBda d → AreWords r → shown c d ≡ Some s → call_of r ≡ Some (InMode service) → IsCalled service fonts r block c d s }
+        IsCard c → IsBda d → AreWords r → AreBytes block → is_colours service ≡ false → shown c d ≡ Some s → call_of r ≡ Some (InMode service) → IsCalled service fonts r block c d s }
     ensures unknown { (fonts : FontSet) (r : Regs) (block : List ℕ) (c : CardState) (d : BiosData) (s : Screen) →
         shown c d ≡ Some s → call_of r ≡ None → after_call fonts r block c d ≡ (c, (Err BadFunction, d)) }
 {

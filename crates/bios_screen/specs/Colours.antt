@@ -1,0 +1,68 @@
+-- What function 10 does to the colours of a plain screen, and what it answers.
+-- From the IBM PS/2 and PC BIOS Interface Technical Reference, "Interrupt 10H - Video", (AH) = 10H.
+use Rattle.std.specs.Prelude.{ℕ, ◌+◌, ◌-◌, ◌*◌, ◌==◌, ◌&&◌, nat_lt, nat_le, if◌then◌else◌, List, [], ◌∷◌, length, slice_index, slice_set, bit_and}
+use Rattle.bios_services.specs.declared.regs.Regs.{Regs}
+use Rattle.bios_services.specs.declared.colours.ColourService.{ColourService}
+use Rattle.bios_services.specs.declared.colours.ColourService.TheVariants.{SetRegister, SetOverscan, SetPalette, SetBlinking, ReadRegister, ReadOverscan, SetEntry, SetEntries, ReadEntry, SetMask, ReadMask}
+use Rattle.bios_services.specs.Registers.{with_high, with_low}
+use Rattle.bios_screen.specs.Listing.{listing}
+use Rattle.bios_screen.specs.Screen.{Screen}
+
+-- values of the palette, and components of the DAC's entries, have six bits
+abbrev pub six_bits : ℕ → ℕ
+six_bits v = bit_and v 0x3F
+
+-- another value of the palette
+abbrev pub with_value : Screen → ℕ → ℕ → Screen
+with_value s i v = record s { palette = record s.palette { values = slice_set s.palette.values i (six_bits v) } }
+
+-- the palette's values are the first sixteen bytes of a block, and the overscan the next
+abbrev pub with_block : Screen → List ℕ → Screen
+with_block s block = record s {
+  palette = record s.palette { values = listing (λ i. six_bits (slice_index block i)) 0 16 };
+  overscan = slice_index block 16;
+}
+
+-- a component of the entries, of which count from the first on are those of a block that has three bytes for each: 0 red, 1
+-- green, 2 blue
+abbrev pub component_over : List ℕ → ℕ → ℕ → List ℕ → ℕ → List ℕ
+component_over old first count block i =
+    listing (λ k. if nat_le first k && nat_lt k (first + count) then six_bits (slice_index block (3 * (k - first) + i)) else slice_index old k) 0 (length old)
+
+abbrev pub with_entries : Screen → ℕ → ℕ → List ℕ → Screen
+with_entries s first count block = record s {
+  palette = record s.palette {
+    reds = component_over s.palette.reds first count block 0;
+    greens = component_over s.palette.greens first count block 1;
+    blues = component_over s.palette.blues first count block 2;
+  };
+}
+
+-- the screen after a subfunction that is not refused
+unfoldable pub coloured : Screen → ColourService → List ℕ → Screen
+coloured s (SetRegister register value) block = with_value s register value
+coloured s (SetOverscan value) block = record s { overscan = value }
+coloured s SetPalette block = with_block s block
+coloured s (SetBlinking blinking) block = record s { is_blink = blinking == 1 }
+coloured s (ReadRegister register) block = s
+coloured s ReadOverscan block = s
+coloured s (SetEntry entry red green blue) block = with_entries s entry 1 (red ∷ green ∷ blue ∷ [])
+coloured s (SetEntries first count) block = with_entries s first count block
+coloured s (ReadEntry entry) block = s
+coloured s (SetMask mask) block = record s { palette = record s.palette { mask = mask } }
+coloured s ReadMask block = s
+
+-- the registers that it answers: a value or the overscan in BH; red in DH, green in CH and blue in CL; the mask in BL
+unfoldable pub colours_read : Screen → ColourService → Regs → Regs
+colours_read s (SetRegister register value) r = r
+colours_read s (SetOverscan value) r = r
+colours_read s SetPalette r = r
+colours_read s (SetBlinking blinking) r = r
+colours_read s (ReadRegister register) r = record r { bx = with_high r.bx (slice_index s.palette.values register) }
+colours_read s ReadOverscan r = record r { bx = with_high r.bx s.overscan }
+colours_read s (SetEntry entry red green blue) r = r
+colours_read s (SetEntries first count) r = r
+colours_read s (ReadEntry entry) r =
+    record r { cx = 256 * slice_index s.palette.greens entry + slice_index s.palette.blues entry; dx = with_high r.dx (slice_index s.palette.reds entry) }
+colours_read s (SetMask mask) r = r
+colours_read s ReadMask r = record r { bx = with_low r.bx s.palette.mask }
