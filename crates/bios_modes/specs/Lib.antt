@@ -4,3 +4,4 @@ pub mod Palette
 pub mod Fonts
 pub mod Valid
 pub mod Begin
+pub mod Bounds

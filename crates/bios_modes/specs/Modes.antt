@@ -1,7 +1,7 @@
 -- The mode table: the registers that each mode sets, and what the BIOS data say of it.
 -- From the IBM PS/2 Hardware Interface Technical Reference, Video Subsystems, "Register Settings for BIOS Modes", and the IBM PS/2
 -- and PC BIOS Interface Technical Reference, "Interrupt 10H - Video" and "BIOS Data Area"; the values are this adapter's choice.
-use Rattle.std.specs.Prelude.{ℕ, ◌==◌, if◌then◌else◌, List, [], ◌∷◌, Option, Some, None}
+use Rattle.std.specs.Prelude.{ℕ, ◌==◌, if◌then◌else◌, [], ◌∷◌, Option, Some, None}
 use Rattle.bios_modes.specs.declared.modes.ModeRow.{ModeRow}
 
 -- mode 3: text of 80 columns in 16 colours

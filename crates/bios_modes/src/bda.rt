@@ -4,6 +4,7 @@ ghost use Rattle.std.specs.Prelude.{◌≡◌, ◌<◌, slice_index};
 mod valid;
 mod writers;
 
+use crate::bounds::words_fit;
 use std::marker::Model;
 
 /// How many pages have a place for their cursor.
@@ -36,6 +37,7 @@ impl Model for Bda {
 
 impl Bda {
     ghost use Rattle.bios_modes.specs.Bda.{power_on_data};
+    ghost use Rattle.bios_modes.specs.Bounds.{IsBda};
 
     /// The data at power-on, before a mode is set: all 0.
     pub fn new() -> Bda
@@ -53,6 +55,13 @@ impl Bda {
             last_row: 0,
             height: 0,
         }
+    }
+
+    /// The eight places of the cursor are words, whatever was written. The clause is for proofs: nothing runs.
+    pub fn bounds(&self)
+        ensures { IsBda self.now }
+    {
+        words_fit(&self.cursor_places);
     }
 
     /// The mode, at offset 49; 0 before a mode is set.

@@ -1,7 +1,9 @@
 //! A font of one height.
 ghost use Rattle.std.specs.Prelude.{◌≡◌, ◌<◌, ◌*◌, IfOk, IsOkUnless, length};
 ghost use Rattle.bios_modes.specs.Fonts.{glyph_row};
+ghost use Rattle.bios_modes.specs.Bounds.{AreBytes};
 
+use super::bounds::bytes_fit;
 use std::alloc::Global;
 use std::marker::Model;
 use vga_bits::{Bytes, Fault};
@@ -34,6 +36,13 @@ impl<const H: usize> Font<H> {
     {
         let rows = Bytes::copy(alloc, bytes)?;
         Ok(Font { rows })
+    }
+
+    /// The rows are bytes. The clause is for proofs: nothing runs.
+    pub fn bounds(&self)
+        ensures { AreBytes self.now }
+    {
+        bytes_fit(self.rows.as_slice());
     }
 
     /// Row r of character c, below H: a dot for each bit, bit 7 the leftmost.

@@ -1,5 +1,6 @@
 //! The fonts of a file.
 ghost use Rattle.std.specs.Prelude.{◌≡◌, IfOk, IfErr, length};
+ghost use Rattle.bios_modes.specs.Bounds.{AreFonts};
 ghost use Rattle.bios_modes.specs.Fonts.{IsFontFault, file_len, fonts_of};
 
 use super::font::Font;
@@ -49,6 +50,15 @@ impl Fonts {
             f14: Font::of_bytes(alloc, f14)?,
             f16: Font::of_bytes(alloc, f16)?,
         })
+    }
+
+    /// The glyphs are bytes, in each font. The clause is for proofs: nothing runs.
+    pub fn bounds(&self)
+        ensures { AreFonts self.now }
+    {
+        self.f8.bounds();
+        self.f14.bounds();
+        self.f16.bounds();
     }
 
     /// The font with 8 rows.

@@ -2,6 +2,7 @@
 #![tactic(auto)]
 
 pub mod bda;
+mod bounds;
 pub mod font;
 pub mod fonts;
 pub mod modes;

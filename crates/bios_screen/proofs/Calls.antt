@@ -24,11 +24,12 @@ use Rattle.bios_services.specs.Calls.{scroll_of, as_colours, service_of, in_mode
 use Rattle.bios_services.specs.ModeSet.{is_text}
 use Rattle.bios_services.specs.Refusals.{refusal_in_mode}
 use Rattle.bios_services.specs.Service.{plan_of, Outcome, Answered, answered, refused, unless, in_mode_plan, asked}
-use Rattle.bios_screen.specs.Bounds.{IsBda}
+use Rattle.bios_modes.specs.Bounds.{IsBda}
 use Rattle.bios_screen.specs.Screen.{Screen}
 use Rattle.bios_screen.specs.Shown.{shown}
 use Rattle.bios_screen.specs.Step.{refused_on, next, answer_on}
-use Rattle.bios_screen.specs.Served.{AreBytes, IsServed, Serves, after_call}
+use Rattle.bios_screen.specs.Served.{IsServed, Serves, after_call}
+use Rattle.bios_modes.specs.Bounds.{AreBytes}
 use Rattle.bios_screen.specs.Called.{AreWords, is_colours, reply_unless, screen_unless, IsCalled}
 use Rattle.bios_screen.proofs.PlanLemmas.{run_bind}
 use Rattle.bios_screen.proofs.Kept.{KeepsBounds, plan_beam}

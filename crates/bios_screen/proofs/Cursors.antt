@@ -16,7 +16,7 @@ use Rattle.bios_modes.specs.declared.modes.ModeRow.{ModeRow}
 use Rattle.bios_modes.specs.Bda.{BiosData}
 use Rattle.bios_modes.specs.Fonts.{FontSet}
 use Rattle.bios_modes.specs.Modes.{mode_row}
-use Rattle.bios_screen.specs.Bounds.{IsBda}
+use Rattle.bios_modes.specs.Bounds.{IsBda}
 use Rattle.bios_services.specs.declared.regs.Regs.{Regs}
 use Rattle.bios_services.specs.declared.call.Service.TheVariants.{SetCursorType, SetCursor, SelectPage}
 use Rattle.bios_services.specs.Plan.{Plan, run, Done, ◌>>=◌, ◌>>◌}

@@ -24,7 +24,8 @@ use Rattle.bios_services.specs.ModeSet.{registers_plan, colour_plan, palette_pla
 use Rattle.bios_screen.specs.Screen.{Cell, Screen}
 use Rattle.bios_screen.specs.Shown.{cell_in, cells_in, glyph_byte, glyphs_in, shows_text, screen_with, text_screen, all_cells, shown, shown_by}
 use Rattle.bios_screen.specs.Fresh.{blank_cells, default_component, font_bytes, fresh_screen}
-use Rattle.bios_screen.specs.Served.{AreBytes, SetsFresh}
+use Rattle.bios_screen.specs.Served.{SetsFresh}
+use Rattle.bios_modes.specs.Bounds.{AreBytes}
 use Rattle.bios_screen.proofs.Flat.{Edited, Turn, Leaves, set_cell}
 use Rattle.bios_screen.proofs.PlanLemmas.{then_runs, then_answers}
 use Rattle.bios_screen.proofs.Edits.{one_edit, edits}

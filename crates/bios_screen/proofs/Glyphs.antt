@@ -15,7 +15,7 @@ use Rattle.vga_card.specs.Card.{CardState}
 use Rattle.bios_modes.specs.Fonts.{glyph_row}
 use Rattle.bios_services.specs.Plan.{run, put}
 use Rattle.bios_services.specs.ModeSet.{glyph_plan, glyphs_plan}
-use Rattle.bios_screen.specs.Served.{AreBytes}
+use Rattle.bios_modes.specs.Bounds.{AreBytes}
 use Rattle.bios_screen.proofs.Flat.{Edited, Turn, Leaves, set_cell, set_same, set_other}
 use Rattle.bios_screen.proofs.Edits.{one_edit, edits}
 use Rattle.bios_screen.proofs.Setting.{Setting, setting, host_at, with_memory, put_decoded}

@@ -34,3 +34,4 @@ pub mod FrameLemmas
 pub mod TextFrames
 pub mod TextDots
 pub mod TextPictures
+pub mod ReadingLemmas

@@ -4,14 +4,15 @@ use Rattle.vga_card.specs.Bounds.{IsCard}
 use Rattle.vga_card.specs.Card.{CardState}
 use Rattle.bios_modes.specs.Bda.{BiosData}
 use Rattle.bios_modes.specs.Fonts.{FontSet}
-use Rattle.bios_screen.specs.Bounds.{IsBda}
+use Rattle.bios_modes.specs.Bounds.{IsBda}
 use Rattle.bios_services.specs.declared.regs.Regs.{Regs}
 use Rattle.bios_services.specs.declared.scroll.Scroll.{Scroll}
 use Rattle.bios_services.specs.declared.cell_run.CellRun.{CellRun}
 use Rattle.bios_services.specs.declared.strings.StringCall.{StringCall}
 use Rattle.bios_services.specs.declared.call.Service.{Service}
 use Rattle.bios_services.specs.declared.call.Service.TheVariants.{SetCursorType, SetCursor, ReadCursor, SelectPage, ReadCell, WriteCells, ScrollUp, ScrollDown, WritePixel, ReadPixel, Teletype, ReadMode, ReadAdapter, WriteString, ReadDisplay}
-use Rattle.bios_screen.specs.Served.{AreBytes, IsServed, Serves}
+use Rattle.bios_screen.specs.Served.{IsServed, Serves}
+use Rattle.bios_modes.specs.Bounds.{AreBytes}
 use Rattle.bios_screen.proofs.Shows.{IsShown, screen_shown, shown_is}
 use Rattle.bios_screen.proofs.Readers as readers
 use Rattle.bios_screen.proofs.Cursors as cursors

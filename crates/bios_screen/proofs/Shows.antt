@@ -30,7 +30,7 @@ pub record HasData (row : ModeRow) (d : BiosData) : Type 0 where
   pub start : d.start ≡ d.size * d.page
   pub page : d.page < row.pages
 
-data_is : (row : ModeRow) (d : BiosData) → shows_data row d ≡ true → HasData row d
+pub data_is : (row : ModeRow) (d : BiosData) → shows_data row d ≡ true → HasData row d
 data_is row d h =
     let a = both_true (d.columns == row.columns) _ h in
     let b = both_true (d.size == row.size) _ a.1 in

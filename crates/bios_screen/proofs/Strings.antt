@@ -22,9 +22,10 @@ use Rattle.bios_services.specs.Refusals.{page_named, string_refusal, refusal_in_
 use Rattle.bios_services.specs.Service.{plan_of}
 use Rattle.bios_screen.specs.Screen.{Screen}
 use Rattle.bios_screen.specs.Shown.{shown}
-use Rattle.bios_screen.specs.Bounds.{IsBda}
+use Rattle.bios_modes.specs.Bounds.{IsBda}
 use Rattle.bios_screen.specs.Step.{page_meant, string_refused, refused_on, next, answer_on, typed, typed_on, string_typed, with_place as placed_on}
-use Rattle.bios_screen.specs.Served.{AreBytes, IsServed}
+use Rattle.bios_screen.specs.Served.{IsServed}
+use Rattle.bios_modes.specs.Bounds.{AreBytes}
 use Rattle.bios_screen.proofs.PlanLemmas.{run_bind}
 use Rattle.bios_screen.proofs.Kept.{KeepsBounds, plan_bounds, plan_beam}
 use Rattle.bios_screen.proofs.TestLemmas.{lt_is}

@@ -19,7 +19,7 @@ use Rattle.bios_services.specs.Refusals.{place_refusal, refusal_in_mode}
 use Rattle.bios_services.specs.Service.{plan_of}
 use Rattle.bios_screen.specs.Screen.{Screen}
 use Rattle.bios_screen.specs.Shown.{shown}
-use Rattle.bios_screen.specs.Bounds.{IsBda}
+use Rattle.bios_modes.specs.Bounds.{IsBda}
 use Rattle.bios_screen.specs.Step.{place_refused, refused_on, next, answer_on, with_cells, gone_up, whole_page, last_colour, fed, advanced, put_on, typed, typed_at_cursor, with_place as placed_on}
 use Rattle.bios_screen.specs.Served.{IsServed}
 use Rattle.bios_screen.proofs.PlanLemmas.{run_bind}

@@ -3,10 +3,10 @@ pub mod Screen
 pub mod Shown
 pub mod Colours
 pub mod Step
-pub mod Bounds
 pub mod Fresh
 pub mod Picture
 pub mod Raster
 pub mod Framed
 pub mod Served
 pub mod Called
+pub mod Parts

@@ -1,10 +1,10 @@
 -- What the laws say: from a state that shows a screen a service leads to one that shows the next.
-use Rattle.std.specs.Prelude.{ℕ, ◌≡◌, ◌<◌, false, List, length, slice_index, Some, None, Ok}
+use Rattle.std.specs.Prelude.{ℕ, ◌≡◌, false, List, length, Some, None, Ok}
 use Rattle.vga_card.specs.Card.{CardState}
 use Rattle.vga_card.specs.Bounds.{IsCard}
 use Rattle.vga_card.specs.Bus.{card_meaning}
 use Rattle.bios_modes.specs.Bda.{BiosData}
-use Rattle.bios_screen.specs.Bounds.{IsBda}
+use Rattle.bios_modes.specs.Bounds.{IsBda, AreBytes}
 use Rattle.bios_services.specs.declared.regs.Regs.{Regs}
 use Rattle.bios_modes.specs.declared.modes.ModeRow.{ModeRow}
 use Rattle.bios_modes.specs.Fonts.{FontSet}
@@ -30,10 +30,6 @@ pub record IsServed (service : Service) (fonts : FontSet) (r : Regs) (block : Li
   pub answer : refused_on s service (length block) ≡ None → (after_service service fonts r block c d).1.0 ≡ answer_on s service r
   pub shows : refused_on s service (length block) ≡ None → shown (after_service service fonts r block c d).0 (after_service service fonts r block c d).1.1 ≡ Some (next s service block)
   pub beam : (after_service service fonts r block c d).0.crtc.beam ≡ c.crtc.beam
-
--- the bytes of a block, and those of a font
-abbrev pub AreBytes : List ℕ → Type 0
-AreBytes bytes = (i : ℕ) → slice_index bytes i < 256
 
 -- from every state that shows a screen the service leads to one that shows the next
 abbrev pub Serves : Service → Type 0

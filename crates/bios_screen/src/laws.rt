@@ -15,10 +15,11 @@ ghost use Rattle.bios_services.specs.declared.call.Service.{Service};
 ghost use Rattle.bios_services.specs.Calls.{call_of};
 ghost use Rattle.bios_services.specs.declared.call.Service.TheVariants.{SetCursorType, SetCursor, ReadCursor, SelectPage, ReadCell, WriteCells, ScrollUp, ScrollDown, WritePixel, ReadPixel, Teletype, WriteString, ReadMode, ReadAdapter, ReadDisplay};
 ghost use Rattle.bios_modes.specs.Modes.{colour_text, monochrome_text};
-ghost use Rattle.bios_screen.specs.Bounds.{IsBda};
+ghost use Rattle.bios_modes.specs.Bounds.{IsBda};
 ghost use Rattle.bios_screen.specs.Screen.{Screen};
 ghost use Rattle.bios_screen.specs.Shown.{shown};
-ghost use Rattle.bios_screen.specs.Served.{AreBytes, Serves, SetsFresh, after_call};
+ghost use Rattle.bios_screen.specs.Served.{Serves, SetsFresh, after_call};
+ghost use Rattle.bios_modes.specs.Bounds.{AreBytes};
 ghost use Rattle.bios_screen.specs.Called.{AreWords, is_colours, IsCalled};
 
 use vga_card::laws::bounds_stay;

@@ -3,3 +3,12 @@
 
 pub mod frames;
 pub mod laws;
+mod palette;
+mod reading;
+pub mod screen;
+mod shown;
+
+pub use screen::Screen;
+
+#[cfg(test)]
+mod tests;

@@ -1,0 +1,17 @@
+//! What BIOS data and fonts hold. The clauses are for proofs: nothing runs.
+ghost use Rattle.std.specs.Prelude.{ℕ, ◌<◌, slice_index};
+ghost use Rattle.bios_modes.specs.Bounds.{AreBytes};
+
+/// Bytes are below 256.
+pub(crate) fn bytes_fit(bytes: &[u8])
+    ensures { AreBytes bytes.now }
+{
+    let _ = bytes;
+}
+
+/// Words are below 65,536.
+pub(crate) fn words_fit(words: &[u16])
+    ensures { (i : ℕ) → slice_index words.now i < 65536 }
+{
+    let _ = words;
+}

@@ -1,0 +1,97 @@
+//! The plain screen.
+ghost use Rattle.std.specs.Prelude.{◌≡◌};
+ghost use Rattle.bios_screen.specs.Parts.{cell_at, pixel_at, cursor_at};
+
+use crate::palette::Palette;
+use std::marker::Model;
+
+/// How the cells are cut: columns and rows of characters on a page, scan lines of a character, how many
+/// cells lead from a page to the next, and how many pages there are.
+#[derive(Clone, Copy)]
+pub(crate) struct Layout {
+    pub(crate) columns: u16,
+    pub(crate) rows: u16,
+    pub(crate) height: u16,
+    pub(crate) distance: u16,
+    pub(crate) pages: u8,
+}
+
+/// A plain screen: what programs see that use the video BIOS alone.
+///
+/// Contracts see one record: mode, layout, cells, places and type of the cursor, active page, palette,
+/// overscan, blinking, glyphs, and the frame's number modulo 32.
+#[derive(Drop)]
+pub struct Screen {
+    pub(crate) mode: u8,
+    pub(crate) layout: Layout,
+    pub(crate) cells: Vec<(u8, u8)>,
+    pub(crate) places: [u16; 8],
+    pub(crate) cursor_type: u16,
+    pub(crate) page: u8,
+    pub(crate) palette: Palette,
+    pub(crate) overscan: u8,
+    pub(crate) is_blink: bool,
+    pub(crate) glyphs: Vec<u8>,
+    pub(crate) frame: u8,
+}
+
+impl Model for Screen {
+    ghost use Rattle.std.specs.Prelude.{vec_len};
+    ghost use Rattle.bios_screen.specs.Screen.{Screen as PlainScreen, Cells};
+    ghost use Rattle.bios_screen.specs.Parts.{IsLaidOut};
+
+    ghost Value = { PlainScreen };
+
+    ghost view = { λ s. record {
+      mode = s.mode;
+      layout = record { columns = s.layout.columns; rows = s.layout.rows; height = s.layout.height; distance = s.layout.distance; pages = s.layout.pages };
+      contents = Cells s.cells.items;
+      places = s.places;
+      cursor_type = s.cursor_type;
+      page = s.page;
+      palette = record { values = s.palette.values; reds = s.palette.reds; greens = s.palette.greens; blues = s.palette.blues; mask = s.palette.mask };
+      overscan = s.overscan;
+      is_blink = s.is_blink;
+      glyphs = s.glyphs.items;
+      frame = s.frame;
+    } };
+
+    ghost invariant = { λ s. IsLaidOut (vec_len s.cells) s.layout.columns s.layout.rows s.layout.distance s.layout.pages };
+}
+
+impl Screen {
+    /// The character and the attribute of the cell at a row and a column of a page, where there is one:
+    /// none in graphics.
+    pub fn cell(&self, page: u8, row: u8, column: u8) -> Option<(u8, u8)>
+        ensures { result ≡ cell_at self.now page row column }
+    {
+        let layout = self.layout;
+        if page < layout.pages && (row as u16) < layout.rows && (column as u16) < layout.columns {
+            let start = layout.distance as usize * page as usize;
+            let place = layout.columns as usize * row as usize + column as usize;
+            Some(self.cells[start + place])
+        } else {
+            None
+        }
+    }
+
+    /// The pixel at column `x` of line `y` of a page, where there is one: none in text.
+    pub fn pixel(&self, page: u8, x: u16, y: u16) -> Option<u8>
+        ensures { result ≡ pixel_at self.now page x y }
+    {
+        let _ = (self.cells.len(), page, x, y);
+        None
+    }
+
+    /// Row and column of the cursor on a page, where it is one of eight.
+    pub fn cursor(&self, page: u8) -> Option<(u8, u8)>
+        ensures { result ≡ cursor_at self.now page }
+    {
+        if page < 8 {
+            let place = self.places[page as usize];
+            Some(((place / 256) as u8, (place % 256) as u8))
+        } else {
+            None
+        }
+    }
+}

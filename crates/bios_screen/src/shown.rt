@@ -1,0 +1,156 @@
+//! Whether the adapter shows a screen.
+ghost use Rattle.std.specs.Prelude.{◌≡◌, ◌≤◌, ◌*◌, true, drop, length, Some};
+ghost use Rattle.std.specs.Str.{bytes_eq};
+ghost use Rattle.bios_modes.specs.Modes.{mode_row};
+ghost use Rattle.bios_services.specs.ModeSet.{is_text as is_text_of};
+ghost use Rattle.bios_screen.specs.Shown.{shows_memory as shows_memory_of, shows_data as shows_data_of, shows_attribute as shows_attribute_of, shows_text, crtc_shown};
+
+use bios_modes::{Bda, ModeRow};
+use vga_attr::Attr;
+use vga_card::Card;
+use vga_crtc::Crtc;
+use vga_host::Host;
+
+/// Whether a mode is one of text.
+fn is_text(mode: u8) -> bool
+    ensures { result ≡ is_text_of mode }
+{
+    mode == 0x03 || mode == 0x07
+}
+
+/// The registers of the sequencer.
+fn sequencer_of(host: &Host) -> [u8; 5]
+    ensures { result ≡ host.now.seq }
+{
+    host.bounds();
+    [
+        host.seq(0),
+        host.seq(1),
+        host.seq(2),
+        host.seq(3),
+        host.seq(4),
+    ]
+}
+
+/// The registers of the graphics controller.
+fn graphics_of(host: &Host) -> [u8; 9]
+    ensures { result ≡ host.now.gfx }
+{
+    host.bounds();
+    [
+        host.gfx(0),
+        host.gfx(1),
+        host.gfx(2),
+        host.gfx(3),
+        host.gfx(4),
+        host.gfx(5),
+        host.gfx(6),
+        host.gfx(7),
+        host.gfx(8),
+    ]
+}
+
+/// Whether the registers that memory cycles look at are the mode's.
+fn shows_memory(card: &Card, row: &ModeRow) -> bool
+    ensures { result ≡ shows_memory_of row.now card.now }
+{
+    let regs = card.regs();
+    regs.misc == row.misc
+        && sequencer_of(regs.host) == row.sequencer
+        && graphics_of(regs.host) == row.graphics
+}
+
+/// Whether the data are those of the mode, and the page is one of its pages.
+fn shows_data(bda: &Bda, row: &ModeRow) -> bool
+    ensures { result ≡ shows_data_of row.now bda.now }
+{
+    bda.columns() == row.columns
+        && bda.size() == row.size
+        && bda.last_row() == row.last_row
+        && bda.height() == row.height as u16
+        && bda.crtc_address() == row.crtc_address
+        && bda.start() as u32 == bda.size() as u32 * bda.page() as u32
+        && bda.page() < row.pages
+}
+
+/// The registers of the CRT controller that show the active page of text with its cursor.
+fn wanted_registers(bda: &Bda, row: &ModeRow) -> [u8; 25]
+    requires all { length row.now.crtc ≡ 25 }
+    requires text { is_text_of bda.now.mode ≡ true }
+    requires columns { bda.now.columns ≤ 80 }
+    requires start { bda.now.size * bda.now.page ≤ 65536 }
+    requires page { bda.now.page ≤ 7 }
+    ensures { result ≡ crtc_shown row.now bda.now }
+{
+    bda.bounds();
+    let cursor_type = bda.cursor_type();
+    let page = bda.page();
+    let start = bda.size() as u32 * page as u32 / 2;
+    let place = bda.cursor_place(page as usize);
+    let location = start + (bda.columns() as u32 * (place / 256) as u32 + (place % 256) as u32);
+    let mut registers = row.crtc;
+    registers[0x0A] = (cursor_type / 256) as u8 & 0x3F;
+    registers[0x0B] = (cursor_type % 256) as u8 & 0x7F;
+    registers[0x0C] = (start / 256) as u8;
+    registers[0x0D] = (start % 256) as u8;
+    registers[0x0E] = (location / 256) as u8;
+    registers[0x0F] = (location % 256) as u8;
+    registers
+}
+
+/// Whether the CRT controller has these registers.
+fn has_registers(crtc: &Crtc, wanted: &[u8]) -> bool
+    requires { length wanted.now ≡ 25 }
+    ensures { result ≡ bytes_eq crtc.now.registers wanted.now }
+{
+    crtc.bounds();
+    for i in 0..25 {
+        if crtc.regs(i) != wanted[i] {
+            return false;
+        }
+    }
+    true
+}
+
+/// The registers of the attribute controller behind the overscan.
+fn registers_behind_overscan(attr: &Attr) -> [u8; 3]
+    ensures { result ≡ drop 0x12 attr.now.registers }
+{
+    attr.bounds();
+    [attr.regs(0x12), attr.regs(0x13), attr.regs(0x14)]
+}
+
+/// Those of a mode.
+fn row_behind_overscan(row: &ModeRow) -> [u8; 3]
+    ensures { result ≡ drop 0x12 row.now.attribute }
+{
+    [
+        row.attribute[0x12],
+        row.attribute[0x13],
+        row.attribute[0x14],
+    ]
+}
+
+/// Whether the attribute controller shows its palette, and its registers are the mode's but for blinking
+/// and overscan.
+fn shows_attribute(attr: &Attr, row: &ModeRow) -> bool
+    ensures { result ≡ shows_attribute_of row.now attr.now }
+{
+    attr.is_palette_shown()
+        && attr.regs(0x10) & 0xF7 == row.attribute[0x10] & 0xF7
+        && registers_behind_overscan(attr) == row_behind_overscan(row)
+}
+
+/// Whether the adapter and the data show a text screen of the mode.
+#[tactic(auto, unfolding(crate::specs::Shown::shows_text))]
+pub(crate) fn is_shown(card: &Card, bda: &Bda, row: &ModeRow) -> bool
+    requires { mode_row bda.now.mode ≡ Some row.now }
+    ensures { result ≡ shows_text row.now card.now bda.now }
+{
+    let regs = card.regs();
+    is_text(bda.mode())
+        && shows_memory(card, row)
+        && shows_data(bda, row)
+        && has_registers(regs.crtc, &wanted_registers(bda, row))
+        && shows_attribute(regs.attr, row)
+}
