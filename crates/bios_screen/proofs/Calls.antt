@@ -16,6 +16,7 @@ use Rattle.bios_services.specs.declared.call.Service.{Service}
 use Rattle.bios_services.specs.declared.call.Service.TheVariants.{ReadDisplay}
 use Rattle.bios_services.specs.Plan.{Plan, run, Done, ◌>>=◌}
 use Rattle.bios_services.specs.declared.colours.ColourService.{ColourService}
+use Rattle.bios_services.specs.declared.colours.ColourService.TheVariants.{ReadMask}
 use Rattle.bios_services.specs.Registers.{high, low}
 use Rattle.bios_services.specs.Colours.{colour_service_of}
 use Rattle.bios_services.specs.CellRuns.{cell_run_of}
@@ -28,9 +29,9 @@ use Rattle.bios_modes.specs.Bounds.{IsBda}
 use Rattle.bios_screen.specs.Screen.{Screen}
 use Rattle.bios_screen.specs.Shown.{shown}
 use Rattle.bios_screen.specs.Step.{refused_on, next, answer_on}
-use Rattle.bios_screen.specs.Served.{IsServed, Serves, after_call}
+use Rattle.bios_screen.specs.Served.{FitsBytes, IsServed, Serves, after_call}
 use Rattle.bios_modes.specs.Bounds.{AreBytes}
-use Rattle.bios_screen.specs.Called.{AreWords, is_colours, reply_unless, screen_unless, IsCalled}
+use Rattle.bios_screen.specs.Called.{AreWords, reply_unless, screen_unless, IsCalled}
 use Rattle.bios_screen.proofs.PlanLemmas.{run_bind}
 use Rattle.bios_screen.proofs.Kept.{KeepsBounds, plan_beam}
 use Rattle.bios_screen.proofs.Shows.{shown_is}
@@ -38,17 +39,9 @@ use Rattle.bios_screen.proofs.Served as served
 
 -- ---- each service that registers ask for is served
 
--- what is claimed of a service
-abbrev Told : Service → Type 0
-Told service = is_colours service ≡ false → Serves service
-
-choose : (b : Bool) (x y : Option Service) → IfSome x Told → IfSome y Told → IfSome (if b then x else y) Told
+choose : (b : Bool) (x y : Option Service) → IfSome x Serves → IfSome y Serves → IfSome (if b then x else y) Serves
 choose true x y f g = f
 choose false x y f g = g
-
-colours_told : (x : Option ColourService) → IfSome (as_colours x) Told
-colours_told None = tt
-colours_told (Some service) = λ e. absurd (cc)
 
 high_small : (n : ℕ) → n < 65536 → high n < 256
 high_small n l = omega arith
@@ -56,25 +49,52 @@ high_small n l = omega arith
 low_small : (n : ℕ) → low n < 256
 low_small n = omega arith
 
-asked_is_served : KeepsBounds → (r : Regs) → AreWords r → IfSome (service_of r) Told
+-- the subfunctions of function 10, whose overscan is a byte
+choose_colours : (b : Bool) (x y : Option ColourService) → IfSome x FitsBytes → IfSome y FitsBytes → IfSome (if b then x else y) FitsBytes
+choose_colours true x y f g = f
+choose_colours false x y f g = g
+
+colours_fit : (r : Regs) → AreWords r → IfSome (colour_service_of r) FitsBytes
+colours_fit r w =
+    let al = low r.ax in
+    choose_colours (al == 0x00) _ _ tt
+    (choose_colours (al == 0x01) _ _ (high_small r.bx w.bx)
+    (choose_colours (al == 0x02) _ _ tt
+    (choose_colours (al == 0x03) _ _ tt
+    (choose_colours (al == 0x07) _ _ tt
+    (choose_colours (al == 0x08) _ _ tt
+    (choose_colours (al == 0x10) _ _ tt
+    (choose_colours (al == 0x12) _ _ tt
+    (choose_colours (al == 0x15) _ _ tt
+    (choose_colours (al == 0x18) _ _ tt
+    (choose_colours (al == 0x19) (Some ReadMask) None tt tt))))))))))
+
+colours_are_served : (r : Regs) → AreWords r → IfSome (as_colours (colour_service_of r)) Serves
+colours_are_served r w = by_service (colour_service_of r) (colours_fit r w)
+  where
+    by_service : (x : Option ColourService) → IfSome x FitsBytes → IfSome (as_colours x) Serves
+    by_service None f = tt
+    by_service (Some service) f = served.set_colours service f
+
+asked_is_served : KeepsBounds → (r : Regs) → AreWords r → IfSome (service_of r) Serves
 asked_is_served law r w =
-    choose (high r.ax == 0x01) _ _ (λ _. served.set_cursor_type r.cx)
-    (choose (high r.ax == 0x02) _ _ (λ _. served.set_cursor (high r.bx) r.dx w.dx)
-    (choose (high r.ax == 0x03) _ _ (λ _. served.read_cursor (high r.bx))
-    (choose (high r.ax == 0x05) _ _ (λ _. served.select_page (low r.ax))
-    (choose (high r.ax == 0x06) _ _ (λ _. served.scroll_up (scroll_of r) (high_small r.bx w.bx))
-    (choose (high r.ax == 0x07) _ _ (λ _. served.scroll_down (scroll_of r) (high_small r.bx w.bx))
-    (choose (high r.ax == 0x08) _ _ (λ _. served.read_cell (high r.bx))
-    (choose (high r.ax == 0x09) _ _ (λ _. served.write_cells (cell_run_of r true) (low_small r.ax) (low_small r.bx))
-    (choose (high r.ax == 0x0A) _ _ (λ _. served.write_cells (cell_run_of r false) (low_small r.ax) (low_small r.bx))
-    (choose (high r.ax == 0x0C) _ _ (λ _. served.write_pixel (high r.bx) r.cx r.dx (low r.ax))
-    (choose (high r.ax == 0x0D) _ _ (λ _. served.read_pixel (high r.bx) r.cx r.dx)
-    (choose (high r.ax == 0x0E) _ _ (λ _. served.teletype law (low r.ax) (low r.bx) (low_small r.ax) (low_small r.bx))
-    (choose (high r.ax == 0x0F) _ _ (λ _. served.read_mode)
-    (choose (high r.ax == 0x10) _ _ (colours_told (colour_service_of r))
-    (choose ((high r.ax == 0x12) && (low r.bx == 0x10)) _ _ (λ _. served.read_adapter)
-    (choose ((high r.ax == 0x13) && nat_lt (low r.ax) 4) _ _ (λ _. served.write_string law (string_of r) (low_small r.bx))
-    (choose ((high r.ax == 0x1A) && (low r.ax == 0x00)) (Some ReadDisplay) None (λ _. served.read_display) tt))))))))))))))))
+    choose (high r.ax == 0x01) _ _ (served.set_cursor_type r.cx)
+    (choose (high r.ax == 0x02) _ _ (served.set_cursor (high r.bx) r.dx w.dx)
+    (choose (high r.ax == 0x03) _ _ (served.read_cursor (high r.bx))
+    (choose (high r.ax == 0x05) _ _ (served.select_page (low r.ax))
+    (choose (high r.ax == 0x06) _ _ (served.scroll_up (scroll_of r) (high_small r.bx w.bx))
+    (choose (high r.ax == 0x07) _ _ (served.scroll_down (scroll_of r) (high_small r.bx w.bx))
+    (choose (high r.ax == 0x08) _ _ (served.read_cell (high r.bx))
+    (choose (high r.ax == 0x09) _ _ (served.write_cells (cell_run_of r true) (low_small r.ax) (low_small r.bx))
+    (choose (high r.ax == 0x0A) _ _ (served.write_cells (cell_run_of r false) (low_small r.ax) (low_small r.bx))
+    (choose (high r.ax == 0x0C) _ _ (served.write_pixel (high r.bx) r.cx r.dx (low r.ax))
+    (choose (high r.ax == 0x0D) _ _ (served.read_pixel (high r.bx) r.cx r.dx)
+    (choose (high r.ax == 0x0E) _ _ (served.teletype law (low r.ax) (low r.bx) (low_small r.ax) (low_small r.bx))
+    (choose (high r.ax == 0x0F) _ _ (served.read_mode)
+    (choose (high r.ax == 0x10) _ _ (colours_are_served r w)
+    (choose ((high r.ax == 0x12) && (low r.bx == 0x10)) _ _ (served.read_adapter)
+    (choose ((high r.ax == 0x13) && nat_lt (low r.ax) 4) _ _ (served.write_string law (string_of r) (low_small r.bx))
+    (choose ((high r.ax == 0x1A) && (low r.ax == 0x00)) (Some ReadDisplay) None (served.read_display) tt))))))))))))))))
 
 -- ---- the call around a service
 
@@ -138,12 +158,12 @@ service_is r service e = by_test (high r.ax == 0x00) (service_of r) e
     by_test false None h = absurd (cc)
     by_test false (Some t) h = cc
 
-served_if : (x : Option Service) (service : Service) → x ≡ Some service → IfSome x Told → Told service
-served_if x service e f = subst (λ y. IfSome y Told) e f
+served_if : (x : Option Service) (service : Service) → x ≡ Some service → IfSome x Serves → Serves service
+served_if x service e f = subst (λ y. IfSome y Serves) e f
 
-pub calls_lead : KeepsBounds → (service : Service) (fonts : FontSet) (r : Regs) (block : List ℕ) (c : CardState) (d : BiosData) (s : Screen) → IsCard c → IsBda d → AreWords r → AreBytes block → is_colours service ≡ false → shown c d ≡ Some s → call_of r ≡ Some (InMode service) → IsCalled service fonts r block c d s
-calls_lead law service fonts r block c d s z bda w bytes told old e =
-    let serves = served_if (service_of r) service (service_is r service e) (asked_is_served law r w) told in
+pub calls_lead : KeepsBounds → (service : Service) (fonts : FontSet) (r : Regs) (block : List ℕ) (c : CardState) (d : BiosData) (s : Screen) → IsCard c → IsBda d → AreWords r → AreBytes block → shown c d ≡ Some s → call_of r ≡ Some (InMode service) → IsCalled service fonts r block c d s
+calls_lead law service fonts r block c d s z bda w bytes old e =
+    let serves = served_if (service_of r) service (service_is r service e) (asked_is_served law r w) in
     call_done service fonts r block c d s e old (serves fonts r block c d s bytes z bda old)
 
 -- a call for no service is refused

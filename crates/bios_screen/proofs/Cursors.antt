@@ -99,7 +99,7 @@ start_set disp c row type start location n e r l =
 -- ---- the services
 
 -- a screen with other data: the tests that look at the BIOS data and at the CRT controller are given anew
-other_data : (c y : CardState) (d e : BiosData) (h : IsShown c d) → e.mode ≡ d.mode → (setting y ≡ setting c) → shows_attribute h.row y.attr ≡ true → shows_data h.row e ≡ true → y.crtc.registers ≡ crtc_shown h.row e → shown y e ≡ Some (text_screen h.row y e)
+pub other_data : (c y : CardState) (d e : BiosData) (h : IsShown c d) → e.mode ≡ d.mode → (setting y ≡ setting c) → shows_attribute h.row y.attr ≡ true → shows_data h.row e ≡ true → y.crtc.registers ≡ crtc_shown h.row e → shown y e ≡ Some (text_screen h.row y e)
 other_data c y d e h m s a data_test crtc = shown_of y e h.row (ap mode_row m ∙ h.mode) (record {
   is_text = ap is_text m ∙ h.tests.is_text;
   memory = ap (λ (x : Setting). (x.misc == h.row.misc) && (bytes_eq x.seq h.row.sequencer && bytes_eq x.gfx h.row.graphics)) s ∙ h.tests.memory;

@@ -65,7 +65,7 @@ three l i c e w =
     ap (λ x. (run card_meaning (colour_plan l) (record c { dac = record c.dac { component = x } })).0) e
     ∙ ap (λ x. let t : CardState = record c { dac = stored c.dac x (colour_of l) } in t) w
 
-one_entry : (rest : CardState) (colour : List ℕ) (i : ℕ) (s : CardState) (c : ℕ → Colour) → i < 256 → HasEntries rest i s c → Leaves CardState Colour (HasEntries rest (i + 1)) (run card_meaning (colour_plan colour) s).0 (Edited Colour (Unit {0}) (λ _. i) (λ _ x. kept_colour (colour_of colour)) c)
+pub one_entry : (rest : CardState) (colour : List ℕ) (i : ℕ) (s : CardState) (c : ℕ → Colour) → i < 256 → HasEntries rest i s c → Leaves CardState Colour (HasEntries rest (i + 1)) (run card_meaning (colour_plan colour) s).0 (Edited Colour (Unit {0}) (λ _. i) (λ _ x. kept_colour (colour_of colour)) c)
 one_entry rest colour i s c l t =
     let new = kept_colour (colour_of colour) in
     let after : CardState = record s { dac = stored s.dac i (colour_of colour) } in

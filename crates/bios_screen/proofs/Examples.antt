@@ -1,10 +1,13 @@
 -- What services do to a screen of two rows of three cells, computed.
 use Rattle.std.proofs.Common.{◌≡◌, ℕ, refl, List, [], ◌∷◌, Some, None, Bool, true, false}
-use Rattle.vga_bits.specs.declared.refusal.Refusal.TheVariants.{WrongKind, BadPage, Outside, CountPast, BadBlock}
+use Rattle.vga_bits.specs.declared.refusal.Refusal.TheVariants.{WrongKind, BadPage, Outside, CountPast, BadRegister, BadBlock}
 use Rattle.bios_services.specs.declared.cell_run.CellRun.{CellRun}
+use Rattle.bios_services.specs.declared.colours.ColourService.TheVariants.{SetRegister, SetEntries}
 use Rattle.bios_services.specs.declared.call.Service.{Service}
-use Rattle.bios_services.specs.declared.call.Service.TheVariants.{SetCursor, SelectPage, ScrollUp, ScrollDown, WriteCells, WritePixel, Teletype, WriteString}
+use Rattle.bios_services.specs.declared.call.Service.TheVariants.{SetCursor, SelectPage, ScrollUp, ScrollDown, WriteCells, WritePixel, Teletype, Colours, WriteString}
 use Rattle.bios_screen.specs.Screen.{Cell, Cells, Screen}
+use Rattle.bios_services.specs.Colours.{colour_refusal}
+use Rattle.bios_screen.specs.Colours.{coloured as colours_after}
 use Rattle.bios_screen.specs.Step.{refused_on, next, typed, cells_on}
 
 -- a page of these cells, with the cursor at this place
@@ -125,3 +128,28 @@ short_block = refl
 no_dots : refused_on (small six 0) (WritePixel 0 0 0 1) 0 ≡ Some WrongKind
 unfolding refused_on
 no_dots = refl
+
+-- ---- colours
+
+-- a screen whose palette has two values, and whose DAC has three entries
+abbrev coloured : Screen
+coloured = record (small six 0) { palette = record { values = 1 ∷ 2 ∷ []; reds = 10 ∷ 11 ∷ 12 ∷ []; greens = 20 ∷ 21 ∷ 22 ∷ []; blues = 30 ∷ 31 ∷ 32 ∷ []; mask = 0xFF } }
+
+-- six bits of a value are kept
+value_set : (next coloured (Colours (SetRegister 1 0xC5)) []).palette.values ≡ 1 ∷ 5 ∷ []
+unfolding next colours_after
+value_set = refl
+
+-- entries from one on take three bytes each
+entries_set : (next coloured (Colours (SetEntries 1 2)) (1 ∷ 2 ∷ 3 ∷ 4 ∷ 5 ∷ 0x46 ∷ [])).palette ≡ record coloured.palette { reds = 10 ∷ 1 ∷ 4 ∷ []; greens = 20 ∷ 2 ∷ 5 ∷ []; blues = 30 ∷ 3 ∷ 6 ∷ [] }
+unfolding next colours_after
+entries_set = refl
+
+-- a block that is too short, and a register that there is not
+short_entries : refused_on coloured (Colours (SetEntries 1 2)) 5 ≡ Some BadBlock
+unfolding refused_on colour_refusal
+short_entries = refl
+
+no_register : refused_on coloured (Colours (SetRegister 16 0)) 0 ≡ Some BadRegister
+unfolding refused_on colour_refusal
+no_register = refl

@@ -25,6 +25,8 @@ pub mod ModeRegisters
 pub mod Entries
 pub mod Glyphs
 pub mod Fresh
+pub mod Attributes
+pub mod Dacs
 pub mod Served
 pub mod Calls
 pub mod Examples
@@ -34,4 +36,5 @@ pub mod FrameLemmas
 pub mod TextFrames
 pub mod TextDots
 pub mod TextPictures
+pub mod Coloured
 pub mod ReadingLemmas

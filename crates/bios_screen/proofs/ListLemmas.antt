@@ -50,3 +50,10 @@ by_elements f i (x ∷ xs) h =
 -- a list of n numbers is spelled out where n is a numeral
 pub spelled : (l : List ℕ) (n : ℕ) → length l ≡ n → l ≡ listing (slice_index l) 0 n
 spelled l n e = sym (by_elements (slice_index l) 0 l (λ k h. let z : 0 + k ≡ k = omega arith in ap (slice_index l) z)) ∙ ap (listing (slice_index l) 0) e
+
+-- lists of one length are one where their elements are
+pub same_elements : (a b : List ℕ) → length a ≡ length b → ((k : ℕ) → k < length a → slice_index a k ≡ slice_index b k) → a ≡ b
+same_elements [] [] e h = refl
+same_elements [] (y ∷ ys) e h = absurd (omega arith)
+same_elements (x ∷ xs) [] e h = absurd (omega arith)
+same_elements (x ∷ xs) (y ∷ ys) e h = ap (λ z. z ∷ xs) (h 0 (omega arith)) ∙ ap (λ l. y ∷ l) (same_elements xs ys (omega arith) (λ k l. h (suc k) (omega arith)))

@@ -13,7 +13,7 @@ use Rattle.bios_services.specs.Cursor.{cursor_address}
 use Rattle.bios_screen.specs.Listing.{listing}
 use Rattle.bios_screen.specs.Parts.{IsLaidOut}
 use Rattle.bios_screen.specs.Shown.{cell_in, cells_in, glyph_byte, glyphs_in, crtc_registers, crtc_shown, shows_text}
-use Rattle.bios_screen.proofs.ListLemmas.{spelled}
+use Rattle.bios_screen.proofs.ListLemmas.{spelled, same_elements}
 use Rattle.bios_screen.proofs.Display.{text_row_is}
 use Rattle.bios_screen.proofs.Shows.{data_is, tests_of}
 
@@ -43,13 +43,6 @@ no_glyphs a = refl
 pub more_glyphs : (a : List ℕ) (n : ℕ) → glyphs_in a (n + 1) ≡ glyphs_in a n ++ slice_index a (32 * (n / 16) + n % 16) ∷ []
 unfolding glyphs_in
 more_glyphs a n = listed_more (glyph_byte a) n
-
--- lists of one length are one where their elements are
-pub same_elements : (a b : List ℕ) → length a ≡ length b → ((k : ℕ) → k < length a → slice_index a k ≡ slice_index b k) → a ≡ b
-same_elements [] [] e h = refl
-same_elements [] (y ∷ ys) e h = absurd (omega arith)
-same_elements (x ∷ xs) [] e h = absurd (omega arith)
-same_elements (x ∷ xs) (y ∷ ys) e h = ap (λ z. z ∷ xs) (h 0 (omega arith)) ∙ ap (λ l. y ∷ l) (same_elements xs ys (omega arith) (λ k l. h (suc k) (omega arith)))
 
 -- where they are among the first of two lists
 pub same_bytes : (a b : List ℕ) → length a ≡ length b → ((k : ℕ) → k < length a → slice_index a k ≡ slice_index b k) → true ≡ bytes_eq a b

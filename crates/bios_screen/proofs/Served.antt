@@ -9,9 +9,10 @@ use Rattle.bios_services.specs.declared.regs.Regs.{Regs}
 use Rattle.bios_services.specs.declared.scroll.Scroll.{Scroll}
 use Rattle.bios_services.specs.declared.cell_run.CellRun.{CellRun}
 use Rattle.bios_services.specs.declared.strings.StringCall.{StringCall}
+use Rattle.bios_services.specs.declared.colours.ColourService.{ColourService}
 use Rattle.bios_services.specs.declared.call.Service.{Service}
-use Rattle.bios_services.specs.declared.call.Service.TheVariants.{SetCursorType, SetCursor, ReadCursor, SelectPage, ReadCell, WriteCells, ScrollUp, ScrollDown, WritePixel, ReadPixel, Teletype, ReadMode, ReadAdapter, WriteString, ReadDisplay}
-use Rattle.bios_screen.specs.Served.{IsServed, Serves}
+use Rattle.bios_services.specs.declared.call.Service.TheVariants.{SetCursorType, SetCursor, ReadCursor, SelectPage, ReadCell, WriteCells, ScrollUp, ScrollDown, WritePixel, ReadPixel, Teletype, ReadMode, Colours, ReadAdapter, WriteString, ReadDisplay}
+use Rattle.bios_screen.specs.Served.{FitsBytes, IsServed, Serves}
 use Rattle.bios_modes.specs.Bounds.{AreBytes}
 use Rattle.bios_screen.proofs.Shows.{IsShown, screen_shown, shown_is}
 use Rattle.bios_screen.proofs.Readers as readers
@@ -21,6 +22,7 @@ use Rattle.bios_screen.proofs.Kept.{KeepsBounds}
 use Rattle.bios_screen.proofs.Windows as windows
 use Rattle.bios_screen.proofs.Teletypes as teletypes
 use Rattle.bios_screen.proofs.Strings as strings
+use Rattle.bios_screen.proofs.Coloured as coloured
 
 serves : (service : Service) → ((fonts : FontSet) (r : Regs) (block : List ℕ) (c : CardState) (d : BiosData) (h : IsShown c d) → AreBytes block → IsCard c → IsBda d → IsServed service fonts r block c d (screen_shown c d h)) → Serves service
 serves service f fonts r block c d s bytes z bda e = let x = shown_is c d s e in subst (IsServed service fonts r block c d) x.screen (f fonts r block c d x.is bytes z bda)
@@ -69,3 +71,6 @@ teletype law character colour l k = serves (Teletype character colour) (λ fonts
 
 pub write_string : KeepsBounds → (call : StringCall) → call.colour < 256 → Serves (WriteString call)
 write_string law call l = serves (WriteString call) (λ fonts r block c d h bytes z bda. strings.write_string law call fonts r block c d h bytes l z bda)
+
+pub set_colours : (service : ColourService) → FitsBytes service → Serves (Colours service)
+set_colours service f = serves (Colours service) (λ fonts r block c d h bytes z bda. coloured.set_colours service fonts r block c d h f bytes z)

@@ -49,11 +49,11 @@ not_graphics Colour = refl
 not_graphics Monochrome = refl
 
 -- mode control without blink
-abbrev control_of : Display → ℕ
+abbrev pub control_of : Display → ℕ
 control_of Colour = 0x04
 control_of Monochrome = 0x06
 
-control_by : (k : Display) → bit_and (slice_index (row_of k).attribute 0x10) 0xF7 ≡ control_of k
+pub control_by : (k : Display) → bit_and (slice_index (row_of k).attribute 0x10) 0xF7 ≡ control_of k
 control_by Colour = refl
 control_by Monochrome = refl
 

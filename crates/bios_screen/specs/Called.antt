@@ -1,6 +1,6 @@
 -- A call on a plain screen: its reply or refusal, and the screen afterwards.
 -- From the IBM PS/2 and PC BIOS Interface Technical Reference, "Interrupt 10H - Video".
-use Rattle.std.specs.Prelude.{ℕ, ◌≡◌, ◌<◌, Bool, true, false, List, length, Option, Some, None, Result, Ok, Err}
+use Rattle.std.specs.Prelude.{ℕ, ◌≡◌, ◌<◌, List, length, Option, Some, None, Result, Ok, Err}
 use Rattle.vga_bits.specs.declared.refusal.Refusal.{Refusal}
 use Rattle.vga_card.specs.Card.{CardState}
 use Rattle.bios_modes.specs.Bda.{BiosData}
@@ -9,7 +9,6 @@ use Rattle.bios_services.specs.declared.regs.Regs.{Regs}
 use Rattle.bios_services.specs.declared.reply.Reply.{Reply}
 use Rattle.bios_services.specs.declared.reply.Table.TheVariants.{Empty}
 use Rattle.bios_services.specs.declared.call.Service.{Service}
-use Rattle.bios_services.specs.declared.call.Service.TheVariants.{Colours}
 use Rattle.bios_screen.specs.Screen.{Screen}
 use Rattle.bios_screen.specs.Shown.{shown}
 use Rattle.bios_screen.specs.Step.{refused_on, next, answer_on}
@@ -21,11 +20,6 @@ pub record AreWords (r : Regs) : Type 0 where
   pub bx : r.bx < 65536
   pub cx : r.cx < 65536
   pub dx : r.dx < 65536
-
--- the services of colours, function 10
-abbrev pub is_colours : Service → Bool
-is_colours (Colours service) = true
-is_colours service = false
 
 -- the reply of a service, unless it is refused
 abbrev pub reply_unless : Option Refusal → Regs → Result Reply Refusal

@@ -1,5 +1,5 @@
 -- What the laws say: from a state that shows a screen a service leads to one that shows the next.
-use Rattle.std.specs.Prelude.{ℕ, ◌≡◌, false, List, length, Some, None, Ok}
+use Rattle.std.specs.Prelude.{ℕ, ◌≡◌, ◌<◌, false, List, length, Some, None, Ok}
 use Rattle.vga_card.specs.Card.{CardState}
 use Rattle.vga_card.specs.Bounds.{IsCard}
 use Rattle.vga_card.specs.Bus.{card_meaning}
@@ -11,6 +11,8 @@ use Rattle.bios_modes.specs.Fonts.{FontSet}
 use Rattle.bios_services.specs.declared.reply.Table.TheVariants.{Empty}
 use Rattle.bios_services.specs.declared.call.Call.TheVariants.{SetMode}
 use Rattle.bios_services.specs.declared.call.Service.{Service}
+use Rattle.bios_services.specs.declared.colours.ColourService.{ColourService}
+use Rattle.bios_services.specs.declared.colours.ColourService.TheVariants.{SetOverscan}
 use Rattle.bios_services.specs.Plan.{run}
 use Rattle.bios_services.specs.Refusals.{refusal_in_mode}
 use Rattle.bios_services.specs.Calls.{call_of}
@@ -30,6 +32,11 @@ pub record IsServed (service : Service) (fonts : FontSet) (r : Regs) (block : Li
   pub answer : refused_on s service (length block) ≡ None → (after_service service fonts r block c d).1.0 ≡ answer_on s service r
   pub shows : refused_on s service (length block) ≡ None → shown (after_service service fonts r block c d).0 (after_service service fonts r block c d).1.1 ≡ Some (next s service block)
   pub beam : (after_service service fonts r block c d).0.crtc.beam ≡ c.crtc.beam
+
+-- the overscan that a subfunction of function 10 sets is a byte
+abbrev pub FitsBytes : ColourService → Type 0
+FitsBytes (SetOverscan value) = value < 256
+FitsBytes service = Unit {0}
 
 -- from every state that shows a screen the service leads to one that shows the next
 abbrev pub Serves : Service → Type 0

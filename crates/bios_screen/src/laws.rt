@@ -1,6 +1,6 @@
 //! Laws of plain screens, each of which is a contract, and nothing that runs: from a state that shows a
 //! screen a service leads to one that shows the next, with the screen's answer or refusal.
-ghost use Rattle.std.specs.Prelude.{ℕ, ◌≡◌, ◌<◌, false, List, Some, None, Err};
+ghost use Rattle.std.specs.Prelude.{ℕ, ◌≡◌, ◌<◌, List, Some, None, Err};
 ghost use Rattle.vga_bits.specs.declared.refusal.Refusal.TheVariants.{BadFunction};
 ghost use Rattle.vga_card.specs.Bounds.{IsCard};
 ghost use Rattle.vga_card.specs.Card.{CardState};
@@ -10,17 +10,18 @@ ghost use Rattle.bios_services.specs.declared.regs.Regs.{Regs};
 ghost use Rattle.bios_services.specs.declared.scroll.Scroll.{Scroll};
 ghost use Rattle.bios_services.specs.declared.cell_run.CellRun.{CellRun};
 ghost use Rattle.bios_services.specs.declared.strings.StringCall.{StringCall};
+ghost use Rattle.bios_services.specs.declared.colours.ColourService.{ColourService};
 ghost use Rattle.bios_services.specs.declared.call.Call.TheVariants.{InMode};
 ghost use Rattle.bios_services.specs.declared.call.Service.{Service};
 ghost use Rattle.bios_services.specs.Calls.{call_of};
-ghost use Rattle.bios_services.specs.declared.call.Service.TheVariants.{SetCursorType, SetCursor, ReadCursor, SelectPage, ReadCell, WriteCells, ScrollUp, ScrollDown, WritePixel, ReadPixel, Teletype, WriteString, ReadMode, ReadAdapter, ReadDisplay};
+ghost use Rattle.bios_services.specs.declared.call.Service.TheVariants.{SetCursorType, SetCursor, ReadCursor, SelectPage, ReadCell, WriteCells, ScrollUp, ScrollDown, WritePixel, ReadPixel, Teletype, WriteString, Colours, ReadMode, ReadAdapter, ReadDisplay};
 ghost use Rattle.bios_modes.specs.Modes.{colour_text, monochrome_text};
 ghost use Rattle.bios_modes.specs.Bounds.{IsBda};
 ghost use Rattle.bios_screen.specs.Screen.{Screen};
 ghost use Rattle.bios_screen.specs.Shown.{shown};
-ghost use Rattle.bios_screen.specs.Served.{Serves, SetsFresh, after_call};
+ghost use Rattle.bios_screen.specs.Served.{FitsBytes, Serves, SetsFresh, after_call};
 ghost use Rattle.bios_modes.specs.Bounds.{AreBytes};
-ghost use Rattle.bios_screen.specs.Called.{AreWords, is_colours, IsCalled};
+ghost use Rattle.bios_screen.specs.Called.{AreWords, IsCalled};
 
 use vga_card::laws::bounds_stay;
 
@@ -68,17 +69,22 @@ pub fn typing_is_served()
     bounds_stay();
 }
 
+/// Function 10: palette, overscan, blinking and DAC are set and answered.
+pub fn colours_are_served()
+    ensures { (service : ColourService) → FitsBytes service → Serves (Colours service) }
+{}
+
 /// Functions 0C and 0D: text has no dots.
 pub fn dots_are_refused()
     ensures written { (page x y colour : ℕ) → Serves (WritePixel page x y colour) }
     ensures read { (page x y : ℕ) → Serves (ReadPixel page x y) }
 {}
 
-/// From every state that shows a screen a call for a service other than those of colours replies as on the screen, or is refused as
+/// From every state that shows a screen a call for a service replies as on the screen, or is refused as
 /// there, and leads to a state that shows the next screen; a call for no service changes nothing.
 pub fn calls_lead_to_screens()
     ensures served { (service : Service) (fonts : FontSet) (r : Regs) (block : List ℕ) (c : CardState) (d : BiosData) (s : Screen) →
-        IsCard c → IsBda d → AreWords r → AreBytes block → is_colours service ≡ false → shown c d ≡ Some s → call_of r ≡ Some (InMode service) → IsCalled service fonts r block c d s }
+        IsCard c → IsBda d → AreWords r → AreBytes block → shown c d ≡ Some s → call_of r ≡ Some (InMode service) → IsCalled service fonts r block c d s }
     ensures unknown { (fonts : FontSet) (r : Regs) (block : List ℕ) (c : CardState) (d : BiosData) (s : Screen) →
         shown c d ≡ Some s → call_of r ≡ None → after_call fonts r block c d ≡ (c, (Err BadFunction, d)) }
 {

@@ -1,0 +1,5 @@
+use Rattle.bios_screen.proofs.Served.{set_colours}
+use Rattle.bios_screen.proofs.laws.colours_are_served.Goals as goal
+
+pub returns : goal.returns
+returns c = set_colours
