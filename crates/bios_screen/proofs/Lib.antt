@@ -33,6 +33,7 @@ pub mod Examples
 pub mod PictureExamples
 pub mod DotLists
 pub mod FrameLemmas
+pub mod TextRows
 pub mod TextFrames
 pub mod TextDots
 pub mod TextPictures

@@ -1,5 +1,5 @@
 -- The dot at a place of a text screen's frame is the screen's.
-use Rattle.std.proofs.Common.{◌≡◌, ℕ, ◌+◌, ◌-◌, ◌*◌, ◌/◌, ◌%◌, ◌<◌, refl, sym, ap, ◌∙◌, arith, Bool, true, false, List, [], ◌∷◌}
+use Rattle.std.proofs.Common.{◌≡◌, ℕ, ◌+◌, ◌-◌, ◌*◌, ◌/◌, ◌%◌, ◌<◌, refl, sym, ap, subst, ◌∙◌, arith, Bool, true, false, List, [], ◌∷◌}
 use Rattle.std.specs.Prelude.{nat_lt, nat_le, not, if◌then◌else◌, ◌==◌, ◌&&◌, slice_index, bit_and, drop, take}
 use Rattle.std.specs.Int.{bit_at}
 use Rattle.std.specs.Str.{bytes_eq}
@@ -11,7 +11,7 @@ use Rattle.vga_planes.specs.Planes.{byte_at}
 use Rattle.vga_host.specs.Fields.{is_eight_dots, character_width as host_width, is_screen_off, character_map_a, character_map_b, is_graphics, is_256_colours}
 use Rattle.vga_crtc.specs.declared.beam.Beam.{Beam}
 use Rattle.vga_crtc.specs.Crtc.{CrtcState}
-use Rattle.vga_crtc.specs.Fields.{cursor_start, is_cursor_off, cursor_end, cursor_location, underline_location, is_double_word, is_address_wrap, is_byte_mode, maximum_scan_line, is_double_scan, offset}
+use Rattle.vga_crtc.specs.Fields.{cursor_start, is_cursor_off, cursor_end, cursor_location, underline_location}
 use Rattle.vga_crtc.specs.Raster.{regular_beam}
 use Rattle.vga_attr.specs.Fields.{is_palette_shown, is_monochrome, is_line_graphics, is_colour_select_wide, colour_select_high, colour_select_middle, overscan, panning}
 use Rattle.vga_attr.specs.Colour.{picked, colour_index}
@@ -35,12 +35,15 @@ use Rattle.bios_screen.specs.Picture.{glyph_row, is_glyph_dot, is_underlined, is
 use Rattle.bios_screen.proofs.ListLemmas.{listed_at, spelled}
 use Rattle.bios_screen.proofs.TestLemmas.{both_true, same, lt_test}
 use Rattle.bios_screen.proofs.Setting.{Setting}
+use Rattle.std.proofs.lemmas.Nat.{mod_below}
+use Rattle.std.proofs.Math.Nat.{div-lt_iff_lt-mul}
+use Rattle.bios_screen.proofs.Places.{ends_before}
+use Rattle.bios_screen.proofs.TextRows.{IsTextFrame, frame_of}
 use Rattle.bios_screen.proofs.Display.{Display, row_of, number_of, window_of}
 use Rattle.bios_screen.proofs.Display.Display.{Colour, Monochrome}
 use Rattle.bios_screen.proofs.Shows.{IsShown, screen_shown}
 use Rattle.bios_screen.proofs.Renewed.{cells_at}
 use Rattle.bios_screen.proofs.Writes.{lies}
-use Rattle.bios_screen.proofs.TextFrames.{registers_of, registers_are}
 
 -- ---- what differs between the two displays
 
@@ -91,14 +94,14 @@ control_bit v n i e one = sym (off_right (is_set v i)) ∙ ap (λ b. is_set v i 
 
 -- ---- numbers
 
-counter_is : (page v x : ℕ) → page < 8 → v < 400 → x < 80 → (2048 * page + 80 * (v / 16) + x) % 65536 ≡ 2048 * page + (80 * (v / 16) + x)
-counter_is page v x lp lv lx = omega arith
+counter_is : (a b x : ℕ) → a + (b + x) < 16384 → (a + b + x) % 65536 ≡ a + (b + x)
+counter_is a b x l = omega arith
 
-address_is : (page q : ℕ) → page < 8 → q < 2000 → 2 * (2048 * page + q) % 65536 + bit_at (2048 * page + q) 15 ≡ 2 * (2048 * page + q)
-address_is page q lp lq = omega arith
+address_is : (n : ℕ) → n < 16384 → 2 * n % 65536 + bit_at n 15 ≡ 2 * n
+address_is n l = omega arith
 
-base_is : (g v : ℕ) → g < 8 → v < 400 → (2048 * g + 2 * 40 * (v / 16)) % 65536 ≡ 2048 * g + 80 * (v / 16)
-base_is g v lg lv = omega arith
+base_is : (a b : ℕ) → a + b < 16384 → (a + b) % 65536 ≡ a + b
+base_is a b l = omega arith
 
 start_field : (n : ℕ) → field (bit_and n 0x3F) 4 0 ≡ field n 4 0
 start_field n = let e = and_mask n 6 in omega (arith, e)
@@ -122,40 +125,49 @@ glyphs_at : (plane2 : List ℕ) (n i : ℕ) → i < n → slice_index (glyphs_in
 unfolding glyphs_in
 glyphs_at plane2 n i l = listed_at (glyph_byte plane2) n i 0 l
 
--- the beam at a place of a picture of page g
-abbrev pub text_beam : ℕ → ℕ → ℕ → ℕ → ℕ → Beam
-text_beam g frame v x k = record { frame = frame; line = v; character = x; dot = k; base = 2048 * g + 80 * (v / 16); scan = v % 16; half = false; split = false }
-
-regular_by : (disp : Display) (type start location g frame v x k : ℕ) → g < 8 → v < 400 → regular_beam (registers_of disp type start location) (2048 * g) frame v x k ≡ text_beam g frame v x k
-unfolding maximum_scan_line is_double_scan offset
-regular_by Colour type start location g frame v x k lg lv = ap (λ b. record (text_beam g frame v x k) { base = b }) (base_is g v lg lv)
-regular_by Monochrome type start location g frame v x k lg lv = ap (λ b. record (text_beam g frame v x k) { base = b }) (base_is g v lg lv)
-
-fetch_by : (disp : Display) (type start location n : ℕ) → fetch_address (registers_of disp type start location) n ≡ 2 * n % 65536 + bit_at n 15
-unfolding fetch_address is_double_word is_byte_mode is_address_wrap
-fetch_by Colour type start location n = refl
-fetch_by Monochrome type start location n = refl
-
-underline_by : (disp : Display) (type start location : ℕ) (v : Bool) (r : ℕ) → ((number_of disp == 0x07) && v && r == underline_location (registers_of disp type start location)) ≡ ((number_of disp == 0x07) && (v && (r == 15)))
-unfolding underline_location
-underline_by Colour type start location v r = refl
-underline_by Monochrome type start location true r = refl
-underline_by Monochrome type start location false r = refl
-
-cursor_by : (disp : Display) (type start location k r : ℕ) (f : Bool) → (let l = registers_of disp type start location in (k == cursor_location l) && not (is_cursor_off l) && nat_le (cursor_start l) r && nat_le r (cursor_end l) && f)
-    ≡ ((k == 256 * (location / 256) + location % 256) && not (is_set (bit_and (high type) 0x3F) 5) && nat_le (field (bit_and (high type) 0x3F) 4 0) r && nat_le r (field (bit_and (low type) 0x7F) 4 0) && f)
-unfolding cursor_location is_cursor_off cursor_start cursor_end
-cursor_by Colour type start location k r f = refl
-cursor_by Monochrome type start location k r f = refl
-
 -- ---- the dot k of character x of line v
 
-module _ (c : CardState) (d : BiosData) (h : IsShown c d) (z : IsCard c) (g : ℕ) (lg : g < 8) where
+module _ (c : CardState) (d : BiosData) (h : IsShown c d) (z : IsCard c) (g : ℕ) (lg : g < h.row.pages) where
   abbrev s : Screen
   s = screen_shown c d h
 
   abbrev disp : Display
   disp = h.display
+
+  -- ---- the numbers of the row
+
+  abbrev t : IsTextFrame d.mode h.row
+  t = frame_of c d h
+
+  abbrev half : ℕ
+  half = h.text.half
+
+  abbrev columns : ℕ
+  columns = h.row.columns
+
+  abbrev height : ℕ
+  height = h.row.height
+
+  abbrev rows : ℕ
+  rows = h.row.last_row + 1
+
+  -- a line is of a row of the page
+  row_there : (v : ℕ) → v < height * rows → v / height < rows
+  row_there v l = let e : height * rows ≡ rows * height = omega arith in (div-lt_iff_lt-mul t.some_height).1 (subst (λ n. v < n) e l)
+
+  place_there : (v x : ℕ) → v < height * rows → x < columns → columns * (v / height) + x < columns * rows
+  place_there v x lv lx = let e = ends_before columns (v / height) rows (row_there v lv) in omega arith
+
+  -- a cell of the page is one of text memory
+  within : (q : ℕ) → q < columns * rows → half * g + q < 16384
+  within q l = let a = h.text.fits in let b = ends_before half g h.row.pages lg in let m = h.text.memory in omega arith
+
+  scan_small : (v : ℕ) → v % height < 16
+  scan_small v = let a = mod_below v height t.some_height in let b = t.few_lines in omega arith
+
+  -- the beam at a place of the picture
+  abbrev pub text_beam : ℕ → ℕ → ℕ → ℕ → Beam
+  text_beam frame v x k = record { frame = frame; line = v; character = x; dot = k; base = half * g + columns * (v / height); scan = v % height; half = false; split = false }
 
   -- ---- registers
 
@@ -211,12 +223,16 @@ module _ (c : CardState) (d : BiosData) (h : IsShown c d) (z : IsCard c) (g : �
 
   -- the CRT controller at a place
   abbrev placed : ℕ → ℕ → ℕ → CrtcState
-  placed v x k = record c.crtc { beam = text_beam g c.crtc.beam.frame v x k }
+  placed v x k = record c.crtc { beam = text_beam c.crtc.beam.frame v x k }
 
-  pub beam_is : (v x k : ℕ) → v < 400 → regular_beam c.crtc.registers (2048 * g) c.crtc.beam.frame v x k ≡ text_beam g c.crtc.beam.frame v x k
+  pub beam_is : (v x k : ℕ) → v < height * rows → regular_beam c.crtc.registers (half * g) c.crtc.beam.frame v x k ≡ text_beam c.crtc.beam.frame v x k
   beam_is v x k lv =
-      ap (λ r. regular_beam r (2048 * g) c.crtc.beam.frame v x k) (registers_are c d h)
-      ∙ regular_by disp d.cursor_type (start_address d d.page) (cursor_address d d.page) g c.crtc.beam.frame v x k lg lv
+      let some = h.text.some_columns in
+      let there = place_there v 0 lv some in
+      let small = within (columns * (v / height) + 0) there in
+      ap (λ r. regular_beam r (half * g) c.crtc.beam.frame v x k) h.tests.crtc
+      ∙ t.beam d.cursor_type (start_address d d.page) (cursor_address d d.page) (half * g) c.crtc.beam.frame v x k
+      ∙ ap (λ b. record (text_beam c.crtc.beam.frame v x k) { base = b }) (base_is (half * g) (columns * (v / height)) (omega arith))
 
   unpanned : (v x k : ℕ) → panned c.host (placed v x k) c.attr ≡ 0
   unfolding panned
@@ -226,7 +242,7 @@ module _ (c : CardState) (d : BiosData) (h : IsShown c d) (z : IsCard c) (g : �
       ∙ ap (λ w. if w then p % 8 else if p == 8 then 0 else p % 8 + 1) eight_dots_off
       ∙ ap (λ n. if n == 8 then 0 else n % 8 + 1) panning_is
 
-  source_is : (v x k : ℕ) → v < 400 → x < 80 → k < 9 → source_dot c.host (placed v x k) c.attr ≡ record { counter = 2048 * g + (80 * (v / 16) + x); dot = k }
+  source_is : (v x k : ℕ) → v < height * rows → x < columns → k < 9 → source_dot c.host (placed v x k) c.attr ≡ record { counter = half * g + (columns * (v / height) + x); dot = k }
   unfolding source_dot
   source_is v x k lv lx lk =
       let at = placed v x k in
@@ -235,24 +251,24 @@ module _ (c : CardState) (d : BiosData) (h : IsShown c d) (z : IsCard c) (g : �
       ∙ ap (source_at at (host_width c.host)) none
       ∙ ap (λ w. source_at at (if w then 8 else 9) k) eight_dots_off
       ∙ ap (λ w. if w then (let q : SourceDot = record { counter = counter_of at x; dot = k } in q) else record { counter = counter_of at (x + 1); dot = k - 9 }) (lt_test k 9 lk)
-      ∙ ap (λ n. let q : SourceDot = record { counter = n; dot = k } in q) (counter_is g v x lg lv lx)
+      ∙ ap (λ n. let q : SourceDot = record { counter = n; dot = k } in q) (counter_is (half * g) (columns * (v / height)) x (within (columns * (v / height) + x) (place_there v x lv lx)))
 
   -- the cell q of the page, as the planes have it
   abbrev there : ℕ → Cell
-  there q = cell_in c.host.memory.plane0 c.host.memory.plane1 (2048 * g + q)
+  there q = cell_in c.host.memory.plane0 c.host.memory.plane1 (half * g + q)
 
   abbrev dot_cell : ℕ → DotCell
   dot_cell q = record { character = (there q).0; attribute = (there q).1 }
 
-  cell_is : (q : ℕ) → q < 2000 → cell_at c.host (fetch_address c.crtc.registers (2048 * g + q)) ≡ dot_cell q
+  cell_is : (q : ℕ) → q < columns * rows → cell_at c.host (fetch_address c.crtc.registers (half * g + q)) ≡ dot_cell q
   unfolding cell_at
   cell_is q lq =
-      let n = 2048 * g + q in
-      ap (λ r. cell_at c.host (fetch_address r n)) (registers_are c d h)
-      ∙ ap (cell_at c.host) (fetch_by disp d.cursor_type (start_address d d.page) (cursor_address d d.page) n ∙ address_is g q lg lq)
+      let n = half * g + q in
+      ap (λ r. cell_at c.host (fetch_address r n)) h.tests.crtc
+      ∙ ap (cell_at c.host) (t.fetch d.cursor_type (start_address d d.page) (cursor_address d d.page) n ∙ address_is n (within q lq))
 
-  on_screen : (q : ℕ) → q < 2000 → cell_on s (2048 * g + q) ≡ there q
-  on_screen q lq = cells_at c.host.memory.plane0 c.host.memory.plane1 all_cells (2048 * g + q) (omega arith)
+  on_screen : (q : ℕ) → q < columns * rows → cell_on s (half * g + q) ≡ there q
+  on_screen q lq = cells_at c.host.memory.plane0 c.host.memory.plane1 all_cells (half * g + q) (within q lq)
 
   -- ---- the glyph
 
@@ -264,7 +280,7 @@ module _ (c : CardState) (d : BiosData) (h : IsShown c d) (z : IsCard c) (g : �
   unfolding row_of_glyph
   row_is q r lr =
       let ch = (there q).0 in
-      let small : ch < 256 = z.host.memory.bytes 0 (omega arith) (2 * (2048 * g + q)) in
+      let small : ch < 256 = z.host.memory.bytes 0 (omega arith) (2 * (half * g + q)) in
       let e : 0 + 32 * ch + r ≡ 32 * ((16 * ch + r) / 16) + (16 * ch + r) % 16 = omega arith in
       ap (λ i. byte_at c.host.memory 2 (map_start i + 32 * ch + r)) (map_none (is_set (there q).1 3))
       ∙ ap (byte_at c.host.memory 2) e
@@ -285,24 +301,15 @@ module _ (c : CardState) (d : BiosData) (h : IsShown c d) (z : IsCard c) (g : �
 
   -- ---- underline, blink, cursor
 
-  underlined_is : (q v x k : ℕ) → is_cell_underlined (placed v x k) c.attr (dot_cell q) ≡ is_underlined s (there q) (v % 16)
+  underlined_is : (q v x k : ℕ) → is_cell_underlined (placed v x k) c.attr (dot_cell q) ≡ is_underlined s (there q) (v % height)
   unfolding is_cell_underlined
   underlined_is q v x k =
       let a = bit_and (there q).1 0x77 == 1 in
-      let height : d.height - 1 ≡ 15 = let e = h.has.height in let f = sixteen in omega arith in
-      ap (λ w. w && a && v % 16 == underline_location c.crtc.registers) mono_is
-      ∙ ap (λ r. (d.mode == 0x07) && a && v % 16 == underline_location r) (registers_are c d h)
-      ∙ ap (λ n. (n == 0x07) && a && v % 16 == underline_location (registers_of disp d.cursor_type (start_address d d.page) (cursor_address d d.page))) h.number
-      ∙ underline_by disp d.cursor_type (start_address d d.page) (cursor_address d d.page) a (v % 16)
-      ∙ ap (λ n. (n == 0x07) && (a && (v % 16 == 15))) (sym h.number)
-      ∙ ap (λ n. (d.mode == 0x07) && (a && (v % 16 == n))) (sym height)
-    where
-      height_by : (k : Display) → (row_of k).height ≡ 16
-      height_by Colour = refl
-      height_by Monochrome = refl
-
-      sixteen : h.row.height ≡ 16
-      sixteen = ap (λ (r : ModeRow). r.height) h.row_is ∙ height_by disp
+      let last : h.row.height - 1 ≡ d.height - 1 = let e = h.has.height in omega arith in
+      ap (λ w. w && a && v % height == underline_location c.crtc.registers) mono_is
+      ∙ ap (λ r. (d.mode == 0x07) && a && v % height == underline_location r) h.tests.crtc
+      ∙ t.underline d.cursor_type (start_address d d.page) (cursor_address d d.page) a (v % height)
+      ∙ ap (λ n. (d.mode == 0x07) && (a && (v % height == n))) last
 
   blinked_is : (q v x k : ℕ) → is_cell_blinked (placed v x k) c.attr (dot_cell q) ≡ is_blinked_away s (there q)
   unfolding is_cell_blinked
@@ -323,15 +330,15 @@ module _ (c : CardState) (d : BiosData) (h : IsShown c d) (z : IsCard c) (g : �
       let halved : d.size * d.page / 2 ≡ n = omega arith in
       ap (λ a. a + cell_number d (place_of d d.page)) halved
 
-  cursor_is : (n v x k : ℕ) → is_cursor_at (placed v x k) n ≡ is_cursor s n (v % 16)
+  cursor_is : (n v x k : ℕ) → is_cursor_at (placed v x k) n ≡ is_cursor s n (v % height)
   unfolding is_cursor_at
   cursor_is n v x k =
-      let r = v % 16 in
+      let r = v % height in
       let location = cursor_address d d.page in
       let type = d.cursor_type in
       let f = nat_lt (c.crtc.beam.frame % 16) 8 in
-      ap (λ l. (n == cursor_location l) && not (is_cursor_off l) && nat_le (cursor_start l) r && nat_le r (cursor_end l) && f) (registers_are c d h)
-      ∙ cursor_by disp type (start_address d d.page) location n r f
+      ap (λ l. (n == cursor_location l) && not (is_cursor_off l) && nat_le (cursor_start l) r && nat_le r (cursor_end l) && f) h.tests.crtc
+      ∙ t.cursor type (start_address d d.page) location n r f
       ∙ ap (λ m. (n == m) && not (is_set (bit_and (high type) 0x3F) 5) && nat_le (field (bit_and (high type) 0x3F) 4 0) r && nat_le r (field (bit_and (low type) 0x7F) 4 0) && f) (two_bytes location ∙ location_is)
       ∙ ap (λ w. (n == cursor_cell s d.page) && not w && nat_le (field (bit_and (high type) 0x3F) 4 0) r && nat_le r (field (bit_and (low type) 0x7F) 4 0) && f) (off_bit (high type))
       ∙ ap (λ m. (n == cursor_cell s d.page) && not (is_set (high type) 5) && nat_le m r && nat_le r (field (bit_and (low type) 0x7F) 4 0) && f) (start_field (high type))
@@ -347,12 +354,12 @@ module _ (c : CardState) (d : BiosData) (h : IsShown c d) (z : IsCard c) (g : �
   -- ---- the four bits of a dot
 
   -- whether a dot has its cell's foreground
-  on_is : (q v x k : ℕ) → q < 2000 → is_cell_foreground c.host (placed v x k) c.attr (record { counter = 2048 * g + q; dot = k }) (dot_cell q) ≡ is_foreground s (2048 * g + q) (v % 16) k
+  on_is : (q v x k : ℕ) → q < columns * rows → is_cell_foreground c.host (placed v x k) c.attr (record { counter = half * g + q; dot = k }) (dot_cell q) ≡ is_foreground s (half * g + q) (v % height) k
   unfolding is_cell_foreground is_foreground
   on_is q v x k lq =
-      let r = v % 16 in
-      let lr : v % 16 < 16 = omega arith in
-      let n = 2048 * g + q in
+      let r = v % height in
+      let lr = scan_small v in
+      let n = half * g + q in
       let glyph = is_dot_of_glyph c.attr (there q).0 (row_of_glyph c.host (dot_cell q) r) k in
       let under = is_cell_underlined (placed v x k) c.attr (dot_cell q) in
       ap (λ w. if w then true else if is_cell_blinked (placed v x k) c.attr (dot_cell q) then false else if under then true else glyph) (cursor_is n v x k)
@@ -361,22 +368,22 @@ module _ (c : CardState) (d : BiosData) (h : IsShown c d) (z : IsCard c) (g : �
       ∙ ap (λ w. if is_cursor s n r then true else if is_blinked_away s (there q) then false else if is_underlined s (there q) r then true else w) (glyph_dot_is q r k lr)
       ∙ ap (λ (p : Cell). if is_cursor s n r then true else if is_blinked_away s p then false else if is_underlined s p r then true else is_glyph_dot p.0 (glyph_row s p.0 r) k) (sym (on_screen q lq))
 
-  nibble_is : (q v x k : ℕ) → q < 2000 → text_nibble c.host (placed v x k) c.attr (record { counter = 2048 * g + q; dot = k }) ≡ nibble s (2048 * g + q) (v % 16) k
+  nibble_is : (q v x k : ℕ) → q < columns * rows → text_nibble c.host (placed v x k) c.attr (record { counter = half * g + q; dot = k }) ≡ nibble s (half * g + q) (v % height) k
   unfolding text_nibble nibble
   nibble_is q v x k lq =
-      let source : SourceDot = record { counter = 2048 * g + q; dot = k } in
-      let n = 2048 * g + q in
+      let source : SourceDot = record { counter = half * g + q; dot = k } in
+      let n = half * g + q in
       ap (cell_nibble c.host (placed v x k) c.attr source) (cell_is q lq)
       ∙ ap (λ w. if w then field (there q).1 3 0 else background s (there q)) (on_is q v x k lq)
-      ∙ ap (λ (p : Cell). if is_foreground s n (v % 16) k then field p.1 3 0 else background s p) (sym (on_screen q lq))
+      ∙ ap (λ (p : Cell). if is_foreground s n (v % height) k then field p.1 3 0 else background s p) (sym (on_screen q lq))
 
-  dot_bits : (v x k : ℕ) → v < 400 → x < 80 → k < 9 → dot_nibble c.host (placed v x k) c.attr ≡ nibble s (2048 * g + (80 * (v / 16) + x)) (v % 16) k
+  dot_bits : (v x k : ℕ) → v < height * rows → x < columns → k < 9 → dot_nibble c.host (placed v x k) c.attr ≡ nibble s (half * g + (columns * (v / height) + x)) (v % height) k
   unfolding dot_nibble
   dot_bits v x k lv lx lk =
       let at = placed v x k in
       ap (λ w. if w then planar_nibble c.host at (source_dot c.host at c.attr) else text_nibble c.host at c.attr (source_dot c.host at c.attr)) graphics_off
       ∙ ap (text_nibble c.host at c.attr) (source_is v x k lv lx lk)
-      ∙ nibble_is (80 * (v / 16) + x) v x k (omega arith)
+      ∙ nibble_is (columns * (v / height) + x) v x k (place_there v x lv lx)
 
   small_if : (b w : Bool) (x y q : ℕ) → x < 16 → y < 16 → q < 16 → (if b then x else if w then y else q) < 16
   small_if true w x y q lx ly lq = lx
@@ -415,5 +422,5 @@ module _ (c : CardState) (d : BiosData) (h : IsShown c d) (z : IsCard c) (g : �
       ∙ ap (λ i. entry_of c.dac (bit_and i c.dac.mask)) (number_is t ∙ ap (colour_index c.attr) e ∙ index_is n l)
 
   -- the dot at the place has the screen's colour
-  pub place_is : (v x k : ℕ) → v < 400 → x < 80 → k < 9 → dot_colour c.host (placed v x k) c.attr c.dac ≡ shade s.palette (nibble s (2048 * g + (80 * (v / 16) + x)) (v % 16) k)
-  place_is v x k lv lx lk = dot_shade (placed v x k) (nibble s (2048 * g + (80 * (v / 16) + x)) (v % 16) k) (dot_bits v x k lv lx lk) (nibble_small (2048 * g + (80 * (v / 16) + x)) (v % 16) k)
+  pub place_is : (v x k : ℕ) → v < height * rows → x < columns → k < 9 → dot_colour c.host (placed v x k) c.attr c.dac ≡ shade s.palette (nibble s (half * g + (columns * (v / height) + x)) (v % height) k)
+  place_is v x k lv lx lk = dot_shade (placed v x k) (nibble s (half * g + (columns * (v / height) + x)) (v % height) k) (dot_bits v x k lv lx lk) (nibble_small (half * g + (columns * (v / height) + x)) (v % height) k)
