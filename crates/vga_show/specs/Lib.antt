@@ -6,3 +6,4 @@ pub mod Plane
 pub mod Regs
 pub mod Beam
 pub mod Bda
+pub mod Cells

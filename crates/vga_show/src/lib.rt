@@ -3,6 +3,7 @@
 
 mod bda;
 mod beam;
+mod cells;
 mod dac;
 mod latches;
 mod plane;
@@ -12,6 +13,7 @@ mod text;
 
 pub use bda::dump_bda;
 pub use beam::dump_beam;
+pub use cells::dump_cells;
 pub use dac::dump_dac;
 pub use latches::dump_latches;
 pub use plane::dump_plane;

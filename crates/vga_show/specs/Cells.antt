@@ -1,0 +1,42 @@
+-- The cells of the active page as text.
+use Rattle.std.specs.Prelude.{ℕ, zero, suc, ◌+◌, ◌*◌, ◌≤◌, ◌==◌, ◌||◌, if◌then◌else◌, List, [], ◌∷◌, ◌++◌, codes, Option, Some, None, Result, Ok, Err}
+use Rattle.vga_bits.specs.declared.refusal.Refusal.{Refusal}
+use Rattle.vga_bits.specs.declared.refusal.Refusal.TheVariants.{NoMode, WrongKind}
+use Rattle.vga_bits.specs.Hex.{hex_byte}
+use Rattle.vga_planes.specs.Planes.{byte_at}
+use Rattle.vga_card.specs.Card.{CardState}
+use Rattle.bios_modes.specs.Bda.{BiosData}
+use Rattle.vga_show.specs.Lines.{line, hex_words}
+
+-- why there are no cells: no mode is set, or it is one of graphics
+abbrev pub cells_refusal : ℕ → Option Refusal
+cells_refusal mode = if mode == 0 then Some NoMode else if (mode == 0x03) || (mode == 0x07) then None else Some WrongKind
+
+-- cell k of the active page: its character as high byte, from plane 0, and its attribute as low one, from plane 1
+abbrev pub cell_word : CardState → BiosData → ℕ → ℕ
+cell_word card bda k = 256 * byte_at card.host.memory 0 (bda.size * bda.page + 2 * k) + byte_at card.host.memory 1 (bda.size * bda.page + 2 * k)
+
+-- the word row, the row's number and a colon, and the cells of its columns
+abbrev pub row_text : CardState → BiosData → ℕ → List ℕ
+row_text card bda row = line (codes "row") ((hex_byte row ++ codes ":") ∷ hex_words (cell_word card bda) (bda.columns * row) bda.columns)
+
+-- n rows from one on, a line for each
+unfoldable pub rows_text : CardState → BiosData → ℕ → ℕ → List ℕ
+rows_text card bda zero row = []
+rows_text card bda (suc n) row = row_text card bda row ++ rows_text card bda n (row + 1)
+
+-- all rows, and nothing where there are no cells
+abbrev pub cells_text : Option Refusal → CardState → BiosData → List ℕ
+cells_text None card bda = rows_text card bda (bda.last_row + 1) 0
+cells_text (Some why) card bda = []
+
+-- what the dump answers
+abbrev pub cells_answer : Option Refusal → Result (Unit {0}) Refusal
+cells_answer None = Ok tt
+cells_answer (Some why) = Err why
+
+-- the cells of the active page lie within the planes
+pub record HasCells (bda : BiosData) : Type 0 where
+  pub columns : bda.columns ≤ 80
+  pub cells : 2 * (bda.columns * (bda.last_row + 1)) ≤ bda.size
+  pub memory : bda.size * bda.page + bda.size ≤ 32768
