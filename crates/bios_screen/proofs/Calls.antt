@@ -3,11 +3,12 @@ use Rattle.std.proofs.Common.{◌≡◌, ℕ, ◌%◌, ◌<◌, refl, sym, ap, �
 use Rattle.std.specs.Prelude.{◌==◌, ◌&&◌, ◌||◌, nat_lt, nat_le, if◌then◌else◌, IfSome}
 use Rattle.std.proofs.lemmas.Bool.Decides.{nat_tests}
 use Rattle.vga_bits.specs.declared.refusal.Refusal.{Refusal}
-use Rattle.vga_bits.specs.declared.refusal.Refusal.TheVariants.{NoMode, BadFunction}
+use Rattle.vga_bits.specs.declared.refusal.Refusal.TheVariants.{NoMode, BadFunction, BadMode}
 use Rattle.vga_card.specs.Bounds.{IsCard}
 use Rattle.vga_card.specs.Bus.{card_meaning}
 use Rattle.vga_card.specs.Card.{CardState}
 use Rattle.bios_modes.specs.Bda.{BiosData}
+use Rattle.bios_modes.specs.Modes.{mode_row}
 use Rattle.bios_modes.specs.Fonts.{FontSet}
 use Rattle.bios_services.specs.declared.regs.Regs.{Regs}
 use Rattle.bios_services.specs.declared.call.Call.{Call}
@@ -24,7 +25,7 @@ use Rattle.bios_services.specs.Strings.{string_of}
 use Rattle.bios_services.specs.Calls.{scroll_of, as_colours, service_of, in_mode, call_of}
 use Rattle.bios_services.specs.ModeSet.{is_text}
 use Rattle.bios_services.specs.Refusals.{refusal_in_mode}
-use Rattle.bios_services.specs.Service.{plan_of, Outcome, Answered, answered, refused, unless, in_mode_plan, asked}
+use Rattle.bios_services.specs.Service.{plan_of, set_mode_plan, Outcome, Answered, answered, refused, unless, in_mode_plan, asked}
 use Rattle.bios_modes.specs.Bounds.{IsBda}
 use Rattle.bios_screen.specs.Screen.{Screen}
 use Rattle.bios_screen.specs.Shown.{shown}
@@ -172,3 +173,10 @@ unknown_refused fonts r block c d s old e =
     let x = shown_is c d s old in
     ap (λ (q : Option Call). run card_meaning (asked q fonts d r block) c) e
     ∙ ap (λ b. let y : CardState × Answered = (c, (Err (if b then NoMode else BadFunction), d)) in y) (text_is_set d.mode x.is.tests.is_text)
+
+-- and so is one for a mode that there is not
+pub mode_refused : (mode : ℕ) (keeps : Bool) (fonts : FontSet) (r : Regs) (block : List ℕ) (c : CardState) (d : BiosData) → call_of r ≡ Some (SetMode mode keeps) → mode_row mode ≡ None → after_call fonts r block c d ≡ (c, (Err BadMode, d))
+unfolding set_mode_plan
+mode_refused mode keeps fonts r block c d e none =
+    ap (λ (q : Option Call). run card_meaning (asked q fonts d r block) c) e
+    ∙ ap (λ x. run card_meaning (set_mode_plan x mode keeps fonts d r) c) none

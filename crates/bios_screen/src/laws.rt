@@ -1,7 +1,7 @@
 //! Laws of plain screens, each of which is a contract, and nothing that runs: from a state that shows a
 //! screen a service leads to one that shows the next, with the screen's answer or refusal.
-ghost use Rattle.std.specs.Prelude.{ℕ, ◌≡◌, ◌<◌, List, Some, None, Err};
-ghost use Rattle.vga_bits.specs.declared.refusal.Refusal.TheVariants.{BadFunction};
+ghost use Rattle.std.specs.Prelude.{ℕ, ◌≡◌, ◌<◌, Bool, List, Some, None, Err};
+ghost use Rattle.vga_bits.specs.declared.refusal.Refusal.TheVariants.{BadFunction, BadMode};
 ghost use Rattle.vga_card.specs.Bounds.{IsCard};
 ghost use Rattle.vga_card.specs.Card.{CardState};
 ghost use Rattle.bios_modes.specs.Bda.{BiosData};
@@ -11,11 +11,11 @@ ghost use Rattle.bios_services.specs.declared.scroll.Scroll.{Scroll};
 ghost use Rattle.bios_services.specs.declared.cell_run.CellRun.{CellRun};
 ghost use Rattle.bios_services.specs.declared.strings.StringCall.{StringCall};
 ghost use Rattle.bios_services.specs.declared.colours.ColourService.{ColourService};
-ghost use Rattle.bios_services.specs.declared.call.Call.TheVariants.{InMode};
+ghost use Rattle.bios_services.specs.declared.call.Call.TheVariants.{SetMode, InMode};
 ghost use Rattle.bios_services.specs.declared.call.Service.{Service};
 ghost use Rattle.bios_services.specs.Calls.{call_of};
 ghost use Rattle.bios_services.specs.declared.call.Service.TheVariants.{SetCursorType, SetCursor, ReadCursor, SelectPage, ReadCell, WriteCells, ScrollUp, ScrollDown, WritePixel, ReadPixel, Teletype, WriteString, Colours, ReadMode, ReadAdapter, ReadDisplay};
-ghost use Rattle.bios_modes.specs.Modes.{colour_text, monochrome_text};
+ghost use Rattle.bios_modes.specs.Modes.{mode_row, colour_text, monochrome_text};
 ghost use Rattle.bios_modes.specs.Bounds.{IsBda};
 ghost use Rattle.bios_screen.specs.Screen.{Screen};
 ghost use Rattle.bios_screen.specs.Shown.{shown};
@@ -81,12 +81,15 @@ pub fn dots_are_refused()
 {}
 
 /// From every state that shows a screen a call for a service replies as on the screen, or is refused as
-/// there, and leads to a state that shows the next screen; a call for no service changes nothing.
+/// there, and leads to a state that shows the next screen; a call for no service, or for a mode that there is
+/// not, changes nothing.
 pub fn calls_lead_to_screens()
     ensures served { (service : Service) (fonts : FontSet) (r : Regs) (block : List ℕ) (c : CardState) (d : BiosData) (s : Screen) →
         IsCard c → IsBda d → AreWords r → AreBytes block → shown c d ≡ Some s → call_of r ≡ Some (InMode service) → IsCalled service fonts r block c d s }
     ensures unknown { (fonts : FontSet) (r : Regs) (block : List ℕ) (c : CardState) (d : BiosData) (s : Screen) →
         shown c d ≡ Some s → call_of r ≡ None → after_call fonts r block c d ≡ (c, (Err BadFunction, d)) }
+    ensures mode { (mode : ℕ) (keeps : Bool) (fonts : FontSet) (r : Regs) (block : List ℕ) (c : CardState) (d : BiosData) →
+        call_of r ≡ Some (SetMode mode keeps) → mode_row mode ≡ None → after_call fonts r block c d ≡ (c, (Err BadMode, d)) }
 {
     bounds_stay();
 }

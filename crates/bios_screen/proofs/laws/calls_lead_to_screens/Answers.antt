@@ -1,4 +1,4 @@
-use Rattle.bios_screen.proofs.Calls.{calls_lead, unknown_refused}
+use Rattle.bios_screen.proofs.Calls.{calls_lead, unknown_refused, mode_refused}
 use Rattle.bios_screen.proofs.laws.calls_lead_to_screens.Goals as goal
 
 pub returns-clause-served : goal.returns-clause-served
@@ -6,3 +6,6 @@ returns-clause-served c = calls_lead (record { out = c.bounds_stay.ensures.out; 
 
 pub returns-clause-unknown : goal.returns-clause-unknown
 returns-clause-unknown c = unknown_refused
+
+pub returns-clause-mode : goal.returns-clause-mode
+returns-clause-mode c = mode_refused
