@@ -41,12 +41,11 @@ use Rattle.bios_screen.proofs.PlanLemmas.{run_bind, then_runs, then_answers}
 use Rattle.bios_screen.proofs.ListLemmas.{same_from_0, spelled}
 use Rattle.bios_screen.proofs.TestLemmas.{both_true, same, lt_is, le_is}
 use Rattle.bios_screen.proofs.Kept.{plan_beam}
-use Rattle.bios_screen.proofs.Display.{Display, port_of}
+use Rattle.bios_screen.proofs.Display.{Display, port_of, control_of}
 use Rattle.bios_screen.proofs.Display.Display.{Colour, Monochrome}
-use Rattle.bios_screen.proofs.Shows.{IsShown, screen_shown}
+use Rattle.bios_screen.proofs.Shows.{IsShown, screen_shown, control_is}
 use Rattle.bios_screen.proofs.Readers.{still_shown}
 use Rattle.bios_screen.proofs.Cursors.{and_255, other_data}
-use Rattle.bios_screen.proofs.TextDots.{control_of, control_by}
 use Rattle.bios_screen.proofs.Attributes.{with_attr, with_blinking, with_palette, register_set, blinking_set, palette_set, index_shown, register_read}
 use Rattle.bios_screen.proofs.Dacs.{with_dac, IsLoaded, entries_loaded, entry_loaded, entry_read}
 
@@ -150,11 +149,6 @@ module _ (c : CardState) (d : BiosData) (h : IsShown c d) where
       (and_255 v (bytes 16)) refl
 
   -- blinking is bit 3 of mode control, whose other bits are the mode's
-  control_is : bit_and (slice_index registers 0x10) 0xF7 ≡ control_of h.display
-  control_is =
-      same (both_true (bit_and (slice_index registers 0x10) 0xF7 == bit_and (slice_index h.row.attribute 0x10) 0xF7) _ rest_is).0
-      ∙ ap (λ row. bit_and (slice_index row.attribute 0x10) 0xF7) h.row_is ∙ control_by h.display
-
   blink_by : (disp : Display) (b : ℕ) → b < 2 → (bit_and (bit_and (bit_or (control_of disp) (8 * b)) 0xEF) 0xF7 ≡ control_of disp) × (is_set (bit_and (bit_or (control_of disp) (8 * b)) 0xEF) 3 ≡ (b == 1))
   blink_by Colour zero l = (refl, refl)
   blink_by Colour (suc zero) l = (refl, refl)
@@ -168,10 +162,10 @@ module _ (c : CardState) (d : BiosData) (h : IsShown c d) where
       let v = bit_and (bit_or (bit_and (slice_index registers 0x10) 0xF7) (8 * b)) 0xEF in
       let new = with_blinking registers b in
       let at : slice_index new 0x10 ≡ v = get_or-set_same registers 0x10 v 0 (omega arith) in
-      let value : slice_index new 0x10 ≡ bit_and (bit_or (control_of h.display) (8 * b)) 0xEF = at ∙ ap (λ n. bit_and (bit_or n (8 * b)) 0xEF) control_is in
+      let value : slice_index new 0x10 ≡ bit_and (bit_or (control_of h.display) (8 * b)) 0xEF = at ∙ ap (λ n. bit_and (bit_or n (8 * b)) 0xEF) (control_is c d h) in
       let by = blink_by h.display b l in
       ap (λ y. shown y d) (blinking_set h.display c b h.setting)
-      ∙ attribute_shown new 0x20 refl (ap (λ n. bit_and n 0xF7) value ∙ by.0 ∙ sym control_is) (drop-set-lt 0x12 registers 0x10 v (omega arith))
+      ∙ attribute_shown new 0x20 refl (ap (λ n. bit_and n 0xF7) value ∙ by.0 ∙ sym (control_is c d h)) (drop-set-lt 0x12 registers 0x10 v (omega arith))
       s.palette.values s.overscan (b == 1) (take-set-le 16 registers 0x10 v (omega arith)) (get_or-set_other registers 0x10 0x11 v 0 (omega arith)) (ap (λ n. is_set n 3) value ∙ by.1)
 
   mask_by : (v : ℕ) → (run card_meaning (out 0x3C6 v) c).0 ≡ with_dac c (record c.dac { mask = v })

@@ -1,6 +1,6 @@
 -- The two text displays, and the rows of the mode table that are text.
 use Rattle.std.proofs.Common.{◌≡◌, ℕ, ◌+◌, ◌*◌, ◌<◌, ◌≤◌, refl, sym, subst, arith, List, [], ◌∷◌, length, Bool, true, false, Some}
-use Rattle.std.specs.Prelude.{◌==◌, ◌||◌}
+use Rattle.std.specs.Prelude.{slice_index, bit_and, ◌==◌, ◌||◌}
 use Rattle.bios_modes.specs.declared.modes.ModeRow.{ModeRow}
 use Rattle.bios_modes.specs.Modes.{mode_row, colour_text, monochrome_text}
 use Rattle.bios_services.specs.ModeSet.{is_text}
@@ -63,6 +63,15 @@ row_of Monochrome = monochrome_text
 abbrev pub number_of : Display → ℕ
 number_of Colour = 0x03
 number_of Monochrome = 0x07
+
+-- mode control without blink
+abbrev pub control_of : Display → ℕ
+control_of Colour = 0x04
+control_of Monochrome = 0x06
+
+pub control_by : (k : Display) → bit_and (slice_index (row_of k).attribute 0x10) 0xF7 ≡ control_of k
+control_by Colour = refl
+control_by Monochrome = refl
 
 -- which display a mode of text has
 pub record TextRow (mode : ℕ) (row : ModeRow) : Type 0 where

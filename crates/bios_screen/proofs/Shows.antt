@@ -1,8 +1,9 @@
 -- What a shown screen says of registers and data, and what has to be known for a screen to be shown.
 use Rattle.std.proofs.Common.{◌≡◌, ℕ, ◌*◌, ◌<◌, refl, ap, ◌∙◌, true, List, Option, Some, None}
-use Rattle.std.specs.Prelude.{◌==◌, ◌&&◌, if◌then◌else◌}
+use Rattle.std.specs.Prelude.{slice_index, bit_and, ◌==◌, ◌&&◌, if◌then◌else◌}
 use Rattle.std.specs.Str.{bytes_eq}
 use Rattle.std.proofs.lemmas.Slice.Eq.{bytes_eq-Decides}
+use Rattle.vga_attr.specs.Fields.{is_palette_shown}
 use Rattle.vga_card.specs.Card.{CardState}
 use Rattle.bios_modes.specs.declared.modes.ModeRow.{ModeRow}
 use Rattle.bios_modes.specs.Modes.{mode_row}
@@ -15,7 +16,7 @@ use Rattle.bios_screen.specs.Screen.{Screen}
 use Rattle.bios_screen.specs.Shown.{shows_memory, crtc_shown, shows_attribute, shows_data, shows_text, text_screen, shown_by, shown}
 use Rattle.bios_screen.proofs.TestLemmas.{both_true, if_some, none_some, same, lt_is}
 use Rattle.bios_screen.proofs.Setting.{Setting, setting}
-use Rattle.bios_screen.proofs.Display.{Display, text_setting, text_sequencer, misc_of, IsTextRow, text_row_is, row_of, number_of}
+use Rattle.bios_screen.proofs.Display.{Display, text_setting, text_sequencer, misc_of, IsTextRow, text_row_is, row_of, number_of, control_of, control_by}
 
 bytes_same : (l : List ℕ) → bytes_eq l l ≡ true
 bytes_same l = (bytes_eq-Decides l l).1 refl
@@ -117,3 +118,10 @@ shown_of c d row e t = ap (λ x. shown_by x c d) e ∙ ap (λ b. if b then Some 
 -- the mode uses the memory for text
 pub kind_is : (c : CardState) (d : BiosData) → IsShown c d → kind_of d.mode ≡ Text
 kind_is c d h = ap (λ b. let k : Kind = (if b then Text else if d.mode == 0x13 then Packed else Planar) in k) h.tests.is_text
+
+-- mode control, but for blinking, is the mode's
+pub control_is : (c : CardState) (d : BiosData) (h : IsShown c d) → bit_and (slice_index c.attr.registers 0x10) 0xF7 ≡ control_of h.display
+control_is c d h =
+    let a = both_true (is_palette_shown c.attr) _ h.tests.attribute in
+    let b = both_true (bit_and (slice_index c.attr.registers 0x10) 0xF7 == bit_and (slice_index h.row.attribute 0x10) 0xF7) _ a.1 in
+    same b.0 ∙ ap (λ (r : ModeRow). bit_and (slice_index r.attribute 0x10) 0xF7) h.row_is ∙ control_by h.display

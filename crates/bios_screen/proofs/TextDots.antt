@@ -33,15 +33,15 @@ use Rattle.bios_screen.specs.Shown.{cell_in, glyph_byte, glyphs_in, all_cells}
 use Rattle.bios_screen.specs.Step.{cell_on}
 use Rattle.bios_screen.specs.Picture.{glyph_row, is_glyph_dot, is_underlined, is_blinked_away, is_cursor, is_foreground, background, nibble, shade}
 use Rattle.bios_screen.proofs.ListLemmas.{listed_at, spelled}
-use Rattle.bios_screen.proofs.TestLemmas.{both_true, same, lt_test}
+use Rattle.bios_screen.proofs.TestLemmas.{both_true, lt_test}
 use Rattle.bios_screen.proofs.Setting.{Setting}
 use Rattle.std.proofs.lemmas.Nat.{mod_below}
 use Rattle.std.proofs.Math.Nat.{div-lt_iff_lt-mul}
 use Rattle.bios_screen.proofs.Places.{ends_before}
 use Rattle.bios_screen.proofs.TextRows.{IsTextFrame, frame_of}
-use Rattle.bios_screen.proofs.Display.{Display, row_of, number_of, window_of}
+use Rattle.bios_screen.proofs.Display.{Display, row_of, number_of, window_of, control_of}
 use Rattle.bios_screen.proofs.Display.Display.{Colour, Monochrome}
-use Rattle.bios_screen.proofs.Shows.{IsShown, screen_shown}
+use Rattle.bios_screen.proofs.Shows.{IsShown, screen_shown, control_is}
 use Rattle.bios_screen.proofs.Renewed.{cells_at}
 use Rattle.bios_screen.proofs.Writes.{lies}
 
@@ -50,15 +50,6 @@ use Rattle.bios_screen.proofs.Writes.{lies}
 not_graphics : (k : Display) → is_set (window_of k) 0 ≡ false
 not_graphics Colour = refl
 not_graphics Monochrome = refl
-
--- mode control without blink
-abbrev pub control_of : Display → ℕ
-control_of Colour = 0x04
-control_of Monochrome = 0x06
-
-pub control_by : (k : Display) → bit_and (slice_index (row_of k).attribute 0x10) 0xF7 ≡ control_of k
-control_by Colour = refl
-control_by Monochrome = refl
 
 mono_by : (k : Display) → is_set (control_of k) 1 ≡ (number_of k == 0x07)
 mono_by Colour = refl
@@ -186,12 +177,6 @@ module _ (c : CardState) (d : BiosData) (h : IsShown c d) (z : IsCard c) (g : �
   palette_on : is_palette_shown c.attr ≡ true
   palette_on = (both_true (is_palette_shown c.attr) _ h.tests.attribute).0
 
-  control_is : bit_and (slice_index c.attr.registers 0x10) 0xF7 ≡ control_of disp
-  control_is =
-      let a = both_true (is_palette_shown c.attr) _ h.tests.attribute in
-      let b = both_true (bit_and (slice_index c.attr.registers 0x10) 0xF7 == bit_and (slice_index h.row.attribute 0x10) 0xF7) _ a.1 in
-      same b.0 ∙ ap (λ (r : ModeRow). bit_and (slice_index r.attribute 0x10) 0xF7) h.row_is ∙ control_by disp
-
   last_registers : drop 0x12 c.attr.registers ≡ drop 0x12 (row_of disp).attribute
   last_registers =
       let a = both_true (is_palette_shown c.attr) _ h.tests.attribute in
@@ -211,13 +196,13 @@ module _ (c : CardState) (d : BiosData) (h : IsShown c d) (z : IsCard c) (g : �
   select_is = ap (λ l. slice_index l 2) (sym spelled_registers ∙ last_registers) ∙ select_by disp
 
   mono_is : is_monochrome c.attr ≡ (d.mode == 0x07)
-  mono_is = control_bit (slice_index c.attr.registers 0x10) (control_of disp) 1 control_is refl ∙ mono_by disp ∙ ap (λ n. n == 0x07) (sym h.number)
+  mono_is = control_bit (slice_index c.attr.registers 0x10) (control_of disp) 1 (control_is c d h) refl ∙ mono_by disp ∙ ap (λ n. n == 0x07) (sym h.number)
 
   line_is : is_line_graphics c.attr ≡ true
-  line_is = control_bit (slice_index c.attr.registers 0x10) (control_of disp) 2 control_is refl ∙ line_by disp
+  line_is = control_bit (slice_index c.attr.registers 0x10) (control_of disp) 2 (control_is c d h) refl ∙ line_by disp
 
   wide_is : is_colour_select_wide c.attr ≡ false
-  wide_is = control_bit (slice_index c.attr.registers 0x10) (control_of disp) 7 control_is refl ∙ wide_by disp
+  wide_is = control_bit (slice_index c.attr.registers 0x10) (control_of disp) 7 (control_is c d h) refl ∙ wide_by disp
 
   -- ---- where a dot comes from
 
