@@ -4,6 +4,7 @@
 //! any model differs or any check fails.
 #![tactic(auto)]
 
+mod cells;
 mod checks;
 mod dots;
 mod dumps;
@@ -23,6 +24,7 @@ mod source;
 mod tracking;
 
 use anyhow::Result;
+use cells::check_cells;
 use checks::Checks;
 use dots::compare_dots;
 use dumps::check_dumps;
@@ -80,6 +82,7 @@ fn check_crates<R: Print + AllocGlobal>(rt: &R, tally: &mut Tally) -> Result<()>
     tell(rt, tally, "texts of scripts", check_script_texts(alloc)?)?;
     tell(rt, tally, "bytes of scripts", check_script_bytes(alloc)?)?;
     tell(rt, tally, "dumps", check_dumps(alloc)?)?;
+    tell(rt, tally, "cells", check_cells(alloc)?)?;
     tell(rt, tally, "pictures", check_pictures(alloc))?;
     tell(rt, tally, "runs", check_runs(alloc)?)
 }

@@ -1,0 +1,85 @@
+//! The dump of cells: refused before a byte is written, and on writers that fail.
+ghost use Rattle.std.specs.Prelude.{◌≡◌, false};
+ghost use Rattle.vga_bits.specs.Tracked.{has_failed};
+
+use crate::checks::Checks;
+use crate::sink::Sink;
+use anyhow::Result;
+use bios_modes::{Bda, mode_row};
+use std::alloc::Global;
+use std::io::Write;
+use vga_bits::{Fault, Refusal, Tracked};
+use vga_card::Card;
+use vga_show::dump_cells;
+
+/// Rooms that end within the text of a page, at its lines' ends and next to them.
+const ROOMS: [usize; 6] = [0, 1, 407, 408, 409, 10_199];
+
+/// BIOS data of a mode, or those before one is set.
+fn data_of(mode: u8) -> Bda {
+    let mut bda = Bda::new();
+    if let Some(row) = mode_row(mode) {
+        bda.begin_mode(mode, &row);
+    }
+    bda
+}
+
+/// Whether the dump is refused so in a mode, with nothing written.
+fn is_refused(alloc: Global, card: &Card, mode: u8, why: Refusal) -> Result<bool, Fault> {
+    let bda = data_of(mode);
+    if !bda.valid() {
+        return Ok(false);
+    }
+    let mut out = Tracked::new(Vec::new(alloc));
+    let answer = dump_cells(&mut out, card, &bda)?;
+    Ok(answer == Err(why) && out.into_inner().is_empty())
+}
+
+/// Writes the cells of an adapter in mode 3.
+fn write_cells<W: Write>(out: &mut Tracked<W>, card: &Card) -> Result<(), Fault>
+    requires { has_failed out.old ≡ false }
+{
+    let bda = data_of(3);
+    if bda.valid() {
+        let _ = dump_cells(out, card, &bda)?;
+    }
+    Ok(())
+}
+
+/// The text of the cells.
+fn text_of(alloc: Global, card: &Card) -> Result<Vec<u8>, Fault> {
+    let mut out = Tracked::new(Vec::new(alloc));
+    write_cells(&mut out, card)?;
+    Ok(out.into_inner())
+}
+
+/// Whether a writer with room for so many bytes, and no more, answers so and then has a front of the text.
+fn takes(alloc: Global, card: &Card, text: &[u8], room: usize, answer: Result<(), Fault>) -> bool {
+    let (front, _) = text.split_at(room.min(text.len()));
+    let mut out = Sink::new(alloc, room);
+    write_cells(&mut out, card) == answer
+        && out.failed() == answer.is_err()
+        && out.into_inner().taken() == front
+}
+
+/// Checks how the dump of cells is refused and written.
+pub fn check_cells(alloc: Global) -> Result<Checks> {
+    let mut checks = Checks::new();
+    let card = Card::new(alloc)?;
+    checks.note("no mode", is_refused(alloc, &card, 0, Refusal::NoMode)?);
+    checks.note(
+        "graphics",
+        is_refused(alloc, &card, 0x13, Refusal::WrongKind)?,
+    );
+    let text = text_of(alloc, &card)?;
+    let text = text.as_slice();
+    checks.note("25 lines of 408 bytes", text.len() == 25 * 408);
+    checks.note("whole cells", takes(alloc, &card, text, text.len(), Ok(())));
+    for room in ROOMS {
+        checks.note(
+            "a front of the cells",
+            takes(alloc, &card, text, room, Err(Fault::WriteFault)),
+        );
+    }
+    Ok(checks)
+}
