@@ -91,11 +91,12 @@ fn read_palette<B: Bus>(bus: &mut B, port: u16) -> [u8; PALETTE_BYTES]
 
 /// Reads bytes from the DAC's data.
 #[tactic(auto, using(crate::proofs::RunLemmas::run_bind), unfolding(crate::specs::Tables::read_components_plan))]
-fn read_components<B: Bus>(bus: &mut B, values: &mut [u8])
+fn read_components<B: Bus>(bus: &mut B, values: &mut Bytes)
     ensures { (bus.new, values.new) ≡ run B.meaning (read_components_plan (length values.old)) bus.old }
 {
-    for i in 0..values.len() {
-        values[i] = inp(bus, DAC_DATA);
+    for i in 0..values.as_slice().len() {
+        let value = inp(bus, DAC_DATA);
+        values.set(i, value);
     }
 }
 
@@ -111,10 +112,12 @@ fn read_entries<B: Bus>(
     ensures ok { IfOk result (λ values. (bus.new, values) ≡ run B.meaning (read_entries_plan first count) bus.old) }
     ensures err { OnErr result (bus.new ≡ bus.old) }
 {
-    let mut values = vec![in alloc; 0; 3 * count as usize]?;
+    let Ok(mut values) = Bytes::zeros(alloc, 3 * count as usize) else {
+        return Err(AllocError);
+    };
     out(bus, DAC_READ_INDEX, first);
     read_components(bus, &mut values);
-    Ok(Bytes::from_vec(values))
+    Ok(values)
 }
 
 /// Does what a subfunction does that is not refused. Memory is taken for entries of the DAC alone.

@@ -1,6 +1,12 @@
 -- Lists of bytes.
-use Rattle.std.specs.Prelude.{ℕ, List, replicate}
+use Rattle.std.specs.Prelude.{ℕ, List, [], Option, None, Some, Box, Vec, replicate}
+use Rattle.std.specs.declared.alloc.Global.{Global}
 
 -- n bytes 0. It is opaque, since a list of thousands would be written out in every goal.
 unfoldable pub zeros : ℕ → List ℕ
 zeros n = replicate n 0
+
+-- the bytes of a vector, or none where there is none
+abbrev pub bytes_in : Option (Box (Vec ℕ Global) Global) → List ℕ
+bytes_in None = []
+bytes_in (Some items) = items.value.items

@@ -6,26 +6,35 @@ use super::fault::Fault;
 use std::alloc::Global;
 use std::marker::Model;
 
-/// Some bytes, which contracts see as their list.
+/// Some bytes, which contracts see as their list. No bytes take no memory, and the others stand apart, so that a
+/// list of steps, of which few have a block, is short.
 #[derive(Drop)]
 pub struct Bytes {
-    items: Vec<u8>,
+    items: Option<Box<Vec<u8>>>,
 }
 
 impl Model for Bytes {
     ghost use Rattle.std.specs.Prelude.{ℕ, List};
+    ghost use Rattle.vga_bits.specs.Bytes.{bytes_in};
 
     ghost Value = { List ℕ };
 
-    ghost view = { λ bytes. bytes.items.items };
+    ghost view = { λ bytes. bytes_in bytes.items };
 }
 
 impl Bytes {
-    /// The bytes of a vector, with no copy.
-    pub fn from_vec(items: Vec<u8>) -> Bytes
-        ensures { result ≡ items.items }
+    /// The bytes of a vector, with no copy. It fails with `OutOfMemory` alone.
+    pub fn from_vec(alloc: Global, items: Vec<u8>) -> Result<Bytes, Fault>
+        ensures kept { IfOk result (λ bytes. bytes ≡ items.items) }
+        ensures err { IsOkUnless result Fault.OutOfMemory }
     {
-        Bytes { items }
+        if items.is_empty() {
+            return Ok(Bytes { items: None });
+        }
+        match Box::new(alloc, items) {
+            Ok(items) => Ok(Bytes { items: Some(items) }),
+            Err(_) => Err(Fault::OutOfMemory),
+        }
     }
 
     /// A copy of the bytes of a slice. It fails with `OutOfMemory` alone.
@@ -34,7 +43,7 @@ impl Bytes {
         ensures err { IsOkUnless result Fault.OutOfMemory }
     {
         match Vec::from_slice(alloc, bytes) {
-            Ok(items) => Ok(Bytes { items }),
+            Ok(items) => Bytes::from_vec(alloc, items),
             Err(_) => Err(Fault::OutOfMemory),
         }
     }
@@ -46,7 +55,7 @@ impl Bytes {
         ensures err { IsOkUnless result Fault.OutOfMemory }
     {
         match vec![in alloc; 0; len] {
-            Ok(items) => Ok(Bytes { items }),
+            Ok(items) => Bytes::from_vec(alloc, items),
             Err(_) => Err(Fault::OutOfMemory),
         }
     }
@@ -56,13 +65,18 @@ impl Bytes {
         requires { i < length self.old }
         ensures { self.new ≡ slice_set self.old i value }
     {
-        self.items[i] = value;
+        if let Some(items) = &mut self.items {
+            items[i] = value;
+        }
     }
 
     /// The bytes.
     pub fn as_slice(&self) -> &[u8]
         ensures { result.now ≡ self.now }
     {
-        self.items.as_slice()
+        match &self.items {
+            Some(items) => items.as_slice(),
+            None => &[],
+        }
     }
 }

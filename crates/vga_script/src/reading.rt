@@ -1,5 +1,5 @@
 //! Reading the words of a line.
-ghost use Rattle.std.specs.Prelude.{◌≡◌, ◌≤◌, IfOk, take, drop, option_to_list, List, Err};
+ghost use Rattle.std.specs.Prelude.{◌≡◌, ◌≤◌, IfOk, Some, take, drop, option_to_list, List, Err};
 ghost use Rattle.vga_script.specs.Reading.{Gives, hex_of, hex_at, ended, one_hex, two_hex, one_decimal};
 ghost use Rattle.vga_script.specs.Reading.{register_at, bytes_of, digits_at, block_at, read_int};
 ghost use Rattle.vga_script.specs.Reading.{alone, read_dac, read_plane, read_shown, read_step};
@@ -141,6 +141,16 @@ fn register_at<'a>(fields: &'a [u8], name: &[u8]) -> Result<(u16, &'a [u8]), Unr
     Ok((n, rest))
 }
 
+/// The bytes of a vector.
+fn kept(alloc: Global, items: Vec<u8>) -> Result<Bytes, Unread>
+    ensures { Gives (λ bytes. bytes) result (Some items.items) }
+{
+    match Bytes::from_vec(alloc, items) {
+        Ok(bytes) => Ok(bytes),
+        Err(_) => Err(Unread::OutOfMemory),
+    }
+}
+
 /// The bytes that the digits of a block spell.
 #[tactic(auto, unfolding(crate::specs::Reading::bytes_of))]
 fn bytes_of(alloc: Global, word: &[u8]) -> Result<Bytes, Unread>
@@ -150,7 +160,7 @@ fn bytes_of(alloc: Global, word: &[u8]) -> Result<Bytes, Unread>
         return Err(Unread::Bad);
     }
     match hex::decode(alloc, word) {
-        Ok(bytes) => Ok(Bytes::from_vec(bytes)),
+        Ok(bytes) => kept(alloc, bytes),
         Err(FromHexError::OutOfMemory) => Err(Unread::OutOfMemory),
         Err(_) => Err(Unread::Bad),
     }
@@ -175,7 +185,7 @@ fn block_at(alloc: Global, fields: &[u8]) -> Result<Bytes, Unread>
     ensures { Gives (λ bytes. bytes) result (block_at (words_in fields.now)) }
 {
     let Some((word, rest)) = next_word(fields) else {
-        return Ok(Bytes::from_vec(Vec::new(alloc)));
+        return kept(alloc, Vec::new(alloc));
     };
     if !is_name(word, b"block") {
         return Err(Unread::Bad);

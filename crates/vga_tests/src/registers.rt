@@ -34,12 +34,12 @@ fn check_bytes(alloc: Global, checks: &mut Checks) -> Result<()> {
         Bytes::zeros(alloc, 3)?.as_slice() == [0, 0, 0].as_slice(),
     );
     checks.note("no bytes", Bytes::zeros(alloc, 0)?.as_slice().is_empty());
-    let kept = Bytes::from_vec(vec![in alloc; 7; 2]?);
+    let kept = Bytes::from_vec(alloc, vec![in alloc; 7; 2]?)?;
     checks.note(
         "the bytes of a vector",
         kept.as_slice() == [7, 7].as_slice(),
     );
-    let none = Bytes::from_vec(Vec::new(alloc));
+    let none = Bytes::from_vec(alloc, Vec::new(alloc))?;
     checks.note("those of an empty one", none.as_slice().is_empty());
     Ok(())
 }
