@@ -102,7 +102,7 @@ fn read_components<B: Bus>(bus: &mut B, values: &mut Bytes)
 
 /// 17: reads red, green and blue of some entries from one on. The memory for them is taken before the
 /// first cycle.
-#[tactic(auto, using(crate::proofs::RunLemmas::run_bind), unfolding(crate::specs::Tables::read_entries_plan))]
+#[tactic(auto, using(crate::proofs::RunLemmas::run_bind), unfolding(crate::specs::Tables::read_entries_plan, vga_bits::specs::Bytes::zeros))]
 fn read_entries<B: Bus>(
     alloc: Global,
     bus: &mut B,
