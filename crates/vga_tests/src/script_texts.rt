@@ -37,80 +37,35 @@ const NUMBERS_PRINTED: &[u8] =
     b"in 000\nin FFF\nin 1000\nget FFFFF\nget 100000\nget FFFFFFF\nget 10000000\n\
     advance 4294967295\nadvance 0\n";
 
-/// Lines that are no steps.
-const BAD_LINES: [&[u8]; 65] = [
-    // Words that are missing, or too many.
-    b"out 3C4",
-    b"out",
-    b"outw 3C4 1 2",
-    b"in",
-    b"in 3DA 0",
-    b"put A0000",
-    b"get",
-    b"advance",
-    b"advance 1 2",
-    b"frame 1",
-    b"int block",
-    b"int block 00 00",
-    // Digits that are too many, or none.
-    b"in 003DA",
-    b"out 3C4 002",
-    b"outw 3C4 00002",
-    b"put 0000A0000 1",
-    b"getw 123456789",
-    b"int ax=",
-    b"int ax=00013",
-    b"int block 0",
-    b"int block 000",
-    b"int block 0G",
-    b"int block +0",
-    b"in +3DA",
-    b"in 0x3DA",
-    b"in 3D:",
-    b"in 3DG",
-    b"advance 4294967296",
-    b"advance 99999999999999999999",
-    b"advance -1",
-    b"advance A",
-    // Registers out of order, twice, or with a blank.
-    b"int bx=1 ax=1",
-    b"int ax=1 ax=1",
-    b"int dx=1 cx=1",
-    b"int ax= 1",
-    b"int ax =1",
-    b"int ex=1",
-    b"int block 00 ax=1",
-    // What is shown has no name, another, too many words or too few.
-    b"show",
-    b"show cells",
-    b"show reg",
-    b"regs",
-    b"show regs x",
-    b"show beam 0",
-    b"show latches 0",
-    b"show bda 0",
-    b"show dac",
-    b"show dac 100",
-    b"show dac 1 2",
-    b"show plane 0 0",
-    b"show plane 0 0 1 1",
-    // Bytes of a plane that is none, too many digits, no bytes or too many, or bytes past the end.
-    b"show plane 4 0 1",
-    b"show plane 10 0 1",
-    b"show plane 2 10000 1",
-    b"show plane 2 0 0",
-    b"show plane 2 0 257",
-    b"show plane 2 0 A",
-    b"show plane 2 FFFF 2",
-    // Words that are no name.
-    b"outb 3C4 2",
-    b"version 2",
-    b"repeat 2",
-    b"\xC3\xB6ut 3C4 2",
-    b"in\x0C3DA",
-    b"in 3DA\x00",
-    b"in 3DA\x80",
-];
+/// Lines with words that are missing, or too many.
+const MISCOUNTED_WORDS: &[u8] =
+    b"out 3C4\nout\noutw 3C4 1 2\nin\nin 3DA 0\nput A0000\nget\nadvance\nadvance 1 2\nframe 1\n\
+    int block\nint block 00 00";
+
+/// Lines with digits that are too many, or none.
+const BAD_DIGITS: &[u8] =
+    b"in 003DA\nout 3C4 002\noutw 3C4 00002\nput 0000A0000 1\ngetw 123456789\nint ax=\n\
+    int ax=00013\nint block 0\nint block 000\nint block 0G\nint block +0\nin +3DA\nin 0x3DA\n\
+    in 3D:\nin 3DG\nadvance 4294967296\nadvance 99999999999999999999\nadvance -1\nadvance A";
+
+/// Lines with registers out of order, twice, or with a blank.
+const BAD_REGISTERS: &[u8] =
+    b"int bx=1 ax=1\nint ax=1 ax=1\nint dx=1 cx=1\nint ax= 1\nint ax =1\nint ex=1\n\
+    int block 00 ax=1";
+
+/// Looks with no name, another, too many words or too few.
+const BAD_LOOKS: &[u8] =
+    b"show\nshow cells\nshow reg\nregs\nshow regs x\nshow beam 0\nshow latches 0\nshow bda 0\n\
+    show dac\nshow dac 100\nshow dac 1 2\nshow plane 0 0\nshow plane 0 0 1 1";
+
+/// Looks at a plane that is none, with too many digits, at no bytes or too many, or past the end.
+const BAD_PLANES: &[u8] =
+    b"show plane 4 0 1\nshow plane 10 0 1\nshow plane 2 10000 1\nshow plane 2 0 0\n\
+    show plane 2 0 257\nshow plane 2 0 A\nshow plane 2 FFFF 2";
+
+/// Lines with words that are no name.
+const BAD_NAMES: &[u8] =
+    b"outb 3C4 2\nversion 2\nrepeat 2\n\xC3\xB6ut 3C4 2\nin\x0C3DA\nin 3DA\x00\nin 3DA\x80";
 
 /// The bytes and the printed text of a text's script, after its bytes were decoded.
 fn there_and_back(alloc: Global, text: &[u8]) -> Result<(Vec<u8>, Vec<u8>), Fault> {
@@ -154,6 +109,14 @@ fn is_bad_line(alloc: Global, line: &[u8]) -> Result<bool, AllocError> {
     )
 }
 
+/// Checks lines of which each is bad.
+fn check_bad_lines(alloc: Global, lines: &[u8], checks: &mut Checks) -> Result<()> {
+    for line in lines.split(|byte| *byte == b'\n') {
+        checks.note("a bad line", is_bad_line(alloc, line)?);
+    }
+    Ok(())
+}
+
 /// The line of a call of the BIOS with a block of so many bytes.
 fn block_line(alloc: Global, len: usize) -> Result<Vec<u8>, AllocError> {
     let mut text = Vec::from_slice(alloc, b"int block ")?;
@@ -195,8 +158,15 @@ pub fn check_script_texts(alloc: Global) -> Result<Checks> {
         is_every_step_spelled(alloc, EVERY_STEP_PRINTED)?,
     );
     checks.note("numbers in full", are_numbers_in_full(alloc)?);
-    for line in BAD_LINES {
-        checks.note("a bad line", is_bad_line(alloc, line)?);
+    for lines in [
+        MISCOUNTED_WORDS,
+        BAD_DIGITS,
+        BAD_REGISTERS,
+        BAD_LOOKS,
+        BAD_PLANES,
+        BAD_NAMES,
+    ] {
+        check_bad_lines(alloc, lines, &mut checks)?;
     }
     checks.note("the longest block", is_longest_block_read(alloc)?);
     checks.note("the longest text", is_longest_text_read(alloc)?);
