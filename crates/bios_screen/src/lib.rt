@@ -9,6 +9,3 @@ pub mod screen;
 mod shown;
 
 pub use screen::Screen;
-
-#[cfg(test)]
-mod tests;
