@@ -101,7 +101,7 @@ asked_is_served law r w =
 
 -- ---- the call around a service
 
-text_is_set : (mode : ℕ) → is_text mode ≡ true → (mode == 0) ≡ false
+pub text_is_set : (mode : ℕ) → is_text mode ≡ true → (mode == 0) ≡ false
 text_is_set mode t = by_tests (mode == 0x03) (mode == 0x07) refl refl t
   where
     by_tests : (a b : Bool) → (mode == 0x03) ≡ a → (mode == 0x07) ≡ b → (a || b) ≡ true → (mode == 0) ≡ false

@@ -61,7 +61,7 @@ module _ (c : CardState) (d : BiosData) (h : IsShown c d) where
   abbrev registers : List ℕ
   registers = c.attr.registers
 
-  port_is : d.crtc_address ≡ port_of h.display
+  pub port_is : d.crtc_address ≡ port_of h.display
   port_is = h.has.port ∙ h.text.port
 
   -- ---- the attribute controller
@@ -87,7 +87,7 @@ module _ (c : CardState) (d : BiosData) (h : IsShown c d) where
       ∙ ap (λ k. let x : Screen = record s { palette = record s.palette { values = values }; overscan = overscan; is_blink = k } in Some x) eb
 
   -- another DAC too
-  dac_shown : (new : DacState) → shown (with_dac c new) d ≡ Some (record s { palette = record s.palette { reds = new.reds; greens = new.greens; blues = new.blues; mask = new.mask } })
+  pub dac_shown : (new : DacState) → shown (with_dac c new) d ≡ Some (record s { palette = record s.palette { reds = new.reds; greens = new.greens; blues = new.blues; mask = new.mask } })
   dac_shown new = other_data c (with_dac c new) d d h refl refl h.tests.attribute h.tests.data_test h.tests.crtc
 
   loaded_shown : (y : CardState) (first count : ℕ) (block : List ℕ) → IsLoaded c y first count block → shown y d ≡ Some (with_entries s first count block)
@@ -183,7 +183,7 @@ module _ (c : CardState) (d : BiosData) (h : IsShown c d) where
       ∙ ap (λ p. let x = run card_meaning (read_register_plan p i) c in run card_meaning (done x.1) x.0) port_is
       ∙ ap (λ (x : CardState × ℕ). run card_meaning (done x.1) x.0) (register_read h.display c i h.setting l)
 
-  index_moved : (i : ℕ) → i < 18 → shown (with_attr c registers (0x20 + i) false) d ≡ Some s
+  pub index_moved : (i : ℕ) → i < 18 → shown (with_attr c registers (0x20 + i) false) d ≡ Some s
   index_moved i l = attribute_shown registers (0x20 + i) (index_shown i l) refl refl s.palette.values s.overscan s.is_blink refl refl refl
 
   mask_read : (r : Regs) → run card_meaning (read_mask_in_bl r) c ≡ (c, record r { bx = with_low r.bx c.dac.mask })

@@ -3,11 +3,13 @@ use Rattle.std.proofs.Common.{◌≡◌, ℕ, refl, List, [], ◌∷◌, Some, N
 use Rattle.vga_bits.specs.declared.refusal.Refusal.TheVariants.{WrongKind, BadPage, Outside, CountPast, BadRegister, BadBlock}
 use Rattle.bios_services.specs.declared.cell_run.CellRun.{CellRun}
 use Rattle.bios_services.specs.declared.colours.ColourService.TheVariants.{SetRegister, SetEntries}
+use Rattle.bios_services.specs.declared.tables.TableService.TheVariants.{ReadPalette, ReadEntries}
+use Rattle.bios_services.specs.declared.reply.Table.TheVariants.{Palette as PaletteTable, Dac as DacTable}
 use Rattle.bios_services.specs.declared.call.Service.{Service}
 use Rattle.bios_services.specs.declared.call.Service.TheVariants.{SetCursor, SelectPage, ScrollUp, ScrollDown, WriteCells, WritePixel, Teletype, Colours, WriteString}
 use Rattle.bios_screen.specs.Screen.{Cell, Cells, Screen}
 use Rattle.bios_services.specs.Colours.{colour_refusal}
-use Rattle.bios_screen.specs.Colours.{coloured as colours_after}
+use Rattle.bios_screen.specs.Colours.{coloured as colours_after, table_read}
 use Rattle.bios_screen.specs.Step.{refused_on, next, typed, cells_on}
 
 -- a page of these cells, with the cursor at this place
@@ -153,3 +155,10 @@ short_entries = refl
 no_register : refused_on coloured (Colours (SetRegister 16 0)) 0 ≡ Some BadRegister
 unfolding refused_on colour_refusal
 no_register = refl
+
+-- the palette is answered with the overscan behind it, and entries with three bytes each
+palette_table : table_read (record coloured { overscan = 7 }) ReadPalette ≡ PaletteTable (1 ∷ 2 ∷ 7 ∷ [])
+palette_table = refl
+
+entries_table : table_read coloured (ReadEntries 1 2) ≡ DacTable (11 ∷ 21 ∷ 31 ∷ 12 ∷ 22 ∷ 32 ∷ [])
+entries_table = refl

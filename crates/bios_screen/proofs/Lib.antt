@@ -29,6 +29,7 @@ pub mod Attributes
 pub mod Dacs
 pub mod Served
 pub mod Calls
+pub mod Tables
 pub mod Examples
 pub mod PictureExamples
 pub mod DotLists

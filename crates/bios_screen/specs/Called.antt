@@ -1,4 +1,4 @@
--- A call on a plain screen: its reply or refusal, and the screen afterwards.
+-- A call on a plain screen: its reply or refusal, and the screen afterwards; and a call that wants memory.
 -- From the IBM PS/2 and PC BIOS Interface Technical Reference, "Interrupt 10H - Video".
 use Rattle.std.specs.Prelude.{ℕ, ◌≡◌, ◌<◌, List, length, Option, Some, None, Result, Ok, Err}
 use Rattle.vga_bits.specs.declared.refusal.Refusal.{Refusal}
@@ -7,10 +7,17 @@ use Rattle.bios_modes.specs.Bda.{BiosData}
 use Rattle.bios_modes.specs.Fonts.{FontSet}
 use Rattle.bios_services.specs.declared.regs.Regs.{Regs}
 use Rattle.bios_services.specs.declared.reply.Reply.{Reply}
+use Rattle.bios_services.specs.declared.reply.Table.{Table}
 use Rattle.bios_services.specs.declared.reply.Table.TheVariants.{Empty}
+use Rattle.bios_services.specs.declared.reply.ServiceError.TheVariants.{OutOfMemory}
+use Rattle.bios_services.specs.declared.tables.TableService.{TableService}
 use Rattle.bios_services.specs.declared.call.Service.{Service}
+use Rattle.bios_services.specs.Tables.{table_refusal}
+use Rattle.bios_services.specs.Service.{service as whole_service, Serves as MayAnswer}
+use Rattle.vga_card.specs.Bus.{card_meaning}
 use Rattle.bios_screen.specs.Screen.{Screen}
 use Rattle.bios_screen.specs.Shown.{shown}
+use Rattle.bios_screen.specs.Colours.{table_read}
 use Rattle.bios_screen.specs.Step.{refused_on, next, answer_on}
 use Rattle.bios_screen.specs.Served.{after_call}
 
@@ -21,10 +28,14 @@ pub record AreWords (r : Regs) : Type 0 where
   pub cx : r.cx < 65536
   pub dx : r.dx < 65536
 
+-- registers and a table are replied, unless the call is refused
+abbrev pub table_unless : Option Refusal → Table → Regs → Result Reply Refusal
+table_unless None table r = Ok (record { regs = r; table = table })
+table_unless (Some why) table r = Err why
+
 -- the reply of a service, unless it is refused
 abbrev pub reply_unless : Option Refusal → Regs → Result Reply Refusal
-reply_unless None r = Ok (record { regs = r; table = Empty })
-reply_unless (Some why) r = Err why
+reply_unless refusal r = table_unless refusal Empty r
 
 -- the screen after it, unless it is refused
 abbrev pub screen_unless : Option Refusal → Screen → Screen → Screen
@@ -36,3 +47,18 @@ pub record IsCalled (service : Service) (fonts : FontSet) (r : Regs) (block : Li
   pub reply : (after_call fonts r block c d).1.0 ≡ reply_unless (refused_on s service (length block)) (answer_on s service r)
   pub shows : shown (after_call fonts r block c d).0 (after_call fonts r block c d).1.1 ≡ Some (screen_unless (refused_on s service (length block)) s (next s service block))
   pub beam : (after_call fonts r block c d).0.crtc.beam ≡ c.crtc.beam
+
+-- a call for a table replies with that of the screen, and leaves screen and beam
+pub record IsRead (service : TableService) (fonts : FontSet) (r : Regs) (block : List ℕ) (c : CardState) (d : BiosData) (s : Screen) : Type 0 where
+  pub reply : (after_call fonts r block c d).1.0 ≡ table_unless (table_refusal service) (table_read s service) r
+  pub shows : shown (after_call fonts r block c d).0 (after_call fonts r block c d).1.1 ≡ Some s
+  pub beam : (after_call fonts r block c d).0.crtc.beam ≡ c.crtc.beam
+
+-- memory for a table is refused, and the call leaves this adapter and these data
+abbrev pub WantsMemory : FontSet → Regs → List ℕ → CardState → BiosData → CardState → BiosData → Type 0
+WantsMemory fonts r block c d y after = MayAnswer card_meaning (whole_service fonts d r block) c d (Err OutOfMemory) y after
+
+-- they show the screen as before, and the beam is where it was
+pub record IsLeft (c : CardState) (s : Screen) (y : CardState) (after : BiosData) : Type 0 where
+  pub shows : shown y after ≡ Some s
+  pub beam : y.crtc.beam ≡ c.crtc.beam

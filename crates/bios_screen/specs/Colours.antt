@@ -1,12 +1,16 @@
--- What function 10 does to the colours of a plain screen, and what it answers.
+-- What function 10 does to the colours of a plain screen, and what it answers in registers and as a table.
 -- From the IBM PS/2 and PC BIOS Interface Technical Reference, "Interrupt 10H - Video", (AH) = 10H.
-use Rattle.std.specs.Prelude.{ℕ, ◌+◌, ◌-◌, ◌*◌, ◌==◌, ◌&&◌, nat_lt, nat_le, if◌then◌else◌, List, [], ◌∷◌, length, slice_index, slice_set, bit_and}
+use Rattle.std.specs.Prelude.{ℕ, zero, suc, ◌+◌, ◌-◌, ◌*◌, ◌==◌, ◌&&◌, nat_lt, nat_le, if◌then◌else◌, List, [], ◌∷◌, ◌++◌, length, slice_index, slice_set, bit_and}
 use Rattle.bios_services.specs.declared.regs.Regs.{Regs}
 use Rattle.bios_services.specs.declared.colours.ColourService.{ColourService}
 use Rattle.bios_services.specs.declared.colours.ColourService.TheVariants.{SetRegister, SetOverscan, SetPalette, SetBlinking, ReadRegister, ReadOverscan, SetEntry, SetEntries, ReadEntry, SetMask, ReadMask}
+use Rattle.bios_services.specs.declared.tables.TableService.{TableService}
+use Rattle.bios_services.specs.declared.tables.TableService.TheVariants.{ReadPalette, ReadEntries}
+use Rattle.bios_services.specs.declared.reply.Table.{Table}
+use Rattle.bios_services.specs.declared.reply.Table.TheVariants.{Palette as PaletteTable, Dac as DacTable}
 use Rattle.bios_services.specs.Registers.{with_high, with_low}
 use Rattle.bios_screen.specs.Listing.{listing}
-use Rattle.bios_screen.specs.Screen.{Screen}
+use Rattle.bios_screen.specs.Screen.{Palette, Screen}
 
 -- values of the palette, and components of the DAC's entries, have six bits
 abbrev pub six_bits : ℕ → ℕ
@@ -66,3 +70,13 @@ colours_read s (ReadEntry entry) r =
     record r { cx = 256 * slice_index s.palette.greens entry + slice_index s.palette.blues entry; dx = with_high r.dx (slice_index s.palette.reds entry) }
 colours_read s (SetMask mask) r = r
 colours_read s ReadMask r = record r { bx = with_low r.bx s.palette.mask }
+
+-- red, green and blue of n entries from entry k on
+abbrev pub entries_from : Palette → ℕ → ℕ → List ℕ
+entries_from p k zero = []
+entries_from p k (suc n) = slice_index p.reds k ∷ slice_index p.greens k ∷ slice_index p.blues k ∷ entries_from p (k + 1) n
+
+-- the table that it answers: the palette's values and then the overscan, or some entries
+abbrev pub table_read : Screen → TableService → Table
+table_read s ReadPalette = PaletteTable (s.palette.values ++ s.overscan ∷ [])
+table_read s (ReadEntries first count) = DacTable (entries_from s.palette first count)

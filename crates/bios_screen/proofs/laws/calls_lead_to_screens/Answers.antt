@@ -1,4 +1,5 @@
 use Rattle.bios_screen.proofs.Calls.{calls_lead, unknown_refused, mode_refused}
+use Rattle.bios_screen.proofs.Tables.{tables_read, memory_wanted}
 use Rattle.bios_screen.proofs.laws.calls_lead_to_screens.Goals as goal
 
 pub returns-clause-served : goal.returns-clause-served
@@ -9,3 +10,9 @@ returns-clause-unknown c = unknown_refused
 
 pub returns-clause-mode : goal.returns-clause-mode
 returns-clause-mode c = mode_refused
+
+pub returns-clause-table : goal.returns-clause-table
+returns-clause-table c = tables_read
+
+pub returns-clause-memory : goal.returns-clause-memory
+returns-clause-memory c = memory_wanted
