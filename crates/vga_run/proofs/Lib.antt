@@ -1,3 +1,4 @@
+pub mod LookLemmas
 pub mod NumberLemmas
 pub mod ReportLemmas
 pub mod RunLemmas

@@ -97,4 +97,4 @@ refused_step law services m (Int ax bx cx dx block) refusal is =
     refused_call m (run card_meaning (service m.fonts m.bda asked block) m.card) refusal (services m.fonts m.bda asked block m.card) is
 refused_step law services m (Advance count) refusal is = refused_write m (advance_cycle m.card count).0 (advance_cycle m.card count).1 refusal (refused_advance (nat_le count most_dots) m.card (dots count m.card)) is
 refused_step law services m Frame refusal is = absurd (answered_frame (shape (frame m.card).drawn) (bytes_of (frame m.card).drawn) (Refused refusal) is)
-refused_step law services m (Show what) refusal is = absurd (cc)
+refused_step law services m (Show what) refusal is = refl

@@ -53,3 +53,8 @@ of_frame dots = of_shape (shape dots) (bytes_of dots)
 abbrev pub of_drawn : Drawn → Reply
 of_drawn (drawn.Picture width height bytes) = Picture width height bytes.now
 of_drawn drawn.Ragged = Ragged
+
+-- what a look answers: its dump, unless it is refused
+abbrev pub of_look : Option Refusal → List ℕ → Reply
+of_look None text = Dump text
+of_look (Some why) text = Plain (Refused why)

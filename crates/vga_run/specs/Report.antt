@@ -2,6 +2,7 @@
 use Rattle.std.specs.Prelude.{◌≡◌, ℕ, ◌+◌, ◌==◌, if◌then◌else◌, List, [], ◌∷◌, ◌++◌, length, take, Option, None, Some, codes, decimal}
 use Rattle.std.specs.List.{flat_map}
 use Rattle.vga_bits.specs.Refusal.{refusal_name}
+use Rattle.vga_bits.specs.declared.refusal.Refusal.{Refusal}
 use Rattle.vga_bits.specs.Hex.{hex_byte, hex_word}
 use Rattle.vga_script.specs.declared.step.Step.{Step}
 use Rattle.vga_script.specs.declared.step.Step.TheVariants.{Show}
@@ -54,6 +55,11 @@ line n (Picture width height bytes) =
     picture_line n (length picture) ++ (picture ++ codes "\n")
 line n Ragged = decimal n ++ codes " ragged\n"
 line n (Dump text) = number_text n ++ text
+
+-- what stands behind the number of a step that shows something: the dump, or the name of the refusal
+abbrev pub look_text : Option Refusal → List ℕ → List ℕ
+look_text None text = text
+look_text (Some why) text = refusal_name why ++ codes "\n"
 
 -- the lines of the steps from this machine on, of which the first has the number n
 abbrev pub report_from : Machine → ℕ → List Step → List ℕ

@@ -2,6 +2,7 @@
 #![tactic(auto)]
 
 mod answer;
+mod cells;
 mod laws;
 mod line;
 pub mod machine;

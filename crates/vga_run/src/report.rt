@@ -3,17 +3,18 @@ ghost use Rattle.std.specs.Prelude.{◌≡◌, ◌+◌, ◌*◌, ◌<◌, ◌≤
 ghost use Rattle.vga_bits.specs.Tracked.{inner_of, has_failed, Writes};
 ghost use Rattle.vga_card.specs.Frames.{IsSmall};
 ghost use Rattle.vga_card.specs.Picture.{widest, highest};
-ghost use Rattle.vga_run.specs.Answer.{Picture, Ragged, Dump, of_drawn};
-ghost use Rattle.vga_run.specs.Step.{after_step, after_steps, dump_text};
+ghost use Rattle.vga_run.specs.Answer.{Picture, Ragged, of_drawn, of_look};
+ghost use Rattle.vga_run.specs.Step.{after_step, after_steps, dump_text, look_refusal};
 ghost use Rattle.vga_run.specs.Run.{WritesStep, WritesReport};
 ghost use Rattle.vga_script.specs.Step.{IsInRange, AreInRange};
 ghost use Rattle.vga_script.specs.declared.step.Step.TheVariants.{Int};
 ghost use Rattle.vga_script.specs.Shown.{IsShownInRange};
-ghost use Rattle.vga_run.specs.Report.{line as line_of, picture_line as picture_line_of, steps_until};
+ghost use Rattle.vga_run.specs.Report.{line as line_of, look_text, picture_line as picture_line_of, steps_until};
 ghost use Rattle.vga_show.specs.Ppm.{ppm};
 ghost use Rattle.bios_modes.specs.Valid.{IsValid};
 
 use super::answer::Answer;
+use super::cells::write_cells;
 use super::line::{Line, numbered, write_line};
 use super::machine::Machine;
 use super::numbered_line::NumberedLine;
@@ -101,13 +102,14 @@ fn write_drawn<W: Write>(out: &mut Tracked<W>, n: usize, drawn: Drawn<'_>) -> Re
     }
 }
 
-/// Writes the dump of what a step shows.
-#[tactic(auto, unfolding(crate::specs::Step::dump_text))]
+/// Writes the dump of what a step shows, behind its number, or the name of the refusal.
+#[tactic(auto, unfolding(crate::specs::Step::dump_text, crate::specs::Step::look_refusal))]
 fn write_dump<W: Write>(out: &mut Tracked<W>, machine: &Machine, shown: Shown) -> Result<(), Fault>
     requires writer { has_failed out.old ≡ false }
     requires range { IsShownInRange shown }
+    requires valid { IsValid machine.now.bda }
     ensures { Writes (W.contents (inner_of out.old)) (W.contents (inner_of out.new))
-        (has_failed out.new) result (dump_text machine.now shown) }
+        (has_failed out.new) result (look_text (look_refusal machine.now shown) (dump_text machine.now shown)) }
 {
     match shown {
         Shown::Registers => dump_regs(out, &machine.card),
@@ -120,11 +122,12 @@ fn write_dump<W: Write>(out: &mut Tracked<W>, machine: &Machine, shown: Shown) -
             count,
         } => dump_plane(out, &machine.card, plane, offset, count),
         Shown::BiosData => dump_bda(out, &machine.bda),
+        Shown::Cells => write_cells(out, machine),
     }
 }
 
-/// Writes the number of step n, and the dump of what it shows.
-#[tactic(auto, unfolding(crate::specs::Report::line), using(vga_bits::proofs::WritingLemmas::writes_after, vga_bits::proofs::WritingLemmas::front_of_more))]
+/// Writes the number of step n, and the dump of what it shows, or why it is refused.
+#[tactic(auto, using(crate::proofs::LookLemmas::writes_look, crate::proofs::LookLemmas::front_of_look))]
 fn write_shown<W: Write>(
     out: &mut Tracked<W>,
     n: usize,
@@ -133,8 +136,9 @@ fn write_shown<W: Write>(
 ) -> Result<(), Fault>
     requires writer { has_failed out.old ≡ false }
     requires range { IsShownInRange shown }
+    requires valid { IsValid machine.now.bda }
     ensures { Writes (W.contents (inner_of out.old)) (W.contents (inner_of out.new))
-        (has_failed out.new) result (line_of n (Dump (dump_text machine.now shown))) }
+        (has_failed out.new) result (line_of n (of_look (look_refusal machine.now shown) (dump_text machine.now shown))) }
 {
     write_whole(out, numbered(n).as_slice())?;
     write_dump(out, machine, shown)

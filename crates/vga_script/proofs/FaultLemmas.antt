@@ -32,6 +32,7 @@ has_shown shown.Beam x rest e = (1, ap shown_len e, let l = ap length e in omega
 has_shown shown.Latches x rest e = (1, ap shown_len e, let l = ap length e in omega arith)
 has_shown (shown.Plane plane offset count) x rest e = (6, ap shown_len e, let l = ap length e in omega arith)
 has_shown shown.BiosData x rest e = (1, ap shown_len e, let l = ap length e in omega arith)
+has_shown shown.Cells x rest e = (1, ap shown_len e, let l = ap length e in omega arith)
 
 -- so is a look at it
 has_look : (what : Shown) (x : List ℕ) (opcode : ℕ) (rest : List ℕ) → spelling (Show what) ++ x ≡ opcode ∷ rest → HasFields opcode rest

@@ -6,7 +6,7 @@ use Rattle.byteorder.specs.Endian.{little_bytes, little_number}
 use Rattle.vga_script.specs.declared.step.Step.{Step}
 use Rattle.vga_script.specs.declared.step.Step.TheVariants.{Out, OutWord, In, InWord, Put, PutWord, Get, GetWord, Int, Advance, Frame, Show}
 use Rattle.vga_script.specs.declared.shown.Shown.TheVariants as shown
-use Rattle.vga_script.specs.Shown.{kind_registers, kind_dac, kind_beam, kind_latches, kind_plane, kind_bios_data}
+use Rattle.vga_script.specs.Shown.{kind_registers, kind_dac, kind_beam, kind_latches, kind_plane, kind_bios_data, kind_cells}
 use Rattle.vga_script.specs.Step.{IsInRange, AreInRange}
 use Rattle.vga_script.specs.Spelling.{header, opcode_out, opcode_out_word, opcode_in, opcode_in_word, opcode_put, opcode_put_word, opcode_get, opcode_get_word, opcode_int, opcode_advance, opcode_frame, opcode_show, spelling, encoding, SpellsSteps, Spells}
 use Rattle.vga_script.proofs.FieldLemmas.{two_back, four_back}
@@ -27,6 +27,7 @@ shown_at kind rest =
     else if kind == kind_latches then Some (Show shown.Latches, rest)
     else if kind == kind_plane then Some (Show (shown.Plane (get_or rest 0 0) (little_number 2 (drop 1 rest)) (little_number 2 (drop 3 rest))), drop 5 rest)
     else if kind == kind_bios_data then Some (Show shown.BiosData, rest)
+    else if kind == kind_cells then Some (Show shown.Cells, rest)
     else None
 
 -- the step of an opcode and its fields, and what follows them
@@ -96,6 +97,7 @@ step_back (Show shown.Beam) x fits = refl
 step_back (Show shown.Latches) x fits = refl
 step_back (Show (shown.Plane plane offset count)) x (four, some, most, within) = plane_back plane offset count x (omega arith) (omega arith)
 step_back (Show shown.BiosData) x fits = refl
+step_back (Show shown.Cells) x fits = refl
 
 -- the front of some bytes tells the step that it spells
 pub one_step : (s t : Step) (x y : List ℕ) → IsInRange s → IsInRange t → spelling s ++ x ≡ spelling t ++ y → (s ≡ t) × (x ≡ y)

@@ -293,6 +293,7 @@ shown_prints (shown.Plane plane offset count) (four, some, most, within) =
       ),
     )
 shown_prints shown.BiosData fits = ((omega arith, test_plain (codes "bda") refl, tt), (codes "bda", [], refl, refl, refl))
+shown_prints shown.Cells fits = ((omega arith, test_plain (codes "cells") refl, tt), (codes "cells", [], refl, refl, refl))
 
 -- in each step
 fields_print : (s : Step) → IsInRange s → Prints s

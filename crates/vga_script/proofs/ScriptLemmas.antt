@@ -43,6 +43,7 @@ shown_range ws shown.Beam h = tt
 shown_range ws shown.Latches h = tt
 shown_range ws (shown.Plane plane offset count) (first, rest, e, named, (p, o, n, f, hp, ho, hn, within)) = within
 shown_range ws shown.BiosData h = tt
+shown_range ws shown.Cells h = tt
 
 -- the fields of a step
 fields_range : (ws : List (List ℕ)) (s : Step) → SpellsFields ws s → IsInRange s

@@ -99,7 +99,8 @@ shown_reads (w ∷ ws) what e =
     (λ e. either _ _ _ what e (λ t r. named w ws (codes "latches") what t (alone_reads (codes "latches") shown.Latches ws what refl (λ n. n) r))
     (λ e. either _ _ _ what e (λ t r. named w ws (codes "plane") what t (plane_reads ws what r))
     (λ e. either _ _ _ what e (λ t r. named w ws (codes "bda") what t (alone_reads (codes "bda") shown.BiosData ws what refl (λ n. n) r))
-    (λ e. absurd (cc)))))))
+    (λ e. either _ _ _ what e (λ t r. named w ws (codes "cells") what t (alone_reads (codes "cells") shown.Cells ws what refl (λ n. n) r))
+    (λ e. absurd (cc))))))))
 
 -- and what is spelled is read
 pub spells_shown : (ws : List (List ℕ)) (what : Shown) → SpellsShown ws what → read_shown ws ≡ Some what
@@ -111,3 +112,4 @@ spells_shown ws shown.Latches (first, rest, e, named, none) = rw (e, named, none
 spells_shown ws (shown.Plane plane offset count) (first, rest, e, named, (p, o, n, f, hp, ho, hn, (four, some, most, within))) =
     rw (e, named, f, spells_hex_at 1 3 p plane (o ∷ n ∷ []) hp (omega arith), spells_hex_at 4 0xFFFF o offset (n ∷ []) ho (omega arith), spells_one_decimal 256 n count hn most, lt_passes 0 count some, le_passes (offset + count) 0x1_0000 within) refl
 spells_shown ws shown.BiosData (first, rest, e, named, none) = rw (e, named, none) refl
+spells_shown ws shown.Cells (first, rest, e, named, none) = rw (e, named, none) refl

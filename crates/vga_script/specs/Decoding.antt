@@ -6,7 +6,7 @@ use Rattle.vga_bits.specs.declared.fault.Fault.TheVariants.{BadMagic, BadVersion
 use Rattle.vga_script.specs.declared.step.Step.{Step}
 use Rattle.vga_script.specs.declared.step.Step.TheVariants.{Show}
 use Rattle.vga_script.specs.declared.shown.Shown.TheVariants as shown
-use Rattle.vga_script.specs.Shown.{IsShownInRange, kind_registers, kind_dac, kind_beam, kind_latches, kind_plane, kind_bios_data}
+use Rattle.vga_script.specs.Shown.{IsShownInRange, kind_registers, kind_dac, kind_beam, kind_latches, kind_plane, kind_bios_data, kind_cells}
 use Rattle.vga_script.specs.Spelling.{script_limit, magic, version, opcode_out, opcode_out_word, opcode_in, opcode_in_word, opcode_put, opcode_put_word, opcode_get, opcode_get_word, opcode_int, opcode_advance, opcode_frame, opcode_show, spelling, Spells}
 
 -- How many bytes say what is shown, of which these are the first: the kind, where it is one, and its fields. Where not
@@ -20,6 +20,7 @@ shown_len (kind ∷ rest) =
     else if kind == kind_latches then Some 1
     else if kind == kind_plane then Some 6
     else if kind == kind_bios_data then Some 1
+    else if kind == kind_cells then Some 1
     else None
 
 -- How many bytes of fields belong to an opcode, where it is one, of which these bytes follow it. Those of a call of the

@@ -34,6 +34,7 @@ shown_field_words shown.Beam = []
 shown_field_words shown.Latches = []
 shown_field_words (shown.Plane plane offset count) = hex 1 plane ∷ hex 4 offset ∷ decimal count ∷ []
 shown_field_words shown.BiosData = []
+shown_field_words shown.Cells = []
 
 -- the words that follow a step's name
 abbrev pub field_words : Step → List (List ℕ)

@@ -143,6 +143,7 @@ read_shown (w ∷ ws) =
     else if bytes_eq (lowered w) (codes "latches") then alone shown.Latches ws
     else if bytes_eq (lowered w) (codes "plane") then read_plane ws
     else if bytes_eq (lowered w) (codes "bda") then alone shown.BiosData ws
+    else if bytes_eq (lowered w) (codes "cells") then alone shown.Cells ws
     else None
 
 -- the step of this name that words spell

@@ -12,6 +12,7 @@ IsShownInRange shown.Beam = Unit {0}
 IsShownInRange shown.Latches = Unit {0}
 IsShownInRange (shown.Plane plane offset count) = (plane < 4) × (0 < count) × (count ≤ 256) × (offset + count ≤ 2 ^ 16)
 IsShownInRange shown.BiosData = Unit {0}
+IsShownInRange shown.Cells = Unit {0}
 
 -- the kind of the registers
 abbrev pub kind_registers : ℕ
@@ -37,6 +38,10 @@ kind_plane = 0x04
 abbrev pub kind_bios_data : ℕ
 kind_bios_data = 0x05
 
+-- the kind of the cells of the active page
+abbrev pub kind_cells : ℕ
+kind_cells = 0x06
+
 -- the bytes of what is shown: its kind, and its fields, each with the low byte first
 abbrev pub shown_spelling : Shown → List ℕ
 shown_spelling shown.Registers = kind_registers ∷ []
@@ -45,3 +50,4 @@ shown_spelling shown.Beam = kind_beam ∷ []
 shown_spelling shown.Latches = kind_latches ∷ []
 shown_spelling (shown.Plane plane offset count) = kind_plane ∷ plane ∷ (little_bytes 2 offset ++ little_bytes 2 count)
 shown_spelling shown.BiosData = kind_bios_data ∷ []
+shown_spelling shown.Cells = kind_cells ∷ []

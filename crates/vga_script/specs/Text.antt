@@ -76,6 +76,7 @@ shown_name shown.Beam = codes "beam"
 shown_name shown.Latches = codes "latches"
 shown_name (shown.Plane plane offset count) = codes "plane"
 shown_name shown.BiosData = codes "bda"
+shown_name shown.Cells = codes "cells"
 
 -- the words that follow it
 abbrev pub SpellsShownFields : List (List ℕ) → Shown → Type 0
@@ -87,6 +88,7 @@ SpellsShownFields fields (shown.Plane plane offset count) =
     (p : List ℕ) × (o : List ℕ) × (n : List ℕ) × (fields ≡ p ∷ o ∷ n ∷ [])
     × IsHex 1 p plane × IsHex 4 o offset × IsNumeral 10 n count × IsShownInRange (shown.Plane plane offset count)
 SpellsShownFields fields shown.BiosData = fields ≡ []
+SpellsShownFields fields shown.Cells = fields ≡ []
 
 -- a word that says what is shown, and its fields
 abbrev pub SpellsShown : List (List ℕ) → Shown → Type 0

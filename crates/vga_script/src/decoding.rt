@@ -183,6 +183,7 @@ fn shown_at(fields: &[u8]) -> Result<(Step, &[u8]), NoStep>
         opcode::SHOW_LATCHES => Shown::Latches,
         opcode::SHOW_PLANE => return plane_at(rest),
         opcode::SHOW_BIOS_DATA => Shown::BiosData,
+        opcode::SHOW_CELLS => Shown::Cells,
         _ => return Err(NoStep::Bad),
     };
     Ok((Step::Show { shown }, rest))

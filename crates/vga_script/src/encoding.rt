@@ -87,6 +87,7 @@ fn append_shown(out: &mut Vec<u8>, shown: Shown) -> Result<(), Fault>
             append_u16(out, count)
         }
         Shown::BiosData => append(out, &[opcode::SHOW, opcode::SHOW_BIOS_DATA]),
+        Shown::Cells => append(out, &[opcode::SHOW, opcode::SHOW_CELLS]),
     }
 }
 

@@ -60,5 +60,8 @@ pub(crate) const SHOW_PLANE: u8 = 0x04;
 /// What follows it where the data of the BIOS is.
 pub(crate) const SHOW_BIOS_DATA: u8 = 0x05;
 
+/// What follows it where the cells of the active page are.
+pub(crate) const SHOW_CELLS: u8 = 0x06;
+
 /// How many bytes stand before the steps: those of the magic and the version.
 pub(crate) const HEADER_LEN: usize = 5;

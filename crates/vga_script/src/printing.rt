@@ -168,6 +168,7 @@ fn print_shown(out: &mut Vec<u8>, shown: Shown) -> Result<(), Fault>
             count,
         } => print_plane(out, plane, offset, count),
         Shown::BiosData => append(out, b"show bda\n"),
+        Shown::Cells => append(out, b"show cells\n"),
     }
 }
 

@@ -374,6 +374,9 @@ fn read_shown(fields: &[u8]) -> Result<Shown, Unread>
     if is_name(name, b"bda") {
         return alone(Shown::BiosData, rest);
     }
+    if is_name(name, b"cells") {
+        return alone(Shown::Cells, rest);
+    }
     Err(Unread::Bad)
 }
 

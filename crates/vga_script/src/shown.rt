@@ -36,6 +36,8 @@ pub enum Shown {
     },
     /// The data of the BIOS.
     BiosData,
+    /// The cells of the active page.
+    Cells,
 }
 
 impl Shown {

@@ -34,6 +34,7 @@ fn steps_in_bytes()
     ensures plane { spelling (Step.Show (Shown.Plane 2 0xB800 256))
         ≡ 0x0C ∷ 0x04 ∷ 2 ∷ 0x00 ∷ 0xB8 ∷ 0x00 ∷ 0x01 ∷ [] }
     ensures bios_data { spelling (Step.Show Shown.BiosData) ≡ 0x0C ∷ 0x05 ∷ [] }
+    ensures cells { spelling (Step.Show Shown.Cells) ≡ 0x0C ∷ 0x06 ∷ [] }
 {}
 
 /// The line of each step, as it is printed.
@@ -57,6 +58,7 @@ fn steps_in_print()
     ensures latches { printed_line (Step.Show Shown.Latches) ≡ codes "show latches\n" }
     ensures plane { printed_line (Step.Show (Shown.Plane 2 0 256)) ≡ codes "show plane 2 0000 256\n" }
     ensures bios_data { printed_line (Step.Show Shown.BiosData) ≡ codes "show bda\n" }
+    ensures cells { printed_line (Step.Show Shown.Cells) ≡ codes "show cells\n" }
 {}
 
 /// A text with a comment and capitals spells two steps, and one without a value has a bad line.
@@ -73,6 +75,6 @@ fn bytes_faulty()
     ensures cut { IsFault (header ++ 1 ∷ 0xC4 ∷ 0x03 ∷ []) (Fault.Truncated 5) }
     ensures unknown { IsFault (header ++ 0xFF ∷ []) (Fault.BadStep 5) }
     ensures no_kind { IsFault (header ++ 0x0C ∷ []) (Fault.Truncated 5) }
-    ensures other_kind { IsFault (header ++ 0x0C ∷ 0x06 ∷ []) (Fault.BadStep 5) }
+    ensures other_kind { IsFault (header ++ 0x0C ∷ 0x07 ∷ []) (Fault.BadStep 5) }
     ensures past_the_end { IsFault (header ++ 0x0C ∷ 0x04 ∷ 0 ∷ 0xFF ∷ 0xFF ∷ 2 ∷ 0 ∷ []) (Fault.BadStep 5) }
 {}

@@ -13,20 +13,20 @@ const LIMIT: usize = 16_777_216;
 const EVERY_STEP: &[u8] =
     b"out 3c4 2\noutw 3ce ff08\nin 3da\ninw 3C4\nput b8000 41\nputw 1234567 741\n\
     get 0\ngetw FFFFffff\nint bx=1 cx=FfFf block 00fF\nadvance 007\nframe\nshow regs\nSHOW Dac 1f\n\
-    show BEAM\nshow latches\nshow plane 2 0 00256\nshow plane 3 ffFf 1\nshow bda";
+    show BEAM\nshow latches\nshow plane 2 0 00256\nshow plane 3 ffFf 1\nshow bda\nshow Cells";
 
 /// How those lines are printed.
 const EVERY_STEP_PRINTED: &[u8] = b"out 3C4 02\noutw 3CE FF08\nin 3DA\ninw 3C4\nput B8000 41\n\
     putw 1234567 0741\nget 00000\ngetw FFFFFFFF\n\
     int ax=0000 bx=0001 cx=FFFF dx=0000 block 00FF\nadvance 7\nframe\nshow regs\nshow dac 1F\n\
-    show beam\nshow latches\nshow plane 2 0000 256\nshow plane 3 FFFF 1\nshow bda\n";
+    show beam\nshow latches\nshow plane 2 0000 256\nshow plane 3 FFFF 1\nshow bda\nshow cells\n";
 
 /// Their bytes.
 const EVERY_STEP_BYTES: &[u8] =
     b"VGAS\x01\x01\xC4\x03\x02\x02\xCE\x03\x08\xFF\x03\xDA\x03\x04\xC4\x03\
     \x05\x00\x80\x0B\x00\x41\x06\x67\x45\x23\x01\x41\x07\x07\x00\x00\x00\x00\x08\xFF\xFF\xFF\xFF\
     \x09\x00\x00\x01\x00\xFF\xFF\x00\x00\x02\x00\x00\xFF\x0A\x07\x00\x00\x00\x0B\
-    \x0C\x00\x0C\x01\x1F\x0C\x02\x0C\x03\x0C\x04\x02\x00\x00\x00\x01\x0C\x04\x03\xFF\xFF\x01\x00\x0C\x05";
+    \x0C\x00\x0C\x01\x1F\x0C\x02\x0C\x03\x0C\x04\x02\x00\x00\x00\x01\x0C\x04\x03\xFF\xFF\x01\x00\x0C\x05\x0C\x06";
 
 /// Numbers of few and of many digits.
 const NUMBERS: &[u8] = b"in 0\nin fff\nin 1000\nget fffff\nget 100000\nget fffffff\nget 10000000\n\
@@ -55,7 +55,7 @@ const BAD_REGISTERS: &[u8] =
 
 /// Looks with no name, another, too many words or too few.
 const BAD_LOOKS: &[u8] =
-    b"show\nshow cells\nshow reg\nregs\nshow regs x\nshow beam 0\nshow latches 0\nshow bda 0\n\
+    b"show\nshow cells 0\nshow reg\nregs\nshow regs x\nshow beam 0\nshow latches 0\nshow bda 0\n\
     show dac\nshow dac 100\nshow dac 1 2\nshow plane 0 0\nshow plane 0 0 1 1";
 
 /// Looks at a plane that is none, with too many digits, at no bytes or too many, or past the end.
@@ -88,7 +88,7 @@ fn is_every_step_spelled(alloc: Global, text: &[u8]) -> Result<bool, Fault> {
     Ok(
         bytes.as_slice() == EVERY_STEP_BYTES
             && printed.as_slice() == EVERY_STEP_PRINTED
-            && count == 18,
+            && count == 19,
     )
 }
 

@@ -50,9 +50,9 @@ returns-clause-other_kind c =
     inr (
       omega arith,
       (
-        0x0C ∷ 0x06 ∷ [],
+        0x0C ∷ 0x07 ∷ [],
         record { front = header; steps = []; whole = refl; good = ([], refl, refl); place = refl },
-        inl (0x0C, 0x06 ∷ [], refl, refl),
+        inl (0x0C, 0x07 ∷ [], refl, refl),
       ),
     )
 
