@@ -1,9 +1,15 @@
 -- Dots in a buffer, one more or a line more.
-use Rattle.std.proofs.Common.{◌≡◌, ◌≢◌, ℕ, zero, suc, ◌+◌, ◌*◌, ◌<◌, ◌≤◌, ⊎_elim, refl, sym, ap, ◌∙◌, arith, List, [], ◌∷◌, ◌++◌, length, replicate, take, drop, append_assoc, length-append, slice_index}
+use Rattle.std.proofs.Common.{◌≡◌, ◌≢◌, ℕ, zero, suc, ◌+◌, ◌*◌, ◌<◌, ◌≤◌, ⊎_elim, refl, sym, ap, ◌∙◌, arith, List, [], ◌∷◌, ◌++◌, length, replicate, take, drop, append_assoc, length-append, slice_index, take-add}
 use Rattle.std.specs.Prelude.{slice_set}
 use Rattle.std.proofs.lemmas.Bool.{cases_eq}
-use Rattle.std.proofs.lemmas.List.{length-set, get_or-set_same, get_or-set_other, append-nil, length-replicate, replicate-append-replicate, take-append-le, drop-append-le, take_all, length-drop}
+use Rattle.std.proofs.lemmas.List.{length-set, get_or-set_same, get_or-set_other, append-nil, length-replicate, replicate-append-replicate, take-append-le, take-take, drop-append-le, take_all, length-drop}
 use Rattle.vga_bits.specs.Bytes.{zeros}
+use Rattle.vga_host.specs.Host.{HostState}
+use Rattle.vga_crtc.specs.Crtc.{CrtcState}
+use Rattle.vga_attr.specs.Attr.{AttrState}
+use Rattle.vga_dac.specs.Dac.{DacState}
+use Rattle.vga_dots.specs.Line.{shown_characters, IsLineDrawn}
+use Rattle.vga_card.specs.Line.{IsLineAppended}
 use Rattle.vga_bits.proofs.ByteLemmas.{zeros_at}
 use Rattle.vga_card.specs.Picture.{Dot, widest, highest, lines_of, lines_from}
 use Rattle.vga_card.specs.Canvas.{Sheet, empty_sheet, dots_from, stored_dots, IsCanvas}
@@ -186,3 +192,17 @@ roomier capacity more buffer ws line l is = record {
   fits = is.fits;
   later = is.later;
 }
+
+-- a line that was drawn behind the bytes that a longer buffer has in use
+pub line_appended : (cw : ℕ) (h : HostState) (c : CrtcState) (a : AttrState) (d : DacState) (old mid new : List ℕ) (used len : ℕ) → used ≤ length old → len ≡ 3 * (shown_characters c.registers * cw)
+    → take (length old) mid ≡ old → used + len ≤ length new → take used new ≡ take used mid → IsLineDrawn cw (shown_characters c.registers) h c a d (drop used mid) (drop used new)
+    → IsLineAppended cw h c a d (take used old) (take (used + len) new)
+line_appended cw h c a d old mid new used len within count longer room front drawn =
+    let kept : take used new ≡ take used old = front ∙ sym (take-take used (length old) mid within) ∙ ap (take used) longer in
+    record {
+      blank = drop used mid;
+      row = drop used new;
+      long = omega (arith, length-drop used new, count, room);
+      whole = take-add used len new ∙ ap (λ (x : List ℕ). x ++ take len (drop used new)) kept ∙ ap (λ (n : ℕ). take used old ++ take n (drop used new)) count;
+      drawn = drawn;
+    }

@@ -159,6 +159,15 @@ module _ (h : HostState) (c : CrtcState) (a : AttrState) (d : DacState) (cw : �
       (λ j lj. get_or-take (3 * m) row (3 * i + j) 0 (omega arith) ∙ ap (λ q. slice_index row (3 * q + j)) (sym (at i)) ∙ drawn.inside (i / cw) (i % cw) j x k lj))))
       ∙ collect_row c.beam.line bytes m
 
+-- so its dots are those of n dots of line v in that row
+pub appended_line : (h : HostState) (c : CrtcState) (a : AttrState) (d : DacState) (cw n v : ℕ) (row old : List ℕ) → cw ≡ host_width h → 0 < cw → c.beam.line ≤ vertical_display_end c.registers
+    → n ≡ shown_characters c.registers * cw → v ≡ c.beam.line → IsLineDrawn cw (shown_characters c.registers) h c a d old row → 3 * (shown_characters c.registers * cw) ≤ length row
+    → dots_from (replicate n v) (take (3 * (shown_characters c.registers * cw)) row) ≡ line_dots h c a d
+appended_line h c a d cw n v row old wide some in_frame count line drawn long =
+    let m = shown_characters c.registers * cw in
+    ap (λ (k : ℕ). dots_from (replicate k v) (take (3 * m) row)) count ∙ ap (λ (k : ℕ). dots_from (replicate m k) (take (3 * m) row)) line
+    ∙ sym (shown_line h c a d cw wide some row old in_frame drawn long)
+
 pub is_shown : (r : List ℕ) (b : Beam) → is_display r b ≡ true → b.line ≤ vertical_display_end r
 is_shown r b h = grind (arith, nat_tests)
 

@@ -1,17 +1,25 @@
 //! The dots that were drawn of the frame under way.
 ghost use Rattle.std.specs.Prelude.{◌≡◌, ℕ, ◌+◌, ◌*◌, ◌<◌, ◌≤◌, [], ◌∷◌, ◌++◌, length};
-ghost use Rattle.std.specs.Prelude.{slice_index, take, replicate, vec_len, vec_capacity, IfOk, IfSome, IsOkUnless};
+ghost use Rattle.std.specs.Prelude.{slice_index, take, drop, replicate, vec_len, vec_capacity, IfOk, IfSome, IsOkUnless};
 ghost use Rattle.vga_bits.specs.Bytes.{zeros};
+ghost use Rattle.vga_host.specs.Fields.{character_width};
+ghost use Rattle.vga_crtc.specs.Fields.{vertical_display_end};
+ghost use Rattle.vga_dots.specs.Line.{shown_characters, IsLineDrawn};
 ghost use Rattle.vga_card.specs.Picture.{Dot, widest, highest, bytes_of, shape, rows, IsPictureOf};
 ghost use Rattle.vga_card.specs.Frames.{IsSmall};
-ghost use Rattle.vga_card.specs.Canvas.{IsSmallShape, empty_sheet, width_with, dots_from};
-ghost use Rattle.vga_card.specs.Line.{width_after};
+ghost use Rattle.vga_card.specs.Canvas.{IsSmallShape, empty_sheet, width_with};
+ghost use Rattle.vga_card.specs.Line.{line_dots, IsLineAppended};
 
 use crate::drawn::Drawn;
 use crate::shape::{Shape, count_rows};
 use std::alloc::Global;
 use std::marker::Model;
+use vga_attr::Attr;
 use vga_bits::Fault;
+use vga_crtc::Crtc;
+use vga_dac::Dac;
+use vga_dots::draw_line;
+use vga_host::Host;
 
 /// How many dots a line can have: 256 characters of 9 dots.
 const WIDEST: usize = 2_304;
@@ -26,19 +34,21 @@ const HIGHEST: usize = 1_024;
 #[derive(Drop)]
 pub(crate) struct Canvas {
     buffer: Vec<u8>,
+    /// How many bytes of the buffer the dots have. Those behind them tell nothing, and are written over.
+    used: usize,
     widths: Vec<u32>,
     line: u16,
 }
 
 impl Model for Canvas {
-    ghost use Rattle.std.specs.Prelude.{slice_index, vec_capacity};
+    ghost use Rattle.std.specs.Prelude.{◌≤◌, length, slice_index, take, vec_capacity};
     ghost use Rattle.vga_card.specs.Canvas.{Sheet, IsCanvas, stored_dots};
 
     ghost Value = { Sheet };
 
-    ghost view = { λ c. record { dots = stored_dots c.widths.items c.buffer.items; line = c.line; width = slice_index c.widths.items c.line } };
+    ghost view = { λ c. record { dots = stored_dots c.widths.items (take c.used c.buffer.items); line = c.line; width = slice_index c.widths.items c.line } };
 
-    ghost invariant = { λ c. IsCanvas (vec_capacity c.buffer) c.buffer.items c.widths.items c.line };
+    ghost invariant = { λ c. (c.used ≤ length c.buffer.items) × IsCanvas (vec_capacity c.buffer) (take c.used c.buffer.items) c.widths.items c.line };
 }
 
 /// No bytes, with room for so many.
@@ -87,16 +97,59 @@ fn push_colour(buffer: &mut Vec<u8>, colour: [u8; 3])
     buffer.push_reserved(colour[2]);
 }
 
-/// Appends the first `len` bytes of a row, for which there is room.
-fn push_row(buffer: &mut Vec<u8>, row: &[u8], len: usize)
-    requires within { len ≤ length row.now }
-    requires room { vec_len buffer.old + len ≤ vec_capacity buffer.old }
-    ensures bytes { buffer.new.items ≡ buffer.old.items ++ take len row.now }
+/// Gives a buffer at least `len` bytes, for which it has memory.
+fn lengthen(buffer: &mut Vec<u8>, len: usize)
+    requires { len ≤ vec_capacity buffer.old }
+    ensures front { take (length buffer.old.items) buffer.new.items ≡ buffer.old.items }
+    ensures len { len ≤ length buffer.new.items }
     ensures capacity { vec_capacity buffer.old ≤ vec_capacity buffer.new }
 {
-    if buffer.extend_from_slice(&row[..len]).is_err() {
+    if buffer.len() >= len {
+        return;
+    }
+    if buffer.resize(len, 0).is_err() {
         unreachable!();
     }
+}
+
+/// Writes the displayed dots of the beam's line, three bytes each, over those bytes that stand from `at` on.
+fn draw_at<const CW: usize>(
+    host: &Host,
+    crtc: &Crtc,
+    attr: &Attr,
+    dac: &Dac,
+    bytes: &mut [u8],
+    at: usize,
+)
+    requires width { CW ≡ character_width host.now }
+    requires room { at + 3 * (shown_characters crtc.now.registers * CW) ≤ length bytes.old }
+    ensures front { take at bytes.new ≡ take at bytes.old }
+    ensures drawn { IsLineDrawn CW (shown_characters crtc.now.registers) host.now crtc.now attr.now dac.now (drop at bytes.old) (drop at bytes.new) }
+{
+    draw_line::<CW>(host, crtc, attr, dac, &mut bytes[at..]);
+}
+
+/// Puts the displayed dots of the beam's line, three bytes each, behind the first `used` bytes of a buffer, which has
+/// memory for them. They are drawn where they stay: a row that is copied takes as long again.
+fn put_line<const CW: usize>(
+    host: &Host,
+    crtc: &Crtc,
+    attr: &Attr,
+    dac: &Dac,
+    buffer: &mut Vec<u8>,
+    used: usize,
+    len: usize,
+)
+    requires width { CW ≡ character_width host.now }
+    requires len { len ≡ 3 * (shown_characters crtc.now.registers * CW) }
+    requires used { used ≤ length buffer.old.items }
+    requires room { used + len ≤ vec_capacity buffer.old }
+    ensures line { IsLineAppended CW host.now crtc.now attr.now dac.now (take used buffer.old.items) (take (used + len) buffer.new.items) }
+    ensures len { used + len ≤ length buffer.new.items }
+    ensures capacity { vec_capacity buffer.old ≤ vec_capacity buffer.new }
+{
+    lengthen(buffer, used + len);
+    draw_at::<CW>(host, crtc, attr, dac, buffer.as_mut_slice(), used);
 }
 
 impl Canvas {
@@ -110,6 +163,7 @@ impl Canvas {
         let widths = zero_widths(alloc, HIGHEST)?;
         Ok(Canvas {
             buffer,
+            used: 0,
             widths,
             line: 0,
         })
@@ -125,27 +179,40 @@ impl Canvas {
         ensures line { self.new.line ≡ line }
         ensures width { self.new.width ≡ width_with self.old line }
     {
+        self.buffer.truncate(self.used);
         push_colour(&mut self.buffer, colour);
+        self.used += 3;
         let width = &mut self.widths[line as usize];
         *width += 1;
         self.line = line;
     }
 
-    /// Adds the first `count` dots of a row, three bytes each, to the last line or to one after it. A line
-    /// is below 1,024 and has at most 2,304 dots.
-    pub(crate) fn add_line(&mut self, line: u16, count: usize, row: &[u8])
-        requires lines { line < highest }
-        requires after { self.old.line ≤ line }
-        requires few { count ≤ widest }
-        requires room { line ≡ self.old.line → self.old.width + count ≤ widest }
-        requires row { 3 * count ≤ length row.now }
-        ensures dots { self.new.dots ≡ self.old.dots ++ dots_from (replicate count line) (take (3 * count) row.now) }
-        ensures line { self.new.line ≡ line }
-        ensures width { self.new.width ≡ width_after self.old line count }
+    /// Adds the displayed dots of the beam's line, `count` characters of `CW` dots each, to the last line or to one
+    /// after it. A line is below 1,024 and has at most 2,304 dots.
+    pub(crate) fn add_line<const CW: usize>(
+        &mut self,
+        host: &Host,
+        crtc: &Crtc,
+        attr: &Attr,
+        dac: &Dac,
+        count: usize,
+    )
+        requires width { CW ≡ character_width host.now }
+        requires count { count ≡ shown_characters crtc.now.registers }
+        requires shown { crtc.now.beam.line ≤ vertical_display_end crtc.now.registers }
+        requires lines { crtc.now.beam.line < highest }
+        requires after { self.old.line ≤ crtc.now.beam.line }
+        requires few { count * CW ≤ widest }
+        requires room { crtc.now.beam.line ≡ self.old.line → self.old.width + count * CW ≤ widest }
+        ensures dots { self.new.dots ≡ self.old.dots ++ line_dots host.now crtc.now attr.now dac.now }
+        ensures line { self.new.line ≡ crtc.now.beam.line }
     {
-        push_row(&mut self.buffer, row, 3 * count);
+        let line = crtc.beam().line;
+        let dots = count * CW;
+        put_line::<CW>(host, crtc, attr, dac, &mut self.buffer, self.used, 3 * dots);
+        self.used += 3 * dots;
         let width = &mut self.widths[line as usize];
-        *width += count as u32;
+        *width += dots as u32;
         self.line = line;
     }
 
@@ -153,7 +220,7 @@ impl Canvas {
     pub(crate) fn clear(&mut self)
         ensures { self.new ≡ empty_sheet }
     {
-        self.buffer.clear();
+        self.used = 0;
         clear_widths(self.widths.as_mut_slice(), self.line as usize);
         self.line = 0;
     }
@@ -179,7 +246,7 @@ impl Canvas {
         ensures value { result.now ≡ bytes_of self.now.dots }
         ensures len { length result.now ≡ 3 * length self.now.dots }
     {
-        self.buffer.as_slice()
+        &self.buffer[..self.used]
     }
 
     /// The picture of the dots.

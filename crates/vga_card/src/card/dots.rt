@@ -6,14 +6,14 @@ ghost use Rattle.vga_card.specs.Dots.{fresh_dots, display_dot, dot, dots, most_d
 ghost use Rattle.vga_card.specs.Line.{line_dots, line_count};
 ghost use Rattle.vga_card.specs.Valid.{fresh_count, IsDrawnTo};
 
-use super::{Card, Row};
+use super::Card;
 use crate::canvas::Canvas;
 use vga_attr::Attr;
 use vga_bits::Refusal;
 use vga_crtc::laws::{beam_in_line, dot_moves, frame_ends, line_moves, start_is_taken_once};
 use vga_crtc::{Beam, Crtc};
 use vga_dac::Dac;
-use vga_dots::{dot_colour, draw_line, shown_characters};
+use vga_dots::{dot_colour, shown_characters};
 use vga_host::Host;
 
 /// The most dots that one step may advance.
@@ -48,9 +48,8 @@ fn draw_dot(host: &Host, crtc: &mut Crtc, attr: &Attr, dac: &Dac, canvas: &mut C
     crtc.step_dot(width);
 }
 
-/// Adds the display dots of the beam's line, the start of whose frame is taken. They are drawn in `row`
-/// first, which tells nothing before or after.
-fn draw_row(host: &Host, crtc: &Crtc, attr: &Attr, dac: &Dac, canvas: &mut Canvas, row: &mut Row)
+/// Adds the display dots of the beam's line, the start of whose frame is taken.
+fn draw_row(host: &Host, crtc: &Crtc, attr: &Attr, dac: &Dac, canvas: &mut Canvas)
     requires place { IsDrawnTo crtc.now.beam 0 canvas.old.line canvas.old.width }
     requires start { IsLineStart crtc.now.beam }
     ensures dots { canvas.new.dots ≡ canvas.old.dots ++ line_dots host.now crtc.now attr.now dac.now }
@@ -59,11 +58,9 @@ fn draw_row(host: &Host, crtc: &Crtc, attr: &Attr, dac: &Dac, canvas: &mut Canva
     if crtc.is_display() {
         let count = shown_characters(crtc.fields()) as usize;
         if host.is_eight_dots() {
-            draw_line::<8>(host, crtc, attr, dac, row);
-            canvas.add_line(crtc.beam().line, count * 8, row);
+            canvas.add_line::<8>(host, crtc, attr, dac, count);
         } else {
-            draw_line::<9>(host, crtc, attr, dac, row);
-            canvas.add_line(crtc.beam().line, count * 9, row);
+            canvas.add_line::<9>(host, crtc, attr, dac, count);
         }
     }
 }
@@ -87,7 +84,6 @@ impl Card {
             &self.attr,
             &self.dac,
             &mut self.canvas,
-            &mut self.row,
         );
         self.crtc.step_line(width);
     }

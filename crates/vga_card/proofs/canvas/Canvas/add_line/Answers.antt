@@ -1,27 +1,62 @@
-use Rattle.std.proofs.Common.{◌≡◌, ℕ, ◌*◌, ◌<◌, ◌≤◌, ◌++◌, length, take, replicate, ap, ◌∙◌, arith}
+use Rattle.std.proofs.Common.{◌≡◌, ℕ, ◌*◌, ◌<◌, ◌≤◌, ◌++◌, List, length, take, replicate, sym, ap, ◌∙◌, arith}
 use Rattle.std.proofs.lemmas.List.{get_or_read, length-take}
+use Rattle.vga_crtc.specs.declared.beam.Beam.{Beam}
+use Rattle.vga_host.specs.Fields.{character_width}
+use Rattle.vga_card.specs.Picture.{Dot}
 use Rattle.vga_card.specs.Canvas.{Sheet, dots_from}
-use Rattle.vga_card.proofs.CanvasLemmas.{line_shown, stored_line, canvas_more, roomier}
+use Rattle.vga_card.proofs.CanvasLemmas.{line_shown, stored_line, canvas_more, roomier, bytes_fit}
+use Rattle.vga_card.proofs.FrameLemmas.{wide}
+use Rattle.vga_card.proofs.RowLemmas.{appended_line}
 use Rattle.vga_card.proofs.canvas.Canvas.add_line.Goals as goal
 
-pub invariant_of-self : goal.invariant_of-self
-invariant_of-self c =
+pub put_line-requires-clause-room : goal.put_line-requires-clause-room
+put_line-requires-clause-room g c =
     let a = c.self.inside in
-    let bytes = take (3 * c.args.count) c.args.row.now in
-    let long : length bytes ≡ 3 * c.args.count = omega (arith, length-take (3 * c.args.count) c.args.row.now) in
-    let within : c.args.line < length a.widths.items = omega arith in
-    let was = get_or_read a.widths.items c.args.line c.index_mut-width.result.now within c.index_mut-width.ensures.value 0 in
-    let room = line_shown _ _ a.widths.items a.line c.args.line c.args.count c.self.view_is c.requires.lines c.requires.after c.requires.few c.requires.room in
-    rw (c.push_row.ensures.bytes, was)
-    (roomier a.buffer.cap _ _ _ _ c.push_row.ensures.capacity (canvas_more a.buffer.cap a.buffer.items bytes a.widths.items a.line c.args.line c.args.count c.self.invariant room long))
+    let bytes = take a.used a.buffer.items in
+    let v = c.beam-line.result.line in
+    let n = c.args.count * g.row.CW in
+    let here = ap (λ (b : Beam). b.line) c.beam-line.ensures.value in
+    let room = line_shown _ _ a.widths.items a.line v n c.self.view_is (omega (arith, here, c.requires.lines)) (omega (arith, here, c.requires.after)) c.requires.few (λ same. c.requires.room (sym here ∙ same)) in
+    omega (arith, bytes_fit a.buffer.cap bytes a.widths.items a.line v n c.self.invariant.1 room, length-take a.used a.buffer.items)
+
+pub invariant_of-self : goal.invariant_of-self
+invariant_of-self g c =
+    let a = c.self.inside in
+    let bytes = take a.used a.buffer.items in
+    let drawn = c.put_line.ensures.line in
+    let v = c.beam-line.result.line in
+    let n = c.args.count * g.row.CW in
+    let row = take (3 * n) drawn.row in
+    let here = ap (λ (b : Beam). b.line) c.beam-line.ensures.value in
+    let count = ap (λ m. 3 * (m * g.row.CW)) c.requires.count in
+    let long : length row ≡ 3 * n = omega (arith, length-take (3 * n) drawn.row, drawn.long, count) in
+    let within : v < length a.widths.items = omega (arith, here) in
+    let was = get_or_read a.widths.items v c.index_mut-width.result.now within c.index_mut-width.ensures.value 0 in
+    let room = line_shown _ _ a.widths.items a.line v n c.self.view_is (omega (arith, here, c.requires.lines)) (omega (arith, here, c.requires.after)) c.requires.few (λ same. c.requires.room (sym here ∙ same)) in
+    let whole = drawn.whole ∙ ap (λ m. bytes ++ take m drawn.row) (sym count) in
+    rw (whole, was)
+    (c.put_line.ensures.len, roomier a.buffer.cap _ _ _ _ c.put_line.ensures.capacity (canvas_more a.buffer.cap bytes row a.widths.items a.line v n c.self.invariant.1 room long))
 
 pub returns-clause-dots : goal.returns-clause-dots
-returns-clause-dots c =
+returns-clause-dots g c =
     let a = c.self.inside in
-    let bytes = take (3 * c.args.count) c.args.row.now in
-    let within : c.args.line < length a.widths.items = omega arith in
-    let was = get_or_read a.widths.items c.args.line c.index_mut-width.result.now within c.index_mut-width.ensures.value 0 in
-    let after : a.line ≤ c.args.line = omega (arith, ap (λ (s : Sheet). s.line) c.self.view_is) in
-    let later = λ (j : ℕ) (l : c.args.line < j). c.self.invariant.later j (omega arith) in
-    rw (c.push_row.ensures.bytes, was)
-    (stored_line a.widths.items a.buffer.items bytes c.args.line c.args.count within later c.self.invariant.counted ∙ ap (λ (s : Sheet). s.dots ++ dots_from (replicate c.args.count c.args.line) bytes) c.self.view_is)
+    let bytes = take a.used a.buffer.items in
+    let drawn = c.put_line.ensures.line in
+    let v = c.beam-line.result.line in
+    let n = c.args.count * g.row.CW in
+    let row = take (3 * n) drawn.row in
+    let here = ap (λ (b : Beam). b.line) c.beam-line.ensures.value in
+    let count = ap (λ m. 3 * (m * g.row.CW)) c.requires.count in
+    let within : v < length a.widths.items = omega (arith, here) in
+    let was = get_or_read a.widths.items v c.index_mut-width.result.now within c.index_mut-width.ensures.value 0 in
+    let after : a.line ≤ v = omega (arith, here, ap (λ (s : Sheet). s.line) c.self.view_is) in
+    let later = λ (j : ℕ) (l : v < j). c.self.invariant.1.later j (omega arith) in
+    let whole = drawn.whole ∙ ap (λ m. bytes ++ take m drawn.row) (sym count) in
+    let old = c.args.self.now.dots in
+    let width : 0 < character_width c.args.host.now = wide _ in
+    let some : 0 < g.row.CW = omega (arith, width, c.requires.width) in
+    rw (whole, was)
+    (stored_line a.widths.items bytes row v n within later c.self.invariant.1.counted
+    ∙ ap (λ (s : Sheet). s.dots ++ dots_from (replicate n v) row) c.self.view_is
+    ∙ ap (λ m. old ++ dots_from (replicate n v) (take m drawn.row)) count
+    ∙ ap (λ (x : List Dot). old ++ x) (appended_line c.args.host.now c.args.crtc.now c.args.attr.now c.args.dac.now g.row.CW n v drawn.row drawn.blank c.requires.width some c.requires.shown (ap (λ m. m * g.row.CW) c.requires.count) here drawn.drawn drawn.long))
