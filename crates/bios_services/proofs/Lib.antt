@@ -2,3 +2,4 @@ pub mod RunLemmas
 pub mod GlyphLemmas
 pub mod BoundLemmas
 pub mod RefusedLemmas
+pub mod KeptLemmas

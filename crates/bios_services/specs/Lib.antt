@@ -3,6 +3,7 @@ pub mod Cycles
 pub mod ModeSet
 pub mod Kinds
 pub mod Bounds
+pub mod Data
 pub mod Registers
 pub mod Cursor
 pub mod Cells

@@ -1,16 +1,32 @@
 //! Laws of the services, each of which is a contract, and nothing that runs.
-ghost use Rattle.std.specs.Prelude.{◌≡◌, ℕ, List, Err};
+ghost use Rattle.std.specs.Prelude.{◌≡◌, ◌<◌, ℕ, List, Err};
 ghost use Rattle.vga_bits.specs.declared.refusal.Refusal.{Refusal};
+ghost use Rattle.vga_card.specs.Bounds.{IsCard};
 ghost use Rattle.vga_card.specs.Bus.{card_meaning};
 ghost use Rattle.vga_card.specs.Card.{CardState};
-ghost use Rattle.bios_modes.specs.Bda.{BiosData};
+ghost use Rattle.bios_modes.specs.Bda.{BiosData, power_on_data};
 ghost use Rattle.bios_modes.specs.Fonts.{FontSet};
 ghost use Rattle.bios_services.specs.declared.regs.Regs.{Regs};
+ghost use Rattle.bios_services.specs.Data.{AreData};
 ghost use Rattle.bios_services.specs.Plan.{run};
 ghost use Rattle.bios_services.specs.Service.{service};
+
+use vga_card::laws::bounds_stay;
 
 /// A refused service leaves the adapter and the BIOS data.
 pub fn refused_services_do_nothing()
     ensures { (fonts : FontSet) (d : BiosData) (r : Regs) (block : List ℕ) (c : CardState) (e : Refusal) →
         (run card_meaning (service fonts d r block) c).1.0 ≡ Err e → run card_meaning (service fonts d r block) c ≡ (c, (Err e, d)) }
 {}
+
+/// BIOS data are valid, with words as places of the cursor, at power-on and after every call; and each part of
+/// the adapter holds what it can after one.
+pub fn calls_keep_bounds()
+    ensures first { AreData power_on_data }
+    ensures card { (fonts : FontSet) (d : BiosData) (r : Regs) (block : List ℕ) (c : CardState) →
+        IsCard c → IsCard (run card_meaning (service fonts d r block) c).0 }
+    ensures bda { (fonts : FontSet) (d : BiosData) (r : Regs) (block : List ℕ) (c : CardState) →
+        r.dx < 65536 → AreData d → AreData (run card_meaning (service fonts d r block) c).1.1 }
+{
+    bounds_stay();
+}

@@ -1,0 +1,373 @@
+-- What every call keeps: the adapter's bounds, and that BIOS data are valid and their places words.
+use Rattle.std.proofs.Common.{◌≡◌, ◌≢◌, ℕ, zero, suc, ◌+◌, ◌-◌, ◌%◌, ◌<◌, ◌≤◌, inl, refl, ◌∙◌, arith, List, [], ◌∷◌, length, get_or, set, replicate, Option, Some, None, IfSome, Bool, true, false}
+use Rattle.std.specs.Prelude.{◌==◌, ◌&&◌, nat_lt, nat_le, if◌then◌else◌}
+use Rattle.std.proofs.lemmas.Bool.Decides.{nat_tests}
+use Rattle.std.proofs.lemmas.List.{length-set}
+use Rattle.vga_bits.specs.declared.refusal.Refusal.{Refusal}
+use Rattle.vga_bits.specs.declared.refusal.Refusal.TheVariants.{BadPage, Outside}
+use Rattle.vga_card.specs.Bounds.{IsCard}
+use Rattle.vga_card.specs.Card.{CardState}
+use Rattle.vga_card.specs.Cycles.{out_cycle, inp_cycle, put_cycle, get_cycle}
+use Rattle.vga_card.specs.Bus.{Place, AtPort, AtAddress, Meaning, card_meaning, card_write, card_read}
+use Rattle.bios_modes.specs.declared.modes.ModeRow.{ModeRow}
+use Rattle.bios_modes.specs.Modes.{mode_row}
+use Rattle.bios_modes.specs.Bda.{BiosData, power_on_data}
+use Rattle.bios_modes.specs.Begin.{data_of_mode}
+use Rattle.bios_modes.specs.Fonts.{FontSet}
+use Rattle.bios_services.specs.declared.regs.Regs.{Regs}
+use Rattle.bios_services.specs.declared.ink.Ink.{Ink}
+use Rattle.bios_services.specs.declared.strings.StringCall.{StringCall}
+use Rattle.bios_services.specs.declared.colours.ColourService.{ColourService}
+use Rattle.bios_services.specs.declared.tables.TableService.{TableService}
+use Rattle.bios_services.specs.declared.call.Call.{Call}
+use Rattle.bios_services.specs.declared.call.Call.TheVariants.{SetMode, ReadTable, InMode}
+use Rattle.bios_services.specs.declared.call.Service.{Service}
+use Rattle.bios_services.specs.declared.call.Service.TheVariants.{SetCursorType, SetCursor, ReadCursor, SelectPage, ScrollUp, ScrollDown, ReadCell, WriteCells, WritePixel, ReadPixel, Teletype, ReadMode, Colours, ReadAdapter, WriteString, ReadDisplay}
+use Rattle.bios_services.specs.Plan.{Plan, Done, Write, Read, ◌>>=◌, ◌>>◌, run, byte_of, fold}
+use Rattle.bios_services.specs.Registers.{high, low}
+use Rattle.bios_services.specs.Bounds.{IsSet, pages_of}
+use Rattle.bios_services.specs.Data.{AreData}
+use Rattle.bios_services.specs.Cursor.{row_of, column_of, cell_number, place_of, with_place, with_page, start_address, word_plan, cursor_plan, move_cursor_plan, cursor_type_plan, page_plan}
+use Rattle.bios_services.specs.Bands.{band_of, up_plan}
+use Rattle.bios_services.specs.Drawing.{character_plan}
+use Rattle.bios_services.specs.CellRuns.{cell_run_plan}
+use Rattle.bios_services.specs.Scroll.{scroll_up_plan, scroll_down_plan}
+use Rattle.bios_services.specs.Pixels.{write_pixel_plan}
+use Rattle.bios_services.specs.Teletype.{line_start, dots_in, fill_of_feed, feed_plan, advance_plan, show_plan, type_plan, teletype_plan}
+use Rattle.bios_services.specs.Strings.{string_len, character_at, ink_at, typed_plan, string_plan}
+use Rattle.bios_services.specs.ModeSet.{mode_set_plan}
+use Rattle.bios_services.specs.Colours.{colour_service_of, block_refusal, colours_plan}
+use Rattle.bios_services.specs.Tables.{table_refusal, table_plan}
+use Rattle.bios_services.specs.Refusals.{page_named, string_refusal, refusal_in_mode}
+use Rattle.bios_services.specs.Calls.{as_colours, service_of, in_mode, call_of, table_or}
+use Rattle.bios_services.specs.Service.{Outcome, Answered, answered, answered_with, asked, in_mode_plan, plan_of, read_cell_service, read_pixel_service, service, set_mode_plan, table_in_mode_plan, table_unless, unless}
+use Rattle.bios_services.proofs.BoundLemmas.{set_of_valid, stays_valid, begins_valid}
+
+-- ---- the adapter
+
+-- that every cycle keeps the bounds, as the adapter's law has it
+pub record KeepsBounds : Type 0 where
+  pub out : (c : CardState) (port v : ℕ) → IsCard c → IsCard (out_cycle c port v).0
+  pub inp : (c : CardState) (port : ℕ) → IsCard c → IsCard (inp_cycle c port).0
+  pub put : (c : CardState) (address v : ℕ) → IsCard c → IsCard (put_cycle c address v).0
+  pub get : (c : CardState) (address : ℕ) → IsCard c → IsCard (get_cycle c address).0
+
+write_bounds : KeepsBounds → (c : CardState) (place : Place) (v : ℕ) → IsCard c → IsCard (card_write c place v).0
+write_bounds law c (AtPort port) v z = law.out c port v z
+write_bounds law c (AtAddress address) v z = law.put c address v z
+
+read_bounds : KeepsBounds → (c : CardState) (place : Place) → IsCard c → IsCard (card_read c place).0
+read_bounds law c (AtPort port) z = law.inp c port z
+read_bounds law c (AtAddress address) z = law.get c address z
+
+-- so does a plan
+plan_bounds : {A : Type 0} → KeepsBounds → (p : Plan A) (c : CardState) → IsCard c → IsCard (run card_meaning p c).0
+plan_bounds law (Done a) c z = z
+plan_bounds law (Write place v rest) c z = plan_bounds law rest (card_write c place v).0 (write_bounds law c place v z)
+plan_bounds law (Read place rest) c z = plan_bounds law (rest (byte_of (card_read c place).1)) (card_read c place).0 (read_bounds law c place z)
+
+pub card_stays : KeepsBounds → (fonts : FontSet) (d : BiosData) (r : Regs) (block : List ℕ) (c : CardState) → IsCard c → IsCard (run card_meaning (service fonts d r block) c).0
+card_stays law fonts d r block = plan_bounds law (service fonts d r block)
+
+-- ---- what holds of the answer of a plan, whatever bytes it reads
+
+abbrev Always : {A : Type 0} → (A → Type 0) → Plan A → Type 0
+Always P (Done a) = P a
+Always P (Write place v rest) = Always P rest
+Always P (Read place rest) = (b : ℕ) → Always P (rest b)
+
+-- it holds on each bus
+always_runs : {S A : Type 0} (P : A → Type 0) (m : Meaning S) (p : Plan A) (s : S) → Always P p → P (run m p s).1
+always_runs P m (Done a) s h = h
+always_runs P m (Write place v rest) s h = always_runs P m rest (m.write s place v).0 h
+always_runs P m (Read place rest) s h = let r = m.read s place in always_runs P m (rest (byte_of r.1)) r.0 (h (byte_of r.1))
+
+-- of a plan and another, where it does of the other
+behind : {A B : Type 0} (P : B → Type 0) (p : Plan A) (f : A → Plan B) → ((a : A) → Always P (f a)) → Always P (p >>= f)
+behind P (Done a) f k = k a
+behind P (Write place v rest) f k = behind P rest f k
+behind P (Read place rest) f k = λ b. behind P (rest b) f k
+
+-- and where the first answers what the other needs
+behind_such : {A B : Type 0} (Q : A → Type 0) (P : B → Type 0) (p : Plan A) (f : A → Plan B) → Always Q p → ((a : A) → Q a → Always P (f a)) → Always P (p >>= f)
+behind_such Q P (Done a) f h k = k a h
+behind_such Q P (Write place v rest) f h k = behind_such Q P rest f h k
+behind_such Q P (Read place rest) f h k = λ b. behind_such Q P (rest b) f (h b) k
+
+-- of a choice
+on_if : {A : Type 0} (P : A → Type 0) (b : Bool) (p q : Plan A) → (b ≡ true → Always P p) → (b ≡ false → Always P q) → Always P (if b then p else q)
+on_if P true p q f g = f refl
+on_if P false p q f g = g refl
+
+lt_is : (a b : ℕ) → nat_lt a b ≡ true → a < b
+lt_is a b h = grind (arith, nat_tests)
+
+-- ---- places
+
+-- a place in the first fifty rows
+abbrev IsNear : ℕ → Type 0
+IsNear place = place < 12800
+
+fed_near : (d : BiosData) (page place : ℕ) → d.last_row < 50 → IsNear place → Always IsNear (feed_plan d page place)
+unfolding feed_plan
+fed_near d page place few near =
+    on_if IsNear (nat_lt (row_of place) d.last_row) (Done (place + 256)) _
+    (λ e. let l = lt_is (row_of place) d.last_row e in omega arith)
+    (λ e. behind IsNear (fill_of_feed d page place) (λ colour. up_plan (band_of d page 0 (d.columns - 1)) 0 (d.last_row + 1) 1 colour >> Done place)
+    (λ colour. behind IsNear (up_plan (band_of d page 0 (d.columns - 1)) 0 (d.last_row + 1) 1 colour) (λ _. Done place) (λ _. near)))
+
+start_near : (place : ℕ) → IsNear place → IsNear (line_start place)
+start_near place near = omega arith
+
+advanced_near : (d : BiosData) (page place : ℕ) → d.last_row < 50 → d.columns ≤ 80 → IsNear place → Always IsNear (advance_plan d page place)
+unfolding advance_plan
+advanced_near d page place few narrow near =
+    on_if IsNear (nat_lt (column_of place + 1) d.columns) (Done (place + 1)) _
+    (λ e. let l = lt_is (column_of place + 1) d.columns e in omega arith)
+    (λ e. behind_such IsNear IsNear (feed_plan d page place) (λ below. Done (line_start below)) (fed_near d page place few near) start_near)
+
+back_near : (place : ℕ) (b : Bool) → IsNear place → IsNear (if b then place else place - 1)
+back_near place true near = near
+back_near place false near = omega arith
+
+typed_near : (fonts : FontSet) (d : BiosData) (page place character : ℕ) (ink : Ink) → d.last_row < 50 → d.columns ≤ 80 → IsNear place → Always IsNear (type_plan fonts d page place character ink)
+unfolding type_plan show_plan
+typed_near fonts d page place character ink few narrow near =
+    on_if IsNear (character == 0x07) (Done place) _ (λ _. near)
+    (λ _. on_if IsNear (character == 0x08) (Done (if column_of place == 0 then place else place - 1)) _ (λ _. back_near place (column_of place == 0) near)
+    (λ _. on_if IsNear (character == 0x0A) (feed_plan d page place) _ (λ _. fed_near d page place few near)
+    (λ _. on_if IsNear (character == 0x0D) (Done (line_start place)) _ (λ _. start_near place near)
+    (λ _. behind IsNear (character_plan fonts d page (cell_number d place) character ink) (λ _. advance_plan d page place) (λ _. advanced_near d page place few narrow near)))))
+
+-- ---- BIOS data
+
+set_words : (xs : List ℕ) (p v : ℕ) → v < 65536 → ((i : ℕ) → get_or xs i 0 < 65536) → (i : ℕ) → get_or (set xs p v) i 0 < 65536
+set_words [] p v l h i = h i
+set_words (x ∷ xs) zero v l h zero = l
+set_words (x ∷ xs) zero v l h (suc i) = h (suc i)
+set_words (x ∷ xs) (suc p) v l h zero = h zero
+set_words (x ∷ xs) (suc p) v l h (suc i) = set_words xs p v l (λ j. h (suc j)) i
+
+zero_words : (n i : ℕ) → get_or (replicate n 0) i 0 < 65536
+zero_words zero i = omega arith
+zero_words (suc n) zero = omega arith
+zero_words (suc n) (suc i) = zero_words n i
+
+-- the data at power-on
+pub first_data : AreData power_on_data
+first_data = record { valid = inl refl; words = record { places = refl; words = zero_words 8 } }
+
+-- the data that a mode begins with
+begun : (mode : ℕ) (row : ModeRow) → mode_row mode ≡ Some row → AreData (data_of_mode mode row)
+begun mode row e = record { valid = begins_valid mode row e; words = record { places = refl; words = zero_words 8 } }
+
+module _ (d : BiosData) (a : AreData d) (is : IsSet d) (unset : d.mode ≢ 0) where
+  -- a cursor at another place
+  placed : (page place : ℕ) → place < 65536 → AreData (with_place d page place)
+  placed page place l = record {
+    valid = stays_valid d (with_place d page place) a.valid unset (record { mode = refl; columns = refl; size = refl; last_row = refl; height = refl; crtc_address = refl; page = is.page; start = is.start });
+    words = record { places = length-set d.cursor_places page place ∙ a.words.places; words = set_words d.cursor_places page place l a.words.words };
+  }
+
+  moved : (page place : ℕ) → place < 65536 → Always AreData (move_cursor_plan d page place)
+  unfolding move_cursor_plan
+  moved page place l = behind AreData (cursor_plan (with_place d page place) page) (λ _. Done (with_place d page place)) (λ _. placed page place l)
+
+  -- another type of the cursor
+  typed_cursor : (cursor_type : ℕ) → Always AreData (cursor_type_plan d cursor_type)
+  unfolding cursor_type_plan
+  typed_cursor cursor_type = record {
+    valid = stays_valid d (record d { cursor_type = cursor_type }) a.valid unset (record { mode = refl; columns = refl; size = refl; last_row = refl; height = refl; crtc_address = refl; page = is.page; start = is.start });
+    words = record { places = a.words.places; words = a.words.words };
+  }
+
+  -- another page
+  paged : (page : ℕ) → page < pages_of d → Always AreData (page_plan d page)
+  unfolding page_plan
+  paged page l =
+      let after : AreData (with_page d page) = record {
+        valid = stays_valid d (with_page d page) a.valid unset (record { mode = refl; columns = refl; size = refl; last_row = refl; height = refl; crtc_address = refl; page = l; start = refl });
+        words = record { places = a.words.places; words = a.words.words };
+      } in
+      behind AreData (word_plan d.crtc_address 0x0C (start_address d page)) (λ _. cursor_plan (with_page d page) page >> Done (with_page d page))
+      (λ _. behind AreData (cursor_plan (with_page d page) page) (λ _. Done (with_page d page)) (λ _. after))
+
+  -- a character that is typed, and a string
+  typed : (fonts : FontSet) (character colour : ℕ) → IsNear (place_of d d.page) → Always AreData (teletype_plan fonts d character colour)
+  unfolding teletype_plan
+  typed fonts character colour near =
+      on_if AreData (character == 0x07) (Done d) _ (λ _. a)
+      (λ _. behind_such IsNear AreData (type_plan fonts d d.page (place_of d d.page) character (dots_in colour)) (λ place. move_cursor_plan d d.page place)
+      (typed_near fonts d d.page (place_of d d.page) character (dots_in colour) is.rows is.columns near)
+      (λ place l. moved d.page place (omega arith)))
+
+  characters_near : (fonts : FontSet) (page : ℕ) (s : StringCall) (block : List ℕ) (n i place : ℕ) → IsNear place
+      → Always IsNear (fold (λ i place. type_plan fonts d page place (character_at s block i) (ink_at s block i)) n i place)
+  characters_near fonts page s block zero i place near = near
+  characters_near fonts page s block (suc n) i place near =
+      let turn : ℕ → ℕ → Plan ℕ = λ i place. type_plan fonts d page place (character_at s block i) (ink_at s block i) in
+      behind_such IsNear IsNear (turn i place) (λ next. fold turn n (i + 1) next)
+      (typed_near fonts d page place (character_at s block i) (ink_at s block i) is.rows is.columns near)
+      (λ next l. characters_near fonts page s block n (i + 1) next l)
+
+  string : (fonts : FontSet) (page : ℕ) (s : StringCall) (block : List ℕ) → IsNear s.place → Always AreData (string_plan fonts d page s block)
+  unfolding string_plan typed_plan
+  string fonts page s block near =
+      behind_such IsNear AreData (typed_plan fonts d page s block) (λ place. if s.moves_cursor then move_cursor_plan d page place else Done d)
+      (characters_near fonts page s block s.count 0 s.place near)
+      (λ place l. on_if AreData s.moves_cursor (move_cursor_plan d page place) (Done d) (λ _. moved page place (omega arith)) (λ _. a))
+
+-- ---- services that are not refused
+
+page_allowed : (page pages : ℕ) → (let x : Option Refusal = (if nat_lt page pages then None else Some BadPage) in x) ≡ None → page < pages
+page_allowed page pages h = by_test (nat_lt page pages) refl h
+  where
+    by_test : (b : Bool) → nat_lt page pages ≡ b → (let x : Option Refusal = (if b then None else Some BadPage) in x) ≡ None → page < pages
+    by_test true e i = lt_is page pages e
+    by_test false e i = absurd (cc)
+
+-- a place of a page is in the first fifty rows
+inside_near : (place last columns : ℕ) (other : Option Refusal) → last < 50 → (let x : Option Refusal = (if nat_le (row_of place) last && nat_lt (column_of place) columns then other else Some Outside) in x) ≡ None → IsNear place
+inside_near place last columns other few h = by_tests (nat_le (row_of place) last) (nat_lt (column_of place) columns) refl h
+  where
+    by_tests : (a b : Bool) → nat_le (row_of place) last ≡ a → (let x : Option Refusal = (if a && b then other else Some Outside) in x) ≡ None → IsNear place
+    by_tests true b e i = let l : row_of place ≤ last = grind (arith, nat_tests) in omega arith
+    by_tests false b e i = absurd (cc)
+
+string_near : (d : BiosData) (s : StringCall) (len : ℕ) → d.last_row < 50 → string_refusal d s len ≡ None → IsNear s.place
+string_near d s len few h = by_test (nat_lt (page_named d s.page) (pages_of d)) h
+  where
+    wrong : Option Refusal
+    wrong = block_refusal len (string_len s)
+
+    by_test : (b : Bool) → (let x : Option Refusal = (if b then (if nat_le (row_of s.place) d.last_row && nat_lt (column_of s.place) d.columns then wrong else Some Outside) else Some BadPage) in x) ≡ None → IsNear s.place
+    by_test true i = inside_near s.place d.last_row d.columns wrong few i
+    by_test false i = absurd (cc)
+
+-- the place that a service names is a word
+abbrev FitsWords : Service → Type 0
+FitsWords (SetCursor page place) = place < 65536
+FitsWords service = Unit {0}
+
+-- the data that a service answers
+abbrev OutcomeKept : Outcome → Type 0
+OutcomeKept o = AreData o.1
+
+service_keeps : (asked_for : Service) (fonts : FontSet) (d : BiosData) (r : Regs) (block : List ℕ) → FitsWords asked_for → AreData d → IsSet d → d.mode ≢ 0 → refusal_in_mode asked_for d (length block) ≡ None
+    → Always OutcomeKept (plan_of asked_for fonts d r block)
+unfolding plan_of refusal_in_mode
+service_keeps (SetCursorType cursor_type) fonts d r block fits a is unset h =
+    behind_such AreData OutcomeKept (cursor_type_plan d cursor_type) (λ after. Done (r, after)) (typed_cursor d a is unset cursor_type) (λ after k. k)
+service_keeps (SetCursor page place) fonts d r block fits a is unset h =
+    behind_such AreData OutcomeKept (move_cursor_plan d (page_named d page) place) (λ after. Done (r, after)) (moved d a is unset (page_named d page) place fits) (λ after k. k)
+service_keeps (ReadCursor page) fonts d r block fits a is unset h = a
+service_keeps (SelectPage page) fonts d r block fits a is unset h =
+    behind_such AreData OutcomeKept (page_plan d page) (λ after. Done (r, after)) (paged d a is unset page (page_allowed page (pages_of d) h)) (λ after k. k)
+service_keeps (ScrollUp scroll) fonts d r block fits a is unset h = behind OutcomeKept (scroll_up_plan d scroll) (λ _. Done (r, d)) (λ _. a)
+service_keeps (ScrollDown scroll) fonts d r block fits a is unset h = behind OutcomeKept (scroll_down_plan d scroll) (λ _. Done (r, d)) (λ _. a)
+service_keeps (ReadCell page) fonts d r block fits a is unset h = behind OutcomeKept (read_cell_service fonts (page_named d page) d r) (λ after. Done (after, d)) (λ _. a)
+service_keeps (WriteCells cells) fonts d r block fits a is unset h = behind OutcomeKept (cell_run_plan fonts d (page_named d cells.page) cells) (λ _. Done (r, d)) (λ _. a)
+service_keeps (WritePixel page x y colour) fonts d r block fits a is unset h = behind OutcomeKept (write_pixel_plan d (page_named d page) x y colour) (λ _. Done (r, d)) (λ _. a)
+service_keeps (ReadPixel page x y) fonts d r block fits a is unset h = behind OutcomeKept (read_pixel_service (page_named d page) x y d r) (λ after. Done (after, d)) (λ _. a)
+service_keeps (Teletype character colour) fonts d r block fits a is unset h =
+    behind_such AreData OutcomeKept (teletype_plan fonts d character colour) (λ after. Done (r, after)) (typed d a is unset fonts character colour (inside_near (place_of d d.page) d.last_row d.columns None is.rows h)) (λ after k. k)
+service_keeps ReadMode fonts d r block fits a is unset h = a
+service_keeps (Colours asked_for) fonts d r block fits a is unset h = behind OutcomeKept (colours_plan asked_for d.crtc_address r block) (λ after. Done (after, d)) (λ _. a)
+service_keeps ReadAdapter fonts d r block fits a is unset h = a
+service_keeps (WriteString s) fonts d r block fits a is unset h =
+    behind_such AreData OutcomeKept (string_plan fonts d (page_named d s.page) s block) (λ after. Done (r, after)) (string d a is unset fonts (page_named d s.page) s block (string_near d s (length block) is.rows h)) (λ after k. k)
+service_keeps ReadDisplay fonts d r block fits a is unset h = a
+
+-- ---- calls
+
+abbrev AnswerKept : Answered → Type 0
+AnswerKept x = AreData x.1
+
+-- data of a mode that is set
+mode_is_set : (mode : ℕ) → (mode == 0) ≡ false → mode ≢ 0
+mode_is_set mode e f = grind (arith, nat_tests)
+
+in_mode_keeps : (asked_for : Service) (fonts : FontSet) (d : BiosData) (r : Regs) (block : List ℕ) → FitsWords asked_for → AreData d → Always AnswerKept (in_mode_plan asked_for fonts d r block)
+unfolding in_mode_plan unless
+in_mode_keeps asked_for fonts d r block fits a =
+    on_if AnswerKept (d.mode == 0) _ (unless (refusal_in_mode asked_for d (length block)) asked_for fonts d r block) (λ _. a) (λ e. by_refusal (mode_is_set d.mode e) (refusal_in_mode asked_for d (length block)) refl)
+  where
+    by_refusal : d.mode ≢ 0 → (x : Option Refusal) → refusal_in_mode asked_for d (length block) ≡ x → Always AnswerKept (unless x asked_for fonts d r block)
+    by_refusal unset (Some why) e = a
+    by_refusal unset None e =
+        behind_such OutcomeKept AnswerKept (plan_of asked_for fonts d r block) (λ outcome. Done (answered outcome.0 outcome.1))
+        (service_keeps asked_for fonts d r block fits a (set_of_valid d a.valid unset) unset e) (λ outcome k. k)
+
+table_keeps : (asked_for : TableService) (d : BiosData) (r : Regs) → AreData d → Always AnswerKept (table_in_mode_plan asked_for d r)
+unfolding table_in_mode_plan table_unless
+table_keeps asked_for d r a =
+    on_if AnswerKept (d.mode == 0) _ (table_unless (table_refusal asked_for) asked_for d r) (λ _. a) (λ _. by_refusal (table_refusal asked_for))
+  where
+    by_refusal : (x : Option Refusal) → Always AnswerKept (table_unless x asked_for d r)
+    by_refusal (Some why) = a
+    by_refusal None = behind AnswerKept (table_plan asked_for d.crtc_address) (λ table. Done (answered_with table r d)) (λ _. a)
+
+set_mode_keeps : (x : Option ModeRow) (mode : ℕ) (keeps : Bool) (fonts : FontSet) (d : BiosData) (r : Regs) → mode_row mode ≡ x → AreData d → Always AnswerKept (set_mode_plan x mode keeps fonts d r)
+unfolding set_mode_plan
+set_mode_keeps None mode keeps fonts d r e a = a
+set_mode_keeps (Some row) mode keeps fonts d r e a = behind AnswerKept (mode_set_plan mode row keeps fonts) (λ _. Done (answered r (data_of_mode mode row))) (λ _. begun mode row e)
+
+-- a call whose service names a word
+abbrev CallFits : Option Call → Type 0
+CallFits (Some (InMode asked_for)) = FitsWords asked_for
+CallFits call = Unit {0}
+
+asked_keeps : (call : Option Call) (fonts : FontSet) (d : BiosData) (r : Regs) (block : List ℕ) → CallFits call → AreData d → Always AnswerKept (asked call fonts d r block)
+asked_keeps None fonts d r block fits a = a
+asked_keeps (Some (SetMode mode keeps)) fonts d r block fits a = set_mode_keeps (mode_row mode) mode keeps fonts d r refl a
+asked_keeps (Some (ReadTable asked_for)) fonts d r block fits a = table_keeps asked_for d r a
+asked_keeps (Some (InMode asked_for)) fonts d r block fits a = in_mode_keeps asked_for fonts d r block fits a
+
+-- ---- the service that registers ask for
+
+choose : (b : Bool) (x y : Option Service) → IfSome x FitsWords → IfSome y FitsWords → IfSome (if b then x else y) FitsWords
+choose true x y f g = f
+choose false x y f g = g
+
+colours_fit : (x : Option ColourService) → IfSome (as_colours x) FitsWords
+colours_fit None = tt
+colours_fit (Some asked_for) = tt
+
+service_fits : (r : Regs) → r.dx < 65536 → IfSome (service_of r) FitsWords
+service_fits r l =
+    choose (high r.ax == 0x01) _ _ tt
+    (choose (high r.ax == 0x02) _ _ l
+    (choose (high r.ax == 0x03) _ _ tt
+    (choose (high r.ax == 0x05) _ _ tt
+    (choose (high r.ax == 0x06) _ _ tt
+    (choose (high r.ax == 0x07) _ _ tt
+    (choose (high r.ax == 0x08) _ _ tt
+    (choose (high r.ax == 0x09) _ _ tt
+    (choose (high r.ax == 0x0A) _ _ tt
+    (choose (high r.ax == 0x0C) _ _ tt
+    (choose (high r.ax == 0x0D) _ _ tt
+    (choose (high r.ax == 0x0E) _ _ tt
+    (choose (high r.ax == 0x0F) _ _ tt
+    (choose (high r.ax == 0x10) _ _ (colours_fit (colour_service_of r))
+    (choose ((high r.ax == 0x12) && (low r.bx == 0x10)) _ _ tt
+    (choose ((high r.ax == 0x13) && nat_lt (low r.ax) 4) _ _ tt
+    (choose ((high r.ax == 0x1A) && (low r.ax == 0x00)) (Some ReadDisplay) None tt tt))))))))))))))))
+
+call_fits : (r : Regs) → r.dx < 65536 → CallFits (call_of r)
+call_fits r l = by_test (high r.ax == 0x00) _ (table_or_fits _ (service_of r) (service_fits r l))
+  where
+    in_mode_fits : (x : Option Service) → IfSome x FitsWords → CallFits (in_mode x)
+    in_mode_fits None f = tt
+    in_mode_fits (Some asked_for) f = f
+
+    table_or_fits : (t : Option TableService) (x : Option Service) → IfSome x FitsWords → CallFits (table_or t (in_mode x))
+    table_or_fits None x f = in_mode_fits x f
+    table_or_fits (Some asked_for) x f = tt
+
+    by_test : (b : Bool) (x : Option Call) → CallFits x → CallFits (if b then Some (SetMode (low r.ax % 128) (nat_le 128 (low r.ax))) else x)
+    by_test true x f = tt
+    by_test false x f = f
+
+-- so a call keeps BIOS data valid, and their places words
+pub data_stay : (fonts : FontSet) (d : BiosData) (r : Regs) (block : List ℕ) (c : CardState) → r.dx < 65536 → AreData d → AreData (run card_meaning (service fonts d r block) c).1.1
+data_stay fonts d r block c l a = always_runs AnswerKept card_meaning (service fonts d r block) c (asked_keeps (call_of r) fonts d r block (call_fits r l) a)
