@@ -2,5 +2,6 @@ pub mod LookLemmas
 pub mod NumberLemmas
 pub mod ReportLemmas
 pub mod RunLemmas
+pub mod ScreenLemmas
 pub mod ServedLemmas
 pub mod StepLemmas

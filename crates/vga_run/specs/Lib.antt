@@ -3,3 +3,4 @@ pub mod Machine
 pub mod Step
 pub mod Report
 pub mod Run
+pub mod ScreenReport

@@ -9,8 +9,10 @@ pub mod machine;
 mod numbered_line;
 mod report;
 mod runs;
+mod screens;
 mod served;
 
 pub use answer::Answer;
 pub use laws::refused_steps_change_nothing;
 pub use runs::{run, run_bytes, run_script};
+pub use screens::reports_are_screens;

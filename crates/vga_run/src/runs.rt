@@ -1,19 +1,21 @@
 //! A run of a script.
-ghost use Rattle.std.specs.Prelude.{◌≡◌, ◌≢◌, ◌⊎◌, ◌≤◌, ◌+◌, length, false, IfErr, IfOk, Some, Err};
+ghost use Rattle.std.specs.Prelude.{◌≡◌, ◌≢◌, ◌⊎◌, ◌≤◌, ◌+◌, length, false, IfErr, IfOk, None, Some, Err};
 ghost use Rattle.vga_bits.specs.declared.fault.Fault.TheVariants.{WriteFault, OutOfMemory};
 ghost use Rattle.vga_bits.specs.Tracked.{inner_of, has_failed, is_write_fault, taken_of};
 ghost use Rattle.vga_bits.specs.Reading.{TakesAtMost, is_read_fault};
 ghost use Rattle.bios_modes.specs.Fonts.{file_len, fonts_of};
 ghost use Rattle.vga_script.specs.Spelling.{script_limit};
 ghost use Rattle.vga_run.specs.Run.{Reports, ReportsSteps, RunAnswers, RunsGoodScripts, RunsScript, StopsRun, StopsSteps};
+ghost use Rattle.vga_run.specs.ScreenReport.{AreOfScreens, ReportsScreens, RunsScreens};
 
 use super::machine::Machine;
 use super::report::write_report;
+use super::screens::{bytes_fit, reports_are_screens};
 use bios_modes::Fonts;
 use std::alloc::Global;
 use std::io::{Read, Write};
 use vga_bits::{Fault, Tracked};
-use vga_script::{Script, decode, one_fault, read_script};
+use vga_script::{Script, decode, one_fault, one_script, read_script};
 
 /// Runs a script from power-on, writes its report and nothing else, and flushes the writer. The reader
 /// and the writer must not have failed before.
@@ -48,6 +50,9 @@ pub fn run<R: Read, W: Write>(
     // A fault comes only where there is one.
     ensures runs { RunsGoodScripts fonts.now (R.remaining (inner_of script.old))
         (has_failed script.new) (has_failed out.new) result }
+    // The report of services and whole frames alone is the plain screen's.
+    ensures screens { RunsScreens until fonts.now (R.remaining (inner_of script.old))
+        (W.contents (inner_of out.old)) (W.contents (inner_of out.new)) result }
 
     // The reader and the writer fail exactly where the answer says so.
     ensures read_failed { has_failed script.new ≡ is_read_fault result }
@@ -64,6 +69,9 @@ pub fn run<R: Read, W: Write>(
         (W.contents (inner_of out.old)) (W.contents (inner_of out.new)) }
 {
     one_fault(); // A script has no fault.
+    one_script();
+    reports_are_screens();
+    bytes_fit(fonts);
     run_steps(alloc, script, fonts, out, until)
 }
 
@@ -108,6 +116,9 @@ pub fn run_bytes<W: Write>(
     // The report of the script, or the first fault.
     ensures answer { RunAnswers until fonts.now (Some script.now)
         (W.contents (inner_of out.old)) (W.contents (inner_of out.new)) result }
+    // The report of services and whole frames alone is the plain screen's.
+    ensures screens { RunsScreens until fonts.now (Some script.now)
+        (W.contents (inner_of out.old)) (W.contents (inner_of out.new)) result }
     ensures unread { is_read_fault result ≡ false }
     // The writer fails exactly where the answer says so, and is left untouched by any other fault; but before
     // want of memory in a step the answers of the steps before are written, whole.
@@ -116,6 +127,9 @@ pub fn run_bytes<W: Write>(
     ensures stopped { result ≡ Err OutOfMemory → (out.new ≡ out.old) ⊎ StopsRun until (fonts_of fonts.now) (Some script.now)
         (W.contents (inner_of out.old)) (W.contents (inner_of out.new)) }
 {
+    one_script();
+    reports_are_screens();
+    bytes_fit(fonts);
     let fonts = Fonts::from_bytes(alloc, fonts)?; // Nothing is decoded before.
     run_bytes_over(alloc, script, fonts, out, until)
 }
@@ -156,6 +170,9 @@ pub fn run_script<W: Write>(
     // The report of the script's steps, or the first fault.
     ensures answer { RunsScript until fonts.now script.now
         (W.contents (inner_of out.old)) (W.contents (inner_of out.new)) result }
+    // The report of services and whole frames alone is the plain screen's.
+    ensures screens { until ≡ None → AreOfScreens script.now → ReportsScreens (fonts_of fonts.now) script.now
+        (W.contents (inner_of out.old)) (W.contents (inner_of out.new)) result }
     // The writer fails exactly where the answer says so, and is left untouched by any other fault; but before
     // want of memory in a step the answers of the steps before are written, whole.
     ensures write_failed { has_failed out.new ≡ is_write_fault result }
@@ -163,6 +180,9 @@ pub fn run_script<W: Write>(
     ensures stopped { result ≡ Err OutOfMemory → (out.new ≡ out.old) ⊎ StopsSteps until (fonts_of fonts.now) script.now
         (W.contents (inner_of out.old)) (W.contents (inner_of out.new)) }
 {
+    reports_are_screens();
+    bytes_fit(fonts);
+    let _ = script.list(); // The steps are a script's.
     let fonts = Fonts::from_bytes(alloc, fonts)?;
     run_over(alloc, script, fonts, out, until)
 }

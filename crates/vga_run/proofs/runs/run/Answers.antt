@@ -1,7 +1,12 @@
 use Rattle.vga_run.proofs.RunLemmas.{runs_good_scripts}
+use Rattle.vga_run.proofs.ScreenLemmas.{run_of_screens}
 use Rattle.vga_run.proofs.runs.run.Goals as goal
 
 -- a script has no fault of its own
 pub returns-clause-runs : goal.returns-clause-runs
 returns-clause-runs g c =
     let e = c.run_steps.ensures in runs_good_scripts c.one_fault.ensures.none _ _ _ _ _ _ _ _ e.answer e.read_failed e.write_failed
+
+-- and its report is one
+pub returns-clause-screens : goal.returns-clause-screens
+returns-clause-screens g c = run_of_screens c.reports_are_screens.ensures c.one_script.ensures _ _ _ _ _ _ c.bytes_fit.ensures c.run_steps.ensures.answer

@@ -1,0 +1,289 @@
+-- Why the report of services and whole frames is the plain screen's.
+use Rattle.std.proofs.Common.{◌≡◌, ◌∙◌, inl, inr, ℕ, zero, suc, ◌+◌, ◌^◌, ◌<◌, ◌==◌, ◌||◌, Bool, true, false, List, [], ◌∷◌, ◌++◌, drop, Option, Some, None, IfSome, Result, Ok, Err, if◌then◌else◌, arith, refl, sym, ap, subst}
+use Rattle.std.specs.List.{AllByRecursion}
+use Rattle.std.specs.Io.KnownBytes.{Appends}
+use Rattle.std.proofs.lemmas.Bool.Decides.{nat_tests}
+use Rattle.std.proofs.lemmas.List.{get_or-drop}
+use Rattle.vga_bits.specs.Tracked.{AppendsFront}
+use Rattle.vga_bits.specs.declared.fault.Fault.{Fault}
+use Rattle.vga_bits.specs.declared.fault.Fault.TheVariants.{FontSize, WriteFault}
+use Rattle.vga_bits.specs.declared.refusal.Refusal.{Refusal}
+use Rattle.vga_bits.specs.declared.refusal.Refusal.TheVariants.{BadFunction, BadMode}
+use Rattle.vga_crtc.specs.Raster.{IsFrameStart}
+use Rattle.vga_card.specs.Bounds.{IsCard}
+use Rattle.vga_card.specs.Bus.{card_meaning}
+use Rattle.vga_card.specs.Card.{CardState, power_on_card}
+use Rattle.vga_card.specs.Dots.{dots}
+use Rattle.vga_card.specs.Frames.{frame, frame_count}
+use Rattle.vga_card.specs.Picture.{bytes_of}
+use Rattle.bios_modes.specs.declared.modes.ModeRow.{ModeRow}
+use Rattle.bios_modes.specs.Modes.{mode_row, colour_text, monochrome_text}
+use Rattle.bios_modes.specs.Bda.{BiosData, power_on_data}
+use Rattle.bios_modes.specs.Bounds.{IsBda, AreBytes}
+use Rattle.bios_modes.specs.Fonts.{FontSet, font_len, fonts_of}
+use Rattle.bios_services.specs.declared.regs.Regs.{Regs}
+use Rattle.bios_services.specs.declared.reply.Reply.{Reply}
+use Rattle.bios_services.specs.declared.call.Call.{Call}
+use Rattle.bios_services.specs.declared.call.Call.TheVariants.{SetMode, ReadTable, InMode}
+use Rattle.bios_services.specs.declared.call.Service.{Service}
+use Rattle.bios_services.specs.Calls.{call_of}
+use Rattle.bios_services.specs.Data.{AreData}
+use Rattle.bios_services.specs.Plan.{run}
+use Rattle.bios_services.specs.Service.{Answered, service}
+use Rattle.bios_screen.specs.Screen.{Screen}
+use Rattle.bios_screen.specs.Shown.{shown, shown_by, shows_text, text_screen}
+use Rattle.bios_screen.specs.Served.{SetsFresh, after_call}
+use Rattle.bios_screen.specs.Called.{AreWords, IsCalled}
+use Rattle.bios_screen.specs.Framed.{IsFramed}
+use Rattle.bios_screen.specs.Fresh.{fresh_screen}
+use Rattle.bios_screen.specs.Picture.{picture_width, picture_height}
+use Rattle.vga_script.specs.declared.step.Step.{Step}
+use Rattle.vga_script.specs.declared.step.Step.TheVariants.{Int, Frame}
+use Rattle.vga_script.specs.Step.{IsInRange, AreInRange}
+use Rattle.vga_script.specs.Spelling.{Spells, SpellsSteps}
+use Rattle.vga_run.specs.declared.machine.Machine.{Machine}
+use Rattle.vga_run.specs.Machine.{power_on_machine}
+use Rattle.vga_run.specs.Answer.{Served, of_service, of_shape}
+use Rattle.vga_run.specs.Step.{answer_to, after_step, called}
+use Rattle.vga_run.specs.Report.{line, report_from, report_of, steps_until}
+use Rattle.vga_run.specs.Run.{RunAnswers, ReportsSteps, RunsScript}
+use Rattle.vga_run.specs.ScreenReport.{has_screen, Clears, StaysOnScreens, registers_of, IsOfScreens, AreOfScreens, set_on, called_on, reply_on, screen_after, screen_report_from, set_report, first_report, screen_report, ReportsScreens, RunsScreens}
+
+-- the laws of the crates below
+pub record Laws : Type 0 where
+  pub first_card : IsCard power_on_card
+  pub first_data : AreData power_on_data
+  pub dots : (n : ℕ) (c : CardState) → IsCard c → IsCard (dots n c)
+  pub card : (fonts : FontSet) (d : BiosData) (r : Regs) (block : List ℕ) (c : CardState) → IsCard c → IsCard (run card_meaning (service fonts d r block) c).0
+  pub bda : (fonts : FontSet) (d : BiosData) (r : Regs) (block : List ℕ) (c : CardState) → r.dx < 65536 → AreData d → AreData (run card_meaning (service fonts d r block) c).1.1
+  pub served : (asked_for : Service) (fonts : FontSet) (r : Regs) (block : List ℕ) (c : CardState) (d : BiosData) (s : Screen)
+      → IsCard c → IsBda d → AreWords r → AreBytes block → shown c d ≡ Some s → call_of r ≡ Some (InMode asked_for) → IsCalled asked_for fonts r block c d s
+  pub unknown : (fonts : FontSet) (r : Regs) (block : List ℕ) (c : CardState) (d : BiosData) (s : Screen) → shown c d ≡ Some s → call_of r ≡ None → after_call fonts r block c d ≡ (c, (Err BadFunction, d))
+  pub no_mode : (mode : ℕ) (keeps : Bool) (fonts : FontSet) (r : Regs) (block : List ℕ) (c : CardState) (d : BiosData)
+      → call_of r ≡ Some (SetMode mode keeps) → mode_row mode ≡ None → after_call fonts r block c d ≡ (c, (Err BadMode, d))
+  pub colour : SetsFresh 0x03 colour_text
+  pub monochrome : SetsFresh 0x07 monochrome_text
+  pub framed : (c : CardState) (d : BiosData) (s : Screen) → IsCard c → shown c d ≡ Some s → IsFrameStart c.crtc.beam → IsFramed c d s
+
+-- ---- modes
+
+-- a mode that has a screen, with its row
+record HasRow (mode : ℕ) : Type 0 where
+  row : ModeRow
+  is : mode_row mode ≡ Some row
+  fresh : SetsFresh mode row
+
+same_mode : (mode known : ℕ) → (mode == known) ≡ true → known ≡ mode
+same_mode mode known e = grind (arith, nat_tests)
+
+row_of_screen : Laws → (mode : ℕ) → has_screen mode ≡ true → HasRow mode
+row_of_screen law mode h = by_tests (mode == 0x03) (mode == 0x07) refl refl h
+  where
+    by_tests : (a b : Bool) → (mode == 0x03) ≡ a → (mode == 0x07) ≡ b → (a || b) ≡ true → HasRow mode
+    by_tests true b e f i = subst HasRow (same_mode mode 0x03 e) (record { row = colour_text; is = refl; fresh = law.colour })
+    by_tests false true e f i = subst HasRow (same_mode mode 0x07 f) (record { row = monochrome_text; is = refl; fresh = law.monochrome })
+    by_tests false false e f i = absurd (cc)
+
+-- ---- numbers
+
+-- a block has bytes
+block_bytes : (block : List ℕ) → AllByRecursion (λ byte. byte < 2 ^ 8) block → AreBytes block
+block_bytes [] all i = omega arith
+block_bytes (byte ∷ block) all zero = let l = all.0 in omega arith
+block_bytes (byte ∷ block) all (suc i) = block_bytes block all.1 i
+
+-- the glyphs of a font file do
+pub glyph_bytes : (file : List ℕ) → AreBytes file → AreBytes (fonts_of file).f16
+unfolding fonts_of
+glyph_bytes file bytes i =
+    let place = get_or-drop (font_len 14) (drop (font_len 8) file) i 0 ∙ get_or-drop (font_len 8) file (font_len 14 + i) 0 in
+    subst (λ (n : ℕ). n < 256) (sym place) (bytes (font_len 8 + (font_len 14 + i)))
+
+-- ---- one step
+
+-- the machine shows this screen at the first dot of a frame
+record Stands (fonts : FontSet) (m : Machine) (s : Screen) : Type 0 where
+  card : IsCard m.card
+  bda : AreData m.bda
+  same : m.fonts ≡ fonts
+  shows : shown m.card m.bda ≡ Some s
+  start : IsFrameStart m.card.crtc.beam
+
+-- the number of its frame is the beam's
+frame_shown : (c : CardState) (d : BiosData) (s : Screen) → shown c d ≡ Some s → s.frame ≡ c.crtc.beam.frame
+frame_shown c d s e = by_row (mode_row d.mode) e
+  where
+    by_test : (row : ModeRow) (b : Bool) → (let x : Option Screen = (if b then Some (text_screen row c d) else None) in x) ≡ Some s → s.frame ≡ c.crtc.beam.frame
+    by_test row true h = let same : text_screen row c d ≡ s = cc in sym (ap (λ (x : Screen). x.frame) same)
+    by_test row false h = absurd (cc)
+
+    by_row : (x : Option ModeRow) → shown_by x c d ≡ Some s → s.frame ≡ c.crtc.beam.frame
+    by_row None h = absurd (cc)
+    by_row (Some row) h = by_test row (shows_text row c d) h
+
+-- what a call answers, leaves on the screen, and leaves of the beam
+record CallLeads (x : CardState × Answered) (to : Screen × Result Reply Refusal) (c : CardState) : Type 0 where
+  reply : x.1.0 ≡ to.1
+  shows : shown x.0 x.1.1 ≡ Some to.0
+  beam : x.0.crtc.beam ≡ c.crtc.beam
+
+-- a call that is refused and does nothing
+refused_leads : (x : CardState × Answered) (why : Refusal) (c : CardState) (d : BiosData) (s : Screen) → x ≡ (c, (Err why, d)) → shown c d ≡ Some s → CallLeads x (s, Err why) c
+refused_leads x why c d s e shows = record {
+  reply = ap (λ (y : CardState × Answered). y.1.0) e;
+  shows = ap (λ (y : CardState × Answered). shown y.0 y.1.1) e ∙ shows;
+  beam = ap (λ (y : CardState × Answered). y.0.crtc.beam) e;
+}
+
+-- a mode set that clears the memory
+set_leads : Laws → (mode : ℕ) (keeps : Bool) (fonts : FontSet) (r : Regs) (block : List ℕ) (c : CardState) (d : BiosData) (s : Screen)
+    → Clears (Some (SetMode mode keeps)) → call_of r ≡ Some (SetMode mode keeps) → AreBytes fonts.f16 → IsCard c → s.frame ≡ c.crtc.beam.frame → CallLeads (after_call fonts r block c d) (set_on (mode_row mode) mode fonts r s) c
+set_leads law mode keeps fonts r block c d s (has, clears) e glyphs z number =
+    let h = row_of_screen law mode has in
+    let f = h.fresh fonts r block c d z glyphs (e ∙ ap (λ (k : Bool). let call : Option Call = Some (SetMode mode k) in call) clears) in
+    let fresh : CallLeads (after_call fonts r block c d) (set_on (Some h.row) mode fonts r s) c = record {
+      reply = f.answer;
+      shows = f.shows ∙ ap (λ (n : ℕ). Some (fresh_screen mode h.row fonts.f16 n)) (sym number);
+      beam = f.beam;
+    } in
+    subst (λ (row : Option ModeRow). CallLeads (after_call fonts r block c d) (set_on row mode fonts r s) c) (sym h.is) fresh
+
+call_leads : Laws → (call : Option Call) (fonts : FontSet) (r : Regs) (block : List ℕ) (m : Machine) (s : Screen) → call_of r ≡ call → StaysOnScreens call → AreWords r → AreBytes block → AreBytes fonts.f16 → Stands fonts m s
+    → CallLeads (after_call fonts r block m.card m.bda) (called_on call fonts r block s) m.card
+call_leads law None fonts r block m s e stays words bytes glyphs is = refused_leads _ BadFunction m.card m.bda s (law.unknown fonts r block m.card m.bda s is.shows e) is.shows
+call_leads law (Some (SetMode mode keeps)) fonts r block m s e (inl clears) words bytes glyphs is =
+    set_leads law mode keeps fonts r block m.card m.bda s clears e glyphs is.card (frame_shown m.card m.bda s is.shows)
+call_leads law (Some (SetMode mode keeps)) fonts r block m s e (inr none) words bytes glyphs is =
+    let left = refused_leads _ BadMode m.card m.bda s (law.no_mode mode keeps fonts r block m.card m.bda e none) is.shows in
+    subst (λ (row : Option ModeRow). CallLeads (after_call fonts r block m.card m.bda) (set_on row mode fonts r s) m.card) (sym none) left
+call_leads law (Some (ReadTable asked_for)) fonts r block m s e stays words bytes glyphs is = absurd stays
+call_leads law (Some (InMode asked_for)) fonts r block m s e stays words bytes glyphs is =
+    let k = law.served asked_for fonts r block m.card m.bda s is.card is.bda.words words bytes is.shows e in
+    record { reply = k.reply; shows = k.shows; beam = k.beam }
+
+-- a step answers as on the screen, and leads to the next one
+record StepLeads (fonts : FontSet) (m : Machine) (s : Screen) (step : Step) : Type 0 where
+  answer : answer_to m step ≡ reply_on fonts s step
+  stands : Stands fonts (after_step m step) (screen_after fonts s step)
+
+-- a call leaves the machine within its bounds
+call_stands : Laws → (fonts : FontSet) (ax bx cx dx : ℕ) (block : List ℕ) (m : Machine) (s : Screen) → dx < 65536 → IsCard m.card → AreData m.bda → m.fonts ≡ fonts → IsFrameStart m.card.crtc.beam
+    → (let x = after_call m.fonts (registers_of ax bx cx dx) block m.card m.bda in shown x.0 x.1.1) ≡ Some s → (after_call m.fonts (registers_of ax bx cx dx) block m.card m.bda).0.crtc.beam ≡ m.card.crtc.beam
+    → Stands fonts (after_step m (Int ax bx cx dx block)) s
+unfolding after_step called
+call_stands law fonts ax bx cx dx block m s small z a same start shows beam = record {
+  card = law.card m.fonts m.bda (registers_of ax bx cx dx) block m.card z;
+  bda = law.bda m.fonts m.bda (registers_of ax bx cx dx) block m.card small a;
+  same = same;
+  shows = shows;
+  start = subst IsFrameStart (sym beam) start;
+}
+
+-- and so does a frame
+frame_stands : Laws → (fonts : FontSet) (m : Machine) (s : Screen) → Stands fonts m s → IsFramed m.card m.bda s → Stands fonts (after_step m Frame) (screen_after fonts s Frame)
+unfolding after_step screen_after
+frame_stands law fonts m s is f = record { card = law.dots (frame_count m.card) m.card is.card; bda = is.bda; same = is.same; shows = f.next; start = f.start }
+
+step_leads : Laws → (fonts : FontSet) (m : Machine) (s : Screen) (step : Step) → AreBytes fonts.f16 → IsInRange step → IsOfScreens step → Stands fonts m s → StepLeads fonts m s step
+unfolding answer_to reply_on screen_after called
+step_leads law fonts m s (Int ax bx cx dx block) glyphs (ha, hb, hc, hd, (short, all)) stays is =
+    let r = registers_of ax bx cx dx in
+    let words : AreWords r = record { ax = omega arith; bx = omega arith; cx = omega arith; dx = omega arith } in
+    let l = call_leads law (call_of r) fonts r block m s refl stays words (block_bytes block all) glyphs is in
+    let here = subst (λ (f : FontSet). CallLeads (after_call f r block m.card m.bda) (called_on (call_of r) fonts r block s) m.card) (sym is.same) l in
+    record {
+      answer = ap of_service here.reply;
+      stands = call_stands law fonts ax bx cx dx block m (called_on (call_of r) fonts r block s).0 words.dx is.card is.bda is.same is.start here.shows here.beam;
+    }
+step_leads law fonts m s Frame glyphs range stays is =
+    let f = law.framed m.card m.bda s is.card is.shows is.start in record {
+      answer = ap (λ x. of_shape x (bytes_of (frame m.card).drawn)) f.size ∙ ap (λ bytes. of_shape (Some (record { width = picture_width s; height = picture_height s })) bytes) f.colours;
+      stands = frame_stands law fonts m s is f;
+    }
+step_leads law fonts m s step glyphs range stays is = absurd stays
+
+-- ---- all steps
+
+reports_from : Laws → (fonts : FontSet) (m : Machine) (s : Screen) (n : ℕ) (steps : List Step) → AreBytes fonts.f16 → AreInRange steps → AllByRecursion IsOfScreens steps → Stands fonts m s
+    → report_from m n steps ≡ screen_report_from fonts s n steps
+reports_from law fonts m s n [] glyphs range all is = refl
+reports_from law fonts m s n (step ∷ steps) glyphs range all is =
+    let l = step_leads law fonts m s step glyphs range.0 all.0 is in
+    ap (λ a. line n a ++ report_from (after_step m step) (n + 1) steps) l.answer
+    ∙ ap (λ (rest : List ℕ). line n (reply_on fonts s step) ++ rest) (reports_from law fonts (after_step m step) (screen_after fonts s step) (n + 1) steps glyphs range.1 all.1 l.stands)
+
+-- a step that is to set a mode does, and the others go on from the fresh screen
+first_reports : Laws → (call : Option Call) (fonts : FontSet) (ax bx cx dx : ℕ) (block : List ℕ) (steps : List Step) → call_of (registers_of ax bx cx dx) ≡ call → Clears call → dx < 65536 → AreBytes fonts.f16
+    → AreInRange steps → AllByRecursion IsOfScreens steps → report_of fonts (Int ax bx cx dx block ∷ steps) ≡ first_report call fonts (registers_of ax bx cx dx) steps
+unfolding answer_to called
+first_reports law None fonts ax bx cx dx block steps e clears small glyphs range all = absurd clears
+first_reports law (Some (ReadTable asked_for)) fonts ax bx cx dx block steps e clears small glyphs range all = absurd clears
+first_reports law (Some (InMode asked_for)) fonts ax bx cx dx block steps e clears small glyphs range all = absurd clears
+first_reports law (Some (SetMode mode keeps)) fonts ax bx cx dx block steps e (has, clears) small glyphs range all =
+    let r = registers_of ax bx cx dx in
+    let m = power_on_machine fonts in
+    let step : Step = Int ax bx cx dx block in
+    let h = row_of_screen law mode has in
+    let f = h.fresh fonts r block power_on_card power_on_data law.first_card glyphs (e ∙ ap (λ (k : Bool). let call : Option Call = Some (SetMode mode k) in call) clears) in
+    let s = fresh_screen mode h.row fonts.f16 0 in
+    let is = call_stands law fonts ax bx cx dx block m s small law.first_card law.first_data refl (record { line = refl; character = refl; dot = refl }) f.shows f.beam in
+    ap (λ a. line 1 (of_service a) ++ report_from (after_step m step) 2 steps) f.answer
+    ∙ ap (λ (rest : List ℕ). line 1 (Served r []) ++ rest) (reports_from law fonts (after_step m step) s 2 steps glyphs range all is)
+    ∙ sym (ap (λ (row : Option ModeRow). set_report row mode fonts r steps) h.is)
+
+pub reports_screens : Laws → (fonts : FontSet) (steps : List Step) → AreBytes fonts.f16 → AreInRange steps → AreOfScreens steps → report_of fonts steps ≡ screen_report fonts steps
+reports_screens law fonts [] glyphs range all = absurd all
+reports_screens law fonts (Int ax bx cx dx block ∷ steps) glyphs ((ha, hb, hc, hd, is_block), range) (clears, all) =
+    first_reports law (call_of (registers_of ax bx cx dx)) fonts ax bx cx dx block steps refl clears (omega arith) glyphs range all
+reports_screens law fonts (step ∷ steps) glyphs range all = absurd all
+
+-- ---- runs
+
+-- the law that this is
+abbrev pub ReportsAlike : Type 0
+ReportsAlike = (fonts : FontSet) (steps : List Step) → AreBytes fonts.f16 → AreInRange steps → AreOfScreens steps → report_of fonts steps ≡ screen_report fonts steps
+
+-- the law that no bytes spell two scripts
+abbrev pub OneScript : Type 0
+OneScript = (bytes : List ℕ) (first second : List Step) → Spells bytes first → Spells bytes second → first ≡ second
+
+-- what the run of steps of screens writes is the plain screen's report
+pub steps_of_screens : ReportsAlike → (until : Option ℕ) (fonts : FontSet) (steps : List Step) (before after : Option (List ℕ)) (result : Result Unit Fault) → AreBytes fonts.f16 → AreInRange steps
+    → until ≡ None → AreOfScreens steps → ReportsSteps until fonts steps before after result → ReportsScreens fonts steps before after result
+steps_of_screens law until fonts steps before after (Ok u) glyphs range whole of w =
+    subst (Appends before after) (ap (λ (n : Option ℕ). report_of fonts (steps_until n steps)) whole ∙ law fonts steps glyphs range of) w
+steps_of_screens law until fonts steps before after (Err WriteFault) glyphs range whole of w =
+    subst (AppendsFront before after) (ap (λ (n : Option ℕ). report_of fonts (steps_until n steps)) whole ∙ law fonts steps glyphs range of) w
+steps_of_screens law until fonts steps before after (Err _) glyphs range whole of w = tt
+
+pub script_of_screens : ReportsAlike → (until : Option ℕ) (file : List ℕ) (steps : List Step) (before after : Option (List ℕ)) (result : Result Unit Fault) → AreBytes file → AreInRange steps
+    → RunsScript until file steps before after result → until ≡ None → AreOfScreens steps → ReportsScreens (fonts_of file) steps before after result
+script_of_screens law until file steps before after (Err FontSize) bytes range w whole of = tt
+script_of_screens law until file steps before after (Ok u) bytes range w whole of = steps_of_screens law until (fonts_of file) steps before after (Ok u) (glyph_bytes file bytes) range whole of w.1
+script_of_screens law until file steps before after (Err WriteFault) bytes range w whole of = steps_of_screens law until (fonts_of file) steps before after (Err WriteFault) (glyph_bytes file bytes) range whole of w.1
+script_of_screens law until file steps before after (Err _) bytes range w whole of = tt
+
+-- the fields of steps that bytes spell fit
+spelled_range : (bytes : List ℕ) (steps : List Step) → SpellsSteps bytes steps → AreInRange steps
+spelled_range bytes [] h = tt
+spelled_range bytes (step ∷ steps) (rest, (fits, whole), more) = (fits, spelled_range rest steps more)
+
+-- the script of an input is the one that its bytes spell
+input_script : OneScript → (input : Option (List ℕ)) (bytes read : List ℕ) (steps found : List Step) → input ≡ Some bytes → IfSome input (λ all. all ≡ read) → Spells bytes steps → Spells read found → found ≡ steps
+input_script law input bytes read steps found e is spelled others =
+    let same : bytes ≡ read = subst (λ (i : Option (List ℕ)). IfSome i (λ all. all ≡ read)) e is in
+    law read found steps others (subst (λ (l : List ℕ). Spells l steps) same spelled)
+
+pub run_of_screens : ReportsAlike → OneScript → (until : Option ℕ) (file : List ℕ) (input before after : Option (List ℕ)) (result : Result Unit Fault) → AreBytes file
+    → RunAnswers until file input before after result → RunsScreens until file input before after result
+run_of_screens law one until file input before after (Ok u) glyphs (size, (found, (read, is, others), w)) =
+    λ bytes steps whole e spelled of.
+    let same = input_script one input bytes read steps found e is.0 spelled others in
+    steps_of_screens law until (fonts_of file) steps before after (Ok u) (glyph_bytes file glyphs) (spelled_range spelled.0 steps spelled.2) whole of
+    (subst (λ (l : List Step). Appends before after (report_of (fonts_of file) (steps_until until l))) same w)
+run_of_screens law one until file input before after (Err WriteFault) glyphs (size, (found, (read, is, others), w)) =
+    λ bytes steps whole e spelled of.
+    let same = input_script one input bytes read steps found e is.0 spelled others in
+    steps_of_screens law until (fonts_of file) steps before after (Err WriteFault) (glyph_bytes file glyphs) (spelled_range spelled.0 steps spelled.2) whole of
+    (subst (λ (l : List Step). AppendsFront before after (report_of (fonts_of file) (steps_until until l))) same w)
+run_of_screens law one until file input before after (Err _) glyphs h = λ bytes steps whole e spelled of. tt

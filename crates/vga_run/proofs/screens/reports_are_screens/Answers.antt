@@ -1,0 +1,17 @@
+use Rattle.vga_run.proofs.ScreenLemmas.{reports_screens}
+use Rattle.vga_run.proofs.screens.reports_are_screens.Goals as goal
+
+pub returns : goal.returns
+returns c = reports_screens (record {
+  first_card = c.bounds_stay.ensures.first;
+  first_data = c.calls_keep_bounds.ensures.first;
+  dots = c.bounds_stay.ensures.dots;
+  card = c.calls_keep_bounds.ensures.card;
+  bda = c.calls_keep_bounds.ensures.bda;
+  served = c.calls_lead_to_screens.ensures.served;
+  unknown = c.calls_lead_to_screens.ensures.unknown;
+  no_mode = c.calls_lead_to_screens.ensures.mode;
+  colour = c.mode_set_is_fresh.ensures.colour;
+  monochrome = c.mode_set_is_fresh.ensures.monochrome;
+  framed = c.frame_draws_text.ensures;
+})
