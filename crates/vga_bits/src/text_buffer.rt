@@ -1,5 +1,5 @@
 //! Text that is made piece by piece, with no memory taken.
-ghost use Rattle.std.specs.Prelude.{◌≡◌, ◌+◌, ◌<◌, ◌≤◌, ◌++◌, [], length, take, decimal};
+ghost use Rattle.std.specs.Prelude.{◌≡◌, ◌+◌, ◌<◌, ◌≤◌, ◌++◌, [], length, take, slice_set, decimal};
 ghost use Rattle.vga_bits.specs.Hex.{hex, hex_digit as hex_digit_of, hex_byte, hex_word};
 
 use arrayvec::ArrayVec;
@@ -63,6 +63,32 @@ impl<const ROOM: usize> TextBuffer<ROOM> {
         ensures len { length self.new ≡ len }
     {
         self.bytes.truncate(len);
+    }
+
+    /// Puts the byte `value` at place `i`, below the length. The others stay.
+    pub fn set(&mut self, i: usize, value: u8)
+        requires { i < length self.old }
+        ensures items { self.new ≡ slice_set self.old i value }
+        ensures len { length self.new ≡ length self.old }
+    {
+        self.bytes.as_mut_slice()[i] = value;
+    }
+
+    /// Keeps the first `at` bytes, and puts some bytes in the place of the others, for which there is room. As many
+    /// as there were are written over.
+    #[inline(always)]
+    pub fn replace_end(&mut self, at: usize, text: &[u8])
+        requires within { at ≤ length self.old }
+        requires room { at + length text.now ≤ ROOM }
+        ensures items { self.new ≡ take at self.old ++ text.now }
+        ensures len { length self.new ≡ at + length text.now }
+    {
+        if at + text.len() == self.len() {
+            self.bytes.as_mut_slice()[at..].copy_from_slice(text);
+        } else {
+            self.truncate(at);
+            self.push(text);
+        }
     }
 
     /// Puts a number at the end, in decimal. There is room for ten digits.
