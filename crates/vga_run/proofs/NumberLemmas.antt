@@ -1,9 +1,9 @@
 -- Numbers of steps that are counted up in decimal.
-use Rattle.std.proofs.Common.{◌≡◌, ℕ, ◌+◌, ◌-◌, ◌/◌, ◌%◌, ◌^◌, ◌<◌, ◌≤◌, List, [], ◌∷◌, ◌++◌, length, take, refl, sym, ◌∙◌, ap, inl, inr, arith, append_assoc, length-append}
-use Rattle.std.specs.Prelude.{decimal, codes}
+use Rattle.std.proofs.Common.{◌≡◌, ℕ, ◌+◌, ◌-◌, ◌/◌, ◌%◌, ◌^◌, ◌<◌, ◌≤◌, List, [], ◌∷◌, ◌++◌, length, take, drop, refl, sym, ◌∙◌, ap, inl, inr, arith, length-append, take-append-drop}
+use Rattle.std.specs.Prelude.{decimal, codes, slice_set}
 use Rattle.std.proofs.lemmas.Bool.{cases_lt}
 use Rattle.std.proofs.lemmas.Fmt.{decimal_step, decimal_digit, decimal_nonempty, length-decimal-le}
-use Rattle.std.proofs.lemmas.List.{take-append-le, take-take, take_all, length-take-le}
+use Rattle.std.proofs.lemmas.List.{take-append-le, take_all, take_more_set, set-append_left, length-set, length-take}
 use Rattle.vga_run.specs.Report.{HasNumber, number_text}
 
 -- what stands before the last of some bytes
@@ -42,6 +42,10 @@ pub front_is_short : (text : List ℕ) (front n : ℕ) → HasNumber text front 
 unfolding number_text
 front_is_short text front n h small = omega (arith, h.whole, length-append (decimal n) (codes " "), length-decimal-le 20 n (omega arith) (omega arith) small)
 
+-- a line is no shorter
+pub front_is_within : (text : List ℕ) (front n : ℕ) → HasNumber text front n → front ≤ length text
+front_is_within text front n h = omega (arith, h.whole, ap length h.is, length-take front text)
+
 -- a line has its number
 pub number_first : (text : List ℕ) (front n : ℕ) → text ≡ number_text n → front ≡ length text → HasNumber text front n
 number_first text front n e f = record { is = take_all front text (omega (arith, f)) ∙ e; whole = f ∙ ap length e }
@@ -56,18 +60,29 @@ number_behind text mid new rest front n h e f =
       whole = h.whole;
     }
 
--- the line with the next number
-pub number_counted : (text mid new : List ℕ) (front n : ℕ) → HasNumber text front n → n + 1 < 2 ^ 64 → n % 10 < 9
-    → mid ≡ take (front - 2) text → new ≡ mid ++ (49 + n % 10) ∷ 32 ∷ [] → HasNumber new front (n + 1)
+-- the line with the next number, of which the last digit is written over
+pub number_counted : (text new : List ℕ) (front n : ℕ) → HasNumber text front n → n + 1 < 2 ^ 64 → n % 10 < 9
+    → new ≡ slice_set text (front - 2) (49 + n % 10) → HasNumber new front (n + 1)
 unfolding number_text
-number_counted text mid new front n h small low e f =
+number_counted text new front n h small low e =
     let digits = decimal n in
+    let v = 49 + n % 10 in
+    let i = length digits - 1 in
+    let rest = drop front text in
     let some = decimal_nonempty n (omega arith) in
     let len : front ≡ length digits + 1 = h.whole ∙ length-append digits (codes " ") in
-    let cut : mid ≡ take (length digits - 1) digits =
-    e ∙ sym (take-take (front - 2) front text (omega arith)) ∙ ap (take (front - 2)) h.is
-    ∙ ap (λ k. take k (digits ++ codes " ")) (omega (arith, len)) ∙ take-append-le (length digits - 1) digits (codes " ") (omega arith) in
-    let front_len : length mid + 2 ≡ front = omega (arith, ap length cut, length-take-le (length digits - 1) digits (omega arith), len, some) in
-    let whole : new ≡ number_text (n + 1) = f ∙ ap (λ l. l ++ (49 + n % 10) ∷ 32 ∷ []) cut
-    ∙ sym (append_assoc (take (length digits - 1) digits) ((49 + n % 10) ∷ []) (32 ∷ [])) ∙ ap (λ l. l ++ codes " ") (sym (decimal_counted n small low)) in
-    number_first new front (n + 1) whole (omega (arith, ap length f, length-append mid ((49 + n % 10) ∷ 32 ∷ []), front_len))
+    let at : front - 2 ≡ i = omega arith in
+    let parts : text ≡ (digits ++ codes " ") ++ rest = sym (take-append-drop front text) ∙ ap (λ (l : List ℕ). l ++ rest) h.is in
+    let counted : slice_set digits i v ≡ decimal (n + 1) =
+    sym (take_all (i + 1) (slice_set digits i v) (omega (arith, length-set digits i v))) ∙ take_more_set digits i v (omega arith) ∙ sym (decimal_counted n small low) in
+    let long : length (decimal (n + 1)) ≡ length digits = ap length (sym counted) ∙ length-set digits i v in
+    let whole : new ≡ number_text (n + 1) ++ rest =
+    e ∙ ap (λ (k : ℕ). slice_set text k v) at ∙ ap (λ (l : List ℕ). slice_set l i v) parts
+    ∙ set-append_left (digits ++ codes " ") rest i v (omega (arith, length-append digits (codes " ")))
+    ∙ ap (λ (l : List ℕ). l ++ rest) (set-append_left digits (codes " ") i v (omega arith))
+    ∙ ap (λ (l : List ℕ). (l ++ codes " ") ++ rest) counted in
+    let front_len : front ≡ length (number_text (n + 1)) = omega (arith, len, long, length-append (decimal (n + 1)) (codes " ")) in
+    record {
+      is = ap (take front) whole ∙ take-append-le front (number_text (n + 1)) rest (omega (arith, front_len)) ∙ take_all front (number_text (n + 1)) (omega (arith, front_len));
+      whole = front_len;
+    }

@@ -7,7 +7,7 @@ ghost use Rattle.vga_show.specs.Cells.{cells_refusal, cells_text};
 ghost use Rattle.vga_run.specs.Report.{look_text};
 
 use super::answer::Answer;
-use super::line::{Line, push_answer};
+use super::line::{Line, put_answer};
 use super::machine::Machine;
 use std::io::Write;
 use vga_bits::{Fault, Refusal, Tracked, write_whole};
@@ -20,8 +20,7 @@ fn write_refusal<W: Write>(out: &mut Tracked<W>, why: Refusal) -> Result<(), Fau
         (has_failed out.new) result (refusal_name why ++ codes "\n") }
 {
     let mut line = Line::new();
-    push_answer(&mut line, Answer::Refused(why));
-    line.push(b"\n");
+    put_answer(&mut line, 0, Answer::Refused(why));
     write_whole(out, line.as_slice())
 }
 

@@ -1,12 +1,12 @@
 //! The line of a step.
-ghost use Rattle.std.specs.Prelude.{◌≡◌, ◌+◌, ◌≤◌, ◌++◌, length, false};
+ghost use Rattle.std.specs.Prelude.{◌≡◌, ◌+◌, ◌≤◌, ◌++◌, length, take, false, codes};
 ghost use Rattle.vga_bits.specs.Tracked.{inner_of, has_failed, Writes};
 ghost use Rattle.vga_run.specs.Answer.{Plain};
 ghost use Rattle.vga_run.specs.Report.{answer_text, line, number_text};
 
 use super::answer::Answer;
 use std::io::Write;
-use vga_bits::{Fault, TextBuffer, Tracked, write_whole};
+use vga_bits::{Fault, TextBuffer, Tracked, hex_digit, write_whole};
 
 /// Room for the longest text that is put together here: a number of at most 20 digits, a blank, and four
 /// registers of 31 bytes.
@@ -15,30 +15,51 @@ const LINE_LEN: usize = 52;
 /// The line of a step, or its first piece.
 pub(crate) type Line = TextBuffer<LINE_LEN>;
 
-/// Puts the text of an answer at the line's end.
-#[tactic(auto, using(crate::proofs::ReportLemmas::name_is_short))]
-pub(crate) fn push_answer(line: &mut Line, answer: Answer)
-    requires { length line.old ≤ 21 }
-    ensures items { line.new ≡ line.old ++ answer_text answer }
-    ensures len { length line.new ≤ length line.old + 15 }
+/// Puts the text of an answer and a newline behind the first `front` bytes of a line, in the place of the others: at
+/// once where it has two digits or letters, as most have.
+#[tactic(auto, using(crate::proofs::ReportLemmas::name_is_short, vga_bits::proofs::HexLemmas::hex_of_byte))]
+#[inline(always)]
+pub(crate) fn put_answer(line: &mut Line, front: usize, answer: Answer)
+    requires within { front ≤ length line.old }
+    requires short { front ≤ 21 }
+    ensures { line.new ≡ take front line.old ++ (answer_text answer ++ codes "\n") }
 {
     match answer {
-        Answer::Done => line.push(b"ok"),
-        Answer::Byte(value) => line.push_hex_byte(value),
-        Answer::Word(value) => line.push_hex_word(value),
-        Answer::Refused(refusal) => line.push(refusal.name().as_bytes()),
+        Answer::Done => line.replace_end(front, b"ok\n"),
+        Answer::Byte(value) => line.replace_end(
+            front,
+            &[hex_digit(value / 16), hex_digit(value % 16), b'\n'],
+        ),
+        Answer::Word(value) => {
+            line.truncate(front);
+            line.push_hex_word(value);
+            line.push(b"\n");
+        }
+        Answer::Refused(refusal) => {
+            line.replace_end(front, refusal.name().as_bytes());
+            line.push(b"\n");
+        }
     }
 }
 
-/// The number of a step, and a blank.
+/// Puts the number of a step, and a blank, in the place of a line's text.
 #[tactic(auto, unfolding(crate::specs::Report::number_text))]
+pub(crate) fn put_number(line: &mut Line, n: usize)
+    ensures items { line.new ≡ number_text n }
+    ensures len { length line.new ≤ 21 }
+{
+    line.truncate(0);
+    line.push_decimal_size(n);
+    line.push(b" ");
+}
+
+/// The number of a step, and a blank.
 pub(crate) fn numbered(n: usize) -> Line
     ensures items { result ≡ number_text n }
     ensures len { length result ≤ 21 }
 {
     let mut line = Line::new();
-    line.push_decimal_size(n);
-    line.push(b" ");
+    put_number(&mut line, n);
     line
 }
 
@@ -54,7 +75,7 @@ pub(crate) fn write_line<W: Write>(
         (has_failed out.new) result (line n (Plain answer)) }
 {
     let mut line = numbered(n);
-    push_answer(&mut line, answer);
-    line.push(b"\n");
+    let front = line.len();
+    put_answer(&mut line, front, answer);
     write_whole(out, line.as_slice())
 }

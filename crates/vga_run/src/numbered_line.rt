@@ -5,7 +5,7 @@ ghost use Rattle.vga_run.specs.Answer.{Plain};
 ghost use Rattle.vga_run.specs.Report.{line as line_of};
 
 use super::answer::Answer;
-use super::line::{Line, numbered, push_answer};
+use super::line::{Line, numbered, put_answer, put_number};
 use std::io::Write;
 use std::marker::Model;
 use vga_bits::{Fault, Tracked, write_whole};
@@ -55,7 +55,7 @@ impl NumberedLine {
     }
 
     /// Goes on to the next step. Only where the last digit is 9 are the others printed anew.
-    #[tactic(auto, using(crate::proofs::NumberLemmas::front_is_long, crate::proofs::NumberLemmas::front_is_short, crate::proofs::NumberLemmas::number_counted))]
+    #[tactic(auto, using(crate::proofs::NumberLemmas::front_is_long, crate::proofs::NumberLemmas::front_is_within, crate::proofs::NumberLemmas::number_counted))]
     pub(crate) fn count_up(&mut self)
         requires { self.old + 1 < 2 ^ 64 }
         ensures { self.new ≡ self.old + 1 }
@@ -63,16 +63,15 @@ impl NumberedLine {
         let digit = (self.number % 10) as u8;
         self.number += 1;
         if digit < 9 {
-            self.line.truncate(self.front - 2);
-            self.line.push(&[b'1' + digit, b' ']);
+            self.line.set(self.front - 2, b'1' + digit);
         } else {
-            self.line = numbered(self.number);
+            put_number(&mut self.line, self.number);
             self.front = self.line.len();
         }
     }
 
     /// Writes the line with this answer.
-    #[tactic(auto, unfolding(crate::specs::Report::line, crate::specs::Report::number_text), using(std::proofs::lemmas::List::append_assoc, crate::proofs::NumberLemmas::front_is_short, crate::proofs::NumberLemmas::number_behind))]
+    #[tactic(auto, unfolding(crate::specs::Report::line, crate::specs::Report::number_text), using(std::proofs::lemmas::List::append_assoc, crate::proofs::NumberLemmas::front_is_short, crate::proofs::NumberLemmas::front_is_within, crate::proofs::NumberLemmas::number_behind))]
     pub(crate) fn write<W: Write>(
         &mut self,
         out: &mut Tracked<W>,
@@ -83,9 +82,7 @@ impl NumberedLine {
             (has_failed out.new) result (line_of self.old (Plain answer)) }
         ensures number { self.new ≡ self.old }
     {
-        self.line.truncate(self.front);
-        push_answer(&mut self.line, answer);
-        self.line.push(b"\n");
+        put_answer(&mut self.line, self.front, answer);
         write_whole(out, self.line.as_slice())
     }
 }
