@@ -23,6 +23,7 @@ use Rattle.bios_modes.specs.Bounds.{IsBda, AreBytes}
 use Rattle.bios_modes.specs.Fonts.{FontSet, font_len, fonts_of}
 use Rattle.bios_services.specs.declared.regs.Regs.{Regs}
 use Rattle.bios_services.specs.declared.reply.Reply.{Reply}
+use Rattle.bios_services.specs.declared.tables.TableService.{TableService}
 use Rattle.bios_services.specs.declared.call.Call.{Call}
 use Rattle.bios_services.specs.declared.call.Call.TheVariants.{SetMode, ReadTable, InMode}
 use Rattle.bios_services.specs.declared.call.Service.{Service}
@@ -33,7 +34,7 @@ use Rattle.bios_services.specs.Service.{Answered, service}
 use Rattle.bios_screen.specs.Screen.{Screen}
 use Rattle.bios_screen.specs.Shown.{shown, shown_by, shows_text, text_screen}
 use Rattle.bios_screen.specs.Served.{SetsFresh, after_call}
-use Rattle.bios_screen.specs.Called.{AreWords, IsCalled}
+use Rattle.bios_screen.specs.Called.{AreWords, IsCalled, IsRead}
 use Rattle.bios_screen.specs.Framed.{IsFramed}
 use Rattle.bios_screen.specs.Fresh.{fresh_screen}
 use Rattle.bios_screen.specs.Picture.{picture_width, picture_height}
@@ -58,6 +59,8 @@ pub record Laws : Type 0 where
   pub bda : (fonts : FontSet) (d : BiosData) (r : Regs) (block : List ℕ) (c : CardState) → r.dx < 65536 → AreData d → AreData (run card_meaning (service fonts d r block) c).1.1
   pub served : (asked_for : Service) (fonts : FontSet) (r : Regs) (block : List ℕ) (c : CardState) (d : BiosData) (s : Screen)
       → IsCard c → IsBda d → AreWords r → AreBytes block → shown c d ≡ Some s → call_of r ≡ Some (InMode asked_for) → IsCalled asked_for fonts r block c d s
+  pub table : (asked_for : TableService) (fonts : FontSet) (r : Regs) (block : List ℕ) (c : CardState) (d : BiosData) (s : Screen)
+      → IsCard c → shown c d ≡ Some s → call_of r ≡ Some (ReadTable asked_for) → IsRead asked_for fonts r block c d s
   pub unknown : (fonts : FontSet) (r : Regs) (block : List ℕ) (c : CardState) (d : BiosData) (s : Screen) → shown c d ≡ Some s → call_of r ≡ None → after_call fonts r block c d ≡ (c, (Err BadFunction, d))
   pub no_mode : (mode : ℕ) (keeps : Bool) (fonts : FontSet) (r : Regs) (block : List ℕ) (c : CardState) (d : BiosData)
       → call_of r ≡ Some (SetMode mode keeps) → mode_row mode ≡ None → after_call fonts r block c d ≡ (c, (Err BadMode, d))
@@ -156,7 +159,9 @@ call_leads law (Some (SetMode mode keeps)) fonts r block m s e (inl clears) word
 call_leads law (Some (SetMode mode keeps)) fonts r block m s e (inr none) words bytes glyphs is =
     let left = refused_leads _ BadMode m.card m.bda s (law.no_mode mode keeps fonts r block m.card m.bda e none) is.shows in
     subst (λ (row : Option ModeRow). CallLeads (after_call fonts r block m.card m.bda) (set_on row mode fonts r s) m.card) (sym none) left
-call_leads law (Some (ReadTable asked_for)) fonts r block m s e stays words bytes glyphs is = absurd stays
+call_leads law (Some (ReadTable asked_for)) fonts r block m s e stays words bytes glyphs is =
+    let k = law.table asked_for fonts r block m.card m.bda s is.card is.shows e in
+    record { reply = k.reply; shows = k.shows; beam = k.beam }
 call_leads law (Some (InMode asked_for)) fonts r block m s e stays words bytes glyphs is =
     let k = law.served asked_for fonts r block m.card m.bda s is.card is.bda.words words bytes is.shows e in
     record { reply = k.reply; shows = k.shows; beam = k.beam }

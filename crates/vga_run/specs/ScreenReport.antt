@@ -18,9 +18,11 @@ use Rattle.bios_services.specs.declared.call.Call.{Call}
 use Rattle.bios_services.specs.declared.call.Call.TheVariants.{SetMode, ReadTable, InMode}
 use Rattle.bios_services.specs.ModeSet.{is_text}
 use Rattle.bios_services.specs.Calls.{call_of}
+use Rattle.bios_services.specs.Tables.{table_refusal}
 use Rattle.bios_screen.specs.Screen.{Screen}
 use Rattle.bios_screen.specs.Step.{refused_on, next, answer_on}
-use Rattle.bios_screen.specs.Called.{reply_unless, screen_unless}
+use Rattle.bios_screen.specs.Colours.{table_read}
+use Rattle.bios_screen.specs.Called.{reply_unless, screen_unless, table_unless}
 use Rattle.bios_screen.specs.Fresh.{fresh_screen}
 use Rattle.bios_screen.specs.Picture.{dot_at, picture_width, picture_height, next_frame}
 use Rattle.bios_screen.specs.Raster.{picture_bytes}
@@ -44,7 +46,6 @@ Clears call = ⊥
 -- a call that leads from screen to screen: it sets no mode, or clears, or there is no such mode
 abbrev pub StaysOnScreens : Option Call → Type 0
 StaysOnScreens (Some (SetMode mode keeps)) = Clears (Some (SetMode mode keeps)) ⊎ (mode_row mode ≡ None)
-StaysOnScreens (Some (ReadTable service)) = ⊥
 StaysOnScreens call = Unit {0}
 
 -- the registers of a call
@@ -73,7 +74,7 @@ set_on (Some row) mode fonts r s = (fresh_screen mode row fonts.f16 s.frame, Ok 
 abbrev pub called_on : Option Call → FontSet → Regs → List ℕ → Screen → Screen × Result ServiceReply Refusal
 called_on None fonts r block s = (s, Err BadFunction)
 called_on (Some (SetMode mode keeps)) fonts r block s = set_on (mode_row mode) mode fonts r s
-called_on (Some (ReadTable service)) fonts r block s = (s, Err BadFunction)
+called_on (Some (ReadTable service)) fonts r block s = (s, table_unless (table_refusal service) (table_read s service) r)
 called_on (Some (InMode service)) fonts r block s =
     let why = refused_on s service (length block) in (screen_unless why s (next s service block), reply_unless why (answer_on s service r))
 

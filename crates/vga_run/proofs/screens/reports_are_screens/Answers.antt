@@ -9,6 +9,7 @@ returns c = reports_screens (record {
   card = c.calls_keep_bounds.ensures.card;
   bda = c.calls_keep_bounds.ensures.bda;
   served = c.calls_lead_to_screens.ensures.served;
+  table = c.calls_lead_to_screens.ensures.table;
   unknown = c.calls_lead_to_screens.ensures.unknown;
   no_mode = c.calls_lead_to_screens.ensures.mode;
   colour = c.mode_set_is_fresh.ensures.colour;
