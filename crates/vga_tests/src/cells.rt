@@ -3,7 +3,7 @@ ghost use Rattle.std.specs.Prelude.{◌≡◌, false};
 ghost use Rattle.vga_bits.specs.Tracked.{has_failed};
 
 use crate::checks::Checks;
-use crate::sink::Sink;
+use crate::sink::{FULL, Full, Sink};
 use anyhow::Result;
 use bios_modes::{Bda, mode_row};
 use std::alloc::Global;
@@ -12,8 +12,14 @@ use vga_bits::{Fault, Refusal, Tracked};
 use vga_card::Card;
 use vga_show::dump_cells;
 
-/// Rooms that end within the text of a page, at its lines' ends and next to them.
-const ROOMS: [usize; 6] = [0, 1, 407, 408, 409, 10_199];
+/// How many bytes a line has.
+const LINE_LEN: usize = 408;
+
+/// How many bytes the text of a page has.
+const TEXT_LEN: usize = 25 * LINE_LEN;
+
+/// The rooms that end in the first two lines of a page, and those that end in the last.
+const ROOMS: [(usize, usize); 2] = [(0, 2 * LINE_LEN), (TEXT_LEN - LINE_LEN, TEXT_LEN)];
 
 /// BIOS data of a mode, or those before one is set.
 fn data_of(mode: u8) -> Bda {
@@ -53,13 +59,37 @@ fn text_of(alloc: Global, card: &Card) -> Result<Vec<u8>, Fault> {
     Ok(out.into_inner())
 }
 
-/// Whether a writer with room for so many bytes, and no more, answers so and then has a front of the text.
-fn takes(alloc: Global, card: &Card, text: &[u8], room: usize, answer: Result<(), Fault>) -> bool {
+/// Whether a writer with room for so many bytes, that then refuses so, answers so and has a front of the text.
+fn takes(
+    alloc: Global,
+    card: &Card,
+    text: &[u8],
+    room: usize,
+    full: Full,
+    answer: Result<(), Fault>,
+) -> bool {
     let (front, _) = text.split_at(room.min(text.len()));
-    let mut out = Sink::new(alloc, room);
+    let mut out = Sink::new(alloc, room, full);
     write_cells(&mut out, card) == answer
         && out.failed() == answer.is_err()
         && out.into_inner().taken() == front
+}
+
+/// Whether each writer with room for so many bytes or more, but less than those, that then refuses so, fails and has a
+/// front of the text.
+fn are_fronts_taken(
+    alloc: Global,
+    card: &Card,
+    text: &[u8],
+    (least, end): (usize, usize),
+    full: Full,
+) -> bool {
+    for room in least..end {
+        if !takes(alloc, card, text, room, full, Err(Fault::WriteFault)) {
+            return false;
+        }
+    }
+    true
 }
 
 /// Checks how the dump of cells is refused and written.
@@ -73,13 +103,18 @@ pub fn check_cells(alloc: Global) -> Result<Checks> {
     );
     let text = text_of(alloc, &card)?;
     let text = text.as_slice();
-    checks.note("25 lines of 408 bytes", text.len() == 25 * 408);
-    checks.note("whole cells", takes(alloc, &card, text, text.len(), Ok(())));
-    for room in ROOMS {
+    checks.note("25 lines of 408 bytes", text.len() == TEXT_LEN);
+    for full in FULL {
         checks.note(
-            "a front of the cells",
-            takes(alloc, &card, text, room, Err(Fault::WriteFault)),
+            "whole cells",
+            takes(alloc, &card, text, text.len(), full, Ok(())),
         );
+        for rooms in ROOMS {
+            checks.note(
+                "a front of the cells",
+                are_fronts_taken(alloc, &card, text, rooms, full),
+            );
+        }
     }
     Ok(checks)
 }

@@ -3,7 +3,7 @@ ghost use Rattle.std.specs.Prelude.{◌≡◌, false};
 ghost use Rattle.vga_bits.specs.Tracked.{has_failed};
 
 use crate::checks::Checks;
-use crate::sink::Sink;
+use crate::sink::{FULL, Full, Sink};
 use anyhow::Result;
 use bios_modes::Bda;
 use std::alloc::Global;
@@ -53,18 +53,26 @@ fn text_of(alloc: Global, dump: Dump, card: &Card) -> Result<Vec<u8>, Fault> {
     Ok(out.into_inner())
 }
 
-/// Whether a writer with room for so many bytes, and no more, answers so and then has these.
-fn takes(alloc: Global, dump: Dump, card: &Card, taken: &[u8], answer: Result<(), Fault>) -> bool {
-    let mut out = Sink::new(alloc, taken.len());
+/// Whether a writer with room for so many bytes, that then refuses so, answers so and has these.
+fn takes(
+    alloc: Global,
+    dump: Dump,
+    card: &Card,
+    taken: &[u8],
+    full: Full,
+    answer: Result<(), Fault>,
+) -> bool {
+    let mut out = Sink::new(alloc, taken.len(), full);
     write_dump(dump, &mut out, card) == answer
         && out.failed() == answer.is_err()
         && out.into_inner().taken() == taken
 }
 
-/// Whether each writer that has too little room for a dump fails, and has a front of its text.
-fn are_fronts_taken(alloc: Global, dump: Dump, card: &Card, text: &[u8]) -> bool {
+/// Whether each writer that has too little room for a dump, and then refuses so, fails and has a front of its text.
+fn are_fronts_taken(alloc: Global, dump: Dump, card: &Card, text: &[u8], full: Full) -> bool {
+    let fault = Err(Fault::WriteFault);
     for room in 0..text.len() {
-        if !takes(alloc, dump, card, &text[..room], Err(Fault::WriteFault)) {
+        if !takes(alloc, dump, card, &text[..room], full, fault) {
             return false;
         }
     }
@@ -78,11 +86,16 @@ pub fn check_dumps(alloc: Global) -> Result<Checks> {
     for dump in DUMPS {
         let text = text_of(alloc, dump, &card)?;
         let text = text.as_slice();
-        checks.note("a whole dump", takes(alloc, dump, &card, text, Ok(())));
-        checks.note(
-            "a front of a dump",
-            are_fronts_taken(alloc, dump, &card, text),
-        );
+        for full in FULL {
+            checks.note(
+                "a whole dump",
+                takes(alloc, dump, &card, text, full, Ok(())),
+            );
+            checks.note(
+                "a front of a dump",
+                are_fronts_taken(alloc, dump, &card, text, full),
+            );
+        }
     }
     Ok(checks)
 }

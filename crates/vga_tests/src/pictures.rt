@@ -1,7 +1,7 @@
 //! Pictures on writers that take one byte a call, and that fail, and the sizes of pictures.
 
 use crate::checks::Checks;
-use crate::sink::Sink;
+use crate::sink::{FULL, Full, Sink};
 use std::alloc::Global;
 use vga_bits::{Fault, Tracked};
 use vga_show::write_ppm;
@@ -26,18 +26,19 @@ fn is_size_written(alloc: Global, width: u32, height: u32, wanted: &[u8]) -> boo
     write_ppm(&mut out, width, height, b"").is_ok() && out.into_inner().as_slice() == wanted
 }
 
-/// Whether a writer with room for so many bytes, and no more, answers so and then has these.
-fn takes(alloc: Global, taken: &[u8], answer: Result<(), Fault>) -> bool {
-    let mut out = Sink::new(alloc, taken.len());
+/// Whether a writer with room for so many bytes, that then refuses so, answers so and has these.
+fn takes(alloc: Global, taken: &[u8], full: Full, answer: Result<(), Fault>) -> bool {
+    let mut out = Sink::new(alloc, taken.len(), full);
     write_ppm(&mut out, 2, 1, &TWO_DOTS) == answer
         && out.failed() == answer.is_err()
         && out.into_inner().taken() == taken
 }
 
-/// Whether each writer that has too little room for a picture fails, and has a front of it.
-fn are_fronts_taken(alloc: Global) -> bool {
+/// Whether each writer that has too little room for a picture, and then refuses so, fails and has a front of it.
+fn are_fronts_taken(alloc: Global, full: Full) -> bool {
+    let fault = Err(Fault::WriteFault);
     for room in 0..TWO_DOTS_PPM.len() {
-        if !takes(alloc, &TWO_DOTS_PPM[..room], Err(Fault::WriteFault)) {
+        if !takes(alloc, &TWO_DOTS_PPM[..room], full, fault) {
             return false;
         }
     }
@@ -50,7 +51,9 @@ pub fn check_pictures(alloc: Global) -> Checks {
     for (width, height, wanted) in SIZES {
         checks.note("a size", is_size_written(alloc, width, height, wanted));
     }
-    checks.note("a whole picture", takes(alloc, &TWO_DOTS_PPM, Ok(())));
-    checks.note("a front of a picture", are_fronts_taken(alloc));
+    for full in FULL {
+        checks.note("a whole picture", takes(alloc, &TWO_DOTS_PPM, full, Ok(())));
+        checks.note("a front of a picture", are_fronts_taken(alloc, full));
+    }
     checks
 }

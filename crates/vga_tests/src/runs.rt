@@ -2,10 +2,11 @@
 //! call.
 
 use crate::checks::Checks;
-use crate::sink::Sink;
+use crate::sink::{FULL, Full, Sink};
 use crate::source::{Endless, Source};
 use anyhow::Result;
 use std::alloc::Global;
+use std::io::ErrorKind;
 use vga_bits::{Fault, Tracked};
 use vga_run::{run, run_bytes, run_script};
 use vga_script::assemble;
@@ -33,11 +34,13 @@ const FIRST_TEXT: &[u8] =
     b"out 3C2 2\nout 3C4 4\nout 3C5 6\nout 3C4 2\nout 3C5 1\nout 3CE 8\nout 3CF FF\n\
     put A0000 55\nget A0000";
 
-/// Fronts of a script, and how many bytes of them a call reads.
-const FRONTS: [(&[u8], usize); 4] = [(b"", 1), (b"V", 1), (b"VGAS\x01", 2), (&FIRST_PATH, 7)];
-
-/// Room for nothing, a part of a line, whole lines, and all but the last byte.
-const ROOMS: [usize; 8] = [0, 1, 4, 5, 6, 23, 40, FIRST_REPORT.len() - 1];
+/// How readers fail: after calls of so many bytes, with an error that others may try to read behind, or not.
+const READERS: [(usize, ErrorKind); 4] = [
+    (1, ErrorKind::Other),
+    (1, ErrorKind::Interrupted),
+    (7, ErrorKind::Other),
+    (7, ErrorKind::Interrupted),
+];
 
 /// Whether bytes at hand answer so over these fonts, and what is then written.
 fn is_bytes_run(
@@ -94,8 +97,8 @@ fn check_at_hand(alloc: Global, fonts: &[u8], checks: &mut Checks) -> Result<()>
 
 /// Whether fonts of another size are refused before anything is read or written.
 fn is_font_size_first(alloc: Global, fonts: &[u8]) -> bool {
-    let mut reader = Tracked::new(Source::of(b"VGAX", 4));
-    let mut out = Sink::new(alloc, 100);
+    let mut reader = Tracked::new(Source::of(b"VGAX", 4, ErrorKind::Other));
+    let mut out = Sink::new(alloc, 100, Full::Fails);
     let answer = run(alloc, &mut reader, fonts, &mut out, None);
     answer == Err(Fault::FontSize)
         && !reader.failed()
@@ -104,10 +107,16 @@ fn is_font_size_first(alloc: Global, fonts: &[u8]) -> bool {
         && out.into_inner().calls() == 0
 }
 
-/// Whether a reader that fails behind these bytes, so many a call, leaves the writer.
-fn is_writer_left(alloc: Global, fonts: &[u8], front: &[u8], piece: usize) -> bool {
-    let mut reader = Tracked::new(Source::of(front, piece));
-    let mut out = Sink::new(alloc, 100);
+/// Whether a reader that fails so behind these bytes, so many a call, leaves the writer.
+fn is_writer_left(
+    alloc: Global,
+    fonts: &[u8],
+    front: &[u8],
+    piece: usize,
+    kind: ErrorKind,
+) -> bool {
+    let mut reader = Tracked::new(Source::of(front, piece, kind));
+    let mut out = Sink::new(alloc, 100, Full::Fails);
     let answer = run(alloc, &mut reader, fonts, &mut out, None);
     answer == Err(Fault::ReadFault)
         && reader.failed()
@@ -115,28 +124,39 @@ fn is_writer_left(alloc: Global, fonts: &[u8], front: &[u8], piece: usize) -> bo
         && out.into_inner().calls() == 0
 }
 
+/// Whether each reader that fails so before or behind a byte of a script, so many a call, leaves the writer.
+fn are_writers_left(alloc: Global, fonts: &[u8], piece: usize, kind: ErrorKind) -> bool {
+    for len in 0..FIRST_PATH.len() + 1 {
+        if !is_writer_left(alloc, fonts, &FIRST_PATH[..len], piece, kind) {
+            return false;
+        }
+    }
+    true
+}
+
 /// Whether of a reader with no end one byte more is read than the longest script has.
 fn is_endless_too_long(alloc: Global, fonts: &[u8]) -> bool {
     let mut reader = Tracked::new(Endless::new());
-    let mut out = Sink::new(alloc, 100);
+    let mut out = Sink::new(alloc, 100, Full::Fails);
     let answer = run(alloc, &mut reader, fonts, &mut out, None);
     answer == Err(Fault::TooLong)
         && reader.into_inner().given() == 16_777_217
         && out.into_inner().calls() == 0
 }
 
-/// Whether a run into a writer with room for so many bytes, a byte a call, answers so; and whether the writer then
-/// has taken these, and was flushed so often.
+/// Whether a run into a writer with room for so many bytes, a byte a call, that then refuses so, answers so; and
+/// whether the writer then has taken these, and was flushed so often.
 fn takes(
     alloc: Global,
     fonts: &[u8],
     room: usize,
+    full: Full,
     answer: Result<(), Fault>,
     taken: &[u8],
     flushes: usize,
 ) -> bool {
     let mut reader = Tracked::new(FIRST_PATH.as_slice());
-    let mut out = Sink::new(alloc, room);
+    let mut out = Sink::new(alloc, room, full);
     let answered = run(alloc, &mut reader, fonts, &mut out, None);
     let failed = out.failed();
     let sink = out.into_inner();
@@ -155,34 +175,41 @@ fn check_readers(alloc: Global, fonts: &[u8], checks: &mut Checks) -> Result<()>
             is_font_size_first(alloc, other.as_slice()),
         );
     }
-    for (front, piece) in FRONTS {
+    for (piece, kind) in READERS {
         checks.note(
             "a reader that fails",
-            is_writer_left(alloc, fonts, front, piece),
+            are_writers_left(alloc, fonts, piece, kind),
         );
     }
     checks.note("a reader with no end", is_endless_too_long(alloc, fonts));
     Ok(())
 }
 
+/// Whether each writer that has too little room for the report, and then refuses so, fails and has a front of it.
+fn are_fronts_taken(alloc: Global, fonts: &[u8], full: Full) -> bool {
+    let fault = Err(Fault::WriteFault);
+    for room in 0..FIRST_REPORT.len() {
+        if !takes(alloc, fonts, room, full, fault, &FIRST_REPORT[..room], 0) {
+            return false;
+        }
+    }
+    true
+}
+
 /// Checks writers that take a byte a call, and that fail.
 fn check_writers(alloc: Global, fonts: &[u8], checks: &mut Checks) {
     let len = FIRST_REPORT.len();
     let fault = Err(Fault::WriteFault);
-    checks.note(
-        "a byte a call",
-        takes(alloc, fonts, len + 1, Ok(()), &FIRST_REPORT, 1),
-    );
-    checks.note(
-        "a flush that fails",
-        takes(alloc, fonts, len, fault, &FIRST_REPORT, 1),
-    );
-    for room in ROOMS {
-        let front = &FIRST_REPORT[..room];
+    for full in FULL {
         checks.note(
-            "a writer that fails",
-            takes(alloc, fonts, room, fault, front, 0),
+            "a byte a call",
+            takes(alloc, fonts, len + 1, full, Ok(()), &FIRST_REPORT, 1),
         );
+        checks.note(
+            "a flush that fails",
+            takes(alloc, fonts, len, full, fault, &FIRST_REPORT, 1),
+        );
+        checks.note("a writer that fails", are_fronts_taken(alloc, fonts, full));
     }
 }
 

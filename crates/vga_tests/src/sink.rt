@@ -1,5 +1,5 @@
-//! A writer that takes one byte a call, and fails once it is full.
-ghost use Rattle.std.specs.Prelude.{◌≡◌, false};
+//! A writer that takes one byte a call, and refuses the others once it is full.
+ghost use Rattle.std.specs.Prelude.{◌≡◌, false, IfOk};
 ghost use Rattle.vga_bits.specs.Tracked.{has_failed};
 
 use std::alloc::Global;
@@ -7,22 +7,36 @@ use std::io;
 use std::io::Write;
 use vga_bits::Tracked;
 
-/// A writer that takes one byte a call, so many in all, and then nothing more. It flushes until it is full.
+/// How a writer that is full refuses bytes.
+#[derive(Clone, Copy)]
+pub enum Full {
+    /// It takes none of them.
+    TakesNone,
+    /// It answers an error.
+    Fails,
+}
+
+/// Each way of refusing.
+pub const FULL: [Full; 2] = [Full::TakesNone, Full::Fails];
+
+/// A writer that takes one byte a call, so many in all, and then refuses each other. It flushes until it is full.
 #[derive(Drop)]
 pub struct Sink {
     room: usize,
+    full: Full,
     taken: Vec<u8>,
     calls: usize,
     flushes: usize,
 }
 
 impl Sink {
-    /// One with room for so many bytes.
-    pub fn new(alloc: Global, room: usize) -> Tracked<Sink>
+    /// One with room for so many bytes, that then refuses so.
+    pub fn new(alloc: Global, room: usize, full: Full) -> Tracked<Sink>
         ensures { has_failed result ≡ false }
     {
         Tracked::new(Sink {
             room,
+            full,
             taken: Vec::new(alloc),
             calls: 0,
             flushes: 0,
@@ -43,16 +57,29 @@ impl Sink {
     pub fn flushes(&self) -> usize {
         self.flushes
     }
+
+    /// What it answers where it is full.
+    fn refuse(&self) -> io::Result<usize>
+        ensures { IfOk result (λ n. n ≡ 0) }
+    {
+        match self.full {
+            Full::TakesNone => Ok(0),
+            Full::Fails => Err(io::Error::from(io::ErrorKind::StorageFull)),
+        }
+    }
 }
 
 impl Write for Sink {
     fn write(&mut self, buf: &[u8]) -> io::Result<usize> {
         self.calls = self.calls.saturating_add(1);
-        if self.room == 0 || buf.is_empty() {
+        let Some(first) = buf.first() else {
             return Ok(0);
+        };
+        if self.room == 0 {
+            return self.refuse();
         }
         self.room -= 1;
-        self.taken.push(buf[0])?;
+        self.taken.push(*first)?;
         Ok(1)
     }
 

@@ -3,20 +3,22 @@
 use std::io;
 use std::io::Read;
 
-/// A reader that gives these bytes, so many a call, and then fails.
+/// A reader that gives these bytes, so many a call, and then fails with an error of this kind.
 #[derive(Drop)]
 pub struct Source<'a> {
     bytes: &'a [u8],
     piece: usize,
+    kind: io::ErrorKind,
     calls: usize,
 }
 
 impl Source<'_> {
-    /// One of these bytes, so many a call.
-    pub fn of(bytes: &[u8], piece: usize) -> Source<'_> {
+    /// One of these bytes, so many a call, and of this kind of error.
+    pub fn of(bytes: &[u8], piece: usize, kind: io::ErrorKind) -> Source<'_> {
         Source {
             bytes,
             piece,
+            kind,
             calls: 0,
         }
     }
@@ -31,7 +33,7 @@ impl Read for Source<'_> {
     fn read(&mut self, buf: &mut [u8]) -> io::Result<usize> {
         self.calls = self.calls.saturating_add(1);
         if self.bytes.is_empty() {
-            return Err(io::Error::from(io::ErrorKind::Other));
+            return Err(io::Error::from(self.kind));
         }
         let n = self.piece.min(self.bytes.len()).min(buf.len());
         let (front, rest) = self.bytes.split_at(n);
