@@ -2,6 +2,9 @@
 //! and colours; checks scripts, dumps, pictures and runs where no script of the suite can, as with writers
 //! that fail; and prints how each comparison and each group of checks ended. The exit status is 1 where
 //! any model differs or any check fails.
+//!
+//! With the words `memory N` it does nothing of this: it makes N growths, and then prints how each call ends that takes
+//! memory. So whoever refuses a growth by its number chooses the call that meets it.
 #![tactic(auto)]
 
 mod cells;
@@ -9,6 +12,7 @@ mod checks;
 mod dots;
 mod dumps;
 mod host_path;
+mod memory;
 mod names;
 mod pictures;
 mod plain_dots;
@@ -16,6 +20,7 @@ mod plain_host;
 mod random_registers;
 mod registers;
 mod runs;
+mod screens;
 mod script_bytes;
 mod script_texts;
 mod scripted;
@@ -29,14 +34,19 @@ use checks::Checks;
 use dots::compare_dots;
 use dumps::check_dumps;
 use host_path::compare_host_path;
+use memory::{CALLS, check_memory};
 use names::check_names;
 use pictures::check_pictures;
 use random_registers::DotSource;
 use registers::check_registers;
 use runs::check_runs;
+use screens::check_screens;
 use script_bytes::check_script_bytes;
 use script_texts::check_script_texts;
+use std::alloc::Global;
+use std::env;
 use std::process::ExitCode;
+use std::rt::Env;
 use tracking::check_tracking;
 use vga_bits::Tally;
 
@@ -84,10 +94,43 @@ fn check_crates<R: Print + AllocGlobal>(rt: &R, tally: &mut Tally) -> Result<()>
     tell(rt, tally, "dumps", check_dumps(alloc)?)?;
     tell(rt, tally, "cells", check_cells(alloc)?)?;
     tell(rt, tally, "pictures", check_pictures(alloc))?;
-    tell(rt, tally, "runs", check_runs(alloc)?)
+    tell(rt, tally, "runs", check_runs(alloc)?)?;
+    tell(rt, tally, "screens", check_screens(alloc)?)?;
+    tell(rt, tally, "memory", check_memory(alloc))
+}
+
+/// Makes so many growths, one after the other.
+fn grow(alloc: Global, growths: u32) -> Result<()> {
+    for _ in 0..growths {
+        let _ = Box::new(alloc, 0u8)?;
+    }
+    Ok(())
+}
+
+/// Prints how each call ends that takes memory, behind so many growths.
+fn tell_endings<R: Print + AllocGlobal>(rt: &R, growths: u32) -> Result<()> {
+    let alloc = rt.alloc();
+    grow(alloc, growths)?;
+    for call in CALLS {
+        println!(rt; "{call}: {}", call.ending(alloc))?;
+    }
+    Ok(())
+}
+
+/// How many growths the words ask for before the calls that take memory, where they ask for these calls.
+fn growths_wanted<R: Env + AllocGlobal>(rt: &R) -> Result<Option<u32>> {
+    let words: Vec<String> = env::args(rt)?.collect(rt.alloc())?;
+    match words.as_slice() {
+        [_, word, growths] if word.as_str() == "memory" => Ok(Some(growths.parse()?)),
+        _ => Ok(None),
+    }
 }
 
 fn main(rt: HostRuntime) -> Result<ExitCode> {
+    if let Some(growths) = growths_wanted(&rt)? {
+        tell_endings(&rt, growths)?;
+        return Ok(ExitCode::from(0));
+    }
     let mut tally = Tally::new();
     compare_models(&rt, &mut tally)?;
     check_crates(&rt, &mut tally)?;

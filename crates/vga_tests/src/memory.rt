@@ -1,0 +1,225 @@
+//! Each call that takes memory, on an example of its own. Where a growth is refused, the call that asked for it says
+//! so, and each other answers as in its example.
+
+use crate::checks::Checks;
+use crate::screens::{FONTS_LEN, is_scrolled, screen_behind_calls};
+use bios_modes::Fonts;
+use std::alloc::Global;
+use std::fmt;
+use vga_bits::{Bytes, Fault, Tracked};
+use vga_card::Card;
+use vga_planes::Planes;
+use vga_run::run;
+use vga_script::{Step, assemble, decode, encode, print};
+
+/// A text of two steps.
+const TEXT: &[u8] = b"out 3c4 2 ; map mask\nINT ax=13";
+
+/// Its bytes.
+const BYTES: [u8; 20] = *b"VGAS\x01\x01\xC4\x03\x02\x09\x13\x00\x00\x00\x00\x00\x00\x00\x00\x00";
+
+/// Its printed text.
+const PRINTED: &[u8] = b"out 3C4 02\nint ax=0013 bx=0000 cx=0000 dx=0000\n";
+
+/// A text whose step 7 asks for entries of the DAC as a block, which takes memory.
+const TABLE_TEXT: &[u8] =
+    b"int ax=0003\nint ax=1000 bx=3F07\nint ax=1007 bx=0007\nint ax=1012 bx=00FF cx=0002\n\
+    int ax=1012 cx=0001 block 010203\nint ax=1015\nint ax=1017 cx=0001\nint ax=1002 block 00\n";
+
+/// Its report.
+const TABLE_REPORT: [u8; 250] = *b"1 ax=0003 bx=0000 cx=0000 dx=0000\n\
+    2 ax=1000 bx=3F07 cx=0000 dx=0000\n\
+    3 ax=1007 bx=3F07 cx=0000 dx=0000\n\
+    4 E10 BadRegister\n\
+    5 ax=1012 bx=0000 cx=0001 dx=0000\n\
+    6 ax=1015 bx=0000 cx=0203 dx=0100\n\
+    7 ax=1017 bx=0000 cx=0001 dx=0000 block 010203\n\
+    8 E11 BadBlock\n";
+
+/// How many bytes of it are the lines before step 7.
+const LINES_BEFORE_TABLE: usize = 188;
+
+/// A call that takes memory.
+#[derive(Clone, Copy)]
+pub enum Call {
+    BytesCopy,
+    BytesZeros,
+    PlanesNew,
+    CardNew,
+    FontsFromBytes,
+    ScreenRead,
+    Decode,
+    Encode,
+    Assemble,
+    Print,
+    Run,
+}
+
+/// Each call.
+pub const CALLS: [Call; 11] = [
+    Call::BytesCopy,
+    Call::BytesZeros,
+    Call::PlanesNew,
+    Call::CardNew,
+    Call::FontsFromBytes,
+    Call::ScreenRead,
+    Call::Decode,
+    Call::Encode,
+    Call::Assemble,
+    Call::Print,
+    Call::Run,
+];
+
+/// How a call ended.
+#[derive(Clone, Copy)]
+pub enum Ending {
+    /// It answered as its example says.
+    AsInExample,
+    /// It answered want of memory, and nothing is written.
+    OutOfMemory,
+    /// It answered want of memory in a step that takes some, and the answers of the steps before it are written, whole.
+    OutOfMemoryInStep,
+    /// It answered something else.
+    Otherwise,
+}
+
+impl fmt::Display for Call {
+    fn fmt<W: fmt::Write>(&self, f: &mut fmt::Formatter<W>) -> fmt::Result {
+        f.write_str(match self {
+            Call::BytesCopy => "Bytes::copy",
+            Call::BytesZeros => "Bytes::zeros",
+            Call::PlanesNew => "Planes::new",
+            Call::CardNew => "Card::new",
+            Call::FontsFromBytes => "Fonts::from_bytes",
+            Call::ScreenRead => "Screen::read",
+            Call::Decode => "decode",
+            Call::Encode => "encode",
+            Call::Assemble => "assemble",
+            Call::Print => "print",
+            Call::Run => "run",
+        })
+    }
+}
+
+impl fmt::Display for Ending {
+    fn fmt<W: fmt::Write>(&self, f: &mut fmt::Formatter<W>) -> fmt::Result {
+        f.write_str(match self {
+            Ending::AsInExample => "as in its example",
+            Ending::OutOfMemory => "out of memory",
+            Ending::OutOfMemoryInStep => "out of memory in a step",
+            Ending::Otherwise => "otherwise",
+        })
+    }
+}
+
+/// Whether a font file of zero bytes has glyphs without a dot.
+fn are_fonts_read(alloc: Global) -> Result<bool, Fault> {
+    let file = Bytes::zeros(alloc, FONTS_LEN)?;
+    let fonts = Fonts::from_bytes(alloc, file.as_slice())?;
+    Ok(fonts.f16().byte(255, 15) == 0)
+}
+
+/// Whether these are the steps of the first text.
+fn are_its_steps(steps: &[Step]) -> bool {
+    matches!(
+        steps,
+        [
+            Step::Out {
+                port: 0x3C4,
+                value: 0x02
+            },
+            Step::Int { ax: 0x0013, .. }
+        ]
+    )
+}
+
+/// Whether the bytes of a script are those that were decoded.
+fn are_bytes_encoded(alloc: Global) -> Result<bool, Fault> {
+    let script = decode(alloc, &BYTES)?;
+    Ok(encode(alloc, &script)?.as_slice() == BYTES.as_slice())
+}
+
+/// Whether a script is printed.
+fn is_script_printed(alloc: Global) -> Result<bool, Fault> {
+    let script = decode(alloc, &BYTES)?;
+    Ok(print(alloc, &script)?.as_slice() == PRINTED)
+}
+
+/// The bytes of the script whose step 7 takes memory.
+fn table_script(alloc: Global) -> Result<Vec<u8>, Fault> {
+    let script = assemble(alloc, TABLE_TEXT)?;
+    encode(alloc, &script)
+}
+
+/// How a run of that script ends, into a writer that has room for its report.
+fn ending_of_run(alloc: Global) -> Result<Ending, Fault> {
+    let script = table_script(alloc)?;
+    let fonts = Bytes::zeros(alloc, FONTS_LEN)?;
+    let Ok(room) = Vec::with_capacity(alloc, TABLE_REPORT.len()) else {
+        return Err(Fault::OutOfMemory);
+    };
+    let mut reader = Tracked::new(script.as_slice());
+    let mut out = Tracked::new(room);
+    let answer = run(alloc, &mut reader, fonts.as_slice(), &mut out, None);
+    let report = out.into_inner();
+    let report = report.as_slice();
+    Ok(match answer {
+        Ok(()) if report == TABLE_REPORT.as_slice() => Ending::AsInExample,
+        Err(Fault::OutOfMemory) if report.is_empty() => Ending::OutOfMemory,
+        Err(Fault::OutOfMemory) if report == &TABLE_REPORT[..LINES_BEFORE_TABLE] => {
+            Ending::OutOfMemoryInStep
+        }
+        _ => Ending::Otherwise,
+    })
+}
+
+/// Whether the screen of the example is read.
+fn is_screen_read(alloc: Global) -> Result<bool, Fault> {
+    Ok(match &screen_behind_calls(alloc)? {
+        Some(screen) => is_scrolled(screen),
+        None => false,
+    })
+}
+
+impl Call {
+    /// How it ends, or its fault.
+    fn answer(self, alloc: Global) -> Result<Ending, Fault> {
+        let is_right = match self {
+            Call::BytesCopy => Bytes::copy(alloc, &BYTES)?.as_slice() == BYTES.as_slice(),
+            Call::BytesZeros => Bytes::zeros(alloc, 3)?.as_slice() == [0; 3].as_slice(),
+            Call::PlanesNew => Planes::new(alloc)?.byte(3, 0xFFFF) == 0,
+            Call::CardNew => Card::new(alloc)?.latches().byte(3) == 0,
+            Call::FontsFromBytes => are_fonts_read(alloc)?,
+            Call::ScreenRead => is_screen_read(alloc)?,
+            Call::Decode => are_its_steps(decode(alloc, &BYTES)?.list()),
+            Call::Encode => are_bytes_encoded(alloc)?,
+            Call::Assemble => are_its_steps(assemble(alloc, TEXT)?.list()),
+            Call::Print => is_script_printed(alloc)?,
+            Call::Run => return ending_of_run(alloc),
+        };
+        Ok(if is_right {
+            Ending::AsInExample
+        } else {
+            Ending::Otherwise
+        })
+    }
+
+    /// How it ends.
+    pub fn ending(self, alloc: Global) -> Ending {
+        match self.answer(alloc) {
+            Ok(ending) => ending,
+            Err(Fault::OutOfMemory) => Ending::OutOfMemory,
+            Err(_) => Ending::Otherwise,
+        }
+    }
+}
+
+/// Checks that each call answers as its example says, where memory is ample.
+pub fn check_memory(alloc: Global) -> Checks {
+    let mut checks = Checks::new();
+    for call in CALLS {
+        let is_right = matches!(call.ending(alloc), Ending::AsInExample);
+        checks.note("a call that takes memory", is_right);
+    }
+    checks
+}

@@ -1,0 +1,99 @@
+"""What is wrong with the answers to growths that were refused, one after the other."""
+
+from __future__ import annotations
+
+from typing import Callable, Optional, Sequence
+
+from .trying import Answer
+
+CALLS = (
+    "Bytes::copy",
+    "Bytes::zeros",
+    "Planes::new",
+    "Card::new",
+    "Fonts::from_bytes",
+    "Screen::read",
+    "decode",
+    "encode",
+    "assemble",
+    "print",
+    "run",
+)
+RIGHT, REFUSED, REFUSED_IN_STEP = "as in its example", "out of memory", "out of memory in a step"
+FAULT = "vga: F10 OutOfMemory\n"
+# Whether a run, by its place among the others, answered as it does with ample memory.
+IsWhole = Callable[[int, Answer], bool]
+
+
+class Wrong(Exception):
+    """Something is wrong with an answer."""
+
+
+def refused_call(answer: Answer) -> Optional[tuple[str, str]]:
+    """The call that answered want of memory, and how; None where each answered as in its example."""
+    lines = [line.split(": ") for line in answer.written.decode().splitlines()]
+    if answer.status != 0 or [line[0] for line in lines] != list(CALLS):
+        raise Wrong(f"not each call answered: status {answer.status}, {answer.written!r}, {answer.said!r}")
+    others = [(call, ending) for call, ending in lines if ending != RIGHT]
+    if len(others) > 1 or any(ending not in (REFUSED, REFUSED_IN_STEP) for _, ending in others):
+        raise Wrong(f"these did not answer as they should: {others}")
+    return others[0] if others else None
+
+
+def judge_calls(answers: Sequence[Answer]) -> dict[str, int]:
+    """How many growths each call was refused. With each answer the growth that was refused stands earlier."""
+    refused = [refused_call(answer) for answer in answers if not _is_before_calls(answer)]
+    _expect_in_turn([found is not None for found in refused])
+    met = [found for found in refused if found is not None]
+    places = [CALLS.index(call) for call, _ in met]
+    if places != sorted(places, reverse=True) or set(places) != set(range(len(CALLS))):
+        raise Wrong(f"not each call was refused in its turn: {[call for call, _ in met]}")
+    for ending in (REFUSED, REFUSED_IN_STEP):
+        if ("run", ending) not in met:
+            raise Wrong(f"no run ended so: {ending}")
+    return {call: places.count(place) for place, call in enumerate(CALLS)}
+
+
+def _is_before_calls(answer: Answer) -> bool:
+    """Whether the growth was refused before the first call, among the words or among those that are made first."""
+    return answer.status == 1 and not answer.written and answer.said == "Error: memory allocation failed\n"
+
+
+def _expect_in_turn(were_refused: Sequence[bool]) -> None:
+    """First no growth was refused, since there are not so many, and then each was."""
+    if not were_refused or were_refused[0]:
+        raise Wrong("no answer met no refusal: the number of the growth that is refused is too low")
+    if list(were_refused) != sorted(were_refused):
+        raise Wrong("a growth was refused, and nothing said so")
+
+
+def _refused_runs(answers: Sequence[Answer], is_whole: IsWhole, fronts: Sequence[bytes]) -> list[bool]:
+    """Which runs of the program ended with want of memory, where each then wrote one of these fronts of its report."""
+    were_refused = []
+    for place, answer in enumerate(answers):
+        is_fault = answer.status == 1 and answer.said == FAULT and answer.written in fronts
+        if not is_fault and not is_whole(place, answer):
+            raise Wrong(f"run {place}: status {answer.status}, {answer.written!r}, {answer.said!r}")
+        were_refused.append(is_fault)
+    written = {answer.written for answer, was_refused in zip(answers, were_refused) if was_refused}
+    if written != set(fronts):
+        raise Wrong(f"runs ended behind {sorted(written)}, and not behind each of {sorted(fronts)}")
+    return were_refused
+
+
+def judge_program(answers: Sequence[Answer], is_whole: IsWhole, fronts: Sequence[bytes]) -> int:
+    """How many runs met a refusal. With each run the growth that was refused stands earlier."""
+    were_refused = _refused_runs(answers, is_whole, fronts)
+    _expect_in_turn(were_refused)
+    return sum(were_refused)
+
+
+def judge_words(answers: Sequence[Answer], is_whole: IsWhole) -> tuple[int, int]:
+    """How many runs met a refusal while their words were read, and how many did without what was refused: words are
+    collected with room for all of them at once, or else with less."""
+    were_refused = _refused_runs(answers, is_whole, [b""])
+    first = were_refused.index(True)
+    if first == 0:
+        raise Wrong("no answer met no refusal: the number of the growth that is refused is too low")
+    refused = were_refused[first:]
+    return sum(refused), len(refused) - sum(refused)

@@ -1,0 +1,70 @@
+"""Runs a program with one growth refused, by `rt try`: built once, and run once for each case."""
+
+from __future__ import annotations
+
+import re
+import subprocess
+import tempfile
+from dataclasses import dataclass
+from pathlib import Path
+from typing import Mapping, NamedTuple, Sequence
+
+# What stands before the output of a case, and what behind what it said.
+SECTION = re.compile(rb"^== (\S+)\n", re.M)
+ENDED = re.compile(r"case=(\S+) run=(\S+)(?: status=(\d+))? .*proved=no")
+# Lines that `rt try` itself writes among those of the program.
+OWN_LINES = ("allocations: ", "checked: ", "interpreter: ")
+
+
+class Case(NamedTuple):
+    """A run of the program: a text, of which `{}` among its words names a file, and its last words."""
+
+    text: str
+    words: Sequence[str]
+
+
+@dataclass(frozen=True)
+class Answer:
+    """How a case ended: its status, or -1 where it had none, and what it wrote on both outputs."""
+
+    status: int
+    written: bytes
+    said: str
+
+
+class TryFailed(Exception):
+    """`rt try` did not run each case to its end."""
+
+
+def try_cases(
+    crate: Path, growth: int, words: Sequence[str], cases: Mapping[str, Case], data: Mapping[str, Path]
+) -> dict[str, Answer]:
+    """What each case of a crate's program answers, with the growth of this number refused."""
+    with tempfile.TemporaryDirectory(prefix="vga-memory-") as name:
+        folder = Path(name)
+        for case, (text, last) in cases.items():
+            (folder / case).write_text(text)
+            (folder / f"{case}.args").write_text("".join(f"{word}\n" for word in last))
+        files = [word for file, path in data.items() for word in ("--data", f"{file}={path}")]
+        command = ["rt", "try", "--fail-alloc", str(growth), *files, "--cases", str(folder), "--", *words]
+        done = subprocess.run(command, cwd=crate, stdin=subprocess.DEVNULL, capture_output=True)
+    answers = answers_of(done.stdout, done.stderr.decode("utf-8", "replace"))
+    if answers.keys() != cases.keys():
+        raise TryFailed(done.stderr.decode("utf-8", "replace")[-2000:])
+    return answers
+
+
+def answers_of(output: bytes, errors: str) -> dict[str, Answer]:
+    """The answers that stand in both outputs of `rt try`."""
+    parts = SECTION.split(output)
+    written = {name.decode(): part for name, part in zip(parts[1::2], parts[2::2])}
+    answers, said = {}, []
+    for line in errors.splitlines(keepends=True):
+        ended = ENDED.match(line)
+        if ended is not None:
+            status = int(ended[3]) if ended[2] == "ended" and ended[3] else -1
+            answers[ended[1]] = Answer(status, written.get(ended[1], b""), "".join(said))
+            said = []
+        elif not line.startswith(OWN_LINES):
+            said.append(line)
+    return answers
