@@ -1,7 +1,6 @@
 -- Calls: the service that the registers ask for, whole.
 use Rattle.std.proofs.Common.{◌≡◌, ℕ, ◌%◌, ◌<◌, refl, sym, ap, ◌∙◌, subst, arith, List, length, Option, Some, None, Bool, true, false, Err}
-use Rattle.std.specs.Prelude.{◌==◌, ◌&&◌, ◌||◌, nat_lt, nat_le, if◌then◌else◌, IfSome}
-use Rattle.std.proofs.lemmas.Bool.Decides.{nat_tests}
+use Rattle.std.specs.Prelude.{◌==◌, ◌&&◌, nat_lt, nat_le, if◌then◌else◌, IfSome}
 use Rattle.vga_bits.specs.declared.refusal.Refusal.{Refusal}
 use Rattle.vga_bits.specs.declared.refusal.Refusal.TheVariants.{NoMode, BadFunction, BadMode}
 use Rattle.vga_card.specs.Bounds.{IsCard}
@@ -37,7 +36,7 @@ use Rattle.bios_modes.specs.Bounds.{AreBytes}
 use Rattle.bios_screen.specs.Called.{AreWords, reply_unless, screen_unless, IsCalled}
 use Rattle.bios_screen.proofs.PlanLemmas.{run_bind}
 use Rattle.bios_screen.proofs.Kept.{KeepsBounds, plan_beam}
-use Rattle.bios_screen.proofs.Shows.{shown_is}
+use Rattle.bios_screen.proofs.Shows.{mode_of_shown}
 use Rattle.bios_screen.proofs.Served as served
 
 -- ---- each service that registers ask for is served
@@ -101,14 +100,6 @@ asked_is_served law r w =
 
 -- ---- the call around a service
 
-pub text_is_set : (mode : ℕ) → is_text mode ≡ true → (mode == 0) ≡ false
-text_is_set mode t = by_tests (mode == 0x03) (mode == 0x07) refl refl t
-  where
-    by_tests : (a b : Bool) → (mode == 0x03) ≡ a → (mode == 0x07) ≡ b → (a || b) ≡ true → (mode == 0) ≡ false
-    by_tests true b e f h = grind (arith, nat_tests)
-    by_tests false true e f h = grind (arith, nat_tests)
-    by_tests false false e f h = absurd (cc)
-
 -- what a service's plan leaves, wrapped as an answer of a call
 pub record IsDone (service : Service) (r : Regs) (block : List ℕ) (c : CardState) (d : BiosData) (s : Screen) (x : CardState × Answered) : Type 0 where
   pub reply : x.1.0 ≡ reply_unless (refused_on s service (length block)) (answer_on s service r)
@@ -139,11 +130,10 @@ done_unless service fonts r block c d s old i = by_refusal (refused_on s service
 call_done : (service : Service) (fonts : FontSet) (r : Regs) (block : List ℕ) (c : CardState) (d : BiosData) (s : Screen) → call_of r ≡ Some (InMode service) → shown c d ≡ Some s → IsServed service fonts r block c d s → IsCalled service fonts r block c d s
 unfolding in_mode_plan
 call_done service fonts r block c d s e old i =
-    let x = shown_is c d s old in
     let plan = unless (refused_on s service (length block)) service fonts d r block in
     let runs : after_call fonts r block c d ≡ run card_meaning plan c =
     ap (λ (q : Option Call). run card_meaning (asked q fonts d r block) c) e
-    ∙ ap (λ b. run card_meaning (if b then refused NoMode d else unless (refusal_in_mode service d (length block)) service fonts d r block) c) (text_is_set d.mode x.is.tests.is_text)
+    ∙ ap (λ b. run card_meaning (if b then refused NoMode d else unless (refusal_in_mode service d (length block)) service fonts d r block) c) (mode_of_shown c d s old).set
     ∙ ap (λ q. run card_meaning (unless q service fonts d r block) c) i.refusal in
     let t = done_unless service fonts r block c d s old i in
     record {
@@ -165,17 +155,16 @@ service_is r service e = by_test (high r.ax == 0x00) (table_service_of r) (servi
 served_if : (x : Option Service) (service : Service) → x ≡ Some service → IfSome x Serves → Serves service
 served_if x service e f = subst (λ y. IfSome y Serves) e f
 
-pub calls_lead : KeepsBounds → (service : Service) (fonts : FontSet) (r : Regs) (block : List ℕ) (c : CardState) (d : BiosData) (s : Screen) → IsCard c → IsBda d → AreWords r → AreBytes block → shown c d ≡ Some s → call_of r ≡ Some (InMode service) → IsCalled service fonts r block c d s
-calls_lead law service fonts r block c d s z bda w bytes old e =
+pub calls_lead : KeepsBounds → (service : Service) (fonts : FontSet) (r : Regs) (block : List ℕ) (c : CardState) (d : BiosData) (s : Screen) → IsCard c → IsBda d → AreWords r → AreBytes block → shown c d ≡ Some s → is_text s.mode ≡ true → call_of r ≡ Some (InMode service) → IsCalled service fonts r block c d s
+calls_lead law service fonts r block c d s z bda w bytes old text e =
     let serves = served_if (service_of r) service (service_is r service e) (asked_is_served law r w) in
-    call_done service fonts r block c d s e old (serves fonts r block c d s bytes z bda old)
+    call_done service fonts r block c d s e old (serves fonts r block c d s bytes z bda old text)
 
 -- a call for no service is refused
 pub unknown_refused : (fonts : FontSet) (r : Regs) (block : List ℕ) (c : CardState) (d : BiosData) (s : Screen) → shown c d ≡ Some s → call_of r ≡ None → after_call fonts r block c d ≡ (c, (Err BadFunction, d))
 unknown_refused fonts r block c d s old e =
-    let x = shown_is c d s old in
     ap (λ (q : Option Call). run card_meaning (asked q fonts d r block) c) e
-    ∙ ap (λ b. let y : CardState × Answered = (c, (Err (if b then NoMode else BadFunction), d)) in y) (text_is_set d.mode x.is.tests.is_text)
+    ∙ ap (λ b. let y : CardState × Answered = (c, (Err (if b then NoMode else BadFunction), d)) in y) (mode_of_shown c d s old).set
 
 -- and so is one for a mode that there is not
 pub mode_refused : (mode : ℕ) (keeps : Bool) (fonts : FontSet) (r : Regs) (block : List ℕ) (c : CardState) (d : BiosData) → call_of r ≡ Some (SetMode mode keeps) → mode_row mode ≡ None → after_call fonts r block c d ≡ (c, (Err BadMode, d))

@@ -26,7 +26,7 @@ use Rattle.bios_services.specs.ModeSet.{is_text}
 use Rattle.bios_services.specs.Cursor.{word_plan, cursor_plan, page_plan, cursor_address, start_address, place_of, with_place, with_page, move_cursor_plan, cursor_type_plan}
 use Rattle.bios_services.specs.Refusals.{page_named, refusal_in_mode}
 use Rattle.bios_services.specs.Service.{plan_of, Outcome}
-use Rattle.bios_screen.specs.Shown.{crtc_registers, crtc_shown, shows_attribute, shows_data, text_screen, shown}
+use Rattle.bios_screen.specs.Shown.{crtc_registers, shows_attribute, shows_data, text_screen, shown}
 use Rattle.bios_screen.specs.Step.{page_meant, refused_on, next, answer_on, with_place as placed_on}
 use Rattle.bios_screen.specs.Served.{IsServed}
 use Rattle.bios_screen.proofs.PlanLemmas.{run_bind}
@@ -35,7 +35,7 @@ use Rattle.bios_screen.proofs.Kept.{plan_beam}
 use Rattle.bios_screen.proofs.Setting.{Setting, setting, card_at}
 use Rattle.bios_screen.proofs.Display.{Display, port_of, text_setting, IsTextRow}
 use Rattle.bios_screen.proofs.TestLemmas.{both_true, both_are, lt_is, lt_test}
-use Rattle.bios_screen.proofs.Shows.{HasData, IsShown, screen_shown, shown_of}
+use Rattle.bios_screen.proofs.Shows.{HasData, text_crtc, IsShown, screen_shown, shown_of}
 use Rattle.bios_screen.proofs.Readers.{meant_is, page_refusal_is, named_refusal_is}
 use Rattle.bios_screen.proofs.Display.Display.{Colour, Monochrome}
 
@@ -99,7 +99,7 @@ start_set disp c row type start location n e r l =
 -- ---- the services
 
 -- a screen with other data: the tests that look at the BIOS data and at the CRT controller are given anew
-pub other_data : (c y : CardState) (d e : BiosData) (h : IsShown c d) → e.mode ≡ d.mode → (setting y ≡ setting c) → shows_attribute h.row y.attr ≡ true → shows_data h.row e ≡ true → y.crtc.registers ≡ crtc_shown h.row e → shown y e ≡ Some (text_screen h.row y e)
+pub other_data : (c y : CardState) (d e : BiosData) (h : IsShown c d) → e.mode ≡ d.mode → (setting y ≡ setting c) → shows_attribute h.row y.attr ≡ true → shows_data h.row e ≡ true → y.crtc.registers ≡ text_crtc h.row e → shown y e ≡ Some (text_screen h.row y e)
 other_data c y d e h m s a data_test crtc = shown_of y e h.row (ap mode_row m ∙ h.mode) (record {
   is_text = ap is_text m ∙ h.tests.is_text;
   memory = ap (λ (x : Setting). (x.misc == h.row.misc) && (bytes_eq x.seq h.row.sequencer && bytes_eq x.gfx h.row.graphics)) s ∙ h.tests.memory;
@@ -159,7 +159,7 @@ placed_shown c d h p place bda lp l =
     ∙ other_data c y d e h refl refl t.attribute t.data_test (ap (λ q. crtc_registers row d.cursor_type (start_address d d.page) (cursor_address e q)) z))
     (λ (o : p ≢ d.page).
     let other : place_of e d.page ≡ place_of d d.page = get_or-set_other d.cursor_places p d.page place 0 (λ q. o (sym q)) in
-    let same_list : crtc_shown row d ≡ crtc_shown row e = ap (λ k. crtc_registers row d.cursor_type (start_address d d.page) (d.size * d.page / 2 + (d.columns * (k / 256) + k % 256))) (sym other) in
+    let same_list : text_crtc row d ≡ text_crtc row e = ap (λ k. crtc_registers row d.cursor_type (start_address d d.page) (d.size * d.page / 2 + (d.columns * (k / 256) + k % 256))) (sym other) in
     ap (λ s. shown s e) (cursor_hidden c e p o)
     ∙ other_data c c d e h refl refl t.attribute t.data_test (t.crtc ∙ same_list))
     (cases_eq p d.page)

@@ -105,6 +105,14 @@ entries_set rest mode n s c l small t =
     n 0 s c (omega arith) (omega arith) t in
     record { cells = all.cells; shown = all.shown; fact = λ k h. all.fact.inside (record { turn = k; from = omega arith; before = h; place = tt }) ∙ small k h }
 
+-- where that is so of each component
+keeps_by : (mode : ℕ) → ((k : ℕ) → k < 256 → (bit_and (colour_of (dac_entry mode k)).red 0x3F == (colour_of (dac_entry mode k)).red) ≡ true) → ((k : ℕ) → k < 256 → (bit_and (colour_of (dac_entry mode k)).green 0x3F == (colour_of (dac_entry mode k)).green) ≡ true) → ((k : ℕ) → k < 256 → (bit_and (colour_of (dac_entry mode k)).blue 0x3F == (colour_of (dac_entry mode k)).blue) ≡ true) → keeps_entries mode 256
+keeps_by mode f g h k l =
+    let x = colour_of (dac_entry mode k) in
+    ap (λ n. let y : Colour = record { red = n; green = bit_and x.green 0x3F; blue = bit_and x.blue 0x3F } in y) (same (f k l))
+    ∙ ap (λ n. let y : Colour = record { red = x.red; green = n; blue = bit_and x.blue 0x3F } in y) (same (g k l))
+    ∙ ap (λ n. let y : Colour = record { red = x.red; green = x.green; blue = n } in y) (same (h k l))
+
 pub keeps_3 : keeps_entries 3 256
 keeps_3 k l =
     let r = agree_below_at (λ n. bit_and (colour_of (dac_entry 3 n)).red 0x3F == (colour_of (dac_entry 3 n)).red) (λ _. true) 256 k refl l in
@@ -122,3 +130,15 @@ keeps_7 k l =
     let r = agree_below_at (λ n. bit_and (colour_of (dac_entry 7 n)).red 0x3F == (colour_of (dac_entry 7 n)).red) (λ _. true) 256 k refl l in
     let r' : bit_and (colour_of (dac_entry 7 k)).red 0x3F ≡ (colour_of (dac_entry 7 k)).red = same r in
     ap (λ x. let y : Colour = record { red = x; green = x; blue = x } in y) r'
+
+pub keeps_0D : keeps_entries 0x0D 256
+keeps_0D = keeps_by 0x0D
+    (λ k l. agree_below_at (λ n. bit_and (colour_of (dac_entry 0x0D n)).red 0x3F == (colour_of (dac_entry 0x0D n)).red) (λ _. true) 256 k refl l)
+    (λ k l. agree_below_at (λ n. bit_and (colour_of (dac_entry 0x0D n)).green 0x3F == (colour_of (dac_entry 0x0D n)).green) (λ _. true) 256 k refl l)
+    (λ k l. agree_below_at (λ n. bit_and (colour_of (dac_entry 0x0D n)).blue 0x3F == (colour_of (dac_entry 0x0D n)).blue) (λ _. true) 256 k refl l)
+
+pub keeps_13 : keeps_entries 0x13 256
+keeps_13 = keeps_by 0x13
+    (λ k l. agree_below_at (λ n. bit_and (colour_of (dac_entry 0x13 n)).red 0x3F == (colour_of (dac_entry 0x13 n)).red) (λ _. true) 256 k refl l)
+    (λ k l. agree_below_at (λ n. bit_and (colour_of (dac_entry 0x13 n)).green 0x3F == (colour_of (dac_entry 0x13 n)).green) (λ _. true) 256 k refl l)
+    (λ k l. agree_below_at (λ n. bit_and (colour_of (dac_entry 0x13 n)).blue 0x3F == (colour_of (dac_entry 0x13 n)).blue) (λ _. true) 256 k refl l)

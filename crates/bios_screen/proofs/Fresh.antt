@@ -20,12 +20,13 @@ use Rattle.bios_services.specs.declared.call.Call.TheVariants.{SetMode}
 use Rattle.bios_services.specs.Service.{asked, set_mode_plan, answered, Answered, service as whole_service}
 use Rattle.bios_services.specs.Plan.{Plan, Done, run, put, each, ◌>>◌}
 use Rattle.bios_services.specs.Cycles.{sequencer, graphics}
-use Rattle.bios_services.specs.ModeSet.{registers_plan, colour_plan, palette_plan, glyphs_plan, font_plan, blank_byte, blank_plan, text_plan, memory_plan, mode_set_plan}
+use Rattle.bios_services.specs.ModeSet.{is_text, registers_plan, colour_plan, palette_plan, glyphs_plan, font_plan, blank_byte, blank_plan, text_plan, memory_plan, mode_set_plan}
 use Rattle.bios_screen.specs.Screen.{Cell, Screen}
-use Rattle.bios_screen.specs.Shown.{cell_in, cells_in, glyph_byte, glyphs_in, shows_text, screen_with, text_screen, all_cells, shown, shown_by}
-use Rattle.bios_screen.specs.Fresh.{blank_cells, default_component, font_bytes, fresh_screen}
+use Rattle.bios_screen.specs.Shown.{cell_in, cells_in, glyph_byte, glyphs_in, shows, screen_with, screen_of, all_cells, shown, shown_by}
+use Rattle.bios_screen.specs.Fresh.{blank_cells, default_component, font_bytes, fresh_text, fresh_pixels, fresh_screen}
 use Rattle.bios_screen.specs.Served.{SetsFresh}
 use Rattle.bios_modes.specs.Bounds.{AreBytes}
+use Rattle.bios_screen.proofs.Shows.{screen_is_text}
 use Rattle.bios_screen.proofs.Flat.{Edited, Turn, Leaves, set_cell}
 use Rattle.bios_screen.proofs.PlanLemmas.{then_runs, then_answers}
 use Rattle.bios_screen.proofs.Edits.{one_edit, edits}
@@ -61,7 +62,7 @@ blanked disp rest c m n l t =
 
 -- ---- states that agree but for a part are one but for that part
 
-but_entries : (x y : CardState) → without_entries x ≡ without_entries y → x ≡ record y { dac = record x.dac { mask = y.dac.mask } }
+pub but_entries : (x y : CardState) → without_entries x ≡ without_entries y → x ≡ record y { dac = record x.dac { mask = y.dac.mask } }
 but_entries x y e = ap (λ s. let r : CardState = record s { dac = record x.dac { mask = s.dac.mask } } in r) e
 
 but_glyphs : (x y : CardState) → without_glyphs x ≡ without_glyphs y → x ≡ record y { host = record y.host { memory = record y.host.memory { plane2 = x.host.memory.plane2 } } }
@@ -69,7 +70,7 @@ but_glyphs x y e = ap (λ s. let r : CardState = record s { host = record s.host
 
 -- ---- lists
 
-component_same : (mode i n : ℕ) (l : List ℕ) → length l ≡ n → ((k : ℕ) → k < n → slice_index l k ≡ slice_index (dac_entry mode k) i) → l ≡ default_component mode i n
+pub component_same : (mode i n : ℕ) (l : List ℕ) → length l ≡ n → ((k : ℕ) → k < n → slice_index l k ≡ slice_index (dac_entry mode k) i) → l ≡ default_component mode i n
 unfolding default_component
 component_same mode i n l e h = spelled l n e ∙ same_from_0 (λ k. slice_index (dac_entry mode k) i) (slice_index l) n h
 
@@ -128,10 +129,14 @@ off_is Colour c d l = refl
 off_is Monochrome c d l = refl
 
 -- the test, where all is literal
-test_is : (disp : Display) (c : CardState) (d : DacState) (l : List ℕ) → shows_text (row_of disp) (in_text disp (with_glyphs (in_glyphs disp (coloured disp c d)) l)) (data_of_mode (number_of disp) (row_of disp)) ≡ true
-unfolding shows_text
+test_is : (disp : Display) (c : CardState) (d : DacState) (l : List ℕ) → shows (row_of disp) (in_text disp (with_glyphs (in_glyphs disp (coloured disp c d)) l)) (data_of_mode (number_of disp) (row_of disp)) ≡ true
+unfolding shows
 test_is Colour c d l = refl
 test_is Monochrome c d l = refl
+
+text_mode : (disp : Display) → is_text (number_of disp) ≡ true
+text_mode Colour = refl
+text_mode Monochrome = refl
 
 row_is : (disp : Display) → mode_row (number_of disp) ≡ Some (row_of disp)
 row_is Colour = refl
@@ -244,10 +249,12 @@ mode_shown disp law c fonts z small =
     let d = data_of_mode mode row in
     let t = fresh_state disp law c fonts z small in
     let y = in_text disp (with_glyphs (in_glyphs disp (coloured disp c t.dac)) t.plane2) in
-    let new = fresh_screen mode row font c.crtc.beam.frame in
+    let new = fresh_text mode row font c.crtc.beam.frame in
+    let pixels = fresh_pixels mode row c.crtc.beam.frame in
     let blank = blank_cells all_cells in
     ap (λ x. shown_by x s d) (row_is disp)
-    ∙ ap (λ b. if b then Some (text_screen row s d) else None) (test_stays row y s d t.others ∙ test_is disp c t.dac t.plane2)
+    ∙ ap (λ b. if b then Some (screen_of row s d) else None) (test_stays row y s d t.others ∙ test_is disp c t.dac t.plane2)
+    ∙ ap (λ (x : Screen). Some x) (screen_is_text row s d (text_mode disp))
     ∙ ap (λ k. Some (screen_with row s d k)) t.cells
     ∙ ap (λ x. Some (screen_with row x d blank)) t.others
     ∙ ap (λ k. let x : Screen = record new { palette = record new.palette { reds = t.dac.reds; greens = t.dac.greens; blues = t.dac.blues; mask = k }; glyphs = glyphs_in t.plane2 4096 } in Some x) t.mask
@@ -255,6 +262,7 @@ mode_shown disp law c fonts z small =
     ∙ ap (λ k. let x : Screen = record new { palette = record new.palette { greens = k; blues = t.dac.blues }; glyphs = glyphs_in t.plane2 4096 } in Some x) t.greens
     ∙ ap (λ k. let x : Screen = record new { palette = record new.palette { blues = k }; glyphs = glyphs_in t.plane2 4096 } in Some x) t.blues
     ∙ ap (λ k. let x : Screen = record new { glyphs = k } in Some x) t.glyphs
+    ∙ sym (ap (λ b. let x : Screen = (if b then new else pixels) in Some x) (text_mode disp))
 
 -- the call's plan is the mode's
 call_is : (disp : Display) (fonts : FontSet) (r : Regs) (block : List ℕ) (d : BiosData) (c : CardState) → run card_meaning (asked (Some (SetMode (number_of disp) false)) fonts d r block) c ≡ run card_meaning (mode_set_plan (number_of disp) (row_of disp) false fonts >> (let q : Plan Answered = Done (answered r (data_of_mode (number_of disp) (row_of disp))) in q)) c

@@ -9,7 +9,7 @@ use Rattle.vga_card.specs.Card.{CardState}
 use Rattle.vga_card.specs.Port.{port_of, crtc_port_of}
 use Rattle.vga_card.specs.Cycles.{out_at, inp_at}
 use Rattle.bios_modes.specs.declared.modes.ModeRow.{ModeRow}
-use Rattle.bios_modes.specs.Modes.{colour_text, monochrome_text}
+use Rattle.bios_modes.specs.Modes.{colour_text, monochrome_text, planes_320_by_200, planes_640_by_350, planes_640_by_480, bytes_320_by_200}
 use Rattle.bios_services.specs.Plan.{run}
 use Rattle.bios_services.specs.Cycles.{group, attribute_group}
 use Rattle.bios_services.specs.ModeSet.{registers_plan}
@@ -45,3 +45,19 @@ registers_3 c z = ap (λ x. (run card_meaning (registers_plan colour_text) x).0)
 pub registers_7 : (c : CardState) → IsCard c → (run card_meaning (registers_plan monochrome_text) c).0 ≡ in_mode monochrome_text c
 unfolding registers_plan group attribute_group port_of crtc_port_of out_at inp_at after_crtc is_protected overflow
 registers_7 c z = ap (λ x. (run card_meaning (registers_plan monochrome_text) x).0) (card_spelled c z)
+
+pub registers_0D : (c : CardState) → IsCard c → (run card_meaning (registers_plan planes_320_by_200) c).0 ≡ in_mode planes_320_by_200 c
+unfolding registers_plan group attribute_group port_of crtc_port_of out_at inp_at after_crtc is_protected overflow
+registers_0D c z = ap (λ x. (run card_meaning (registers_plan planes_320_by_200) x).0) (card_spelled c z)
+
+pub registers_10 : (c : CardState) → IsCard c → (run card_meaning (registers_plan planes_640_by_350) c).0 ≡ in_mode planes_640_by_350 c
+unfolding registers_plan group attribute_group port_of crtc_port_of out_at inp_at after_crtc is_protected overflow
+registers_10 c z = ap (λ x. (run card_meaning (registers_plan planes_640_by_350) x).0) (card_spelled c z)
+
+pub registers_12 : (c : CardState) → IsCard c → (run card_meaning (registers_plan planes_640_by_480) c).0 ≡ in_mode planes_640_by_480 c
+unfolding registers_plan group attribute_group port_of crtc_port_of out_at inp_at after_crtc is_protected overflow
+registers_12 c z = ap (λ x. (run card_meaning (registers_plan planes_640_by_480) x).0) (card_spelled c z)
+
+pub registers_13 : (c : CardState) → IsCard c → (run card_meaning (registers_plan bytes_320_by_200) c).0 ≡ in_mode bytes_320_by_200 c
+unfolding registers_plan group attribute_group port_of crtc_port_of out_at inp_at after_crtc is_protected overflow
+registers_13 c z = ap (λ x. (run card_meaning (registers_plan bytes_320_by_200) x).0) (card_spelled c z)

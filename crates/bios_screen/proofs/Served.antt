@@ -14,7 +14,7 @@ use Rattle.bios_services.specs.declared.call.Service.{Service}
 use Rattle.bios_services.specs.declared.call.Service.TheVariants.{SetCursorType, SetCursor, ReadCursor, SelectPage, ReadCell, WriteCells, ScrollUp, ScrollDown, WritePixel, ReadPixel, Teletype, ReadMode, Colours, ReadAdapter, WriteString, ReadDisplay}
 use Rattle.bios_screen.specs.Served.{FitsBytes, IsServed, Serves}
 use Rattle.bios_modes.specs.Bounds.{AreBytes}
-use Rattle.bios_screen.proofs.Shows.{IsShown, screen_shown, shown_is}
+use Rattle.bios_screen.proofs.Shows.{IsShown, screen_shown, shown_is, text_shown}
 use Rattle.bios_screen.proofs.Readers as readers
 use Rattle.bios_screen.proofs.Cursors as cursors
 use Rattle.bios_screen.proofs.Writes as writes
@@ -25,7 +25,7 @@ use Rattle.bios_screen.proofs.Strings as strings
 use Rattle.bios_screen.proofs.Coloured as coloured
 
 serves : (service : Service) → ((fonts : FontSet) (r : Regs) (block : List ℕ) (c : CardState) (d : BiosData) (h : IsShown c d) → AreBytes block → IsCard c → IsBda d → IsServed service fonts r block c d (screen_shown c d h)) → Serves service
-serves service f fonts r block c d s bytes z bda e = let x = shown_is c d s e in subst (IsServed service fonts r block c d) x.screen (f fonts r block c d x.is bytes z bda)
+serves service f fonts r block c d s bytes z bda e text = let x = shown_is c d s (text_shown c d s e text) e in subst (IsServed service fonts r block c d) x.screen (f fonts r block c d x.is bytes z bda)
 
 pub read_cursor : (page : ℕ) → Serves (ReadCursor page)
 read_cursor page = serves (ReadCursor page) (λ fonts r block c d h bytes z bda. readers.read_cursor page fonts r block c d h)

@@ -1,5 +1,5 @@
 -- What a shown screen says of registers and data, and what has to be known for a screen to be shown.
-use Rattle.std.proofs.Common.{◌≡◌, ℕ, ◌*◌, ◌<◌, refl, ap, ◌∙◌, true, List, Option, Some, None}
+use Rattle.std.proofs.Common.{◌≡◌, ℕ, ◌+◌, ◌*◌, ◌<◌, refl, sym, ap, ◌∙◌, Bool, true, false, List, Option, Some, None}
 use Rattle.std.specs.Prelude.{slice_index, bit_and, ◌==◌, ◌&&◌, if◌then◌else◌}
 use Rattle.std.specs.Str.{bytes_eq}
 use Rattle.std.proofs.lemmas.Slice.Eq.{bytes_eq-Decides}
@@ -12,8 +12,9 @@ use Rattle.bios_services.specs.declared.kind.Kind.{Kind}
 use Rattle.bios_services.specs.declared.kind.Kind.TheVariants.{Text, Planar, Packed}
 use Rattle.bios_services.specs.ModeSet.{is_text}
 use Rattle.bios_services.specs.Kinds.{kind_of}
+use Rattle.bios_services.specs.Cursor.{cursor_address, start_address}
 use Rattle.bios_screen.specs.Screen.{Screen}
-use Rattle.bios_screen.specs.Shown.{shows_memory, crtc_shown, shows_attribute, shows_data, shows_text, text_screen, shown_by, shown}
+use Rattle.bios_screen.specs.Shown.{shows_memory, crtc_registers, crtc_shown, shows_attribute, shows_data, shows, text_screen, pixel_screen, screen_of, shown_by, shown}
 use Rattle.bios_screen.proofs.TestLemmas.{both_true, if_some, none_some, same, lt_is}
 use Rattle.bios_screen.proofs.Setting.{Setting, setting}
 use Rattle.bios_screen.proofs.Display.{Display, text_setting, text_sequencer, misc_of, IsTextRow, text_row_is, row_of, number_of, control_of, control_by}
@@ -42,31 +43,54 @@ data_is row d h =
     record { columns = same a.0; size = same b.0; last_row = same e.0; height = same f.0; port = same g.0; start = same i.0; page = lt_is d.page row.pages i.1 }
 
 -- the test's parts
+pub record AllTests (row : ModeRow) (c : CardState) (d : BiosData) : Type 0 where
+  pub memory : shows_memory row c ≡ true
+  pub data_test : shows_data row d ≡ true
+  pub crtc : c.crtc.registers ≡ crtc_shown row d c.crtc.registers
+  pub attribute : shows_attribute row c.attr ≡ true
+
+pub all_tests_of : (row : ModeRow) (c : CardState) (d : BiosData) → shows row c d ≡ true → AllTests row c d
+unfolding shows
+all_tests_of row c d h =
+    let wanted = crtc_shown row d c.crtc.registers in
+    let a = both_true (shows_memory row c) (shows_data row d && (bytes_eq c.crtc.registers wanted && shows_attribute row c.attr)) h in
+    let b = both_true (shows_data row d) (bytes_eq c.crtc.registers wanted && shows_attribute row c.attr) a.1 in
+    let e = both_true (bytes_eq c.crtc.registers wanted) (shows_attribute row c.attr) b.1 in
+    record { memory = a.0; data_test = b.0; crtc = (bytes_eq-Decides c.crtc.registers wanted).0 e.0; attribute = e.1 }
+
+pub shows_by : (row : ModeRow) (c : CardState) (d : BiosData) → AllTests row c d → shows row c d ≡ true
+unfolding shows
+shows_by row c d t =
+    let wanted = crtc_shown row d c.crtc.registers in
+    ap (λ b. b && (shows_data row d && (bytes_eq c.crtc.registers wanted && shows_attribute row c.attr))) t.memory
+    ∙ ap (λ b. b && (bytes_eq c.crtc.registers wanted && shows_attribute row c.attr)) t.data_test
+    ∙ ap (λ b. b && shows_attribute row c.attr) ((bytes_eq-Decides c.crtc.registers wanted).1 t.crtc)
+    ∙ t.attribute
+
+-- ---- text
+
+-- the registers of the CRT controller in text
+abbrev pub text_crtc : ModeRow → BiosData → List ℕ
+text_crtc row d = crtc_registers row d.cursor_type (start_address d d.page) (cursor_address d d.page)
+
+text_crtc_is : (row : ModeRow) (d : BiosData) (l : List ℕ) → is_text d.mode ≡ true → crtc_shown row d l ≡ text_crtc row d
+text_crtc_is row d l t = ap (λ b. crtc_registers row d.cursor_type (start_address d d.page) (if b then cursor_address d d.page else 256 * slice_index l 0x0E + slice_index l 0x0F)) t
+
+-- the test's parts in text
 pub record Tests (row : ModeRow) (c : CardState) (d : BiosData) : Type 0 where
   pub is_text : is_text d.mode ≡ true
   pub memory : shows_memory row c ≡ true
   pub data_test : shows_data row d ≡ true
-  pub crtc : c.crtc.registers ≡ crtc_shown row d
+  pub crtc : c.crtc.registers ≡ text_crtc row d
   pub attribute : shows_attribute row c.attr ≡ true
 
-pub tests_of : (row : ModeRow) (c : CardState) (d : BiosData) → shows_text row c d ≡ true → Tests row c d
-unfolding shows_text
-tests_of row c d h =
-    let a = both_true (is_text d.mode) (shows_memory row c && (shows_data row d && (bytes_eq c.crtc.registers (crtc_shown row d) && shows_attribute row c.attr))) h in
-    let b = both_true (shows_memory row c) (shows_data row d && (bytes_eq c.crtc.registers (crtc_shown row d) && shows_attribute row c.attr)) a.1 in
-    let e = both_true (shows_data row d) (bytes_eq c.crtc.registers (crtc_shown row d) && shows_attribute row c.attr) b.1 in
-    let f = both_true (bytes_eq c.crtc.registers (crtc_shown row d)) (shows_attribute row c.attr) e.1 in
-    record { is_text = a.0; memory = b.0; data_test = e.0; crtc = (bytes_eq-Decides c.crtc.registers (crtc_shown row d)).0 f.0; attribute = f.1 }
+pub tests_of : (row : ModeRow) (c : CardState) (d : BiosData) → is_text d.mode ≡ true → shows row c d ≡ true → Tests row c d
+tests_of row c d text h =
+    let t = all_tests_of row c d h in
+    record { is_text = text; memory = t.memory; data_test = t.data_test; crtc = t.crtc ∙ text_crtc_is row d c.crtc.registers text; attribute = t.attribute }
 
-pub test_of : (row : ModeRow) (c : CardState) (d : BiosData) → Tests row c d → shows_text row c d ≡ true
-unfolding shows_text
-test_of row c d t =
-    ap (λ b. b && (shows_memory row c && (shows_data row d && (bytes_eq c.crtc.registers (crtc_shown row d) && shows_attribute row c.attr)))) t.is_text
-    ∙ ap (λ b. b && (shows_data row d && (bytes_eq c.crtc.registers (crtc_shown row d) && shows_attribute row c.attr))) t.memory
-    ∙ ap (λ b. b && (bytes_eq c.crtc.registers (crtc_shown row d) && shows_attribute row c.attr)) t.data_test
-    ∙ ap (λ l. bytes_eq l (crtc_shown row d) && shows_attribute row c.attr) t.crtc
-    ∙ ap (λ b. b && shows_attribute row c.attr) (bytes_same (crtc_shown row d))
-    ∙ t.attribute
+pub test_of : (row : ModeRow) (c : CardState) (d : BiosData) → Tests row c d → shows row c d ≡ true
+test_of row c d t = shows_by row c d (record { memory = t.memory; data_test = t.data_test; crtc = t.crtc ∙ sym (text_crtc_is row d c.crtc.registers t.is_text); attribute = t.attribute })
 
 -- the test gives the setting as a literal
 setting_is : (disp : Display) (mode : ℕ) (row : ModeRow) (c : CardState) → IsTextRow disp mode row → shows_memory row c ≡ true → setting c ≡ text_setting disp
@@ -97,23 +121,58 @@ pub record Shows (c : CardState) (d : BiosData) (s : Screen) : Type 0 where
   pub is : IsShown c d
   pub screen : screen_shown c d is ≡ s
 
-pub shown_is : (c : CardState) (d : BiosData) (s : Screen) → shown c d ≡ Some s → Shows c d s
-shown_is c d s h = by_row (mode_row d.mode) refl h
+-- in text the screen of the mode is one of text
+pub screen_is_text : (row : ModeRow) (c : CardState) (d : BiosData) → is_text d.mode ≡ true → screen_of row c d ≡ text_screen row c d
+screen_is_text row c d t = ap (λ b. let x : Screen = (if b then text_screen row c d else pixel_screen row c d) in x) t
+
+pub shown_is : (c : CardState) (d : BiosData) (s : Screen) → is_text d.mode ≡ true → shown c d ≡ Some s → Shows c d s
+shown_is c d s t h = by_row (mode_row d.mode) refl h
   where
     by_row : (x : Option ModeRow) → mode_row d.mode ≡ x → shown_by x c d ≡ Some s → Shows c d s
     by_row None e g = none_some s g
     by_row (Some row) e g =
-        let parts = if_some (shows_text row c d) (text_screen row c d) s g in
-        let t = tests_of row c d parts.0 in
-        let text = text_row_is d.mode row t.is_text e in
+        let parts = if_some (shows row c d) (screen_of row c d) s g in
+        let tests = tests_of row c d t parts.0 in
+        let text = text_row_is d.mode row t e in
         record {
-          is = record { row = row; mode = e; display = text.display; text = text.is; row_is = text.row_is; number = text.number; tests = t; has = data_is row d t.data_test; setting = setting_is text.display d.mode row c text.is t.memory };
-          screen = parts.1;
+          is = record { row = row; mode = e; display = text.display; text = text.is; row_is = text.row_is; number = text.number; tests = tests; has = data_is row d tests.data_test; setting = setting_is text.display d.mode row c text.is tests.memory };
+          screen = sym (screen_is_text row c d t) ∙ parts.1;
         }
 
 -- and back
 pub shown_of : (c : CardState) (d : BiosData) (row : ModeRow) → mode_row d.mode ≡ Some row → Tests row c d → shown c d ≡ Some (text_screen row c d)
-shown_of c d row e t = ap (λ x. shown_by x c d) e ∙ ap (λ b. if b then Some (text_screen row c d) else None) (test_of row c d t)
+shown_of c d row e t =
+    ap (λ x. shown_by x c d) e
+    ∙ ap (λ b. if b then Some (screen_of row c d) else None) (test_of row c d t)
+    ∙ ap (λ (x : Screen). Some x) (screen_is_text row c d t.is_text)
+
+-- ---- any mode
+
+-- a screen has the mode of the data, and that is one of the six
+pub record HasMode (d : BiosData) (s : Screen) : Type 0 where
+  pub is : s.mode ≡ d.mode
+  pub set : (d.mode == 0) ≡ false
+
+pub mode_of_shown : (c : CardState) (d : BiosData) (s : Screen) → shown c d ≡ Some s → HasMode d s
+mode_of_shown c d s h = by_row (mode_row d.mode) refl h
+  where
+    by_kind : (b : Bool) (row : ModeRow) → (let x : Screen = (if b then text_screen row c d else pixel_screen row c d) in x).mode ≡ d.mode
+    by_kind true row = refl
+    by_kind false row = refl
+
+    not_0 : (b : Bool) (row : ModeRow) → (d.mode == 0) ≡ b → mode_row d.mode ≡ Some row → (d.mode == 0) ≡ false
+    not_0 true row e g = none_some row (sym (ap mode_row (same e)) ∙ g)
+    not_0 false row e g = e
+
+    by_row : (x : Option ModeRow) → mode_row d.mode ≡ x → shown_by x c d ≡ Some s → HasMode d s
+    by_row None e g = none_some s g
+    by_row (Some row) e g =
+        let parts = if_some (shows row c d) (screen_of row c d) s g in
+        record { is = ap (λ (x : Screen). x.mode) (sym parts.1) ∙ by_kind (is_text d.mode) row; set = not_0 (d.mode == 0) row refl e }
+
+-- a screen of text
+pub text_shown : (c : CardState) (d : BiosData) (s : Screen) → shown c d ≡ Some s → is_text s.mode ≡ true → is_text d.mode ≡ true
+text_shown c d s h t = ap is_text (sym (mode_of_shown c d s h).is) ∙ t
 
 -- the mode uses the memory for text
 pub kind_is : (c : CardState) (d : BiosData) → IsShown c d → kind_of d.mode ≡ Text

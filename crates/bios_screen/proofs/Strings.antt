@@ -57,7 +57,7 @@ module _ (law : KeepsBounds) (fonts : FontSet) (d : BiosData) (p : ℕ) (call : 
     all_typed : (n i place : ℕ) (x : CardState) (s : Screen) → shown x d ≡ Some s → IsCard x → Inside (d.last_row + 1) d.columns place → LeadsInside (fold one n i place) x (typed_on call block p n i (s, place))
     all_typed zero i place x s e z l = record { leads = record { answer = refl; shows = e }; inside = l }
     all_typed (suc n) i place x s e z l =
-        let is = shown_is x d s e in
+        let is = shown_is x d s h.tests.is_text e in
         let v = character_at call block i in
         let ink = ink_at call block i in
         let t = is_typed law fonts d p place v ink (bytes _) (ink_small i) x is.is z (page_again c x d h is.is p lp) l.row l.column in
@@ -97,7 +97,7 @@ module _ (law : KeepsBounds) (fonts : FontSet) (d : BiosData) (p : ℕ) (call : 
 
         by_test : (b : Bool) → (let q : Plan BiosData = (if b then move_cursor_plan d p after.1 else Done d) in shown (run card_meaning q c1).0 (run card_meaning q c1).1) ≡ Some (if b then placed_on after.0 p after.1 else after.0)
         by_test true =
-            let x = shown_is c1 d after.0 all.leads.shows in
+            let x = shown_is c1 d after.0 h.tests.is_text all.leads.shows in
             moved_shown c1 d x.is p after.1 bda (page_again c c1 d h x.is p lp) (inside_word (d.last_row + 1) d.columns (few_columns c d h) after.1 (few_rows c d h) all.inside)
             ∙ ap (λ (w : Screen). Some (placed_on w p after.1)) x.screen
         by_test false = all.leads.shows

@@ -23,6 +23,7 @@ use Rattle.bios_services.specs.Palette.{register_plan}
 use Rattle.bios_services.specs.Tables.{table_refusal, registers_plan, read_palette_plan, read_components_plan, read_entries_plan, table_plan}
 use Rattle.bios_services.specs.Colours.{has_entries}
 use Rattle.bios_services.specs.Calls.{call_of}
+use Rattle.bios_services.specs.ModeSet.{is_text}
 use Rattle.bios_services.specs.Service.{Answered, answered_with, refused, table_unless, table_in_mode_plan, asked}
 use Rattle.bios_screen.specs.Listing.{listing}
 use Rattle.bios_screen.specs.Screen.{Screen}
@@ -37,11 +38,10 @@ use Rattle.bios_screen.proofs.Kept.{plan_beam}
 use Rattle.bios_screen.proofs.Setting.{setting, card_at}
 use Rattle.bios_screen.proofs.Display.{Display, port_of, text_setting}
 use Rattle.bios_screen.proofs.Display.Display.{Colour, Monochrome}
-use Rattle.bios_screen.proofs.Shows.{IsShown, screen_shown, shown_is}
+use Rattle.bios_screen.proofs.Shows.{IsShown, screen_shown, shown_is, text_shown, mode_of_shown}
 use Rattle.bios_screen.proofs.Attributes.{with_attr}
 use Rattle.bios_screen.proofs.Dacs.{with_dac}
 use Rattle.bios_screen.proofs.Coloured.{port_is, index_moved, dac_shown}
-use Rattle.bios_screen.proofs.Calls.{text_is_set}
 
 -- ---- the palette is read
 
@@ -163,7 +163,7 @@ call_read service fonts r block c d h z old e = by_refusal (table_refusal servic
     runs : after_call fonts r block c d ≡ run card_meaning (table_unless (table_refusal service) service d r) c
     runs =
         ap (λ (q : Option Call). run card_meaning (asked q fonts d r block) c) e
-        ∙ ap (λ b. run card_meaning (if b then refused NoMode d else table_unless (table_refusal service) service d r) c) (text_is_set d.mode h.tests.is_text)
+        ∙ ap (λ b. run card_meaning (if b then refused NoMode d else table_unless (table_refusal service) service d r) c) (mode_of_shown c d (screen_shown c d h) old).set
 
     beam_is : (after_call fonts r block c d).0.crtc.beam ≡ c.crtc.beam
     beam_is = ap (λ y. y.0.crtc.beam) runs ∙ plan_beam (table_unless (table_refusal service) service d r) c
@@ -185,9 +185,9 @@ call_read service fonts r block c d h z old e = by_refusal (table_refusal servic
           beam = beam_is;
         }
 
-pub tables_read : (service : TableService) (fonts : FontSet) (r : Regs) (block : List ℕ) (c : CardState) (d : BiosData) (s : Screen) → IsCard c → shown c d ≡ Some s → call_of r ≡ Some (ReadTable service) → IsRead service fonts r block c d s
-tables_read service fonts r block c d s z old e =
-    let x = shown_is c d s old in
+pub tables_read : (service : TableService) (fonts : FontSet) (r : Regs) (block : List ℕ) (c : CardState) (d : BiosData) (s : Screen) → IsCard c → shown c d ≡ Some s → is_text s.mode ≡ true → call_of r ≡ Some (ReadTable service) → IsRead service fonts r block c d s
+tables_read service fonts r block c d s z old text e =
+    let x = shown_is c d s (text_shown c d s old text) old in
     subst (IsRead service fonts r block c d) x.screen (call_read service fonts r block c d x.is z (old ∙ ap Some (sym x.screen)) e)
 
 -- where there is no memory nothing has changed

@@ -153,7 +153,7 @@ typed_at law fonts v colour c d h lv la z bda allowed = by_test (v == 0x07)
         let t = is_typed law fonts d d.page place v ink lv la c h z h.has.page allowed.row allowed.column in
         let c1 = (run card_meaning plan c).0 in
         let n = after.1 in
-        let x = shown_is c1 d after.0 t.shows in
+        let x = shown_is c1 d after.0 h.tests.is_text t.shows in
         let small = inside_word (d.last_row + 1) d.columns (few_columns c d h) n (few_rows c d h) (typed_inside (d.last_row + 1) d.columns (few_columns c d h) s d.page place v ink refl refl allowed) in
         ap (λ r. shown r.0 r.1) (run_bind card_meaning plan cursor c)
         ∙ ap (λ k. shown (run card_meaning (cursor k) c1).0 (run card_meaning (cursor k) c1).1) t.answer

@@ -1,27 +1,22 @@
 -- The dot at a place of a text screen's frame is the screen's.
-use Rattle.std.proofs.Common.{◌≡◌, ℕ, ◌+◌, ◌-◌, ◌*◌, ◌/◌, ◌%◌, ◌<◌, refl, sym, ap, subst, ◌∙◌, arith, Bool, true, false, List, [], ◌∷◌}
-use Rattle.std.specs.Prelude.{nat_lt, nat_le, not, if◌then◌else◌, ◌==◌, ◌&&◌, slice_index, bit_and, drop, take}
+use Rattle.std.proofs.Common.{◌≡◌, ℕ, ◌+◌, ◌-◌, ◌*◌, ◌/◌, ◌%◌, ◌<◌, refl, sym, ap, subst, ◌∙◌, arith, Bool, true, false, List, length}
+use Rattle.std.specs.Prelude.{nat_lt, nat_le, not, if◌then◌else◌, ◌==◌, ◌&&◌, slice_index, bit_and}
 use Rattle.std.specs.Int.{bit_at}
-use Rattle.std.specs.Str.{bytes_eq}
-use Rattle.std.proofs.lemmas.Slice.Eq.{bytes_eq-Decides}
 use Rattle.std.proofs.lemmas.Nat.{and_mask}
 use Rattle.vga_bits.specs.Bits.{is_set, field}
-use Rattle.vga_bits.proofs.BitLemmas.{is_set_and}
 use Rattle.vga_planes.specs.Planes.{byte_at}
 use Rattle.vga_host.specs.Fields.{is_eight_dots, character_width as host_width, is_screen_off, character_map_a, character_map_b, is_graphics, is_256_colours}
 use Rattle.vga_crtc.specs.declared.beam.Beam.{Beam}
 use Rattle.vga_crtc.specs.Crtc.{CrtcState}
 use Rattle.vga_crtc.specs.Fields.{cursor_start, is_cursor_off, cursor_end, cursor_location, underline_location}
 use Rattle.vga_crtc.specs.Raster.{regular_beam}
-use Rattle.vga_attr.specs.Fields.{is_palette_shown, is_monochrome, is_line_graphics, is_colour_select_wide, colour_select_high, colour_select_middle, overscan, panning}
-use Rattle.vga_attr.specs.Colour.{picked, colour_index}
-use Rattle.vga_dac.specs.Dac.{entry_of}
+use Rattle.vga_attr.specs.Fields.{is_palette_shown, is_monochrome, is_line_graphics, is_colour_select_wide, panning}
 use Rattle.vga_dots.specs.declared.source_dot.SourceDot.{SourceDot}
 use Rattle.vga_dots.specs.declared.text.Cell.{Cell as DotCell}
 use Rattle.vga_dots.specs.SourceDot.{panned, counter_of, source_at, source_dot, fetch_address}
 use Rattle.vga_dots.specs.Text.{cell_at, map_start, glyph_row as row_of_glyph, is_glyph_dot as is_dot_of_glyph, is_underlined as is_cell_underlined, is_blinked_away as is_cell_blinked, is_cursor_at, is_foreground as is_cell_foreground, cell_nibble, text_nibble}
-use Rattle.vga_dots.specs.Graphics.{planar_nibble, packed_byte}
-use Rattle.vga_dots.specs.Colour.{nibble as dot_nibble, colour_number, dot_colour}
+use Rattle.vga_dots.specs.Graphics.{planar_nibble}
+use Rattle.vga_dots.specs.Colour.{nibble as dot_nibble, dot_colour}
 use Rattle.vga_card.specs.Bounds.{IsCard}
 use Rattle.vga_card.specs.Card.{CardState}
 use Rattle.bios_modes.specs.declared.modes.ModeRow.{ModeRow}
@@ -32,12 +27,13 @@ use Rattle.bios_screen.specs.Screen.{Cell, Screen, cursor_cell}
 use Rattle.bios_screen.specs.Shown.{cell_in, glyph_byte, glyphs_in, all_cells}
 use Rattle.bios_screen.specs.Step.{cell_on}
 use Rattle.bios_screen.specs.Picture.{glyph_row, is_glyph_dot, is_underlined, is_blinked_away, is_cursor, is_foreground, background, nibble, shade}
-use Rattle.bios_screen.proofs.ListLemmas.{listed_at, spelled}
-use Rattle.bios_screen.proofs.TestLemmas.{both_true, lt_test}
+use Rattle.bios_screen.proofs.ListLemmas.{listed_at}
+use Rattle.bios_screen.proofs.TestLemmas.{lt_test}
 use Rattle.bios_screen.proofs.Setting.{Setting}
 use Rattle.std.proofs.lemmas.Nat.{mod_below}
 use Rattle.std.proofs.Math.Nat.{div-lt_iff_lt-mul}
 use Rattle.bios_screen.proofs.Places.{ends_before}
+use Rattle.bios_screen.proofs.Colours.{HasAttribute, attribute_is, control_bit, Coloured, dot_shade}
 use Rattle.bios_screen.proofs.TextRows.{IsTextFrame, frame_of}
 use Rattle.bios_screen.proofs.Display.{Display, row_of, number_of, window_of, control_of}
 use Rattle.bios_screen.proofs.Display.Display.{Colour, Monochrome}
@@ -63,25 +59,21 @@ wide_by : (k : Display) → is_set (control_of k) 7 ≡ false
 wide_by Colour = refl
 wide_by Monochrome = refl
 
-planes_by : (k : Display) → slice_index (drop 0x12 (row_of k).attribute) 0 ≡ 0x0F
+attributes_by : (k : Display) → length (row_of k).attribute ≡ 21
+attributes_by Colour = refl
+attributes_by Monochrome = refl
+
+planes_by : (k : Display) → slice_index (row_of k).attribute 0x12 ≡ 0x0F
 planes_by Colour = refl
 planes_by Monochrome = refl
 
-panning_by : (k : Display) → slice_index (drop 0x12 (row_of k).attribute) 1 ≡ 0x08
+panning_by : (k : Display) → slice_index (row_of k).attribute 0x13 ≡ 0x08
 panning_by Colour = refl
 panning_by Monochrome = refl
 
-select_by : (k : Display) → slice_index (drop 0x12 (row_of k).attribute) 2 ≡ 0
+select_by : (k : Display) → slice_index (row_of k).attribute 0x14 ≡ 0
 select_by Colour = refl
 select_by Monochrome = refl
-
--- a bit of mode control
-off_right : (b : Bool) → (b && true) ≡ b
-off_right true = refl
-off_right false = refl
-
-control_bit : (v n i : ℕ) → bit_and v 0xF7 ≡ n → is_set 0xF7 i ≡ true → is_set v i ≡ is_set n i
-control_bit v n i e one = sym (off_right (is_set v i)) ∙ ap (λ b. is_set v i && b) (sym one) ∙ sym (is_set_and v 0xF7 i) ∙ ap (λ m. is_set m i) e
 
 -- ---- numbers
 
@@ -105,12 +97,6 @@ off_bit n = let e = and_mask n 6 in let f : bit_at (bit_and n 0x3F) 5 ≡ bit_at
 
 two_bytes : (n : ℕ) → 256 * (n / 256) + n % 256 ≡ n
 two_bytes n = omega arith
-
-low_fields : (p : ℕ) → p < 64 → field p 3 0 + 16 * field p 5 4 + 64 * 0 ≡ p
-low_fields p l = omega arith
-
-same_nibble : (n : ℕ) → n < 16 → bit_and n 15 ≡ n
-same_nibble n l = let e = and_mask n 4 in omega (arith, e)
 
 glyphs_at : (plane2 : List ℕ) (n i : ℕ) → i < n → slice_index (glyphs_in plane2 n) i ≡ glyph_byte plane2 i
 unfolding glyphs_in
@@ -174,26 +160,20 @@ module _ (c : CardState) (d : BiosData) (h : IsShown c d) (z : IsCard c) (g : �
   screen_on : is_screen_off c.host ≡ false
   screen_on = ap (λ (t : Setting). is_set (slice_index t.seq 1) 5) h.setting
 
+  attribute : HasAttribute h.row c.attr
+  attribute = attribute_is h.row c.attr z.attr (ap (λ (r : ModeRow). length r.attribute) h.row_is ∙ attributes_by disp) h.tests.attribute
+
   palette_on : is_palette_shown c.attr ≡ true
-  palette_on = (both_true (is_palette_shown c.attr) _ h.tests.attribute).0
-
-  last_registers : drop 0x12 c.attr.registers ≡ drop 0x12 (row_of disp).attribute
-  last_registers =
-      let a = both_true (is_palette_shown c.attr) _ h.tests.attribute in
-      let b = both_true (bit_and (slice_index c.attr.registers 0x10) 0xF7 == bit_and (slice_index h.row.attribute 0x10) 0xF7) (bytes_eq (drop 0x12 c.attr.registers) (drop 0x12 h.row.attribute)) a.1 in
-      (bytes_eq-Decides (drop 0x12 c.attr.registers) (drop 0x12 h.row.attribute)).0 b.1 ∙ ap (λ (r : ModeRow). drop 0x12 r.attribute) h.row_is
-
-  spelled_registers : drop 0x12 c.attr.registers ≡ slice_index c.attr.registers 0x12 ∷ slice_index c.attr.registers 0x13 ∷ slice_index c.attr.registers 0x14 ∷ []
-  spelled_registers = ap (drop 0x12) (spelled c.attr.registers 21 z.attr.size)
+  palette_on = attribute.shown
 
   planes_are : slice_index c.attr.registers 0x12 ≡ 0x0F
-  planes_are = ap (λ l. slice_index l 0) (sym spelled_registers ∙ last_registers) ∙ planes_by disp
+  planes_are = attribute.planes ∙ ap (λ (r : ModeRow). slice_index r.attribute 0x12) h.row_is ∙ planes_by disp
 
   panning_is : panning c.attr ≡ 8
-  panning_is = ap (λ l. slice_index l 1) (sym spelled_registers ∙ last_registers) ∙ panning_by disp
+  panning_is = attribute.panning ∙ ap (λ (r : ModeRow). slice_index r.attribute 0x13) h.row_is ∙ panning_by disp
 
   select_is : slice_index c.attr.registers 0x14 ≡ 0
-  select_is = ap (λ l. slice_index l 2) (sym spelled_registers ∙ last_registers) ∙ select_by disp
+  select_is = attribute.select ∙ ap (λ (r : ModeRow). slice_index r.attribute 0x14) h.row_is ∙ select_by disp
 
   mono_is : is_monochrome c.attr ≡ (d.mode == 0x07)
   mono_is = control_bit (slice_index c.attr.registers 0x10) (control_of disp) 1 (control_is c d h) refl ∙ mono_by disp ∙ ap (λ n. n == 0x07) (sym h.number)
@@ -381,31 +361,9 @@ module _ (c : CardState) (d : BiosData) (h : IsShown c d) (z : IsCard c) (g : �
 
   -- ---- its colour
 
-  value_is : (n : ℕ) → n < 16 → slice_index s.palette.values n ≡ slice_index c.attr.registers n
-  value_is n l = ap (λ r. slice_index (take 16 r) n) (spelled c.attr.registers 21 z.attr.size) ∙ listed_at (slice_index c.attr.registers) 16 n 0 l
-
-  index_is : (n : ℕ) → n < 16 → colour_index c.attr n ≡ slice_index s.palette.values n
-  index_is n l =
-      let p = slice_index c.attr.registers n in
-      let e : picked c.attr n ≡ p = ap (λ (i : ℕ). slice_index c.attr.registers (bit_and n (field i 3 0))) planes_are ∙ ap (slice_index c.attr.registers) (same_nibble n l) in
-      ap (λ i. field i 3 0 + 16 * (if is_colour_select_wide c.attr then colour_select_middle c.attr else field i 5 4) + 64 * colour_select_high c.attr) e
-      ∙ ap (λ w. field p 3 0 + 16 * (if w then colour_select_middle c.attr else field p 5 4) + 64 * colour_select_high c.attr) wide_is
-      ∙ ap (λ i. field p 3 0 + 16 * field p 5 4 + 64 * field i 3 2) select_is
-      ∙ low_fields p (z.attr.palette n l)
-      ∙ sym (value_is n l)
-
-  number_is : (t : CrtcState) → colour_number c.host t c.attr ≡ colour_index c.attr (dot_nibble c.host t c.attr)
-  unfolding colour_number
-  number_is t =
-      ap (λ w. if not w then overscan c.attr else if is_256_colours c.host then packed_byte c.host t (source_dot c.host t c.attr) else colour_index c.attr (dot_nibble c.host t c.attr)) palette_on
-      ∙ ap (λ w. if w then packed_byte c.host t (source_dot c.host t c.attr) else colour_index c.attr (dot_nibble c.host t c.attr)) many_colours_off
-
-  dot_shade : (t : CrtcState) (n : ℕ) → dot_nibble c.host t c.attr ≡ n → n < 16 → dot_colour c.host t c.attr c.dac ≡ shade s.palette n
-  unfolding dot_colour
-  dot_shade t n e l =
-      ap (λ w. if w then 0 ∷ 0 ∷ 0 ∷ [] else entry_of c.dac (bit_and (colour_number c.host t c.attr) c.dac.mask)) screen_on
-      ∙ ap (λ i. entry_of c.dac (bit_and i c.dac.mask)) (number_is t ∙ ap (colour_index c.attr) e ∙ index_is n l)
+  coloured : Coloured c
+  coloured = record { on = screen_on; many = many_colours_off; wide = wide_is; planes = planes_are; select = select_is; shown = palette_on }
 
   -- the dot at the place has the screen's colour
   pub place_is : (v x k : ℕ) → v < height * rows → x < columns → k < 9 → dot_colour c.host (placed v x k) c.attr c.dac ≡ shade s.palette (nibble s (half * g + (columns * (v / height) + x)) (v % height) k)
-  place_is v x k lv lx lk = dot_shade (placed v x k) (nibble s (half * g + (columns * (v / height) + x)) (v % height) k) (dot_bits v x k lv lx lk) (nibble_small (half * g + (columns * (v / height) + x)) (v % height) k)
+  place_is v x k lv lx lk = dot_shade c coloured z (placed v x k) (nibble s (half * g + (columns * (v / height) + x)) (v % height) k) (dot_bits v x k lv lx lk) (nibble_small (half * g + (columns * (v / height) + x)) (v % height) k)

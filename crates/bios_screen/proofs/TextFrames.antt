@@ -9,7 +9,7 @@ use Rattle.vga_card.specs.declared.shape.Shape.{Shape}
 use Rattle.vga_card.specs.Card.{CardState}
 use Rattle.bios_modes.specs.Bda.{BiosData}
 use Rattle.bios_services.specs.Cursor.{cursor_address, start_address}
-use Rattle.bios_screen.specs.Picture.{picture_width, picture_height}
+use Rattle.bios_screen.specs.Picture.{pixel_width, pixel_height, picture_width, picture_height}
 use Rattle.bios_screen.specs.Raster.{Raster, raster_of, HasRaster}
 use Rattle.bios_screen.proofs.Setting.{Setting}
 use Rattle.bios_screen.proofs.Shows.{IsShown, screen_shown}
@@ -45,7 +45,10 @@ pub size_is : (c : CardState) (d : BiosData) (h : IsShown c d) → (let m : Shap
 size_is c d h =
     let has = h.has in
     let turned : 9 * h.row.columns ≡ h.row.columns * 9 = omega arith in
-    sym (ap (λ n. let m : Shape = record { width = 9 * n; height = d.height * (d.last_row + 1) } in m) has.columns
+    let w = pixel_width d.mode * (8 * d.columns) in
+    let v = pixel_height d.mode * (d.height * (d.last_row + 1)) in
+    sym (ap (λ b. let m : Shape = record { width = if b then 9 * d.columns else w; height = if b then d.height * (d.last_row + 1) else v } in m) h.tests.is_text
+    ∙ ap (λ n. let m : Shape = record { width = 9 * n; height = d.height * (d.last_row + 1) } in m) has.columns
     ∙ ap (λ n. let m : Shape = record { width = 9 * h.row.columns; height = n * (d.last_row + 1) } in m) has.height
     ∙ ap (λ n. let m : Shape = record { width = 9 * h.row.columns; height = h.row.height * (n + 1) } in m) has.last_row
     ∙ ap (λ n. let m : Shape = record { width = n; height = h.row.height * (h.row.last_row + 1) } in m) turned)

@@ -1,5 +1,5 @@
 -- A frame of a text screen draws the screen's picture.
-use Rattle.std.proofs.Common.{◌≡◌, ℕ, ◌+◌, ◌*◌, ◌/◌, ◌%◌, ◌<◌, refl, sym, ap, subst, ◌∙◌, arith, Some}
+use Rattle.std.proofs.Common.{◌≡◌, ℕ, ◌+◌, ◌*◌, ◌/◌, ◌%◌, ◌<◌, refl, sym, ap, subst, ◌∙◌, arith, true, Some}
 use Rattle.std.specs.Prelude.{if◌then◌else◌}
 use Rattle.std.proofs.lemmas.Nat.{div-mul-add, mod-mul-add}
 use Rattle.vga_crtc.specs.declared.beam.Beam.{Beam}
@@ -12,10 +12,11 @@ use Rattle.vga_card.specs.Bounds.{IsCard}
 use Rattle.vga_card.specs.Card.{CardState}
 use Rattle.vga_card.specs.Frames.{frame}
 use Rattle.bios_modes.specs.Bda.{BiosData}
+use Rattle.bios_services.specs.ModeSet.{is_text}
 use Rattle.bios_services.specs.Cursor.{cursor_address, start_address}
 use Rattle.bios_screen.specs.Screen.{Screen, page_start}
 use Rattle.bios_screen.specs.Shown.{shown}
-use Rattle.bios_screen.specs.Picture.{nibble, shade, dot_at}
+use Rattle.bios_screen.specs.Picture.{nibble, shade, text_dot, pixel_dot, dot_at}
 use Rattle.bios_screen.specs.Raster.{Draws, picture_bytes}
 use Rattle.bios_screen.specs.Framed.{IsFramed}
 use Rattle.bios_screen.proofs.Shows.{IsShown, screen_shown, shown_is, shown_of}
@@ -55,7 +56,7 @@ module _ (c : CardState) (d : BiosData) (h : IsShown c d) (z : IsCard c) where
 
   -- the colours of the places are those of the screen
   draws : (g : ℕ) → g < h.row.pages → Draws (text_raster c d h) c (half * g) (dot_at s g)
-  unfolding dot_at
+  unfolding text_dot
   draws g lg v x k lv lx lk =
       ap (λ (b : Beam). dot_colour c.host (record c.crtc { beam = b }) c.attr c.dac) (beam_is c d h z g lg v x k lv)
       ∙ place_is c d h z g lg v x k lv lx lk
@@ -64,6 +65,7 @@ module _ (c : CardState) (d : BiosData) (h : IsShown c d) (z : IsCard c) where
       ∙ ap (λ n. shade s.palette (nibble s (half * g + (h.row.columns * (v / n) + (x * 9 + k) / 9)) (v % n) ((x * 9 + k) % 9))) h.has.height
       ∙ ap (λ a. shade s.palette (nibble s (half * g + (h.row.columns * (v / h.row.height) + a)) (v % h.row.height) ((x * 9 + k) % 9))) (div-mul-add x 9 k lk)
       ∙ ap (λ i. shade s.palette (nibble s (half * g + (h.row.columns * (v / h.row.height) + x)) (v % h.row.height) i)) (mod-mul-add x 9 k lk))
+      ∙ sym (ap (λ b. if b then text_dot s g (x * 9 + k) v else pixel_dot s g (x * 9 + k) v) h.tests.is_text)
 
   pub framed : (law : DotLaws) → IsFrameStart c.crtc.beam → IsFramed c d s
   framed law start =
@@ -79,5 +81,5 @@ module _ (c : CardState) (d : BiosData) (h : IsShown c d) (z : IsCard c) where
         start = subst (λ (x : CardState). IsFrameStart x.crtc.beam) (sym drawn.leaves) (record { line = refl; character = refl; dot = refl });
       }
 
-pub frame_framed : (law : DotLaws) (c : CardState) (d : BiosData) (s : Screen) → IsCard c → shown c d ≡ Some s → IsFrameStart c.crtc.beam → IsFramed c d s
-frame_framed law c d s z e start = let x = shown_is c d s e in subst (IsFramed c d) x.screen (framed c d x.is z law start)
+pub frame_framed : (law : DotLaws) (c : CardState) (d : BiosData) (s : Screen) → IsCard c → shown c d ≡ Some s → is_text d.mode ≡ true → IsFrameStart c.crtc.beam → IsFramed c d s
+frame_framed law c d s z e text start = let x = shown_is c d s text e in subst (IsFramed c d) x.screen (framed c d x.is z law start)

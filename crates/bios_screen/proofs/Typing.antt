@@ -91,7 +91,7 @@ module _ (law : KeepsBounds) (d : BiosData) (p place : ℕ) where
         let same : v ≡ colour = read.answer ∙ sym colour_is in
         let small : colour < 256 = let a = attribute_small h.display (without_text c) c f last last_within has in let b = colour_is in omega arith in
         let still : shown c1 d ≡ Some s = same_shown h.display (without_text c) c c1 d h f read.cells.is.others read.cells (λ k l. refl) in
-        let x = shown_is c1 d s still in
+        let x = shown_is c1 d s h.tests.is_text still in
         let z1 = plan_bounds law (get (at + 1)) c z in
         let band = band_of d p 0 (d.columns - 1) in
         let plan : ℕ → Plan ℕ = λ n. (up_plan band 0 (d.last_row + 1) 1 n >> Done place) in
@@ -216,7 +216,7 @@ module _ (law : KeepsBounds) (fonts : FontSet) (d : BiosData) (p place v : ℕ) 
   is_shown =
       let write = write_cell_plan (cell_address d p (cell_number d place)) v ink in
       let c1 = (run card_meaning write c).0 in
-      let x = shown_is c1 d (put_on old p place v ink) is_put in
+      let x = shown_is c1 d (put_on old p place v ink) h.tests.is_text is_put in
       let next = advances law d p place c1 x.is (plan_bounds law write c z) (page_again c c1 d h x.is p lp) lc in
       let moved : Leads (advance_plan d p place) c1 d (advanced (put_on old p place v ink) p place).0 (advanced (put_on old p place v ink) p place).1 =
       subst (λ (w : Screen). Leads (advance_plan d p place) c1 d (advanced w p place).0 (advanced w p place).1) x.screen next in

@@ -1,16 +1,21 @@
 -- The screen that a clearing mode set leaves.
 -- From the IBM PS/2 and PC BIOS Interface Technical Reference, "Interrupt 10H - Video", (AH) = 00H.
-use Rattle.std.specs.Prelude.{ℕ, ◌+◌, ◌/◌, List, replicate, take, slice_index}
+use Rattle.std.specs.Prelude.{ℕ, ◌+◌, ◌*◌, ◌/◌, if◌then◌else◌, List, [], replicate, take, slice_index}
 use Rattle.vga_bits.specs.Bits.{is_set}
 use Rattle.bios_modes.specs.declared.modes.ModeRow.{ModeRow}
 use Rattle.bios_modes.specs.Palette.{dac_entry}
+use Rattle.bios_services.specs.ModeSet.{is_text}
 use Rattle.bios_screen.specs.Listing.{listing}
-use Rattle.bios_screen.specs.Screen.{Cell, Cells, Layout, Palette, Screen}
+use Rattle.bios_screen.specs.Screen.{Cell, Contents, Cells, Pixels, Layout, Palette, Screen}
 use Rattle.bios_screen.specs.Shown.{all_cells}
 
 -- n blank cells
 unfoldable pub blank_cells : ℕ → List Cell
 blank_cells n = replicate n (0x20, 0x07)
+
+-- n pixels 0
+unfoldable pub blank_pixels : ℕ → List ℕ
+blank_pixels n = replicate n 0
 
 -- one component of the first n entries of a mode's default palette: 0 red, 1 green, 2 blue
 unfoldable pub default_component : ℕ → ℕ → ℕ → List ℕ
@@ -30,21 +35,33 @@ fresh_palette mode row = record {
   mask = 0xFF;
 }
 
-abbrev pub fresh_layout : ModeRow → Layout
-fresh_layout row = record { columns = row.columns; rows = row.last_row + 1; height = row.height; distance = row.size / 2; pages = row.pages }
+-- how its screen is cut that has so many cells from a page to the next
+abbrev pub fresh_layout : ModeRow → ℕ → Layout
+fresh_layout row distance = record { columns = row.columns; rows = row.last_row + 1; height = row.height; distance = distance; pages = row.pages }
 
--- blank cells, the cursors in the upper left corner, the mode's type, colours and font; the frame number stays
-abbrev pub fresh_screen : ℕ → ModeRow → List ℕ → ℕ → Screen
-fresh_screen mode row font frame = record {
+-- these contents and glyphs, the cursors in the upper left corner, the mode's type and colours; the frame number stays
+abbrev pub fresh_by : ℕ → ModeRow → ℕ → Contents → List ℕ → ℕ → Screen
+fresh_by mode row distance contents glyphs frame = record {
   mode = mode;
-  layout = fresh_layout row;
-  contents = Cells (blank_cells all_cells);
+  layout = fresh_layout row distance;
+  contents = contents;
   places = replicate 8 0;
   cursor_type = row.cursor_type;
   page = 0;
   palette = fresh_palette mode row;
   overscan = slice_index row.attribute 0x11;
   is_blink = is_set (slice_index row.attribute 0x10) 3;
-  glyphs = font_bytes font 4096;
+  glyphs = glyphs;
   frame = frame;
 }
+
+-- text: blank cells, and the font's glyphs
+abbrev pub fresh_text : ℕ → ModeRow → List ℕ → ℕ → Screen
+fresh_text mode row font frame = fresh_by mode row (row.size / 2) (Cells (blank_cells all_cells)) (font_bytes font 4096) frame
+
+-- graphics: pages of pixels 0
+abbrev pub fresh_pixels : ℕ → ModeRow → ℕ → Screen
+fresh_pixels mode row frame = fresh_by mode row 0 (Pixels (replicate row.pages (blank_pixels (8 * row.columns * (row.height * (row.last_row + 1)))))) [] frame
+
+abbrev pub fresh_screen : ℕ → ModeRow → List ℕ → ℕ → Screen
+fresh_screen mode row font frame = if is_text mode then fresh_text mode row font frame else fresh_pixels mode row frame

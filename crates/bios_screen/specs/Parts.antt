@@ -1,7 +1,9 @@
 -- The parts of a plain screen that its readers answer.
-use Rattle.std.specs.Prelude.{ℕ, ◌+◌, ◌*◌, ◌≤◌, ◌&&◌, nat_lt, if◌then◌else◌, [], get_or, slice_index, Option, Some, None}
+use Rattle.std.specs.Prelude.{ℕ, ◌≡◌, ◌+◌, ◌*◌, ◌≤◌, ◌&&◌, nat_lt, true, false, if◌then◌else◌, List, [], get_or, slice_index, Option, Some, None}
+use Rattle.bios_services.specs.ModeSet.{is_text}
 use Rattle.bios_services.specs.Cursor.{row_of, column_of}
-use Rattle.bios_screen.specs.Screen.{Cell, Contents, Cells, Pixels, Screen, cell_of, page_start, cursor_place}
+use Rattle.bios_screen.specs.Listing.{listing}
+use Rattle.bios_screen.specs.Screen.{Cell, Contents, Cells, Pixels, Layout, Screen, cell_of, page_start, cursor_place}
 
 -- cell k of text, and no cell of pixels
 abbrev pub text_cell : Contents → ℕ → Option Cell
@@ -31,7 +33,20 @@ pixel_at s page x y =
 abbrev pub cursor_at : Screen → ℕ → Option (ℕ × ℕ)
 cursor_at s page = if nat_lt page 8 then Some (row_of (cursor_place s page), column_of (cursor_place s page)) else None
 
--- the pages lie one after another within so many cells
-pub record IsLaidOut (cells columns rows distance pages : ℕ) : Type 0 where
-  pub page : columns * rows ≤ distance
-  pub all : distance * pages ≤ cells
+-- the pixels of each page, where those of all pages stand in one list, n for each page
+unfoldable pub cut_pages : List ℕ → ℕ → ℕ → List (List ℕ)
+cut_pages pixels n pages = listing (λ p. listing (λ k. slice_index pixels (n * p + k)) 0 n) 0 pages
+
+-- how many pixels a page has
+abbrev pub pixel_count : Layout → ℕ
+pixel_count l = 8 * l.columns * (l.height * l.rows)
+
+-- the contents that a mode has
+abbrev pub contents_of : ℕ → Layout → List Cell → List ℕ → Contents
+contents_of mode l cells pixels = if is_text mode then Cells cells else Pixels (cut_pages pixels (pixel_count l) l.pages)
+
+-- in text the pages lie one after another within so many cells; in graphics there are as many pixels as the pages have
+pub record IsLaidOut (mode : ℕ) (l : Layout) (cell_number pixel_number : ℕ) : Type 0 where
+  pub page : is_text mode ≡ true → l.columns * l.rows ≤ l.distance
+  pub cells : is_text mode ≡ true → l.distance * l.pages ≤ cell_number
+  pub pixels : is_text mode ≡ false → pixel_number ≡ pixel_count l * l.pages

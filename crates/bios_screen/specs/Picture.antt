@@ -1,11 +1,12 @@
--- The picture of a plain screen of text, dot by dot.
+-- The picture of a plain screen, dot by dot.
 -- From the IBM PS/2 and PC BIOS Interface Technical Reference, "Interrupt 10H - Video", and the IBM PS/2 Hardware Interface
--- Technical Reference, Video Subsystems, "Alphanumeric Modes"; at which frames characters and cursor blink, and what comes
--- first of underline, blink and cursor, is this adapter's choice.
-use Rattle.std.specs.Prelude.{ℕ, ◌+◌, ◌-◌, ◌*◌, ◌/◌, ◌%◌, ◌==◌, ◌&&◌, not, nat_lt, nat_le, Bool, true, false, if◌then◌else◌, List, [], ◌∷◌, slice_index, bit_and}
+-- Technical Reference, Video Subsystems, "Alphanumeric Modes" and "All Points Addressable Modes"; at which frames characters and
+-- cursor blink, and what comes first of underline, blink and cursor, is this adapter's choice.
+use Rattle.std.specs.Prelude.{ℕ, ◌+◌, ◌-◌, ◌*◌, ◌/◌, ◌%◌, ◌==◌, ◌&&◌, ◌||◌, not, nat_lt, nat_le, Bool, true, false, if◌then◌else◌, List, [], ◌∷◌, get_or, slice_index, bit_and}
 use Rattle.vga_bits.specs.Bits.{is_set, field}
+use Rattle.bios_services.specs.ModeSet.{is_text}
 use Rattle.bios_services.specs.Registers.{high, low}
-use Rattle.bios_screen.specs.Screen.{Cell, Palette, Screen, page_start, cursor_cell}
+use Rattle.bios_screen.specs.Screen.{Cell, Contents, Cells, Pixels, Palette, Screen, page_start, cursor_cell}
 use Rattle.bios_screen.specs.Step.{cell_on}
 
 -- row r of a character's glyph
@@ -61,16 +62,45 @@ shade p n = tint p (slice_index p.values n)
 abbrev pub cell_shown : Screen → ℕ → ℕ → ℕ → ℕ
 cell_shown s page x y = page_start s page + (s.layout.columns * (y / s.layout.height) + x / 9)
 
+-- the colour of the dot of text at column x of line y, where this page is shown
+unfoldable pub text_dot : Screen → ℕ → ℕ → ℕ → List ℕ
+text_dot s page x y = shade s.palette (nibble s (cell_shown s page x y) (y % s.layout.height) (x % 9))
+
+-- ---- graphics
+
+-- how many dots of a line a pixel takes, and how many lines
+abbrev pub pixel_width : ℕ → ℕ
+pixel_width mode = if mode == 0x13 then 2 else 1
+
+abbrev pub pixel_height : ℕ → ℕ
+pixel_height mode = if (mode == 0x0D) || (mode == 0x13) then 2 else 1
+
+-- the pixels of a screen, page after page, and pixel (x, y) of a page
+abbrev pub pages_on : Contents → List (List ℕ)
+pages_on (Cells cells) = []
+pages_on (Pixels pages) = pages
+
+abbrev pub pixel_on : Screen → ℕ → ℕ → ℕ → ℕ
+pixel_on s page x y = slice_index (get_or (pages_on s.contents) page []) (8 * s.layout.columns * y + x)
+
+-- the colour of the dot of a pixel: sixteen colours are values of the palette, and 256 are entries themselves
+unfoldable pub pixel_dot : Screen → ℕ → ℕ → ℕ → List ℕ
+pixel_dot s page x y =
+    let pixel = pixel_on s page (x / pixel_width s.mode) (y / pixel_height s.mode) in
+    if s.mode == 0x13 then tint s.palette pixel else shade s.palette pixel
+
+-- ---- the picture
+
 -- the colour of the dot at column x of line y, where this page is shown
-unfoldable pub dot_at : Screen → ℕ → ℕ → ℕ → List ℕ
-dot_at s page x y = shade s.palette (nibble s (cell_shown s page x y) (y % s.layout.height) (x % 9))
+abbrev pub dot_at : Screen → ℕ → ℕ → ℕ → List ℕ
+dot_at s page x y = if is_text s.mode then text_dot s page x y else pixel_dot s page x y
 
 -- how wide and how high the picture is; the overscan is no part of it
 abbrev pub picture_width : Screen → ℕ
-picture_width s = 9 * s.layout.columns
+picture_width s = if is_text s.mode then 9 * s.layout.columns else pixel_width s.mode * (8 * s.layout.columns)
 
 abbrev pub picture_height : Screen → ℕ
-picture_height s = s.layout.height * s.layout.rows
+picture_height s = if is_text s.mode then s.layout.height * s.layout.rows else pixel_height s.mode * (s.layout.height * s.layout.rows)
 
 -- the screen after a frame
 abbrev pub next_frame : Screen → Screen

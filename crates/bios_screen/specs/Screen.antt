@@ -13,7 +13,7 @@ pub data Contents : Type 0 where
   Pixels : List (List ℕ) → Contents
 
 -- how the contents are cut: columns and rows of characters on a page, scan lines of a character, how many cells lead from
--- a page to the next, and how many pages there are
+-- a page to the next, which is 0 for pixels, and how many pages there are
 pub record Layout : Type 0 where
   pub columns : ℕ
   pub rows : ℕ
@@ -30,7 +30,7 @@ pub record Palette : Type 0 where
   pub mask : ℕ
 
 -- the places of the cursor, one for each page, have the row as high byte and the column as low one; the cursor's type has
--- its first scan line as high byte and its last as low one; glyphs have sixteen bytes a character, top row first
+-- its first scan line as high byte and its last as low one; glyphs have sixteen bytes a character, top row first, and pixels have none
 pub record Screen : Type 0 where
   pub mode : ℕ
   pub layout : Layout

@@ -1,5 +1,5 @@
 -- What the laws say: from a state that shows a screen a service leads to one that shows the next.
-use Rattle.std.specs.Prelude.{ℕ, ◌≡◌, ◌<◌, false, List, length, Some, None, Ok}
+use Rattle.std.specs.Prelude.{ℕ, ◌≡◌, ◌<◌, true, false, List, length, Some, None, Ok}
 use Rattle.vga_card.specs.Card.{CardState}
 use Rattle.vga_card.specs.Bounds.{IsCard}
 use Rattle.vga_card.specs.Bus.{card_meaning}
@@ -14,6 +14,7 @@ use Rattle.bios_services.specs.declared.call.Service.{Service}
 use Rattle.bios_services.specs.declared.colours.ColourService.{ColourService}
 use Rattle.bios_services.specs.declared.colours.ColourService.TheVariants.{SetOverscan}
 use Rattle.bios_services.specs.Plan.{run}
+use Rattle.bios_services.specs.ModeSet.{is_text}
 use Rattle.bios_services.specs.Refusals.{refusal_in_mode}
 use Rattle.bios_services.specs.Calls.{call_of}
 use Rattle.bios_services.specs.Service.{plan_of, Outcome, Answered, service as whole_service}
@@ -38,9 +39,9 @@ abbrev pub FitsBytes : ColourService → Type 0
 FitsBytes (SetOverscan value) = value < 256
 FitsBytes service = Unit {0}
 
--- from every state that shows a screen the service leads to one that shows the next
+-- from every state that shows a screen of text the service leads to one that shows the next
 abbrev pub Serves : Service → Type 0
-Serves service = (fonts : FontSet) (r : Regs) (block : List ℕ) (c : CardState) (d : BiosData) (s : Screen) → AreBytes block → IsCard c → IsBda d → shown c d ≡ Some s → IsServed service fonts r block c d s
+Serves service = (fonts : FontSet) (r : Regs) (block : List ℕ) (c : CardState) (d : BiosData) (s : Screen) → AreBytes block → IsCard c → IsBda d → shown c d ≡ Some s → is_text s.mode ≡ true → IsServed service fonts r block c d s
 
 -- ---- a clearing mode set
 

@@ -1,8 +1,11 @@
 -- Whether the adapter shows a screen, and which: a test of registers and BIOS data, and then a reading.
 -- From the IBM PS/2 Hardware Interface Technical Reference, Video Subsystems, and the IBM PS/2 and PC BIOS Interface Technical
 -- Reference, "BIOS Data Area".
-use Rattle.std.specs.Prelude.{ℕ, ◌+◌, ◌*◌, ◌/◌, ◌%◌, ◌==◌, ◌&&◌, nat_lt, Bool, if◌then◌else◌, List, take, drop, slice_index, bit_and, Option, Some, None}
+use Rattle.std.specs.Prelude.{ℕ, ◌+◌, ◌-◌, ◌*◌, ◌/◌, ◌%◌, ◌==◌, ◌&&◌, nat_lt, Bool, if◌then◌else◌, List, [], take, drop, slice_index, bit_and, Option, Some, None}
+use Rattle.std.specs.Int.{bit_at}
 use Rattle.std.specs.Str.{bytes_eq}
+use Rattle.vga_bits.specs.Four.{Four}
+use Rattle.vga_planes.specs.Planes.{byte_at}
 use Rattle.vga_attr.specs.Attr.{AttrState}
 use Rattle.vga_attr.specs.Fields.{is_palette_shown, is_blink, overscan}
 use Rattle.vga_card.specs.Card.{CardState}
@@ -11,8 +14,9 @@ use Rattle.bios_modes.specs.Modes.{mode_row}
 use Rattle.bios_modes.specs.Bda.{BiosData}
 use Rattle.bios_services.specs.ModeSet.{is_text}
 use Rattle.bios_services.specs.Cursor.{cursor_address, start_address}
+use Rattle.bios_services.specs.Pixels.{dots_across, dots_down}
 use Rattle.bios_screen.specs.Listing.{listing}
-use Rattle.bios_screen.specs.Screen.{Cell, Cells, Layout, Palette, Screen}
+use Rattle.bios_screen.specs.Screen.{Cell, Contents, Cells, Pixels, Layout, Palette, Screen}
 
 -- ---- the test
 
@@ -35,9 +39,13 @@ crtc_register row cursor_type start location i =
 abbrev pub crtc_registers : ModeRow → ℕ → ℕ → ℕ → List ℕ
 crtc_registers row cursor_type start location = listing (crtc_register row cursor_type start location) 0 25
 
+-- the cursor's location: in text that of the active page; in graphics no cursor is shown, and the location is what it is
+abbrev pub location_shown : BiosData → List ℕ → ℕ
+location_shown d registers = if is_text d.mode then cursor_address d d.page else 256 * slice_index registers 0x0E + slice_index registers 0x0F
+
 -- as the data say: the active page is shown, with its cursor
-abbrev pub crtc_shown : ModeRow → BiosData → List ℕ
-crtc_shown row d = crtc_registers row d.cursor_type (start_address d d.page) (cursor_address d d.page)
+abbrev pub crtc_shown : ModeRow → BiosData → List ℕ → List ℕ
+crtc_shown row d registers = crtc_registers row d.cursor_type (start_address d d.page) (location_shown d registers)
 
 -- the attribute controller shows its palette, and its registers from mode control on are the mode's, but blink, which is
 -- bit 3 of mode control, and overscan
@@ -52,10 +60,10 @@ shows_data row d =
     (d.columns == row.columns) && ((d.size == row.size) && ((d.last_row == row.last_row) && ((d.height == row.height)
     && ((d.crtc_address == row.crtc_address) && ((d.start == d.size * d.page) && nat_lt d.page row.pages)))))
 
--- the adapter and the data show a text screen
-unfoldable pub shows_text : ModeRow → CardState → BiosData → Bool
-shows_text row c d =
-    is_text d.mode && (shows_memory row c && (shows_data row d && (bytes_eq c.crtc.registers (crtc_shown row d) && shows_attribute row c.attr)))
+-- the adapter and the data show a screen
+unfoldable pub shows : ModeRow → CardState → BiosData → Bool
+shows row c d =
+    shows_memory row c && (shows_data row d && (bytes_eq c.crtc.registers (crtc_shown row d c.crtc.registers) && shows_attribute row c.attr))
 
 -- ---- the reading
 
@@ -75,27 +83,54 @@ glyph_byte plane2 i = slice_index plane2 (32 * (i / 16) + i % 16)
 unfoldable pub glyphs_in : List ℕ → ℕ → List ℕ
 glyphs_in plane2 n = listing (glyph_byte plane2) 0 n
 
+-- pixel k of a page of 16 colours that begins at byte z: its bit p stands in plane p, eight pixels to a byte, the first as the
+-- highest bit
+abbrev pub planar_pixel : Four (List ℕ) → ℕ → ℕ → ℕ
+planar_pixel memory z k =
+    bit_at (byte_at memory 0 (z + k / 8)) (7 - k % 8) + 2 * bit_at (byte_at memory 1 (z + k / 8)) (7 - k % 8)
+    + 4 * bit_at (byte_at memory 2 (z + k / 8)) (7 - k % 8) + 8 * bit_at (byte_at memory 3 (z + k / 8)) (7 - k % 8)
+
+-- pixel n of 256 colours is a byte: the two low bits of its number are its plane, and are cleared in its place there
+abbrev pub packed_pixel : Four (List ℕ) → ℕ → ℕ
+packed_pixel memory n = byte_at memory (n % 4) (n / 4 * 4)
+
+-- pixel k of a page that begins at byte z
+abbrev pub pixel_in : ℕ → Four (List ℕ) → ℕ → ℕ → ℕ
+pixel_in mode memory z k = if mode == 0x13 then packed_pixel memory (z + k) else planar_pixel memory z k
+
+-- the first n of them
+unfoldable pub pixels_in : ℕ → Four (List ℕ) → ℕ → ℕ → List ℕ
+pixels_in mode memory z n = listing (pixel_in mode memory z) 0 n
+
+-- how many pixels a page has
+abbrev pub page_pixels : BiosData → ℕ
+page_pixels d = dots_across d * dots_down d
+
+-- so many pages of n pixels, each of which begins `size` bytes behind the one before
+unfoldable pub pixel_pages : ℕ → Four (List ℕ) → ℕ → ℕ → ℕ → List (List ℕ)
+pixel_pages mode memory size n pages = listing (λ p. pixels_in mode memory (size * p) n) 0 pages
+
 -- the palette's registers, the DAC's entries and its mask
 abbrev pub palette_in : CardState → Palette
 palette_in c = record { values = take 16 c.attr.registers; reds = c.dac.reds; greens = c.dac.greens; blues = c.dac.blues; mask = c.dac.mask }
 
--- how text is cut: a cell has two bytes of a page
-abbrev pub layout_of : ModeRow → BiosData → Layout
-layout_of row d = record { columns = d.columns; rows = d.last_row + 1; height = d.height; distance = d.size / 2; pages = row.pages }
+-- how a screen is cut that has so many cells from a page to the next
+abbrev pub layout_of : ModeRow → BiosData → ℕ → Layout
+layout_of row d distance = record { columns = d.columns; rows = d.last_row + 1; height = d.height; distance = distance; pages = row.pages }
 
--- the screen with these cells
-abbrev pub screen_with : ModeRow → CardState → BiosData → List Cell → Screen
-screen_with row c d cells = record {
+-- the screen with these contents and glyphs
+abbrev pub screen_by : ModeRow → CardState → BiosData → ℕ → Contents → List ℕ → Screen
+screen_by row c d distance contents glyphs = record {
   mode = d.mode;
-  layout = layout_of row d;
-  contents = Cells cells;
+  layout = layout_of row d distance;
+  contents = contents;
   places = d.cursor_places;
   cursor_type = d.cursor_type;
   page = d.page;
   palette = palette_in c;
   overscan = overscan c.attr;
   is_blink = is_blink c.attr;
-  glyphs = glyphs_in c.host.memory.plane2 4096;
+  glyphs = glyphs;
   frame = c.crtc.beam.frame;
 }
 
@@ -103,14 +138,26 @@ screen_with row c d cells = record {
 abbrev pub all_cells : ℕ
 all_cells = 16384
 
+-- the text screen with these cells, of which each has two bytes of a page
+abbrev pub screen_with : ModeRow → CardState → BiosData → List Cell → Screen
+screen_with row c d cells = screen_by row c d (d.size / 2) (Cells cells) (glyphs_in c.host.memory.plane2 4096)
+
 -- the text screen
 abbrev pub text_screen : ModeRow → CardState → BiosData → Screen
 text_screen row c d = screen_with row c d (cells_in c.host.memory.plane0 c.host.memory.plane1 all_cells)
 
+-- the screen of pixels
+abbrev pub pixel_screen : ModeRow → CardState → BiosData → Screen
+pixel_screen row c d = screen_by row c d 0 (Pixels (pixel_pages d.mode c.host.memory d.size (page_pixels d) row.pages)) []
+
+-- the screen of the mode
+abbrev pub screen_of : ModeRow → CardState → BiosData → Screen
+screen_of row c d = if is_text d.mode then text_screen row c d else pixel_screen row c d
+
 -- the screen that is shown, if there is one, where the mode has this row
 abbrev pub shown_by : Option ModeRow → CardState → BiosData → Option Screen
 shown_by None c d = None
-shown_by (Some row) c d = if shows_text row c d then Some (text_screen row c d) else None
+shown_by (Some row) c d = if shows row c d then Some (screen_of row c d) else None
 
 -- the screen that the adapter shows with these data, if it shows one
 abbrev pub shown : CardState → BiosData → Option Screen

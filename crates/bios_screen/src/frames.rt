@@ -52,9 +52,9 @@ pub fn frame_is_picture()
     regular_shape();
 }
 
-/// From a state that shows a text screen, at the first dot of a frame, a frame draws the screen's picture, and
+/// From a state that shows a screen, at the first dot of a frame, a frame draws the screen's picture, and
 /// leaves the screen with the next frame's number, again at the first dot of a frame.
-pub fn frame_draws_text()
+pub fn frame_draws_screen()
     ensures { (c : CardState) (d : BiosData) (s : Screen) → IsCard c → shown c d ≡ Some s → IsFrameStart c.crtc.beam → IsFramed c d s }
 {
     dots_split();

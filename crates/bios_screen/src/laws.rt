@@ -1,6 +1,7 @@
 //! Laws of plain screens, each of which is a contract, and nothing that runs: from a state that shows a
-//! screen a service leads to one that shows the next, with the screen's answer or refusal.
-ghost use Rattle.std.specs.Prelude.{ℕ, ◌≡◌, ◌<◌, Bool, List, Some, None, Err};
+//! screen a service leads to one that shows the next, with the screen's answer or refusal. In graphics they
+//! do not tell of services yet.
+ghost use Rattle.std.specs.Prelude.{ℕ, ◌≡◌, ◌<◌, Bool, true, List, Some, None, Err};
 ghost use Rattle.vga_bits.specs.declared.refusal.Refusal.TheVariants.{BadFunction, BadMode};
 ghost use Rattle.vga_card.specs.Bounds.{IsCard};
 ghost use Rattle.vga_card.specs.Card.{CardState};
@@ -14,9 +15,10 @@ ghost use Rattle.bios_services.specs.declared.colours.ColourService.{ColourServi
 ghost use Rattle.bios_services.specs.declared.call.Call.TheVariants.{SetMode, ReadTable, InMode};
 ghost use Rattle.bios_services.specs.declared.tables.TableService.{TableService};
 ghost use Rattle.bios_services.specs.declared.call.Service.{Service};
+ghost use Rattle.bios_services.specs.ModeSet.{is_text};
 ghost use Rattle.bios_services.specs.Calls.{call_of};
 ghost use Rattle.bios_services.specs.declared.call.Service.TheVariants.{SetCursorType, SetCursor, ReadCursor, SelectPage, ReadCell, WriteCells, ScrollUp, ScrollDown, WritePixel, ReadPixel, Teletype, WriteString, Colours, ReadMode, ReadAdapter, ReadDisplay};
-ghost use Rattle.bios_modes.specs.Modes.{mode_row, colour_text, monochrome_text};
+ghost use Rattle.bios_modes.specs.Modes.{mode_row, colour_text, monochrome_text, planes_320_by_200, planes_640_by_350, planes_640_by_480, bytes_320_by_200};
 ghost use Rattle.bios_modes.specs.Bounds.{IsBda};
 ghost use Rattle.bios_screen.specs.Screen.{Screen};
 ghost use Rattle.bios_screen.specs.Shown.{shown};
@@ -26,11 +28,14 @@ ghost use Rattle.bios_screen.specs.Called.{AreWords, IsCalled, IsRead, WantsMemo
 
 use vga_card::laws::bounds_stay;
 
-/// Function 00, a mode set to text that clears the memory: from any state to one that shows the fresh
-/// screen.
+/// Function 00, a mode set that clears the memory: from any state to one that shows the fresh screen.
 pub fn mode_set_is_fresh()
     ensures colour { SetsFresh 0x03 colour_text }
     ensures monochrome { SetsFresh 0x07 monochrome_text }
+    ensures planes_320_by_200 { SetsFresh 0x0D planes_320_by_200 }
+    ensures planes_640_by_350 { SetsFresh 0x10 planes_640_by_350 }
+    ensures planes_640_by_480 { SetsFresh 0x12 planes_640_by_480 }
+    ensures bytes_320_by_200 { SetsFresh 0x13 bytes_320_by_200 }
 {
     bounds_stay();
 }
@@ -81,15 +86,15 @@ pub fn dots_are_refused()
     ensures read { (page x y : ℕ) → Serves (ReadPixel page x y) }
 {}
 
-/// From every state that shows a screen a call for a service replies as on the screen, or is refused as
+/// From every state that shows a screen of text a call for a service replies as on the screen, or is refused as
 /// there, and leads to a state that shows the next screen; a call for a table replies with that of the screen,
-/// and leaves it, as does one for which memory is refused; a call for no service, or for a mode that there is
-/// not, changes nothing.
+/// and leaves it. From every state that shows a screen one for which memory is refused leaves it, and a call
+/// for no service, or for a mode that there is not, changes nothing.
 pub fn calls_lead_to_screens()
     ensures served { (service : Service) (fonts : FontSet) (r : Regs) (block : List ℕ) (c : CardState) (d : BiosData) (s : Screen) →
-        IsCard c → IsBda d → AreWords r → AreBytes block → shown c d ≡ Some s → call_of r ≡ Some (InMode service) → IsCalled service fonts r block c d s }
+        IsCard c → IsBda d → AreWords r → AreBytes block → shown c d ≡ Some s → is_text s.mode ≡ true → call_of r ≡ Some (InMode service) → IsCalled service fonts r block c d s }
     ensures table { (service : TableService) (fonts : FontSet) (r : Regs) (block : List ℕ) (c : CardState) (d : BiosData) (s : Screen) →
-        IsCard c → shown c d ≡ Some s → call_of r ≡ Some (ReadTable service) → IsRead service fonts r block c d s }
+        IsCard c → shown c d ≡ Some s → is_text s.mode ≡ true → call_of r ≡ Some (ReadTable service) → IsRead service fonts r block c d s }
     ensures memory { (fonts : FontSet) (r : Regs) (block : List ℕ) (c y : CardState) (d after : BiosData) (s : Screen) →
         shown c d ≡ Some s → WantsMemory fonts r block c d y after → IsLeft c s y after }
     ensures unknown { (fonts : FontSet) (r : Regs) (block : List ℕ) (c : CardState) (d : BiosData) (s : Screen) →

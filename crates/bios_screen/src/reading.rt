@@ -1,11 +1,15 @@
 //! Reading the screen that the adapter shows.
-ghost use Rattle.std.specs.Prelude.{◌≡◌, ◌≤◌, true, vec_len, Some, IfOk, IsOkUnless};
+ghost use Rattle.std.specs.Prelude.{◌≡◌, ◌+◌, ◌*◌, ◌/◌, ◌<◌, ◌≤◌, ◌++◌, true, false, vec_len, Some, IfOk, OnOk, IsOkUnless};
+ghost use Rattle.std.specs.Int.{bit_at};
+ghost use Rattle.vga_planes.specs.Planes.{byte_at};
 ghost use Rattle.bios_modes.specs.Modes.{mode_row as mode_row_of};
-ghost use Rattle.bios_screen.specs.Shown.{cells_in, glyphs_in, text_screen, shows_text, shown};
+ghost use Rattle.bios_services.specs.ModeSet.{is_text as is_text_of};
+ghost use Rattle.bios_screen.specs.Raster.{joined};
+ghost use Rattle.bios_screen.specs.Shown.{cells_in, glyphs_in, planar_pixel, packed_pixel, pixel_in, pixels_in, page_pixels as page_pixels_of, text_screen, pixel_screen, shows, shown};
 
 use crate::palette::Palette;
 use crate::screen::{Layout, Screen};
-use crate::shown::is_shown;
+use crate::shown::{is_shown, is_text};
 use bios_modes::{Bda, ModeRow, mode_row};
 use std::alloc::Global;
 use vga_bits::Fault;
@@ -65,27 +69,127 @@ fn read_places(bda: &Bda) -> [u16; 8]
     places
 }
 
+/// Bit i of a byte.
+fn bit(byte: u8, i: u32) -> u8
+    requires { i < 8 }
+    ensures value { result ≡ bit_at byte i }
+    ensures small { result ≤ 1 }
+{
+    (byte >> i) & 1
+}
+
+/// Pixel k of a page of 16 colours that begins at byte z.
+fn planar(planes: &Planes, z: u32, k: u32) -> u8
+    requires { z + k / 8 < 65536 }
+    ensures { result ≡ planar_pixel planes.now z k }
+{
+    let at = (z + k / 8) as u16;
+    let place = 7 - k % 8;
+    let b0 = bit(planes.byte(0, at), place);
+    let b1 = bit(planes.byte(1, at), place);
+    let b2 = bit(planes.byte(2, at), place);
+    let b3 = bit(planes.byte(3, at), place);
+    b0 + 2 * b1 + 4 * b2 + 8 * b3
+}
+
+/// Pixel n of 256 colours.
+fn packed(planes: &Planes, n: u32) -> u8
+    requires { n < 65536 }
+    ensures { result ≡ packed_pixel planes.now n }
+{
+    planes.byte((n % 4) as usize, (n / 4 * 4) as u16)
+}
+
+/// Pixel k of a page that begins at byte z.
+fn pixel(planes: &Planes, mode: u8, z: u32, k: u32) -> u8
+    requires planar { z + k / 8 < 65536 }
+    requires packed { mode ≡ 0x13 → z + k < 65536 }
+    ensures { result ≡ pixel_in mode planes.now z k }
+{
+    if mode == 0x13 {
+        packed(planes, z + k)
+    } else {
+        planar(planes, z, k)
+    }
+}
+
+/// Appends the first n pixels of a page that begins at byte z.
+#[tactic(auto, using(crate::proofs::ReadingLemmas::no_pixels, crate::proofs::ReadingLemmas::pixel_pushed))]
+fn read_page(planes: &Planes, mode: u8, z: u32, n: u32, pixels: &mut Vec<u8>) -> Result<(), Fault>
+    requires planar { z + (n + 7) / 8 ≤ 65536 }
+    requires packed { mode ≡ 0x13 → z + n ≤ 65536 }
+    ensures ok { OnOk result (pixels.new.items ≡ pixels.old.items ++ pixels_in mode planes.now z n) }
+    ensures err { IsOkUnless result Fault.OutOfMemory }
+{
+    for k in 0..n {
+        if pixels.push(pixel(planes, mode, z, k)).is_err() {
+            return Err(Fault::OutOfMemory);
+        }
+    }
+    Ok(())
+}
+
+/// The pixels of all pages, page after page, of n each.
+#[tactic(auto, unfolding(crate::specs::Raster::joined))]
+fn read_pixels(
+    alloc: Global,
+    planes: &Planes,
+    mode: u8,
+    size: u16,
+    n: u32,
+    pages: u8,
+) -> Result<Vec<u8>, Fault>
+    requires planar { size * pages ≤ 65536 }
+    requires page { (n + 7) / 8 ≤ size }
+    requires packed { mode ≡ 0x13 → n ≤ size }
+    ensures ok { IfOk result (λ pixels. pixels.items ≡ joined (λ p. pixels_in mode planes.now (size * p) n) pages) }
+    ensures err { IsOkUnless result Fault.OutOfMemory }
+{
+    let mut pixels = Vec::new(alloc);
+    for page in 0..pages {
+        read_page(planes, mode, size as u32 * page as u32, n, &mut pixels)?;
+    }
+    Ok(pixels)
+}
+
+/// How many pixels a page has.
+fn page_pixels(bda: &Bda) -> u32
+    requires columns { bda.now.columns ≤ 80 }
+    requires height { bda.now.height ≤ 16 }
+    ensures { result ≡ page_pixels_of bda.now }
+{
+    8 * bda.columns() as u32 * (bda.height() as u32 * (bda.last_row() as u32 + 1))
+}
+
+/// How the screen is cut that has so many cells from a page to the next.
+fn layout_of(bda: &Bda, row: &ModeRow, distance: u16) -> Layout
+    ensures { result ≡ record { columns = bda.now.columns; rows = bda.now.last_row + 1; height = bda.now.height; distance = distance; pages = row.now.pages } }
+{
+    Layout {
+        columns: bda.columns(),
+        rows: bda.last_row() as u16 + 1,
+        height: bda.height(),
+        distance,
+        pages: row.pages,
+    }
+}
+
 impl Screen {
     /// The text screen of the adapter and the data, where they show one.
     fn of_text(alloc: Global, card: &Card, bda: &Bda, row: &ModeRow) -> Result<Screen, Fault>
         requires row { mode_row_of bda.now.mode ≡ Some row.now }
-        requires shown { shows_text row.now card.now bda.now ≡ true }
+        requires shown { shows row.now card.now bda.now ≡ true }
+        requires text { is_text_of bda.now.mode ≡ true }
         ensures ok { IfOk result (λ screen. screen ≡ text_screen row.now card.now bda.now) }
         ensures err { IsOkUnless result Fault.OutOfMemory }
     {
         let regs = card.regs();
         let (beam, _) = card.beam();
-        let layout = Layout {
-            columns: bda.columns(),
-            rows: bda.last_row() as u16 + 1,
-            height: bda.height(),
-            distance: bda.size() / 2,
-            pages: row.pages,
-        };
         Ok(Screen {
             mode: bda.mode(),
-            layout,
+            layout: layout_of(bda, row, bda.size() / 2),
             cells: read_cells(alloc, card.planes(), CELLS)?,
+            pixels: Vec::new(alloc),
             places: read_places(bda),
             cursor_type: bda.cursor_type(),
             page: bda.page(),
@@ -97,8 +201,42 @@ impl Screen {
         })
     }
 
-    /// The plain screen that the adapter shows with these data, where it shows one: text alone. It fails
-    /// with `OutOfMemory` alone.
+    /// The screen of pixels of the adapter and the data, where they show one.
+    fn of_pixels(alloc: Global, card: &Card, bda: &Bda, row: &ModeRow) -> Result<Screen, Fault>
+        requires row { mode_row_of bda.now.mode ≡ Some row.now }
+        requires shown { shows row.now card.now bda.now ≡ true }
+        requires pixels { is_text_of bda.now.mode ≡ false }
+        ensures ok { IfOk result (λ screen. screen ≡ pixel_screen row.now card.now bda.now) }
+        ensures err { IsOkUnless result Fault.OutOfMemory }
+    {
+        let regs = card.regs();
+        let (beam, _) = card.beam();
+        let count = page_pixels(bda);
+        Ok(Screen {
+            mode: bda.mode(),
+            layout: layout_of(bda, row, 0),
+            cells: Vec::new(alloc),
+            pixels: read_pixels(
+                alloc,
+                card.planes(),
+                bda.mode(),
+                bda.size(),
+                count,
+                row.pages,
+            )?,
+            places: read_places(bda),
+            cursor_type: bda.cursor_type(),
+            page: bda.page(),
+            palette: Palette::read(regs.attr, regs.dac),
+            overscan: regs.attr.overscan(),
+            is_blink: regs.attr.is_blink(),
+            glyphs: Vec::new(alloc),
+            frame: beam.frame,
+        })
+    }
+
+    /// The plain screen that the adapter shows with these data, where it shows one. It fails with
+    /// `OutOfMemory` alone.
     pub fn read(alloc: Global, card: &Card, bda: &Bda) -> Result<Option<Screen>, Fault>
         ensures ok { IfOk result (λ found. found ≡ shown card.now bda.now) }
         ensures err { IsOkUnless result Fault.OutOfMemory }
@@ -106,10 +244,13 @@ impl Screen {
         let Some(row) = mode_row(bda.mode()) else {
             return Ok(None);
         };
-        if is_shown(card, bda, &row) {
+        if !is_shown(card, bda, &row) {
+            return Ok(None);
+        }
+        if is_text(bda.mode()) {
             Ok(Some(Screen::of_text(alloc, card, bda, &row)?))
         } else {
-            Ok(None)
+            Ok(Some(Screen::of_pixels(alloc, card, bda, &row)?))
         }
     }
 }

@@ -3,10 +3,11 @@ ghost use Rattle.std.specs.Prelude.{◌≡◌};
 ghost use Rattle.bios_screen.specs.Parts.{cell_at, pixel_at, cursor_at};
 
 use crate::palette::Palette;
+use crate::shown::is_text;
 use std::marker::Model;
 
-/// How the cells are cut: columns and rows of characters on a page, scan lines of a character, how many
-/// cells lead from a page to the next, and how many pages there are.
+/// How a screen is cut: columns and rows of characters on a page, scan lines of a character, how many
+/// cells lead from a page to the next, which is 0 for pixels, and how many pages there are.
 #[derive(Clone, Copy)]
 pub(crate) struct Layout {
     pub(crate) columns: u16,
@@ -18,13 +19,16 @@ pub(crate) struct Layout {
 
 /// A plain screen: what programs see that use the video BIOS alone.
 ///
-/// Contracts see one record: mode, layout, cells, places and type of the cursor, active page, palette,
+/// Contracts see one record: mode, layout, cells or pixels, places and type of the cursor, active page, palette,
 /// overscan, blinking, glyphs, and the frame's number modulo 32.
 #[derive(Drop)]
 pub struct Screen {
     pub(crate) mode: u8,
     pub(crate) layout: Layout,
+    /// The cells of text, page after page.
     pub(crate) cells: Vec<(u8, u8)>,
+    /// The pixels of graphics, page after page.
+    pub(crate) pixels: Vec<u8>,
     pub(crate) places: [u16; 8],
     pub(crate) cursor_type: u16,
     pub(crate) page: u8,
@@ -37,15 +41,15 @@ pub struct Screen {
 
 impl Model for Screen {
     ghost use Rattle.std.specs.Prelude.{vec_len};
-    ghost use Rattle.bios_screen.specs.Screen.{Screen as PlainScreen, Cells};
-    ghost use Rattle.bios_screen.specs.Parts.{IsLaidOut};
+    ghost use Rattle.bios_screen.specs.Screen.{Screen as PlainScreen};
+    ghost use Rattle.bios_screen.specs.Parts.{contents_of, IsLaidOut};
 
     ghost Value = { PlainScreen };
 
     ghost view = { λ s. record {
       mode = s.mode;
       layout = record { columns = s.layout.columns; rows = s.layout.rows; height = s.layout.height; distance = s.layout.distance; pages = s.layout.pages };
-      contents = Cells s.cells.items;
+      contents = contents_of s.mode (record { columns = s.layout.columns; rows = s.layout.rows; height = s.layout.height; distance = s.layout.distance; pages = s.layout.pages }) s.cells.items s.pixels.items;
       places = s.places;
       cursor_type = s.cursor_type;
       page = s.page;
@@ -56,7 +60,7 @@ impl Model for Screen {
       frame = s.frame;
     } };
 
-    ghost invariant = { λ s. IsLaidOut (vec_len s.cells) s.layout.columns s.layout.rows s.layout.distance s.layout.pages };
+    ghost invariant = { λ s. IsLaidOut s.mode (record { columns = s.layout.columns; rows = s.layout.rows; height = s.layout.height; distance = s.layout.distance; pages = s.layout.pages }) (vec_len s.cells) (vec_len s.pixels) };
 }
 
 impl Screen {
@@ -66,6 +70,9 @@ impl Screen {
         ensures { result ≡ cell_at self.now page row column }
     {
         let layout = self.layout;
+        if !is_text(self.mode) {
+            return None;
+        }
         if page < layout.pages && (row as u16) < layout.rows && (column as u16) < layout.columns {
             let start = layout.distance as usize * page as usize;
             let place = layout.columns as usize * row as usize + column as usize;
@@ -79,8 +86,18 @@ impl Screen {
     pub fn pixel(&self, page: u8, x: u16, y: u16) -> Option<u8>
         ensures { result ≡ pixel_at self.now page x y }
     {
-        let _ = (self.cells.len(), page, x, y);
-        None
+        let layout = self.layout;
+        if is_text(self.mode) {
+            return None;
+        }
+        let width = 8 * layout.columns as usize;
+        let height = layout.height as usize * layout.rows as usize;
+        if page < layout.pages && (x as usize) < width && (y as usize) < height {
+            let start = width * height * page as usize;
+            Some(self.pixels[start + (width * y as usize + x as usize)])
+        } else {
+            None
+        }
     }
 
     /// Row and column of the cursor on a page, where it is one of eight.

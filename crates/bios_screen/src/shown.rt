@@ -1,9 +1,10 @@
 //! Whether the adapter shows a screen.
-ghost use Rattle.std.specs.Prelude.{◌≡◌, ◌≤◌, ◌*◌, true, drop, length, Some};
+ghost use Rattle.std.specs.Prelude.{◌≡◌, ◌≤◌, ◌<◌, ◌*◌, true, drop, length, Some};
 ghost use Rattle.std.specs.Str.{bytes_eq};
 ghost use Rattle.bios_modes.specs.Modes.{mode_row};
 ghost use Rattle.bios_services.specs.ModeSet.{is_text as is_text_of};
-ghost use Rattle.bios_screen.specs.Shown.{shows_memory as shows_memory_of, shows_data as shows_data_of, shows_attribute as shows_attribute_of, shows_text, crtc_shown};
+ghost use Rattle.bios_services.specs.Cursor.{start_address};
+ghost use Rattle.bios_screen.specs.Shown.{shows_memory as shows_memory_of, shows_data as shows_data_of, shows_attribute as shows_attribute_of, shows, location_shown, crtc_shown};
 
 use bios_modes::{Bda, ModeRow};
 use vga_attr::Attr;
@@ -12,7 +13,7 @@ use vga_crtc::Crtc;
 use vga_host::Host;
 
 /// Whether a mode is one of text.
-fn is_text(mode: u8) -> bool
+pub(crate) fn is_text(mode: u8) -> bool
     ensures { result ≡ is_text_of mode }
 {
     mode == 0x03 || mode == 0x07
@@ -73,21 +74,48 @@ fn shows_data(bda: &Bda, row: &ModeRow) -> bool
         && bda.page() < row.pages
 }
 
-/// The registers of the CRT controller that show the active page of text with its cursor.
-fn wanted_registers(bda: &Bda, row: &ModeRow) -> [u8; 25]
-    requires all { length row.now.crtc ≡ 25 }
-    requires text { is_text_of bda.now.mode ≡ true }
-    requires columns { bda.now.columns ≤ 80 }
-    requires start { bda.now.size * bda.now.page ≤ 65536 }
-    requires page { bda.now.page ≤ 7 }
-    ensures { result ≡ crtc_shown row.now bda.now }
+/// The first cell or byte of the active page, as the CRT controller counts them.
+fn start_of(bda: &Bda) -> u32
+    requires { bda.now.size * bda.now.page < 65536 }
+    ensures value { result ≡ start_address bda.now bda.now.page }
+    ensures small { result < 65536 }
 {
-    bda.bounds();
+    let start = bda.size() as u32 * bda.page() as u32;
+    if is_text(bda.mode()) {
+        start / 2
+    } else {
+        start
+    }
+}
+
+/// The location of the cursor: in text that of the active page, in graphics what it is.
+fn location_of(bda: &Bda, crtc: &Crtc) -> u32
+    requires columns { bda.now.columns ≤ 80 }
+    requires start { bda.now.size * bda.now.page < 65536 }
+    requires page { bda.now.page ≤ 7 }
+    ensures value { result ≡ location_shown bda.now crtc.now.registers }
+    ensures small { result < 65536 }
+{
+    if is_text(bda.mode()) {
+        let place = bda.cursor_place(bda.page() as usize);
+        let cell = bda.columns() as u32 * (place / 256) as u32 + (place % 256) as u32;
+        bda.size() as u32 * bda.page() as u32 / 2 + cell
+    } else {
+        256 * crtc.regs(0x0E) as u32 + crtc.regs(0x0F) as u32
+    }
+}
+
+/// The registers of the CRT controller that show the active page, in text with its cursor.
+fn wanted_registers(bda: &Bda, crtc: &Crtc, row: &ModeRow) -> [u8; 25]
+    requires all { length row.now.crtc ≡ 25 }
+    requires columns { bda.now.columns ≤ 80 }
+    requires start { bda.now.size * bda.now.page < 65536 }
+    requires page { bda.now.page ≤ 7 }
+    ensures { result ≡ crtc_shown row.now bda.now crtc.now.registers }
+{
     let cursor_type = bda.cursor_type();
-    let page = bda.page();
-    let start = bda.size() as u32 * page as u32 / 2;
-    let place = bda.cursor_place(page as usize);
-    let location = start + (bda.columns() as u32 * (place / 256) as u32 + (place % 256) as u32);
+    let start = start_of(bda);
+    let location = location_of(bda, crtc);
     let mut registers = row.crtc;
     registers[0x0A] = (cursor_type / 256) as u8 & 0x3F;
     registers[0x0B] = (cursor_type % 256) as u8 & 0x7F;
@@ -141,16 +169,15 @@ fn shows_attribute(attr: &Attr, row: &ModeRow) -> bool
         && registers_behind_overscan(attr) == row_behind_overscan(row)
 }
 
-/// Whether the adapter and the data show a text screen of the mode.
-#[tactic(auto, unfolding(crate::specs::Shown::shows_text))]
+/// Whether the adapter and the data show a screen of the mode.
+#[tactic(auto, unfolding(crate::specs::Shown::shows))]
 pub(crate) fn is_shown(card: &Card, bda: &Bda, row: &ModeRow) -> bool
     requires { mode_row bda.now.mode ≡ Some row.now }
-    ensures { result ≡ shows_text row.now card.now bda.now }
+    ensures { result ≡ shows row.now card.now bda.now }
 {
     let regs = card.regs();
-    is_text(bda.mode())
-        && shows_memory(card, row)
+    shows_memory(card, row)
         && shows_data(bda, row)
-        && has_registers(regs.crtc, &wanted_registers(bda, row))
+        && has_registers(regs.crtc, &wanted_registers(bda, regs.crtc, row))
         && shows_attribute(regs.attr, row)
 }

@@ -1,0 +1,87 @@
+-- Pixels of small memories and of a screen of two lines of eight pixels, computed.
+use Rattle.std.proofs.Common.{◌≡◌, ℕ, refl, List, [], ◌∷◌, Some, None, false}
+use Rattle.vga_bits.specs.Four.{Four}
+use Rattle.bios_screen.specs.Screen.{Pixels, Screen}
+use Rattle.bios_screen.specs.Shown.{planar_pixel, packed_pixel}
+use Rattle.bios_screen.specs.Parts.{cell_at, pixel_at}
+use Rattle.bios_screen.specs.Picture.{pixel_dot, dot_at, picture_width, picture_height}
+
+-- a byte of each plane at 0, and another of plane 1 at 4
+abbrev memory : Four (List ℕ)
+memory = record { plane0 = 0x80 ∷ []; plane1 = 0x40 ∷ 0 ∷ 0 ∷ 0 ∷ 0x2A ∷ []; plane2 = 0xC0 ∷ []; plane3 = 0x01 ∷ [] }
+
+-- bit p of a pixel is that of plane p, the first pixel the highest bit
+first : planar_pixel memory 0 0 ≡ 5
+first = refl
+
+second : planar_pixel memory 0 1 ≡ 6
+second = refl
+
+eighth : planar_pixel memory 0 7 ≡ 8
+eighth = refl
+
+-- pixel 34 of a page that begins at 0 is bit 5 of byte 4, and so is pixel 2 of a page that begins there
+later : planar_pixel memory 0 34 ≡ 2
+later = refl
+
+later_page : planar_pixel memory 4 2 ≡ 2
+later_page = refl
+
+-- in 256 colours pixel 5 is in plane 1 at 4
+packed : packed_pixel memory 5 ≡ 0x2A
+packed = refl
+
+-- rows 1 2 3 0 0 0 0 0 and 3 0 0 0 0 0 0 2, in a mode
+abbrev shown : ℕ → Screen
+shown mode = record {
+  mode = mode;
+  layout = record { columns = 1; rows = 1; height = 2; distance = 0; pages = 1 };
+  contents = Pixels ((1 ∷ 2 ∷ 3 ∷ 0 ∷ 0 ∷ 0 ∷ 0 ∷ 0 ∷ 3 ∷ 0 ∷ 0 ∷ 0 ∷ 0 ∷ 0 ∷ 0 ∷ 2 ∷ []) ∷ []);
+  places = 0 ∷ [];
+  cursor_type = 0;
+  page = 0;
+  palette = record { values = 0 ∷ 3 ∷ 1 ∷ 2 ∷ []; reds = 10 ∷ 11 ∷ 12 ∷ 13 ∷ []; greens = 20 ∷ 21 ∷ 22 ∷ 23 ∷ []; blues = 30 ∷ 31 ∷ 32 ∷ 33 ∷ []; mask = 3 };
+  overscan = 0;
+  is_blink = false;
+  glyphs = [];
+  frame = 0;
+}
+
+-- a pixel is the value of the palette, which names an entry
+coloured : dot_at (shown 0x10) 0 1 0 ≡ 11 ∷ 21 ∷ 31 ∷ []
+unfolding pixel_dot
+coloured = refl
+
+last : dot_at (shown 0x12) 0 7 1 ≡ 11 ∷ 21 ∷ 31 ∷ []
+unfolding pixel_dot
+last = refl
+
+-- in mode 0D a pixel has two lines
+two_lines : dot_at (shown 0x0D) 0 0 1 ≡ 13 ∷ 23 ∷ 33 ∷ []
+unfolding pixel_dot
+two_lines = refl
+
+third_line : dot_at (shown 0x0D) 0 0 2 ≡ 12 ∷ 22 ∷ 32 ∷ []
+unfolding pixel_dot
+third_line = refl
+
+-- in mode 13 two dots of each of two lines, and it names an entry itself
+entry : dot_at (shown 0x13) 0 3 1 ≡ 12 ∷ 22 ∷ 32 ∷ []
+unfolding pixel_dot
+entry = refl
+
+wide : picture_width (shown 0x13) ≡ 16
+wide = refl
+
+high : picture_height (shown 0x0D) ≡ 4
+high = refl
+
+-- pixels there are, and no cells
+there : pixel_at (shown 0x10) 0 7 1 ≡ Some 2
+there = refl
+
+below : pixel_at (shown 0x10) 0 0 2 ≡ None
+below = refl
+
+no_cell : cell_at (shown 0x10) 0 0 0 ≡ None
+no_cell = refl
