@@ -24,14 +24,13 @@ use Rattle.bios_services.specs.Strings.{string_of}
 use Rattle.bios_services.specs.declared.tables.TableService.{TableService}
 use Rattle.bios_services.specs.Tables.{table_service_of}
 use Rattle.bios_services.specs.Calls.{scroll_of, as_colours, service_of, in_mode, call_of, table_or}
-use Rattle.bios_services.specs.ModeSet.{is_text}
 use Rattle.bios_services.specs.Refusals.{refusal_in_mode}
 use Rattle.bios_services.specs.Service.{plan_of, set_mode_plan, Outcome, Answered, answered, refused, unless, in_mode_plan, asked}
 use Rattle.bios_modes.specs.Bounds.{IsBda}
 use Rattle.bios_screen.specs.Screen.{Screen}
 use Rattle.bios_screen.specs.Shown.{shown}
 use Rattle.bios_screen.specs.Step.{refused_on, next, answer_on}
-use Rattle.bios_screen.specs.Served.{FitsBytes, IsServed, Serves, after_call}
+use Rattle.bios_screen.specs.Served.{FitsBytes, IsServed, is_told, Serves, after_call}
 use Rattle.bios_modes.specs.Bounds.{AreBytes}
 use Rattle.bios_screen.specs.Called.{AreWords, reply_unless, screen_unless, IsCalled}
 use Rattle.bios_screen.proofs.PlanLemmas.{run_bind}
@@ -155,7 +154,7 @@ service_is r service e = by_test (high r.ax == 0x00) (table_service_of r) (servi
 served_if : (x : Option Service) (service : Service) → x ≡ Some service → IfSome x Serves → Serves service
 served_if x service e f = subst (λ y. IfSome y Serves) e f
 
-pub calls_lead : KeepsBounds → (service : Service) (fonts : FontSet) (r : Regs) (block : List ℕ) (c : CardState) (d : BiosData) (s : Screen) → IsCard c → IsBda d → AreWords r → AreBytes block → shown c d ≡ Some s → is_text s.mode ≡ true → call_of r ≡ Some (InMode service) → IsCalled service fonts r block c d s
+pub calls_lead : KeepsBounds → (service : Service) (fonts : FontSet) (r : Regs) (block : List ℕ) (c : CardState) (d : BiosData) (s : Screen) → IsCard c → IsBda d → AreWords r → AreBytes block → shown c d ≡ Some s → is_told s service ≡ true → call_of r ≡ Some (InMode service) → IsCalled service fonts r block c d s
 calls_lead law service fonts r block c d s z bda w bytes old text e =
     let serves = served_if (service_of r) service (service_is r service e) (asked_is_served law r w) in
     call_done service fonts r block c d s e old (serves fonts r block c d s bytes z bda old text)

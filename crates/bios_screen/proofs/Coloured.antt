@@ -41,11 +41,12 @@ use Rattle.bios_screen.proofs.PlanLemmas.{run_bind, then_runs, then_answers}
 use Rattle.bios_screen.proofs.ListLemmas.{same_from_0, spelled}
 use Rattle.bios_screen.proofs.TestLemmas.{both_true, same, lt_is, le_is}
 use Rattle.bios_screen.proofs.Kept.{plan_beam}
-use Rattle.bios_screen.proofs.Display.{Display, port_of, control_of}
 use Rattle.bios_screen.proofs.Display.Display.{Colour, Monochrome}
-use Rattle.bios_screen.proofs.Shows.{IsShown, screen_shown, control_is}
-use Rattle.bios_screen.proofs.Readers.{still_shown}
-use Rattle.bios_screen.proofs.Cursors.{and_255, other_data}
+use Rattle.bios_screen.proofs.PixelModes.Graphics.{Sixteen, Many}
+use Rattle.bios_screen.proofs.AnyModes.{Tabled, port_of, control_of}
+use Rattle.bios_screen.proofs.AnyModes.Tabled.{OfText, OfPixels}
+use Rattle.bios_screen.proofs.AnyShows.{IsAny, any_screen, any_shown, still_any, any_control}
+use Rattle.bios_screen.proofs.Cursors.{and_255}
 use Rattle.bios_screen.proofs.Attributes.{with_attr, with_blinking, with_palette, register_set, blinking_set, palette_set, index_shown, register_read}
 use Rattle.bios_screen.proofs.Dacs.{with_dac, IsLoaded, entries_loaded, entry_loaded, entry_read}
 
@@ -54,15 +55,15 @@ pub record IsColoured (service : ColourService) (r : Regs) (block : List ℕ) (c
   pub answer : (run card_meaning (colours_plan service d.crtc_address r block) c).1 ≡ colours_read s service r
   pub shows : shown (run card_meaning (colours_plan service d.crtc_address r block) c).0 d ≡ Some (coloured s service block)
 
-module _ (c : CardState) (d : BiosData) (h : IsShown c d) where
+module _ (c : CardState) (d : BiosData) (h : IsAny c d) where
   abbrev s : Screen
-  s = screen_shown c d h
+  s = any_screen c d h c
 
   abbrev registers : List ℕ
   registers = c.attr.registers
 
-  pub port_is : d.crtc_address ≡ port_of h.display
-  port_is = h.has.port ∙ h.text.port
+  pub port_is : d.crtc_address ≡ port_of h.kind
+  port_is = h.port
 
   -- ---- the attribute controller
 
@@ -81,14 +82,14 @@ module _ (c : CardState) (d : BiosData) (h : IsShown c d) where
   attribute_shown : (l : List ℕ) (i : ℕ) → is_set i 5 ≡ true → bit_and (slice_index l 0x10) 0xF7 ≡ bit_and (slice_index registers 0x10) 0xF7 → drop 0x12 l ≡ drop 0x12 registers → (values : List ℕ) (overscan : ℕ) (blink : Bool) → take 16 l ≡ values → slice_index l 0x11 ≡ overscan → is_set (slice_index l 0x10) 3 ≡ blink
       → shown (with_attr c l i false) d ≡ Some (record s { palette = record s.palette { values = values }; overscan = overscan; is_blink = blink })
   attribute_shown l i e control rest values overscan blink ev eo eb =
-      other_data c (with_attr c l i false) d d h refl refl (attribute_stays l i e control rest) h.tests.data_test h.tests.crtc
+      any_shown c (with_attr c l i false) d h refl refl (attribute_stays l i e control rest)
       ∙ ap (λ k. let x : Screen = record s { palette = record s.palette { values = k }; overscan = slice_index l 0x11; is_blink = is_set (slice_index l 0x10) 3 } in Some x) ev
       ∙ ap (λ k. let x : Screen = record s { palette = record s.palette { values = values }; overscan = k; is_blink = is_set (slice_index l 0x10) 3 } in Some x) eo
       ∙ ap (λ k. let x : Screen = record s { palette = record s.palette { values = values }; overscan = overscan; is_blink = k } in Some x) eb
 
   -- another DAC too
   pub dac_shown : (new : DacState) → shown (with_dac c new) d ≡ Some (record s { palette = record s.palette { reds = new.reds; greens = new.greens; blues = new.blues; mask = new.mask } })
-  dac_shown new = other_data c (with_dac c new) d d h refl refl h.tests.attribute h.tests.data_test h.tests.crtc
+  dac_shown new = any_shown c (with_dac c new) d h refl refl h.tests.attribute
 
   loaded_shown : (y : CardState) (first count : ℕ) (block : List ℕ) → IsLoaded c y first count block → shown y d ≡ Some (with_entries s first count block)
   loaded_shown y first count block t =
@@ -104,7 +105,7 @@ module _ (c : CardState) (d : BiosData) (h : IsShown c d) where
   -- ---- services that set
 
   -- a plan, and then the same registers
-  setting_served : (service : ColourService) (r : Regs) (block : List ℕ) (p : ℕ → Plan (Unit {0})) → colours_plan service d.crtc_address r block ≡ (p d.crtc_address >> Done r) → colours_read s service r ≡ r → shown (run card_meaning (p (port_of h.display)) c).0 d ≡ Some (coloured s service block) → IsColoured service r block c d s
+  setting_served : (service : ColourService) (r : Regs) (block : List ℕ) (p : ℕ → Plan (Unit {0})) → colours_plan service d.crtc_address r block ≡ (p d.crtc_address >> Done r) → colours_read s service r ≡ r → shown (run card_meaning (p (port_of h.kind)) c).0 d ≡ Some (coloured s service block) → IsColoured service r block c d s
   setting_served service r block p e a t =
       let q = p d.crtc_address in
       let done : Plan Regs = Done r in
@@ -116,56 +117,60 @@ module _ (c : CardState) (d : BiosData) (h : IsShown c d) where
   masks_are : (i : ℕ) → i < 16 → slice_index attr_masks i ≡ 0x3F
   masks_are i l = same (agree_below_at (λ n. slice_index attr_masks n == 0x3F) (λ _. true) 16 i refl l)
 
-  value_shown : (i v : ℕ) → i < 16 → shown (run card_meaning (set_register_plan (port_of h.display) i v) c).0 d ≡ Some (with_value s i v)
+  value_shown : (i v : ℕ) → i < 16 → shown (run card_meaning (set_register_plan (port_of h.kind) i v) c).0 d ≡ Some (with_value s i v)
   value_shown i v l =
       let x = six_bits v in
       let new = slice_set registers i x in
       let control : slice_index new 0x10 ≡ slice_index registers 0x10 = get_or-set_other registers i 0x10 x 0 (omega arith) in
-      ap (λ y. shown y d) (register_set h.display c i v h.setting (omega arith))
+      ap (λ y. shown y d) (register_set h.kind c i v h.setting (omega arith))
       ∙ ap (λ m. shown (with_attr c (slice_set registers i (bit_and v m)) 0x20 false) d) (masks_are i l)
       ∙ attribute_shown new 0x20 refl (ap (λ n. bit_and n 0xF7) control) (drop-set-lt 0x12 registers i x (omega arith))
       (slice_set s.palette.values i x) s.overscan s.is_blink (take-set-lt 16 registers i x l) (get_or-set_other registers i 0x11 x 0 (omega arith)) (ap (λ n. is_set n 3) control)
 
-  overscan_shown : (v : ℕ) → v < 256 → IsCard c → shown (run card_meaning (set_register_plan (port_of h.display) 0x11 v) c).0 d ≡ Some (record s { overscan = v })
+  overscan_shown : (v : ℕ) → v < 256 → IsCard c → shown (run card_meaning (set_register_plan (port_of h.kind) 0x11 v) c).0 d ≡ Some (record s { overscan = v })
   overscan_shown v l z =
       let size = z.attr.size in
       let new = slice_set registers 0x11 v in
       let control : slice_index new 0x10 ≡ slice_index registers 0x10 = get_or-set_other registers 0x11 0x10 v 0 (omega arith) in
-      ap (λ y. shown y d) (register_set h.display c 0x11 v h.setting (omega arith))
+      ap (λ y. shown y d) (register_set h.kind c 0x11 v h.setting (omega arith))
       ∙ ap (λ m. shown (with_attr c (slice_set registers 0x11 m) 0x20 false) d) (and_255 v l)
       ∙ attribute_shown new 0x20 refl (ap (λ n. bit_and n 0xF7) control) (drop-set-lt 0x12 registers 0x11 v (omega arith))
       s.palette.values v s.is_blink (take-set-le 16 registers 0x11 v (omega arith)) (get_or-set_same registers 0x11 v 0 (omega arith)) (ap (λ n. is_set n 3) control)
 
-  palette_shown : (block : List ℕ) → AreBytes block → IsCard c → length block ≡ 17 → shown (run card_meaning (set_palette_plan (port_of h.display) block) c).0 d ≡ Some (with_block s block)
+  palette_shown : (block : List ℕ) → AreBytes block → IsCard c → length block ≡ 17 → shown (run card_meaning (set_palette_plan (port_of h.kind) block) c).0 d ≡ Some (with_block s block)
   palette_shown block bytes z e =
       let values = take 16 block in
       let v = slice_index block 16 in
       let new = with_palette registers values v in
       let last : drop 0x12 new ≡ drop 0x12 registers = sym (ap (drop 0x12) (spelled registers 21 z.attr.size)) in
-      ap (λ y. shown y d) (palette_set h.display c block h.setting z (length-take-le 16 block (omega arith)))
+      ap (λ y. shown y d) (palette_set h.kind c block h.setting z (length-take-le 16 block (omega arith)))
       ∙ attribute_shown new 0x20 refl refl last
       (listing (λ i. six_bits (slice_index block i)) 0 16) v s.is_blink
       (same_from_0 (λ i. six_bits (slice_index block i)) (λ i. six_bits (slice_index values i)) 16 (λ k l. ap six_bits (get_or-take 16 block k 0 l)))
       (and_255 v (bytes 16)) refl
 
   -- blinking is bit 3 of mode control, whose other bits are the mode's
-  blink_by : (disp : Display) (b : ℕ) → b < 2 → (bit_and (bit_and (bit_or (control_of disp) (8 * b)) 0xEF) 0xF7 ≡ control_of disp) × (is_set (bit_and (bit_or (control_of disp) (8 * b)) 0xEF) 3 ≡ (b == 1))
-  blink_by Colour zero l = (refl, refl)
-  blink_by Colour (suc zero) l = (refl, refl)
-  blink_by Monochrome zero l = (refl, refl)
-  blink_by Monochrome (suc zero) l = (refl, refl)
-  blink_by disp (suc (suc b)) l = absurd (omega arith)
+  blink_by : (k : Tabled) (b : ℕ) → b < 2 → (bit_and (bit_and (bit_or (control_of k) (8 * b)) 0xEF) 0xF7 ≡ control_of k) × (is_set (bit_and (bit_or (control_of k) (8 * b)) 0xEF) 3 ≡ (b == 1))
+  blink_by (OfText Colour) zero l = (refl, refl)
+  blink_by (OfText Colour) (suc zero) l = (refl, refl)
+  blink_by (OfText Monochrome) zero l = (refl, refl)
+  blink_by (OfText Monochrome) (suc zero) l = (refl, refl)
+  blink_by (OfPixels (Sixteen m)) zero l = (refl, refl)
+  blink_by (OfPixels (Sixteen m)) (suc zero) l = (refl, refl)
+  blink_by (OfPixels Many) zero l = (refl, refl)
+  blink_by (OfPixels Many) (suc zero) l = (refl, refl)
+  blink_by k (suc (suc b)) l = absurd (omega arith)
 
-  blink_shown : (b : ℕ) → b < 2 → IsCard c → shown (run card_meaning (set_blinking_plan (port_of h.display) b) c).0 d ≡ Some (record s { is_blink = b == 1 })
+  blink_shown : (b : ℕ) → b < 2 → IsCard c → shown (run card_meaning (set_blinking_plan (port_of h.kind) b) c).0 d ≡ Some (record s { is_blink = b == 1 })
   blink_shown b l z =
       let size = z.attr.size in
       let v = bit_and (bit_or (bit_and (slice_index registers 0x10) 0xF7) (8 * b)) 0xEF in
       let new = with_blinking registers b in
       let at : slice_index new 0x10 ≡ v = get_or-set_same registers 0x10 v 0 (omega arith) in
-      let value : slice_index new 0x10 ≡ bit_and (bit_or (control_of h.display) (8 * b)) 0xEF = at ∙ ap (λ n. bit_and (bit_or n (8 * b)) 0xEF) (control_is c d h) in
-      let by = blink_by h.display b l in
-      ap (λ y. shown y d) (blinking_set h.display c b h.setting)
-      ∙ attribute_shown new 0x20 refl (ap (λ n. bit_and n 0xF7) value ∙ by.0 ∙ sym (control_is c d h)) (drop-set-lt 0x12 registers 0x10 v (omega arith))
+      let value : slice_index new 0x10 ≡ bit_and (bit_or (control_of h.kind) (8 * b)) 0xEF = at ∙ ap (λ n. bit_and (bit_or n (8 * b)) 0xEF) (any_control c d h) in
+      let by = blink_by h.kind b l in
+      ap (λ y. shown y d) (blinking_set h.kind c b h.setting)
+      ∙ attribute_shown new 0x20 refl (ap (λ n. bit_and n 0xF7) value ∙ by.0 ∙ sym (any_control c d h)) (drop-set-lt 0x12 registers 0x10 v (omega arith))
       s.palette.values s.overscan (b == 1) (take-set-le 16 registers 0x10 v (omega arith)) (get_or-set_other registers 0x10 0x11 v 0 (omega arith)) (ap (λ n. is_set n 3) value ∙ by.1)
 
   mask_by : (v : ℕ) → (run card_meaning (out 0x3C6 v) c).0 ≡ with_dac c (record c.dac { mask = v })
@@ -181,7 +186,7 @@ module _ (c : CardState) (d : BiosData) (h : IsShown c d) where
       let done : ℕ → Plan Regs = λ value. Done (record r { bx = with_high r.bx value }) in
       run_bind card_meaning (read_register_plan d.crtc_address i) done c
       ∙ ap (λ p. let x = run card_meaning (read_register_plan p i) c in run card_meaning (done x.1) x.0) port_is
-      ∙ ap (λ (x : CardState × ℕ). run card_meaning (done x.1) x.0) (register_read h.display c i h.setting l)
+      ∙ ap (λ (x : CardState × ℕ). run card_meaning (done x.1) x.0) (register_read h.kind c i h.setting l)
 
   pub index_moved : (i : ℕ) → i < 18 → shown (with_attr c registers (0x20 + i) false) d ≡ Some s
   index_moved i l = attribute_shown registers (0x20 + i) (index_shown i l) refl refl s.palette.values s.overscan s.is_blink refl refl refl
@@ -265,11 +270,11 @@ module _ (c : CardState) (d : BiosData) (h : IsShown c d) where
       setting_served (SetMask mask) r block (λ p. out 0x3C6 mask) refl refl (ap (λ y. shown y d) (mask_by mask) ∙ dac_shown (record c.dac { mask = mask }))
   is_coloured ReadMask r block fits bytes z e =
       let runs = mask_read r in
-      record { answer = ap (λ x. x.1) runs; shows = ap (λ x. shown x.0 d) runs ∙ still_shown c d h }
+      record { answer = ap (λ x. x.1) runs; shows = ap (λ x. shown x.0 d) runs ∙ still_any c d h }
 
 -- ---- function 10
 
-pub set_colours : (service : ColourService) (fonts : FontSet) (r : Regs) (block : List ℕ) (c : CardState) (d : BiosData) (h : IsShown c d) → FitsBytes service → AreBytes block → IsCard c → IsServed (Colours service) fonts r block c d (screen_shown c d h)
+pub set_colours : (service : ColourService) (fonts : FontSet) (r : Regs) (block : List ℕ) (c : CardState) (d : BiosData) (h : IsAny c d) → FitsBytes service → AreBytes block → IsCard c → IsServed (Colours service) fonts r block c d (any_screen c d h c)
 unfolding plan_of refusal_in_mode refused_on next answer_on
 set_colours service fonts r block c d h fits bytes z =
     let plan = colours_plan service d.crtc_address r block in

@@ -42,6 +42,10 @@ pub mod TextDots
 pub mod TextPictures
 pub mod PixelShows
 pub mod PixelModes
+pub mod AnyModes
+pub mod AnyShows
+pub mod AnyReaders
+pub mod PixelCursors
 pub mod PixelDots
 pub mod PackedDots
 pub mod PixelPictures

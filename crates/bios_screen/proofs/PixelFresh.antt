@@ -38,16 +38,13 @@ use Rattle.bios_screen.specs.Served.{SetsFresh}
 use Rattle.bios_screen.proofs.PlanLemmas.{then_runs, then_answers}
 use Rattle.bios_screen.proofs.ListLemmas.{blank_listing}
 use Rattle.bios_screen.proofs.Kept.{KeepsBounds, plan_bounds, plan_beam}
-use Rattle.bios_screen.proofs.Setting.{Setting, setting, host_at, with_memory, put_decoded}
+use Rattle.bios_screen.proofs.Setting.{setting, host_at, with_memory, put_decoded}
 use Rattle.bios_screen.proofs.ModeRegisters.{in_mode, registers_0D, registers_10, registers_12, registers_13}
 use Rattle.bios_screen.proofs.Entries.{Colour as Entry, colour_of, entry_at, without_entries, HasEntries, keeps_entries, keeps_3, keeps_0D, keeps_13, entries_set}
 use Rattle.bios_screen.proofs.Fresh.{but_entries, component_same}
-use Rattle.bios_screen.proofs.PixelModes.{Planes, row_of, Graphics, row_in, number_in, text_by, packed_by}
+use Rattle.bios_screen.proofs.PixelModes.{Planes, row_of, Graphics, row_in, setting_in, number_in, text_by, packed_by}
 use Rattle.bios_screen.proofs.PixelModes.Planes.{Low, Middle, High}
 use Rattle.bios_screen.proofs.PixelModes.Graphics.{Sixteen, Many}
-
-abbrev setting_in : Graphics → Setting
-setting_in k = record { misc = (row_in k).misc; seq = (row_in k).sequencer; gfx = (row_in k).graphics }
 
 -- ---- memory is cleared
 

@@ -13,6 +13,7 @@ use Rattle.bios_services.specs.ModeSet.{is_text}
 use Rattle.bios_screen.specs.Shown.{crtc_registers}
 use Rattle.bios_screen.specs.Picture.{pixel_height}
 use Rattle.bios_screen.specs.Raster.{Raster, IsRaster}
+use Rattle.bios_screen.proofs.Setting.{Setting}
 use Rattle.bios_screen.proofs.TestLemmas.{none_some, same, some_same}
 
 -- 320 by 200, 640 by 350, 640 by 480
@@ -43,6 +44,10 @@ row_in Many = bytes_320_by_200
 abbrev pub number_in : Graphics → ℕ
 number_in (Sixteen m) = number_of m
 number_in Many = 0x13
+
+-- the registers that memory cycles look at
+abbrev pub setting_in : Graphics → Setting
+setting_in k = record { misc = (row_in k).misc; seq = (row_in k).sequencer; gfx = (row_in k).graphics }
 
 -- a row of the table that is no text is one of these
 pub record GraphicsRow (mode : ℕ) (row : ModeRow) : Type 0 where

@@ -1,6 +1,6 @@
--- Services that answer, and do nothing.
-use Rattle.std.proofs.Common.{◌≡◌, ℕ, refl, ap, ◌∙◌, List, Option, Some, None}
-use Rattle.std.specs.Prelude.{◌==◌, ◌&&◌, nat_lt, if◌then◌else◌, slice_index}
+-- The page that a service means in text, and services of dots, which text has not.
+use Rattle.std.proofs.Common.{◌≡◌, ℕ, ap, ◌∙◌, List, Option, Some, None}
+use Rattle.std.specs.Prelude.{◌==◌, ◌&&◌, nat_lt, if◌then◌else◌}
 use Rattle.vga_bits.specs.declared.refusal.Refusal.{Refusal}
 use Rattle.vga_bits.specs.declared.refusal.Refusal.TheVariants.{WrongKind, BadPage, Outside}
 use Rattle.vga_card.specs.Card.{CardState}
@@ -8,13 +8,13 @@ use Rattle.bios_modes.specs.declared.modes.ModeRow.{ModeRow}
 use Rattle.bios_modes.specs.Bda.{BiosData}
 use Rattle.bios_modes.specs.Fonts.{FontSet}
 use Rattle.bios_services.specs.declared.regs.Regs.{Regs}
-use Rattle.bios_services.specs.declared.call.Service.TheVariants.{ReadCursor, WritePixel, ReadPixel, ReadMode, ReadAdapter, ReadDisplay}
+use Rattle.bios_services.specs.declared.call.Service.TheVariants.{WritePixel, ReadPixel}
 use Rattle.bios_services.specs.Bounds.{pages_in, pages_of}
 use Rattle.bios_services.specs.Pixels.{dots_across, dots_down}
 use Rattle.bios_services.specs.Refusals.{page_named, page_refusal, pixel_refusal, refusal_in_mode}
 use Rattle.bios_services.specs.Service.{plan_of}
 use Rattle.bios_screen.specs.Shown.{shown}
-use Rattle.bios_screen.specs.Step.{page_meant, page_refused, refused_on, next, answer_on}
+use Rattle.bios_screen.specs.Step.{page_meant, page_refused, refused_on}
 use Rattle.bios_screen.specs.Served.{IsServed}
 use Rattle.bios_screen.proofs.Kept.{plan_beam}
 use Rattle.bios_screen.proofs.Shows.{IsShown, screen_shown, shown_of}
@@ -31,27 +31,6 @@ named_refusal_is c d h page = ap (page_refusal d) (meant_is c d h page) ∙ page
 
 pub still_shown : (c : CardState) (d : BiosData) (h : IsShown c d) → shown c d ≡ Some (screen_shown c d h)
 still_shown c d h = shown_of c d h.row h.mode h.tests
-
-pub read_cursor : (page : ℕ) (fonts : FontSet) (r : Regs) (block : List ℕ) (c : CardState) (d : BiosData) (h : IsShown c d) → IsServed (ReadCursor page) fonts r block c d (screen_shown c d h)
-unfolding plan_of refusal_in_mode refused_on next answer_on
-read_cursor page fonts r block c d h = record {
-  refusal = named_refusal_is c d h page;
-  answer = λ _. ap (λ p. let x : Regs = record r { cx = d.cursor_type; dx = slice_index d.cursor_places p } in x) (meant_is c d h page);
-  shows = λ _. still_shown c d h;
-  beam = refl;
-}
-
-pub read_mode : (fonts : FontSet) (r : Regs) (block : List ℕ) (c : CardState) (d : BiosData) (h : IsShown c d) → IsServed ReadMode fonts r block c d (screen_shown c d h)
-unfolding plan_of refusal_in_mode refused_on next answer_on
-read_mode fonts r block c d h = record { refusal = refl; answer = λ _. refl; shows = λ _. still_shown c d h; beam = refl }
-
-pub read_adapter : (fonts : FontSet) (r : Regs) (block : List ℕ) (c : CardState) (d : BiosData) (h : IsShown c d) → IsServed ReadAdapter fonts r block c d (screen_shown c d h)
-unfolding plan_of refusal_in_mode refused_on next answer_on
-read_adapter fonts r block c d h = record { refusal = refl; answer = λ _. refl; shows = λ _. still_shown c d h; beam = refl }
-
-pub read_display : (fonts : FontSet) (r : Regs) (block : List ℕ) (c : CardState) (d : BiosData) (h : IsShown c d) → IsServed ReadDisplay fonts r block c d (screen_shown c d h)
-unfolding plan_of refusal_in_mode refused_on next answer_on
-read_display fonts r block c d h = record { refusal = refl; answer = λ _. refl; shows = λ _. still_shown c d h; beam = refl }
 
 -- ---- services of dots, which text has not
 

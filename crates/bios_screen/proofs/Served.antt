@@ -1,10 +1,12 @@
 -- The laws of the services.
-use Rattle.std.proofs.Common.{ℕ, ◌<◌, subst, List}
+use Rattle.std.proofs.Common.{◌≡◌, ℕ, ◌<◌, refl, subst, Bool, true, false, List}
+use Rattle.std.specs.Prelude.{◌||◌}
 use Rattle.vga_card.specs.Bounds.{IsCard}
 use Rattle.vga_card.specs.Card.{CardState}
 use Rattle.bios_modes.specs.Bda.{BiosData}
 use Rattle.bios_modes.specs.Fonts.{FontSet}
 use Rattle.bios_modes.specs.Bounds.{IsBda}
+use Rattle.bios_services.specs.ModeSet.{is_text}
 use Rattle.bios_services.specs.declared.regs.Regs.{Regs}
 use Rattle.bios_services.specs.declared.scroll.Scroll.{Scroll}
 use Rattle.bios_services.specs.declared.cell_run.CellRun.{CellRun}
@@ -12,10 +14,14 @@ use Rattle.bios_services.specs.declared.strings.StringCall.{StringCall}
 use Rattle.bios_services.specs.declared.colours.ColourService.{ColourService}
 use Rattle.bios_services.specs.declared.call.Service.{Service}
 use Rattle.bios_services.specs.declared.call.Service.TheVariants.{SetCursorType, SetCursor, ReadCursor, SelectPage, ReadCell, WriteCells, ScrollUp, ScrollDown, WritePixel, ReadPixel, Teletype, ReadMode, Colours, ReadAdapter, WriteString, ReadDisplay}
-use Rattle.bios_screen.specs.Served.{FitsBytes, IsServed, Serves}
+use Rattle.bios_screen.specs.Served.{FitsBytes, IsServed, is_told_in_graphics, Serves}
 use Rattle.bios_modes.specs.Bounds.{AreBytes}
 use Rattle.bios_screen.proofs.Shows.{IsShown, screen_shown, shown_is, text_shown}
 use Rattle.bios_screen.proofs.Readers as readers
+use Rattle.bios_screen.proofs.PixelShows.{IsPixels, pixels_shown, pixels_of_shown}
+use Rattle.bios_screen.proofs.AnyShows.{IsAny, any_screen, any_is}
+use Rattle.bios_screen.proofs.AnyReaders as any
+use Rattle.bios_screen.proofs.PixelCursors as pixel_cursors
 use Rattle.bios_screen.proofs.Cursors as cursors
 use Rattle.bios_screen.proofs.Writes as writes
 use Rattle.bios_screen.proofs.Kept.{KeepsBounds}
@@ -24,53 +30,72 @@ use Rattle.bios_screen.proofs.Teletypes as teletypes
 use Rattle.bios_screen.proofs.Strings as strings
 use Rattle.bios_screen.proofs.Coloured as coloured
 
-serves : (service : Service) → ((fonts : FontSet) (r : Regs) (block : List ℕ) (c : CardState) (d : BiosData) (h : IsShown c d) → AreBytes block → IsCard c → IsBda d → IsServed service fonts r block c d (screen_shown c d h)) → Serves service
-serves service f fonts r block c d s bytes z bda e text = let x = shown_is c d s (text_shown c d s e text) e in subst (IsServed service fonts r block c d) x.screen (f fonts r block c d x.is bytes z bda)
+text_only : (a b : Bool) → b ≡ false → (a || b) ≡ true → a ≡ true
+text_only true b alone h = refl
+text_only false b alone h = absurd (cc)
+
+-- in text alone
+serves : (service : Service) → is_told_in_graphics service ≡ false → ((fonts : FontSet) (r : Regs) (block : List ℕ) (c : CardState) (d : BiosData) (h : IsShown c d) → AreBytes block → IsCard c → IsBda d → IsServed service fonts r block c d (screen_shown c d h)) → Serves service
+serves service alone f fonts r block c d s bytes z bda e told =
+    let x = shown_is c d s (text_shown c d s e (text_only (is_text s.mode) (is_told_in_graphics service) alone told)) e in
+    subst (IsServed service fonts r block c d) x.screen (f fonts r block c d x.is bytes z bda)
+
+-- in text, and in graphics
+serves_both : (service : Service) → ((fonts : FontSet) (r : Regs) (block : List ℕ) (c : CardState) (d : BiosData) (h : IsShown c d) → IsBda d → IsServed service fonts r block c d (screen_shown c d h)) → ((fonts : FontSet) (r : Regs) (block : List ℕ) (c : CardState) (d : BiosData) (h : IsPixels c d) → IsServed service fonts r block c d (pixels_shown c d h)) → Serves service
+serves_both service f g fonts r block c d s bytes z bda e told = by_kind (is_text d.mode) refl
+  where
+    by_kind : (b : Bool) → is_text d.mode ≡ b → IsServed service fonts r block c d s
+    by_kind true t = let x = shown_is c d s t e in subst (IsServed service fonts r block c d) x.screen (f fonts r block c d x.is bda)
+    by_kind false t = let x = pixels_of_shown c d s t e in subst (IsServed service fonts r block c d) x.screen (g fonts r block c d x.is)
+
+-- in all modes alike
+serves_any : (service : Service) → ((fonts : FontSet) (r : Regs) (block : List ℕ) (c : CardState) (d : BiosData) (h : IsAny c d) → AreBytes block → IsCard c → IsServed service fonts r block c d (any_screen c d h c)) → Serves service
+serves_any service f fonts r block c d s bytes z bda e told = let x = any_is c d s e in subst (IsServed service fonts r block c d) x.screen (f fonts r block c d x.is bytes z)
 
 pub read_cursor : (page : ℕ) → Serves (ReadCursor page)
-read_cursor page = serves (ReadCursor page) (λ fonts r block c d h bytes z bda. readers.read_cursor page fonts r block c d h)
+read_cursor page = serves_any (ReadCursor page) (λ fonts r block c d h bytes z. any.read_cursor page fonts r block c d h)
 
 pub read_mode : Serves ReadMode
-read_mode = serves ReadMode (λ fonts r block c d h bytes z bda. readers.read_mode fonts r block c d h)
+read_mode = serves_any ReadMode (λ fonts r block c d h bytes z. any.read_mode fonts r block c d h)
 
 pub read_adapter : Serves ReadAdapter
-read_adapter = serves ReadAdapter (λ fonts r block c d h bytes z bda. readers.read_adapter fonts r block c d h)
+read_adapter = serves_any ReadAdapter (λ fonts r block c d h bytes z. any.read_adapter fonts r block c d h)
 
 pub read_display : Serves ReadDisplay
-read_display = serves ReadDisplay (λ fonts r block c d h bytes z bda. readers.read_display fonts r block c d h)
+read_display = serves_any ReadDisplay (λ fonts r block c d h bytes z. any.read_display fonts r block c d h)
 
 pub write_pixel : (page x y colour : ℕ) → Serves (WritePixel page x y colour)
-write_pixel page x y colour = serves (WritePixel page x y colour) (λ fonts r block c d h bytes z bda. readers.write_pixel page x y colour fonts r block c d h)
+write_pixel page x y colour = serves (WritePixel page x y colour) refl (λ fonts r block c d h bytes z bda. readers.write_pixel page x y colour fonts r block c d h)
 
 pub read_pixel : (page x y : ℕ) → Serves (ReadPixel page x y)
-read_pixel page x y = serves (ReadPixel page x y) (λ fonts r block c d h bytes z bda. readers.read_pixel page x y fonts r block c d h)
+read_pixel page x y = serves (ReadPixel page x y) refl (λ fonts r block c d h bytes z bda. readers.read_pixel page x y fonts r block c d h)
 
 pub set_cursor_type : (type : ℕ) → Serves (SetCursorType type)
-set_cursor_type type = serves (SetCursorType type) (λ fonts r block c d h bytes z bda. cursors.set_cursor_type type fonts r block c d h)
+set_cursor_type type = serves (SetCursorType type) refl (λ fonts r block c d h bytes z bda. cursors.set_cursor_type type fonts r block c d h)
 
 pub set_cursor : (page place : ℕ) → place < 65536 → Serves (SetCursor page place)
-set_cursor page place l = serves (SetCursor page place) (λ fonts r block c d h bytes z bda. cursors.set_cursor page place fonts r block c d h l bda)
+set_cursor page place l = serves_both (SetCursor page place) (λ fonts r block c d h bda. cursors.set_cursor page place fonts r block c d h l bda) (λ fonts r block c d h. pixel_cursors.set_cursor c d h page place fonts r block)
 
 pub select_page : (page : ℕ) → Serves (SelectPage page)
-select_page page = serves (SelectPage page) (λ fonts r block c d h bytes z bda. cursors.select_page page fonts r block c d h bda)
+select_page page = serves (SelectPage page) refl (λ fonts r block c d h bytes z bda. cursors.select_page page fonts r block c d h bda)
 
 pub read_cell : (page : ℕ) → Serves (ReadCell page)
-read_cell page = serves (ReadCell page) (λ fonts r block c d h bytes z bda. writes.read_cell page fonts r block c d h z)
+read_cell page = serves (ReadCell page) refl (λ fonts r block c d h bytes z bda. writes.read_cell page fonts r block c d h z)
 
 pub write_cells : (cells : CellRun) → cells.character < 256 → cells.ink.colour < 256 → Serves (WriteCells cells)
-write_cells cells lv la = serves (WriteCells cells) (λ fonts r block c d h bytes z bda. writes.write_cells cells fonts r block c d h z lv la)
+write_cells cells lv la = serves (WriteCells cells) refl (λ fonts r block c d h bytes z bda. writes.write_cells cells fonts r block c d h z lv la)
 
 pub scroll_up : (window : Scroll) → window.fill < 256 → Serves (ScrollUp window)
-scroll_up window l = serves (ScrollUp window) (λ fonts r block c d h bytes z bda. windows.scroll_up window fonts r block c d h z l)
+scroll_up window l = serves (ScrollUp window) refl (λ fonts r block c d h bytes z bda. windows.scroll_up window fonts r block c d h z l)
 
 pub scroll_down : (window : Scroll) → window.fill < 256 → Serves (ScrollDown window)
-scroll_down window l = serves (ScrollDown window) (λ fonts r block c d h bytes z bda. windows.scroll_down window fonts r block c d h z l)
+scroll_down window l = serves (ScrollDown window) refl (λ fonts r block c d h bytes z bda. windows.scroll_down window fonts r block c d h z l)
 
 pub teletype : KeepsBounds → (character colour : ℕ) → character < 256 → colour < 256 → Serves (Teletype character colour)
-teletype law character colour l k = serves (Teletype character colour) (λ fonts r block c d h bytes z bda. teletypes.teletype law character colour fonts r block c d h l k z bda)
+teletype law character colour l k = serves (Teletype character colour) refl (λ fonts r block c d h bytes z bda. teletypes.teletype law character colour fonts r block c d h l k z bda)
 
 pub write_string : KeepsBounds → (call : StringCall) → call.colour < 256 → Serves (WriteString call)
-write_string law call l = serves (WriteString call) (λ fonts r block c d h bytes z bda. strings.write_string law call fonts r block c d h bytes l z bda)
+write_string law call l = serves (WriteString call) refl (λ fonts r block c d h bytes z bda. strings.write_string law call fonts r block c d h bytes l z bda)
 
 pub set_colours : (service : ColourService) → FitsBytes service → Serves (Colours service)
-set_colours service f = serves (Colours service) (λ fonts r block c d h bytes z bda. coloured.set_colours service fonts r block c d h f bytes z)
+set_colours service f = serves_any (Colours service) (λ fonts r block c d h bytes z. coloured.set_colours service fonts r block c d h f bytes z)

@@ -89,8 +89,11 @@ tests_of row c d text h =
     let t = all_tests_of row c d h in
     record { is_text = text; memory = t.memory; data_test = t.data_test; crtc = t.crtc ∙ text_crtc_is row d c.crtc.registers text; attribute = t.attribute }
 
+pub all_of : (row : ModeRow) (c : CardState) (d : BiosData) → Tests row c d → AllTests row c d
+all_of row c d t = record { memory = t.memory; data_test = t.data_test; crtc = t.crtc ∙ sym (text_crtc_is row d c.crtc.registers t.is_text); attribute = t.attribute }
+
 pub test_of : (row : ModeRow) (c : CardState) (d : BiosData) → Tests row c d → shows row c d ≡ true
-test_of row c d t = shows_by row c d (record { memory = t.memory; data_test = t.data_test; crtc = t.crtc ∙ sym (text_crtc_is row d c.crtc.registers t.is_text); attribute = t.attribute })
+test_of row c d t = shows_by row c d (all_of row c d t)
 
 -- the test gives the setting as a literal
 setting_is : (disp : Display) (mode : ℕ) (row : ModeRow) (c : CardState) → IsTextRow disp mode row → shows_memory row c ≡ true → setting c ≡ text_setting disp

@@ -23,7 +23,6 @@ use Rattle.bios_services.specs.Palette.{register_plan}
 use Rattle.bios_services.specs.Tables.{table_refusal, registers_plan, read_palette_plan, read_components_plan, read_entries_plan, table_plan}
 use Rattle.bios_services.specs.Colours.{has_entries}
 use Rattle.bios_services.specs.Calls.{call_of}
-use Rattle.bios_services.specs.ModeSet.{is_text}
 use Rattle.bios_services.specs.Service.{Answered, answered_with, refused, table_unless, table_in_mode_plan, asked}
 use Rattle.bios_screen.specs.Listing.{listing}
 use Rattle.bios_screen.specs.Screen.{Screen}
@@ -36,9 +35,13 @@ use Rattle.bios_screen.proofs.ListLemmas.{spelled}
 use Rattle.bios_screen.proofs.TestLemmas.{both_true, lt_is, le_is}
 use Rattle.bios_screen.proofs.Kept.{plan_beam}
 use Rattle.bios_screen.proofs.Setting.{setting, card_at}
-use Rattle.bios_screen.proofs.Display.{Display, port_of, text_setting}
 use Rattle.bios_screen.proofs.Display.Display.{Colour, Monochrome}
-use Rattle.bios_screen.proofs.Shows.{IsShown, screen_shown, shown_is, text_shown, mode_of_shown}
+use Rattle.bios_screen.proofs.PixelModes.Planes.{Low, Middle, High}
+use Rattle.bios_screen.proofs.PixelModes.Graphics.{Sixteen, Many}
+use Rattle.bios_screen.proofs.AnyModes.{Tabled, setting_of, port_of}
+use Rattle.bios_screen.proofs.AnyModes.Tabled.{OfText, OfPixels}
+use Rattle.bios_screen.proofs.Shows.{mode_of_shown}
+use Rattle.bios_screen.proofs.AnyShows.{IsAny, any_screen, any_is}
 use Rattle.bios_screen.proofs.Attributes.{with_attr}
 use Rattle.bios_screen.proofs.Dacs.{with_dac}
 use Rattle.bios_screen.proofs.Coloured.{port_is, index_moved, dac_shown}
@@ -49,20 +52,24 @@ use Rattle.bios_screen.proofs.Coloured.{port_is, index_moved, dac_shown}
 abbrev values_of : List ℕ → List ℕ
 values_of l = take 16 l ++ slice_index l 0x11 ∷ []
 
-palette_by : (disp : Display) (c : CardState) (l : List ℕ) → run card_meaning (read_palette_plan (port_of disp)) (with_attr (card_at c (text_setting disp)) (listing (slice_index l) 0 21) c.attr.index c.attr.is_data) ≡ (with_attr (card_at c (text_setting disp)) (listing (slice_index l) 0 21) 0x31 false, values_of (listing (slice_index l) 0 21))
+palette_by : (mode : Tabled) (c : CardState) (l : List ℕ) → run card_meaning (read_palette_plan (port_of mode)) (with_attr (card_at c (setting_of mode)) (listing (slice_index l) 0 21) c.attr.index c.attr.is_data) ≡ (with_attr (card_at c (setting_of mode)) (listing (slice_index l) 0 21) 0x31 false, values_of (listing (slice_index l) 0 21))
 unfolding read_palette_plan registers_plan register_plan reached_by crtc_port_of out_at inp_at
-palette_by Colour c l = refl
-palette_by Monochrome c l = refl
+palette_by (OfText Colour) c l = refl
+palette_by (OfText Monochrome) c l = refl
+palette_by (OfPixels (Sixteen Low)) c l = refl
+palette_by (OfPixels (Sixteen Middle)) c l = refl
+palette_by (OfPixels (Sixteen High)) c l = refl
+palette_by (OfPixels Many) c l = refl
 
-palette_read : (disp : Display) (c : CardState) → setting c ≡ text_setting disp → IsCard c → run card_meaning (read_palette_plan (port_of disp)) c ≡ (with_attr c c.attr.registers 0x31 false, values_of c.attr.registers)
-palette_read disp c e z =
+palette_read : (mode : Tabled) (c : CardState) → setting c ≡ setting_of mode → IsCard c → run card_meaning (read_palette_plan (port_of mode)) c ≡ (with_attr c c.attr.registers 0x31 false, values_of c.attr.registers)
+palette_read mode c e z =
     let l = c.attr.registers in
-    let plan = read_palette_plan (port_of disp) in
+    let plan = read_palette_plan (port_of mode) in
     let whole = spelled l 21 z.attr.size in
     ap (λ x. run card_meaning plan (card_at c x)) e
-    ∙ ap (λ k. run card_meaning plan (with_attr (card_at c (text_setting disp)) k c.attr.index c.attr.is_data)) whole
-    ∙ palette_by disp c l
-    ∙ ap (λ k. let p : CardState × List ℕ = (with_attr (card_at c (text_setting disp)) k 0x31 false, values_of k) in p) (sym whole)
+    ∙ ap (λ k. run card_meaning plan (with_attr (card_at c (setting_of mode)) k c.attr.index c.attr.is_data)) whole
+    ∙ palette_by mode c l
+    ∙ ap (λ k. let p : CardState × List ℕ = (with_attr (card_at c (setting_of mode)) k 0x31 false, values_of k) in p) (sym whole)
     ∙ ap (λ x. let p : CardState × List ℕ = (with_attr (card_at c x) l 0x31 false, values_of l) in p) (sym e)
 
 -- ---- entries are read
@@ -134,14 +141,14 @@ record IsTable (service : TableService) (c : CardState) (d : BiosData) (s : Scre
   answer : (run card_meaning (table_plan service d.crtc_address) c).1 ≡ table_read s service
   shows : shown (run card_meaning (table_plan service d.crtc_address) c).0 d ≡ Some s
 
-is_table : (service : TableService) (c : CardState) (d : BiosData) (h : IsShown c d) → IsCard c → table_refusal service ≡ None → IsTable service c d (screen_shown c d h)
+is_table : (service : TableService) (c : CardState) (d : BiosData) (h : IsAny c d) → IsCard c → table_refusal service ≡ None → IsTable service c d (any_screen c d h c)
 unfolding table_plan
 is_table ReadPalette c d h z e =
     let done : List ℕ → Plan Table = λ values. Done (PaletteTable values) in
     let runs =
     run_bind card_meaning (read_palette_plan d.crtc_address) done c
     ∙ ap (λ p. let x = run card_meaning (read_palette_plan p) c in run card_meaning (done x.1) x.0) (port_is c d h)
-    ∙ ap (λ (x : CardState × List ℕ). run card_meaning (done x.1) x.0) (palette_read h.display c h.setting z) in
+    ∙ ap (λ (x : CardState × List ℕ). run card_meaning (done x.1) x.0) (palette_read h.kind c h.setting z) in
     record { answer = ap (λ x. x.1) runs; shows = ap (λ x. shown x.0 d) runs ∙ index_moved c d h 0x11 (omega arith) }
 is_table (ReadEntries first count) c d h z e =
     let a = entries_allowed first count e in
@@ -153,7 +160,7 @@ is_table (ReadEntries first count) c d h z e =
 
 -- ---- the call
 
-call_read : (service : TableService) (fonts : FontSet) (r : Regs) (block : List ℕ) (c : CardState) (d : BiosData) (h : IsShown c d) → IsCard c → shown c d ≡ Some (screen_shown c d h) → call_of r ≡ Some (ReadTable service) → IsRead service fonts r block c d (screen_shown c d h)
+call_read : (service : TableService) (fonts : FontSet) (r : Regs) (block : List ℕ) (c : CardState) (d : BiosData) (h : IsAny c d) → IsCard c → shown c d ≡ Some (any_screen c d h c) → call_of r ≡ Some (ReadTable service) → IsRead service fonts r block c d (any_screen c d h c)
 unfolding table_in_mode_plan table_unless
 call_read service fonts r block c d h z old e = by_refusal (table_refusal service) refl
   where
@@ -163,16 +170,16 @@ call_read service fonts r block c d h z old e = by_refusal (table_refusal servic
     runs : after_call fonts r block c d ≡ run card_meaning (table_unless (table_refusal service) service d r) c
     runs =
         ap (λ (q : Option Call). run card_meaning (asked q fonts d r block) c) e
-        ∙ ap (λ b. run card_meaning (if b then refused NoMode d else table_unless (table_refusal service) service d r) c) (mode_of_shown c d (screen_shown c d h) old).set
+        ∙ ap (λ b. run card_meaning (if b then refused NoMode d else table_unless (table_refusal service) service d r) c) (mode_of_shown c d (any_screen c d h c) old).set
 
     beam_is : (after_call fonts r block c d).0.crtc.beam ≡ c.crtc.beam
     beam_is = ap (λ y. y.0.crtc.beam) runs ∙ plan_beam (table_unless (table_refusal service) service d r) c
 
-    by_refusal : (x : Option Refusal) → table_refusal service ≡ x → IsRead service fonts r block c d (screen_shown c d h)
+    by_refusal : (x : Option Refusal) → table_refusal service ≡ x → IsRead service fonts r block c d (any_screen c d h c)
     by_refusal (Some why) q =
         let all : after_call fonts r block c d ≡ (c, (Err why, d)) = runs ∙ ap (λ x. run card_meaning (table_unless x service d r) c) q in
         record {
-          reply = ap (λ x. x.1.0) all ∙ sym (ap (λ x. replied_unless x (table_read (screen_shown c d h) service) r) q);
+          reply = ap (λ x. x.1.0) all ∙ sym (ap (λ x. replied_unless x (table_read (any_screen c d h c) service) r) q);
           shows = ap (λ x. shown x.0 x.1.1) all ∙ old;
           beam = beam_is;
         }
@@ -180,14 +187,14 @@ call_read service fonts r block c d h z old e = by_refusal (table_refusal servic
         let t = is_table service c d h z q in
         let all = runs ∙ ap (λ x. run card_meaning (table_unless x service d r) c) q ∙ run_bind card_meaning (table_plan service d.crtc_address) done c in
         record {
-          reply = ap (λ x. x.1.0) all ∙ ap (λ k. replied_unless None k r) t.answer ∙ sym (ap (λ x. replied_unless x (table_read (screen_shown c d h) service) r) q);
+          reply = ap (λ x. x.1.0) all ∙ ap (λ k. replied_unless None k r) t.answer ∙ sym (ap (λ x. replied_unless x (table_read (any_screen c d h c) service) r) q);
           shows = ap (λ x. shown x.0 x.1.1) all ∙ t.shows;
           beam = beam_is;
         }
 
-pub tables_read : (service : TableService) (fonts : FontSet) (r : Regs) (block : List ℕ) (c : CardState) (d : BiosData) (s : Screen) → IsCard c → shown c d ≡ Some s → is_text s.mode ≡ true → call_of r ≡ Some (ReadTable service) → IsRead service fonts r block c d s
-tables_read service fonts r block c d s z old text e =
-    let x = shown_is c d s (text_shown c d s old text) old in
+pub tables_read : (service : TableService) (fonts : FontSet) (r : Regs) (block : List ℕ) (c : CardState) (d : BiosData) (s : Screen) → IsCard c → shown c d ≡ Some s → call_of r ≡ Some (ReadTable service) → IsRead service fonts r block c d s
+tables_read service fonts r block c d s z old e =
+    let x = any_is c d s old in
     subst (IsRead service fonts r block c d) x.screen (call_read service fonts r block c d x.is z (old ∙ ap Some (sym x.screen)) e)
 
 -- where there is no memory nothing has changed
