@@ -21,7 +21,7 @@ use Rattle.bios_screen.proofs.PixelModes.Graphics.{Sixteen, Many}
 use Rattle.bios_screen.proofs.PixelModes.Planes.{Low, Middle, High}
 use Rattle.bios_screen.proofs.AnyModes.{Tabled, setting_of, port_of, control_of}
 use Rattle.bios_screen.proofs.AnyModes.Tabled.{OfText, OfPixels}
-use Rattle.bios_screen.proofs.PixelShows.{screen_is_pixels, pixels_of_shown}
+use Rattle.bios_screen.proofs.PixelShows.{IsPixels, screen_is_pixels, pixels_of_shown}
 
 -- all that a screen says, whatever its mode; contents and glyphs are of the memory alone
 pub record IsAny (c : CardState) (d : BiosData) : Type 0 where
@@ -89,6 +89,23 @@ setting_by row c d t =
     ∙ ap (λ x. let r : Setting = record { misc = row.misc; seq = x; gfx = c.host.gfx } in r) ((bytes_eq-Decides c.host.seq row.sequencer).0 b.0)
     ∙ ap (λ x. let r : Setting = record { misc = row.misc; seq = row.sequencer; gfx = x } in r) ((bytes_eq-Decides c.host.gfx row.graphics).0 b.1)
 
+-- the setting and the port of a screen of pixels
+pub record HasSetting (c : CardState) (d : BiosData) (row : ModeRow) : Type 0 where
+  pub kind : Graphics
+  pub row_is : row_in kind ≡ row
+  pub setting : setting c ≡ setting_of (OfPixels kind)
+  pub port : d.crtc_address ≡ port_of (OfPixels kind)
+
+pub pixel_setting : (c : CardState) (d : BiosData) (h : IsPixels c d) → HasSetting c d h.row
+pixel_setting c d h =
+    let g = graphics_row d.mode h.row h.text h.mode in
+    record {
+      kind = g.kind;
+      row_is = g.row_is;
+      setting = setting_by h.row c d h.tests ∙ ap (λ (r : ModeRow). let q : Setting = record { misc = r.misc; seq = r.sequencer; gfx = r.graphics } in q) (sym g.row_is);
+      port = h.has.port ∙ ap (λ (r : ModeRow). r.crtc_address) (sym g.row_is) ∙ row_port g.kind;
+    }
+
 pub any_is : (c : CardState) (d : BiosData) (s : Screen) → shown c d ≡ Some s → ShowsAny c d s
 any_is c d s h = by_kind (is_text d.mode) refl
   where
@@ -115,14 +132,14 @@ any_is c d s h = by_kind (is_text d.mode) refl
     by_kind false t =
         let x = pixels_of_shown c d s t h in
         let y = x.is in
-        let g = graphics_row d.mode y.row t y.mode in
+        let g = pixel_setting c d y in
         record {
           is = record {
             row = y.row;
             mode = y.mode;
             kind = OfPixels g.kind;
-            setting = setting_by y.row c d y.tests ∙ ap (λ (r : ModeRow). let q : Setting = record { misc = r.misc; seq = r.sequencer; gfx = r.graphics } in q) (sym g.row_is);
-            port = y.has.port ∙ ap (λ (r : ModeRow). r.crtc_address) (sym g.row_is) ∙ row_port g.kind;
+            setting = g.setting;
+            port = g.port;
             control = ap (λ (r : ModeRow). bit_and (slice_index r.attribute 0x10) 0xF7) (sym g.row_is) ∙ row_control g.kind;
             tests = y.tests;
             distance = 0;

@@ -33,7 +33,11 @@ use Rattle.bios_screen.proofs.PlanLemmas.{run_bind}
 use Rattle.bios_screen.proofs.Places.{half_start, ends_before, few_cells}
 use Rattle.bios_screen.proofs.Kept.{plan_beam}
 use Rattle.bios_screen.proofs.Setting.{Setting, setting, card_at}
-use Rattle.bios_screen.proofs.Display.{Display, port_of, text_setting, IsTextRow}
+use Rattle.bios_screen.proofs.Display.{Display, port_of as text_port, text_setting, IsTextRow}
+use Rattle.bios_screen.proofs.PixelModes.Planes.{Low, Middle, High}
+use Rattle.bios_screen.proofs.PixelModes.Graphics.{Sixteen, Many}
+use Rattle.bios_screen.proofs.AnyModes.{Tabled, setting_of, port_of}
+use Rattle.bios_screen.proofs.AnyModes.Tabled.{OfText, OfPixels}
 use Rattle.bios_screen.proofs.TestLemmas.{both_true, both_are, lt_is, lt_test}
 use Rattle.bios_screen.proofs.Shows.{HasData, text_crtc, IsShown, screen_shown, shown_of}
 use Rattle.bios_screen.proofs.Readers.{meant_is, page_refusal_is, named_refusal_is}
@@ -47,53 +51,65 @@ with_crtc c l i = record c { crtc = record c.crtc { registers = l; index = i } }
 
 -- ---- the registers, which are literals but for what the data say
 
-type_by : (disp : Display) (c : CardState) (row : ModeRow) (type start location new : ℕ) → (run card_meaning (crtc (port_of disp) 0x0A (high new) >> crtc (port_of disp) 0x0B (low new)) (card_at (with_crtc c (crtc_registers row type start location) c.crtc.index) (text_setting disp))).0 ≡ with_crtc (card_at c (text_setting disp)) (crtc_registers row new start location) 0x0B
+type_by : (mode : Tabled) (c : CardState) (row : ModeRow) (type start location new : ℕ) → (run card_meaning (crtc (port_of mode) 0x0A (high new) >> crtc (port_of mode) 0x0B (low new)) (card_at (with_crtc c (crtc_registers row type start location) c.crtc.index) (setting_of mode))).0 ≡ with_crtc (card_at c (setting_of mode)) (crtc_registers row new start location) 0x0B
 unfolding reached_by crtc_port_of out_at after_crtc
-type_by Colour c row type start location new = refl
-type_by Monochrome c row type start location new = refl
+type_by (OfText Colour) c row type start location new = refl
+type_by (OfText Monochrome) c row type start location new = refl
+type_by (OfPixels (Sixteen Low)) c row type start location new = refl
+type_by (OfPixels (Sixteen Middle)) c row type start location new = refl
+type_by (OfPixels (Sixteen High)) c row type start location new = refl
+type_by (OfPixels Many) c row type start location new = refl
 
-pub type_set : (disp : Display) (c : CardState) (row : ModeRow) (type start location new : ℕ) → setting c ≡ text_setting disp → c.crtc.registers ≡ crtc_registers row type start location → (run card_meaning (crtc (port_of disp) 0x0A (high new) >> crtc (port_of disp) 0x0B (low new)) c).0 ≡ with_crtc c (crtc_registers row new start location) 0x0B
-type_set disp c row type start location new e r =
-    let plan = crtc (port_of disp) 0x0A (high new) >> crtc (port_of disp) 0x0B (low new) in
+pub type_set : (mode : Tabled) (c : CardState) (row : ModeRow) (type start location new : ℕ) → setting c ≡ setting_of mode → c.crtc.registers ≡ crtc_registers row type start location → (run card_meaning (crtc (port_of mode) 0x0A (high new) >> crtc (port_of mode) 0x0B (low new)) c).0 ≡ with_crtc c (crtc_registers row new start location) 0x0B
+type_set mode c row type start location new e r =
+    let plan = crtc (port_of mode) 0x0A (high new) >> crtc (port_of mode) 0x0B (low new) in
     ap (λ s. (run card_meaning plan (card_at c s)).0) e
-    ∙ ap (λ x. (run card_meaning plan (card_at (with_crtc c x c.crtc.index) (text_setting disp))).0) r
-    ∙ type_by disp c row type start location new
+    ∙ ap (λ x. (run card_meaning plan (card_at (with_crtc c x c.crtc.index) (setting_of mode))).0) r
+    ∙ type_by mode c row type start location new
     ∙ ap (λ s. with_crtc (card_at c s) (crtc_registers row new start location) 0x0B) (sym e)
 
 -- the registers with other bytes of the cursor location
 abbrev located : ModeRow → ℕ → ℕ → ℕ → ℕ → List ℕ
 located row type start h l = slice_set (slice_set (crtc_registers row type start 0) 0x0E h) 0x0F l
 
-location_by : (disp : Display) (c : CardState) (row : ModeRow) (type start location n : ℕ) → (run card_meaning (word_plan (port_of disp) 0x0E n) (card_at (with_crtc c (crtc_registers row type start location) c.crtc.index) (text_setting disp))).0 ≡ with_crtc (card_at c (text_setting disp)) (located row type start (bit_and (n / 256) 0xFF) (bit_and (n % 256) 0xFF)) 0x0F
+location_by : (mode : Tabled) (c : CardState) (row : ModeRow) (type start location n : ℕ) → (run card_meaning (word_plan (port_of mode) 0x0E n) (card_at (with_crtc c (crtc_registers row type start location) c.crtc.index) (setting_of mode))).0 ≡ with_crtc (card_at c (setting_of mode)) (located row type start (bit_and (n / 256) 0xFF) (bit_and (n % 256) 0xFF)) 0x0F
 unfolding word_plan reached_by crtc_port_of out_at after_crtc
-location_by Colour c row type start location n = refl
-location_by Monochrome c row type start location n = refl
+location_by (OfText Colour) c row type start location n = refl
+location_by (OfText Monochrome) c row type start location n = refl
+location_by (OfPixels (Sixteen Low)) c row type start location n = refl
+location_by (OfPixels (Sixteen Middle)) c row type start location n = refl
+location_by (OfPixels (Sixteen High)) c row type start location n = refl
+location_by (OfPixels Many) c row type start location n = refl
 
-pub location_set : (disp : Display) (c : CardState) (row : ModeRow) (type start location n : ℕ) → setting c ≡ text_setting disp → c.crtc.registers ≡ crtc_registers row type start location → n < 65536 → (run card_meaning (word_plan (port_of disp) 0x0E n) c).0 ≡ with_crtc c (crtc_registers row type start n) 0x0F
-location_set disp c row type start location n e r l =
-    ap (λ s. (run card_meaning (word_plan (port_of disp) 0x0E n) (card_at c s)).0) e
-    ∙ ap (λ x. (run card_meaning (word_plan (port_of disp) 0x0E n) (card_at (with_crtc c x c.crtc.index) (text_setting disp))).0) r
-    ∙ location_by disp c row type start location n
-    ∙ ap (λ h. with_crtc (card_at c (text_setting disp)) (located row type start h (bit_and (n % 256) 0xFF)) 0x0F) (and_255 (n / 256) (omega arith))
-    ∙ ap (λ h. with_crtc (card_at c (text_setting disp)) (located row type start (n / 256) h) 0x0F) (and_255 (n % 256) (omega arith))
+pub location_set : (mode : Tabled) (c : CardState) (row : ModeRow) (type start location n : ℕ) → setting c ≡ setting_of mode → c.crtc.registers ≡ crtc_registers row type start location → n < 65536 → (run card_meaning (word_plan (port_of mode) 0x0E n) c).0 ≡ with_crtc c (crtc_registers row type start n) 0x0F
+location_set mode c row type start location n e r l =
+    ap (λ s. (run card_meaning (word_plan (port_of mode) 0x0E n) (card_at c s)).0) e
+    ∙ ap (λ x. (run card_meaning (word_plan (port_of mode) 0x0E n) (card_at (with_crtc c x c.crtc.index) (setting_of mode))).0) r
+    ∙ location_by mode c row type start location n
+    ∙ ap (λ h. with_crtc (card_at c (setting_of mode)) (located row type start h (bit_and (n % 256) 0xFF)) 0x0F) (and_255 (n / 256) (omega arith))
+    ∙ ap (λ h. with_crtc (card_at c (setting_of mode)) (located row type start (n / 256) h) 0x0F) (and_255 (n % 256) (omega arith))
     ∙ ap (λ s. with_crtc (card_at c s) (crtc_registers row type start n) 0x0F) (sym e)
 
 -- and of the start address
 abbrev started_at : ModeRow → ℕ → ℕ → ℕ → ℕ → List ℕ
 started_at row type location h l = slice_set (slice_set (crtc_registers row type 0 location) 0x0C h) 0x0D l
 
-start_by : (disp : Display) (c : CardState) (row : ModeRow) (type start location n : ℕ) → (run card_meaning (word_plan (port_of disp) 0x0C n) (card_at (with_crtc c (crtc_registers row type start location) c.crtc.index) (text_setting disp))).0 ≡ with_crtc (card_at c (text_setting disp)) (started_at row type location (bit_and (n / 256) 0xFF) (bit_and (n % 256) 0xFF)) 0x0D
+start_by : (mode : Tabled) (c : CardState) (row : ModeRow) (type start location n : ℕ) → (run card_meaning (word_plan (port_of mode) 0x0C n) (card_at (with_crtc c (crtc_registers row type start location) c.crtc.index) (setting_of mode))).0 ≡ with_crtc (card_at c (setting_of mode)) (started_at row type location (bit_and (n / 256) 0xFF) (bit_and (n % 256) 0xFF)) 0x0D
 unfolding word_plan reached_by crtc_port_of out_at after_crtc
-start_by Colour c row type start location n = refl
-start_by Monochrome c row type start location n = refl
+start_by (OfText Colour) c row type start location n = refl
+start_by (OfText Monochrome) c row type start location n = refl
+start_by (OfPixels (Sixteen Low)) c row type start location n = refl
+start_by (OfPixels (Sixteen Middle)) c row type start location n = refl
+start_by (OfPixels (Sixteen High)) c row type start location n = refl
+start_by (OfPixels Many) c row type start location n = refl
 
-pub start_set : (disp : Display) (c : CardState) (row : ModeRow) (type start location n : ℕ) → setting c ≡ text_setting disp → c.crtc.registers ≡ crtc_registers row type start location → n < 65536 → (run card_meaning (word_plan (port_of disp) 0x0C n) c).0 ≡ with_crtc c (crtc_registers row type n location) 0x0D
-start_set disp c row type start location n e r l =
-    ap (λ s. (run card_meaning (word_plan (port_of disp) 0x0C n) (card_at c s)).0) e
-    ∙ ap (λ x. (run card_meaning (word_plan (port_of disp) 0x0C n) (card_at (with_crtc c x c.crtc.index) (text_setting disp))).0) r
-    ∙ start_by disp c row type start location n
-    ∙ ap (λ h. with_crtc (card_at c (text_setting disp)) (started_at row type location h (bit_and (n % 256) 0xFF)) 0x0D) (and_255 (n / 256) (omega arith))
-    ∙ ap (λ h. with_crtc (card_at c (text_setting disp)) (started_at row type location (n / 256) h) 0x0D) (and_255 (n % 256) (omega arith))
+pub start_set : (mode : Tabled) (c : CardState) (row : ModeRow) (type start location n : ℕ) → setting c ≡ setting_of mode → c.crtc.registers ≡ crtc_registers row type start location → n < 65536 → (run card_meaning (word_plan (port_of mode) 0x0C n) c).0 ≡ with_crtc c (crtc_registers row type n location) 0x0D
+start_set mode c row type start location n e r l =
+    ap (λ s. (run card_meaning (word_plan (port_of mode) 0x0C n) (card_at c s)).0) e
+    ∙ ap (λ x. (run card_meaning (word_plan (port_of mode) 0x0C n) (card_at (with_crtc c x c.crtc.index) (setting_of mode))).0) r
+    ∙ start_by mode c row type start location n
+    ∙ ap (λ h. with_crtc (card_at c (setting_of mode)) (started_at row type location h (bit_and (n % 256) 0xFF)) 0x0D) (and_255 (n / 256) (omega arith))
+    ∙ ap (λ h. with_crtc (card_at c (setting_of mode)) (started_at row type location (n / 256) h) 0x0D) (and_255 (n % 256) (omega arith))
     ∙ ap (λ s. with_crtc (card_at c s) (crtc_registers row type n location) 0x0D) (sym e)
 
 -- ---- the services
@@ -119,7 +135,7 @@ location_small d row disp p place text has lp l =
     omega arith
 
 -- the cursor of the active page is shown, and that of another page is not
-cursor_active : (disp : Display) (c : CardState) (row : ModeRow) (e : BiosData) (p type start location : ℕ) → is_text e.mode ≡ true → e.crtc_address ≡ port_of disp → setting c ≡ text_setting disp → c.crtc.registers ≡ crtc_registers row type start location → cursor_address e p < 65536 → p ≡ e.page → (run card_meaning (cursor_plan e p) c).0 ≡ with_crtc c (crtc_registers row type start (cursor_address e p)) 0x0F
+cursor_active : (disp : Display) (c : CardState) (row : ModeRow) (e : BiosData) (p type start location : ℕ) → is_text e.mode ≡ true → e.crtc_address ≡ text_port disp → setting c ≡ text_setting disp → c.crtc.registers ≡ crtc_registers row type start location → cursor_address e p < 65536 → p ≡ e.page → (run card_meaning (cursor_plan e p) c).0 ≡ with_crtc c (crtc_registers row type start (cursor_address e p)) 0x0F
 unfolding cursor_plan
 cursor_active disp c row e p type start location text port set r small active =
     let test : (p == e.page) ≡ true = grind (arith, nat_tests) in
@@ -127,7 +143,7 @@ cursor_active disp c row e p type start location text port set r small active =
     ap (λ b. (run card_meaning (if b then (if p == e.page then word_plan e.crtc_address 0x0E n else Done tt) else Done tt) c).0) text
     ∙ ap (λ b. (run card_meaning (if b then word_plan e.crtc_address 0x0E n else Done tt) c).0) test
     ∙ ap (λ q. (run card_meaning (word_plan q 0x0E n) c).0) port
-    ∙ location_set disp c row type start location n set r small
+    ∙ location_set (OfText disp) c row type start location n set r small
 
 cursor_hidden : (c : CardState) (e : BiosData) (p : ℕ) → p ≢ e.page → (run card_meaning (cursor_plan e p) c).0 ≡ c
 unfolding cursor_plan
@@ -190,7 +206,7 @@ set_cursor_type type fonts r block c d h =
     let y = with_crtc c (crtc_registers h.row type (start_address d d.page) (cursor_address d d.page)) 0x0B in
     let runs : (run card_meaning (crtc d.crtc_address 0x0A (high type) >> crtc d.crtc_address 0x0B (low type)) c).0 ≡ y =
     ap (λ q. (run card_meaning (crtc q 0x0A (high type) >> crtc q 0x0B (low type)) c).0) port
-    ∙ type_set h.display c h.row d.cursor_type (start_address d d.page) (cursor_address d d.page) type h.setting t.crtc in
+    ∙ type_set (OfText h.display) c h.row d.cursor_type (start_address d d.page) (cursor_address d d.page) type h.setting t.crtc in
     record {
       refusal = refl;
       answer = λ _. refl;
@@ -230,7 +246,7 @@ same_test : (n : ℕ) → (n == n) ≡ true
 same_test n = grind (arith, nat_tests)
 
 -- the data of another page
-page_data : (row : ModeRow) (d : BiosData) (page : ℕ) → shows_data row d ≡ true → page < row.pages → shows_data row (with_page d page) ≡ true
+pub page_data : (row : ModeRow) (d : BiosData) (page : ℕ) → shows_data row d ≡ true → page < row.pages → shows_data row (with_page d page) ≡ true
 page_data row d page h l =
     let a = both_true (d.columns == row.columns) _ h in
     let b = both_true (d.size == row.size) _ a.1 in
@@ -258,7 +274,7 @@ page_shown c d h page bda lp =
     let y = with_crtc c1 (crtc_registers row d.cursor_type n (cursor_address e page)) 0x0F in
     let first : (run card_meaning (word_plan d.crtc_address 0x0C n) c).0 ≡ c1 =
     ap (λ q. (run card_meaning (word_plan q 0x0C n) c).0) port
-    ∙ start_set h.display c row d.cursor_type (start_address d d.page) (cursor_address d d.page) n h.setting t.crtc few in
+    ∙ start_set (OfText h.display) c row d.cursor_type (start_address d d.page) (cursor_address d d.page) n h.setting t.crtc few in
     let cursor : Plan BiosData = cursor_plan e page >> (let done : Plan BiosData = Done e in done) in
     ap (λ x. shown x.0 x.1) (run_bind card_meaning (word_plan d.crtc_address 0x0C n) (λ _. cursor) c)
     ∙ ap (λ x. let z = run card_meaning cursor x in shown z.0 z.1) first

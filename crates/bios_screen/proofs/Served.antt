@@ -71,13 +71,13 @@ pub read_pixel : (page x y : ℕ) → Serves (ReadPixel page x y)
 read_pixel page x y = serves (ReadPixel page x y) refl (λ fonts r block c d h bytes z bda. readers.read_pixel page x y fonts r block c d h)
 
 pub set_cursor_type : (type : ℕ) → Serves (SetCursorType type)
-set_cursor_type type = serves (SetCursorType type) refl (λ fonts r block c d h bytes z bda. cursors.set_cursor_type type fonts r block c d h)
+set_cursor_type type = serves_both (SetCursorType type) (λ fonts r block c d h bda. cursors.set_cursor_type type fonts r block c d h) (λ fonts r block c d h. pixel_cursors.set_cursor_type c d h type fonts r block)
 
 pub set_cursor : (page place : ℕ) → place < 65536 → Serves (SetCursor page place)
 set_cursor page place l = serves_both (SetCursor page place) (λ fonts r block c d h bda. cursors.set_cursor page place fonts r block c d h l bda) (λ fonts r block c d h. pixel_cursors.set_cursor c d h page place fonts r block)
 
 pub select_page : (page : ℕ) → Serves (SelectPage page)
-select_page page = serves (SelectPage page) refl (λ fonts r block c d h bytes z bda. cursors.select_page page fonts r block c d h bda)
+select_page page = serves_both (SelectPage page) (λ fonts r block c d h bda. cursors.select_page page fonts r block c d h bda) (λ fonts r block c d h. pixel_cursors.select_page c d h page fonts r block)
 
 pub read_cell : (page : ℕ) → Serves (ReadCell page)
 read_cell page = serves (ReadCell page) refl (λ fonts r block c d h bytes z bda. writes.read_cell page fonts r block c d h z)

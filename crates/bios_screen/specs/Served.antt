@@ -11,7 +11,7 @@ use Rattle.bios_modes.specs.Fonts.{FontSet}
 use Rattle.bios_services.specs.declared.reply.Table.TheVariants.{Empty}
 use Rattle.bios_services.specs.declared.call.Call.TheVariants.{SetMode}
 use Rattle.bios_services.specs.declared.call.Service.{Service}
-use Rattle.bios_services.specs.declared.call.Service.TheVariants.{SetCursor, ReadCursor, ReadMode, Colours, ReadAdapter, ReadDisplay}
+use Rattle.bios_services.specs.declared.call.Service.TheVariants.{SetCursorType, SetCursor, ReadCursor, SelectPage, ReadMode, Colours, ReadAdapter, ReadDisplay}
 use Rattle.bios_services.specs.declared.colours.ColourService.{ColourService}
 use Rattle.bios_services.specs.declared.colours.ColourService.TheVariants.{SetOverscan}
 use Rattle.bios_services.specs.Plan.{run}
@@ -40,11 +40,12 @@ abbrev pub FitsBytes : ColourService → Type 0
 FitsBytes (SetOverscan value) = value < 256
 FitsBytes service = Unit {0}
 
--- whether the laws tell of a service in graphics too: so far of those that look at no pixel and at no register of the CRT
--- controller
+-- whether the laws tell of a service in graphics too, so far of those that look at no pixel
 abbrev pub is_told_in_graphics : Service → Bool
+is_told_in_graphics (SetCursorType cursor_type) = true
 is_told_in_graphics (SetCursor page place) = true
 is_told_in_graphics (ReadCursor page) = true
+is_told_in_graphics (SelectPage page) = true
 is_told_in_graphics ReadMode = true
 is_told_in_graphics (Colours service) = true
 is_told_in_graphics ReadAdapter = true
