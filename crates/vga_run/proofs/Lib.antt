@@ -1,4 +1,5 @@
 pub mod LookLemmas
+pub mod ModeLemmas
 pub mod NumberLemmas
 pub mod ReportLemmas
 pub mod RunLemmas

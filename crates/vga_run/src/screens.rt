@@ -7,7 +7,7 @@ ghost use Rattle.vga_script.specs.declared.step.Step.{Step};
 ghost use Rattle.vga_run.specs.Report.{report_of};
 ghost use Rattle.vga_run.specs.ScreenReport.{AreOfScreens, screen_report};
 
-use bios_screen::frames::frame_draws_text;
+use bios_screen::frames::frame_draws_screen;
 use bios_screen::laws::{calls_lead_to_screens, mode_set_is_fresh};
 use bios_services::laws::calls_keep_bounds;
 use vga_card::laws::bounds_stay;
@@ -22,7 +22,7 @@ pub fn reports_are_screens()
     calls_keep_bounds();
     calls_lead_to_screens();
     mode_set_is_fresh();
-    frame_draws_text();
+    frame_draws_screen();
 }
 
 /// The bytes of a file are below 256.

@@ -14,5 +14,5 @@ returns c = reports_screens (record {
   no_mode = c.calls_lead_to_screens.ensures.mode;
   colour = c.mode_set_is_fresh.ensures.colour;
   monochrome = c.mode_set_is_fresh.ensures.monochrome;
-  framed = c.frame_draws_text.ensures;
+  framed = c.frame_draws_screen.ensures;
 })
