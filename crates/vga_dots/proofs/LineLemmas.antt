@@ -17,7 +17,7 @@ use Rattle.vga_dots.specs.Graphics.{planar_nibble, packed_byte}
 use Rattle.vga_dots.specs.Colour.{dot_colour, colour_number, nibble}
 use Rattle.vga_dots.specs.Row.{dot_in, AreDotsPut, AreCharactersPut}
 use Rattle.vga_dots.specs.Line.{placed, masked, shade, dot_of, source_colour, unpanned_colour, IsLineDrawn}
-use Rattle.vga_dots.proofs.RowLemmas.{dot_byte, characters_filled}
+use Rattle.vga_dots.proofs.RowLemmas.{dot_byte}
 
 -- a choice of numbers is one of colours
 distribute : (off hidden packed graphics : Bool) (a : AttrState) (d : DacState) (n1 n2 n3 n4 : ℕ)
@@ -54,8 +54,11 @@ module _ (cw : ℕ) (h : HostState) (c : CrtcState) (a : AttrState) (d : DacStat
       ap (λ w. unpanned_colour h c a d (x + 1) (i - w)) wide ∙ sym (line_source h c a d x k ∙ ap (chosen x i) (ap (nat_lt i) (sym wide) ∙ le-ltb i cw l))
 
   -- a line of one colour, which is that of each dot wherever it comes from
-  pub line_filled : (n : ℕ) (colour row0 row1 : List ℕ) → AreDotsPut (n * cw) 0 (λ i. colour) row0 row1 → ((s : SourceDot) → colour ≡ source_colour h c a d s) → IsLineDrawn cw n h c a d row0 row1
-  line_filled n colour row0 row1 put same = characters_filled cw n (λ x k. dot_colour h (placed c x k) a d) colour row0 row1 put (λ x k. same _ ∙ sym (line_source h c a d x k))
+  pub line_filled : (n : ℕ) (colour row0 row1 : List ℕ) → AreCharactersPut cw n (λ x i. colour) row0 row1 → ((s : SourceDot) → colour ≡ source_colour h c a d s) → IsLineDrawn cw n h c a d row0 row1
+  line_filled n colour row0 row1 put same = record {
+    inside = λ x k j lx lk lj. put.inside x k j lx lk lj ∙ ap (λ q. slice_index q j) (same _ ∙ sym (line_source h c a d x k));
+    outside = put.outside;
+  }
 
   -- characters as they are, where there is no panning
   pub line_unpanned : (n : ℕ) (row0 row1 : List ℕ) → panned h c a ≡ 0 → AreCharactersPut cw n (unpanned_colour h c a d) row0 row1 → IsLineDrawn cw n h c a d row0 row1

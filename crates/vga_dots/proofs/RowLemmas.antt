@@ -1,5 +1,5 @@
 -- Dots and characters that are put into a row, one after another.
-use Rattle.std.proofs.Common.{◌≡◌, ℕ, zero, suc, ◌+◌, ◌*◌, ◌<◌, ◌≤◌, inl, inr, ⊎_elim, refl, sym, ap, subst, ◌∙◌, arith, List, slice_index}
+use Rattle.std.proofs.Common.{◌≡◌, ℕ, zero, suc, ◌+◌, ◌*◌, ◌<◌, ◌≤◌, inl, inr, ⊎_elim, refl, sym, ap, ◌∙◌, arith, List, slice_index}
 use Rattle.std.proofs.lemmas.Bool.{cases_lt}
 use Rattle.std.proofs.lemmas.Nat.{row_fits}
 use Rattle.vga_dots.specs.Row.{dot_in, IsDotPut, AreDotsPut, AreCharactersPut}
@@ -15,12 +15,6 @@ dots_more n at f row0 row1 row2 colour before now e = record {
       (cases_lt i n);
   outside = λ k o. now.outside k (⊎_elim (λ l. inl (omega arith)) (λ l. inr (omega arith)) o) ∙ before.outside k (⊎_elim (λ l. inl (omega arith)) (λ l. inr (omega arith)) o);
 }
-
--- one dot more, from the row's first on
-pub front_more : (n : ℕ) (f : ℕ → List ℕ) (row0 row1 row2 colour : List ℕ) → AreDotsPut n 0 f row0 row1 → IsDotPut row1 row2 n colour → colour ≡ f n → AreDotsPut (n + 1) 0 f row0 row2
-front_more n f row0 row1 row2 colour before now e =
-    let z : n ≡ 0 + n = omega arith in
-    dots_more n 0 f row0 row1 row2 colour before (subst (λ m. IsDotPut row1 row2 m colour) z now) e
 
 -- the same colours by another rule
 pub dots_alike : (n at : ℕ) (f g : ℕ → List ℕ) (row0 row1 : List ℕ) → AreDotsPut n at f row0 row1 → ((i : ℕ) → i < n → f i ≡ g i) → AreDotsPut n at g row0 row1
@@ -41,16 +35,6 @@ characters_more cw n f row0 row1 row2 before now = record {
       ap (λ q. slice_index row2 (3 * (q * cw + i) + j)) (sym z) ∙ now.inside i j li lj ∙ ap (λ q. slice_index (f q i) j) z)
       (cases_lt x n);
   outside = λ k o. now.outside k (inr (omega arith)) ∙ before.outside k (omega arith);
-}
-
--- characters of one colour
-pub characters_filled : (cw n : ℕ) (f : ℕ → ℕ → List ℕ) (colour row0 row1 : List ℕ) → AreDotsPut (n * cw) 0 (λ i. colour) row0 row1 → ((x i : ℕ) → colour ≡ f x i) → AreCharactersPut cw n f row0 row1
-characters_filled cw n f colour row0 row1 put same = record {
-  inside = λ x i j lx li lj.
-      let fits = row_fits x cw n cw lx (omega arith) in
-      let z : x * cw + i ≡ 0 + (x * cw + i) = omega arith in
-      ap (λ q. slice_index row1 (3 * q + j)) z ∙ put.inside (x * cw + i) j (omega arith) lj ∙ ap (λ c. slice_index c j) (same x i);
-  outside = λ k o. put.outside k (inr (omega arith));
 }
 
 -- a byte of a dot in a row

@@ -154,6 +154,30 @@ fn draw_panned<const CW: usize>(
     copy_dots(row, &unpanned, panned, count * CW);
 }
 
+/// Draws the first characters of the beam's line, which shows memory, panned or not.
+fn draw_shown<const CW: usize>(
+    host: &Host,
+    crtc: &Crtc,
+    attr: &Attr,
+    dac: &Dac,
+    count: usize,
+    row: &mut [u8],
+)
+    requires on { is_screen_off host.now ≡ false }
+    requires shown { is_palette_shown attr.now ≡ true }
+    requires count { count ≤ 256 }
+    requires width { CW ≡ character_width host.now }
+    requires room { 3 * (count * CW) ≤ length row.old }
+    ensures { IsLineDrawn CW count host.now crtc.now attr.now dac.now row.old row.new }
+{
+    let panned = panned(host, crtc, attr) as usize;
+    if panned == 0 {
+        draw_characters::<CW>(host, crtc, attr, dac, count, row);
+    } else {
+        draw_panned::<CW>(host, crtc, attr, dac, count, panned, row);
+    }
+}
+
 /// Writes red, green and blue of each displayed dot of the beam's line, from its first dot on: as
 /// `dot_colour` has them with the beam there. No other byte of the row changes. A character is `CW` dots
 /// wide. Where a frame begins, its start is to be taken first (`Crtc::take_start`).
@@ -162,15 +186,12 @@ pub fn draw_line<const CW: usize>(host: &Host, crtc: &Crtc, attr: &Attr, dac: &D
     requires room { 3 * (characters_shown crtc.now.registers * CW) ≤ length row.old }
     ensures { IsLineDrawn CW (characters_shown crtc.now.registers) host.now crtc.now attr.now dac.now row.old row.new }
 {
-    let panned = panned(host, crtc, attr) as usize;
     let count = shown_characters(crtc.fields()) as usize;
     if host.is_screen_off() {
-        fill(row, count * CW, BLACK);
+        fill::<CW>(row, count, BLACK);
     } else if !attr.is_palette_shown() {
-        fill(row, count * CW, masked(dac, attr.overscan()));
-    } else if panned == 0 {
-        draw_characters::<CW>(host, crtc, attr, dac, count, row);
+        fill::<CW>(row, count, masked(dac, attr.overscan()));
     } else {
-        draw_panned::<CW>(host, crtc, attr, dac, count, panned, row);
+        draw_shown::<CW>(host, crtc, attr, dac, count, row);
     }
 }

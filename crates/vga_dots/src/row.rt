@@ -1,7 +1,7 @@
 //! Dots in a row of bytes: red, green and blue of each in turn.
 ghost use Rattle.std.specs.Prelude.{◌≡◌, ◌+◌, ◌-◌, ◌*◌, ◌/◌, ◌<◌, ◌≤◌, if◌then◌else◌, length, [], nat_lt, slice_index_or};
 ghost use Rattle.vga_bits.specs.Bits.{is_set as is_set_of};
-ghost use Rattle.vga_dots.specs.Row.{nibble_of, dot_in, IsDotPut, AreDotsPut};
+ghost use Rattle.vga_dots.specs.Row.{nibble_of, dot_in, IsDotPut, AreDotsPut, AreCharactersPut};
 
 use vga_bits::is_set;
 
@@ -25,16 +25,6 @@ fn put_dot(row: &mut [u8], at: usize, colour: [u8; 3])
     row[3 * at] = colour[0];
     row[3 * at + 1] = colour[1];
     row[3 * at + 2] = colour[2];
-}
-
-/// Gives the first dots, as many as are told, one colour.
-pub(crate) fn fill(row: &mut [u8], count: usize, colour: [u8; 3])
-    requires { 3 * count ≤ length row.old }
-    ensures { AreDotsPut count 0 (λ i. colour) row.old row.new }
-{
-    for i in 0..count {
-        put_dot(row, i, colour);
-    }
 }
 
 /// Copies as many dots as are told from dot `first` of a row on.
@@ -76,6 +66,18 @@ fn put_blank<const CW: usize>(row: &mut [u8], at: usize, colour: [u8; 3])
 {
     for i in 0..CW {
         put_dot(row, at + i, colour);
+    }
+}
+
+/// Gives the first characters, as many as are told, one colour.
+pub(crate) fn fill<const CW: usize>(row: &mut [u8], count: usize, colour: [u8; 3])
+    requires count { count ≤ 257 }
+    requires width { CW < 10 }
+    requires room { 3 * (count * CW) ≤ length row.old }
+    ensures { AreCharactersPut CW count (λ x i. colour) row.old row.new }
+{
+    for x in 0..count {
+        put_blank::<CW>(row, x * CW, colour);
     }
 }
 

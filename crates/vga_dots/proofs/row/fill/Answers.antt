@@ -1,6 +1,5 @@
-use Rattle.std.proofs.Common.{refl}
-use Rattle.vga_dots.proofs.RowLemmas.{front_more}
+use Rattle.vga_dots.proofs.RowLemmas.{characters_more}
 use Rattle.vga_dots.proofs.row.fill.Goals as goal
 
-pub loop-i-preserved : goal.loop-i-preserved
-loop-i-preserved c = front_more c.loop-i.i (λ i. c.args.colour) c.args.row.now c.loop-i.row c.put_dot.new.row _ c.loop-i.invariant c.put_dot.ensures refl
+pub loop-x-preserved : goal.loop-x-preserved
+loop-x-preserved g c = characters_more g.row.CW c.loop-x.x (λ x i. c.args.colour) c.args.row.now c.loop-x.row c.put_blank.new.row c.loop-x.invariant c.put_blank.ensures
