@@ -81,7 +81,8 @@ fn clear_widths(widths: &mut [u32], last: usize)
     requires later { (j : ℕ) → last < j → slice_index widths.old j ≡ 0 }
     ensures { (j : ℕ) → slice_index widths.new j ≡ 0 }
 {
-    for line in 0..last + 1 {
+    widths[last] = 0;
+    for line in 0..last {
         widths[line] = 0;
     }
 }

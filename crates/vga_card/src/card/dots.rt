@@ -114,10 +114,9 @@ impl Card {
         let mut left = n;
         while left > 0 {
             let beam = self.crtc.beam();
-            let line = self.crtc.dots_in_line(width);
-            if beam.character == 0 && beam.dot == 0 && line <= left {
+            if beam.character == 0 && beam.dot == 0 && self.crtc.dots_in_line(width) <= left {
+                left -= self.crtc.dots_in_line(width);
                 self.take_line();
-                left -= line;
             } else {
                 self.take_dot();
                 left -= 1;

@@ -7,22 +7,23 @@ use Rattle.vga_card.proofs.DotLemmas.{dots_none}
 use Rattle.vga_card.proofs.LineLemmas.{line_went, dot_went, width_kept, width_kept_dot, some_taken}
 use Rattle.vga_card.proofs.card.Card.take_dots.Goals as goal
 
-pub loop-left-smaller-then-line-left : goal.loop-left-smaller-then-line-left
-loop-left-smaller-then-line-left c =
+pub loop-left-smaller-then-dots_in_line-left : goal.loop-left-smaller-then-dots_in_line-left
+loop-left-smaller-then-dots_in_line-left c =
     let a = c.self-in-loop-left.inside in
     let s = c.loop-left.self in
-    let count : c.dots_in_line-line.result ≡ line_count s = c.dots_in_line-line.ensures.value ∙ ap (λ w. dots_in_line w a.crtc.registers a.crtc.beam) c.loop-left.invariant.1
+    let count : c.dots_in_line-left.result ≡ line_count s = c.dots_in_line-left.ensures.value ∙ ap (λ w. dots_in_line w a.crtc.registers a.crtc.beam) c.loop-left.invariant.1
     ∙ ap (λ (x : CardState). dots_in_line (character_width s) x.crtc.registers x.crtc.beam) c.self-in-loop-left.view_is in
-    some_taken c.loop-left.left c.dots_in_line-line.result s count (omega arith)
+    some_taken c.loop-left.left c.dots_in_line-left.result s count (omega arith)
 
-pub loop-left-preserved-then-line-left : goal.loop-left-preserved-then-line-left
-loop-left-preserved-then-line-left c =
+pub loop-left-preserved-then-dots_in_line-left : goal.loop-left-preserved-then-dots_in_line-left
+loop-left-preserved-then-dots_in_line-left c =
     let a = c.self-in-loop-left.inside in
     let s = c.loop-left.self in
-    let count : c.dots_in_line-line.result ≡ line_count s = c.dots_in_line-line.ensures.value ∙ ap (λ w. dots_in_line w a.crtc.registers a.crtc.beam) c.loop-left.invariant.1
+    let same : c.dots_in_line-left.result ≡ c.dots_in_line.result = c.dots_in_line-left.ensures.value ∙ sym c.dots_in_line.ensures.value in
+    let count : c.dots_in_line-left.result ≡ line_count s = c.dots_in_line-left.ensures.value ∙ ap (λ w. dots_in_line w a.crtc.registers a.crtc.beam) c.loop-left.invariant.1
     ∙ ap (λ (x : CardState). dots_in_line (character_width s) x.crtc.registers x.crtc.beam) c.self-in-loop-left.view_is in
     let taken : c.take_line.new.self ≡ dots (line_count s) s = c.take_line.ensures in
-    (line_went c.loop-left.left c.dots_in_line-line.result s c.take_line.new.self _ (omega arith) count taken c.loop-left.invariant.0, c.loop-left.invariant.1 ∙ width_kept (line_count s) s c.take_line.new.self taken)
+    (line_went c.loop-left.left c.dots_in_line-left.result s c.take_line.new.self _ (omega (arith, same)) count taken c.loop-left.invariant.0, c.loop-left.invariant.1 ∙ width_kept (line_count s) s c.take_line.new.self taken)
 
 pub loop-left-preserved : goal.loop-left-preserved
 loop-left-preserved c =
