@@ -81,7 +81,7 @@ row_port (Sixteen High) = refl
 row_port Many = refl
 
 -- the test gives the setting as a literal
-setting_by : (row : ModeRow) (c : CardState) (d : BiosData) → AllTests row c d → setting c ≡ record { misc = row.misc; seq = row.sequencer; gfx = row.graphics }
+pub setting_by : (row : ModeRow) (c : CardState) (d : BiosData) → AllTests row c d → setting c ≡ record { misc = row.misc; seq = row.sequencer; gfx = row.graphics }
 setting_by row c d t =
     let a = both_true (c.misc == row.misc) (bytes_eq c.host.seq row.sequencer && bytes_eq c.host.gfx row.graphics) t.memory in
     let b = both_true (bytes_eq c.host.seq row.sequencer) (bytes_eq c.host.gfx row.graphics) a.1 in

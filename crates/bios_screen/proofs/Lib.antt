@@ -48,6 +48,7 @@ pub mod AnyReaders
 pub mod PixelCursors
 pub mod PixelDots
 pub mod PackedDots
+pub mod PackedPixels
 pub mod PixelPictures
 pub mod PixelFresh
 pub mod Coloured

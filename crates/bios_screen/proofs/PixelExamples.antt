@@ -1,9 +1,12 @@
 -- Pixels of small memories and of a screen of two lines of eight pixels, computed.
 use Rattle.std.proofs.Common.{◌≡◌, ℕ, refl, List, [], ◌∷◌, Some, None, false}
 use Rattle.vga_bits.specs.Four.{Four}
+use Rattle.vga_bits.specs.declared.refusal.Refusal.TheVariants.{Outside}
+use Rattle.bios_services.specs.declared.call.Service.TheVariants.{WritePixel, ReadPixel}
 use Rattle.bios_screen.specs.Screen.{Pixels, Screen}
 use Rattle.bios_screen.specs.Shown.{planar_pixel, packed_pixel}
 use Rattle.bios_screen.specs.Parts.{cell_at, pixel_at}
+use Rattle.bios_screen.specs.Step.{pages_on, refused_on, next, answer_on}
 use Rattle.bios_screen.specs.Picture.{pixel_dot, dot_at, picture_width, picture_height}
 
 -- a byte of each plane at 0, and another of plane 1 at 4
@@ -85,3 +88,31 @@ below = refl
 
 no_cell : cell_at (shown 0x10) 0 0 0 ≡ None
 no_cell = refl
+
+-- ---- what services do to pixels
+
+abbrev pixels : Screen → List (List ℕ)
+pixels s = pages_on s.contents
+
+-- a pixel of 256 colours is written
+written : pixels (next (shown 0x13) (WritePixel 0 2 1 0x81) []) ≡ (1 ∷ 2 ∷ 3 ∷ 0 ∷ 0 ∷ 0 ∷ 0 ∷ 0 ∷ 3 ∷ 0 ∷ 0x81 ∷ 0 ∷ 0 ∷ 0 ∷ 0 ∷ 2 ∷ []) ∷ []
+unfolding next
+written = refl
+
+-- of 16 colours four bits stand there, and bit 7 asks for XOR
+replaced : pixels (next (shown 0x10) (WritePixel 0 1 0 0x15) []) ≡ (1 ∷ 5 ∷ 3 ∷ 0 ∷ 0 ∷ 0 ∷ 0 ∷ 0 ∷ 3 ∷ 0 ∷ 0 ∷ 0 ∷ 0 ∷ 0 ∷ 0 ∷ 2 ∷ []) ∷ []
+unfolding next
+replaced = refl
+
+turned : pixels (next (shown 0x10) (WritePixel 0 1 0 0x83) []) ≡ (1 ∷ 1 ∷ 3 ∷ 0 ∷ 0 ∷ 0 ∷ 0 ∷ 0 ∷ 3 ∷ 0 ∷ 0 ∷ 0 ∷ 0 ∷ 0 ∷ 0 ∷ 2 ∷ []) ∷ []
+unfolding next
+turned = refl
+
+-- a pixel is answered in the low byte, and one outside is refused
+answered : answer_on (shown 0x13) (ReadPixel 0 2 0) (record { ax = 0x0D00; bx = 0; cx = 2; dx = 0 }) ≡ record { ax = 0x0D03; bx = 0; cx = 2; dx = 0 }
+unfolding answer_on
+answered = refl
+
+outside : refused_on (shown 0x13) (ReadPixel 0 8 0) 0 ≡ Some Outside
+unfolding refused_on
+outside = refl

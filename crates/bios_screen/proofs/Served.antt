@@ -1,11 +1,12 @@
 -- The laws of the services.
-use Rattle.std.proofs.Common.{◌≡◌, ℕ, ◌<◌, refl, subst, Bool, true, false, List}
-use Rattle.std.specs.Prelude.{◌||◌}
+use Rattle.std.proofs.Common.{◌≡◌, ℕ, ◌<◌, refl, sym, ap, ◌∙◌, subst, Bool, true, false, List, Some}
+use Rattle.std.specs.Prelude.{◌==◌, ◌||◌}
 use Rattle.vga_card.specs.Bounds.{IsCard}
 use Rattle.vga_card.specs.Card.{CardState}
 use Rattle.bios_modes.specs.Bda.{BiosData}
 use Rattle.bios_modes.specs.Fonts.{FontSet}
 use Rattle.bios_modes.specs.Bounds.{IsBda}
+use Rattle.bios_modes.specs.Modes.{mode_row, bytes_320_by_200}
 use Rattle.bios_services.specs.ModeSet.{is_text}
 use Rattle.bios_services.specs.declared.regs.Regs.{Regs}
 use Rattle.bios_services.specs.declared.scroll.Scroll.{Scroll}
@@ -14,9 +15,13 @@ use Rattle.bios_services.specs.declared.strings.StringCall.{StringCall}
 use Rattle.bios_services.specs.declared.colours.ColourService.{ColourService}
 use Rattle.bios_services.specs.declared.call.Service.{Service}
 use Rattle.bios_services.specs.declared.call.Service.TheVariants.{SetCursorType, SetCursor, ReadCursor, SelectPage, ReadCell, WriteCells, ScrollUp, ScrollDown, WritePixel, ReadPixel, Teletype, ReadMode, Colours, ReadAdapter, WriteString, ReadDisplay}
-use Rattle.bios_screen.specs.Served.{FitsBytes, IsServed, is_told_in_graphics, Serves}
+use Rattle.bios_screen.specs.Shown.{pixel_screen}
+use Rattle.bios_screen.specs.Served.{FitsBytes, IsServed, is_told_in_graphics, Serves, ServesText}
 use Rattle.bios_modes.specs.Bounds.{AreBytes}
-use Rattle.bios_screen.proofs.Shows.{IsShown, screen_shown, shown_is, text_shown}
+use Rattle.bios_screen.proofs.TestLemmas.{same, some_same}
+use Rattle.bios_screen.proofs.Shows.{IsShown, AllTests, data_is, screen_shown, shown_is, text_shown, mode_of_shown}
+use Rattle.bios_screen.proofs.PackedDots.{IsPacked}
+use Rattle.bios_screen.proofs.PackedPixels as packed_pixels
 use Rattle.bios_screen.proofs.Readers as readers
 use Rattle.bios_screen.proofs.PixelShows.{IsPixels, pixels_shown, pixels_of_shown}
 use Rattle.bios_screen.proofs.AnyShows.{IsAny, any_screen, any_is}
@@ -35,9 +40,9 @@ text_only true b alone h = refl
 text_only false b alone h = absurd (cc)
 
 -- in text alone
-serves : (service : Service) → is_told_in_graphics service ≡ false → ((fonts : FontSet) (r : Regs) (block : List ℕ) (c : CardState) (d : BiosData) (h : IsShown c d) → AreBytes block → IsCard c → IsBda d → IsServed service fonts r block c d (screen_shown c d h)) → Serves service
+serves : (service : Service) → ((mode : ℕ) → is_told_in_graphics mode service ≡ false) → ((fonts : FontSet) (r : Regs) (block : List ℕ) (c : CardState) (d : BiosData) (h : IsShown c d) → AreBytes block → IsCard c → IsBda d → IsServed service fonts r block c d (screen_shown c d h)) → Serves service
 serves service alone f fonts r block c d s bytes z bda e told =
-    let x = shown_is c d s (text_shown c d s e (text_only (is_text s.mode) (is_told_in_graphics service) alone told)) e in
+    let x = shown_is c d s (text_shown c d s e (text_only (is_text s.mode) (is_told_in_graphics s.mode service) (alone s.mode) told)) e in
     subst (IsServed service fonts r block c d) x.screen (f fonts r block c d x.is bytes z bda)
 
 -- in text, and in graphics
@@ -64,11 +69,42 @@ read_adapter = serves_any ReadAdapter (λ fonts r block c d h bytes z. any.read_
 pub read_display : Serves ReadDisplay
 read_display = serves_any ReadDisplay (λ fonts r block c d h bytes z. any.read_display fonts r block c d h)
 
-pub write_pixel : (page x y colour : ℕ) → Serves (WritePixel page x y colour)
-write_pixel page x y colour = serves (WritePixel page x y colour) refl (λ fonts r block c d h bytes z bda. readers.write_pixel page x y colour fonts r block c d h)
+-- in text, and in 256 colours
+serves_packed : (service : Service) → ((mode : ℕ) → is_told_in_graphics mode service ≡ (mode == 0x13)) → ((fonts : FontSet) (r : Regs) (block : List ℕ) (c : CardState) (d : BiosData) (h : IsShown c d) → IsServed service fonts r block c d (screen_shown c d h)) → ((fonts : FontSet) (r : Regs) (block : List ℕ) (c : CardState) (d : BiosData) → IsPacked c d → mode_row d.mode ≡ Some bytes_320_by_200 → IsCard c → IsServed service fonts r block c d (pixel_screen bytes_320_by_200 c d)) → Serves service
+serves_packed service packed f g fonts r block c d s bytes z bda e told = by_kind (is_text d.mode) refl
+  where
+    right : (a b : Bool) → a ≡ false → (a || b) ≡ true → b ≡ true
+    right true b o h = absurd (cc)
+    right false b o h = h
+
+    by_kind : (b : Bool) → is_text d.mode ≡ b → IsServed service fonts r block c d s
+    by_kind true t = let x = shown_is c d s t e in subst (IsServed service fonts r block c d) x.screen (f fonts r block c d x.is)
+    by_kind false t =
+        let m = (mode_of_shown c d s e).is in
+        let number : d.mode ≡ 0x13 = sym m ∙ same (sym (packed s.mode) ∙ right (is_text s.mode) (is_told_in_graphics s.mode service) (ap is_text m ∙ t) told) in
+        let x = pixels_of_shown c d s t e in
+        let there : mode_row d.mode ≡ Some bytes_320_by_200 = ap mode_row number in
+        let row : bytes_320_by_200 ≡ x.is.row = some_same bytes_320_by_200 x.is.row (sym there ∙ x.is.mode) in
+        let tests = subst (λ q. AllTests q c d) (sym row) x.is.tests in
+        let served = g fonts r block c d (record { number = number; tests = tests; has = data_is bytes_320_by_200 d tests.data_test }) there z in
+        subst (IsServed service fonts r block c d) x.screen (subst (λ q. IsServed service fonts r block c d (pixel_screen q c d)) row served)
+
+pub write_pixel : (page x y colour : ℕ) → colour < 256 → Serves (WritePixel page x y colour)
+write_pixel page x y colour l = serves_packed (WritePixel page x y colour) (λ mode. refl) (λ fonts r block c d h. readers.write_pixel page x y colour fonts r block c d h) (λ fonts r block c d t e z. packed_pixels.write_pixel c d t e z page x y colour fonts r block l)
 
 pub read_pixel : (page x y : ℕ) → Serves (ReadPixel page x y)
-read_pixel page x y = serves (ReadPixel page x y) refl (λ fonts r block c d h bytes z bda. readers.read_pixel page x y fonts r block c d h)
+read_pixel page x y = serves_packed (ReadPixel page x y) (λ mode. refl) (λ fonts r block c d h. readers.read_pixel page x y fonts r block c d h) (λ fonts r block c d t e z. packed_pixels.read_pixel c d t e z page x y fonts r block)
+
+-- in text whatever the arguments are
+pub dot_refused : (page x y colour : ℕ) → ServesText (WritePixel page x y colour)
+dot_refused page x y colour fonts r block c d s bytes z bda e text =
+    let x1 = shown_is c d s (text_shown c d s e text) e in
+    subst (IsServed (WritePixel page x y colour) fonts r block c d) x1.screen (readers.write_pixel page x y colour fonts r block c d x1.is)
+
+pub read_refused : (page x y : ℕ) → ServesText (ReadPixel page x y)
+read_refused page x y fonts r block c d s bytes z bda e text =
+    let x1 = shown_is c d s (text_shown c d s e text) e in
+    subst (IsServed (ReadPixel page x y) fonts r block c d) x1.screen (readers.read_pixel page x y fonts r block c d x1.is)
 
 pub set_cursor_type : (type : ℕ) → Serves (SetCursorType type)
 set_cursor_type type = serves_both (SetCursorType type) (λ fonts r block c d h bda. cursors.set_cursor_type type fonts r block c d h) (λ fonts r block c d h. pixel_cursors.set_cursor_type c d h type fonts r block)
@@ -80,22 +116,22 @@ pub select_page : (page : ℕ) → Serves (SelectPage page)
 select_page page = serves_both (SelectPage page) (λ fonts r block c d h bda. cursors.select_page page fonts r block c d h bda) (λ fonts r block c d h. pixel_cursors.select_page c d h page fonts r block)
 
 pub read_cell : (page : ℕ) → Serves (ReadCell page)
-read_cell page = serves (ReadCell page) refl (λ fonts r block c d h bytes z bda. writes.read_cell page fonts r block c d h z)
+read_cell page = serves (ReadCell page) (λ mode. refl) (λ fonts r block c d h bytes z bda. writes.read_cell page fonts r block c d h z)
 
 pub write_cells : (cells : CellRun) → cells.character < 256 → cells.ink.colour < 256 → Serves (WriteCells cells)
-write_cells cells lv la = serves (WriteCells cells) refl (λ fonts r block c d h bytes z bda. writes.write_cells cells fonts r block c d h z lv la)
+write_cells cells lv la = serves (WriteCells cells) (λ mode. refl) (λ fonts r block c d h bytes z bda. writes.write_cells cells fonts r block c d h z lv la)
 
 pub scroll_up : (window : Scroll) → window.fill < 256 → Serves (ScrollUp window)
-scroll_up window l = serves (ScrollUp window) refl (λ fonts r block c d h bytes z bda. windows.scroll_up window fonts r block c d h z l)
+scroll_up window l = serves (ScrollUp window) (λ mode. refl) (λ fonts r block c d h bytes z bda. windows.scroll_up window fonts r block c d h z l)
 
 pub scroll_down : (window : Scroll) → window.fill < 256 → Serves (ScrollDown window)
-scroll_down window l = serves (ScrollDown window) refl (λ fonts r block c d h bytes z bda. windows.scroll_down window fonts r block c d h z l)
+scroll_down window l = serves (ScrollDown window) (λ mode. refl) (λ fonts r block c d h bytes z bda. windows.scroll_down window fonts r block c d h z l)
 
 pub teletype : KeepsBounds → (character colour : ℕ) → character < 256 → colour < 256 → Serves (Teletype character colour)
-teletype law character colour l k = serves (Teletype character colour) refl (λ fonts r block c d h bytes z bda. teletypes.teletype law character colour fonts r block c d h l k z bda)
+teletype law character colour l k = serves (Teletype character colour) (λ mode. refl) (λ fonts r block c d h bytes z bda. teletypes.teletype law character colour fonts r block c d h l k z bda)
 
 pub write_string : KeepsBounds → (call : StringCall) → call.colour < 256 → Serves (WriteString call)
-write_string law call l = serves (WriteString call) refl (λ fonts r block c d h bytes z bda. strings.write_string law call fonts r block c d h bytes l z bda)
+write_string law call l = serves (WriteString call) (λ mode. refl) (λ fonts r block c d h bytes z bda. strings.write_string law call fonts r block c d h bytes l z bda)
 
 pub set_colours : (service : ColourService) → FitsBytes service → Serves (Colours service)
 set_colours service f = serves_any (Colours service) (λ fonts r block c d h bytes z. coloured.set_colours service fonts r block c d h f bytes z)

@@ -2,12 +2,12 @@
 -- From the IBM PS/2 and PC BIOS Interface Technical Reference, "Interrupt 10H - Video", and the IBM PS/2 Hardware Interface
 -- Technical Reference, Video Subsystems, "Alphanumeric Modes" and "All Points Addressable Modes"; at which frames characters and
 -- cursor blink, and what comes first of underline, blink and cursor, is this adapter's choice.
-use Rattle.std.specs.Prelude.{ℕ, ◌+◌, ◌-◌, ◌*◌, ◌/◌, ◌%◌, ◌==◌, ◌&&◌, ◌||◌, not, nat_lt, nat_le, Bool, true, false, if◌then◌else◌, List, [], ◌∷◌, get_or, slice_index, bit_and}
+use Rattle.std.specs.Prelude.{ℕ, ◌+◌, ◌-◌, ◌*◌, ◌/◌, ◌%◌, ◌==◌, ◌&&◌, ◌||◌, not, nat_lt, nat_le, Bool, true, false, if◌then◌else◌, List, [], ◌∷◌, slice_index, bit_and}
 use Rattle.vga_bits.specs.Bits.{is_set, field}
 use Rattle.bios_services.specs.ModeSet.{is_text}
 use Rattle.bios_services.specs.Registers.{high, low}
-use Rattle.bios_screen.specs.Screen.{Cell, Contents, Cells, Pixels, Palette, Screen, page_start, cursor_cell}
-use Rattle.bios_screen.specs.Step.{cell_on}
+use Rattle.bios_screen.specs.Screen.{Cell, Palette, Screen, page_start, cursor_cell}
+use Rattle.bios_screen.specs.Step.{cell_on, pixel_of, pixel_number}
 
 -- row r of a character's glyph
 abbrev pub glyph_row : Screen → ℕ → ℕ → ℕ
@@ -75,13 +75,9 @@ pixel_width mode = if mode == 0x13 then 2 else 1
 abbrev pub pixel_height : ℕ → ℕ
 pixel_height mode = if (mode == 0x0D) || (mode == 0x13) then 2 else 1
 
--- the pixels of a screen, page after page, and pixel (x, y) of a page
-abbrev pub pages_on : Contents → List (List ℕ)
-pages_on (Cells cells) = []
-pages_on (Pixels pages) = pages
-
+-- pixel (x, y) of a page
 abbrev pub pixel_on : Screen → ℕ → ℕ → ℕ → ℕ
-pixel_on s page x y = slice_index (get_or (pages_on s.contents) page []) (8 * s.layout.columns * y + x)
+pixel_on s page x y = pixel_of s page (pixel_number s x y)
 
 -- the colour of the dot of a pixel: sixteen colours are values of the palette, and 256 are entries themselves
 unfoldable pub pixel_dot : Screen → ℕ → ℕ → ℕ → List ℕ

@@ -1,6 +1,7 @@
 -- What a service does to a plain screen, what it answers, and why it is refused.
 -- From the IBM PS/2 and PC BIOS Interface Technical Reference, "Interrupt 10H - Video".
-use Rattle.std.specs.Prelude.{ℕ, zero, suc, ◌+◌, ◌-◌, ◌*◌, ◌/◌, ◌%◌, ◌==◌, ◌&&◌, ◌||◌, nat_lt, nat_le, Bool, if◌then◌else◌, List, [], length, slice_set, min, Option, Some, None}
+use Rattle.std.specs.Prelude.{ℕ, zero, suc, ◌+◌, ◌-◌, ◌*◌, ◌/◌, ◌%◌, ◌==◌, ◌&&◌, ◌||◌, nat_lt, nat_le, Bool, if◌then◌else◌, List, [], length, get_or, set, slice_index, slice_set, bit_xor, min, Option, Some, None}
+use Rattle.vga_bits.specs.Bits.{is_set}
 use Rattle.vga_bits.specs.declared.refusal.Refusal.{Refusal}
 use Rattle.vga_bits.specs.declared.refusal.Refusal.TheVariants.{WrongKind, BadPage, Outside, CountPast}
 use Rattle.bios_services.specs.declared.regs.Regs.{Regs}
@@ -9,7 +10,8 @@ use Rattle.bios_services.specs.declared.scroll.Scroll.{Scroll}
 use Rattle.bios_services.specs.declared.strings.StringCall.{StringCall}
 use Rattle.bios_services.specs.declared.call.Service.{Service}
 use Rattle.bios_services.specs.declared.call.Service.TheVariants.{SetCursorType, SetCursor, ReadCursor, SelectPage, ScrollUp, ScrollDown, ReadCell, WriteCells, WritePixel, ReadPixel, Teletype, ReadMode, Colours, ReadAdapter, WriteString, ReadDisplay}
-use Rattle.bios_services.specs.Registers.{low}
+use Rattle.bios_services.specs.ModeSet.{is_text}
+use Rattle.bios_services.specs.Registers.{low, with_low}
 use Rattle.bios_services.specs.Teletype.{line_start, dots_in}
 use Rattle.bios_services.specs.Strings.{string_len, character_at, ink_at}
 use Rattle.bios_services.specs.Colours.{block_refusal, colour_refusal}
@@ -55,7 +57,14 @@ string_refused s call len =
     then (if nat_lt (row_of call.place) s.layout.rows && nat_lt (column_of call.place) s.layout.columns then block_refusal len (string_len call) else Some Outside)
     else Some BadPage
 
--- why a service is refused on a text screen, with a block of this length
+-- a dot of text, one of a page that there is not, or one outside it
+abbrev pub pixel_refused : Screen → ℕ → ℕ → ℕ → Option Refusal
+pixel_refused s page x y =
+    if is_text s.mode then Some WrongKind
+    else if nat_lt page s.layout.pages then (if nat_lt x (8 * s.layout.columns) && nat_lt y (s.layout.height * s.layout.rows) then None else Some Outside)
+    else Some BadPage
+
+-- why a service is refused on a screen, with a block of this length
 unfoldable pub refused_on : Screen → Service → ℕ → Option Refusal
 refused_on s (SetCursorType cursor_type) len = None
 refused_on s (SetCursor page place) len = page_refused s (page_meant s page)
@@ -65,8 +74,8 @@ refused_on s (ScrollUp window) len = None
 refused_on s (ScrollDown window) len = None
 refused_on s (ReadCell page) len = cursor_refused s (page_meant s page)
 refused_on s (WriteCells cells) len = count_refused s (page_meant s cells.page) cells.count
-refused_on s (WritePixel page x y colour) len = Some WrongKind
-refused_on s (ReadPixel page x y) len = Some WrongKind
+refused_on s (WritePixel page x y colour) len = pixel_refused s (page_meant s page) x y
+refused_on s (ReadPixel page x y) len = pixel_refused s (page_meant s page) x y
 refused_on s (Teletype character colour) len = place_refused s (cursor_place s s.page)
 refused_on s ReadMode len = None
 refused_on s (Colours service) len = colour_refusal service len
@@ -142,6 +151,35 @@ gone_down s page w old k =
     then (if nat_le (w.top + window_lines s w) (row_on s page k) then old (k - s.layout.columns * window_lines s w) else blank_of w)
     else old k
 
+-- ---- what it does to the pixels
+
+-- the pixels of a screen, page after page; pixel k of a page; and the number of a pixel, counted along the lines of its page
+abbrev pub pages_on : Contents → List (List ℕ)
+pages_on (Cells cells) = []
+pages_on (Pixels pages) = pages
+
+abbrev pub pixel_of : Screen → ℕ → ℕ → ℕ
+pixel_of s page k = slice_index (get_or (pages_on s.contents) page []) k
+
+abbrev pub pixel_number : Screen → ℕ → ℕ → ℕ
+pixel_number s x y = 8 * s.layout.columns * y + x
+
+-- a page drawn anew, each pixel given by its number and all the old ones
+abbrev pub redrawn : ℕ → ((ℕ → ℕ) → ℕ → ℕ) → Contents → Contents
+redrawn page new (Cells cells) = Cells cells
+redrawn page new (Pixels pages) = Pixels (set pages page (listing (new (slice_index (get_or pages page []))) 0 (length (get_or pages page []))))
+
+abbrev pub with_pixels : Screen → ℕ → ((ℕ → ℕ) → ℕ → ℕ) → Screen
+with_pixels s page new = record s { contents = redrawn page new s.contents }
+
+-- what a colour makes of a pixel: one of 256 stands there; of 16 the four low bits do, or by bit 7 their XOR with the pixel
+abbrev pub inked : ℕ → ℕ → ℕ → ℕ
+inked mode colour old = if mode == 0x13 then colour else if is_set colour 7 then bit_xor old (colour % 16) else colour % 16
+
+-- one pixel changes, and all others stay
+abbrev pub dotted : ℕ → (ℕ → ℕ) → (ℕ → ℕ) → ℕ → ℕ
+dotted n change old k = if k == n then change (old k) else old k
+
 -- ---- typing
 
 -- a whole page that goes up by a row, with this attribute for blanks
@@ -211,7 +249,7 @@ next s (ScrollUp window) block = with_cells s (gone_up s s.page window)
 next s (ScrollDown window) block = with_cells s (gone_down s s.page window)
 next s (ReadCell page) block = s
 next s (WriteCells cells) block = with_cells s (written (cursor_cell s (page_meant s cells.page)) cells.count cells.character cells.ink)
-next s (WritePixel page x y colour) block = s
+next s (WritePixel page x y colour) block = with_pixels s (page_meant s page) (dotted (pixel_number s x y) (inked s.mode colour))
 next s (ReadPixel page x y) block = s
 next s (Teletype character colour) block = typed_at_cursor s character colour
 next s ReadMode block = s
@@ -235,7 +273,7 @@ answer_on s (ScrollDown window) r = r
 answer_on s (ReadCell page) r = record r { ax = cell_read s (page_meant s page) }
 answer_on s (WriteCells cells) r = r
 answer_on s (WritePixel page x y colour) r = r
-answer_on s (ReadPixel page x y) r = r
+answer_on s (ReadPixel page x y) r = record r { ax = with_low r.ax (pixel_of s (page_meant s page) (pixel_number s x y)) }
 answer_on s (Teletype character colour) r = r
 answer_on s ReadMode r = record r { ax = s.mode + 256 * s.layout.columns; bx = low r.bx + 256 * s.page }
 answer_on s (Colours service) r = colours_read s service r

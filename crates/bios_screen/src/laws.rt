@@ -21,7 +21,7 @@ ghost use Rattle.bios_modes.specs.Modes.{mode_row, colour_text, monochrome_text,
 ghost use Rattle.bios_modes.specs.Bounds.{IsBda};
 ghost use Rattle.bios_screen.specs.Screen.{Screen};
 ghost use Rattle.bios_screen.specs.Shown.{shown};
-ghost use Rattle.bios_screen.specs.Served.{FitsBytes, is_told, Serves, SetsFresh, after_call};
+ghost use Rattle.bios_screen.specs.Served.{FitsBytes, is_told, Serves, ServesText, SetsFresh, after_call};
 ghost use Rattle.bios_modes.specs.Bounds.{AreBytes};
 ghost use Rattle.bios_screen.specs.Called.{AreWords, IsCalled, IsRead, WantsMemory, IsLeft};
 
@@ -81,7 +81,13 @@ pub fn colours_are_served()
 
 /// Functions 0C and 0D: text has no dots.
 pub fn dots_are_refused()
-    ensures written { (page x y colour : ℕ) → Serves (WritePixel page x y colour) }
+    ensures written { (page x y colour : ℕ) → ServesText (WritePixel page x y colour) }
+    ensures read { (page x y : ℕ) → ServesText (ReadPixel page x y) }
+{}
+
+/// Functions 0C and 0D: in 256 colours a dot is written, and read.
+pub fn dots_are_served()
+    ensures written { (page x y colour : ℕ) → colour < 256 → Serves (WritePixel page x y colour) }
     ensures read { (page x y : ℕ) → Serves (ReadPixel page x y) }
 {}
 

@@ -1,8 +1,8 @@
-use Rattle.bios_screen.proofs.Served.{write_pixel, read_pixel}
+use Rattle.bios_screen.proofs.Served.{dot_refused, read_refused}
 use Rattle.bios_screen.proofs.laws.dots_are_refused.Goals as goal
 
 pub returns-clause-written : goal.returns-clause-written
-returns-clause-written c = write_pixel
+returns-clause-written c = dot_refused
 
 pub returns-clause-read : goal.returns-clause-read
-returns-clause-read c = read_pixel
+returns-clause-read c = read_refused
