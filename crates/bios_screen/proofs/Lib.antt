@@ -51,5 +51,6 @@ pub mod PackedDots
 pub mod PackedPixels
 pub mod PixelPictures
 pub mod PixelFresh
+pub mod PlanarReads
 pub mod Coloured
 pub mod ReadingLemmas

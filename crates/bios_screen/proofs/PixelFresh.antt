@@ -165,10 +165,10 @@ planar_zero f z k h =
     ∙ no_bits i
 
 -- how many pixels a page of a row has
-abbrev pixels_of : ModeRow → ℕ
+abbrev pub pixels_of : ModeRow → ℕ
 pixels_of row = 8 * row.columns * (row.height * (row.last_row + 1))
 
-byte_within : (m : Planes) (p q : ℕ) → p < (row_of m).pages → q < pixels_of (row_of m) → (row_of m).size * p + q / 8 < 65536
+pub byte_within : (m : Planes) (p q : ℕ) → p < (row_of m).pages → q < pixels_of (row_of m) → (row_of m).size * p + q / 8 < 65536
 byte_within Low p q lp lq = omega arith
 byte_within Middle p q lp lq = omega arith
 byte_within High p q lp lq = omega arith

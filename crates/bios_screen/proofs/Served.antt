@@ -22,6 +22,10 @@ use Rattle.bios_screen.proofs.TestLemmas.{same, some_same}
 use Rattle.bios_screen.proofs.Shows.{IsShown, AllTests, data_is, screen_shown, shown_is, text_shown, mode_of_shown}
 use Rattle.bios_screen.proofs.PackedDots.{IsPacked}
 use Rattle.bios_screen.proofs.PackedPixels as packed_pixels
+use Rattle.bios_screen.proofs.PlanarReads as planar_reads
+use Rattle.bios_screen.proofs.PixelModes.{Graphics, row_of, row_in, number_in, graphics_row}
+use Rattle.bios_screen.proofs.PixelModes.Graphics.{Sixteen, Many}
+use Rattle.bios_modes.specs.declared.modes.ModeRow.{ModeRow}
 use Rattle.bios_screen.proofs.Readers as readers
 use Rattle.bios_screen.proofs.PixelShows.{IsPixels, pixels_shown, pixels_of_shown}
 use Rattle.bios_screen.proofs.AnyShows.{IsAny, any_screen, any_is}
@@ -93,7 +97,19 @@ pub write_pixel : (page x y colour : ℕ) → colour < 256 → Serves (WritePixe
 write_pixel page x y colour l = serves_packed (WritePixel page x y colour) (λ mode. refl) (λ fonts r block c d h. readers.write_pixel page x y colour fonts r block c d h) (λ fonts r block c d t e z. packed_pixels.write_pixel c d t e z page x y colour fonts r block l)
 
 pub read_pixel : (page x y : ℕ) → Serves (ReadPixel page x y)
-read_pixel page x y = serves_packed (ReadPixel page x y) (λ mode. refl) (λ fonts r block c d h. readers.read_pixel page x y fonts r block c d h) (λ fonts r block c d t e z. packed_pixels.read_pixel c d t e z page x y fonts r block)
+read_pixel page x y fonts r block c d s bytes z bda e told = by_kind (is_text d.mode) refl
+  where
+    by_mode : (k : Graphics) → d.mode ≡ number_in k → AllTests (row_in k) c d → mode_row d.mode ≡ Some (row_in k) → IsServed (ReadPixel page x y) fonts r block c d (pixel_screen (row_in k) c d)
+    by_mode (Sixteen m) n tests there = planar_reads.read_pixel m c d (record { number = n; tests = tests; has = data_is (row_of m) d tests.data_test }) there z page x y fonts r block
+    by_mode Many n tests there = packed_pixels.read_pixel c d (record { number = n; tests = tests; has = data_is bytes_320_by_200 d tests.data_test }) there z page x y fonts r block
+
+    by_kind : (b : Bool) → is_text d.mode ≡ b → IsServed (ReadPixel page x y) fonts r block c d s
+    by_kind true t = let a = shown_is c d s t e in subst (IsServed (ReadPixel page x y) fonts r block c d) a.screen (readers.read_pixel page x y fonts r block c d a.is)
+    by_kind false t =
+        let a = pixels_of_shown c d s t e in
+        let g = graphics_row d.mode a.is.row t a.is.mode in
+        let served = by_mode g.kind g.number (subst (λ q. AllTests q c d) (sym g.row_is) a.is.tests) (a.is.mode ∙ ap (λ (q : ModeRow). Some q) (sym g.row_is)) in
+        subst (IsServed (ReadPixel page x y) fonts r block c d) a.screen (subst (λ q. IsServed (ReadPixel page x y) fonts r block c d (pixel_screen q c d)) g.row_is served)
 
 -- in text whatever the arguments are
 pub dot_refused : (page x y colour : ℕ) → ServesText (WritePixel page x y colour)

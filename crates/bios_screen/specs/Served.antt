@@ -40,8 +40,8 @@ abbrev pub FitsBytes : ColourService → Type 0
 FitsBytes (SetOverscan value) = value < 256
 FitsBytes service = Unit {0}
 
--- whether the laws tell of a service in a mode of graphics too, so far of those that look at no pixel, and of single pixels of 256
--- colours
+-- whether the laws tell of a service in a mode of graphics too, so far of those that look at no pixel, of a pixel that is read, and of
+-- one of 256 colours that is written
 abbrev pub is_told_in_graphics : ℕ → Service → Bool
 is_told_in_graphics mode (SetCursorType cursor_type) = true
 is_told_in_graphics mode (SetCursor page place) = true
@@ -52,7 +52,7 @@ is_told_in_graphics mode (Colours service) = true
 is_told_in_graphics mode ReadAdapter = true
 is_told_in_graphics mode ReadDisplay = true
 is_told_in_graphics mode (WritePixel page x y colour) = mode == 0x13
-is_told_in_graphics mode (ReadPixel page x y) = mode == 0x13
+is_told_in_graphics mode (ReadPixel page x y) = true
 is_told_in_graphics mode _ = false
 
 -- whether they tell of it on a screen

@@ -85,7 +85,7 @@ pub fn dots_are_refused()
     ensures read { (page x y : ℕ) → ServesText (ReadPixel page x y) }
 {}
 
-/// Functions 0C and 0D: in 256 colours a dot is written, and read.
+/// Functions 0C and 0D: in 256 colours a dot is written, and in graphics it is read.
 pub fn dots_are_served()
     ensures written { (page x y colour : ℕ) → colour < 256 → Serves (WritePixel page x y colour) }
     ensures read { (page x y : ℕ) → Serves (ReadPixel page x y) }
