@@ -88,7 +88,7 @@ asked_is_served law r w =
     (choose (high r.ax == 0x08) _ _ (served.read_cell (high r.bx))
     (choose (high r.ax == 0x09) _ _ (served.write_cells (cell_run_of r true) (low_small r.ax) (low_small r.bx))
     (choose (high r.ax == 0x0A) _ _ (served.write_cells (cell_run_of r false) (low_small r.ax) (low_small r.bx))
-    (choose (high r.ax == 0x0C) _ _ (served.write_pixel (high r.bx) r.cx r.dx (low r.ax) (low_small r.ax))
+    (choose (high r.ax == 0x0C) _ _ (served.write_pixel law (high r.bx) r.cx r.dx (low r.ax) (low_small r.ax))
     (choose (high r.ax == 0x0D) _ _ (served.read_pixel (high r.bx) r.cx r.dx)
     (choose (high r.ax == 0x0E) _ _ (served.teletype law (low r.ax) (low r.bx) (low_small r.ax) (low_small r.bx))
     (choose (high r.ax == 0x0F) _ _ (served.read_mode)

@@ -52,5 +52,9 @@ pub mod PackedPixels
 pub mod PixelPictures
 pub mod PixelFresh
 pub mod PlanarReads
+pub mod PlanarHands
+pub mod PlanarBits
+pub mod PlanarScreens
+pub mod PlanarDots
 pub mod Coloured
 pub mod ReadingLemmas

@@ -133,7 +133,7 @@ rest_by Low = refl
 rest_by Middle = refl
 rest_by High = refl
 
-enabled_by : (m : Planes) → is_set (row_of m).misc 1 ≡ true
+pub enabled_by : (m : Planes) → is_set (row_of m).misc 1 ≡ true
 enabled_by Low = refl
 enabled_by Middle = refl
 enabled_by High = refl
@@ -149,7 +149,7 @@ sum_is a b = omega arith
 eighth : (w y x : ℕ) → w * y + x / 8 ≡ (8 * w * y + x) / 8
 eighth w y x = let e : 8 * w * y ≡ 8 * (w * y) = omega arith in omega arith
 
-rest_of_8 : (w y x : ℕ) → x % 8 ≡ (8 * w * y + x) % 8
+pub rest_of_8 : (w y x : ℕ) → x % 8 ≡ (8 * w * y + x) % 8
 rest_of_8 w y x = let e : 8 * w * y ≡ 8 * (w * y) = omega arith in omega arith
 
 some_none : {Y : Type 0} (why : Refusal) → Some why ≡ None → Y
@@ -162,20 +162,20 @@ module _ (m : Planes) (c : CardState) (d : BiosData) (t : IsPlanar m c d) (e : m
   text : is_text d.mode ≡ false
   text = ap is_text t.number ∙ text_by m
 
-  page_is : (page : ℕ) → page_named d page ≡ page_meant s page
+  pub page_is : (page : ℕ) → page_named d page ≡ page_meant s page
   page_is page = ap (λ (x : Option ModeRow). if pages_in x == 1 then 0 else page) e
 
-  refusal_is : (page x y : ℕ) → pixel_refusal d (page_named d page) x y ≡ pixel_refused s (page_meant s page) x y
+  pub refusal_is : (page x y : ℕ) → pixel_refusal d (page_named d page) x y ≡ pixel_refused s (page_meant s page) x y
   refusal_is page x y =
       ap (λ p. pixel_refusal d p x y) (page_is page)
       ∙ ap (λ (q : Option ModeRow). let r : Option Refusal = (if is_text d.mode then Some WrongKind else if nat_lt (page_meant s page) (pages_in q) then (if nat_lt x (8 * d.columns) && nat_lt y (d.height * (d.last_row + 1)) then None else Some Outside) else Some BadPage) in r) e
 
-  record There (p x y : ℕ) : Type 0 where
-    page : p < (row_of m).pages
-    across : x < 8 * d.columns
-    down : y < d.height * (d.last_row + 1)
+  pub record There (p x y : ℕ) : Type 0 where
+    pub page : p < (row_of m).pages
+    pub across : x < 8 * d.columns
+    pub down : y < d.height * (d.last_row + 1)
 
-  there : (p x y : ℕ) → pixel_refused s p x y ≡ None → There p x y
+  pub there : (p x y : ℕ) → pixel_refused s p x y ≡ None → There p x y
   there p x y h =
       by_tests (nat_lt p (row_of m).pages) (nat_lt x (8 * d.columns)) (nat_lt y (d.height * (d.last_row + 1))) refl refl refl
       (sym (ap (λ b. let r : Option Refusal = (if b then Some WrongKind else if nat_lt p (row_of m).pages then (if nat_lt x (8 * d.columns) && nat_lt y (d.height * (d.last_row + 1)) then None else Some Outside) else Some BadPage) in r) text) ∙ h)
@@ -198,16 +198,16 @@ module _ (m : Planes) (c : CardState) (d : BiosData) (t : IsPlanar m c d) (e : m
   abbrev offset : ℕ → ℕ → ℕ → ℕ
   offset p x y = d.size * p + number x y / 8
 
-  number_within : (p x y : ℕ) → There p x y → number x y < page_pixels d
+  pub number_within : (p x y : ℕ) → There p x y → number x y < page_pixels d
   number_within p x y h = let a = h.across in let b = ends_before (8 * d.columns) y (d.height * (d.last_row + 1)) h.down in omega arith
 
-  offset_small : (p x y : ℕ) → There p x y → offset p x y < 65536
+  pub offset_small : (p x y : ℕ) → There p x y → offset p x y < 65536
   offset_small p x y h =
       let n = number x y in
       let all : page_pixels d ≡ pixels_of (row_of m) = ap (λ i. 8 * i * (d.height * (d.last_row + 1))) t.has.columns ∙ ap (λ i. 8 * (row_of m).columns * (i * (d.last_row + 1))) t.has.height ∙ ap (λ i. 8 * (row_of m).columns * ((row_of m).height * (i + 1))) t.has.last_row in
       subst (λ i. i * p + n / 8 < 65536) (sym t.has.size) (byte_within m p n h.page (subst (λ i. n < i) all (number_within p x y h)))
 
-  address_is : (p x y : ℕ) → pixel_address d p x y ≡ 0xA0000 + offset p x y
+  pub address_is : (p x y : ℕ) → pixel_address d p x y ≡ 0xA0000 + offset p x y
   address_is p x y =
       ap (λ i. page_base i + d.size * p + (if i == 0x13 then 8 * d.columns * y + x else d.columns * y + x / 8)) t.number
       ∙ base_by m (d.size * p) (8 * d.columns * y + x) (d.columns * y + x / 8)

@@ -1,6 +1,6 @@
 -- The laws of the services.
 use Rattle.std.proofs.Common.{◌≡◌, ℕ, ◌<◌, refl, sym, ap, ◌∙◌, subst, Bool, true, false, List, Some}
-use Rattle.std.specs.Prelude.{◌==◌, ◌||◌}
+use Rattle.std.specs.Prelude.{◌||◌}
 use Rattle.vga_card.specs.Bounds.{IsCard}
 use Rattle.vga_card.specs.Card.{CardState}
 use Rattle.bios_modes.specs.Bda.{BiosData}
@@ -18,12 +18,13 @@ use Rattle.bios_services.specs.declared.call.Service.TheVariants.{SetCursorType,
 use Rattle.bios_screen.specs.Shown.{pixel_screen}
 use Rattle.bios_screen.specs.Served.{FitsBytes, IsServed, is_told_in_graphics, Serves, ServesText}
 use Rattle.bios_modes.specs.Bounds.{AreBytes}
-use Rattle.bios_screen.proofs.TestLemmas.{same, some_same}
-use Rattle.bios_screen.proofs.Shows.{IsShown, AllTests, data_is, screen_shown, shown_is, text_shown, mode_of_shown}
+use Rattle.bios_screen.proofs.Shows.{IsShown, AllTests, data_is, screen_shown, shown_is, text_shown}
 use Rattle.bios_screen.proofs.PackedDots.{IsPacked}
 use Rattle.bios_screen.proofs.PackedPixels as packed_pixels
+use Rattle.bios_screen.proofs.PixelDots.{IsPlanar}
 use Rattle.bios_screen.proofs.PlanarReads as planar_reads
-use Rattle.bios_screen.proofs.PixelModes.{Graphics, row_of, row_in, number_in, graphics_row}
+use Rattle.bios_screen.proofs.PlanarDots as planar_dots
+use Rattle.bios_screen.proofs.PixelModes.{Planes, Graphics, row_of, row_in, number_in, graphics_row}
 use Rattle.bios_screen.proofs.PixelModes.Graphics.{Sixteen, Many}
 use Rattle.bios_modes.specs.declared.modes.ModeRow.{ModeRow}
 use Rattle.bios_screen.proofs.Readers as readers
@@ -73,43 +74,30 @@ read_adapter = serves_any ReadAdapter (λ fonts r block c d h bytes z. any.read_
 pub read_display : Serves ReadDisplay
 read_display = serves_any ReadDisplay (λ fonts r block c d h bytes z. any.read_display fonts r block c d h)
 
--- in text, and in 256 colours
-serves_packed : (service : Service) → ((mode : ℕ) → is_told_in_graphics mode service ≡ (mode == 0x13)) → ((fonts : FontSet) (r : Regs) (block : List ℕ) (c : CardState) (d : BiosData) (h : IsShown c d) → IsServed service fonts r block c d (screen_shown c d h)) → ((fonts : FontSet) (r : Regs) (block : List ℕ) (c : CardState) (d : BiosData) → IsPacked c d → mode_row d.mode ≡ Some bytes_320_by_200 → IsCard c → IsServed service fonts r block c d (pixel_screen bytes_320_by_200 c d)) → Serves service
-serves_packed service packed f g fonts r block c d s bytes z bda e told = by_kind (is_text d.mode) refl
+-- in text, in 16 colours and in 256
+serves_each : (service : Service) → ((fonts : FontSet) (r : Regs) (block : List ℕ) (c : CardState) (d : BiosData) (h : IsShown c d) → IsServed service fonts r block c d (screen_shown c d h))
+    → ((m : Planes) (fonts : FontSet) (r : Regs) (block : List ℕ) (c : CardState) (d : BiosData) → IsPlanar m c d → mode_row d.mode ≡ Some (row_of m) → IsCard c → IsServed service fonts r block c d (pixel_screen (row_of m) c d))
+    → ((fonts : FontSet) (r : Regs) (block : List ℕ) (c : CardState) (d : BiosData) → IsPacked c d → mode_row d.mode ≡ Some bytes_320_by_200 → IsCard c → IsServed service fonts r block c d (pixel_screen bytes_320_by_200 c d))
+    → Serves service
+serves_each service text planar packed fonts r block c d s bytes z bda e told = by_kind (is_text d.mode) refl
   where
-    right : (a b : Bool) → a ≡ false → (a || b) ≡ true → b ≡ true
-    right true b o h = absurd (cc)
-    right false b o h = h
+    by_mode : (k : Graphics) → d.mode ≡ number_in k → AllTests (row_in k) c d → mode_row d.mode ≡ Some (row_in k) → IsServed service fonts r block c d (pixel_screen (row_in k) c d)
+    by_mode (Sixteen m) n tests there = planar m fonts r block c d (record { number = n; tests = tests; has = data_is (row_of m) d tests.data_test }) there z
+    by_mode Many n tests there = packed fonts r block c d (record { number = n; tests = tests; has = data_is bytes_320_by_200 d tests.data_test }) there z
 
     by_kind : (b : Bool) → is_text d.mode ≡ b → IsServed service fonts r block c d s
-    by_kind true t = let x = shown_is c d s t e in subst (IsServed service fonts r block c d) x.screen (f fonts r block c d x.is)
+    by_kind true t = let x = shown_is c d s t e in subst (IsServed service fonts r block c d) x.screen (text fonts r block c d x.is)
     by_kind false t =
-        let m = (mode_of_shown c d s e).is in
-        let number : d.mode ≡ 0x13 = sym m ∙ same (sym (packed s.mode) ∙ right (is_text s.mode) (is_told_in_graphics s.mode service) (ap is_text m ∙ t) told) in
         let x = pixels_of_shown c d s t e in
-        let there : mode_row d.mode ≡ Some bytes_320_by_200 = ap mode_row number in
-        let row : bytes_320_by_200 ≡ x.is.row = some_same bytes_320_by_200 x.is.row (sym there ∙ x.is.mode) in
-        let tests = subst (λ q. AllTests q c d) (sym row) x.is.tests in
-        let served = g fonts r block c d (record { number = number; tests = tests; has = data_is bytes_320_by_200 d tests.data_test }) there z in
-        subst (IsServed service fonts r block c d) x.screen (subst (λ q. IsServed service fonts r block c d (pixel_screen q c d)) row served)
+        let g = graphics_row d.mode x.is.row t x.is.mode in
+        let served = by_mode g.kind g.number (subst (λ q. AllTests q c d) (sym g.row_is) x.is.tests) (x.is.mode ∙ ap (λ (q : ModeRow). Some q) (sym g.row_is)) in
+        subst (IsServed service fonts r block c d) x.screen (subst (λ q. IsServed service fonts r block c d (pixel_screen q c d)) g.row_is served)
 
-pub write_pixel : (page x y colour : ℕ) → colour < 256 → Serves (WritePixel page x y colour)
-write_pixel page x y colour l = serves_packed (WritePixel page x y colour) (λ mode. refl) (λ fonts r block c d h. readers.write_pixel page x y colour fonts r block c d h) (λ fonts r block c d t e z. packed_pixels.write_pixel c d t e z page x y colour fonts r block l)
+pub write_pixel : KeepsBounds → (page x y colour : ℕ) → colour < 256 → Serves (WritePixel page x y colour)
+write_pixel law page x y colour l = serves_each (WritePixel page x y colour) (λ fonts r block c d h. readers.write_pixel page x y colour fonts r block c d h) (λ m fonts r block c d t e z. planar_dots.write_pixel law m c d t e z page x y colour fonts r block) (λ fonts r block c d t e z. packed_pixels.write_pixel c d t e z page x y colour fonts r block l)
 
 pub read_pixel : (page x y : ℕ) → Serves (ReadPixel page x y)
-read_pixel page x y fonts r block c d s bytes z bda e told = by_kind (is_text d.mode) refl
-  where
-    by_mode : (k : Graphics) → d.mode ≡ number_in k → AllTests (row_in k) c d → mode_row d.mode ≡ Some (row_in k) → IsServed (ReadPixel page x y) fonts r block c d (pixel_screen (row_in k) c d)
-    by_mode (Sixteen m) n tests there = planar_reads.read_pixel m c d (record { number = n; tests = tests; has = data_is (row_of m) d tests.data_test }) there z page x y fonts r block
-    by_mode Many n tests there = packed_pixels.read_pixel c d (record { number = n; tests = tests; has = data_is bytes_320_by_200 d tests.data_test }) there z page x y fonts r block
-
-    by_kind : (b : Bool) → is_text d.mode ≡ b → IsServed (ReadPixel page x y) fonts r block c d s
-    by_kind true t = let a = shown_is c d s t e in subst (IsServed (ReadPixel page x y) fonts r block c d) a.screen (readers.read_pixel page x y fonts r block c d a.is)
-    by_kind false t =
-        let a = pixels_of_shown c d s t e in
-        let g = graphics_row d.mode a.is.row t a.is.mode in
-        let served = by_mode g.kind g.number (subst (λ q. AllTests q c d) (sym g.row_is) a.is.tests) (a.is.mode ∙ ap (λ (q : ModeRow). Some q) (sym g.row_is)) in
-        subst (IsServed (ReadPixel page x y) fonts r block c d) a.screen (subst (λ q. IsServed (ReadPixel page x y) fonts r block c d (pixel_screen q c d)) g.row_is served)
+read_pixel page x y = serves_each (ReadPixel page x y) (λ fonts r block c d h. readers.read_pixel page x y fonts r block c d h) (λ m fonts r block c d t e z. planar_reads.read_pixel m c d t e z page x y fonts r block) (λ fonts r block c d t e z. packed_pixels.read_pixel c d t e z page x y fonts r block)
 
 -- in text whatever the arguments are
 pub dot_refused : (page x y colour : ℕ) → ServesText (WritePixel page x y colour)

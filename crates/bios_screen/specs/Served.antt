@@ -1,5 +1,5 @@
 -- What the laws say: from a state that shows a screen a service leads to one that shows the next.
-use Rattle.std.specs.Prelude.{ℕ, ◌≡◌, ◌<◌, ◌==◌, ◌||◌, Bool, true, false, List, length, Some, None, Ok}
+use Rattle.std.specs.Prelude.{ℕ, ◌≡◌, ◌<◌, ◌||◌, Bool, true, false, List, length, Some, None, Ok}
 use Rattle.vga_card.specs.Card.{CardState}
 use Rattle.vga_card.specs.Bounds.{IsCard}
 use Rattle.vga_card.specs.Bus.{card_meaning}
@@ -40,8 +40,8 @@ abbrev pub FitsBytes : ColourService → Type 0
 FitsBytes (SetOverscan value) = value < 256
 FitsBytes service = Unit {0}
 
--- whether the laws tell of a service in a mode of graphics too, so far of those that look at no pixel, of a pixel that is read, and of
--- one of 256 colours that is written
+-- whether the laws tell of a service in a mode of graphics too, so far of those that look at no pixel, and of a pixel that is written
+-- or read
 abbrev pub is_told_in_graphics : ℕ → Service → Bool
 is_told_in_graphics mode (SetCursorType cursor_type) = true
 is_told_in_graphics mode (SetCursor page place) = true
@@ -51,7 +51,7 @@ is_told_in_graphics mode ReadMode = true
 is_told_in_graphics mode (Colours service) = true
 is_told_in_graphics mode ReadAdapter = true
 is_told_in_graphics mode ReadDisplay = true
-is_told_in_graphics mode (WritePixel page x y colour) = mode == 0x13
+is_told_in_graphics mode (WritePixel page x y colour) = true
 is_told_in_graphics mode (ReadPixel page x y) = true
 is_told_in_graphics mode _ = false
 

@@ -85,11 +85,13 @@ pub fn dots_are_refused()
     ensures read { (page x y : ℕ) → ServesText (ReadPixel page x y) }
 {}
 
-/// Functions 0C and 0D: in 256 colours a dot is written, and in graphics it is read.
+/// Functions 0C and 0D: in graphics a dot is written, and read.
 pub fn dots_are_served()
     ensures written { (page x y colour : ℕ) → colour < 256 → Serves (WritePixel page x y colour) }
     ensures read { (page x y : ℕ) → Serves (ReadPixel page x y) }
-{}
+{
+    bounds_stay();
+}
 
 /// From every state that shows a screen a call for a service replies as on the screen, or is refused as
 /// there, and leads to a state that shows the next screen, in text, and for some services in graphics too; a

@@ -1,0 +1,121 @@
+-- From drawn memory of sixteen colours to the screen that it shows, in which one page is drawn anew.
+use Rattle.std.proofs.Common.{◌≡◌, ◌≢◌, ℕ, ◌+◌, ◌*◌, ◌/◌, ◌%◌, ◌<◌, ◌≤◌, ◌⊎◌, inl, inr, ⊎_elim, refl, sym, ap, ◌∙◌, subst, arith, [], length, get_or, Some, false}
+use Rattle.std.specs.Prelude.{slice_index, set, ◌==◌, ◌&&◌, if◌then◌else◌}
+use Rattle.std.specs.Str.{bytes_eq}
+use Rattle.std.proofs.lemmas.Bool.{cases_lt}
+use Rattle.vga_bits.specs.Four.{Four}
+use Rattle.vga_planes.specs.Planes.{bytes_at}
+use Rattle.vga_card.specs.Bounds.{IsCard}
+use Rattle.vga_card.specs.Card.{CardState}
+use Rattle.bios_modes.specs.Bda.{BiosData}
+use Rattle.bios_modes.specs.Modes.{mode_row}
+use Rattle.bios_services.specs.ModeSet.{is_text}
+use Rattle.bios_screen.specs.Listing.{listing}
+use Rattle.bios_screen.specs.Screen.{Pixels, Screen}
+use Rattle.bios_screen.specs.Shown.{crtc_shown, shows_attribute, packed_pixel, planar_pixel, pixel_in, pixels_in, pixel_pages, page_pixels, screen_by, pixel_screen, shown}
+use Rattle.bios_screen.specs.Step.{pixel_of, with_pixels}
+use Rattle.bios_screen.proofs.ListLemmas.{same_from_0, length_listing, listed_at, listing_set}
+use Rattle.bios_screen.proofs.Places.{ends_before}
+use Rattle.bios_screen.proofs.Setting.{Setting, setting}
+use Rattle.bios_screen.proofs.Shows.{AllTests}
+use Rattle.bios_screen.proofs.PixelModes.{Planes, row_of, setting_in, text_by, packed_by}
+use Rattle.bios_screen.proofs.PixelModes.Planes.{Low, Middle, High}
+use Rattle.bios_screen.proofs.PixelModes.Graphics.{Sixteen}
+use Rattle.bios_screen.proofs.PixelShows.{pixels_shown_of}
+use Rattle.bios_screen.proofs.AnyShows.{setting_by}
+use Rattle.bios_screen.proofs.PixelDots.{IsPlanar, pixel_at}
+use Rattle.bios_screen.proofs.PixelFresh.{pixels_of}
+use Rattle.bios_screen.proofs.PlanarHands.{at_rest, drawing, without_drawing, Loaded}
+use Rattle.bios_screen.proofs.PlanarBits.{nibble_of}
+
+-- ---- numbers of the modes
+
+pub rest_by : (m : Planes) → setting_in (Sixteen m) ≡ drawing (row_of m).misc (slice_index (row_of m).sequencer 1) at_rest
+rest_by Low = refl
+rest_by Middle = refl
+rest_by High = refl
+
+-- a page has room for its pixels, and pages for all that the mode has
+pub page_room : (m : Planes) (k : ℕ) → k < pixels_of (row_of m) → k / 8 < (row_of m).size
+page_room Low k l = omega arith
+page_room Middle k l = omega arith
+page_room High k l = omega arith
+
+module _ (m : Planes) (c : CardState) (d : BiosData) (t : IsPlanar m c d) (e : mode_row d.mode ≡ Some (row_of m)) (z : IsCard c) where
+  abbrev s : Screen
+  s = pixel_screen (row_of m) c d
+
+  abbrev misc : ℕ
+  misc = (row_of m).misc
+
+  abbrev clocking : ℕ
+  clocking = slice_index (row_of m).sequencer 1
+
+  text : is_text d.mode ≡ false
+  text = ap is_text t.number ∙ text_by m
+
+  pub setting_is : setting c ≡ drawing misc clocking at_rest
+  setting_is = setting_by (row_of m) c d t.tests ∙ rest_by m
+
+  -- memory as cells of four bytes
+  pub begins : Loaded (without_drawing c) misc clocking at_rest c (bytes_at c.host.memory) c.host.latches
+  begins = record { mode = setting_is; bounds = z; cell = λ o. refl; others = refl; latch = refl }
+
+  pub all_pixels : page_pixels d ≡ pixels_of (row_of m)
+  all_pixels = ap (λ i. 8 * i * (d.height * (d.last_row + 1))) t.has.columns ∙ ap (λ i. 8 * (row_of m).columns * (i * (d.last_row + 1))) t.has.height ∙ ap (λ i. 8 * (row_of m).columns * ((row_of m).height * (i + 1))) t.has.last_row
+
+  pub room : (k : ℕ) → k < page_pixels d → k / 8 < d.size
+  room k l = subst (λ i. k / 8 < i) (sym t.has.size) (page_room m k (subst (λ i. k < i) all_pixels l))
+
+  -- a pixel of a page is one of its byte of each plane
+  pub pixel_is : (p k : ℕ) → p < (row_of m).pages → k < page_pixels d → pixel_of s p k ≡ nibble_of (bytes_at c.host.memory (d.size * p + k / 8)) (k % 8)
+  pixel_is p k lp l =
+      let f = c.host.memory in
+      pixel_at d.mode f d.size (page_pixels d) (row_of m).pages p k lp l
+      ∙ ap (λ b. if b then packed_pixel f (d.size * p + k) else planar_pixel f (d.size * p) k) (ap (λ i. i == 0x13) t.number ∙ packed_by m)
+
+  -- other pages lie apart
+  apart : (p q k : ℕ) → p ≢ q → k < d.size → (d.size * q + k < d.size * p) ⊎ (d.size * p + d.size ≤ d.size * q + k)
+  apart p q k n l = ⊎_elim
+      (λ (a : p < q). let w = ends_before d.size p q a in inr (omega arith))
+      (λ (a : q ≤ p). ⊎_elim
+      (λ (b : q < p). let w = ends_before d.size q p b in inl (omega arith))
+      (λ (b : p ≤ q). absurd (n (omega arith)))
+      (cases_lt q p))
+      (cases_lt p q)
+
+  -- what the adapter shows at rest again, where one page has other pixels
+  pub page_redrawn : (p : ℕ) (y : CardState) (f : ℕ → Four ℕ) (q : Four ℕ) (change : (ℕ → ℕ) → ℕ → ℕ) → p < (row_of m).pages → Loaded (without_drawing c) misc clocking at_rest y f q
+      → ((k : ℕ) → k < page_pixels d → nibble_of (f (d.size * p + k / 8)) (k % 8) ≡ change (pixel_of s p) k)
+      → ((o : ℕ) → (o < d.size * p) ⊎ (d.size * p + d.size ≤ o) → f o ≡ bytes_at c.host.memory o)
+      → shown y d ≡ Some (with_pixels s p change)
+  unfolding pixel_pages pixels_in
+  page_redrawn p y f q change lp h inside outside =
+      let a = t.tests in
+      let same_setting : setting y ≡ setting c = h.mode ∙ sym setting_is in
+      let row = row_of m in
+      let n = page_pixels d in
+      let old = pixel_pages d.mode c.host.memory d.size n row.pages in
+      let packed : (d.mode == 0x13) ≡ false = ap (λ i. i == 0x13) t.number ∙ packed_by m in
+      let registers : y.crtc.registers ≡ c.crtc.registers = ap (λ (x : CardState). x.crtc.registers) h.others in
+      let tests : AllTests row y d = record {
+        memory = ap (λ (x : Setting). (x.misc == row.misc) && (bytes_eq x.seq row.sequencer && bytes_eq x.gfx row.graphics)) same_setting ∙ a.memory;
+        data_test = a.data_test;
+        crtc = registers ∙ a.crtc ∙ ap (crtc_shown row d) (sym registers);
+        attribute = ap (λ (x : CardState). shows_attribute row x.attr) h.others ∙ a.attribute;
+      } in
+      let new_pixel : (g k : ℕ) → pixel_in d.mode y.host.memory (d.size * g) k ≡ nibble_of (f (d.size * g + k / 8)) (k % 8) = λ g k.
+      ap (λ b. if b then packed_pixel y.host.memory (d.size * g + k) else planar_pixel y.host.memory (d.size * g) k) packed
+      ∙ ap (λ (x : Four ℕ). nibble_of x (k % 8)) (h.cell (d.size * g + k / 8)) in
+      let old_pixel : (g k : ℕ) → pixel_in d.mode c.host.memory (d.size * g) k ≡ nibble_of (bytes_at c.host.memory (d.size * g + k / 8)) (k % 8) = λ g k.
+      ap (λ b. if b then packed_pixel c.host.memory (d.size * g + k) else planar_pixel c.host.memory (d.size * g) k) packed in
+      let page = listing (change (pixel_of s p)) 0 n in
+      let long : length (get_or old p []) ≡ n = ap length (listed_at (λ g. pixels_in d.mode c.host.memory (d.size * g) n) row.pages p [] lp) ∙ length_listing (pixel_in d.mode c.host.memory (d.size * p)) 0 n in
+      let pages : pixel_pages d.mode y.host.memory d.size n row.pages ≡ set old p page =
+      listing_set (λ g. pixels_in d.mode c.host.memory (d.size * g) n) (λ g. pixels_in d.mode y.host.memory (d.size * g) n) row.pages p page lp
+      (same_from_0 (change (pixel_of s p)) (pixel_in d.mode y.host.memory (d.size * p)) n (λ k l. new_pixel p k ∙ inside k l))
+      (λ g lg w. same_from_0 (pixel_in d.mode c.host.memory (d.size * g)) (pixel_in d.mode y.host.memory (d.size * g)) n (λ k l.
+      new_pixel g k ∙ ap (λ (x : Four ℕ). nibble_of x (k % 8)) (outside (d.size * g + k / 8) (apart p g (k / 8) (λ v. w (sym v)) (room k l))) ∙ sym (old_pixel g k))) in
+      pixels_shown_of y d row e text tests
+      ∙ ap (λ x. Some (screen_by row y d 0 (Pixels x) [])) (pages ∙ ap (λ i. set old p (listing (change (pixel_of s p)) 0 i)) (sym long))
+      ∙ ap (λ (x : CardState). Some (screen_by row x d 0 (Pixels (set old p (listing (change (pixel_of s p)) 0 (length (get_or old p []))))) [])) h.others
