@@ -1,6 +1,7 @@
 -- What services do to a screen of two rows of three cells, computed.
 use Rattle.std.proofs.Common.{◌≡◌, ℕ, refl, List, [], ◌∷◌, Some, None, Bool, true, false}
 use Rattle.vga_bits.specs.declared.refusal.Refusal.TheVariants.{WrongKind, BadPage, Outside, CountPast, BadRegister, BadBlock}
+use Rattle.bios_modes.specs.Fonts.{FontSet}
 use Rattle.bios_services.specs.declared.cell_run.CellRun.{CellRun}
 use Rattle.bios_services.specs.declared.colours.ColourService.TheVariants.{SetRegister, SetEntries}
 use Rattle.bios_services.specs.declared.tables.TableService.TheVariants.{ReadPalette, ReadEntries}
@@ -36,8 +37,12 @@ six = (1, 11) ∷ (2, 12) ∷ (3, 13) ∷ (4, 14) ∷ (5, 15) ∷ (6, 16) ∷ (7
 abbrev run : ℕ → ℕ → Bool → ℕ → CellRun
 run character colour is_attribute count = record { page = 0; character = character; ink = record { colour = colour; is_attribute = is_attribute }; count = count }
 
+-- cells of text need no fonts
+abbrev no_fonts : FontSet
+no_fonts = record { f8 = []; f14 = []; f16 = [] }
+
 abbrev after : Screen → Service → List Cell
-after s service = cells_on (next s service []).contents
+after s service = cells_on (next no_fonts s service []).contents
 
 -- 09 writes the attribute too, and 0A does not
 coloured_write : after (small six 1) (WriteCells (run 65 30 true 2)) ≡ (1, 11) ∷ (65, 30) ∷ (65, 30) ∷ (4, 14) ∷ (5, 15) ∷ (6, 16) ∷ (7, 17) ∷ (8, 18) ∷ []
@@ -73,24 +78,24 @@ unfolding next
 no_window = refl
 
 -- a character in the last cell is written before the page goes up, with the attribute of its column
-last_cell : next (small six 258) (Teletype 65 9) [] ≡ small ((4, 14) ∷ (5, 15) ∷ (65, 16) ∷ (0x20, 16) ∷ (0x20, 16) ∷ (0x20, 16) ∷ (7, 17) ∷ (8, 18) ∷ []) 256
+last_cell : next no_fonts (small six 258) (Teletype 65 9) [] ≡ small ((4, 14) ∷ (5, 15) ∷ (65, 16) ∷ (0x20, 16) ∷ (0x20, 16) ∷ (0x20, 16) ∷ (7, 17) ∷ (8, 18) ∷ []) 256
 unfolding next typed
 last_cell = refl
 
 -- a bell, a backspace, a line feed and a carriage return
-pub bell : next (small six 258) (Teletype 0x07 9) [] ≡ small six 258
+pub bell : next no_fonts (small six 258) (Teletype 0x07 9) [] ≡ small six 258
 unfolding next typed
 bell = refl
 
-backspace : next (small six 258) (Teletype 0x08 9) [] ≡ small six 257
+backspace : next no_fonts (small six 258) (Teletype 0x08 9) [] ≡ small six 257
 unfolding next typed
 backspace = refl
 
-line_feed : next (small six 1) (Teletype 0x0A 9) [] ≡ small six 257
+line_feed : next no_fonts (small six 1) (Teletype 0x0A 9) [] ≡ small six 257
 unfolding next typed
 line_feed = refl
 
-carriage_return : next (small six 258) (Teletype 0x0D 9) [] ≡ small six 256
+carriage_return : next no_fonts (small six 258) (Teletype 0x0D 9) [] ≡ small six 256
 unfolding next typed
 carriage_return = refl
 
@@ -114,11 +119,11 @@ string moves = WriteString (record { page = 0; place = 2; colour = 0; count = 2;
 abbrev two : List ℕ
 two = 65 ∷ 30 ∷ 66 ∷ 31 ∷ []
 
-string_moved : next (small six 0) (string true) two ≡ small ((1, 11) ∷ (2, 12) ∷ (65, 30) ∷ (66, 31) ∷ (5, 15) ∷ (6, 16) ∷ (7, 17) ∷ (8, 18) ∷ []) 257
+string_moved : next no_fonts (small six 0) (string true) two ≡ small ((1, 11) ∷ (2, 12) ∷ (65, 30) ∷ (66, 31) ∷ (5, 15) ∷ (6, 16) ∷ (7, 17) ∷ (8, 18) ∷ []) 257
 unfolding next typed
 string_moved = refl
 
-string_left : next (small six 0) (string false) two ≡ small ((1, 11) ∷ (2, 12) ∷ (65, 30) ∷ (66, 31) ∷ (5, 15) ∷ (6, 16) ∷ (7, 17) ∷ (8, 18) ∷ []) 0
+string_left : next no_fonts (small six 0) (string false) two ≡ small ((1, 11) ∷ (2, 12) ∷ (65, 30) ∷ (66, 31) ∷ (5, 15) ∷ (6, 16) ∷ (7, 17) ∷ (8, 18) ∷ []) 0
 unfolding next typed
 string_left = refl
 
@@ -138,12 +143,12 @@ abbrev coloured : Screen
 coloured = record (small six 0) { palette = record { values = 1 ∷ 2 ∷ []; reds = 10 ∷ 11 ∷ 12 ∷ []; greens = 20 ∷ 21 ∷ 22 ∷ []; blues = 30 ∷ 31 ∷ 32 ∷ []; mask = 0xFF } }
 
 -- six bits of a value are kept
-value_set : (next coloured (Colours (SetRegister 1 0xC5)) []).palette.values ≡ 1 ∷ 5 ∷ []
+value_set : (next no_fonts coloured (Colours (SetRegister 1 0xC5)) []).palette.values ≡ 1 ∷ 5 ∷ []
 unfolding next colours_after
 value_set = refl
 
 -- entries from one on take three bytes each
-entries_set : (next coloured (Colours (SetEntries 1 2)) (1 ∷ 2 ∷ 3 ∷ 4 ∷ 5 ∷ 0x46 ∷ [])).palette ≡ record coloured.palette { reds = 10 ∷ 1 ∷ 4 ∷ []; greens = 20 ∷ 2 ∷ 5 ∷ []; blues = 30 ∷ 3 ∷ 6 ∷ [] }
+entries_set : (next no_fonts coloured (Colours (SetEntries 1 2)) (1 ∷ 2 ∷ 3 ∷ 4 ∷ 5 ∷ 0x46 ∷ [])).palette ≡ record coloured.palette { reds = 10 ∷ 1 ∷ 4 ∷ []; greens = 20 ∷ 2 ∷ 5 ∷ []; blues = 30 ∷ 3 ∷ 6 ∷ [] }
 unfolding next colours_after
 entries_set = refl
 

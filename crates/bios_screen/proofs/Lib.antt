@@ -56,5 +56,11 @@ pub mod PlanarHands
 pub mod PlanarBits
 pub mod PlanarScreens
 pub mod PlanarDots
+pub mod PixelCells
+pub mod PlanarCharacters
+pub mod PixelWrites
+pub mod PlanarWrites
+pub mod PackedScreens
+pub mod PackedWrites
 pub mod Coloured
 pub mod ReadingLemmas

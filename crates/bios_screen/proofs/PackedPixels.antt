@@ -75,7 +75,7 @@ four_packed m n x0 x1 x2 x3 = record {
   plane3 = if 3 == n % 4 then slice_set m.plane3 (n / 4 * 4) x3 else m.plane3;
 }
 
-abbrev packed_memory : Four (List ℕ) → ℕ → ℕ → Four (List ℕ)
+abbrev pub packed_memory : Four (List ℕ) → ℕ → ℕ → Four (List ℕ)
 packed_memory m n b = four_packed m n b b b b
 
 memory_is : (h : HostState) (n b : ℕ) → b < 256 → memory_after_put (host_at h (setting_in Many)) n b ≡ packed_memory h.memory n b
@@ -86,7 +86,7 @@ memory_is h n b l =
     ∙ ap (λ x. four_packed h.memory n b b x (w 3)) (written h b 2 (omega arith) l)
     ∙ ap (λ x. four_packed h.memory n b b b x) (written h b 3 (omega arith) l)
 
-put_is : (c : CardState) (n b : ℕ) → setting c ≡ setting_in Many → n < 65536 → b < 256 → (run card_meaning (put (0xA0000 + n) b) c).0 ≡ with_memory c (packed_memory c.host.memory n b)
+pub put_is : (c : CardState) (n b : ℕ) → setting c ≡ setting_in Many → n < 65536 → b < 256 → (run card_meaning (put (0xA0000 + n) b) c).0 ≡ with_memory c (packed_memory c.host.memory n b)
 put_is c n b e l h =
     put_decoded c (setting_in Many) (0xA0000 + n) b e (decoded c.host n l)
     ∙ ap (λ o. with_memory c (memory_after_put (host_at c.host (setting_in Many)) o b)) (window_is c.host n l)
@@ -100,7 +100,7 @@ plane_after m n b (suc (suc (suc zero))) l = refl
 plane_after m n b (suc (suc (suc (suc p)))) l = absurd (omega arith)
 
 -- a Put changes one pixel
-pixel_put : (m : Four (List ℕ)) (n b k : ℕ) → ((p : ℕ) → p < 4 → length (of_plane m p) ≡ 65536) → n < 65536 → packed_pixel (packed_memory m n b) k ≡ set_cell (packed_pixel m) n b k
+pub pixel_put : (m : Four (List ℕ)) (n b k : ℕ) → ((p : ℕ) → p < 4 → length (of_plane m p) ≡ 65536) → n < 65536 → packed_pixel (packed_memory m n b) k ≡ set_cell (packed_pixel m) n b k
 pixel_put m n b k size l =
     let p : k % 4 < 4 = omega arith in
     let o = n / 4 * 4 in

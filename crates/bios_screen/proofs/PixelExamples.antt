@@ -1,8 +1,10 @@
 -- Pixels of small memories and of a screen of two lines of eight pixels, computed.
-use Rattle.std.proofs.Common.{◌≡◌, ℕ, refl, List, [], ◌∷◌, Some, None, false}
+use Rattle.std.proofs.Common.{◌≡◌, ℕ, refl, List, [], ◌∷◌, Some, None, true, false}
 use Rattle.vga_bits.specs.Four.{Four}
 use Rattle.vga_bits.specs.declared.refusal.Refusal.TheVariants.{Outside}
-use Rattle.bios_services.specs.declared.call.Service.TheVariants.{WritePixel, ReadPixel}
+use Rattle.bios_modes.specs.Fonts.{FontSet}
+use Rattle.bios_services.specs.declared.cell_run.CellRun.{CellRun}
+use Rattle.bios_services.specs.declared.call.Service.TheVariants.{WriteCells, WritePixel, ReadPixel}
 use Rattle.bios_screen.specs.Screen.{Pixels, Screen}
 use Rattle.bios_screen.specs.Shown.{planar_pixel, packed_pixel}
 use Rattle.bios_screen.specs.Parts.{cell_at, pixel_at}
@@ -91,22 +93,44 @@ no_cell = refl
 
 -- ---- what services do to pixels
 
+-- the first two rows of character 0
+abbrev fonts : FontSet
+fonts = record { f8 = []; f14 = []; f16 = 0xC1 ∷ 0x80 ∷ [] }
+
 abbrev pixels : Screen → List (List ℕ)
 pixels s = pages_on s.contents
 
 -- a pixel of 256 colours is written
-written : pixels (next (shown 0x13) (WritePixel 0 2 1 0x81) []) ≡ (1 ∷ 2 ∷ 3 ∷ 0 ∷ 0 ∷ 0 ∷ 0 ∷ 0 ∷ 3 ∷ 0 ∷ 0x81 ∷ 0 ∷ 0 ∷ 0 ∷ 0 ∷ 2 ∷ []) ∷ []
+written : pixels (next fonts (shown 0x13) (WritePixel 0 2 1 0x81) []) ≡ (1 ∷ 2 ∷ 3 ∷ 0 ∷ 0 ∷ 0 ∷ 0 ∷ 0 ∷ 3 ∷ 0 ∷ 0x81 ∷ 0 ∷ 0 ∷ 0 ∷ 0 ∷ 2 ∷ []) ∷ []
 unfolding next
 written = refl
 
 -- of 16 colours four bits stand there, and bit 7 asks for XOR
-replaced : pixels (next (shown 0x10) (WritePixel 0 1 0 0x15) []) ≡ (1 ∷ 5 ∷ 3 ∷ 0 ∷ 0 ∷ 0 ∷ 0 ∷ 0 ∷ 3 ∷ 0 ∷ 0 ∷ 0 ∷ 0 ∷ 0 ∷ 0 ∷ 2 ∷ []) ∷ []
+replaced : pixels (next fonts (shown 0x10) (WritePixel 0 1 0 0x15) []) ≡ (1 ∷ 5 ∷ 3 ∷ 0 ∷ 0 ∷ 0 ∷ 0 ∷ 0 ∷ 3 ∷ 0 ∷ 0 ∷ 0 ∷ 0 ∷ 0 ∷ 0 ∷ 2 ∷ []) ∷ []
 unfolding next
 replaced = refl
 
-turned : pixels (next (shown 0x10) (WritePixel 0 1 0 0x83) []) ≡ (1 ∷ 1 ∷ 3 ∷ 0 ∷ 0 ∷ 0 ∷ 0 ∷ 0 ∷ 3 ∷ 0 ∷ 0 ∷ 0 ∷ 0 ∷ 0 ∷ 0 ∷ 2 ∷ []) ∷ []
+turned : pixels (next fonts (shown 0x10) (WritePixel 0 1 0 0x83) []) ≡ (1 ∷ 1 ∷ 3 ∷ 0 ∷ 0 ∷ 0 ∷ 0 ∷ 0 ∷ 3 ∷ 0 ∷ 0 ∷ 0 ∷ 0 ∷ 0 ∷ 0 ∷ 2 ∷ []) ∷ []
 unfolding next
 turned = refl
+
+-- a character takes the colour where its glyph has dots, and all else of its cell is 0
+abbrev character : ℕ → CellRun
+character colour = record { page = 0; character = 0; ink = record { colour = colour; is_attribute = true }; count = 1 }
+
+drawn : pixels (next fonts (shown 0x10) (WriteCells (character 0x15)) []) ≡ (5 ∷ 5 ∷ 0 ∷ 0 ∷ 0 ∷ 0 ∷ 0 ∷ 5 ∷ 5 ∷ 0 ∷ 0 ∷ 0 ∷ 0 ∷ 0 ∷ 0 ∷ 0 ∷ []) ∷ []
+unfolding next
+drawn = refl
+
+-- by XOR all else stays
+drawn_over : pixels (next fonts (shown 0x10) (WriteCells (character 0x83)) []) ≡ (2 ∷ 1 ∷ 3 ∷ 0 ∷ 0 ∷ 0 ∷ 0 ∷ 3 ∷ 0 ∷ 0 ∷ 0 ∷ 0 ∷ 0 ∷ 0 ∷ 0 ∷ 2 ∷ []) ∷ []
+unfolding next
+drawn_over = refl
+
+-- in 256 colours bit 7 is one of the colour's
+drawn_packed : pixels (next fonts (shown 0x13) (WriteCells (character 0x83)) []) ≡ (0x83 ∷ 0x83 ∷ 0 ∷ 0 ∷ 0 ∷ 0 ∷ 0 ∷ 0x83 ∷ 0x83 ∷ 0 ∷ 0 ∷ 0 ∷ 0 ∷ 0 ∷ 0 ∷ 0 ∷ []) ∷ []
+unfolding next
+drawn_packed = refl
 
 -- a pixel is answered in the low byte, and one outside is refused
 answered : answer_on (shown 0x13) (ReadPixel 0 2 0) (record { ax = 0x0D00; bx = 0; cx = 2; dx = 0 }) ≡ record { ax = 0x0D03; bx = 0; cx = 2; dx = 0 }

@@ -24,6 +24,8 @@ use Rattle.bios_screen.proofs.PackedPixels as packed_pixels
 use Rattle.bios_screen.proofs.PixelDots.{IsPlanar}
 use Rattle.bios_screen.proofs.PlanarReads as planar_reads
 use Rattle.bios_screen.proofs.PlanarDots as planar_dots
+use Rattle.bios_screen.proofs.PlanarWrites as planar_writes
+use Rattle.bios_screen.proofs.PackedWrites as packed_writes
 use Rattle.bios_screen.proofs.PixelModes.{Planes, Graphics, row_of, row_in, number_in, graphics_row}
 use Rattle.bios_screen.proofs.PixelModes.Graphics.{Sixteen, Many}
 use Rattle.bios_modes.specs.declared.modes.ModeRow.{ModeRow}
@@ -75,7 +77,7 @@ pub read_display : Serves ReadDisplay
 read_display = serves_any ReadDisplay (λ fonts r block c d h bytes z. any.read_display fonts r block c d h)
 
 -- in text, in 16 colours and in 256
-serves_each : (service : Service) → ((fonts : FontSet) (r : Regs) (block : List ℕ) (c : CardState) (d : BiosData) (h : IsShown c d) → IsServed service fonts r block c d (screen_shown c d h))
+serves_each : (service : Service) → ((fonts : FontSet) (r : Regs) (block : List ℕ) (c : CardState) (d : BiosData) (h : IsShown c d) → IsCard c → IsServed service fonts r block c d (screen_shown c d h))
     → ((m : Planes) (fonts : FontSet) (r : Regs) (block : List ℕ) (c : CardState) (d : BiosData) → IsPlanar m c d → mode_row d.mode ≡ Some (row_of m) → IsCard c → IsServed service fonts r block c d (pixel_screen (row_of m) c d))
     → ((fonts : FontSet) (r : Regs) (block : List ℕ) (c : CardState) (d : BiosData) → IsPacked c d → mode_row d.mode ≡ Some bytes_320_by_200 → IsCard c → IsServed service fonts r block c d (pixel_screen bytes_320_by_200 c d))
     → Serves service
@@ -86,7 +88,7 @@ serves_each service text planar packed fonts r block c d s bytes z bda e told = 
     by_mode Many n tests there = packed fonts r block c d (record { number = n; tests = tests; has = data_is bytes_320_by_200 d tests.data_test }) there z
 
     by_kind : (b : Bool) → is_text d.mode ≡ b → IsServed service fonts r block c d s
-    by_kind true t = let x = shown_is c d s t e in subst (IsServed service fonts r block c d) x.screen (text fonts r block c d x.is)
+    by_kind true t = let x = shown_is c d s t e in subst (IsServed service fonts r block c d) x.screen (text fonts r block c d x.is z)
     by_kind false t =
         let x = pixels_of_shown c d s t e in
         let g = graphics_row d.mode x.is.row t x.is.mode in
@@ -94,10 +96,10 @@ serves_each service text planar packed fonts r block c d s bytes z bda e told = 
         subst (IsServed service fonts r block c d) x.screen (subst (λ q. IsServed service fonts r block c d (pixel_screen q c d)) g.row_is served)
 
 pub write_pixel : KeepsBounds → (page x y colour : ℕ) → colour < 256 → Serves (WritePixel page x y colour)
-write_pixel law page x y colour l = serves_each (WritePixel page x y colour) (λ fonts r block c d h. readers.write_pixel page x y colour fonts r block c d h) (λ m fonts r block c d t e z. planar_dots.write_pixel law m c d t e z page x y colour fonts r block) (λ fonts r block c d t e z. packed_pixels.write_pixel c d t e z page x y colour fonts r block l)
+write_pixel law page x y colour l = serves_each (WritePixel page x y colour) (λ fonts r block c d h z. readers.write_pixel page x y colour fonts r block c d h) (λ m fonts r block c d t e z. planar_dots.write_pixel law m c d t e z page x y colour fonts r block) (λ fonts r block c d t e z. packed_pixels.write_pixel c d t e z page x y colour fonts r block l)
 
 pub read_pixel : (page x y : ℕ) → Serves (ReadPixel page x y)
-read_pixel page x y = serves_each (ReadPixel page x y) (λ fonts r block c d h. readers.read_pixel page x y fonts r block c d h) (λ m fonts r block c d t e z. planar_reads.read_pixel m c d t e z page x y fonts r block) (λ fonts r block c d t e z. packed_pixels.read_pixel c d t e z page x y fonts r block)
+read_pixel page x y = serves_each (ReadPixel page x y) (λ fonts r block c d h z. readers.read_pixel page x y fonts r block c d h) (λ m fonts r block c d t e z. planar_reads.read_pixel m c d t e z page x y fonts r block) (λ fonts r block c d t e z. packed_pixels.read_pixel c d t e z page x y fonts r block)
 
 -- in text whatever the arguments are
 pub dot_refused : (page x y colour : ℕ) → ServesText (WritePixel page x y colour)
@@ -122,8 +124,8 @@ select_page page = serves_both (SelectPage page) (λ fonts r block c d h bda. cu
 pub read_cell : (page : ℕ) → Serves (ReadCell page)
 read_cell page = serves (ReadCell page) (λ mode. refl) (λ fonts r block c d h bytes z bda. writes.read_cell page fonts r block c d h z)
 
-pub write_cells : (cells : CellRun) → cells.character < 256 → cells.ink.colour < 256 → Serves (WriteCells cells)
-write_cells cells lv la = serves (WriteCells cells) (λ mode. refl) (λ fonts r block c d h bytes z bda. writes.write_cells cells fonts r block c d h z lv la)
+pub write_cells : KeepsBounds → (cells : CellRun) → cells.character < 256 → cells.ink.colour < 256 → Serves (WriteCells cells)
+write_cells law cells lv la = serves_each (WriteCells cells) (λ fonts r block c d h z. writes.write_cells cells fonts r block c d h z lv la) (λ m fonts r block c d t e z. planar_writes.write_cells law m c d t e z cells fonts r block) (λ fonts r block c d t e z. packed_writes.write_cells law c d t e z cells fonts r block la)
 
 pub scroll_up : (window : Scroll) → window.fill < 256 → Serves (ScrollUp window)
 scroll_up window l = serves (ScrollUp window) (λ mode. refl) (λ fonts r block c d h bytes z bda. windows.scroll_up window fonts r block c d h z l)

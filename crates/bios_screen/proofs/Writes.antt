@@ -135,11 +135,11 @@ count_refusal_is : (c : CardState) (d : BiosData) (h : IsShown c d) (p count : �
 count_refusal_is c d h p count = ap (λ (x : Option ModeRow). let y : Option Refusal = (if nat_lt p (pages_in x) then (if nat_lt (cell_number d (place_of d p)) (cells_of d) then (if nat_le (cell_number d (place_of d p) + count) (cells_of d) then None else Some CountPast) else Some Outside) else Some BadPage) in y) h.mode
 
 -- what is known where they are not refused
-record CursorAllowed (pages p place cells : ℕ) : Type 0 where
-  page : p < pages
-  within : place < cells
+pub record CursorAllowed (pages p place cells : ℕ) : Type 0 where
+  pub page : p < pages
+  pub within : place < cells
 
-cursor_allowed : (pages p place cells : ℕ) → (let x : Option Refusal = (if nat_lt p pages then (if nat_lt place cells then None else Some Outside) else Some BadPage) in x) ≡ None → CursorAllowed pages p place cells
+pub cursor_allowed : (pages p place cells : ℕ) → (let x : Option Refusal = (if nat_lt p pages then (if nat_lt place cells then None else Some Outside) else Some BadPage) in x) ≡ None → CursorAllowed pages p place cells
 cursor_allowed pages p place cells h = by_tests (nat_lt p pages) (nat_lt place cells) refl refl h
   where
     by_tests : (a b : Bool) → nat_lt p pages ≡ a → nat_lt place cells ≡ b → (let x : Option Refusal = (if a then (if b then None else Some Outside) else Some BadPage) in x) ≡ None → CursorAllowed pages p place cells
@@ -147,11 +147,11 @@ cursor_allowed pages p place cells h = by_tests (nat_lt p pages) (nat_lt place c
     by_tests true false e f g = absurd (cc)
     by_tests false b e f g = absurd (cc)
 
-record CountAllowed (pages p place count cells : ℕ) : Type 0 where
-  page : p < pages
-  within : place + count ≤ cells
+pub record CountAllowed (pages p place count cells : ℕ) : Type 0 where
+  pub page : p < pages
+  pub within : place + count ≤ cells
 
-count_allowed : (pages p place count cells : ℕ) → (let x : Option Refusal = (if nat_lt p pages then (if nat_lt place cells then (if nat_le (place + count) cells then None else Some CountPast) else Some Outside) else Some BadPage) in x) ≡ None → CountAllowed pages p place count cells
+pub count_allowed : (pages p place count cells : ℕ) → (let x : Option Refusal = (if nat_lt p pages then (if nat_lt place cells then (if nat_le (place + count) cells then None else Some CountPast) else Some Outside) else Some BadPage) in x) ≡ None → CountAllowed pages p place count cells
 count_allowed pages p place count cells h = by_tests (nat_lt p pages) (nat_lt place cells) (nat_le (place + count) cells) refl refl h
   where
     by_tests : (a b e : Bool) → nat_lt p pages ≡ a → nat_le (place + count) cells ≡ e → (let x : Option Refusal = (if a then (if b then (if e then None else Some CountPast) else Some Outside) else Some BadPage) in x) ≡ None → CountAllowed pages p place count cells

@@ -11,7 +11,7 @@ use Rattle.bios_modes.specs.Fonts.{FontSet}
 use Rattle.bios_services.specs.declared.reply.Table.TheVariants.{Empty}
 use Rattle.bios_services.specs.declared.call.Call.TheVariants.{SetMode}
 use Rattle.bios_services.specs.declared.call.Service.{Service}
-use Rattle.bios_services.specs.declared.call.Service.TheVariants.{SetCursorType, SetCursor, ReadCursor, SelectPage, WritePixel, ReadPixel, ReadMode, Colours, ReadAdapter, ReadDisplay}
+use Rattle.bios_services.specs.declared.call.Service.TheVariants.{SetCursorType, SetCursor, ReadCursor, SelectPage, WriteCells, WritePixel, ReadPixel, ReadMode, Colours, ReadAdapter, ReadDisplay}
 use Rattle.bios_services.specs.declared.colours.ColourService.{ColourService}
 use Rattle.bios_services.specs.declared.colours.ColourService.TheVariants.{SetOverscan}
 use Rattle.bios_services.specs.Plan.{run}
@@ -32,7 +32,7 @@ after_service service fonts r block c d = run card_meaning (plan_of service font
 pub record IsServed (service : Service) (fonts : FontSet) (r : Regs) (block : List ℕ) (c : CardState) (d : BiosData) (s : Screen) : Type 0 where
   pub refusal : refusal_in_mode service d (length block) ≡ refused_on s service (length block)
   pub answer : refused_on s service (length block) ≡ None → (after_service service fonts r block c d).1.0 ≡ answer_on s service r
-  pub shows : refused_on s service (length block) ≡ None → shown (after_service service fonts r block c d).0 (after_service service fonts r block c d).1.1 ≡ Some (next s service block)
+  pub shows : refused_on s service (length block) ≡ None → shown (after_service service fonts r block c d).0 (after_service service fonts r block c d).1.1 ≡ Some (next fonts s service block)
   pub beam : (after_service service fonts r block c d).0.crtc.beam ≡ c.crtc.beam
 
 -- the overscan that a subfunction of function 10 sets is a byte
@@ -40,8 +40,8 @@ abbrev pub FitsBytes : ColourService → Type 0
 FitsBytes (SetOverscan value) = value < 256
 FitsBytes service = Unit {0}
 
--- whether the laws tell of a service in a mode of graphics too, so far of those that look at no pixel, and of a pixel that is written
--- or read
+-- whether the laws tell of a service in a mode of graphics too, so far of those that look at no pixel, of a pixel that is written
+-- or read, and of characters that are written
 abbrev pub is_told_in_graphics : ℕ → Service → Bool
 is_told_in_graphics mode (SetCursorType cursor_type) = true
 is_told_in_graphics mode (SetCursor page place) = true
@@ -51,6 +51,7 @@ is_told_in_graphics mode ReadMode = true
 is_told_in_graphics mode (Colours service) = true
 is_told_in_graphics mode ReadAdapter = true
 is_told_in_graphics mode ReadDisplay = true
+is_told_in_graphics mode (WriteCells cells) = true
 is_told_in_graphics mode (WritePixel page x y colour) = true
 is_told_in_graphics mode (ReadPixel page x y) = true
 is_told_in_graphics mode _ = false

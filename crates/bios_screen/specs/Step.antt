@@ -1,12 +1,14 @@
 -- What a service does to a plain screen, what it answers, and why it is refused.
 -- From the IBM PS/2 and PC BIOS Interface Technical Reference, "Interrupt 10H - Video".
-use Rattle.std.specs.Prelude.{ℕ, zero, suc, ◌+◌, ◌-◌, ◌*◌, ◌/◌, ◌%◌, ◌==◌, ◌&&◌, ◌||◌, nat_lt, nat_le, Bool, if◌then◌else◌, List, [], length, get_or, set, slice_index, slice_set, bit_xor, min, Option, Some, None}
+use Rattle.std.specs.Prelude.{ℕ, zero, suc, ◌+◌, ◌-◌, ◌*◌, ◌/◌, ◌%◌, ◌==◌, ◌&&◌, ◌||◌, nat_lt, nat_le, Bool, not, if◌then◌else◌, List, [], length, get_or, set, slice_index, slice_set, bit_xor, min, Option, Some, None}
 use Rattle.vga_bits.specs.Bits.{is_set}
 use Rattle.vga_bits.specs.declared.refusal.Refusal.{Refusal}
 use Rattle.vga_bits.specs.declared.refusal.Refusal.TheVariants.{WrongKind, BadPage, Outside, CountPast}
+use Rattle.bios_modes.specs.Fonts.{FontSet}
 use Rattle.bios_services.specs.declared.regs.Regs.{Regs}
 use Rattle.bios_services.specs.declared.ink.Ink.{Ink}
 use Rattle.bios_services.specs.declared.scroll.Scroll.{Scroll}
+use Rattle.bios_services.specs.declared.cell_run.CellRun.{CellRun}
 use Rattle.bios_services.specs.declared.strings.StringCall.{StringCall}
 use Rattle.bios_services.specs.declared.call.Service.{Service}
 use Rattle.bios_services.specs.declared.call.Service.TheVariants.{SetCursorType, SetCursor, ReadCursor, SelectPage, ScrollUp, ScrollDown, ReadCell, WriteCells, WritePixel, ReadPixel, Teletype, ReadMode, Colours, ReadAdapter, WriteString, ReadDisplay}
@@ -16,6 +18,7 @@ use Rattle.bios_services.specs.Teletype.{line_start, dots_in}
 use Rattle.bios_services.specs.Strings.{string_len, character_at, ink_at}
 use Rattle.bios_services.specs.Colours.{block_refusal, colour_refusal}
 use Rattle.bios_services.specs.Cursor.{row_of, column_of}
+use Rattle.bios_services.specs.Glyphs.{glyph_line}
 use Rattle.bios_screen.specs.Listing.{listing}
 use Rattle.bios_screen.specs.Colours.{coloured, colours_read}
 use Rattle.bios_screen.specs.Screen.{Cell, Contents, Cells, Pixels, Screen, cell_of, page_cells, page_start, place_number, cursor_place, cursor_cell}
@@ -180,6 +183,30 @@ inked mode colour old = if mode == 0x13 then colour else if is_set colour 7 then
 abbrev pub dotted : ℕ → (ℕ → ℕ) → (ℕ → ℕ) → ℕ → ℕ
 dotted n change old k = if k == n then change (old k) else old k
 
+-- the cell of a page in which its pixel k lies, eight columns wide, and the line there
+abbrev pub pixel_cell : Screen → ℕ → ℕ
+pixel_cell s k = s.layout.columns * (k / (8 * s.layout.columns) / s.layout.height) + k % (8 * s.layout.columns) / 8
+
+abbrev pub pixel_line : Screen → ℕ → ℕ
+pixel_line s k = k / (8 * s.layout.columns) % s.layout.height
+
+-- what a character makes of a pixel where its glyph has a dot, and where it has none: that becomes 0, or by XOR stays
+abbrev pub dot_inked : ℕ → ℕ → Bool → ℕ → ℕ
+dot_inked mode colour is_dot old = if is_dot then inked mode colour old else if not (mode == 0x13) && is_set colour 7 then old else 0
+
+-- count cells from the first on get a character by the font of the mode's height, and all other pixels stay
+abbrev pub drawn : FontSet → Screen → ℕ → ℕ → ℕ → ℕ → (ℕ → ℕ) → ℕ → ℕ
+drawn fonts s first count character colour old k =
+    if nat_le first (pixel_cell s k) && nat_lt (pixel_cell s k) (first + count)
+    then dot_inked s.mode colour (is_set (glyph_line fonts s.layout.height character (pixel_line s k)) (7 - k % 8)) (old k)
+    else old k
+
+-- a character is written from the cursor of a page on, to cells of text or as dots
+abbrev pub characters_written : FontSet → Screen → ℕ → CellRun → Screen
+characters_written fonts s page cells =
+    with_pixels (with_cells s (written (cursor_cell s page) cells.count cells.character cells.ink)) page
+    (drawn fonts s (place_number s (cursor_place s page)) cells.count cells.character cells.ink.colour)
+
 -- ---- typing
 
 -- a whole page that goes up by a row, with this attribute for blanks
@@ -240,23 +267,23 @@ string_typed s page call block =
 -- ---- services
 
 -- the screen after a service that is not refused
-unfoldable pub next : Screen → Service → List ℕ → Screen
-next s (SetCursorType cursor_type) block = record s { cursor_type = cursor_type }
-next s (SetCursor page place) block = with_place s (page_meant s page) place
-next s (ReadCursor page) block = s
-next s (SelectPage page) block = record s { page = page }
-next s (ScrollUp window) block = with_cells s (gone_up s s.page window)
-next s (ScrollDown window) block = with_cells s (gone_down s s.page window)
-next s (ReadCell page) block = s
-next s (WriteCells cells) block = with_cells s (written (cursor_cell s (page_meant s cells.page)) cells.count cells.character cells.ink)
-next s (WritePixel page x y colour) block = with_pixels s (page_meant s page) (dotted (pixel_number s x y) (inked s.mode colour))
-next s (ReadPixel page x y) block = s
-next s (Teletype character colour) block = typed_at_cursor s character colour
-next s ReadMode block = s
-next s (Colours service) block = coloured s service block
-next s ReadAdapter block = s
-next s (WriteString call) block = string_typed s (page_meant s call.page) call block
-next s ReadDisplay block = s
+unfoldable pub next : FontSet → Screen → Service → List ℕ → Screen
+next fonts s (SetCursorType cursor_type) block = record s { cursor_type = cursor_type }
+next fonts s (SetCursor page place) block = with_place s (page_meant s page) place
+next fonts s (ReadCursor page) block = s
+next fonts s (SelectPage page) block = record s { page = page }
+next fonts s (ScrollUp window) block = with_cells s (gone_up s s.page window)
+next fonts s (ScrollDown window) block = with_cells s (gone_down s s.page window)
+next fonts s (ReadCell page) block = s
+next fonts s (WriteCells cells) block = characters_written fonts s (page_meant s cells.page) cells
+next fonts s (WritePixel page x y colour) block = with_pixels s (page_meant s page) (dotted (pixel_number s x y) (inked s.mode colour))
+next fonts s (ReadPixel page x y) block = s
+next fonts s (Teletype character colour) block = typed_at_cursor s character colour
+next fonts s ReadMode block = s
+next fonts s (Colours service) block = coloured s service block
+next fonts s ReadAdapter block = s
+next fonts s (WriteString call) block = string_typed s (page_meant s call.page) call block
+next fonts s ReadDisplay block = s
 
 -- character and attribute at the cursor of a page, as low and high byte
 abbrev pub cell_read : Screen → ℕ → ℕ

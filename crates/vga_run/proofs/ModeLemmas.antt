@@ -1,6 +1,7 @@
 -- A service leaves the mode of a plain screen, and a mode set that clears the memory leaves its own.
 use Rattle.std.proofs.Common.{◌≡◌, ◌∙◌, ℕ, zero, suc, ◌+◌, ◌-◌, ◌==◌, Bool, true, false, List, refl, if◌then◌else◌}
 use Rattle.bios_modes.specs.declared.modes.ModeRow.{ModeRow}
+use Rattle.bios_modes.specs.Fonts.{FontSet}
 use Rattle.bios_services.specs.declared.ink.Ink.{Ink}
 use Rattle.bios_services.specs.declared.strings.StringCall.{StringCall}
 use Rattle.bios_services.specs.declared.colours.ColourService.{ColourService}
@@ -83,21 +84,21 @@ coloured_mode s (ReadEntry entry) block = refl
 coloured_mode s (SetMask mask) block = refl
 coloured_mode s ReadMask block = refl
 
-pub next_mode : (s : Screen) (service : Service) (block : List ℕ) → (next s service block).mode ≡ s.mode
+pub next_mode : (fonts : FontSet) (s : Screen) (service : Service) (block : List ℕ) → (next fonts s service block).mode ≡ s.mode
 unfolding next
-next_mode s (SetCursorType cursor_type) block = refl
-next_mode s (SetCursor page place) block = refl
-next_mode s (ReadCursor page) block = refl
-next_mode s (SelectPage page) block = refl
-next_mode s (ScrollUp window) block = refl
-next_mode s (ScrollDown window) block = refl
-next_mode s (ReadCell page) block = refl
-next_mode s (WriteCells cells) block = refl
-next_mode s (WritePixel page x y colour) block = refl
-next_mode s (ReadPixel page x y) block = refl
-next_mode s (Teletype character colour) block = typed_at_cursor_mode s character colour
-next_mode s ReadMode block = refl
-next_mode s (Colours service) block = coloured_mode s service block
-next_mode s ReadAdapter block = refl
-next_mode s (WriteString call) block = string_typed_mode s _ call block
-next_mode s ReadDisplay block = refl
+next_mode fonts s (SetCursorType cursor_type) block = refl
+next_mode fonts s (SetCursor page place) block = refl
+next_mode fonts s (ReadCursor page) block = refl
+next_mode fonts s (SelectPage page) block = refl
+next_mode fonts s (ScrollUp window) block = refl
+next_mode fonts s (ScrollDown window) block = refl
+next_mode fonts s (ReadCell page) block = refl
+next_mode fonts s (WriteCells cells) block = refl
+next_mode fonts s (WritePixel page x y colour) block = refl
+next_mode fonts s (ReadPixel page x y) block = refl
+next_mode fonts s (Teletype character colour) block = typed_at_cursor_mode s character colour
+next_mode fonts s ReadMode block = refl
+next_mode fonts s (Colours service) block = coloured_mode s service block
+next_mode fonts s ReadAdapter block = refl
+next_mode fonts s (WriteString call) block = string_typed_mode s _ call block
+next_mode fonts s ReadDisplay block = refl

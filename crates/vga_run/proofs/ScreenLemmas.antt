@@ -183,7 +183,7 @@ call_leads law (Some (ReadTable asked_for)) fonts r block m s e stays words byte
     record { reply = k.reply; shows = k.shows; text = is.text; beam = k.beam }
 call_leads law (Some (InMode asked_for)) fonts r block m s e stays words bytes glyphs is =
     let k = law.served asked_for fonts r block m.card m.bda s is.card is.bda.words words bytes is.shows (ap (λ (b : Bool). b || is_told_in_graphics s.mode asked_for) is.text) e in
-    record { reply = k.reply; shows = k.shows; text = unless_text (refused_on s asked_for (length block)) s (next s asked_for block) is.text (ap is_text (next_mode s asked_for block) ∙ is.text); beam = k.beam }
+    record { reply = k.reply; shows = k.shows; text = unless_text (refused_on s asked_for (length block)) s (next fonts s asked_for block) is.text (ap is_text (next_mode fonts s asked_for block) ∙ is.text); beam = k.beam }
 
 -- a step answers as on the screen, and leads to the next one
 record StepLeads (fonts : FontSet) (m : Machine) (s : Screen) (step : Step) : Type 0 where

@@ -5,4 +5,4 @@ pub returns-clause-read : goal.returns-clause-read
 returns-clause-read c = read_cell
 
 pub returns-clause-written : goal.returns-clause-written
-returns-clause-written c = write_cells
+returns-clause-written c = write_cells (record { out = c.bounds_stay.ensures.out; inp = c.bounds_stay.ensures.inp; put = c.bounds_stay.ensures.put; get = c.bounds_stay.ensures.get })

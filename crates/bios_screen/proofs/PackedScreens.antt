@@ -1,0 +1,97 @@
+-- Drawn memory of 256 colours as a flat list of pixels, and the screen that it shows.
+use Rattle.std.proofs.Common.{◌≡◌, ℕ, ◌+◌, ◌*◌, ◌<◌, refl, sym, ap, ◌∙◌, subst, arith, List, [], ◌∷◌, length, get_or, Some, false}
+use Rattle.std.specs.Prelude.{set, ◌==◌, ◌&&◌, if◌then◌else◌}
+use Rattle.std.specs.Str.{bytes_eq}
+use Rattle.vga_bits.specs.Four.{Four}
+use Rattle.vga_card.specs.Bounds.{IsCard}
+use Rattle.vga_card.specs.Bus.{card_meaning}
+use Rattle.vga_card.specs.Card.{CardState}
+use Rattle.bios_modes.specs.Bda.{BiosData}
+use Rattle.bios_modes.specs.Modes.{mode_row, bytes_320_by_200}
+use Rattle.bios_services.specs.ModeSet.{is_text}
+use Rattle.bios_services.specs.Plan.{run, put}
+use Rattle.bios_screen.specs.Listing.{listing}
+use Rattle.bios_screen.specs.Screen.{Pixels, Screen}
+use Rattle.bios_screen.specs.Shown.{crtc_shown, shows_attribute, packed_pixel, planar_pixel, pixel_in, pixels_in, pixel_pages, page_pixels, screen_by, pixel_screen, shown}
+use Rattle.bios_screen.specs.Step.{pixel_of, with_pixels}
+use Rattle.bios_screen.proofs.Flat.{set_cell}
+use Rattle.bios_screen.proofs.ListLemmas.{same_from_0, length_listing}
+use Rattle.bios_screen.proofs.Kept.{KeepsBounds, plan_bounds}
+use Rattle.bios_screen.proofs.Setting.{Setting, setting, with_memory}
+use Rattle.bios_screen.proofs.Shows.{AllTests}
+use Rattle.bios_screen.proofs.PixelModes.{setting_in}
+use Rattle.bios_screen.proofs.PixelModes.Graphics.{Many}
+use Rattle.bios_screen.proofs.PixelShows.{pixels_shown_of}
+use Rattle.bios_screen.proofs.PixelDots.{pixel_at}
+use Rattle.bios_screen.proofs.AnyShows.{setting_by}
+use Rattle.bios_screen.proofs.PackedDots.{IsPacked}
+use Rattle.bios_screen.proofs.PackedPixels.{put_is, pixel_put, packed_memory}
+use Rattle.bios_screen.proofs.PlanarHands.{without_drawing}
+
+-- the adapter is in the setting of 256 colours, and its pixels are these
+pub record IsFlat (rest : CardState) (c : CardState) (f : ℕ → ℕ) : Type 0 where
+  pub mode : setting c ≡ setting_in Many
+  pub bounds : IsCard c
+  pub cell : (k : ℕ) → packed_pixel c.host.memory k ≡ f k
+  pub others : without_drawing c ≡ rest
+
+-- a Put changes one of them
+pub put_flat : (law : KeepsBounds) (rest : CardState) (n v : ℕ) (c : CardState) (f : ℕ → ℕ) → n < 65536 → v < 256 → IsFlat rest c f → IsFlat rest (run card_meaning (put (0xA0000 + n) v) c).0 (set_cell f n v)
+put_flat law rest n v c f l lv t =
+    let after = put_is c n v t.mode l lv in
+    let still : IsFlat rest (with_memory c (packed_memory c.host.memory n v)) (set_cell f n v) = record {
+      mode = t.mode;
+      bounds = subst IsCard after (plan_bounds law (put (0xA0000 + n) v) c t.bounds);
+      cell = λ k. pixel_put c.host.memory n v k t.bounds.host.memory.size l ∙ ap (λ x. if k == n then v else x) (t.cell k);
+      others = t.others;
+    } in
+    subst (λ x. IsFlat rest x (set_cell f n v)) (sym after) still
+
+module _ (c : CardState) (d : BiosData) (t : IsPacked c d) (e : mode_row d.mode ≡ Some bytes_320_by_200) (z : IsCard c) where
+  abbrev s : Screen
+  s = pixel_screen bytes_320_by_200 c d
+
+  text : is_text d.mode ≡ false
+  text = ap is_text t.number
+
+  setting_is : setting c ≡ setting_in Many
+  setting_is = setting_by bytes_320_by_200 c d t.tests
+
+  pub begins : IsFlat (without_drawing c) c (packed_pixel c.host.memory)
+  begins = record { mode = setting_is; bounds = z; cell = λ k. refl; others = refl }
+
+  pub all_pixels : page_pixels d ≡ 64000
+  all_pixels = ap (λ i. 8 * i * (d.height * (d.last_row + 1))) t.has.columns ∙ ap (λ i. 320 * (i * (d.last_row + 1))) t.has.height ∙ ap (λ i. 320 * (8 * (i + 1))) t.has.last_row
+
+  -- a pixel of the page, in memory that shows it
+  pixel_by : (m : Four (List ℕ)) (k : ℕ) → pixel_in d.mode m (d.size * 0) k ≡ packed_pixel m k
+  pixel_by m k =
+      let at : d.size * 0 + k ≡ k = omega arith in
+      ap (λ i. if i == 0x13 then packed_pixel m (d.size * 0 + k) else planar_pixel m (d.size * 0) k) t.number ∙ ap (packed_pixel m) at
+
+  pub pixel_is : (k : ℕ) → k < page_pixels d → pixel_of s 0 k ≡ packed_pixel c.host.memory k
+  pixel_is k l = pixel_at d.mode c.host.memory d.size (page_pixels d) 1 0 k (omega arith) l ∙ pixel_by c.host.memory k
+
+  -- what the adapter shows where the page has other pixels
+  pub page_redrawn : (y : CardState) (f : ℕ → ℕ) (change : (ℕ → ℕ) → ℕ → ℕ) → IsFlat (without_drawing c) y f → ((k : ℕ) → k < page_pixels d → f k ≡ change (pixel_of s 0) k) → shown y d ≡ Some (with_pixels s 0 change)
+  unfolding pixel_pages pixels_in
+  page_redrawn y f change h inside =
+      let a = t.tests in
+      let same_setting : setting y ≡ setting c = h.mode ∙ sym setting_is in
+      let row = bytes_320_by_200 in
+      let n = page_pixels d in
+      let old = pixel_pages d.mode c.host.memory d.size n 1 in
+      let registers : y.crtc.registers ≡ c.crtc.registers = ap (λ (x : CardState). x.crtc.registers) h.others in
+      let tests : AllTests row y d = record {
+        memory = ap (λ (x : Setting). (x.misc == row.misc) && (bytes_eq x.seq row.sequencer && bytes_eq x.gfx row.graphics)) same_setting ∙ a.memory;
+        data_test = a.data_test;
+        crtc = registers ∙ a.crtc ∙ ap (crtc_shown row d) (sym registers);
+        attribute = ap (λ (x : CardState). shows_attribute row x.attr) h.others ∙ a.attribute;
+      } in
+      let long : length (get_or old 0 []) ≡ n = length_listing (pixel_in d.mode c.host.memory (d.size * 0)) 0 n in
+      let page : pixels_in d.mode y.host.memory (d.size * 0) n ≡ listing (change (pixel_of s 0)) 0 (length (get_or old 0 [])) =
+      same_from_0 (change (pixel_of s 0)) (pixel_in d.mode y.host.memory (d.size * 0)) n (λ k l. pixel_by y.host.memory k ∙ h.cell k ∙ inside k l)
+      ∙ ap (listing (change (pixel_of s 0)) 0) (sym long) in
+      pixels_shown_of y d row e text tests
+      ∙ ap (λ x. Some (screen_by row y d 0 (Pixels (x ∷ [])) [])) page
+      ∙ ap (λ (x : CardState). Some (screen_by row x d 0 (Pixels (set old 0 (listing (change (pixel_of s 0)) 0 (length (get_or old 0 []))))) [])) h.others

@@ -1,0 +1,61 @@
+-- Functions 09 and 0A in graphics: what a loop of characters leaves is the next screen.
+use Rattle.std.proofs.Common.{◌≡◌, ℕ, ◌+◌, ◌<◌, ◌≤◌, ap, ◌∙◌, List, Option, Some, None}
+use Rattle.std.specs.Prelude.{◌==◌, nat_lt, nat_le, if◌then◌else◌}
+use Rattle.vga_bits.specs.declared.refusal.Refusal.{Refusal}
+use Rattle.vga_bits.specs.declared.refusal.Refusal.TheVariants.{BadPage, Outside, CountPast}
+use Rattle.vga_card.specs.Bus.{card_meaning}
+use Rattle.vga_card.specs.Card.{CardState}
+use Rattle.bios_modes.specs.declared.modes.ModeRow.{ModeRow}
+use Rattle.bios_modes.specs.Modes.{mode_row}
+use Rattle.bios_modes.specs.Bda.{BiosData}
+use Rattle.bios_modes.specs.Fonts.{FontSet}
+use Rattle.bios_services.specs.declared.regs.Regs.{Regs}
+use Rattle.bios_services.specs.declared.cell_run.CellRun.{CellRun}
+use Rattle.bios_services.specs.declared.call.Service.TheVariants.{WriteCells}
+use Rattle.bios_services.specs.Bounds.{pages_in}
+use Rattle.bios_services.specs.Cells.{cells_of}
+use Rattle.bios_services.specs.CellRuns.{cell_run_plan}
+use Rattle.bios_services.specs.Cursor.{cell_number, place_of}
+use Rattle.bios_services.specs.Drawing.{characters_plan}
+use Rattle.bios_services.specs.Plan.{Plan, run, Done, ◌>>◌}
+use Rattle.bios_services.specs.Refusals.{page_named, count_refusal, refusal_in_mode}
+use Rattle.bios_services.specs.Service.{plan_of, Outcome}
+use Rattle.bios_screen.specs.Screen.{Screen}
+use Rattle.bios_screen.specs.Shown.{pixel_screen, shown}
+use Rattle.bios_screen.specs.Step.{page_meant, count_refused, refused_on, next, answer_on, with_pixels, drawn}
+use Rattle.bios_screen.specs.Served.{IsServed}
+use Rattle.bios_screen.proofs.PlanLemmas.{run_bind}
+use Rattle.bios_screen.proofs.Kept.{plan_beam}
+use Rattle.bios_screen.proofs.Writes.{count_allowed}
+
+module _ (row : ModeRow) (c : CardState) (d : BiosData) (e : mode_row d.mode ≡ Some row) where
+  abbrev s : Screen
+  s = pixel_screen row c d
+
+  page_is : (page : ℕ) → page_named d page ≡ page_meant s page
+  page_is page = ap (λ (x : Option ModeRow). if pages_in x == 1 then 0 else page) e
+
+  refusal_is : (page count : ℕ) → count_refusal d (page_named d page) count ≡ count_refused s (page_meant s page) count
+  refusal_is page count =
+      ap (λ p. count_refusal d p count) (page_is page)
+      ∙ ap (λ (x : Option ModeRow). let y : Option Refusal = (if nat_lt (page_meant s page) (pages_in x) then (if nat_lt (cell_number d (place_of d (page_meant s page))) (cells_of d) then (if nat_le (cell_number d (place_of d (page_meant s page)) + count) (cells_of d) then None else Some CountPast) else Some Outside) else Some BadPage) in y) e
+
+  pub write_cells : (cells : CellRun) (fonts : FontSet) (r : Regs) (block : List ℕ)
+      → ((p q : ℕ) → p < row.pages → q + cells.count ≤ cells_of d → shown (run card_meaning (characters_plan fonts d p q cells.character cells.ink cells.count) c).0 d ≡ Some (with_pixels s p (drawn fonts s q cells.count cells.character cells.ink.colour)))
+      → IsServed (WriteCells cells) fonts r block c d s
+  unfolding plan_of refusal_in_mode refused_on next answer_on
+  write_cells cells fonts r block shows =
+      let p = page_meant s cells.page in
+      let plan = cell_run_plan fonts d (page_named d cells.page) cells in
+      let done : Plan Outcome = Done (r, d) in
+      let runs = run_bind card_meaning plan (λ _. done) c in
+      record {
+        refusal = refusal_is cells.page cells.count;
+        answer = λ _. ap (λ q. q.1.0) runs;
+        shows = λ allowed.
+            let h = count_allowed row.pages p (cell_number d (place_of d p)) cells.count (cells_of d) allowed in
+            ap (λ q. shown q.0 q.1.1) runs
+            ∙ ap (λ i. shown (run card_meaning (cell_run_plan fonts d i cells) c).0 d) (page_is cells.page)
+            ∙ shows p (cell_number d (place_of d p)) h.page h.within;
+        beam = plan_beam (plan >> done) c;
+      }
