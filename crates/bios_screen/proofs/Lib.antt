@@ -62,5 +62,10 @@ pub mod PixelWrites
 pub mod PlanarWrites
 pub mod PackedScreens
 pub mod PackedWrites
+pub mod WindowShifts
+pub mod PlanarWindows
+pub mod PixelWindows
+pub mod PlanarScrolls
+pub mod PackedScrolls
 pub mod Coloured
 pub mod ReadingLemmas

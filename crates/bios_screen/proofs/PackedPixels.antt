@@ -52,7 +52,7 @@ use Rattle.bios_screen.proofs.PackedDots.{IsPacked}
 some_none : (why : Refusal) → Some why ≡ None → ⊥
 some_none why w = absurd (cc)
 
-decoded : (h : HostState) (n : ℕ) → n < 65536 → is_decoded (host_at h (setting_in Many)) 0x63 (0xA0000 + n) ≡ true
+pub decoded : (h : HostState) (n : ℕ) → n < 65536 → is_decoded (host_at h (setting_in Many)) 0x63 (0xA0000 + n) ≡ true
 decoded h n l = grind (arith, nat_tests)
 
 window_is : (h : HostState) (n : ℕ) → n < 65536 → window_offset (host_at h (setting_in Many)) (0xA0000 + n) ≡ n
@@ -131,7 +131,7 @@ byte_of_plane m o (suc (suc zero)) l = refl
 byte_of_plane m o (suc (suc (suc zero))) l = refl
 byte_of_plane m o (suc (suc (suc (suc p)))) l = absurd (omega arith)
 
-byte_read : (h : HostState) (n : ℕ) → n < 65536 → packed_pixel h.memory n < 256 → read_byte (host_at h (setting_in Many)) (0xA0000 + n) ≡ packed_pixel h.memory n
+pub byte_read : (h : HostState) (n : ℕ) → n < 65536 → packed_pixel h.memory n < 256 → read_byte (host_at h (setting_in Many)) (0xA0000 + n) ≡ packed_pixel h.memory n
 unfolding byte_of read_bit
 byte_read h n l b =
     let w = window_offset (host_at h (setting_in Many)) (0xA0000 + n) in

@@ -3,7 +3,7 @@ use Rattle.std.proofs.Common.{◌≡◌, ℕ, ◌+◌, ◌*◌, ◌/◌, ◌%◌
 use Rattle.std.proofs.Math.Nat.{mod-lt}
 use Rattle.std.proofs.lemmas.Bool.{cases_lt}
 use Rattle.std.proofs.lemmas.Nat.{div-mul-add, mod-mul-add, mul-add-lt, mul-le}
-use Rattle.bios_screen.proofs.Places.{row_and_column}
+use Rattle.bios_screen.proofs.Places.{rows_further, row_and_column}
 
 -- the cell of strip b of a page, of which w make a line, and the line there, where a character has h lines
 abbrev pub cell_of : ℕ → ℕ → ℕ → ℕ
@@ -16,10 +16,10 @@ line_of w h b = b / w % h
 abbrev pub strip_at : ℕ → ℕ → ℕ → ℕ → ℕ
 strip_at w h q r = w * (h * (q / w) + r) + q % w
 
-over : (w a b : ℕ) → b < w → (w * a + b) / w ≡ a
+pub over : (w a b : ℕ) → b < w → (w * a + b) / w ≡ a
 over w a b l = let e : w * a + b ≡ a * w + b = omega arith in ap (λ n. n / w) e ∙ div-mul-add a w b l
 
-rest : (w a b : ℕ) → b < w → (w * a + b) % w ≡ b
+pub rest : (w a b : ℕ) → b < w → (w * a + b) % w ≡ b
 rest w a b l = let e : w * a + b ≡ a * w + b = omega arith in ap (λ n. n % w) e ∙ mod-mul-add a w b l
 
 pub strip_of_cell : (w h b : ℕ) → 0 < w → 0 < h → strip_at w h (cell_of w h b) (line_of w h b) ≡ b
@@ -79,3 +79,29 @@ pixel_cell_is w h k lw = ap (λ n. w * (n / h) + k % (8 * w) / 8) (line_by_8 w k
 
 pub pixel_line_is : (w h k : ℕ) → 0 < w → k / (8 * w) % h ≡ line_of w h (k / 8)
 pixel_line_is w h k lw = ap (λ n. n % h) (line_by_8 w k lw)
+
+-- a strip of one of the first rows, and one that lies some rows below it
+pub within_rows : (w h rows b : ℕ) → 0 < w → 0 < h → b / w / h < rows → b < w * (h * rows)
+within_rows w h rows b lw lh l =
+    let y = row_and_column h (b / w) lh in
+    let x = row_and_column w b lw in
+    let g = mul-add-lt (b / w / h) h (b / w % h) rows l (mod-lt (b / w) lh) in
+    let a = mul-add-lt (b / w) w (b % w) (h * rows) (omega arith) (mod-lt b lw) in
+    omega arith
+
+pub moved_within : (w h rows b n : ℕ) → 0 < w → 0 < h → b / w / h + n < rows → b + w * (h * n) < w * (h * rows)
+moved_within w h rows b n lw lh l =
+    let first = b / w / h + 1 in
+    let a = within_rows w h first b lw lh (omega arith) in
+    let g = rows_further h first n in
+    let f : w * (h * (first + n)) ≡ w * (h * first) + w * (h * n) = ap (λ v. w * v) g ∙ rows_further w (h * first) (h * n) in
+    let e = mul-le w (h * (first + n)) w (h * rows) (omega arith) (mul-le h (first + n) h rows (omega arith) (omega arith)) in
+    omega arith
+
+-- as many rows as lie above a strip are no more strips than its number
+pub rows_above : (w h b n : ℕ) → 0 < w → 0 < h → n ≤ b / w / h → w * (h * n) ≤ b
+rows_above w h b n lw lh l =
+    let y = row_and_column h (b / w) lh in
+    let x = row_and_column w b lw in
+    let e = mul-le w (h * n) w (b / w) (omega arith) (let g = mul-le h n h (b / w / h) (omega arith) l in omega arith) in
+    omega arith

@@ -3,8 +3,9 @@ use Rattle.std.proofs.Common.{◌≡◌, ℕ, refl, List, [], ◌∷◌, Some, N
 use Rattle.vga_bits.specs.Four.{Four}
 use Rattle.vga_bits.specs.declared.refusal.Refusal.TheVariants.{Outside}
 use Rattle.bios_modes.specs.Fonts.{FontSet}
+use Rattle.bios_services.specs.declared.scroll.Scroll.{Scroll}
 use Rattle.bios_services.specs.declared.cell_run.CellRun.{CellRun}
-use Rattle.bios_services.specs.declared.call.Service.TheVariants.{WriteCells, WritePixel, ReadPixel}
+use Rattle.bios_services.specs.declared.call.Service.TheVariants.{ScrollUp, ScrollDown, WriteCells, WritePixel, ReadPixel}
 use Rattle.bios_screen.specs.Screen.{Pixels, Screen}
 use Rattle.bios_screen.specs.Shown.{planar_pixel, packed_pixel}
 use Rattle.bios_screen.specs.Parts.{cell_at, pixel_at}
@@ -131,6 +132,24 @@ drawn_over = refl
 drawn_packed : pixels (next fonts (shown 0x13) (WriteCells (character 0x83)) []) ≡ (0x83 ∷ 0x83 ∷ 0 ∷ 0 ∷ 0 ∷ 0 ∷ 0 ∷ 0x83 ∷ 0x83 ∷ 0 ∷ 0 ∷ 0 ∷ 0 ∷ 0 ∷ 0 ∷ 0 ∷ []) ∷ []
 unfolding next
 drawn_packed = refl
+
+-- a screen of three rows of one line each, of which the window has the second and the third; it goes up and down by one row
+abbrev tall : ℕ → Screen
+tall mode = record (shown mode) {
+  layout = record { columns = 1; rows = 3; height = 1; distance = 0; pages = 1 };
+  contents = Pixels ((1 ∷ 1 ∷ 1 ∷ 1 ∷ 1 ∷ 1 ∷ 1 ∷ 1 ∷ 2 ∷ 3 ∷ 2 ∷ 2 ∷ 2 ∷ 2 ∷ 2 ∷ 2 ∷ 3 ∷ 4 ∷ 3 ∷ 3 ∷ 3 ∷ 3 ∷ 3 ∷ 3 ∷ []) ∷ []);
+}
+
+abbrev lower : Scroll
+lower = record { lines = 1; fill = 0x15; top = 1; left = 0; bottom = 2; right = 0 }
+
+up : pixels (next fonts (tall 0x10) (ScrollUp lower) []) ≡ (1 ∷ 1 ∷ 1 ∷ 1 ∷ 1 ∷ 1 ∷ 1 ∷ 1 ∷ 3 ∷ 4 ∷ 3 ∷ 3 ∷ 3 ∷ 3 ∷ 3 ∷ 3 ∷ 5 ∷ 5 ∷ 5 ∷ 5 ∷ 5 ∷ 5 ∷ 5 ∷ 5 ∷ []) ∷ []
+unfolding next
+up = refl
+
+down : pixels (next fonts (tall 0x13) (ScrollDown lower) []) ≡ (1 ∷ 1 ∷ 1 ∷ 1 ∷ 1 ∷ 1 ∷ 1 ∷ 1 ∷ 0x15 ∷ 0x15 ∷ 0x15 ∷ 0x15 ∷ 0x15 ∷ 0x15 ∷ 0x15 ∷ 0x15 ∷ 2 ∷ 3 ∷ 2 ∷ 2 ∷ 2 ∷ 2 ∷ 2 ∷ 2 ∷ []) ∷ []
+unfolding next
+down = refl
 
 -- a pixel is answered in the low byte, and one outside is refused
 answered : answer_on (shown 0x13) (ReadPixel 0 2 0) (record { ax = 0x0D00; bx = 0; cx = 2; dx = 0 }) ≡ record { ax = 0x0D03; bx = 0; cx = 2; dx = 0 }

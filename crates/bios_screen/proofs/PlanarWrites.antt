@@ -45,12 +45,12 @@ use Rattle.bios_screen.proofs.PlanarScreens as screens
 use Rattle.bios_screen.proofs.PlanarReads.{enabled_by}
 use Rattle.bios_screen.proofs.PixelWrites as writes
 
-kind_by : (m : Planes) → kind_of (number_of m) ≡ Planar
+pub kind_by : (m : Planes) → kind_of (number_of m) ≡ Planar
 kind_by Low = refl
 kind_by Middle = refl
 kind_by High = refl
 
-base_by : (m : Planes) → page_base (number_of m) ≡ 0xA0000
+pub base_by : (m : Planes) → page_base (number_of m) ≡ 0xA0000
 base_by Low = refl
 base_by Middle = refl
 base_by High = refl
@@ -109,10 +109,10 @@ module _ (law : KeepsBounds) (m : Planes) (c : CardState) (d : BiosData) (t : Is
   abbrev clocking : ℕ
   clocking = slice_index (row_of m).sequencer 1
 
-  wide : 0 < w
+  pub wide : 0 < w
   wide = subst (λ n. 0 < n) (sym t.has.columns) (wide_by m)
 
-  high : 0 < h
+  pub high : 0 < h
   high = subst (λ n. 0 < n) (sym t.has.height) (high_by m)
 
   -- the place of line r of cell q of a page

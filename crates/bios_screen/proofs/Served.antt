@@ -26,6 +26,8 @@ use Rattle.bios_screen.proofs.PlanarReads as planar_reads
 use Rattle.bios_screen.proofs.PlanarDots as planar_dots
 use Rattle.bios_screen.proofs.PlanarWrites as planar_writes
 use Rattle.bios_screen.proofs.PackedWrites as packed_writes
+use Rattle.bios_screen.proofs.PlanarScrolls as planar_scrolls
+use Rattle.bios_screen.proofs.PackedScrolls as packed_scrolls
 use Rattle.bios_screen.proofs.PixelModes.{Planes, Graphics, row_of, row_in, number_in, graphics_row}
 use Rattle.bios_screen.proofs.PixelModes.Graphics.{Sixteen, Many}
 use Rattle.bios_modes.specs.declared.modes.ModeRow.{ModeRow}
@@ -127,11 +129,11 @@ read_cell page = serves (ReadCell page) (λ mode. refl) (λ fonts r block c d h 
 pub write_cells : KeepsBounds → (cells : CellRun) → cells.character < 256 → cells.ink.colour < 256 → Serves (WriteCells cells)
 write_cells law cells lv la = serves_each (WriteCells cells) (λ fonts r block c d h z. writes.write_cells cells fonts r block c d h z lv la) (λ m fonts r block c d t e z. planar_writes.write_cells law m c d t e z cells fonts r block) (λ fonts r block c d t e z. packed_writes.write_cells law c d t e z cells fonts r block la)
 
-pub scroll_up : (window : Scroll) → window.fill < 256 → Serves (ScrollUp window)
-scroll_up window l = serves (ScrollUp window) (λ mode. refl) (λ fonts r block c d h bytes z bda. windows.scroll_up window fonts r block c d h z l)
+pub scroll_up : KeepsBounds → (window : Scroll) → window.fill < 256 → Serves (ScrollUp window)
+scroll_up law window l = serves_each (ScrollUp window) (λ fonts r block c d h z. windows.scroll_up window fonts r block c d h z l) (λ m fonts r block c d t e z. planar_scrolls.scroll_up law m c d t e z window fonts r block) (λ fonts r block c d t e z. packed_scrolls.scroll_up law c d t e z window l fonts r block)
 
-pub scroll_down : (window : Scroll) → window.fill < 256 → Serves (ScrollDown window)
-scroll_down window l = serves (ScrollDown window) (λ mode. refl) (λ fonts r block c d h bytes z bda. windows.scroll_down window fonts r block c d h z l)
+pub scroll_down : KeepsBounds → (window : Scroll) → window.fill < 256 → Serves (ScrollDown window)
+scroll_down law window l = serves_each (ScrollDown window) (λ fonts r block c d h z. windows.scroll_down window fonts r block c d h z l) (λ m fonts r block c d t e z. planar_scrolls.scroll_down law m c d t e z window fonts r block) (λ fonts r block c d t e z. packed_scrolls.scroll_down law c d t e z window l fonts r block)
 
 pub teletype : KeepsBounds → (character colour : ℕ) → character < 256 → colour < 256 → Serves (Teletype character colour)
 teletype law character colour l k = serves (Teletype character colour) (λ mode. refl) (λ fonts r block c d h bytes z bda. teletypes.teletype law character colour fonts r block c d h l k z bda)

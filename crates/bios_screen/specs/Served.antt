@@ -11,7 +11,7 @@ use Rattle.bios_modes.specs.Fonts.{FontSet}
 use Rattle.bios_services.specs.declared.reply.Table.TheVariants.{Empty}
 use Rattle.bios_services.specs.declared.call.Call.TheVariants.{SetMode}
 use Rattle.bios_services.specs.declared.call.Service.{Service}
-use Rattle.bios_services.specs.declared.call.Service.TheVariants.{SetCursorType, SetCursor, ReadCursor, SelectPage, WriteCells, WritePixel, ReadPixel, ReadMode, Colours, ReadAdapter, ReadDisplay}
+use Rattle.bios_services.specs.declared.call.Service.TheVariants.{SetCursorType, SetCursor, ReadCursor, SelectPage, ScrollUp, ScrollDown, WriteCells, WritePixel, ReadPixel, ReadMode, Colours, ReadAdapter, ReadDisplay}
 use Rattle.bios_services.specs.declared.colours.ColourService.{ColourService}
 use Rattle.bios_services.specs.declared.colours.ColourService.TheVariants.{SetOverscan}
 use Rattle.bios_services.specs.Plan.{run}
@@ -41,7 +41,7 @@ FitsBytes (SetOverscan value) = value < 256
 FitsBytes service = Unit {0}
 
 -- whether the laws tell of a service in a mode of graphics too, so far of those that look at no pixel, of a pixel that is written
--- or read, and of characters that are written
+-- or read, of characters that are written and of windows that go up or down
 abbrev pub is_told_in_graphics : ℕ → Service → Bool
 is_told_in_graphics mode (SetCursorType cursor_type) = true
 is_told_in_graphics mode (SetCursor page place) = true
@@ -51,6 +51,8 @@ is_told_in_graphics mode ReadMode = true
 is_told_in_graphics mode (Colours service) = true
 is_told_in_graphics mode ReadAdapter = true
 is_told_in_graphics mode ReadDisplay = true
+is_told_in_graphics mode (ScrollUp window) = true
+is_told_in_graphics mode (ScrollDown window) = true
 is_told_in_graphics mode (WriteCells cells) = true
 is_told_in_graphics mode (WritePixel page x y colour) = true
 is_told_in_graphics mode (ReadPixel page x y) = true

@@ -183,9 +183,16 @@ inked mode colour old = if mode == 0x13 then colour else if is_set colour 7 then
 abbrev pub dotted : ℕ → (ℕ → ℕ) → (ℕ → ℕ) → ℕ → ℕ
 dotted n change old k = if k == n then change (old k) else old k
 
--- the cell of a page in which its pixel k lies, eight columns wide, and the line there
+-- the row and the column of characters in which pixel k of a page lies, of which each column has eight pixels
+abbrev pub pixel_row : Screen → ℕ → ℕ
+pixel_row s k = k / (8 * s.layout.columns) / s.layout.height
+
+abbrev pub pixel_column : Screen → ℕ → ℕ
+pixel_column s k = k % (8 * s.layout.columns) / 8
+
+-- its cell, and the line there
 abbrev pub pixel_cell : Screen → ℕ → ℕ
-pixel_cell s k = s.layout.columns * (k / (8 * s.layout.columns) / s.layout.height) + k % (8 * s.layout.columns) / 8
+pixel_cell s k = s.layout.columns * pixel_row s k + pixel_column s k
 
 abbrev pub pixel_line : Screen → ℕ → ℕ
 pixel_line s k = k / (8 * s.layout.columns) % s.layout.height
@@ -206,6 +213,34 @@ abbrev pub characters_written : FontSet → Screen → ℕ → CellRun → Scree
 characters_written fonts s page cells =
     with_pixels (with_cells s (written (cursor_cell s page) cells.count cells.character cells.ink)) page
     (drawn fonts s (place_number s (cursor_place s page)) cells.count cells.character cells.ink.colour)
+
+-- whether pixel k of a page is in a window
+abbrev pub has_pixel : Screen → Scroll → ℕ → Bool
+has_pixel s w k =
+    nat_le w.top (pixel_row s k) && (nat_lt (pixel_row s k) (w.top + window_rows s w)
+    && (nat_le w.left (pixel_column s k) && nat_lt (pixel_column s k) (w.left + window_columns s w)))
+
+-- how many pixels lie between one and that so many rows of characters below it
+abbrev pub row_pixels : Screen → ℕ → ℕ
+row_pixels s rows = 8 * s.layout.columns * (s.layout.height * rows)
+
+-- a window's colour as a pixel
+abbrev pub filling : ℕ → ℕ → ℕ
+filling mode colour = if mode == 0x13 then colour else colour % 16
+
+-- the window goes up: a pixel takes what stood some rows of characters below it, the last rows get the colour, and all outside stays
+abbrev pub pixels_up : Screen → Scroll → (ℕ → ℕ) → ℕ → ℕ
+pixels_up s w old k =
+    if has_pixel s w k
+    then (if nat_lt (pixel_row s k + window_lines s w) (w.top + window_rows s w) then old (k + row_pixels s (window_lines s w)) else filling s.mode w.fill)
+    else old k
+
+-- the window goes down: a pixel takes what stood some rows of characters above it, the first rows get the colour, and all outside stays
+abbrev pub pixels_down : Screen → Scroll → (ℕ → ℕ) → ℕ → ℕ
+pixels_down s w old k =
+    if has_pixel s w k
+    then (if nat_le (w.top + window_lines s w) (pixel_row s k) then old (k - row_pixels s (window_lines s w)) else filling s.mode w.fill)
+    else old k
 
 -- ---- typing
 
@@ -272,8 +307,8 @@ next fonts s (SetCursorType cursor_type) block = record s { cursor_type = cursor
 next fonts s (SetCursor page place) block = with_place s (page_meant s page) place
 next fonts s (ReadCursor page) block = s
 next fonts s (SelectPage page) block = record s { page = page }
-next fonts s (ScrollUp window) block = with_cells s (gone_up s s.page window)
-next fonts s (ScrollDown window) block = with_cells s (gone_down s s.page window)
+next fonts s (ScrollUp window) block = with_pixels (with_cells s (gone_up s s.page window)) s.page (pixels_up s window)
+next fonts s (ScrollDown window) block = with_pixels (with_cells s (gone_down s s.page window)) s.page (pixels_down s window)
 next fonts s (ReadCell page) block = s
 next fonts s (WriteCells cells) block = characters_written fonts s (page_meant s cells.page) cells
 next fonts s (WritePixel page x y colour) block = with_pixels s (page_meant s page) (dotted (pixel_number s x y) (inked s.mode colour))

@@ -63,11 +63,13 @@ pub fn cells_are_served()
     bounds_stay();
 }
 
-/// Functions 06 and 07: a window of the active page goes up or down.
+/// Functions 06 and 07: a window of the active page goes up or down, in graphics by its pixels.
 pub fn windows_are_served()
     ensures up { (window : Scroll) → window.fill < 256 → Serves (ScrollUp window) }
     ensures down { (window : Scroll) → window.fill < 256 → Serves (ScrollDown window) }
-{}
+{
+    bounds_stay();
+}
 
 /// Functions 0E and 13: a character is typed at the cursor of the active page, and a string from a place on.
 pub fn typing_is_served()
