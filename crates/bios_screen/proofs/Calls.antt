@@ -85,7 +85,7 @@ asked_is_served law r w =
     (choose (high r.ax == 0x05) _ _ (served.select_page (low r.ax))
     (choose (high r.ax == 0x06) _ _ (served.scroll_up law (scroll_of r) (high_small r.bx w.bx))
     (choose (high r.ax == 0x07) _ _ (served.scroll_down law (scroll_of r) (high_small r.bx w.bx))
-    (choose (high r.ax == 0x08) _ _ (served.read_cell (high r.bx))
+    (choose (high r.ax == 0x08) _ _ (served.read_cell law (high r.bx))
     (choose (high r.ax == 0x09) _ _ (served.write_cells law (cell_run_of r true) (low_small r.ax) (low_small r.bx))
     (choose (high r.ax == 0x0A) _ _ (served.write_cells law (cell_run_of r false) (low_small r.ax) (low_small r.bx))
     (choose (high r.ax == 0x0C) _ _ (served.write_pixel law (high r.bx) r.cx r.dx (low r.ax) (low_small r.ax))
@@ -101,7 +101,7 @@ asked_is_served law r w =
 
 -- what a service's plan leaves, wrapped as an answer of a call
 pub record IsDone (service : Service) (fonts : FontSet) (r : Regs) (block : List ℕ) (c : CardState) (d : BiosData) (s : Screen) (x : CardState × Answered) : Type 0 where
-  pub reply : x.1.0 ≡ reply_unless (refused_on s service (length block)) (answer_on s service r)
+  pub reply : x.1.0 ≡ reply_unless (refused_on s service (length block)) (answer_on fonts s service r)
   pub shows : shown x.0 x.1.1 ≡ Some (screen_unless (refused_on s service (length block)) s (next fonts s service block))
 
 done_unless : (service : Service) (fonts : FontSet) (r : Regs) (block : List ℕ) (c : CardState) (d : BiosData) (s : Screen) → shown c d ≡ Some s → IsServed service fonts r block c d s → IsDone service fonts r block c d s (run card_meaning (unless (refused_on s service (length block)) service fonts d r block) c)
@@ -115,14 +115,14 @@ done_unless service fonts r block c d s old i = by_refusal (refused_on s service
     by_refusal (Some why) e =
         let runs : run card_meaning (unless (refused_on s service (length block)) service fonts d r block) c ≡ (c, (Err why, d)) = ap (λ x. run card_meaning (unless x service fonts d r block) c) e in
         record {
-          reply = ap (λ x. x.1.0) runs ∙ sym (ap (λ x. reply_unless x (answer_on s service r)) e);
+          reply = ap (λ x. x.1.0) runs ∙ sym (ap (λ x. reply_unless x (answer_on fonts s service r)) e);
           shows = ap (λ x. shown x.0 x.1.1) runs ∙ old ∙ sym (ap (λ x. Some (screen_unless x s (next fonts s service block))) e);
         }
     by_refusal None e =
         let runs : run card_meaning (unless (refused_on s service (length block)) service fonts d r block) c ≡ run card_meaning (plan_of service fonts d r block >>= done) c = ap (λ x. run card_meaning (unless x service fonts d r block) c) e in
         let bound = run_bind card_meaning (plan_of service fonts d r block) done c in
         record {
-          reply = ap (λ x. x.1.0) (runs ∙ bound) ∙ ap (λ q. reply_unless None q) (i.answer e) ∙ sym (ap (λ x. reply_unless x (answer_on s service r)) e);
+          reply = ap (λ x. x.1.0) (runs ∙ bound) ∙ ap (λ q. reply_unless None q) (i.answer e) ∙ sym (ap (λ x. reply_unless x (answer_on fonts s service r)) e);
           shows = ap (λ x. shown x.0 x.1.1) (runs ∙ bound) ∙ i.shows e ∙ sym (ap (λ x. Some (screen_unless x s (next fonts s service block))) e);
         }
 

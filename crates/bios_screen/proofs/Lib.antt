@@ -67,5 +67,9 @@ pub mod PlanarWindows
 pub mod PixelWindows
 pub mod PlanarScrolls
 pub mod PackedScrolls
+pub mod PlanarGlyphs
+pub mod PixelReads
+pub mod PlanarCells
+pub mod PackedCells
 pub mod Coloured
 pub mod ReadingLemmas

@@ -95,3 +95,24 @@ module _ (c : CardState) (d : BiosData) (t : IsPacked c d) (e : mode_row d.mode 
       pixels_shown_of y d row e text tests
       ∙ ap (λ x. Some (screen_by row y d 0 (Pixels (x ∷ [])) [])) page
       ∙ ap (λ (x : CardState). Some (screen_by row x d 0 (Pixels (set old 0 (listing (change (pixel_of s 0)) 0 (length (get_or old 0 []))))) [])) h.others
+
+  -- and where all pixels are as they were, the screen stays
+  pub stays : (y : CardState) → IsFlat (without_drawing c) y (packed_pixel c.host.memory) → shown y d ≡ Some s
+  unfolding pixel_pages pixels_in
+  stays y h =
+      let a = t.tests in
+      let same_setting : setting y ≡ setting c = h.mode ∙ sym setting_is in
+      let row = bytes_320_by_200 in
+      let n = page_pixels d in
+      let registers : y.crtc.registers ≡ c.crtc.registers = ap (λ (x : CardState). x.crtc.registers) h.others in
+      let tests : AllTests row y d = record {
+        memory = ap (λ (x : Setting). (x.misc == row.misc) && (bytes_eq x.seq row.sequencer && bytes_eq x.gfx row.graphics)) same_setting ∙ a.memory;
+        data_test = a.data_test;
+        crtc = registers ∙ a.crtc ∙ ap (crtc_shown row d) (sym registers);
+        attribute = ap (λ (x : CardState). shows_attribute row x.attr) h.others ∙ a.attribute;
+      } in
+      let page : pixels_in d.mode y.host.memory (d.size * 0) n ≡ pixels_in d.mode c.host.memory (d.size * 0) n =
+      same_from_0 (pixel_in d.mode c.host.memory (d.size * 0)) (pixel_in d.mode y.host.memory (d.size * 0)) n (λ k l. pixel_by y.host.memory k ∙ h.cell k ∙ sym (pixel_by c.host.memory k)) in
+      pixels_shown_of y d row e text tests
+      ∙ ap (λ x. Some (screen_by row y d 0 (Pixels (x ∷ [])) [])) page
+      ∙ ap (λ (x : CardState). Some (screen_by row x d 0 (Pixels (pixel_pages d.mode c.host.memory d.size n 1)) [])) h.others

@@ -38,7 +38,7 @@ use Rattle.bios_screen.proofs.PackedScreens as screens
 use Rattle.bios_screen.proofs.PackedScreens.{IsFlat, put_flat}
 use Rattle.bios_screen.proofs.PixelWrites as writes
 
-address_sum : (w h row r left i : ℕ) → 0xA0000 + 0 + 8 * w * (h * row + r) + 8 * left + i ≡ 0xA0000 + (8 * (w * (h * row + r) + left) + i)
+pub address_sum : (w h row r left i : ℕ) → 0xA0000 + 0 + 8 * w * (h * row + r) + 8 * left + i ≡ 0xA0000 + (8 * (w * (h * row + r) + left) + i)
 address_sum w h row r left i = let a : 8 * w * (h * row + r) ≡ 8 * (w * (h * row + r)) = omega arith in omega arith
 
 -- eight dots of each line
@@ -67,7 +67,7 @@ module _ (law : KeepsBounds) (c : CardState) (d : BiosData) (t : IsPacked c d) (
   abbrev rest : CardState
   rest = without_drawing c
 
-  wide : 0 < w
+  pub wide : 0 < w
   wide = let a = t.has.columns in omega arith
 
   high : 0 < h

@@ -5,7 +5,11 @@ use Rattle.vga_bits.specs.declared.refusal.Refusal.TheVariants.{Outside}
 use Rattle.bios_modes.specs.Fonts.{FontSet}
 use Rattle.bios_services.specs.declared.scroll.Scroll.{Scroll}
 use Rattle.bios_services.specs.declared.cell_run.CellRun.{CellRun}
-use Rattle.bios_services.specs.declared.call.Service.TheVariants.{ScrollUp, ScrollDown, WriteCells, WritePixel, ReadPixel}
+use Rattle.bios_services.specs.declared.call.Service.TheVariants.{ScrollUp, ScrollDown, ReadCell, WriteCells, WritePixel, ReadPixel}
+use Rattle.vga_bits.specs.Bits.{byte_of}
+use Rattle.std.specs.Prelude.{◌==◌, if◌then◌else◌}
+use Rattle.bios_services.specs.Glyphs.{has_lines, first_character}
+use Rattle.bios_screen.specs.Listing.{listing}
 use Rattle.bios_screen.specs.Screen.{Pixels, Screen}
 use Rattle.bios_screen.specs.Shown.{planar_pixel, packed_pixel}
 use Rattle.bios_screen.specs.Parts.{cell_at, pixel_at}
@@ -152,9 +156,14 @@ unfolding next
 down = refl
 
 -- a pixel is answered in the low byte, and one outside is refused
-answered : answer_on (shown 0x13) (ReadPixel 0 2 0) (record { ax = 0x0D00; bx = 0; cx = 2; dx = 0 }) ≡ record { ax = 0x0D03; bx = 0; cx = 2; dx = 0 }
+answered : answer_on fonts (shown 0x13) (ReadPixel 0 2 0) (record { ax = 0x0D00; bx = 0; cx = 2; dx = 0 }) ≡ record { ax = 0x0D03; bx = 0; cx = 2; dx = 0 }
 unfolding answer_on
 answered = refl
+
+-- the first row's pixels 0, 1 and 2 are dots of no glyph but one that has just these rows
+seen : answer_on (record { f8 = []; f14 = []; f16 = listing (λ i. if i == 0x10 then 0xE0 else if i == 0x11 then 0x81 else 0) 0 0x20 }) (shown 0x10) (ReadCell 0) (record { ax = 0x0D00; bx = 0; cx = 2; dx = 0 }) ≡ record { ax = 0x0D01; bx = 0; cx = 2; dx = 0 }
+unfolding answer_on first_character has_lines byte_of
+seen = refl
 
 outside : refused_on (shown 0x13) (ReadPixel 0 8 0) 0 ≡ Some Outside
 unfolding refused_on

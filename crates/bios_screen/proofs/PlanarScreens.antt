@@ -119,3 +119,30 @@ module _ (m : Planes) (c : CardState) (d : BiosData) (t : IsPlanar m c d) (e : m
       pixels_shown_of y d row e text tests
       ∙ ap (λ x. Some (screen_by row y d 0 (Pixels x) [])) (pages ∙ ap (λ i. set old p (listing (change (pixel_of s p)) 0 i)) (sym long))
       ∙ ap (λ (x : CardState). Some (screen_by row x d 0 (Pixels (set old p (listing (change (pixel_of s p)) 0 (length (get_or old p []))))) [])) h.others
+
+  -- and where all its bytes are as they were, the screen stays
+  pub stays : (y : CardState) (f : ℕ → Four ℕ) (q : Four ℕ) → Loaded (without_drawing c) misc clocking at_rest y f q → ((o : ℕ) → f o ≡ bytes_at c.host.memory o) → shown y d ≡ Some s
+  unfolding pixel_pages pixels_in
+  stays y f q h same =
+      let a = t.tests in
+      let same_setting : setting y ≡ setting c = h.mode ∙ sym setting_is in
+      let row = row_of m in
+      let n = page_pixels d in
+      let packed : (d.mode == 0x13) ≡ false = ap (λ i. i == 0x13) t.number ∙ packed_by m in
+      let registers : y.crtc.registers ≡ c.crtc.registers = ap (λ (x : CardState). x.crtc.registers) h.others in
+      let tests : AllTests row y d = record {
+        memory = ap (λ (x : Setting). (x.misc == row.misc) && (bytes_eq x.seq row.sequencer && bytes_eq x.gfx row.graphics)) same_setting ∙ a.memory;
+        data_test = a.data_test;
+        crtc = registers ∙ a.crtc ∙ ap (crtc_shown row d) (sym registers);
+        attribute = ap (λ (x : CardState). shows_attribute row x.attr) h.others ∙ a.attribute;
+      } in
+      let pixel : (g k : ℕ) → pixel_in d.mode y.host.memory (d.size * g) k ≡ pixel_in d.mode c.host.memory (d.size * g) k = λ g k.
+      ap (λ b. if b then packed_pixel y.host.memory (d.size * g + k) else planar_pixel y.host.memory (d.size * g) k) packed
+      ∙ ap (λ (x : Four ℕ). nibble_of x (k % 8)) (h.cell (d.size * g + k / 8) ∙ same (d.size * g + k / 8))
+      ∙ sym (ap (λ b. if b then packed_pixel c.host.memory (d.size * g + k) else planar_pixel c.host.memory (d.size * g) k) packed) in
+      let pages : pixel_pages d.mode y.host.memory d.size n row.pages ≡ pixel_pages d.mode c.host.memory d.size n row.pages =
+      same_from_0 (λ g. pixels_in d.mode c.host.memory (d.size * g) n) (λ g. pixels_in d.mode y.host.memory (d.size * g) n) row.pages
+      (λ g lg. same_from_0 (pixel_in d.mode c.host.memory (d.size * g)) (pixel_in d.mode y.host.memory (d.size * g)) n (λ k l. pixel g k)) in
+      pixels_shown_of y d row e text tests
+      ∙ ap (λ x. Some (screen_by row y d 0 (Pixels x) [])) pages
+      ∙ ap (λ (x : CardState). Some (screen_by row x d 0 (Pixels (pixel_pages d.mode c.host.memory d.size n row.pages)) [])) h.others

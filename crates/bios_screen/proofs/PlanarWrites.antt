@@ -77,7 +77,7 @@ column_by k d page left = record {
 }
 
 -- the plan by its addresses
-address_sum : (start w h row r left : ℕ) → 0xA0000 + start + 1 * w * (h * row + r) + 1 * left + 0 ≡ 0xA0000 + (start + (w * (h * row + r) + left))
+pub address_sum : (start w h row r left : ℕ) → 0xA0000 + start + 1 * w * (h * row + r) + 1 * left + 0 ≡ 0xA0000 + (start + (w * (h * row + r) + left))
 address_sum start w h row r left =
     let a : 1 * w ≡ w = omega arith in
     ap (λ n. 0xA0000 + start + n * (h * row + r) + 1 * left + 0) a ∙ sum (w * (h * row + r))
@@ -136,7 +136,7 @@ module _ (law : KeepsBounds) (m : Planes) (c : CardState) (d : BiosData) (t : Is
       ∙ ap (λ a. glyph_by (is_set ink.colour 7) a lines h (ink.colour % 16)) (λ j r. address r j)
 
   -- the place lies in memory, and behind no other page
-  within : (p q r : ℕ) → p < (row_of m).pages → q < cells_of d → r < h → (strip_at w h q r < d.size) × (place p q r < 65536)
+  pub within : (p q r : ℕ) → p < (row_of m).pages → q < cells_of d → r < h → (strip_at w h q r < d.size) × (place p q r < 65536)
   within p q r lp lq lr =
       let b = strip_at w h q r in
       let l = strip_within w h (d.last_row + 1) q r wide lr lq in

@@ -26,6 +26,8 @@ use Rattle.bios_screen.proofs.PlanarReads as planar_reads
 use Rattle.bios_screen.proofs.PlanarDots as planar_dots
 use Rattle.bios_screen.proofs.PlanarWrites as planar_writes
 use Rattle.bios_screen.proofs.PackedWrites as packed_writes
+use Rattle.bios_screen.proofs.PlanarCells as planar_cells
+use Rattle.bios_screen.proofs.PackedCells as packed_cells
 use Rattle.bios_screen.proofs.PlanarScrolls as planar_scrolls
 use Rattle.bios_screen.proofs.PackedScrolls as packed_scrolls
 use Rattle.bios_screen.proofs.PixelModes.{Planes, Graphics, row_of, row_in, number_in, graphics_row}
@@ -123,8 +125,8 @@ set_cursor page place l = serves_both (SetCursor page place) (λ fonts r block c
 pub select_page : (page : ℕ) → Serves (SelectPage page)
 select_page page = serves_both (SelectPage page) (λ fonts r block c d h bda. cursors.select_page page fonts r block c d h bda) (λ fonts r block c d h. pixel_cursors.select_page c d h page fonts r block)
 
-pub read_cell : (page : ℕ) → Serves (ReadCell page)
-read_cell page = serves (ReadCell page) (λ mode. refl) (λ fonts r block c d h bytes z bda. writes.read_cell page fonts r block c d h z)
+pub read_cell : KeepsBounds → (page : ℕ) → Serves (ReadCell page)
+read_cell law page = serves_each (ReadCell page) (λ fonts r block c d h z. writes.read_cell page fonts r block c d h z) (λ m fonts r block c d t e z. planar_cells.read_cell law m c d t e z page fonts r block) (λ fonts r block c d t e z. packed_cells.read_cell law c d t e z page fonts r block)
 
 pub write_cells : KeepsBounds → (cells : CellRun) → cells.character < 256 → cells.ink.colour < 256 → Serves (WriteCells cells)
 write_cells law cells lv la = serves_each (WriteCells cells) (λ fonts r block c d h z. writes.write_cells cells fonts r block c d h z lv la) (λ m fonts r block c d t e z. planar_writes.write_cells law m c d t e z cells fonts r block) (λ fonts r block c d t e z. packed_writes.write_cells law c d t e z cells fonts r block la)

@@ -44,7 +44,7 @@ screen_unless (Some why) old new = old
 
 -- a call for a service replies as on the screen, leads to the next screen, and leaves the beam
 pub record IsCalled (service : Service) (fonts : FontSet) (r : Regs) (block : List ℕ) (c : CardState) (d : BiosData) (s : Screen) : Type 0 where
-  pub reply : (after_call fonts r block c d).1.0 ≡ reply_unless (refused_on s service (length block)) (answer_on s service r)
+  pub reply : (after_call fonts r block c d).1.0 ≡ reply_unless (refused_on s service (length block)) (answer_on fonts s service r)
   pub shows : shown (after_call fonts r block c d).0 (after_call fonts r block c d).1.1 ≡ Some (screen_unless (refused_on s service (length block)) s (next fonts s service block))
   pub beam : (after_call fonts r block c d).0.crtc.beam ≡ c.crtc.beam
 

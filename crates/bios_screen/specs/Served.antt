@@ -11,7 +11,7 @@ use Rattle.bios_modes.specs.Fonts.{FontSet}
 use Rattle.bios_services.specs.declared.reply.Table.TheVariants.{Empty}
 use Rattle.bios_services.specs.declared.call.Call.TheVariants.{SetMode}
 use Rattle.bios_services.specs.declared.call.Service.{Service}
-use Rattle.bios_services.specs.declared.call.Service.TheVariants.{SetCursorType, SetCursor, ReadCursor, SelectPage, ScrollUp, ScrollDown, WriteCells, WritePixel, ReadPixel, ReadMode, Colours, ReadAdapter, ReadDisplay}
+use Rattle.bios_services.specs.declared.call.Service.TheVariants.{SetCursorType, SetCursor, ReadCursor, SelectPage, ScrollUp, ScrollDown, ReadCell, WriteCells, WritePixel, ReadPixel, ReadMode, Colours, ReadAdapter, ReadDisplay}
 use Rattle.bios_services.specs.declared.colours.ColourService.{ColourService}
 use Rattle.bios_services.specs.declared.colours.ColourService.TheVariants.{SetOverscan}
 use Rattle.bios_services.specs.Plan.{run}
@@ -31,7 +31,7 @@ after_service service fonts r block c d = run card_meaning (plan_of service font
 -- a service is refused as on the screen; one that is not answers as on the screen, leaves the next screen, and leaves the beam
 pub record IsServed (service : Service) (fonts : FontSet) (r : Regs) (block : List ℕ) (c : CardState) (d : BiosData) (s : Screen) : Type 0 where
   pub refusal : refusal_in_mode service d (length block) ≡ refused_on s service (length block)
-  pub answer : refused_on s service (length block) ≡ None → (after_service service fonts r block c d).1.0 ≡ answer_on s service r
+  pub answer : refused_on s service (length block) ≡ None → (after_service service fonts r block c d).1.0 ≡ answer_on fonts s service r
   pub shows : refused_on s service (length block) ≡ None → shown (after_service service fonts r block c d).0 (after_service service fonts r block c d).1.1 ≡ Some (next fonts s service block)
   pub beam : (after_service service fonts r block c d).0.crtc.beam ≡ c.crtc.beam
 
@@ -41,7 +41,7 @@ FitsBytes (SetOverscan value) = value < 256
 FitsBytes service = Unit {0}
 
 -- whether the laws tell of a service in a mode of graphics too, so far of those that look at no pixel, of a pixel that is written
--- or read, of characters that are written and of windows that go up or down
+-- or read, of characters that are written or read and of windows that go up or down
 abbrev pub is_told_in_graphics : ℕ → Service → Bool
 is_told_in_graphics mode (SetCursorType cursor_type) = true
 is_told_in_graphics mode (SetCursor page place) = true
@@ -53,6 +53,7 @@ is_told_in_graphics mode ReadAdapter = true
 is_told_in_graphics mode ReadDisplay = true
 is_told_in_graphics mode (ScrollUp window) = true
 is_told_in_graphics mode (ScrollDown window) = true
+is_told_in_graphics mode (ReadCell page) = true
 is_told_in_graphics mode (WriteCells cells) = true
 is_told_in_graphics mode (WritePixel page x y colour) = true
 is_told_in_graphics mode (ReadPixel page x y) = true

@@ -1,7 +1,7 @@
 -- What a service does to a plain screen, what it answers, and why it is refused.
 -- From the IBM PS/2 and PC BIOS Interface Technical Reference, "Interrupt 10H - Video".
 use Rattle.std.specs.Prelude.{ℕ, zero, suc, ◌+◌, ◌-◌, ◌*◌, ◌/◌, ◌%◌, ◌==◌, ◌&&◌, ◌||◌, nat_lt, nat_le, Bool, not, if◌then◌else◌, List, [], length, get_or, set, slice_index, slice_set, bit_xor, min, Option, Some, None}
-use Rattle.vga_bits.specs.Bits.{is_set}
+use Rattle.vga_bits.specs.Bits.{is_set, byte_of}
 use Rattle.vga_bits.specs.declared.refusal.Refusal.{Refusal}
 use Rattle.vga_bits.specs.declared.refusal.Refusal.TheVariants.{WrongKind, BadPage, Outside, CountPast}
 use Rattle.bios_modes.specs.Fonts.{FontSet}
@@ -18,7 +18,7 @@ use Rattle.bios_services.specs.Teletype.{line_start, dots_in}
 use Rattle.bios_services.specs.Strings.{string_len, character_at, ink_at}
 use Rattle.bios_services.specs.Colours.{block_refusal, colour_refusal}
 use Rattle.bios_services.specs.Cursor.{row_of, column_of}
-use Rattle.bios_services.specs.Glyphs.{glyph_line}
+use Rattle.bios_services.specs.Glyphs.{glyph_line, first_character}
 use Rattle.bios_screen.specs.Listing.{listing}
 use Rattle.bios_screen.specs.Colours.{coloured, colours_read}
 use Rattle.bios_screen.specs.Screen.{Cell, Contents, Cells, Pixels, Screen, cell_of, page_cells, page_start, place_number, cursor_place, cursor_cell}
@@ -324,21 +324,35 @@ next fonts s ReadDisplay block = s
 abbrev pub cell_read : Screen → ℕ → ℕ
 cell_read s page = (cell_on s (cursor_cell s page)).0 + 256 * (cell_on s (cursor_cell s page)).1
 
+-- line r of the cell q of a page of pixels as a byte: which of its eight pixels are not 0, the first as the highest bit
+abbrev pub cell_line : Screen → ℕ → ℕ → ℕ → ℕ
+cell_line s page q r =
+    byte_of (λ i. if pixel_of s page (8 * (s.layout.columns * (s.layout.height * (q / s.layout.columns) + r) + q % s.layout.columns) + (7 - i)) == 0 then 0 else 1)
+
+-- the first character whose glyph the pixels at the cursor of a page are, those that are not 0 as its dots, else 0
+abbrev pub character_seen : FontSet → Screen → ℕ → ℕ
+character_seen fonts s page = first_character fonts s.layout.height (listing (cell_line s page (place_number s (cursor_place s page))) 0 s.layout.height) 256
+
+-- a cell of text is answered in AX, and a character of pixels in AL
+abbrev pub cell_answered : Contents → FontSet → Screen → ℕ → Regs → Regs
+cell_answered (Cells cells) fonts s page r = record r { ax = cell_read s page }
+cell_answered (Pixels pages) fonts s page r = record r { ax = with_low r.ax (character_seen fonts s page) }
+
 -- the registers that it answers
-unfoldable pub answer_on : Screen → Service → Regs → Regs
-answer_on s (SetCursorType cursor_type) r = r
-answer_on s (SetCursor page place) r = r
-answer_on s (ReadCursor page) r = record r { cx = s.cursor_type; dx = cursor_place s (page_meant s page) }
-answer_on s (SelectPage page) r = r
-answer_on s (ScrollUp window) r = r
-answer_on s (ScrollDown window) r = r
-answer_on s (ReadCell page) r = record r { ax = cell_read s (page_meant s page) }
-answer_on s (WriteCells cells) r = r
-answer_on s (WritePixel page x y colour) r = r
-answer_on s (ReadPixel page x y) r = record r { ax = with_low r.ax (pixel_of s (page_meant s page) (pixel_number s x y)) }
-answer_on s (Teletype character colour) r = r
-answer_on s ReadMode r = record r { ax = s.mode + 256 * s.layout.columns; bx = low r.bx + 256 * s.page }
-answer_on s (Colours service) r = colours_read s service r
-answer_on s ReadAdapter r = record r { bx = (if s.mode == 0x07 then 0x0103 else 0x0003); cx = 0x0009 }
-answer_on s (WriteString call) r = r
-answer_on s ReadDisplay r = record r { ax = 0x1A1A; bx = 0x0008 }
+unfoldable pub answer_on : FontSet → Screen → Service → Regs → Regs
+answer_on fonts s (SetCursorType cursor_type) r = r
+answer_on fonts s (SetCursor page place) r = r
+answer_on fonts s (ReadCursor page) r = record r { cx = s.cursor_type; dx = cursor_place s (page_meant s page) }
+answer_on fonts s (SelectPage page) r = r
+answer_on fonts s (ScrollUp window) r = r
+answer_on fonts s (ScrollDown window) r = r
+answer_on fonts s (ReadCell page) r = cell_answered s.contents fonts s (page_meant s page) r
+answer_on fonts s (WriteCells cells) r = r
+answer_on fonts s (WritePixel page x y colour) r = r
+answer_on fonts s (ReadPixel page x y) r = record r { ax = with_low r.ax (pixel_of s (page_meant s page) (pixel_number s x y)) }
+answer_on fonts s (Teletype character colour) r = r
+answer_on fonts s ReadMode r = record r { ax = s.mode + 256 * s.layout.columns; bx = low r.bx + 256 * s.page }
+answer_on fonts s (Colours service) r = colours_read s service r
+answer_on fonts s ReadAdapter r = record r { bx = (if s.mode == 0x07 then 0x0103 else 0x0003); cx = 0x0009 }
+answer_on fonts s (WriteString call) r = r
+answer_on fonts s ReadDisplay r = record r { ax = 0x1A1A; bx = 0x0008 }

@@ -54,8 +54,7 @@ pub fn cursor_is_served()
     ensures page { (page : ℕ) → Serves (SelectPage page) }
 {}
 
-/// Functions 08, 09 and 0A: the cell of text at the cursor is read, and cells from it on are written, in graphics
-/// as dots.
+/// Functions 08, 09 and 0A: the cell at the cursor is read, and cells from it on are written, in graphics as dots.
 pub fn cells_are_served()
     ensures read { (page : ℕ) → Serves (ReadCell page) }
     ensures written { (cells : CellRun) → cells.character < 256 → cells.ink.colour < 256 → Serves (WriteCells cells) }

@@ -76,7 +76,7 @@ called_on None fonts r block s = (s, Err BadFunction)
 called_on (Some (SetMode mode keeps)) fonts r block s = set_on (mode_row mode) mode fonts r s
 called_on (Some (ReadTable service)) fonts r block s = (s, table_unless (table_refusal service) (table_read s service) r)
 called_on (Some (InMode service)) fonts r block s =
-    let why = refused_on s service (length block) in (screen_unless why s (next fonts s service block), reply_unless why (answer_on s service r))
+    let why = refused_on s service (length block) in (screen_unless why s (next fonts s service block), reply_unless why (answer_on fonts s service r))
 
 -- what a call answers; a frame answers the picture of the active page. No other step is of screens.
 unfoldable pub reply_on : FontSet → Screen → Step → Reply
