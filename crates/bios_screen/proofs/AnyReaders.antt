@@ -17,7 +17,7 @@ use Rattle.bios_screen.specs.Served.{IsServed}
 use Rattle.bios_screen.proofs.AnyShows.{IsAny, any_screen, still_any}
 
 -- the page that is meant, and why it is refused
-any_meant : (c : CardState) (d : BiosData) (h : IsAny c d) (page : ℕ) → page_named d page ≡ page_meant (any_screen c d h c) page
+pub any_meant : (c : CardState) (d : BiosData) (h : IsAny c d) (page : ℕ) → page_named d page ≡ page_meant (any_screen c d h c) page
 any_meant c d h page = ap (λ (x : Option ModeRow). if pages_in x == 1 then 0 else page) h.mode
 
 any_refusal : (c : CardState) (d : BiosData) (h : IsAny c d) (page : ℕ) → page_refusal d (page_named d page) ≡ page_refused (any_screen c d h c) (page_meant (any_screen c d h c) page)

@@ -1,5 +1,5 @@
 -- What every screen that is shown says, in text and in graphics.
-use Rattle.std.proofs.Common.{◌≡◌, ℕ, refl, sym, ap, ◌∙◌, Bool, true, false, List, [], Some, None}
+use Rattle.std.proofs.Common.{◌≡◌, ℕ, ◌<◌, ◌≤◌, refl, sym, ap, subst, ◌∙◌, arith, Bool, true, false, List, [], Some, None}
 use Rattle.std.specs.Prelude.{◌==◌, ◌&&◌, ◌/◌, if◌then◌else◌, slice_index, bit_and}
 use Rattle.std.specs.Str.{bytes_eq}
 use Rattle.std.proofs.lemmas.Slice.Eq.{bytes_eq-Decides}
@@ -31,6 +31,8 @@ pub record IsAny (c : CardState) (d : BiosData) : Type 0 where
   pub setting : setting c ≡ setting_of kind
   pub port : d.crtc_address ≡ port_of kind
   pub control : bit_and (slice_index row.attribute 0x10) 0xF7 ≡ control_of kind
+  pub columns : row.columns ≤ 80
+  pub last_row : row.last_row < 255
   pub tests : AllTests row c d
   pub distance : ℕ
   pub contents : Four (List ℕ) → Contents
@@ -80,6 +82,18 @@ row_port (Sixteen Middle) = refl
 row_port (Sixteen High) = refl
 row_port Many = refl
 
+row_columns : (k : Graphics) → (row_in k).columns ≤ 80
+row_columns (Sixteen Low) = omega arith
+row_columns (Sixteen Middle) = omega arith
+row_columns (Sixteen High) = omega arith
+row_columns Many = omega arith
+
+row_rows : (k : Graphics) → (row_in k).last_row < 255
+row_rows (Sixteen Low) = omega arith
+row_rows (Sixteen Middle) = omega arith
+row_rows (Sixteen High) = omega arith
+row_rows Many = omega arith
+
 -- the test gives the setting as a literal
 pub setting_by : (row : ModeRow) (c : CardState) (d : BiosData) → AllTests row c d → setting c ≡ record { misc = row.misc; seq = row.sequencer; gfx = row.graphics }
 setting_by row c d t =
@@ -121,6 +135,8 @@ any_is c d s h = by_kind (is_text d.mode) refl
             setting = y.setting;
             port = y.has.port ∙ y.text.port;
             control = ap (λ (r : ModeRow). bit_and (slice_index r.attribute 0x10) 0xF7) y.row_is ∙ text_control_by y.display;
+            columns = y.text.columns;
+            last_row = y.text.last_row;
             tests = all_of y.row c d y.tests;
             distance = d.size / 2;
             contents = λ m. Cells (cells_in m.plane0 m.plane1 all_cells);
@@ -141,6 +157,8 @@ any_is c d s h = by_kind (is_text d.mode) refl
             setting = g.setting;
             port = g.port;
             control = ap (λ (r : ModeRow). bit_and (slice_index r.attribute 0x10) 0xF7) (sym g.row_is) ∙ row_control g.kind;
+            columns = subst (λ (r : ModeRow). r.columns ≤ 80) g.row_is (row_columns g.kind);
+            last_row = subst (λ (r : ModeRow). r.last_row < 255) g.row_is (row_rows g.kind);
             tests = y.tests;
             distance = 0;
             contents = λ m. Pixels (pixel_pages d.mode m d.size (page_pixels d) y.row.pages);

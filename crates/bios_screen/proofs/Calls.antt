@@ -30,7 +30,7 @@ use Rattle.bios_modes.specs.Bounds.{IsBda}
 use Rattle.bios_screen.specs.Screen.{Screen}
 use Rattle.bios_screen.specs.Shown.{shown}
 use Rattle.bios_screen.specs.Step.{refused_on, next, answer_on}
-use Rattle.bios_screen.specs.Served.{FitsBytes, IsServed, is_told, Serves, after_call}
+use Rattle.bios_screen.specs.Served.{FitsBytes, IsServed, Serves, after_call}
 use Rattle.bios_modes.specs.Bounds.{AreBytes}
 use Rattle.bios_screen.specs.Called.{AreWords, reply_unless, screen_unless, IsCalled}
 use Rattle.bios_screen.proofs.PlanLemmas.{run_bind}
@@ -154,10 +154,10 @@ service_is r service e = by_test (high r.ax == 0x00) (table_service_of r) (servi
 served_if : (x : Option Service) (service : Service) → x ≡ Some service → IfSome x Serves → Serves service
 served_if x service e f = subst (λ y. IfSome y Serves) e f
 
-pub calls_lead : KeepsBounds → (service : Service) (fonts : FontSet) (r : Regs) (block : List ℕ) (c : CardState) (d : BiosData) (s : Screen) → IsCard c → IsBda d → AreWords r → AreBytes block → shown c d ≡ Some s → is_told s service ≡ true → call_of r ≡ Some (InMode service) → IsCalled service fonts r block c d s
-calls_lead law service fonts r block c d s z bda w bytes old text e =
+pub calls_lead : KeepsBounds → (service : Service) (fonts : FontSet) (r : Regs) (block : List ℕ) (c : CardState) (d : BiosData) (s : Screen) → IsCard c → IsBda d → AreWords r → AreBytes block → shown c d ≡ Some s → call_of r ≡ Some (InMode service) → IsCalled service fonts r block c d s
+calls_lead law service fonts r block c d s z bda w bytes old e =
     let serves = served_if (service_of r) service (service_is r service e) (asked_is_served law r w) in
-    call_done service fonts r block c d s e old (serves fonts r block c d s bytes z bda old text)
+    call_done service fonts r block c d s e old (serves fonts r block c d s bytes z bda old)
 
 -- a call for no service is refused
 pub unknown_refused : (fonts : FontSet) (r : Regs) (block : List ℕ) (c : CardState) (d : BiosData) (s : Screen) → shown c d ≡ Some s → call_of r ≡ None → after_call fonts r block c d ≡ (c, (Err BadFunction, d))

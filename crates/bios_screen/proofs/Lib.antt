@@ -18,7 +18,9 @@ pub mod Cursors
 pub mod Writes
 pub mod Bands
 pub mod Windows
+pub mod TypedPlaces
 pub mod Typing
+pub mod TextTyping
 pub mod Teletypes
 pub mod Strings
 pub mod ModeRegisters
@@ -67,6 +69,10 @@ pub mod PlanarWindows
 pub mod PixelWindows
 pub mod PlanarScrolls
 pub mod PackedScrolls
+pub mod PlanarTyping
+pub mod PackedTyping
+pub mod PixelKinds
+pub mod PixelTyping
 pub mod PlanarGlyphs
 pub mod PixelReads
 pub mod PlanarCells

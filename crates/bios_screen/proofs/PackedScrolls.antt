@@ -32,7 +32,7 @@ use Rattle.bios_screen.proofs.Bands as bands
 use Rattle.bios_screen.proofs.WindowShifts as shifts
 use Rattle.bios_screen.proofs.PixelModes.{setting_in}
 use Rattle.bios_screen.proofs.PixelModes.Graphics.{Many}
-use Rattle.bios_screen.proofs.PackedDots.{IsPacked, only_page}
+use Rattle.bios_screen.proofs.PackedDots.{IsPacked}
 use Rattle.bios_screen.proofs.PackedPixels.{decoded, byte_read}
 use Rattle.bios_screen.proofs.PixelCells.{moved_within}
 use Rattle.bios_screen.proofs.PlanarHands.{without_drawing}
@@ -61,7 +61,7 @@ pixel_moved law rest from to a b c f ef et la lb t =
 pixel_put_at : (law : KeepsBounds) (rest : CardState) (at j v : ℕ) (c : CardState) (f : ℕ → ℕ) → at ≡ 0xA0000 + j → j < 65536 → v < 256 → IsFlat rest c f → IsFlat rest (run card_meaning (put at v) c).0 (set_cell f j v)
 pixel_put_at law rest at j v c f ea lj lv t = subst (λ x. IsFlat rest (run card_meaning (put x v) c).0 (set_cell f j v)) (sym ea) (put_flat law rest j v c f lj lv t)
 
-module _ (law : KeepsBounds) (c : CardState) (d : BiosData) (t : IsPacked c d) (e : mode_row d.mode ≡ Some bytes_320_by_200) (z : IsCard c) (scroll : Scroll) (few : scroll.fill < 256) where
+module _ (law : KeepsBounds) (c : CardState) (d : BiosData) (t : IsPacked c d) (e : mode_row d.mode ≡ Some bytes_320_by_200) (z : IsCard c) (p : ℕ) (lp : p < bytes_320_by_200.pages) (scroll : Scroll) (few : scroll.fill < 256) where
   abbrev s : Screen
   s = pixel_screen bytes_320_by_200 c d
 
@@ -102,17 +102,17 @@ module _ (law : KeepsBounds) (c : CardState) (d : BiosData) (t : IsPacked c d) (
   high = let a = t.has.height in omega arith
 
   abbrev band : Band
-  band = record { kind = Packed; start = page_address d d.page; pitch = w; lines = h; left = left; width = width }
+  band = record { kind = Packed; start = page_address d p; pitch = w; lines = h; left = left; width = width }
 
-  band_is : band_of d d.page scroll.left scroll.right ≡ band
-  band_is = ap (λ k. let x : Band = record { kind = k; start = page_address d d.page; pitch = column_bytes k * d.columns; lines = row_lines k h; left = column_bytes k * scroll.left; width = column_bytes k * window_columns s scroll } in x) (ap kind_of t.number)
+  band_is : band_of d p scroll.left scroll.right ≡ band
+  band_is = ap (λ k. let x : Band = record { kind = k; start = page_address d p; pitch = column_bytes k * d.columns; lines = row_lines k h; left = column_bytes k * scroll.left; width = column_bytes k * window_columns s scroll } in x) (ap kind_of t.number)
 
-  page_is : d.page ≡ 0
-  page_is = only_page c d t z
+  page_is : p ≡ 0
+  page_is = omega arith
 
   window : IsWindow 0xA0000 65536 band 0 rows top height
   window = record {
-    address = ap (λ x. x + d.size * d.page) (ap page_base t.number) ∙ ap (λ x. 0xA0000 + d.size * x) page_is ∙ (let none : d.size * 0 ≡ 0 = omega arith in ap (λ x. 0xA0000 + x) none);
+    address = ap (λ x. x + d.size * p) (ap page_base t.number) ∙ ap (λ x. 0xA0000 + d.size * x) page_is ∙ (let none : d.size * 0 ≡ 0 = omega arith in ap (λ x. 0xA0000 + x) none);
     memory = let a : w * (h * rows) ≡ 64000 = screens.all_pixels c d t e z in omega arith;
     inside = pixel_windows.inside_rows bytes_320_by_200 c d scroll;
     across = λ i l. let a = pixel_windows.across_page bytes_320_by_200 c d scroll some_columns (i / 8) (omega arith) in omega arith;
@@ -186,13 +186,13 @@ module _ (law : KeepsBounds) (c : CardState) (d : BiosData) (t : IsPacked c d) (
   filled : (x : ℕ) → shifts.IsPainted ℕ w h 0 left width top height wide high window.across Fill x → x ≡ filling d.mode scroll.fill
   filled x is = is.is ∙ sym (ap (λ i. filling i scroll.fill) t.number)
 
-  stays : (change : (ℕ → ℕ) → ℕ → ℕ) → ((k : ℕ) → change (pixel_of s d.page) k ≡ pixel_of s d.page k) → shown c d ≡ Some (with_pixels s d.page change)
+  stays : (change : (ℕ → ℕ) → ℕ → ℕ) → ((k : ℕ) → change (pixel_of s p) k ≡ pixel_of s p k) → shown c d ≡ Some (with_pixels s p change)
   stays change same =
       let at_0 : (k : ℕ) → change (pixel_of s 0) k ≡ pixel_of s 0 k = subst (λ i. (k : ℕ) → change (pixel_of s i) k ≡ pixel_of s i k) page_is same in
       screens.page_redrawn c d t e z c old change (screens.begins c d t e z) (λ k lk. sym (screens.pixel_is c d t e z k lk) ∙ sym (at_0 k))
       ∙ ap (λ i. Some (with_pixels s i change)) (sym page_is)
 
-  up_shown : shown (run card_meaning (up_plan (band_of d d.page scroll.left scroll.right) top height n scroll.fill) c).0 d ≡ Some (with_pixels s d.page (pixels_up s scroll))
+  pub up_shown : shown (run card_meaning (up_plan (band_of d p scroll.left scroll.right) top height n scroll.fill) c).0 d ≡ Some (with_pixels s p (pixels_up s scroll))
   up_shown =
       let done = went_up in
       ap (λ b. shown (run card_meaning (up_plan b top height n scroll.fill) c).0 d) band_is
@@ -223,7 +223,7 @@ module _ (law : KeepsBounds) (c : CardState) (d : BiosData) (t : IsPacked c d) (
           ∙ tests)
           (cases_lt (pixel_row s k + n) (top + height))
 
-  down_shown : shown (run card_meaning (down_plan (band_of d d.page scroll.left scroll.right) top height n scroll.fill) c).0 d ≡ Some (with_pixels s d.page (pixels_down s scroll))
+  down_shown : shown (run card_meaning (down_plan (band_of d p scroll.left scroll.right) top height n scroll.fill) c).0 d ≡ Some (with_pixels s p (pixels_down s scroll))
   down_shown =
       let done = went_down in
       ap (λ b. shown (run card_meaning (down_plan b top height n scroll.fill) c).0 d) band_is
@@ -252,8 +252,9 @@ module _ (law : KeepsBounds) (c : CardState) (d : BiosData) (t : IsPacked c d) (
           ∙ tests)
           (cases_lt (pixel_row s k) (top + n))
 
-  pub scroll_up : (fonts : FontSet) (r : Regs) (block : List ℕ) → IsServed (ScrollUp scroll) fonts r block c d s
-  scroll_up fonts r block = pixel_windows.scroll_up bytes_320_by_200 c d scroll fonts r block stays up_shown
+-- the window of a call is on the active page
+pub scroll_up : (law : KeepsBounds) (c : CardState) (d : BiosData) (t : IsPacked c d) → mode_row d.mode ≡ Some bytes_320_by_200 → IsCard c → (scroll : Scroll) → scroll.fill < 256 → (fonts : FontSet) (r : Regs) (block : List ℕ) → IsServed (ScrollUp scroll) fonts r block c d (pixel_screen bytes_320_by_200 c d)
+scroll_up law c d t e z scroll few fonts r block = pixel_windows.scroll_up bytes_320_by_200 c d scroll fonts r block (stays law c d t e z d.page t.has.page scroll few) (up_shown law c d t e z d.page t.has.page scroll few)
 
-  pub scroll_down : (fonts : FontSet) (r : Regs) (block : List ℕ) → IsServed (ScrollDown scroll) fonts r block c d s
-  scroll_down fonts r block = pixel_windows.scroll_down bytes_320_by_200 c d scroll fonts r block stays down_shown
+pub scroll_down : (law : KeepsBounds) (c : CardState) (d : BiosData) (t : IsPacked c d) → mode_row d.mode ≡ Some bytes_320_by_200 → IsCard c → (scroll : Scroll) → scroll.fill < 256 → (fonts : FontSet) (r : Regs) (block : List ℕ) → IsServed (ScrollDown scroll) fonts r block c d (pixel_screen bytes_320_by_200 c d)
+scroll_down law c d t e z scroll few fonts r block = pixel_windows.scroll_down bytes_320_by_200 c d scroll fonts r block (stays law c d t e z d.page t.has.page scroll few) (down_shown law c d t e z d.page t.has.page scroll few)

@@ -156,8 +156,8 @@ module _ (law : KeepsBounds) (c : CardState) (d : BiosData) (t : IsPacked c d) (
   dot_is : (colour : ℕ) (is_dot : Bool) (x : ℕ) → (if is_dot then colour else 0) ≡ dot_inked d.mode colour is_dot x
   dot_is colour is_dot x = sym (ap (λ i. dot_inked i colour is_dot x) t.number)
 
-  characters_shown : (fonts : FontSet) (q n character : ℕ) (ink : Ink) → q + n ≤ cells_of d → ink.colour < 256 → shown (run card_meaning (characters_plan fonts d 0 q character ink n) c).0 d ≡ Some (with_pixels s 0 (drawn fonts s q n character ink.colour))
-  characters_shown fonts q n character ink lq lc =
+  first_page_shown : (fonts : FontSet) (q n character : ℕ) (ink : Ink) → q + n ≤ cells_of d → ink.colour < 256 → shown (run card_meaning (characters_plan fonts d 0 q character ink n) c).0 d ≡ Some (with_pixels s 0 (drawn fonts s q n character ink.colour))
+  first_page_shown fonts q n character ink lq lc =
       let after = characters fonts q n character ink lq lc in
       let f = after.cells in
       let g = glyph_line fonts h character in
@@ -194,10 +194,11 @@ module _ (law : KeepsBounds) (c : CardState) (d : BiosData) (t : IsPacked c d) (
       (cases_lt (pixel_cell s k) (q + n)))
       (cases_lt (pixel_cell s k) q))
 
-  pub write_cells : (cells : CellRun) (fonts : FontSet) (r : Regs) (block : List ℕ) → cells.ink.colour < 256 → IsServed (WriteCells cells) fonts r block c d s
-  write_cells cells fonts r block lc =
-      let shows : (p q : ℕ) → p < 1 → q + cells.count ≤ cells_of d → shown (run card_meaning (characters_plan fonts d p q cells.character cells.ink cells.count) c).0 d ≡ Some (with_pixels s p (drawn fonts s q cells.count cells.character cells.ink.colour)) = λ p q lp lq.
+  -- there is no other page
+  pub characters_shown : (fonts : FontSet) (p q n character : ℕ) (ink : Ink) → p < bytes_320_by_200.pages → q + n ≤ cells_of d → ink.colour < 256 → shown (run card_meaning (characters_plan fonts d p q character ink n) c).0 d ≡ Some (with_pixels s p (drawn fonts s q n character ink.colour))
+  characters_shown fonts p q n character ink lp lq lc =
       let first : 0 ≡ p = omega arith in
-      subst (λ i. shown (run card_meaning (characters_plan fonts d i q cells.character cells.ink cells.count) c).0 d ≡ Some (with_pixels s i (drawn fonts s q cells.count cells.character cells.ink.colour))) first
-      (characters_shown fonts q cells.count cells.character cells.ink lq lc) in
-      writes.write_cells bytes_320_by_200 c d e cells fonts r block shows
+      subst (λ i. shown (run card_meaning (characters_plan fonts d i q character ink n) c).0 d ≡ Some (with_pixels s i (drawn fonts s q n character ink.colour))) first (first_page_shown fonts q n character ink lq lc)
+
+  pub write_cells : (cells : CellRun) (fonts : FontSet) (r : Regs) (block : List ℕ) → cells.ink.colour < 256 → IsServed (WriteCells cells) fonts r block c d s
+  write_cells cells fonts r block lc = writes.write_cells bytes_320_by_200 c d e cells fonts r block (λ p q lp lq. characters_shown fonts p q cells.count cells.character cells.ink lp lq lc)

@@ -17,7 +17,7 @@ use Rattle.bios_services.specs.Registers.{high, low}
 use Rattle.bios_services.specs.Cycles.{crtc}
 use Rattle.bios_services.specs.Cursor.{word_plan, cursor_plan, page_plan, cursor_address, start_address, with_place, with_page, move_cursor_plan, cursor_type_plan}
 use Rattle.bios_services.specs.Refusals.{page_named, page_refusal, refusal_in_mode}
-use Rattle.bios_services.specs.Service.{plan_of, Outcome}
+use Rattle.bios_services.specs.Service.{plan_of}
 use Rattle.bios_screen.specs.Shown.{crtc_registers, location_shown, crtc_shown, shown}
 use Rattle.bios_screen.specs.Step.{page_meant, page_refused, refused_on, next, answer_on, with_place as placed_on}
 use Rattle.bios_screen.specs.Served.{IsServed}
@@ -52,23 +52,28 @@ module _ (c : CardState) (d : BiosData) (h : IsPixels c d) where
       let t = h.tests in
       pixels_shown_of c e h.row h.mode h.text (record { memory = t.memory; data_test = t.data_test; crtc = t.crtc ∙ other; attribute = t.attribute })
 
-  place_runs : (p place : ℕ) (r : Regs) → run card_meaning (move_cursor_plan d p place >>= λ after. (let q : Plan Outcome = Done (r, after) in q)) c ≡ (c, (r, with_place d p place))
+  moved_runs : (p place : ℕ) → run card_meaning (move_cursor_plan d p place) c ≡ (c, with_place d p place)
   unfolding move_cursor_plan cursor_plan
-  place_runs p place r =
+  moved_runs p place =
       let e = with_place d p place in
       let shown_plan : Plan (Unit {0}) = if p == d.page then word_plan d.crtc_address 0x0E (cursor_address e p) else Done tt in
-      ap (λ b. run card_meaning (((if b then shown_plan else Done tt) >>= λ _. (let q : Plan BiosData = Done e in q)) >>= λ after. (let q : Plan Outcome = Done (r, after) in q)) c) h.text
+      ap (λ b. run card_meaning ((if b then shown_plan else Done tt) >>= λ _. (let q : Plan BiosData = Done e in q)) c) h.text
+
+  -- the cursor goes to another place
+  pub moved_shown : (p place : ℕ) → (let x = run card_meaning (move_cursor_plan d p place) c in shown x.0 x.1) ≡ Some (placed_on (pixels_shown c d h) p place)
+  moved_shown p place = ap (λ x. shown x.0 x.1) (moved_runs p place) ∙ place_shown p place
 
   pub set_cursor : (page place : ℕ) (fonts : FontSet) (r : Regs) (block : List ℕ) → IsServed (SetCursor page place) fonts r block c d (pixels_shown c d h)
   unfolding plan_of refusal_in_mode refused_on next answer_on
   set_cursor page place fonts r block =
       let p = page_named d page in
-      let runs = place_runs p place r in
+      let plan = move_cursor_plan d p place in
+      let runs = data_runs plan r c in
       record {
         refusal = named_refusal_is page;
         answer = λ _. ap (λ x. x.1.0) runs;
-        shows = λ _. ap (λ x. shown x.0 x.1.1) runs ∙ place_shown p place ∙ ap (λ n. Some (placed_on (pixels_shown c d h) n place)) (meant_is page);
-        beam = ap (λ x. x.0.crtc.beam) runs;
+        shows = λ _. ap (λ x. shown x.0 x.1.1) runs ∙ moved_shown p place ∙ ap (λ n. Some (placed_on (pixels_shown c d h) n place)) (meant_is page);
+        beam = plan_beam (then_data plan r) c;
       }
 
   -- ---- the cursor's type

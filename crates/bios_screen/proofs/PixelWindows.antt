@@ -17,11 +17,11 @@ use Rattle.bios_services.specs.Scroll.{has_cells as has_window, height_of, lines
 use Rattle.bios_services.specs.Service.{plan_of, Outcome}
 use Rattle.bios_screen.specs.Screen.{Screen}
 use Rattle.bios_screen.specs.Shown.{pixel_screen, shown}
-use Rattle.bios_screen.specs.Step.{pixel_of, pixel_row, pixel_column, window_rows, window_columns, window_lines, has_pixel, row_pixels, filling, pixels_up, pixels_down, with_pixels, refused_on, next, answer_on}
+use Rattle.bios_screen.specs.Step.{pixel_of, pixel_row, pixel_column, window_rows, window_columns, window_lines, has_pixel, row_pixels, filling, pixels_up, pixels_down, window_up, whole_page, with_pixels, refused_on, next, answer_on}
 use Rattle.bios_screen.specs.Served.{IsServed}
 use Rattle.bios_screen.proofs.PlanLemmas.{run_bind}
 use Rattle.bios_screen.proofs.Kept.{plan_beam}
-use Rattle.bios_screen.proofs.TestLemmas.{both_true, both_are, lt_is, le_is, lt_test, le_test}
+use Rattle.bios_screen.proofs.TestLemmas.{both_true, both_are, lt_is, le_is, lt_test, le_test, not_lt}
 
 module _ (row : ModeRow) (c : CardState) (d : BiosData) (w : Scroll) where
   abbrev s : Screen
@@ -144,3 +144,25 @@ module _ (row : ModeRow) (c : CardState) (d : BiosData) (w : Scroll) where
       let done : Plan Outcome = Done (r, d) in
       let runs = run_bind card_meaning plan (λ _. done) c in
       record { refusal = refl; answer = λ _. ap (λ q. q.1.0) runs; shows = λ _. ap (λ q. shown q.0 q.1.1) runs ∙ scrolled_down stays down; beam = plan_beam (plan >> done) c }
+
+-- a whole page goes up by a row, as a window of all its rows
+module _ (row : ModeRow) (c : CardState) (d : BiosData) (p colour : ℕ) where
+  abbrev on : Screen
+  on = pixel_screen row c d
+
+  abbrev page : Scroll
+  page = whole_page on colour
+
+  whole_rows : window_rows on page ≡ d.last_row + 1
+  whole_rows = omega arith
+
+  whole_lines : window_lines on page ≡ 1
+  whole_lines =
+      ap (λ n. if (1 == 0) || nat_lt n 1 then n else 1) whole_rows
+      ∙ ap (λ b. if b then d.last_row + 1 else 1) (not_lt (d.last_row + 1) 1 (omega arith))
+
+  pub page_raised : shown (run card_meaning (up_plan (band_of d p 0 (d.columns - 1)) 0 (window_rows on page) (window_lines on page) colour) c).0 d ≡ Some (with_pixels on p (pixels_up on page)) → shown (run card_meaning (up_plan (band_of d p 0 (d.columns - 1)) 0 (d.last_row + 1) 1 colour) c).0 d ≡ Some (window_up on p page)
+  page_raised up =
+      ap (λ n. shown (run card_meaning (up_plan (band_of d p 0 (d.columns - 1)) 0 n 1 colour) c).0 d) (sym whole_rows)
+      ∙ ap (λ n. shown (run card_meaning (up_plan (band_of d p 0 (d.columns - 1)) 0 (window_rows on page) n colour) c).0 d) (sym whole_lines)
+      ∙ up

@@ -1,5 +1,5 @@
 -- Functions 09 and 0A in graphics: what a loop of characters leaves is the next screen.
-use Rattle.std.proofs.Common.{◌≡◌, ℕ, ◌+◌, ◌<◌, ◌≤◌, ap, ◌∙◌, List, Option, Some, None}
+use Rattle.std.proofs.Common.{◌≡◌, ℕ, ◌+◌, ◌<◌, ◌≤◌, sym, ap, ◌∙◌, arith, List, Option, Some, None}
 use Rattle.std.specs.Prelude.{◌==◌, nat_lt, nat_le, if◌then◌else◌}
 use Rattle.vga_bits.specs.declared.refusal.Refusal.{Refusal}
 use Rattle.vga_bits.specs.declared.refusal.Refusal.TheVariants.{BadPage, Outside, CountPast}
@@ -11,12 +11,13 @@ use Rattle.bios_modes.specs.Bda.{BiosData}
 use Rattle.bios_modes.specs.Fonts.{FontSet}
 use Rattle.bios_services.specs.declared.regs.Regs.{Regs}
 use Rattle.bios_services.specs.declared.cell_run.CellRun.{CellRun}
+use Rattle.bios_services.specs.declared.ink.Ink.{Ink}
 use Rattle.bios_services.specs.declared.call.Service.TheVariants.{WriteCells}
 use Rattle.bios_services.specs.Bounds.{pages_in}
 use Rattle.bios_services.specs.Cells.{cells_of}
 use Rattle.bios_services.specs.CellRuns.{cell_run_plan}
-use Rattle.bios_services.specs.Cursor.{cell_number, place_of}
-use Rattle.bios_services.specs.Drawing.{characters_plan}
+use Rattle.bios_services.specs.Cursor.{row_of, column_of, cell_number, place_of}
+use Rattle.bios_services.specs.Drawing.{character_plan, characters_plan}
 use Rattle.bios_services.specs.Plan.{Plan, run, Done, ◌>>◌}
 use Rattle.bios_services.specs.Refusals.{page_named, count_refusal, refusal_in_mode}
 use Rattle.bios_services.specs.Service.{plan_of, Outcome}
@@ -24,9 +25,21 @@ use Rattle.bios_screen.specs.Screen.{Screen}
 use Rattle.bios_screen.specs.Shown.{pixel_screen, shown}
 use Rattle.bios_screen.specs.Step.{page_meant, count_refused, refused_on, next, answer_on, with_pixels, drawn}
 use Rattle.bios_screen.specs.Served.{IsServed}
-use Rattle.bios_screen.proofs.PlanLemmas.{run_bind}
+use Rattle.bios_screen.proofs.PlanLemmas.{run_bind, then_runs}
+use Rattle.bios_screen.proofs.Places.{ends_before}
 use Rattle.bios_screen.proofs.Kept.{plan_beam}
 use Rattle.bios_screen.proofs.Writes.{count_allowed}
+
+-- a character is a run of one
+pub one_character : (fonts : FontSet) (d : BiosData) (p q character : ℕ) (ink : Ink) (c : CardState) → (run card_meaning (character_plan fonts d p q character ink) c).0 ≡ (run card_meaning (characters_plan fonts d p q character ink 1) c).0
+unfolding characters_plan
+one_character fonts d p q character ink c =
+    let same : q ≡ q + 0 = omega arith in
+    ap (λ i. (run card_meaning (character_plan fonts d p i character ink) c).0) same ∙ sym (then_runs (character_plan fonts d p (q + 0) character ink) (Done tt) c)
+
+-- the cell at a place is one of its page
+pub place_within : (d : BiosData) (place : ℕ) → row_of place < d.last_row + 1 → column_of place < d.columns → cell_number d place + 1 ≤ cells_of d
+place_within d place lr lc = let a = ends_before d.columns (row_of place) (d.last_row + 1) lr in omega arith
 
 module _ (row : ModeRow) (c : CardState) (d : BiosData) (e : mode_row d.mode ≡ Some row) where
   abbrev s : Screen

@@ -47,7 +47,7 @@ fits_by Low p l = omega arith
 fits_by Middle p l = omega arith
 fits_by High p l = omega arith
 
-module _ (law : KeepsBounds) (m : Planes) (c : CardState) (d : BiosData) (t : IsPlanar m c d) (e : mode_row d.mode ≡ Some (row_of m)) (z : IsCard c) (scroll : Scroll) where
+module _ (law : KeepsBounds) (m : Planes) (c : CardState) (d : BiosData) (t : IsPlanar m c d) (e : mode_row d.mode ≡ Some (row_of m)) (z : IsCard c) (p : ℕ) (lp : p < (row_of m).pages) (scroll : Scroll) where
   abbrev s : Screen
   s = pixel_screen (row_of m) c d
 
@@ -57,11 +57,8 @@ module _ (law : KeepsBounds) (m : Planes) (c : CardState) (d : BiosData) (t : Is
   abbrev h : ℕ
   h = d.height
 
-  abbrev p : ℕ
-  p = d.page
-
   abbrev start : ℕ
-  start = d.size * d.page
+  start = d.size * p
 
   abbrev rows : ℕ
   rows = d.last_row + 1
@@ -98,7 +95,7 @@ module _ (law : KeepsBounds) (m : Planes) (c : CardState) (d : BiosData) (t : Is
     memory =
         let a : d.size * p ≡ (row_of m).size * p = ap (λ x. x * p) t.has.size in
         let b : w * (h * rows) ≡ (row_of m).columns * ((row_of m).height * ((row_of m).last_row + 1)) = ap (λ i. i * (h * rows)) t.has.columns ∙ ap (λ i. (row_of m).columns * (i * rows)) t.has.height ∙ ap (λ i. (row_of m).columns * ((row_of m).height * (i + 1))) t.has.last_row in
-        let f = fits_by m p t.has.page in
+        let f = fits_by m p lp in
         omega arith;
     inside = pixel_windows.inside_rows (row_of m) c d scroll;
     across = pixel_windows.across_page (row_of m) c d scroll wide;
@@ -154,17 +151,17 @@ module _ (law : KeepsBounds) (m : Planes) (c : CardState) (d : BiosData) (t : Is
       ∙ sym (ap (λ b. let v : ℕ = (if b then scroll.fill else mask) in v) (ap (λ i. i == 0x13) t.number ∙ packed_by m))
 
   stays : (change : (ℕ → ℕ) → ℕ → ℕ) → ((k : ℕ) → change (pixel_of s p) k ≡ pixel_of s p k) → shown c d ≡ Some (with_pixels s p change)
-  stays change same = screens.page_redrawn m c d t e z p c old c.host.latches change t.has.page (screens.begins m c d t e z) (λ k lk. sym (screens.pixel_is m c d t e z p k t.has.page lk) ∙ sym (same k)) (λ o out. refl)
+  stays change same = screens.page_redrawn m c d t e z p c old c.host.latches change lp (screens.begins m c d t e z) (λ k lk. sym (screens.pixel_is m c d t e z p k lp lk) ∙ sym (same k)) (λ o out. refl)
 
   begins : Drawn (without_drawing c) (row_of m).misc (slice_index (row_of m).sequencer 1) at_rest c old
   begins = record { latches = c.host.latches; is = screens.begins m c d t e z }
 
-  up_shown : shown (run card_meaning (up_plan (band_of d p scroll.left scroll.right) scroll.top height n scroll.fill) c).0 d ≡ Some (with_pixels s p (pixels_up s scroll))
+  pub up_shown : shown (run card_meaning (up_plan (band_of d p scroll.left scroll.right) scroll.top height n scroll.fill) c).0 d ≡ Some (with_pixels s p (pixels_up s scroll))
   up_shown =
       let done = windows.went_up law (without_drawing c) (row_of m).misc (slice_index (row_of m).sequencer 1) (enabled_by m) (page_address d p) w h scroll.left width start rows scroll.top height wide high window n scroll.fill c old (pixel_windows.few_lines (row_of m) c d scroll) (pixel_windows.some_lines (row_of m) c d scroll) begins in
       let f = done.cells in
       ap (λ b. shown (run card_meaning (up_plan b scroll.top height n scroll.fill) c).0 d) band_is
-      ∙ screens.page_redrawn m c d t e z p (run card_meaning (up_plan band scroll.top height n scroll.fill) c).0 f done.shown.latches (pixels_up s scroll) t.has.page done.shown.is
+      ∙ screens.page_redrawn m c d t e z p (run card_meaning (up_plan band scroll.top height n scroll.fill) c).0 f done.shown.latches (pixels_up s scroll) lp done.shown.is
       (λ k lk. by_test k lk (has_pixel s scroll k) refl f done.fact)
       (λ o out. done.fact.outside o (no_other o out))
     where
@@ -172,7 +169,7 @@ module _ (law : KeepsBounds) (m : Planes) (c : CardState) (d : BiosData) (t : Is
           → nibble_of (f (d.size * p + k / 8)) (k % 8) ≡ (if has_pixel s scroll k then (if nat_lt (pixel_row s k + n) (scroll.top + height) then pixel_of s p (k + row_pixels s n) else filling d.mode scroll.fill) else pixel_of s p k)
       by_test k lk false test f up =
           ap (λ (x : Four ℕ). nibble_of x (k % 8)) (up.outside (d.size * p + k / 8) (λ b q i. let same : b ≡ k / 8 = omega arith in strip_out k test (subst IsIn same i)))
-          ∙ sym (screens.pixel_is m c d t e z p k t.has.page lk)
+          ∙ sym (screens.pixel_is m c d t e z p k lp lk)
           ∙ sym (ap (λ b. if b then (if nat_lt (pixel_row s k + n) (scroll.top + height) then pixel_of s p (k + row_pixels s n) else filling d.mode scroll.fill) else pixel_of s p k) test)
       by_test k lk true test f up =
           let i = strip_in k test in
@@ -190,7 +187,7 @@ module _ (law : KeepsBounds) (m : Planes) (c : CardState) (d : BiosData) (t : Is
           let dot : far % 8 ≡ k % 8 = omega arith in
           let less : far < page_pixels d = omega arith in
           ap (λ (x : Four ℕ). nibble_of x (k % 8)) (up.moved b i (omega arith))
-          ∙ sym (screens.pixel_is m c d t e z p far t.has.page less ∙ ap (λ x. nibble_of (old (d.size * p + x)) (far % 8)) strip ∙ ap (nibble_of (old (d.size * p + (b + w * (h * n))))) dot)
+          ∙ sym (screens.pixel_is m c d t e z p far lp less ∙ ap (λ x. nibble_of (old (d.size * p + x)) (far % 8)) strip ∙ ap (nibble_of (old (d.size * p + (b + w * (h * n))))) dot)
           ∙ ap (λ x. if x then pixel_of s p far else filling d.mode scroll.fill) (sym (lt_test (pixel_row s k + n) (scroll.top + height) l))
           ∙ tests)
           (λ (l : scroll.top + height ≤ pixel_row s k + n).
@@ -204,7 +201,7 @@ module _ (law : KeepsBounds) (m : Planes) (c : CardState) (d : BiosData) (t : Is
       let done = windows.went_down law (without_drawing c) (row_of m).misc (slice_index (row_of m).sequencer 1) (enabled_by m) (page_address d p) w h scroll.left width start rows scroll.top height wide high window n scroll.fill c old (pixel_windows.few_lines (row_of m) c d scroll) (pixel_windows.some_lines (row_of m) c d scroll) begins in
       let f = done.cells in
       ap (λ b. shown (run card_meaning (down_plan b scroll.top height n scroll.fill) c).0 d) band_is
-      ∙ screens.page_redrawn m c d t e z p (run card_meaning (down_plan band scroll.top height n scroll.fill) c).0 f done.shown.latches (pixels_down s scroll) t.has.page done.shown.is
+      ∙ screens.page_redrawn m c d t e z p (run card_meaning (down_plan band scroll.top height n scroll.fill) c).0 f done.shown.latches (pixels_down s scroll) lp done.shown.is
       (λ k lk. by_test k lk (has_pixel s scroll k) refl f done.fact)
       (λ o out. done.fact.outside o (no_other o out))
     where
@@ -212,7 +209,7 @@ module _ (law : KeepsBounds) (m : Planes) (c : CardState) (d : BiosData) (t : Is
           → nibble_of (f (d.size * p + k / 8)) (k % 8) ≡ (if has_pixel s scroll k then (if nat_le (scroll.top + n) (pixel_row s k) then pixel_of s p (k - row_pixels s n) else filling d.mode scroll.fill) else pixel_of s p k)
       by_test k lk false test f down =
           ap (λ (x : Four ℕ). nibble_of x (k % 8)) (down.outside (d.size * p + k / 8) (λ b q i. let same : b ≡ k / 8 = omega arith in strip_out k test (subst IsIn same i)))
-          ∙ sym (screens.pixel_is m c d t e z p k t.has.page lk)
+          ∙ sym (screens.pixel_is m c d t e z p k lp lk)
           ∙ sym (ap (λ b. if b then (if nat_le (scroll.top + n) (pixel_row s k) then pixel_of s p (k - row_pixels s n) else filling d.mode scroll.fill) else pixel_of s p k) test)
       by_test k lk true test f down =
           let i = strip_in k test in
@@ -231,13 +228,14 @@ module _ (law : KeepsBounds) (m : Planes) (c : CardState) (d : BiosData) (t : Is
           let strip : far / 8 ≡ b - w * (h * n) = omega arith in
           let dot : far % 8 ≡ k % 8 = omega arith in
           ap (λ (x : Four ℕ). nibble_of x (k % 8)) (down.moved b i (omega arith))
-          ∙ sym (screens.pixel_is m c d t e z p far t.has.page (omega arith) ∙ ap (λ x. nibble_of (old (d.size * p + x)) (far % 8)) strip ∙ ap (nibble_of (old (d.size * p + (b - w * (h * n))))) dot)
+          ∙ sym (screens.pixel_is m c d t e z p far lp (omega arith) ∙ ap (λ x. nibble_of (old (d.size * p + x)) (far % 8)) strip ∙ ap (nibble_of (old (d.size * p + (b - w * (h * n))))) dot)
           ∙ ap (λ x. if x then pixel_of s p far else filling d.mode scroll.fill) (sym (le_test (scroll.top + n) (pixel_row s k) l))
           ∙ tests)
           (cases_lt (pixel_row s k) (scroll.top + n))
 
-  pub scroll_up : (fonts : FontSet) (r : Regs) (block : List ℕ) → IsServed (ScrollUp scroll) fonts r block c d s
-  scroll_up fonts r block = pixel_windows.scroll_up (row_of m) c d scroll fonts r block stays up_shown
+-- the window of a call is on the active page
+pub scroll_up : (law : KeepsBounds) (m : Planes) (c : CardState) (d : BiosData) (t : IsPlanar m c d) → mode_row d.mode ≡ Some (row_of m) → IsCard c → (scroll : Scroll) (fonts : FontSet) (r : Regs) (block : List ℕ) → IsServed (ScrollUp scroll) fonts r block c d (pixel_screen (row_of m) c d)
+scroll_up law m c d t e z scroll fonts r block = pixel_windows.scroll_up (row_of m) c d scroll fonts r block (stays law m c d t e z d.page t.has.page scroll) (up_shown law m c d t e z d.page t.has.page scroll)
 
-  pub scroll_down : (fonts : FontSet) (r : Regs) (block : List ℕ) → IsServed (ScrollDown scroll) fonts r block c d s
-  scroll_down fonts r block = pixel_windows.scroll_down (row_of m) c d scroll fonts r block stays down_shown
+pub scroll_down : (law : KeepsBounds) (m : Planes) (c : CardState) (d : BiosData) (t : IsPlanar m c d) → mode_row d.mode ≡ Some (row_of m) → IsCard c → (scroll : Scroll) (fonts : FontSet) (r : Regs) (block : List ℕ) → IsServed (ScrollDown scroll) fonts r block c d (pixel_screen (row_of m) c d)
+scroll_down law m c d t e z scroll fonts r block = pixel_windows.scroll_down (row_of m) c d scroll fonts r block (stays law m c d t e z d.page t.has.page scroll) (down_shown law m c d t e z d.page t.has.page scroll)

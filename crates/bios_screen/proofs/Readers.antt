@@ -13,11 +13,10 @@ use Rattle.bios_services.specs.Bounds.{pages_in, pages_of}
 use Rattle.bios_services.specs.Pixels.{dots_across, dots_down}
 use Rattle.bios_services.specs.Refusals.{page_named, page_refusal, pixel_refusal, refusal_in_mode}
 use Rattle.bios_services.specs.Service.{plan_of}
-use Rattle.bios_screen.specs.Shown.{shown}
 use Rattle.bios_screen.specs.Step.{page_meant, page_refused, pixel_refused, refused_on}
 use Rattle.bios_screen.specs.Served.{IsServed}
 use Rattle.bios_screen.proofs.Kept.{plan_beam}
-use Rattle.bios_screen.proofs.Shows.{IsShown, screen_shown, shown_of}
+use Rattle.bios_screen.proofs.Shows.{IsShown, screen_shown}
 
 -- the page that is meant, and why it is refused
 pub meant_is : (c : CardState) (d : BiosData) (h : IsShown c d) (page : ℕ) → page_named d page ≡ page_meant (screen_shown c d h) page
@@ -28,9 +27,6 @@ page_refusal_is c d h page = ap (λ (x : Option ModeRow). let y : Option Refusal
 
 pub named_refusal_is : (c : CardState) (d : BiosData) (h : IsShown c d) (page : ℕ) → page_refusal d (page_named d page) ≡ page_refused (screen_shown c d h) (page_meant (screen_shown c d h) page)
 named_refusal_is c d h page = ap (page_refusal d) (meant_is c d h page) ∙ page_refusal_is c d h (page_meant (screen_shown c d h) page)
-
-pub still_shown : (c : CardState) (d : BiosData) (h : IsShown c d) → shown c d ≡ Some (screen_shown c d h)
-still_shown c d h = shown_of c d h.row h.mode h.tests
 
 -- ---- services of dots, which text has not
 

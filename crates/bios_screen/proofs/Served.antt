@@ -1,6 +1,5 @@
 -- The laws of the services.
-use Rattle.std.proofs.Common.{◌≡◌, ℕ, ◌<◌, refl, sym, ap, ◌∙◌, subst, Bool, true, false, List, Some}
-use Rattle.std.specs.Prelude.{◌||◌}
+use Rattle.std.proofs.Common.{◌≡◌, ℕ, ◌<◌, refl, subst, Bool, true, false, List, Some}
 use Rattle.vga_card.specs.Bounds.{IsCard}
 use Rattle.vga_card.specs.Card.{CardState}
 use Rattle.bios_modes.specs.Bda.{BiosData}
@@ -16,10 +15,11 @@ use Rattle.bios_services.specs.declared.colours.ColourService.{ColourService}
 use Rattle.bios_services.specs.declared.call.Service.{Service}
 use Rattle.bios_services.specs.declared.call.Service.TheVariants.{SetCursorType, SetCursor, ReadCursor, SelectPage, ReadCell, WriteCells, ScrollUp, ScrollDown, WritePixel, ReadPixel, Teletype, ReadMode, Colours, ReadAdapter, WriteString, ReadDisplay}
 use Rattle.bios_screen.specs.Shown.{pixel_screen}
-use Rattle.bios_screen.specs.Served.{FitsBytes, IsServed, is_told_in_graphics, Serves, ServesText}
+use Rattle.bios_screen.specs.Served.{FitsBytes, IsServed, Serves, ServesText}
 use Rattle.bios_modes.specs.Bounds.{AreBytes}
-use Rattle.bios_screen.proofs.Shows.{IsShown, AllTests, data_is, screen_shown, shown_is, text_shown}
+use Rattle.bios_screen.proofs.Shows.{IsShown, screen_shown, shown_is, text_shown}
 use Rattle.bios_screen.proofs.PackedDots.{IsPacked}
+use Rattle.bios_screen.proofs.PixelKinds.{by_colours}
 use Rattle.bios_screen.proofs.PackedPixels as packed_pixels
 use Rattle.bios_screen.proofs.PixelDots.{IsPlanar}
 use Rattle.bios_screen.proofs.PlanarReads as planar_reads
@@ -30,9 +30,7 @@ use Rattle.bios_screen.proofs.PlanarCells as planar_cells
 use Rattle.bios_screen.proofs.PackedCells as packed_cells
 use Rattle.bios_screen.proofs.PlanarScrolls as planar_scrolls
 use Rattle.bios_screen.proofs.PackedScrolls as packed_scrolls
-use Rattle.bios_screen.proofs.PixelModes.{Planes, Graphics, row_of, row_in, number_in, graphics_row}
-use Rattle.bios_screen.proofs.PixelModes.Graphics.{Sixteen, Many}
-use Rattle.bios_modes.specs.declared.modes.ModeRow.{ModeRow}
+use Rattle.bios_screen.proofs.PixelModes.{Planes, row_of}
 use Rattle.bios_screen.proofs.Readers as readers
 use Rattle.bios_screen.proofs.PixelShows.{IsPixels, pixels_shown, pixels_of_shown}
 use Rattle.bios_screen.proofs.AnyShows.{IsAny, any_screen, any_is}
@@ -46,58 +44,40 @@ use Rattle.bios_screen.proofs.Teletypes as teletypes
 use Rattle.bios_screen.proofs.Strings as strings
 use Rattle.bios_screen.proofs.Coloured as coloured
 
-text_only : (a b : Bool) → b ≡ false → (a || b) ≡ true → a ≡ true
-text_only true b alone h = refl
-text_only false b alone h = absurd (cc)
-
--- in text alone
-serves : (service : Service) → ((mode : ℕ) → is_told_in_graphics mode service ≡ false) → ((fonts : FontSet) (r : Regs) (block : List ℕ) (c : CardState) (d : BiosData) (h : IsShown c d) → AreBytes block → IsCard c → IsBda d → IsServed service fonts r block c d (screen_shown c d h)) → Serves service
-serves service alone f fonts r block c d s bytes z bda e told =
-    let x = shown_is c d s (text_shown c d s e (text_only (is_text s.mode) (is_told_in_graphics s.mode service) (alone s.mode) told)) e in
-    subst (IsServed service fonts r block c d) x.screen (f fonts r block c d x.is bytes z bda)
-
 -- in text, and in graphics
 serves_both : (service : Service) → ((fonts : FontSet) (r : Regs) (block : List ℕ) (c : CardState) (d : BiosData) (h : IsShown c d) → IsBda d → IsServed service fonts r block c d (screen_shown c d h)) → ((fonts : FontSet) (r : Regs) (block : List ℕ) (c : CardState) (d : BiosData) (h : IsPixels c d) → IsServed service fonts r block c d (pixels_shown c d h)) → Serves service
-serves_both service f g fonts r block c d s bytes z bda e told = by_kind (is_text d.mode) refl
+serves_both service f g fonts r block c d s bytes z bda e = by_kind (is_text d.mode) refl
   where
     by_kind : (b : Bool) → is_text d.mode ≡ b → IsServed service fonts r block c d s
     by_kind true t = let x = shown_is c d s t e in subst (IsServed service fonts r block c d) x.screen (f fonts r block c d x.is bda)
     by_kind false t = let x = pixels_of_shown c d s t e in subst (IsServed service fonts r block c d) x.screen (g fonts r block c d x.is)
 
 -- in all modes alike
-serves_any : (service : Service) → ((fonts : FontSet) (r : Regs) (block : List ℕ) (c : CardState) (d : BiosData) (h : IsAny c d) → AreBytes block → IsCard c → IsServed service fonts r block c d (any_screen c d h c)) → Serves service
-serves_any service f fonts r block c d s bytes z bda e told = let x = any_is c d s e in subst (IsServed service fonts r block c d) x.screen (f fonts r block c d x.is bytes z)
+serves_any : (service : Service) → ((fonts : FontSet) (r : Regs) (block : List ℕ) (c : CardState) (d : BiosData) (h : IsAny c d) → AreBytes block → IsCard c → IsBda d → IsServed service fonts r block c d (any_screen c d h c)) → Serves service
+serves_any service f fonts r block c d s bytes z bda e = let x = any_is c d s e in subst (IsServed service fonts r block c d) x.screen (f fonts r block c d x.is bytes z bda)
 
 pub read_cursor : (page : ℕ) → Serves (ReadCursor page)
-read_cursor page = serves_any (ReadCursor page) (λ fonts r block c d h bytes z. any.read_cursor page fonts r block c d h)
+read_cursor page = serves_any (ReadCursor page) (λ fonts r block c d h bytes z bda. any.read_cursor page fonts r block c d h)
 
 pub read_mode : Serves ReadMode
-read_mode = serves_any ReadMode (λ fonts r block c d h bytes z. any.read_mode fonts r block c d h)
+read_mode = serves_any ReadMode (λ fonts r block c d h bytes z bda. any.read_mode fonts r block c d h)
 
 pub read_adapter : Serves ReadAdapter
-read_adapter = serves_any ReadAdapter (λ fonts r block c d h bytes z. any.read_adapter fonts r block c d h)
+read_adapter = serves_any ReadAdapter (λ fonts r block c d h bytes z bda. any.read_adapter fonts r block c d h)
 
 pub read_display : Serves ReadDisplay
-read_display = serves_any ReadDisplay (λ fonts r block c d h bytes z. any.read_display fonts r block c d h)
+read_display = serves_any ReadDisplay (λ fonts r block c d h bytes z bda. any.read_display fonts r block c d h)
 
 -- in text, in 16 colours and in 256
 serves_each : (service : Service) → ((fonts : FontSet) (r : Regs) (block : List ℕ) (c : CardState) (d : BiosData) (h : IsShown c d) → IsCard c → IsServed service fonts r block c d (screen_shown c d h))
     → ((m : Planes) (fonts : FontSet) (r : Regs) (block : List ℕ) (c : CardState) (d : BiosData) → IsPlanar m c d → mode_row d.mode ≡ Some (row_of m) → IsCard c → IsServed service fonts r block c d (pixel_screen (row_of m) c d))
     → ((fonts : FontSet) (r : Regs) (block : List ℕ) (c : CardState) (d : BiosData) → IsPacked c d → mode_row d.mode ≡ Some bytes_320_by_200 → IsCard c → IsServed service fonts r block c d (pixel_screen bytes_320_by_200 c d))
     → Serves service
-serves_each service text planar packed fonts r block c d s bytes z bda e told = by_kind (is_text d.mode) refl
+serves_each service text planar packed fonts r block c d s bytes z bda e = by_kind (is_text d.mode) refl
   where
-    by_mode : (k : Graphics) → d.mode ≡ number_in k → AllTests (row_in k) c d → mode_row d.mode ≡ Some (row_in k) → IsServed service fonts r block c d (pixel_screen (row_in k) c d)
-    by_mode (Sixteen m) n tests there = planar m fonts r block c d (record { number = n; tests = tests; has = data_is (row_of m) d tests.data_test }) there z
-    by_mode Many n tests there = packed fonts r block c d (record { number = n; tests = tests; has = data_is bytes_320_by_200 d tests.data_test }) there z
-
     by_kind : (b : Bool) → is_text d.mode ≡ b → IsServed service fonts r block c d s
     by_kind true t = let x = shown_is c d s t e in subst (IsServed service fonts r block c d) x.screen (text fonts r block c d x.is z)
-    by_kind false t =
-        let x = pixels_of_shown c d s t e in
-        let g = graphics_row d.mode x.is.row t x.is.mode in
-        let served = by_mode g.kind g.number (subst (λ q. AllTests q c d) (sym g.row_is) x.is.tests) (x.is.mode ∙ ap (λ (q : ModeRow). Some q) (sym g.row_is)) in
-        subst (IsServed service fonts r block c d) x.screen (subst (λ q. IsServed service fonts r block c d (pixel_screen q c d)) g.row_is served)
+    by_kind false t = by_colours c d (IsServed service fonts r block c d) (λ m is row. planar m fonts r block c d is row z) (λ is row. packed fonts r block c d is row z) s t e
 
 pub write_pixel : KeepsBounds → (page x y colour : ℕ) → colour < 256 → Serves (WritePixel page x y colour)
 write_pixel law page x y colour l = serves_each (WritePixel page x y colour) (λ fonts r block c d h z. readers.write_pixel page x y colour fonts r block c d h) (λ m fonts r block c d t e z. planar_dots.write_pixel law m c d t e z page x y colour fonts r block) (λ fonts r block c d t e z. packed_pixels.write_pixel c d t e z page x y colour fonts r block l)
@@ -138,10 +118,10 @@ pub scroll_down : KeepsBounds → (window : Scroll) → window.fill < 256 → Se
 scroll_down law window l = serves_each (ScrollDown window) (λ fonts r block c d h z. windows.scroll_down window fonts r block c d h z l) (λ m fonts r block c d t e z. planar_scrolls.scroll_down law m c d t e z window fonts r block) (λ fonts r block c d t e z. packed_scrolls.scroll_down law c d t e z window l fonts r block)
 
 pub teletype : KeepsBounds → (character colour : ℕ) → character < 256 → colour < 256 → Serves (Teletype character colour)
-teletype law character colour l k = serves (Teletype character colour) (λ mode. refl) (λ fonts r block c d h bytes z bda. teletypes.teletype law character colour fonts r block c d h l k z bda)
+teletype law character colour l k = serves_any (Teletype character colour) (λ fonts r block c d h bytes z bda. teletypes.teletype law character colour l k fonts c d h z bda r block)
 
 pub write_string : KeepsBounds → (call : StringCall) → call.colour < 256 → Serves (WriteString call)
-write_string law call l = serves (WriteString call) (λ mode. refl) (λ fonts r block c d h bytes z bda. strings.write_string law call fonts r block c d h bytes l z bda)
+write_string law call l = serves_any (WriteString call) (λ fonts r block c d h bytes z bda. strings.write_string law call fonts r block c d h bytes l z bda)
 
 pub set_colours : (service : ColourService) → FitsBytes service → Serves (Colours service)
-set_colours service f = serves_any (Colours service) (λ fonts r block c d h bytes z. coloured.set_colours service fonts r block c d h f bytes z)
+set_colours service f = serves_any (Colours service) (λ fonts r block c d h bytes z bda. coloured.set_colours service fonts r block c d h f bytes z)

@@ -1,5 +1,5 @@
 -- Typing a string: from a state that shows a screen to one that shows the next.
-use Rattle.std.proofs.Common.{◌≡◌, ℕ, zero, suc, ◌+◌, ◌*◌, ◌<◌, refl, ap, ◌∙◌, subst, List, length, Option, Some, None, Bool, true, false}
+use Rattle.std.proofs.Common.{◌≡◌, ℕ, zero, suc, ◌+◌, ◌*◌, ◌<◌, refl, ap, ◌∙◌, List, length, Option, Some, None, Bool, true, false}
 use Rattle.std.specs.Prelude.{◌&&◌, nat_lt, if◌then◌else◌, slice_index}
 use Rattle.vga_bits.specs.declared.refusal.Refusal.{Refusal}
 use Rattle.vga_bits.specs.declared.refusal.Refusal.TheVariants.{BadPage, Outside}
@@ -8,12 +8,14 @@ use Rattle.vga_card.specs.Bus.{card_meaning}
 use Rattle.vga_card.specs.Card.{CardState}
 use Rattle.bios_modes.specs.declared.modes.ModeRow.{ModeRow}
 use Rattle.bios_modes.specs.Bda.{BiosData}
+use Rattle.bios_modes.specs.Bounds.{IsBda, AreBytes}
 use Rattle.bios_modes.specs.Fonts.{FontSet}
+use Rattle.bios_modes.specs.Modes.{mode_row}
 use Rattle.bios_services.specs.declared.regs.Regs.{Regs}
 use Rattle.bios_services.specs.declared.strings.StringCall.{StringCall}
 use Rattle.bios_services.specs.declared.call.Service.TheVariants.{WriteString}
 use Rattle.bios_services.specs.Plan.{Plan, run, Done, fold}
-use Rattle.bios_services.specs.Bounds.{pages_in}
+use Rattle.bios_services.specs.Bounds.{pages_in, pages_of}
 use Rattle.bios_services.specs.Colours.{block_refusal}
 use Rattle.bios_services.specs.Cursor.{row_of, column_of, move_cursor_plan}
 use Rattle.bios_services.specs.Teletype.{type_plan}
@@ -22,20 +24,21 @@ use Rattle.bios_services.specs.Refusals.{page_named, string_refusal, refusal_in_
 use Rattle.bios_services.specs.Service.{plan_of}
 use Rattle.bios_screen.specs.Screen.{Screen}
 use Rattle.bios_screen.specs.Shown.{shown}
-use Rattle.bios_modes.specs.Bounds.{IsBda}
 use Rattle.bios_screen.specs.Step.{page_meant, string_refused, refused_on, next, answer_on, typed, typed_on, string_typed, with_place as placed_on}
 use Rattle.bios_screen.specs.Served.{IsServed}
-use Rattle.bios_modes.specs.Bounds.{AreBytes}
 use Rattle.bios_screen.proofs.PlanLemmas.{run_bind}
 use Rattle.bios_screen.proofs.Kept.{KeepsBounds, plan_bounds, plan_beam}
 use Rattle.bios_screen.proofs.TestLemmas.{lt_is}
-use Rattle.bios_screen.proofs.Shows.{IsShown, screen_shown, shown_is}
-use Rattle.bios_screen.proofs.Readers.{meant_is, still_shown}
-use Rattle.bios_screen.proofs.Cursors.{then_data, data_runs, moved_shown}
-use Rattle.bios_screen.proofs.Typing.{Leads, page_again, is_typed}
-use Rattle.bios_screen.proofs.Teletypes.{Inside, le_lt, typed_inside, inside_word, few_rows, few_columns}
+use Rattle.bios_screen.proofs.AnyShows.{IsAny, any_screen, still_any}
+use Rattle.bios_screen.proofs.AnyReaders.{any_meant}
+use Rattle.bios_screen.proofs.Cursors.{then_data, data_runs}
+use Rattle.bios_screen.proofs.TypedPlaces.{Inside}
+use Rattle.bios_screen.proofs.Typing.{page_of, LeadsInside, leads_on, is_typed}
+use Rattle.bios_screen.proofs.Teletypes.{le_lt, can_type, moved}
 
-module _ (law : KeepsBounds) (fonts : FontSet) (d : BiosData) (p : ℕ) (call : StringCall) (block : List ℕ) (bytes : AreBytes block) (colour : call.colour < 256) where
+-- ---- characters one after another
+
+module _ (law : KeepsBounds) (fonts : FontSet) (d : BiosData) (p : ℕ) (lp : p < pages_of d) (call : StringCall) (block : List ℕ) (bytes : AreBytes block) (colour : call.colour < 256) where
   ink_small : (i : ℕ) → (ink_at call block i).colour < 256
   ink_small i = by_test call.has_attributes
     where
@@ -47,69 +50,48 @@ module _ (law : KeepsBounds) (fonts : FontSet) (d : BiosData) (p : ℕ) (call : 
   abbrev one : ℕ → ℕ → Plan ℕ
   one i place = type_plan fonts d p place (character_at call block i) (ink_at call block i)
 
-  -- a plan leads to a screen and a place within its page
-  record LeadsInside (q : Plan ℕ) (c : CardState) (to : Screen × ℕ) : Type 0 where
-    leads : Leads q c d to.0 to.1
-    inside : Inside (d.last_row + 1) d.columns to.1
+  -- n characters from character i on
+  all_typed : (n i place : ℕ) (c : CardState) (s : Screen) → shown c d ≡ Some s → IsCard c → Inside (d.last_row + 1) d.columns place → LeadsInside (fold one n i place) c d (typed_on fonts call block p n i (s, place))
+  all_typed zero i place c s e z l = record { leads = record { answer = refl; shows = e }; inside = l }
+  all_typed (suc n) i place c s e z l =
+      let v = character_at call block i in
+      let ink = ink_at call block i in
+      let t = is_typed law fonts d p (can_type law fonts d p lp) c s place v ink z e l (bytes _) (ink_small i) in
+      let after = typed fonts s p place v ink in
+      let rest = all_typed n (i + 1) after.1 (run card_meaning (one i place) c).0 after.0 t.leads.shows (plan_bounds law (one i place) c z) t.inside in
+      record {
+        leads = leads_on (one i place) (fold one n (i + 1)) c d after (typed_on fonts call block p n (i + 1) after) t.leads rest.leads;
+        inside = rest.inside;
+      }
 
-  module _ (c : CardState) (h : IsShown c d) (lp : p < h.row.pages) where
-    -- n characters from character i on
-    all_typed : (n i place : ℕ) (x : CardState) (s : Screen) → shown x d ≡ Some s → IsCard x → Inside (d.last_row + 1) d.columns place → LeadsInside (fold one n i place) x (typed_on call block p n i (s, place))
-    all_typed zero i place x s e z l = record { leads = record { answer = refl; shows = e }; inside = l }
-    all_typed (suc n) i place x s e z l =
-        let is = shown_is x d s h.tests.is_text e in
-        let v = character_at call block i in
-        let ink = ink_at call block i in
-        let t = is_typed law fonts d p place v ink (bytes _) (ink_small i) x is.is z (page_again c x d h is.is p lp) l.row l.column in
-        let there : Leads (one i place) x d (typed s p place v ink).0 (typed s p place v ink).1 = subst (λ (w : Screen). Leads (one i place) x d (typed w p place v ink).0 (typed w p place v ink).1) is.screen t in
-        let still = typed_inside (d.last_row + 1) d.columns (few_columns c d h) (screen_shown x d is.is) p place v ink refl refl l in
-        let next_place : Inside (d.last_row + 1) d.columns (typed s p place v ink).1 = subst (λ (w : Screen). Inside (d.last_row + 1) d.columns (typed w p place v ink).1) is.screen still in
-        let x1 = (run card_meaning (one i place) x).0 in
-        let rest = all_typed n (i + 1) (typed s p place v ink).1 x1 (typed s p place v ink).0 there.shows (plan_bounds law (one i place) x z) next_place in
-        let further : ℕ → Plan ℕ = fold one n (i + 1) in
-        let bound = run_bind card_meaning (one i place) further x in
-        record {
-          leads = record {
-            answer = ap (λ y. y.1) bound ∙ ap (λ k. (run card_meaning (further k) x1).1) there.answer ∙ rest.leads.answer;
-            shows = ap (λ y. shown y.0 d) bound ∙ ap (λ k. shown (run card_meaning (further k) x1).0 d) there.answer ∙ rest.leads.shows;
-          };
-          inside = rest.inside;
-        }
+  string_shown : (c : CardState) (s : Screen) → shown c d ≡ Some s → IsCard c → IsBda d → Inside (d.last_row + 1) d.columns call.place → (let x = run card_meaning (string_plan fonts d p call block) c in shown x.0 x.1) ≡ Some (string_typed fonts s p call block)
+  unfolding string_plan typed_plan
+  string_shown c s e z bda l = ap (λ y. shown y.0 y.1) (run_bind card_meaning (typed_plan fonts d p call block) cursor c) ∙ ap (λ k. let y = run card_meaning (cursor k) c1 in shown y.0 y.1) all.leads.answer ∙ by_test call.moves_cursor
+    where
+      after : Screen × ℕ
+      after = typed_on fonts call block p call.count 0 (s, call.place)
 
-    pub string_shown : IsCard c → IsBda d → Inside (d.last_row + 1) d.columns call.place → (let x = run card_meaning (string_plan fonts d p call block) c in shown x.0 x.1) ≡ Some (string_typed (screen_shown c d h) p call block)
-    unfolding string_plan typed_plan
-    string_shown z bda l = ap (λ y. shown y.0 y.1) (run_bind card_meaning (typed_plan fonts d p call block) cursor c) ∙ ap (λ k. let y = run card_meaning (cursor k) c1 in shown y.0 y.1) all.leads.answer ∙ by_test call.moves_cursor
-      where
-        s : Screen
-        s = screen_shown c d h
+      cursor : ℕ → Plan BiosData
+      cursor place = if call.moves_cursor then move_cursor_plan d p place else Done d
 
-        after : Screen × ℕ
-        after = typed_on call block p call.count 0 (s, call.place)
+      c1 : CardState
+      c1 = (run card_meaning (fold one call.count 0 call.place) c).0
 
-        cursor : ℕ → Plan BiosData
-        cursor place = if call.moves_cursor then move_cursor_plan d p place else Done d
+      all : LeadsInside (fold one call.count 0 call.place) c d after
+      all = all_typed call.count 0 call.place c s e z l
 
-        c1 : CardState
-        c1 = (run card_meaning (fold one call.count 0 call.place) c).0
-
-        all : LeadsInside (fold one call.count 0 call.place) c after
-        all = all_typed call.count 0 call.place c s (still_shown c d h) z l
-
-        by_test : (b : Bool) → (let q : Plan BiosData = (if b then move_cursor_plan d p after.1 else Done d) in shown (run card_meaning q c1).0 (run card_meaning q c1).1) ≡ Some (if b then placed_on after.0 p after.1 else after.0)
-        by_test true =
-            let x = shown_is c1 d after.0 h.tests.is_text all.leads.shows in
-            moved_shown c1 d x.is p after.1 bda (page_again c c1 d h x.is p lp) (inside_word (d.last_row + 1) d.columns (few_columns c d h) after.1 (few_rows c d h) all.inside)
-            ∙ ap (λ (w : Screen). Some (placed_on w p after.1)) x.screen
-        by_test false = all.leads.shows
+      by_test : (b : Bool) → (let q : Plan BiosData = (if b then move_cursor_plan d p after.1 else Done d) in shown (run card_meaning q c1).0 (run card_meaning q c1).1) ≡ Some (if b then placed_on after.0 p after.1 else after.0)
+      by_test true = moved c1 d after.0 p after.1 all.leads.shows bda lp all.inside
+      by_test false = all.leads.shows
 
 -- ---- function 13
 
-string_refusal_is : (c : CardState) (d : BiosData) (h : IsShown c d) (call : StringCall) (len : ℕ) → string_refusal d call len ≡ string_refused (screen_shown c d h) call len
+string_refusal_is : (c : CardState) (d : BiosData) (h : IsAny c d) (call : StringCall) (len : ℕ) → string_refusal d call len ≡ string_refused (any_screen c d h c) call len
 string_refusal_is c d h call len =
     let wrong = block_refusal len (string_len call) in
-    ap (λ p. let y : Option Refusal = (if nat_lt p (pages_in (Rattle.bios_modes.specs.Modes.mode_row d.mode)) then (if is_on_page d call.place then wrong else Some Outside) else Some BadPage) in y) (meant_is c d h call.page)
-    ∙ ap (λ (x : Option ModeRow). let y : Option Refusal = (if nat_lt (page_meant (screen_shown c d h) call.page) (pages_in x) then (if is_on_page d call.place then wrong else Some Outside) else Some BadPage) in y) h.mode
-    ∙ ap (λ b. let y : Option Refusal = (if nat_lt (page_meant (screen_shown c d h) call.page) h.row.pages then (if b && nat_lt (column_of call.place) d.columns then wrong else Some Outside) else Some BadPage) in y) (le_lt (row_of call.place) d.last_row)
+    ap (λ p. let y : Option Refusal = (if nat_lt p (pages_in (mode_row d.mode)) then (if is_on_page d call.place then wrong else Some Outside) else Some BadPage) in y) (any_meant c d h call.page)
+    ∙ ap (λ (x : Option ModeRow). let y : Option Refusal = (if nat_lt (page_meant (any_screen c d h c) call.page) (pages_in x) then (if is_on_page d call.place then wrong else Some Outside) else Some BadPage) in y) h.mode
+    ∙ ap (λ b. let y : Option Refusal = (if nat_lt (page_meant (any_screen c d h c) call.page) h.row.pages then (if b && nat_lt (column_of call.place) d.columns then wrong else Some Outside) else Some BadPage) in y) (le_lt (row_of call.place) d.last_row)
 
 record StringAllowed (pages p rows columns place : ℕ) : Type 0 where
   page : p < pages
@@ -124,13 +106,12 @@ string_allowed pages p rows columns place wrong h = by_tests (nat_lt p pages) (n
     by_tests true false e q f g i = absurd (cc)
     by_tests false b e q f g i = absurd (cc)
 
-pub write_string : (law : KeepsBounds) (call : StringCall) (fonts : FontSet) (r : Regs) (block : List ℕ) (c : CardState) (d : BiosData) (h : IsShown c d) → AreBytes block → call.colour < 256 → IsCard c → IsBda d → IsServed (WriteString call) fonts r block c d (screen_shown c d h)
+pub write_string : (law : KeepsBounds) (call : StringCall) (fonts : FontSet) (r : Regs) (block : List ℕ) (c : CardState) (d : BiosData) (h : IsAny c d) → AreBytes block → call.colour < 256 → IsCard c → IsBda d → IsServed (WriteString call) fonts r block c d (any_screen c d h c)
 unfolding plan_of refusal_in_mode refused_on next answer_on
 write_string law call fonts r block c d h bytes colour z bda =
-    let s = screen_shown c d h in
+    let s = any_screen c d h c in
     let p = page_named d call.page in
     let q = page_meant s call.page in
-    let named : p ≡ q = meant_is c d h call.page in
     let runs = data_runs (string_plan fonts d p call block) r c in
     record {
       refusal = string_refusal_is c d h call (length block);
@@ -138,7 +119,7 @@ write_string law call fonts r block c d h bytes colour z bda =
       shows = λ allowed.
           let a = string_allowed h.row.pages q (d.last_row + 1) d.columns call.place (block_refusal (length block) (string_len call)) allowed in
           ap (λ x. shown x.0 x.1.1) runs
-          ∙ ap (λ n. let x = run card_meaning (string_plan fonts d n call block) c in shown x.0 x.1) named
-          ∙ string_shown law fonts d q call block bytes colour c h a.page z bda a.inside;
+          ∙ ap (λ n. let x = run card_meaning (string_plan fonts d n call block) c in shown x.0 x.1) (any_meant c d h call.page)
+          ∙ string_shown law fonts d q (page_of d h.row q h.mode a.page) call block bytes colour c s (still_any c d h) z bda a.inside;
       beam = plan_beam (then_data (string_plan fonts d p call block) r) c;
     }

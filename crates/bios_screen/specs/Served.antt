@@ -1,5 +1,5 @@
 -- What the laws say: from a state that shows a screen a service leads to one that shows the next.
-use Rattle.std.specs.Prelude.{ℕ, ◌≡◌, ◌<◌, ◌||◌, Bool, true, false, List, length, Some, None, Ok}
+use Rattle.std.specs.Prelude.{ℕ, ◌≡◌, ◌<◌, true, false, List, length, Some, None, Ok}
 use Rattle.vga_card.specs.Card.{CardState}
 use Rattle.vga_card.specs.Bounds.{IsCard}
 use Rattle.vga_card.specs.Bus.{card_meaning}
@@ -11,7 +11,6 @@ use Rattle.bios_modes.specs.Fonts.{FontSet}
 use Rattle.bios_services.specs.declared.reply.Table.TheVariants.{Empty}
 use Rattle.bios_services.specs.declared.call.Call.TheVariants.{SetMode}
 use Rattle.bios_services.specs.declared.call.Service.{Service}
-use Rattle.bios_services.specs.declared.call.Service.TheVariants.{SetCursorType, SetCursor, ReadCursor, SelectPage, ScrollUp, ScrollDown, ReadCell, WriteCells, WritePixel, ReadPixel, ReadMode, Colours, ReadAdapter, ReadDisplay}
 use Rattle.bios_services.specs.declared.colours.ColourService.{ColourService}
 use Rattle.bios_services.specs.declared.colours.ColourService.TheVariants.{SetOverscan}
 use Rattle.bios_services.specs.Plan.{run}
@@ -40,32 +39,9 @@ abbrev pub FitsBytes : ColourService → Type 0
 FitsBytes (SetOverscan value) = value < 256
 FitsBytes service = Unit {0}
 
--- whether the laws tell of a service in a mode of graphics too, so far of those that look at no pixel, of a pixel that is written
--- or read, of characters that are written or read and of windows that go up or down
-abbrev pub is_told_in_graphics : ℕ → Service → Bool
-is_told_in_graphics mode (SetCursorType cursor_type) = true
-is_told_in_graphics mode (SetCursor page place) = true
-is_told_in_graphics mode (ReadCursor page) = true
-is_told_in_graphics mode (SelectPage page) = true
-is_told_in_graphics mode ReadMode = true
-is_told_in_graphics mode (Colours service) = true
-is_told_in_graphics mode ReadAdapter = true
-is_told_in_graphics mode ReadDisplay = true
-is_told_in_graphics mode (ScrollUp window) = true
-is_told_in_graphics mode (ScrollDown window) = true
-is_told_in_graphics mode (ReadCell page) = true
-is_told_in_graphics mode (WriteCells cells) = true
-is_told_in_graphics mode (WritePixel page x y colour) = true
-is_told_in_graphics mode (ReadPixel page x y) = true
-is_told_in_graphics mode _ = false
-
--- whether they tell of it on a screen
-abbrev pub is_told : Screen → Service → Bool
-is_told s service = is_text s.mode || is_told_in_graphics s.mode service
-
 -- from every state that shows a screen the service leads to one that shows the next
 abbrev pub Serves : Service → Type 0
-Serves service = (fonts : FontSet) (r : Regs) (block : List ℕ) (c : CardState) (d : BiosData) (s : Screen) → AreBytes block → IsCard c → IsBda d → shown c d ≡ Some s → is_told s service ≡ true → IsServed service fonts r block c d s
+Serves service = (fonts : FontSet) (r : Regs) (block : List ℕ) (c : CardState) (d : BiosData) (s : Screen) → AreBytes block → IsCard c → IsBda d → shown c d ≡ Some s → IsServed service fonts r block c d s
 
 -- from every state that shows a screen of text, whatever its arguments are
 abbrev pub ServesText : Service → Type 0

@@ -88,7 +88,7 @@ refused_on s ReadDisplay len = None
 
 -- ---- what it does to the cells
 
--- the cells of a screen, and cell k of them
+-- the cells of a screen, and cell k of them; where there are none, that is 00 in attribute 00
 abbrev pub cells_on : Contents → List Cell
 cells_on (Cells cells) = cells
 cells_on (Pixels pages) = []
@@ -208,11 +208,14 @@ drawn fonts s first count character colour old k =
     then dot_inked s.mode colour (is_set (glyph_line fonts s.layout.height character (pixel_line s k)) (7 - k % 8)) (old k)
     else old k
 
--- a character is written from the cursor of a page on, to cells of text or as dots
+-- a character is written to count cells of a page from one on, to cells of text or as dots
+abbrev pub characters_put : FontSet → Screen → ℕ → ℕ → ℕ → ℕ → Ink → Screen
+characters_put fonts s page first count character ink =
+    with_pixels (with_cells s (written (page_start s page + first) count character ink)) page (drawn fonts s first count character ink.colour)
+
+-- it is written from the cursor of a page on
 abbrev pub characters_written : FontSet → Screen → ℕ → CellRun → Screen
-characters_written fonts s page cells =
-    with_pixels (with_cells s (written (cursor_cell s page) cells.count cells.character cells.ink)) page
-    (drawn fonts s (place_number s (cursor_place s page)) cells.count cells.character cells.ink.colour)
+characters_written fonts s page cells = characters_put fonts s page (place_number s (cursor_place s page)) cells.count cells.character cells.ink
 
 -- whether pixel k of a page is in a window
 abbrev pub has_pixel : Screen → Scroll → ℕ → Bool
@@ -242,21 +245,28 @@ pixels_down s w old k =
     then (if nat_le (w.top + window_lines s w) (pixel_row s k) then old (k - row_pixels s (window_lines s w)) else filling s.mode w.fill)
     else old k
 
+-- a window of a page goes up, or down, with its cells or its pixels
+abbrev pub window_up : Screen → ℕ → Scroll → Screen
+window_up s page w = with_pixels (with_cells s (gone_up s page w)) page (pixels_up s w)
+
+abbrev pub window_down : Screen → ℕ → Scroll → Screen
+window_down s page w = with_pixels (with_cells s (gone_down s page w)) page (pixels_down s w)
+
 -- ---- typing
 
--- a whole page that goes up by a row, with this attribute for blanks
+-- a whole page that goes up by a row, with this attribute for blanks, or this colour
 abbrev pub whole_page : Screen → ℕ → Scroll
 whole_page s colour = record { lines = 1; fill = colour; top = 0; left = 0; bottom = s.layout.rows - 1; right = s.layout.columns - 1 }
 
--- the attribute in the last row of a page, at the column of a place
+-- the attribute in the last row of a page, at the column of a place; a page of pixels has none there, and that is colour 0
 abbrev pub last_colour : Screen → ℕ → ℕ → ℕ
 last_colour s page place = (cell_on s (page_start s page + (s.layout.columns * (s.layout.rows - 1) + column_of place))).1
 
--- the row below a place; from the last row the page goes up instead, with a row blank in that attribute
+-- the row below a place; from the last row the page goes up instead, with a row blank in that attribute or colour
 abbrev pub fed : Screen → ℕ → ℕ → Screen × ℕ
 fed s page place =
     if nat_lt (row_of place) (s.layout.rows - 1) then (s, place + 256)
-    else (with_cells s (gone_up s page (whole_page s (last_colour s page place))), place)
+    else (window_up s page (whole_page s (last_colour s page place)), place)
 
 -- the place behind: the next column, or the first one of the row below
 abbrev pub advanced : Screen → ℕ → ℕ → Screen × ℕ
@@ -265,38 +275,38 @@ advanced s page place =
     else ((fed s page place).0, line_start (fed s page place).1)
 
 -- a character at a place, and the place behind
-abbrev pub put_on : Screen → ℕ → ℕ → ℕ → Ink → Screen
-put_on s page place character ink = with_cells s (written (page_start s page + place_number s place) 1 character ink)
+abbrev pub put_on : FontSet → Screen → ℕ → ℕ → ℕ → Ink → Screen
+put_on fonts s page place character ink = characters_put fonts s page (place_number s place) 1 character ink
 
 -- a character is typed at a place: a bell does nothing, a backspace goes a column back, a line feed a row down, a carriage
 -- return to the first column; any other is shown
-unfoldable pub typed : Screen → ℕ → ℕ → ℕ → Ink → Screen × ℕ
-typed s page place character ink =
+unfoldable pub typed : FontSet → Screen → ℕ → ℕ → ℕ → Ink → Screen × ℕ
+typed fonts s page place character ink =
     if character == 0x07 then (s, place)
     else if character == 0x08 then (s, if column_of place == 0 then place else place - 1)
     else if character == 0x0A then fed s page place
     else if character == 0x0D then (s, line_start place)
-    else advanced (put_on s page place character ink) page place
+    else advanced (put_on fonts s page place character ink) page place
 
 -- a cursor at another place of a page
 abbrev pub with_place : Screen → ℕ → ℕ → Screen
 with_place s page place = record s { places = slice_set s.places page place }
 
 -- a character is typed at the cursor of the active page, which then stands behind it; a bell leaves it
-abbrev pub typed_at_cursor : Screen → ℕ → ℕ → Screen
-typed_at_cursor s character colour =
-    if character == 0x07 then s
-    else with_place (typed s s.page (cursor_place s s.page) character (dots_in colour)).0 s.page (typed s s.page (cursor_place s s.page) character (dots_in colour)).1
+abbrev pub typed_at_cursor : FontSet → Screen → ℕ → ℕ → Screen
+typed_at_cursor fonts s character colour =
+    let after = typed fonts s s.page (cursor_place s s.page) character (dots_in colour) in
+    if character == 0x07 then s else with_place after.0 s.page after.1
 
 -- n characters of a string, from character i on, are typed one after another on a page, from a screen and a place on
-abbrev pub typed_on : StringCall → List ℕ → ℕ → ℕ → ℕ → Screen × ℕ → Screen × ℕ
-typed_on call block page zero i at = at
-typed_on call block page (suc n) i at = typed_on call block page n (i + 1) (typed at.0 page at.1 (character_at call block i) (ink_at call block i))
+abbrev pub typed_on : FontSet → StringCall → List ℕ → ℕ → ℕ → ℕ → Screen × ℕ → Screen × ℕ
+typed_on fonts call block page zero i at = at
+typed_on fonts call block page (suc n) i at = typed_on fonts call block page n (i + 1) (typed fonts at.0 page at.1 (character_at call block i) (ink_at call block i))
 
 -- a whole string is typed on a page, and the cursor goes behind it where that is asked
-abbrev pub string_typed : Screen → ℕ → StringCall → List ℕ → Screen
-string_typed s page call block =
-    let after = typed_on call block page call.count 0 (s, call.place) in
+abbrev pub string_typed : FontSet → Screen → ℕ → StringCall → List ℕ → Screen
+string_typed fonts s page call block =
+    let after = typed_on fonts call block page call.count 0 (s, call.place) in
     if call.moves_cursor then with_place after.0 page after.1 else after.0
 
 -- ---- services
@@ -307,17 +317,17 @@ next fonts s (SetCursorType cursor_type) block = record s { cursor_type = cursor
 next fonts s (SetCursor page place) block = with_place s (page_meant s page) place
 next fonts s (ReadCursor page) block = s
 next fonts s (SelectPage page) block = record s { page = page }
-next fonts s (ScrollUp window) block = with_pixels (with_cells s (gone_up s s.page window)) s.page (pixels_up s window)
-next fonts s (ScrollDown window) block = with_pixels (with_cells s (gone_down s s.page window)) s.page (pixels_down s window)
+next fonts s (ScrollUp window) block = window_up s s.page window
+next fonts s (ScrollDown window) block = window_down s s.page window
 next fonts s (ReadCell page) block = s
 next fonts s (WriteCells cells) block = characters_written fonts s (page_meant s cells.page) cells
 next fonts s (WritePixel page x y colour) block = with_pixels s (page_meant s page) (dotted (pixel_number s x y) (inked s.mode colour))
 next fonts s (ReadPixel page x y) block = s
-next fonts s (Teletype character colour) block = typed_at_cursor s character colour
+next fonts s (Teletype character colour) block = typed_at_cursor fonts s character colour
 next fonts s ReadMode block = s
 next fonts s (Colours service) block = coloured s service block
 next fonts s ReadAdapter block = s
-next fonts s (WriteString call) block = string_typed s (page_meant s call.page) call block
+next fonts s (WriteString call) block = string_typed fonts s (page_meant s call.page) call block
 next fonts s ReadDisplay block = s
 
 -- character and attribute at the cursor of a page, as low and high byte

@@ -1,6 +1,5 @@
 //! Laws of plain screens, each of which is a contract, and nothing that runs: from a state that shows a
-//! screen a service leads to one that shows the next, with the screen's answer or refusal. In graphics they
-//! tell of some services so far.
+//! screen a service leads to one that shows the next, with the screen's answer or refusal.
 ghost use Rattle.std.specs.Prelude.{ℕ, ◌≡◌, ◌<◌, Bool, true, List, Some, None, Err};
 ghost use Rattle.vga_bits.specs.declared.refusal.Refusal.TheVariants.{BadFunction, BadMode};
 ghost use Rattle.vga_card.specs.Bounds.{IsCard};
@@ -21,7 +20,7 @@ ghost use Rattle.bios_modes.specs.Modes.{mode_row, colour_text, monochrome_text,
 ghost use Rattle.bios_modes.specs.Bounds.{IsBda};
 ghost use Rattle.bios_screen.specs.Screen.{Screen};
 ghost use Rattle.bios_screen.specs.Shown.{shown};
-ghost use Rattle.bios_screen.specs.Served.{FitsBytes, is_told, Serves, ServesText, SetsFresh, after_call};
+ghost use Rattle.bios_screen.specs.Served.{FitsBytes, Serves, ServesText, SetsFresh, after_call};
 ghost use Rattle.bios_modes.specs.Bounds.{AreBytes};
 ghost use Rattle.bios_screen.specs.Called.{AreWords, IsCalled, IsRead, WantsMemory, IsLeft};
 
@@ -98,12 +97,12 @@ pub fn dots_are_served()
 }
 
 /// From every state that shows a screen a call for a service replies as on the screen, or is refused as
-/// there, and leads to a state that shows the next screen, in text, and for some services in graphics too; a
-/// call for a table replies with that of the screen, and leaves it, as does one for which memory is refused; a
-/// call for no service, or for a mode that there is not, changes nothing.
+/// there, and leads to a state that shows the next screen; a call for a table replies with that of the
+/// screen, and leaves it, as does one for which memory is refused; a call for no service, or for a mode that
+/// there is not, changes nothing.
 pub fn calls_lead_to_screens()
     ensures served { (service : Service) (fonts : FontSet) (r : Regs) (block : List ℕ) (c : CardState) (d : BiosData) (s : Screen) →
-        IsCard c → IsBda d → AreWords r → AreBytes block → shown c d ≡ Some s → is_told s service ≡ true → call_of r ≡ Some (InMode service) → IsCalled service fonts r block c d s }
+        IsCard c → IsBda d → AreWords r → AreBytes block → shown c d ≡ Some s → call_of r ≡ Some (InMode service) → IsCalled service fonts r block c d s }
     ensures table { (service : TableService) (fonts : FontSet) (r : Regs) (block : List ℕ) (c : CardState) (d : BiosData) (s : Screen) →
         IsCard c → shown c d ≡ Some s → call_of r ≡ Some (ReadTable service) → IsRead service fonts r block c d s }
     ensures memory { (fonts : FontSet) (r : Regs) (block : List ℕ) (c y : CardState) (d after : BiosData) (s : Screen) →
