@@ -5,7 +5,7 @@ use Rattle.vga_bits.specs.declared.refusal.Refusal.TheVariants.{Outside}
 use Rattle.bios_modes.specs.Fonts.{FontSet}
 use Rattle.bios_services.specs.declared.scroll.Scroll.{Scroll}
 use Rattle.bios_services.specs.declared.cell_run.CellRun.{CellRun}
-use Rattle.bios_services.specs.declared.call.Service.TheVariants.{ScrollUp, ScrollDown, ReadCell, WriteCells, WritePixel, ReadPixel}
+use Rattle.bios_services.specs.declared.call.Service.TheVariants.{ScrollUp, ScrollDown, ReadCell, WriteCells, WritePixel, ReadPixel, Teletype, WriteString}
 use Rattle.vga_bits.specs.Bits.{byte_of}
 use Rattle.std.specs.Prelude.{◌==◌, if◌then◌else◌}
 use Rattle.bios_services.specs.Glyphs.{has_lines, first_character}
@@ -13,7 +13,7 @@ use Rattle.bios_screen.specs.Listing.{listing}
 use Rattle.bios_screen.specs.Screen.{Pixels, Screen}
 use Rattle.bios_screen.specs.Shown.{planar_pixel, packed_pixel}
 use Rattle.bios_screen.specs.Parts.{cell_at, pixel_at}
-use Rattle.bios_screen.specs.Step.{pages_on, refused_on, next, answer_on}
+use Rattle.bios_screen.specs.Step.{pages_on, refused_on, next, answer_on, typed}
 use Rattle.bios_screen.specs.Picture.{pixel_dot, dot_at, picture_width, picture_height}
 
 -- a byte of each plane at 0, and another of plane 1 at 4
@@ -168,3 +168,71 @@ seen = refl
 outside : refused_on (shown 0x13) (ReadPixel 0 8 0) 0 ≡ Some Outside
 unfolding refused_on
 outside = refl
+
+-- ---- typing
+
+-- eight pixels of one colour
+abbrev eight : ℕ → List ℕ → List ℕ
+eight n rest = n ∷ n ∷ n ∷ n ∷ n ∷ n ∷ n ∷ n ∷ rest
+
+-- eight pixels of the first character's row, in a colour on another
+abbrev dots : ℕ → ℕ → List ℕ → List ℕ
+dots colour other rest = colour ∷ colour ∷ other ∷ other ∷ other ∷ other ∷ other ∷ colour ∷ rest
+
+abbrev whole : List ℕ
+whole = eight 1 (eight 2 (eight 3 (eight 4 [])))
+
+-- two pages of two rows of two characters, which are a line high; the second is shown, and these are the places of the cursors
+abbrev paged : ℕ → List ℕ → ℕ → List ℕ → ℕ → Screen
+paged mode page0 place0 page1 place1 = record (shown mode) {
+  layout = record { columns = 2; rows = 2; height = 1; distance = 0; pages = 2 };
+  contents = Pixels (page0 ∷ page1 ∷ []);
+  places = place0 ∷ place1 ∷ [];
+  page = 1;
+}
+
+-- a character of 16 colours at the end of a row, and one by XOR
+typed_plain : next fonts (paged 0x0D whole 0 whole 0x0001) (Teletype 0 0x15) [] ≡ paged 0x0D whole 0 (eight 1 (dots 5 0 (eight 3 (eight 4 [])))) 0x0100
+unfolding next typed
+typed_plain = refl
+
+typed_over : next fonts (paged 0x0D whole 0 whole 0x0100) (Teletype 0 0x87) [] ≡ paged 0x0D whole 0 (eight 1 (eight 2 (dots 4 3 (eight 4 [])))) 0x0101
+unfolding next typed
+typed_over = refl
+
+-- behind the last column of the last row the page goes up, with a row of colour 0
+typed_last : next fonts (paged 0x0D whole 0 whole 0x0101) (Teletype 0 0x05) [] ≡ paged 0x0D whole 0 (eight 3 (dots 5 0 (eight 0 (eight 0 [])))) 0x0100
+unfolding next typed
+typed_last = refl
+
+-- and so it does for a line feed there, which leaves the cursor
+fed_last : next fonts (paged 0x0D whole 0 whole 0x0101) (Teletype 0x0A 0x05) [] ≡ paged 0x0D whole 0 (eight 3 (eight 4 (eight 0 (eight 0 [])))) 0x0101
+unfolding next typed
+fed_last = refl
+
+-- the page of 256 colours, and what is typed there
+abbrev single : List ℕ → ℕ → Screen
+single page place = record (paged 0x13 page place [] 0) {
+  layout = record { columns = 2; rows = 2; height = 1; distance = 0; pages = 1 };
+  contents = Pixels (page ∷ []);
+  places = place ∷ [];
+  page = 0;
+}
+
+typed_packed : next fonts (single whole 0x0100) (Teletype 0 0x87) [] ≡ single (eight 1 (eight 2 (dots 0x87 0 (eight 4 [])))) 0x0101
+unfolding next typed
+typed_packed = refl
+
+last_packed : next fonts (single whole 0x0101) (Teletype 0 0x87) [] ≡ single (eight 3 (dots 0x87 0 (eight 0 (eight 0 [])))) 0x0100
+unfolding next typed
+last_packed = refl
+
+-- a string over the end of a page that is not shown: the first character is there before the page goes up, the second is by XOR
+string_typed : next fonts (paged 0x0D whole 0x0001 whole 0) (WriteString (record { page = 0; place = 0x0101; colour = 0; count = 2; has_attributes = true; moves_cursor = true })) (0 ∷ 5 ∷ 0 ∷ 0x83 ∷ []) ≡ paged 0x0D (eight 3 (dots 5 0 (dots 3 0 (eight 0 [])))) 0x0101 whole 0
+unfolding next typed
+string_typed = refl
+
+-- a cursor outside is refused
+typed_outside : refused_on (paged 0x0D whole 0 whole 0x0002) (Teletype 0 5) 0 ≡ Some Outside
+unfolding refused_on
+typed_outside = refl
