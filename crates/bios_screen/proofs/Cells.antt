@@ -34,10 +34,7 @@ cells_same disp rest c f g e t = record {
   attribute = λ k l. ap (λ (x : Cell). x.1) (e k) ∙ t.attribute k l;
 }
 
--- bytes are small
-pub character_small : (disp : Display) (rest c : CardState) (f : ℕ → Cell) (k : ℕ) → k < 16384 → IsCells disp rest c f → (f k).0 < 256
-character_small disp rest c f k l t = let e = t.character k l in let s = t.is.small (2 * k) (omega arith) in omega arith
-
+-- an attribute is a byte
 pub attribute_small : (disp : Display) (rest c : CardState) (f : ℕ → Cell) (k : ℕ) → k < 16384 → IsCells disp rest c f → (f k).1 < 256
 attribute_small disp rest c f k l t = let e = t.attribute k l in let s = t.is.small (2 * k + 1) (omega arith) in omega arith
 

@@ -19,9 +19,6 @@ use Rattle.bios_screen.proofs.TestLemmas.{both_true, if_some, none_some, same, l
 use Rattle.bios_screen.proofs.Setting.{Setting, setting}
 use Rattle.bios_screen.proofs.Display.{Display, text_setting, text_sequencer, misc_of, IsTextRow, text_row_is, row_of, number_of, control_of, control_by}
 
-bytes_same : (l : List ℕ) → bytes_eq l l ≡ true
-bytes_same l = (bytes_eq-Decides l l).1 refl
-
 -- the data as numbers
 pub record HasData (row : ModeRow) (d : BiosData) : Type 0 where
   pub columns : d.columns ≡ row.columns
