@@ -1,5 +1,4 @@
 pub mod LookLemmas
-pub mod ModeLemmas
 pub mod NumberLemmas
 pub mod ReportLemmas
 pub mod RunLemmas

@@ -1,5 +1,5 @@
 -- Why the report of services and whole frames is the plain screen's.
-use Rattle.std.proofs.Common.{◌≡◌, ◌∙◌, inl, inr, ℕ, zero, suc, ◌+◌, ◌^◌, ◌<◌, ◌==◌, ◌||◌, Bool, true, false, List, [], ◌∷◌, ◌++◌, length, drop, Option, Some, None, IfSome, Result, Ok, Err, if◌then◌else◌, arith, refl, sym, ap, subst}
+use Rattle.std.proofs.Common.{◌≡◌, ◌≢◌, ◌∙◌, inl, inr, ℕ, zero, suc, ◌+◌, ◌^◌, ◌<◌, ◌==◌, Bool, true, false, List, [], ◌∷◌, ◌++◌, drop, Option, Some, None, IfSome, Result, Ok, Err, if◌then◌else◌, arith, refl, sym, ap, subst}
 use Rattle.std.specs.List.{AllByRecursion}
 use Rattle.std.specs.Io.KnownBytes.{Appends}
 use Rattle.std.proofs.lemmas.Bool.Decides.{nat_tests}
@@ -17,7 +17,7 @@ use Rattle.vga_card.specs.Dots.{dots}
 use Rattle.vga_card.specs.Frames.{frame, frame_count}
 use Rattle.vga_card.specs.Picture.{bytes_of}
 use Rattle.bios_modes.specs.declared.modes.ModeRow.{ModeRow}
-use Rattle.bios_modes.specs.Modes.{mode_row, colour_text, monochrome_text}
+use Rattle.bios_modes.specs.Modes.{mode_row, colour_text, monochrome_text, planes_320_by_200, planes_640_by_350, planes_640_by_480, bytes_320_by_200}
 use Rattle.bios_modes.specs.Bda.{BiosData, power_on_data}
 use Rattle.bios_modes.specs.Bounds.{IsBda, AreBytes}
 use Rattle.bios_modes.specs.Fonts.{FontSet, font_len, fonts_of}
@@ -34,11 +34,10 @@ use Rattle.bios_services.specs.Plan.{run}
 use Rattle.bios_services.specs.Service.{Answered, service}
 use Rattle.bios_screen.specs.Screen.{Screen}
 use Rattle.bios_screen.specs.Shown.{shown, shown_by, shows, screen_of}
-use Rattle.bios_screen.specs.Served.{is_told, is_told_in_graphics, SetsFresh, after_call}
-use Rattle.bios_screen.specs.Called.{AreWords, IsCalled, IsRead, screen_unless}
+use Rattle.bios_screen.specs.Served.{SetsFresh, after_call}
+use Rattle.bios_screen.specs.Called.{AreWords, IsCalled, IsRead}
 use Rattle.bios_screen.specs.Framed.{IsFramed}
 use Rattle.bios_screen.specs.Fresh.{fresh_screen}
-use Rattle.bios_screen.specs.Step.{refused_on, next}
 use Rattle.bios_screen.specs.Picture.{picture_width, picture_height}
 use Rattle.vga_script.specs.declared.step.Step.{Step}
 use Rattle.vga_script.specs.declared.step.Step.TheVariants.{Int, Frame}
@@ -50,8 +49,7 @@ use Rattle.vga_run.specs.Answer.{Served, of_service, of_shape}
 use Rattle.vga_run.specs.Step.{answer_to, after_step, called}
 use Rattle.vga_run.specs.Report.{line, report_from, report_of, steps_until}
 use Rattle.vga_run.specs.Run.{RunAnswers, ReportsSteps, RunsScript}
-use Rattle.vga_run.proofs.ModeLemmas.{fresh_mode, next_mode}
-use Rattle.vga_run.specs.ScreenReport.{has_screen, Clears, StaysOnScreens, registers_of, IsOfScreens, AreOfScreens, set_on, called_on, reply_on, screen_after, screen_report_from, set_report, first_report, screen_report, ReportsScreens, RunsScreens}
+use Rattle.vga_run.specs.ScreenReport.{Clears, StaysOnScreens, registers_of, IsOfScreens, AreOfScreens, set_on, called_on, reply_on, screen_after, screen_report_from, set_report, first_report, screen_report, ReportsScreens, RunsScreens}
 
 -- the laws of the crates below
 pub record Laws : Type 0 where
@@ -61,7 +59,7 @@ pub record Laws : Type 0 where
   pub card : (fonts : FontSet) (d : BiosData) (r : Regs) (block : List ℕ) (c : CardState) → IsCard c → IsCard (run card_meaning (service fonts d r block) c).0
   pub bda : (fonts : FontSet) (d : BiosData) (r : Regs) (block : List ℕ) (c : CardState) → r.dx < 65536 → AreData d → AreData (run card_meaning (service fonts d r block) c).1.1
   pub served : (asked_for : Service) (fonts : FontSet) (r : Regs) (block : List ℕ) (c : CardState) (d : BiosData) (s : Screen)
-      → IsCard c → IsBda d → AreWords r → AreBytes block → shown c d ≡ Some s → is_told s asked_for ≡ true → call_of r ≡ Some (InMode asked_for) → IsCalled asked_for fonts r block c d s
+      → IsCard c → IsBda d → AreWords r → AreBytes block → shown c d ≡ Some s → call_of r ≡ Some (InMode asked_for) → IsCalled asked_for fonts r block c d s
   pub table : (asked_for : TableService) (fonts : FontSet) (r : Regs) (block : List ℕ) (c : CardState) (d : BiosData) (s : Screen)
       → IsCard c → shown c d ≡ Some s → call_of r ≡ Some (ReadTable asked_for) → IsRead asked_for fonts r block c d s
   pub unknown : (fonts : FontSet) (r : Regs) (block : List ℕ) (c : CardState) (d : BiosData) (s : Screen) → shown c d ≡ Some s → call_of r ≡ None → after_call fonts r block c d ≡ (c, (Err BadFunction, d))
@@ -69,11 +67,15 @@ pub record Laws : Type 0 where
       → call_of r ≡ Some (SetMode mode keeps) → mode_row mode ≡ None → after_call fonts r block c d ≡ (c, (Err BadMode, d))
   pub colour : SetsFresh 0x03 colour_text
   pub monochrome : SetsFresh 0x07 monochrome_text
+  pub planes_320_by_200 : SetsFresh 0x0D planes_320_by_200
+  pub planes_640_by_350 : SetsFresh 0x10 planes_640_by_350
+  pub planes_640_by_480 : SetsFresh 0x12 planes_640_by_480
+  pub bytes_320_by_200 : SetsFresh 0x13 bytes_320_by_200
   pub framed : (c : CardState) (d : BiosData) (s : Screen) → IsCard c → shown c d ≡ Some s → IsFrameStart c.crtc.beam → IsFramed c d s
 
 -- ---- modes
 
--- a mode that has a screen, with its row
+-- a mode of the table, with its row
 record HasRow (mode : ℕ) : Type 0 where
   row : ModeRow
   is : mode_row mode ≡ Some row
@@ -82,13 +84,18 @@ record HasRow (mode : ℕ) : Type 0 where
 same_mode : (mode known : ℕ) → (mode == known) ≡ true → known ≡ mode
 same_mode mode known e = grind (arith, nat_tests)
 
-row_of_screen : Laws → (mode : ℕ) → has_screen mode ≡ true → HasRow mode
-row_of_screen law mode h = by_tests (mode == 0x03) (mode == 0x07) refl refl h
+row_of_mode : Laws → (mode : ℕ) → mode_row mode ≢ None → HasRow mode
+row_of_mode law mode there = by_tests (mode == 0x03) (mode == 0x07) (mode == 0x0D) (mode == 0x10) (mode == 0x12) (mode == 0x13) refl refl refl refl refl refl there
   where
-    by_tests : (a b : Bool) → (mode == 0x03) ≡ a → (mode == 0x07) ≡ b → (a || b) ≡ true → HasRow mode
-    by_tests true b e f i = subst HasRow (same_mode mode 0x03 e) (record { row = colour_text; is = refl; fresh = law.colour })
-    by_tests false true e f i = subst HasRow (same_mode mode 0x07 f) (record { row = monochrome_text; is = refl; fresh = law.monochrome })
-    by_tests false false e f i = absurd (cc)
+    by_tests : (a b f g i j : Bool) → (mode == 0x03) ≡ a → (mode == 0x07) ≡ b → (mode == 0x0D) ≡ f → (mode == 0x10) ≡ g → (mode == 0x12) ≡ i → (mode == 0x13) ≡ j
+        → (let x : Option ModeRow = (if a then Some colour_text else if b then Some monochrome_text else if f then Some planes_320_by_200 else if g then Some planes_640_by_350 else if i then Some planes_640_by_480 else if j then Some bytes_320_by_200 else None) in x) ≢ None → HasRow mode
+    by_tests true b f g i j ea eb ef eg ei ej some = subst HasRow (same_mode mode 0x03 ea) (record { row = colour_text; is = refl; fresh = law.colour })
+    by_tests false true f g i j ea eb ef eg ei ej some = subst HasRow (same_mode mode 0x07 eb) (record { row = monochrome_text; is = refl; fresh = law.monochrome })
+    by_tests false false true g i j ea eb ef eg ei ej some = subst HasRow (same_mode mode 0x0D ef) (record { row = planes_320_by_200; is = refl; fresh = law.planes_320_by_200 })
+    by_tests false false false true i j ea eb ef eg ei ej some = subst HasRow (same_mode mode 0x10 eg) (record { row = planes_640_by_350; is = refl; fresh = law.planes_640_by_350 })
+    by_tests false false false false true j ea eb ef eg ei ej some = subst HasRow (same_mode mode 0x12 ei) (record { row = planes_640_by_480; is = refl; fresh = law.planes_640_by_480 })
+    by_tests false false false false false true ea eb ef eg ei ej some = subst HasRow (same_mode mode 0x13 ej) (record { row = bytes_320_by_200; is = refl; fresh = law.bytes_320_by_200 })
+    by_tests false false false false false false ea eb ef eg ei ej some = absurd (some refl)
 
 -- ---- numbers
 
@@ -113,7 +120,6 @@ record Stands (fonts : FontSet) (m : Machine) (s : Screen) : Type 0 where
   bda : AreData m.bda
   same : m.fonts ≡ fonts
   shows : shown m.card m.bda ≡ Some s
-  text : is_text s.mode ≡ true
   start : IsFrameStart m.card.crtc.beam
 
 -- the number of its frame is the beam's
@@ -139,15 +145,13 @@ frame_shown c d s e = by_row (mode_row d.mode) e
 record CallLeads (x : CardState × Answered) (to : Screen × Result Reply Refusal) (c : CardState) : Type 0 where
   reply : x.1.0 ≡ to.1
   shows : shown x.0 x.1.1 ≡ Some to.0
-  text : is_text to.0.mode ≡ true
   beam : x.0.crtc.beam ≡ c.crtc.beam
 
 -- a call that is refused and does nothing
-refused_leads : (x : CardState × Answered) (why : Refusal) (c : CardState) (d : BiosData) (s : Screen) → x ≡ (c, (Err why, d)) → shown c d ≡ Some s → is_text s.mode ≡ true → CallLeads x (s, Err why) c
-refused_leads x why c d s e shows text = record {
+refused_leads : (x : CardState × Answered) (why : Refusal) (c : CardState) (d : BiosData) (s : Screen) → x ≡ (c, (Err why, d)) → shown c d ≡ Some s → CallLeads x (s, Err why) c
+refused_leads x why c d s e shows = record {
   reply = ap (λ (y : CardState × Answered). y.1.0) e;
   shows = ap (λ (y : CardState × Answered). shown y.0 y.1.1) e ∙ shows;
-  text = text;
   beam = ap (λ (y : CardState × Answered). y.0.crtc.beam) e;
 }
 
@@ -155,35 +159,29 @@ refused_leads x why c d s e shows text = record {
 set_leads : Laws → (mode : ℕ) (keeps : Bool) (fonts : FontSet) (r : Regs) (block : List ℕ) (c : CardState) (d : BiosData) (s : Screen)
     → Clears (Some (SetMode mode keeps)) → call_of r ≡ Some (SetMode mode keeps) → AreBytes fonts.f16 → IsCard c → s.frame ≡ c.crtc.beam.frame → CallLeads (after_call fonts r block c d) (set_on (mode_row mode) mode fonts r s) c
 set_leads law mode keeps fonts r block c d s (has, clears) e glyphs z number =
-    let h = row_of_screen law mode has in
+    let h = row_of_mode law mode has in
     let f = h.fresh fonts r block c d z glyphs (e ∙ ap (λ (k : Bool). let call : Option Call = Some (SetMode mode k) in call) clears) in
     let fresh : CallLeads (after_call fonts r block c d) (set_on (Some h.row) mode fonts r s) c = record {
       reply = f.answer;
       shows = f.shows ∙ ap (λ (n : ℕ). Some (fresh_screen mode h.row fonts.f16 n)) (sym number);
-      text = ap is_text (fresh_mode mode h.row fonts.f16 s.frame) ∙ has;
       beam = f.beam;
     } in
     subst (λ (row : Option ModeRow). CallLeads (after_call fonts r block c d) (set_on row mode fonts r s) c) (sym h.is) fresh
 
--- the screen of text that is left, or the next one
-unless_text : (why : Option Refusal) (old new : Screen) → is_text old.mode ≡ true → is_text new.mode ≡ true → is_text (screen_unless why old new).mode ≡ true
-unless_text None old new e f = f
-unless_text (Some why) old new e f = e
-
 call_leads : Laws → (call : Option Call) (fonts : FontSet) (r : Regs) (block : List ℕ) (m : Machine) (s : Screen) → call_of r ≡ call → StaysOnScreens call → AreWords r → AreBytes block → AreBytes fonts.f16 → Stands fonts m s
     → CallLeads (after_call fonts r block m.card m.bda) (called_on call fonts r block s) m.card
-call_leads law None fonts r block m s e stays words bytes glyphs is = refused_leads _ BadFunction m.card m.bda s (law.unknown fonts r block m.card m.bda s is.shows e) is.shows is.text
+call_leads law None fonts r block m s e stays words bytes glyphs is = refused_leads _ BadFunction m.card m.bda s (law.unknown fonts r block m.card m.bda s is.shows e) is.shows
 call_leads law (Some (SetMode mode keeps)) fonts r block m s e (inl clears) words bytes glyphs is =
     set_leads law mode keeps fonts r block m.card m.bda s clears e glyphs is.card (frame_shown m.card m.bda s is.shows)
 call_leads law (Some (SetMode mode keeps)) fonts r block m s e (inr none) words bytes glyphs is =
-    let left = refused_leads _ BadMode m.card m.bda s (law.no_mode mode keeps fonts r block m.card m.bda e none) is.shows is.text in
+    let left = refused_leads _ BadMode m.card m.bda s (law.no_mode mode keeps fonts r block m.card m.bda e none) is.shows in
     subst (λ (row : Option ModeRow). CallLeads (after_call fonts r block m.card m.bda) (set_on row mode fonts r s) m.card) (sym none) left
 call_leads law (Some (ReadTable asked_for)) fonts r block m s e stays words bytes glyphs is =
     let k = law.table asked_for fonts r block m.card m.bda s is.card is.shows e in
-    record { reply = k.reply; shows = k.shows; text = is.text; beam = k.beam }
+    record { reply = k.reply; shows = k.shows; beam = k.beam }
 call_leads law (Some (InMode asked_for)) fonts r block m s e stays words bytes glyphs is =
-    let k = law.served asked_for fonts r block m.card m.bda s is.card is.bda.words words bytes is.shows (ap (λ (b : Bool). b || is_told_in_graphics s.mode asked_for) is.text) e in
-    record { reply = k.reply; shows = k.shows; text = unless_text (refused_on s asked_for (length block)) s (next fonts s asked_for block) is.text (ap is_text (next_mode fonts s asked_for block) ∙ is.text); beam = k.beam }
+    let k = law.served asked_for fonts r block m.card m.bda s is.card is.bda.words words bytes is.shows e in
+    record { reply = k.reply; shows = k.shows; beam = k.beam }
 
 -- a step answers as on the screen, and leads to the next one
 record StepLeads (fonts : FontSet) (m : Machine) (s : Screen) (step : Step) : Type 0 where
@@ -192,22 +190,21 @@ record StepLeads (fonts : FontSet) (m : Machine) (s : Screen) (step : Step) : Ty
 
 -- a call leaves the machine within its bounds
 call_stands : Laws → (fonts : FontSet) (ax bx cx dx : ℕ) (block : List ℕ) (m : Machine) (s : Screen) → dx < 65536 → IsCard m.card → AreData m.bda → m.fonts ≡ fonts → IsFrameStart m.card.crtc.beam
-    → (let x = after_call m.fonts (registers_of ax bx cx dx) block m.card m.bda in shown x.0 x.1.1) ≡ Some s → (after_call m.fonts (registers_of ax bx cx dx) block m.card m.bda).0.crtc.beam ≡ m.card.crtc.beam → is_text s.mode ≡ true
+    → (let x = after_call m.fonts (registers_of ax bx cx dx) block m.card m.bda in shown x.0 x.1.1) ≡ Some s → (after_call m.fonts (registers_of ax bx cx dx) block m.card m.bda).0.crtc.beam ≡ m.card.crtc.beam
     → Stands fonts (after_step m (Int ax bx cx dx block)) s
 unfolding after_step called
-call_stands law fonts ax bx cx dx block m s small z a same start shows beam text = record {
+call_stands law fonts ax bx cx dx block m s small z a same start shows beam = record {
   card = law.card m.fonts m.bda (registers_of ax bx cx dx) block m.card z;
   bda = law.bda m.fonts m.bda (registers_of ax bx cx dx) block m.card small a;
   same = same;
   shows = shows;
-  text = text;
   start = subst IsFrameStart (sym beam) start;
 }
 
 -- and so does a frame
 frame_stands : Laws → (fonts : FontSet) (m : Machine) (s : Screen) → Stands fonts m s → IsFramed m.card m.bda s → Stands fonts (after_step m Frame) (screen_after fonts s Frame)
 unfolding after_step screen_after
-frame_stands law fonts m s is f = record { card = law.dots (frame_count m.card) m.card is.card; bda = is.bda; same = is.same; shows = f.next; text = is.text; start = f.start }
+frame_stands law fonts m s is f = record { card = law.dots (frame_count m.card) m.card is.card; bda = is.bda; same = is.same; shows = f.next; start = f.start }
 
 step_leads : Laws → (fonts : FontSet) (m : Machine) (s : Screen) (step : Step) → AreBytes fonts.f16 → IsInRange step → IsOfScreens step → Stands fonts m s → StepLeads fonts m s step
 unfolding answer_to reply_on screen_after called
@@ -218,7 +215,7 @@ step_leads law fonts m s (Int ax bx cx dx block) glyphs (ha, hb, hc, hd, (short,
     let here = subst (λ (f : FontSet). CallLeads (after_call f r block m.card m.bda) (called_on (call_of r) fonts r block s) m.card) (sym is.same) l in
     record {
       answer = ap of_service here.reply;
-      stands = call_stands law fonts ax bx cx dx block m (called_on (call_of r) fonts r block s).0 words.dx is.card is.bda is.same is.start here.shows here.beam here.text;
+      stands = call_stands law fonts ax bx cx dx block m (called_on (call_of r) fonts r block s).0 words.dx is.card is.bda is.same is.start here.shows here.beam;
     }
 step_leads law fonts m s Frame glyphs range stays is =
     let f = law.framed m.card m.bda s is.card is.shows is.start in record {
@@ -248,10 +245,10 @@ first_reports law (Some (SetMode mode keeps)) fonts ax bx cx dx block steps e (h
     let r = registers_of ax bx cx dx in
     let m = power_on_machine fonts in
     let step : Step = Int ax bx cx dx block in
-    let h = row_of_screen law mode has in
+    let h = row_of_mode law mode has in
     let f = h.fresh fonts r block power_on_card power_on_data law.first_card glyphs (e ∙ ap (λ (k : Bool). let call : Option Call = Some (SetMode mode k) in call) clears) in
     let s = fresh_screen mode h.row fonts.f16 0 in
-    let is = call_stands law fonts ax bx cx dx block m s small law.first_card law.first_data refl (record { line = refl; character = refl; dot = refl }) f.shows f.beam (ap is_text (fresh_mode mode h.row fonts.f16 0) ∙ has) in
+    let is = call_stands law fonts ax bx cx dx block m s small law.first_card law.first_data refl (record { line = refl; character = refl; dot = refl }) f.shows f.beam in
     ap (λ a. line 1 (of_service a) ++ report_from (after_step m step) 2 steps) f.answer
     ∙ ap (λ (rest : List ℕ). line 1 (Served r []) ++ rest) (reports_from law fonts (after_step m step) s 2 steps glyphs range all is)
     ∙ sym (ap (λ (row : Option ModeRow). set_report row mode fonts r steps) h.is)

@@ -1,6 +1,6 @@
 -- The report of services and whole frames in words of the plain screen alone, with no register, address or cycle.
 -- From the IBM PS/2 and PC BIOS Interface Technical Reference, "Interrupt 10H - Video".
-use Rattle.std.specs.Prelude.{ℕ, ◌≡◌, ◌+◌, ◌⊎◌, true, false, Bool, List, [], ◌∷◌, ◌++◌, length, Option, None, Some, Result, Ok, Err}
+use Rattle.std.specs.Prelude.{ℕ, ◌≡◌, ◌≢◌, ◌+◌, ◌⊎◌, false, List, [], ◌∷◌, ◌++◌, length, Option, None, Some, Result, Ok, Err}
 use Rattle.std.specs.List.{AllByRecursion}
 use Rattle.std.specs.Io.KnownBytes.{Appends}
 use Rattle.vga_bits.specs.Tracked.{AppendsFront}
@@ -16,7 +16,6 @@ use Rattle.bios_services.specs.declared.reply.Reply.{Reply as ServiceReply}
 use Rattle.bios_services.specs.declared.reply.Table.TheVariants.{Empty}
 use Rattle.bios_services.specs.declared.call.Call.{Call}
 use Rattle.bios_services.specs.declared.call.Call.TheVariants.{SetMode, ReadTable, InMode}
-use Rattle.bios_services.specs.ModeSet.{is_text}
 use Rattle.bios_services.specs.Calls.{call_of}
 use Rattle.bios_services.specs.Tables.{table_refusal}
 use Rattle.bios_screen.specs.Screen.{Screen}
@@ -34,13 +33,9 @@ use Rattle.vga_run.specs.Report.{line}
 
 -- ---- which steps
 
--- the modes in which there is a plain screen: those of text
-abbrev pub has_screen : ℕ → Bool
-has_screen mode = is_text mode
-
--- a mode set to one of them that clears the memory
+-- a mode set that clears the memory, where there is such a mode
 abbrev pub Clears : Option Call → Type 0
-Clears (Some (SetMode mode keeps)) = (has_screen mode ≡ true) × (keeps ≡ false)
+Clears (Some (SetMode mode keeps)) = (mode_row mode ≢ None) × (keeps ≡ false)
 Clears call = ⊥
 
 -- a call that leads from screen to screen: it sets no mode, or clears, or there is no such mode
