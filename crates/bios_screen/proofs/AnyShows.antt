@@ -42,18 +42,20 @@ pub record IsAny (c : CardState) (d : BiosData) : Type 0 where
 abbrev pub any_screen : (c : CardState) (d : BiosData) → IsAny c d → (y : CardState) → Screen
 any_screen c d h y = screen_by h.row y d h.distance (h.contents y.host.memory) (h.glyphs y.host.memory)
 
+-- the test in another state, where registers that memory looks at and those of the CRT controller are the same
+pub same_tests : (row : ModeRow) (c y : CardState) (d : BiosData) → setting y ≡ setting c → y.crtc.registers ≡ c.crtc.registers → shows_attribute row y.attr ≡ true → AllTests row c d → AllTests row y d
+same_tests row c y d s e a t = record {
+  memory = ap (λ (x : Setting). (x.misc == row.misc) && (bytes_eq x.seq row.sequencer && bytes_eq x.gfx row.graphics)) s ∙ t.memory;
+  data_test = t.data_test;
+  crtc = e ∙ t.crtc ∙ ap (crtc_shown row d) (sym e);
+  attribute = a;
+}
+
 -- other registers that are shown, where those of the CRT controller and those that memory looks at stay
 pub any_shown : (c y : CardState) (d : BiosData) (h : IsAny c d) → setting y ≡ setting c → y.crtc.registers ≡ c.crtc.registers → shows_attribute h.row y.attr ≡ true → shown y d ≡ Some (any_screen c d h y)
 any_shown c y d h s e a =
-    let t = h.tests in
-    let tests : AllTests h.row y d = record {
-      memory = ap (λ (x : Setting). (x.misc == h.row.misc) && (bytes_eq x.seq h.row.sequencer && bytes_eq x.gfx h.row.graphics)) s ∙ t.memory;
-      data_test = t.data_test;
-      crtc = e ∙ t.crtc ∙ ap (crtc_shown h.row d) (sym e);
-      attribute = a;
-    } in
     ap (λ x. shown_by x y d) h.mode
-    ∙ ap (λ b. if b then Some (screen_of h.row y d) else None) (shows_by h.row y d tests)
+    ∙ ap (λ b. if b then Some (screen_of h.row y d) else None) (shows_by h.row y d (same_tests h.row c y d s e a h.tests))
     ∙ ap (λ (x : Screen). Some x) (h.screen y)
 
 pub still_any : (c : CardState) (d : BiosData) (h : IsAny c d) → shown c d ≡ Some (any_screen c d h c)

@@ -56,6 +56,7 @@ pub mod PixelFresh
 pub mod PlanarReads
 pub mod PlanarHands
 pub mod PlanarBits
+pub mod Redrawn
 pub mod PlanarScreens
 pub mod PlanarDots
 pub mod PixelCells

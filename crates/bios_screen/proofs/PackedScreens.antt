@@ -1,7 +1,6 @@
 -- Drawn memory of 256 colours as a flat list of pixels, and the screen that it shows.
 use Rattle.std.proofs.Common.{◌≡◌, ℕ, ◌+◌, ◌*◌, ◌<◌, refl, sym, ap, ◌∙◌, subst, arith, List, [], ◌∷◌, length, get_or, Some, false}
-use Rattle.std.specs.Prelude.{set, ◌==◌, ◌&&◌, if◌then◌else◌}
-use Rattle.std.specs.Str.{bytes_eq}
+use Rattle.std.specs.Prelude.{◌==◌, if◌then◌else◌}
 use Rattle.vga_bits.specs.Four.{Four}
 use Rattle.vga_card.specs.Bounds.{IsCard}
 use Rattle.vga_card.specs.Bus.{card_meaning}
@@ -12,16 +11,15 @@ use Rattle.bios_services.specs.ModeSet.{is_text}
 use Rattle.bios_services.specs.Plan.{run, put}
 use Rattle.bios_screen.specs.Listing.{listing}
 use Rattle.bios_screen.specs.Screen.{Pixels, Screen}
-use Rattle.bios_screen.specs.Shown.{crtc_shown, shows_attribute, packed_pixel, planar_pixel, pixel_in, pixels_in, pixel_pages, page_pixels, screen_by, pixel_screen, shown}
+use Rattle.bios_screen.specs.Shown.{packed_pixel, planar_pixel, pixel_in, pixels_in, pixel_pages, page_pixels, screen_by, pixel_screen, shown}
 use Rattle.bios_screen.specs.Step.{pixel_of, with_pixels}
 use Rattle.bios_screen.proofs.Flat.{set_cell}
 use Rattle.bios_screen.proofs.ListLemmas.{same_from_0, length_listing}
 use Rattle.bios_screen.proofs.Kept.{KeepsBounds, plan_bounds}
-use Rattle.bios_screen.proofs.Setting.{Setting, setting, with_memory}
-use Rattle.bios_screen.proofs.Shows.{AllTests}
+use Rattle.bios_screen.proofs.Setting.{setting, with_memory}
 use Rattle.bios_screen.proofs.PixelModes.{setting_in}
 use Rattle.bios_screen.proofs.PixelModes.Graphics.{Many}
-use Rattle.bios_screen.proofs.PixelShows.{pixels_shown_of}
+use Rattle.bios_screen.proofs.Redrawn.{redrawn}
 use Rattle.bios_screen.proofs.PixelDots.{pixel_at}
 use Rattle.bios_screen.proofs.AnyShows.{setting_by}
 use Rattle.bios_screen.proofs.PackedDots.{IsPacked}
@@ -76,43 +74,23 @@ module _ (c : CardState) (d : BiosData) (t : IsPacked c d) (e : mode_row d.mode 
   pub page_redrawn : (y : CardState) (f : ℕ → ℕ) (change : (ℕ → ℕ) → ℕ → ℕ) → IsFlat (without_drawing c) y f → ((k : ℕ) → k < page_pixels d → f k ≡ change (pixel_of s 0) k) → shown y d ≡ Some (with_pixels s 0 change)
   unfolding pixel_pages pixels_in
   page_redrawn y f change h inside =
-      let a = t.tests in
-      let same_setting : setting y ≡ setting c = h.mode ∙ sym setting_is in
       let row = bytes_320_by_200 in
       let n = page_pixels d in
       let old = pixel_pages d.mode c.host.memory d.size n 1 in
-      let registers : y.crtc.registers ≡ c.crtc.registers = ap (λ (x : CardState). x.crtc.registers) h.others in
-      let tests : AllTests row y d = record {
-        memory = ap (λ (x : Setting). (x.misc == row.misc) && (bytes_eq x.seq row.sequencer && bytes_eq x.gfx row.graphics)) same_setting ∙ a.memory;
-        data_test = a.data_test;
-        crtc = registers ∙ a.crtc ∙ ap (crtc_shown row d) (sym registers);
-        attribute = ap (λ (x : CardState). shows_attribute row x.attr) h.others ∙ a.attribute;
-      } in
       let long : length (get_or old 0 []) ≡ n = length_listing (pixel_in d.mode c.host.memory (d.size * 0)) 0 n in
       let page : pixels_in d.mode y.host.memory (d.size * 0) n ≡ listing (change (pixel_of s 0)) 0 (length (get_or old 0 [])) =
       same_from_0 (change (pixel_of s 0)) (pixel_in d.mode y.host.memory (d.size * 0)) n (λ k l. pixel_by y.host.memory k ∙ h.cell k ∙ inside k l)
       ∙ ap (listing (change (pixel_of s 0)) 0) (sym long) in
-      pixels_shown_of y d row e text tests
-      ∙ ap (λ x. Some (screen_by row y d 0 (Pixels (x ∷ [])) [])) page
-      ∙ ap (λ (x : CardState). Some (screen_by row x d 0 (Pixels (set old 0 (listing (change (pixel_of s 0)) 0 (length (get_or old 0 []))))) [])) h.others
+      redrawn row c y d e text t.tests (h.mode ∙ sym setting_is) h.others
+      ∙ ap (λ x. Some (screen_by row c d 0 (Pixels (x ∷ [])) [])) page
 
   -- and where all pixels are as they were, the screen stays
   pub stays : (y : CardState) → IsFlat (without_drawing c) y (packed_pixel c.host.memory) → shown y d ≡ Some s
   unfolding pixel_pages pixels_in
   stays y h =
-      let a = t.tests in
-      let same_setting : setting y ≡ setting c = h.mode ∙ sym setting_is in
       let row = bytes_320_by_200 in
       let n = page_pixels d in
-      let registers : y.crtc.registers ≡ c.crtc.registers = ap (λ (x : CardState). x.crtc.registers) h.others in
-      let tests : AllTests row y d = record {
-        memory = ap (λ (x : Setting). (x.misc == row.misc) && (bytes_eq x.seq row.sequencer && bytes_eq x.gfx row.graphics)) same_setting ∙ a.memory;
-        data_test = a.data_test;
-        crtc = registers ∙ a.crtc ∙ ap (crtc_shown row d) (sym registers);
-        attribute = ap (λ (x : CardState). shows_attribute row x.attr) h.others ∙ a.attribute;
-      } in
       let page : pixels_in d.mode y.host.memory (d.size * 0) n ≡ pixels_in d.mode c.host.memory (d.size * 0) n =
       same_from_0 (pixel_in d.mode c.host.memory (d.size * 0)) (pixel_in d.mode y.host.memory (d.size * 0)) n (λ k l. pixel_by y.host.memory k ∙ h.cell k ∙ sym (pixel_by c.host.memory k)) in
-      pixels_shown_of y d row e text tests
-      ∙ ap (λ x. Some (screen_by row y d 0 (Pixels (x ∷ [])) [])) page
-      ∙ ap (λ (x : CardState). Some (screen_by row x d 0 (Pixels (pixel_pages d.mode c.host.memory d.size n 1)) [])) h.others
+      redrawn row c y d e text t.tests (h.mode ∙ sym setting_is) h.others
+      ∙ ap (λ x. Some (screen_by row c d 0 (Pixels (x ∷ [])) [])) page

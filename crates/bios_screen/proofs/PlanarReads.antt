@@ -2,7 +2,6 @@
 use Rattle.std.proofs.Common.{◌≡◌, ℕ, zero, suc, ◌+◌, ◌-◌, ◌*◌, ◌/◌, ◌%◌, ◌<◌, refl, sym, ap, ◌∙◌, subst, arith, List, [], ◌∷◌, Option, Some, None, Bool, true, false}
 use Rattle.std.specs.Prelude.{slice_index, slice_set, bit_and, ◌==◌, ◌&&◌, nat_lt, nat_le, if◌then◌else◌}
 use Rattle.std.specs.Int.{bit_at}
-use Rattle.std.specs.Str.{bytes_eq}
 use Rattle.std.proofs.lemmas.Bool.Decides.{nat_tests}
 use Rattle.vga_bits.specs.Bits.{is_set, byte_of}
 use Rattle.vga_bits.proofs.BitLemmas.{byte_bits}
@@ -34,7 +33,7 @@ use Rattle.bios_services.specs.Pixels.{pixel_address, read_dot_plan, read_pixel_
 use Rattle.bios_services.specs.Refusals.{page_named, pixel_refusal, refusal_in_mode}
 use Rattle.bios_services.specs.Service.{plan_of, read_pixel_service, Outcome}
 use Rattle.bios_screen.specs.Screen.{Pixels, Screen}
-use Rattle.bios_screen.specs.Shown.{crtc_shown, shows_attribute, packed_pixel, planar_pixel, pixel_pages, page_pixels, screen_by, pixel_screen, shown}
+use Rattle.bios_screen.specs.Shown.{packed_pixel, planar_pixel, pixel_pages, page_pixels, screen_by, pixel_screen, shown}
 use Rattle.bios_screen.specs.Step.{page_meant, pixel_refused, refused_on, next, answer_on, pixel_of}
 use Rattle.bios_screen.specs.Served.{IsServed}
 use Rattle.bios_screen.proofs.PlanLemmas.{run_bind}
@@ -42,11 +41,11 @@ use Rattle.bios_screen.proofs.Places.{ends_before}
 use Rattle.bios_screen.proofs.TestLemmas.{lt_is}
 use Rattle.bios_screen.proofs.Kept.{plan_beam}
 use Rattle.bios_screen.proofs.Setting.{Setting, setting, host_at, get_decoded}
-use Rattle.bios_screen.proofs.Shows.{AllTests}
 use Rattle.bios_screen.proofs.PixelModes.{Planes, row_of, number_of, setting_in, text_by, packed_by}
 use Rattle.bios_screen.proofs.PixelModes.Planes.{Low, Middle, High}
 use Rattle.bios_screen.proofs.PixelModes.Graphics.{Sixteen}
-use Rattle.bios_screen.proofs.PixelShows.{pixels_shown_of}
+use Rattle.bios_screen.proofs.Redrawn.{redrawn}
+use Rattle.bios_screen.proofs.PlanarHands.{without_drawing}
 use Rattle.bios_screen.proofs.AnyShows.{setting_by}
 use Rattle.bios_screen.proofs.PixelDots.{IsPlanar, pixel_at}
 use Rattle.bios_screen.proofs.PixelFresh.{pixels_of, byte_within}
@@ -238,18 +237,8 @@ module _ (m : Planes) (c : CardState) (d : BiosData) (t : IsPlanar m c d) (e : m
   -- the screen stays
   stays : (y : CardState) → IsPicking (without_reads c) (row_of m).misc (slice_index (row_of m).sequencer 1) 0 y → shown y d ≡ Some s
   stays y h =
-      let a = t.tests in
-      let set : setting y ≡ setting c = h.mode ∙ sym begins.mode in
-      let row = row_of m in
-      let registers : y.crtc.registers ≡ c.crtc.registers = ap (λ (x : CardState). x.crtc.registers) h.others in
-      let tests : AllTests row y d = record {
-        memory = ap (λ (x : Setting). (x.misc == row.misc) && (bytes_eq x.seq row.sequencer && bytes_eq x.gfx row.graphics)) set ∙ a.memory;
-        data_test = a.data_test;
-        crtc = registers ∙ a.crtc ∙ ap (crtc_shown row d) (sym registers);
-        attribute = ap (λ (x : CardState). shows_attribute row x.attr) h.others ∙ a.attribute;
-      } in
-      pixels_shown_of y d row e text tests
-      ∙ ap (λ (x : CardState). Some (screen_by row x d 0 (Pixels (pixel_pages d.mode x.host.memory d.size (page_pixels d) row.pages)) [])) h.others
+      redrawn (row_of m) c y d e text t.tests (h.mode ∙ sym begins.mode) (ap without_drawing h.others)
+      ∙ ap (λ (x : CardState). Some (screen_by (row_of m) c d 0 (Pixels (pixel_pages d.mode x.host.memory d.size (page_pixels d) (row_of m).pages)) [])) h.others
 
   pub read_pixel : (page x y : ℕ) (fonts : FontSet) (r : Regs) (block : List ℕ) → IsServed (ReadPixel page x y) fonts r block c d s
   unfolding plan_of read_pixel_service refusal_in_mode refused_on next answer_on

@@ -1,7 +1,6 @@
 -- From drawn memory of sixteen colours to the screen that it shows, in which one page is drawn anew.
 use Rattle.std.proofs.Common.{◌≡◌, ◌≢◌, ℕ, ◌+◌, ◌*◌, ◌/◌, ◌%◌, ◌<◌, ◌≤◌, ◌⊎◌, inl, inr, ⊎_elim, refl, sym, ap, ◌∙◌, subst, arith, [], length, get_or, Some, false}
-use Rattle.std.specs.Prelude.{slice_index, set, ◌==◌, ◌&&◌, if◌then◌else◌}
-use Rattle.std.specs.Str.{bytes_eq}
+use Rattle.std.specs.Prelude.{slice_index, set, ◌==◌, if◌then◌else◌}
 use Rattle.std.proofs.lemmas.Bool.{cases_lt}
 use Rattle.vga_bits.specs.Four.{Four}
 use Rattle.vga_planes.specs.Planes.{bytes_at}
@@ -12,16 +11,15 @@ use Rattle.bios_modes.specs.Modes.{mode_row}
 use Rattle.bios_services.specs.ModeSet.{is_text}
 use Rattle.bios_screen.specs.Listing.{listing}
 use Rattle.bios_screen.specs.Screen.{Pixels, Screen}
-use Rattle.bios_screen.specs.Shown.{crtc_shown, shows_attribute, packed_pixel, planar_pixel, pixel_in, pixels_in, pixel_pages, page_pixels, screen_by, pixel_screen, shown}
+use Rattle.bios_screen.specs.Shown.{packed_pixel, planar_pixel, pixel_in, pixels_in, pixel_pages, page_pixels, screen_by, pixel_screen, shown}
 use Rattle.bios_screen.specs.Step.{pixel_of, with_pixels}
 use Rattle.bios_screen.proofs.ListLemmas.{same_from_0, length_listing, listed_at, listing_set}
 use Rattle.bios_screen.proofs.Places.{ends_before}
-use Rattle.bios_screen.proofs.Setting.{Setting, setting}
-use Rattle.bios_screen.proofs.Shows.{AllTests}
+use Rattle.bios_screen.proofs.Setting.{setting}
 use Rattle.bios_screen.proofs.PixelModes.{Planes, row_of, setting_in, text_by, packed_by}
 use Rattle.bios_screen.proofs.PixelModes.Planes.{Low, Middle, High}
 use Rattle.bios_screen.proofs.PixelModes.Graphics.{Sixteen}
-use Rattle.bios_screen.proofs.PixelShows.{pixels_shown_of}
+use Rattle.bios_screen.proofs.Redrawn.{redrawn}
 use Rattle.bios_screen.proofs.AnyShows.{setting_by}
 use Rattle.bios_screen.proofs.PixelDots.{IsPlanar, pixel_at}
 use Rattle.bios_screen.proofs.PixelFresh.{pixels_of}
@@ -91,19 +89,10 @@ module _ (m : Planes) (c : CardState) (d : BiosData) (t : IsPlanar m c d) (e : m
       → shown y d ≡ Some (with_pixels s p change)
   unfolding pixel_pages pixels_in
   page_redrawn p y f q change lp h inside outside =
-      let a = t.tests in
-      let same_setting : setting y ≡ setting c = h.mode ∙ sym setting_is in
       let row = row_of m in
       let n = page_pixels d in
       let old = pixel_pages d.mode c.host.memory d.size n row.pages in
       let packed : (d.mode == 0x13) ≡ false = ap (λ i. i == 0x13) t.number ∙ packed_by m in
-      let registers : y.crtc.registers ≡ c.crtc.registers = ap (λ (x : CardState). x.crtc.registers) h.others in
-      let tests : AllTests row y d = record {
-        memory = ap (λ (x : Setting). (x.misc == row.misc) && (bytes_eq x.seq row.sequencer && bytes_eq x.gfx row.graphics)) same_setting ∙ a.memory;
-        data_test = a.data_test;
-        crtc = registers ∙ a.crtc ∙ ap (crtc_shown row d) (sym registers);
-        attribute = ap (λ (x : CardState). shows_attribute row x.attr) h.others ∙ a.attribute;
-      } in
       let new_pixel : (g k : ℕ) → pixel_in d.mode y.host.memory (d.size * g) k ≡ nibble_of (f (d.size * g + k / 8)) (k % 8) = λ g k.
       ap (λ b. if b then packed_pixel y.host.memory (d.size * g + k) else planar_pixel y.host.memory (d.size * g) k) packed
       ∙ ap (λ (x : Four ℕ). nibble_of x (k % 8)) (h.cell (d.size * g + k / 8)) in
@@ -116,26 +105,16 @@ module _ (m : Planes) (c : CardState) (d : BiosData) (t : IsPlanar m c d) (e : m
       (same_from_0 (change (pixel_of s p)) (pixel_in d.mode y.host.memory (d.size * p)) n (λ k l. new_pixel p k ∙ inside k l))
       (λ g lg w. same_from_0 (pixel_in d.mode c.host.memory (d.size * g)) (pixel_in d.mode y.host.memory (d.size * g)) n (λ k l.
       new_pixel g k ∙ ap (λ (x : Four ℕ). nibble_of x (k % 8)) (outside (d.size * g + k / 8) (apart p g (k / 8) (λ v. w (sym v)) (room k l))) ∙ sym (old_pixel g k))) in
-      pixels_shown_of y d row e text tests
-      ∙ ap (λ x. Some (screen_by row y d 0 (Pixels x) [])) (pages ∙ ap (λ i. set old p (listing (change (pixel_of s p)) 0 i)) (sym long))
-      ∙ ap (λ (x : CardState). Some (screen_by row x d 0 (Pixels (set old p (listing (change (pixel_of s p)) 0 (length (get_or old p []))))) [])) h.others
+      redrawn row c y d e text t.tests (h.mode ∙ sym setting_is) h.others
+      ∙ ap (λ x. Some (screen_by row c d 0 (Pixels x) [])) (pages ∙ ap (λ i. set old p (listing (change (pixel_of s p)) 0 i)) (sym long))
 
   -- and where all its bytes are as they were, the screen stays
   pub stays : (y : CardState) (f : ℕ → Four ℕ) (q : Four ℕ) → Loaded (without_drawing c) misc clocking at_rest y f q → ((o : ℕ) → f o ≡ bytes_at c.host.memory o) → shown y d ≡ Some s
   unfolding pixel_pages pixels_in
   stays y f q h same =
-      let a = t.tests in
-      let same_setting : setting y ≡ setting c = h.mode ∙ sym setting_is in
       let row = row_of m in
       let n = page_pixels d in
       let packed : (d.mode == 0x13) ≡ false = ap (λ i. i == 0x13) t.number ∙ packed_by m in
-      let registers : y.crtc.registers ≡ c.crtc.registers = ap (λ (x : CardState). x.crtc.registers) h.others in
-      let tests : AllTests row y d = record {
-        memory = ap (λ (x : Setting). (x.misc == row.misc) && (bytes_eq x.seq row.sequencer && bytes_eq x.gfx row.graphics)) same_setting ∙ a.memory;
-        data_test = a.data_test;
-        crtc = registers ∙ a.crtc ∙ ap (crtc_shown row d) (sym registers);
-        attribute = ap (λ (x : CardState). shows_attribute row x.attr) h.others ∙ a.attribute;
-      } in
       let pixel : (g k : ℕ) → pixel_in d.mode y.host.memory (d.size * g) k ≡ pixel_in d.mode c.host.memory (d.size * g) k = λ g k.
       ap (λ b. if b then packed_pixel y.host.memory (d.size * g + k) else planar_pixel y.host.memory (d.size * g) k) packed
       ∙ ap (λ (x : Four ℕ). nibble_of x (k % 8)) (h.cell (d.size * g + k / 8) ∙ same (d.size * g + k / 8))
@@ -143,6 +122,5 @@ module _ (m : Planes) (c : CardState) (d : BiosData) (t : IsPlanar m c d) (e : m
       let pages : pixel_pages d.mode y.host.memory d.size n row.pages ≡ pixel_pages d.mode c.host.memory d.size n row.pages =
       same_from_0 (λ g. pixels_in d.mode c.host.memory (d.size * g) n) (λ g. pixels_in d.mode y.host.memory (d.size * g) n) row.pages
       (λ g lg. same_from_0 (pixel_in d.mode c.host.memory (d.size * g)) (pixel_in d.mode y.host.memory (d.size * g)) n (λ k l. pixel g k)) in
-      pixels_shown_of y d row e text tests
-      ∙ ap (λ x. Some (screen_by row y d 0 (Pixels x) [])) pages
-      ∙ ap (λ (x : CardState). Some (screen_by row x d 0 (Pixels (pixel_pages d.mode c.host.memory d.size n row.pages)) [])) h.others
+      redrawn row c y d e text t.tests (h.mode ∙ sym setting_is) h.others
+      ∙ ap (λ x. Some (screen_by row c d 0 (Pixels x) [])) pages
