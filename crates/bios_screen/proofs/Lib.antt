@@ -50,6 +50,7 @@ pub mod AnyReaders
 pub mod PixelCursors
 pub mod PixelDots
 pub mod PackedDots
+pub mod PackedMemory
 pub mod PackedPixels
 pub mod PixelPictures
 pub mod PixelFresh

@@ -16,7 +16,6 @@ use Rattle.bios_services.specs.Cells.{page_base, cells_of}
 use Rattle.bios_services.specs.Drawing.{cell_band, cell_row}
 use Rattle.bios_services.specs.Glyphs.{first_character}
 use Rattle.bios_services.specs.Kinds.{kind_of}
-use Rattle.bios_services.specs.ModeSet.{is_text}
 use Rattle.bios_services.specs.Plan.{Plan, run, get, gather, fold, Done, ◌>>=◌}
 use Rattle.bios_services.specs.Reading.{shift_dot, packed_line, line_plan, lines_plan, read_character_plan}
 use Rattle.bios_screen.specs.Listing.{listing}
@@ -26,14 +25,10 @@ use Rattle.bios_screen.specs.Step.{pixel_of, cell_line}
 use Rattle.bios_screen.specs.Served.{IsServed}
 use Rattle.bios_screen.proofs.ListLemmas.{same_from_0}
 use Rattle.bios_screen.proofs.PlanLemmas.{run_bind}
-use Rattle.bios_screen.proofs.Kept.{KeepsBounds, plan_bounds}
-use Rattle.bios_screen.proofs.Setting.{get_decoded}
-use Rattle.bios_screen.proofs.PixelModes.{setting_in}
-use Rattle.bios_screen.proofs.PixelModes.Graphics.{Many}
+use Rattle.bios_screen.proofs.Kept.{KeepsBounds}
 use Rattle.bios_screen.proofs.PackedDots.{IsPacked}
-use Rattle.bios_screen.proofs.PackedPixels.{decoded, byte_read}
 use Rattle.bios_screen.proofs.PackedScreens as screens
-use Rattle.bios_screen.proofs.PackedScreens.{IsFlat}
+use Rattle.bios_screen.proofs.PackedScreens.{IsFlat, get_flat}
 use Rattle.bios_screen.proofs.PackedWrites as writes
 use Rattle.bios_screen.proofs.PlanarGlyphs.{as_dot, byte_same}
 use Rattle.bios_screen.proofs.PlanarHands.{without_drawing}
@@ -76,20 +71,6 @@ byte_shifted f =
         → x8 ≡ b7 + 2 * b6 + 4 * b5 + 8 * b4 + 16 * b3 + 32 * b2 + 64 * b1 + 128 * b0
     sum x1 x2 x3 x4 x5 x6 x7 x8 b0 b1 b2 b3 b4 b5 b6 b7 e1 e2 e3 e4 e5 e6 e7 e8 = omega arith
 
--- a pixel is read
-record IsGot (rest : CardState) (a : ℕ) (c : CardState) (f : ℕ → ℕ) : Type 0 where
-  still : IsFlat rest (run card_meaning (get (0xA0000 + a)) c).0 f
-  value : (run card_meaning (get (0xA0000 + a)) c).1 ≡ f a
-
-pixel_got : (law : KeepsBounds) (rest : CardState) (a : ℕ) (c : CardState) (f : ℕ → ℕ) → a < 65536 → IsFlat rest c f → IsGot rest a c f
-pixel_got law rest a c f la t =
-    let got = get_decoded c (setting_in Many) (0xA0000 + a) t.mode (decoded c.host a la) in
-    let after = ap (λ r. r.0) got in
-    record {
-      still = subst (λ y. IsFlat rest y f) (sym after) (record { mode = t.mode; bounds = subst IsCard after (plan_bounds law (get (0xA0000 + a)) c t.bounds); cell = t.cell; others = t.others });
-      value = ap (λ r. r.1) got ∙ byte_read c.host a la (t.bounds.host.memory.bytes (a % 4) (omega arith) (a / 4 * 4)) ∙ t.cell a;
-    }
-
 module _ (law : KeepsBounds) (rest : CardState) where
   abbrev one : ℕ → ℕ → ℕ → Plan ℕ
   one a i x = shift_dot (0xA0000 + a + i) x
@@ -103,7 +84,7 @@ module _ (law : KeepsBounds) (rest : CardState) where
   dots_shifted a zero i x c f l t = record { still = t; value = refl }
   dots_shifted a (suc n) i x c f l t =
       let at : 0xA0000 + a + i ≡ 0xA0000 + (a + i) = omega arith in
-      let got = pixel_got law rest (a + i) c f (omega arith) t in
+      let got = get_flat law rest (a + i) c f (omega arith) t in
       let g = get (0xA0000 + a + i) in
       let c1 = (run card_meaning g c).0 in
       let v = (run card_meaning g c).1 in
@@ -155,9 +136,6 @@ module _ (law : KeepsBounds) (c : CardState) (d : BiosData) (t : IsPacked c d) (
   abbrev h : ℕ
   h = d.height
 
-  text : is_text d.mode ≡ false
-  text = ap is_text t.number
-
   abbrev place : ℕ → ℕ → ℕ
   place q r = 8 * strip_at w h q r
 
@@ -191,7 +169,7 @@ module _ (law : KeepsBounds) (c : CardState) (d : BiosData) (t : IsPacked c d) (
       let all = screens.all_pixels c d t e z in
       byte_same (λ j. as_dot (old (place q r + (7 - j)))) (λ j. as_dot (pixel_of s 0 (place q r + (7 - j)))) (λ j lj. ap as_dot (sym (screens.pixel_is c d t e z (place q r + (7 - j)) (omega arith))))
 
-  seen_at_0 : (fonts : FontSet) (q : ℕ) → q < cells_of d → IsSeen bytes_320_by_200 c d e text fonts 0 q
+  seen_at_0 : (fonts : FontSet) (q : ℕ) → q < cells_of d → IsSeen bytes_320_by_200 c d e (screens.text c d t e z) fonts 0 q
   seen_at_0 fonts q lq =
       let at = place q in
       let lines : Plan (List ℕ) = gather (λ r. line_plan Packed (0xA0000 + at r)) h 0 in
@@ -207,7 +185,7 @@ module _ (law : KeepsBounds) (c : CardState) (d : BiosData) (t : IsPacked c d) (
 
   pub read_cell : (page : ℕ) (fonts : FontSet) (r : Regs) (block : List ℕ) → IsServed (ReadCell page) fonts r block c d s
   read_cell page fonts r block =
-      let seen : (p q : ℕ) → p < 1 → q < cells_of d → IsSeen bytes_320_by_200 c d e text fonts p q = λ p q lp lq.
+      let seen : (p q : ℕ) → p < 1 → q < cells_of d → IsSeen bytes_320_by_200 c d e (screens.text c d t e z) fonts p q = λ p q lp lq.
       let first : 0 ≡ p = omega arith in
-      subst (λ i. IsSeen bytes_320_by_200 c d e text fonts i q) first (seen_at_0 fonts q lq) in
-      reads.read_cell bytes_320_by_200 c d e text page fonts r block seen
+      subst (λ i. IsSeen bytes_320_by_200 c d e (screens.text c d t e z) fonts i q) first (seen_at_0 fonts q lq) in
+      reads.read_cell bytes_320_by_200 c d e (screens.text c d t e z) page fonts r block seen

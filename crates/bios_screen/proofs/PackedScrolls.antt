@@ -2,7 +2,6 @@
 use Rattle.std.proofs.Common.{◌≡◌, ℕ, ◌+◌, ◌-◌, ◌*◌, ◌/◌, ◌%◌, ◌<◌, ◌≤◌, ⊎_elim, refl, sym, ap, ◌∙◌, subst, arith, List, Some, Bool, true, false}
 use Rattle.std.specs.Prelude.{nat_le, nat_lt, if◌then◌else◌}
 use Rattle.std.proofs.lemmas.Bool.{cases_lt}
-use Rattle.vga_host.specs.Read.{loaded}
 use Rattle.vga_card.specs.Bounds.{IsCard}
 use Rattle.vga_card.specs.Bus.{card_meaning}
 use Rattle.vga_card.specs.Card.{CardState}
@@ -24,38 +23,29 @@ use Rattle.bios_screen.specs.Step.{pixel_of, pixel_row, window_rows, window_colu
 use Rattle.bios_screen.specs.Served.{IsServed}
 use Rattle.bios_screen.proofs.Flat.{Turn, Leaves, set_cell}
 use Rattle.bios_screen.proofs.PlanLemmas.{run_bind}
-use Rattle.bios_screen.proofs.Kept.{KeepsBounds, plan_bounds}
-use Rattle.bios_screen.proofs.Setting.{host_at, get_decoded}
+use Rattle.bios_screen.proofs.Kept.{KeepsBounds}
 use Rattle.bios_screen.proofs.TestLemmas.{lt_test, le_test, not_lt, not_le}
 use Rattle.bios_screen.proofs.Bands.{IsWindow}
 use Rattle.bios_screen.proofs.Bands as bands
 use Rattle.bios_screen.proofs.WindowShifts as shifts
-use Rattle.bios_screen.proofs.PixelModes.{setting_in}
-use Rattle.bios_screen.proofs.PixelModes.Graphics.{Many}
 use Rattle.bios_screen.proofs.PackedDots.{IsPacked}
-use Rattle.bios_screen.proofs.PackedPixels.{decoded, byte_read}
 use Rattle.bios_screen.proofs.PixelCells.{moved_within}
 use Rattle.bios_screen.proofs.PlanarHands.{without_drawing}
 use Rattle.bios_screen.proofs.PlanarWindows.{painted_plain}
 use Rattle.bios_screen.proofs.PackedScreens as screens
-use Rattle.bios_screen.proofs.PackedScreens.{IsFlat, put_flat}
+use Rattle.bios_screen.proofs.PackedScreens.{IsFlat, put_flat, get_flat}
 use Rattle.bios_screen.proofs.PixelWindows as pixel_windows
 
 -- a move is a move of a pixel
 pixel_moved : (law : KeepsBounds) (rest : CardState) (from to a b : ℕ) (c : CardState) (f : ℕ → ℕ) → from ≡ 0xA0000 + a → to ≡ 0xA0000 + b → a < 65536 → b < 65536 → IsFlat rest c f → IsFlat rest (run card_meaning (move from to) c).0 (set_cell f b (f a))
 pixel_moved law rest from to a b c f ef et la lb t =
-    let g = get (0xA0000 + a) in
-    let v = (run card_meaning g c).1 in
-    let c1 = (run card_meaning g c).0 in
-    let got = get_decoded c (setting_in Many) (0xA0000 + a) t.mode (decoded c.host a la) in
+    let got = get_flat law rest a c f la t in
+    let v = (run card_meaning (get (0xA0000 + a)) c).1 in
+    let c1 = (run card_meaning (get (0xA0000 + a)) c).0 in
     let small : packed_pixel c.host.memory a < 256 = t.bounds.host.memory.bytes (a % 4) (omega arith) (a / 4 * 4) in
-    let value : v ≡ f a = ap (λ r. r.1) got ∙ byte_read c.host a la small ∙ t.cell a in
-    let after = ap (λ r. r.0) got in
-    let x : CardState = record c { host = record c.host { latches = loaded (host_at c.host (setting_in Many)) (0xA0000 + a) } } in
-    let t1 : IsFlat rest c1 f = subst (λ y. IsFlat rest y f) (sym after) (record { mode = t.mode; bounds = subst IsCard after (plan_bounds law g c t.bounds); cell = t.cell; others = t.others }) in
-    let lv : v < 256 = subst (λ i. i < 256) (sym (value ∙ sym (t.cell a))) small in
-    let t2 = put_flat law rest b v c1 f lb lv t1 in
-    let moved : IsFlat rest (run card_meaning (move (0xA0000 + a) (0xA0000 + b)) c).0 (set_cell f b (f a)) = subst (λ i. IsFlat rest (run card_meaning (put (0xA0000 + b) v) c1).0 (set_cell f b i)) value t2 in
+    let lv : v < 256 = subst (λ i. i < 256) (sym (got.value ∙ sym (t.cell a))) small in
+    let t2 = put_flat law rest b v c1 f lb lv got.still in
+    let moved : IsFlat rest (run card_meaning (move (0xA0000 + a) (0xA0000 + b)) c).0 (set_cell f b (f a)) = subst (λ i. IsFlat rest (run card_meaning (put (0xA0000 + b) v) c1).0 (set_cell f b i)) got.value t2 in
     subst (λ i. IsFlat rest (run card_meaning (move i to) c).0 (set_cell f b (f a))) (sym ef) (subst (λ i. IsFlat rest (run card_meaning (move (0xA0000 + a) i) c).0 (set_cell f b (f a))) (sym et) moved)
 
 pixel_put_at : (law : KeepsBounds) (rest : CardState) (at j v : ℕ) (c : CardState) (f : ℕ → ℕ) → at ≡ 0xA0000 + j → j < 65536 → v < 256 → IsFlat rest c f → IsFlat rest (run card_meaning (put at v) c).0 (set_cell f j v)
