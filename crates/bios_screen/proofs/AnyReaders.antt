@@ -1,6 +1,6 @@
 -- Services that answer, and do nothing, in text and in graphics.
 use Rattle.std.proofs.Common.{◌≡◌, ℕ, refl, ap, ◌∙◌, List, Option, Some, None}
-use Rattle.std.specs.Prelude.{◌==◌, nat_lt, if◌then◌else◌, slice_index}
+use Rattle.std.specs.Prelude.{nat_lt, if◌then◌else◌, slice_index}
 use Rattle.vga_bits.specs.declared.refusal.Refusal.{Refusal}
 use Rattle.vga_bits.specs.declared.refusal.Refusal.TheVariants.{BadPage}
 use Rattle.vga_card.specs.Card.{CardState}
@@ -14,11 +14,12 @@ use Rattle.bios_services.specs.Refusals.{page_named, page_refusal, refusal_in_mo
 use Rattle.bios_services.specs.Service.{plan_of}
 use Rattle.bios_screen.specs.Step.{page_meant, page_refused, refused_on, next, answer_on}
 use Rattle.bios_screen.specs.Served.{IsServed}
+use Rattle.bios_screen.proofs.Shows.{named_page}
 use Rattle.bios_screen.proofs.AnyShows.{IsAny, any_screen, still_any}
 
 -- the page that is meant, and why it is refused
 pub any_meant : (c : CardState) (d : BiosData) (h : IsAny c d) (page : ℕ) → page_named d page ≡ page_meant (any_screen c d h c) page
-any_meant c d h page = ap (λ (x : Option ModeRow). if pages_in x == 1 then 0 else page) h.mode
+any_meant c d h page = named_page h.row d h.mode page
 
 any_refusal : (c : CardState) (d : BiosData) (h : IsAny c d) (page : ℕ) → page_refusal d (page_named d page) ≡ page_refused (any_screen c d h c) (page_meant (any_screen c d h c) page)
 any_refusal c d h page =

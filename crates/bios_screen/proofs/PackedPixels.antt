@@ -29,6 +29,7 @@ use Rattle.bios_screen.proofs.Flat.{set_cell}
 use Rattle.bios_screen.proofs.PlanLemmas.{run_bind}
 use Rattle.bios_screen.proofs.TestLemmas.{lt_is}
 use Rattle.bios_screen.proofs.Kept.{plan_beam}
+use Rattle.bios_screen.proofs.Shows.{named_page}
 use Rattle.bios_screen.proofs.Setting.{host_at, with_memory, get_decoded}
 use Rattle.bios_screen.proofs.PixelModes.{setting_in}
 use Rattle.bios_screen.proofs.PixelModes.Graphics.{Many}
@@ -46,12 +47,9 @@ module _ (c : CardState) (d : BiosData) (t : IsPacked c d) (e : mode_row d.mode 
 
   -- ---- why it is refused
 
-  page_is : (page : ℕ) → page_named d page ≡ 0
-  page_is page = ap (λ (x : Option ModeRow). if pages_in x == 1 then 0 else page) e
-
   refusal_is : (page x y : ℕ) → pixel_refusal d (page_named d page) x y ≡ pixel_refused s 0 x y
   refusal_is page x y =
-      ap (λ p. pixel_refusal d p x y) (page_is page)
+      ap (λ p. pixel_refusal d p x y) (named_page bytes_320_by_200 d e page)
       ∙ ap (λ (q : Option ModeRow). let r : Option Refusal = (if is_text d.mode then Some WrongKind else if nat_lt 0 (pages_in q) then (if nat_lt x (8 * d.columns) && nat_lt y (d.height * (d.last_row + 1)) then None else Some Outside) else Some BadPage) in r) e
 
   record There (x y : ℕ) : Type 0 where
@@ -124,7 +122,7 @@ module _ (c : CardState) (d : BiosData) (t : IsPacked c d) (e : mode_row d.mode 
             let h = there x y allowed in
             let l = number_small x y h in
             ap (λ q. shown q.0 q.1.1) runs
-            ∙ ap (λ p. shown (run card_meaning (write_pixel_plan d p x y colour) c).0 d) (page_is page)
+            ∙ ap (λ p. shown (run card_meaning (write_pixel_plan d p x y colour) c).0 d) (named_page bytes_320_by_200 d e page)
             ∙ ap (λ p. shown (run card_meaning p c).0 d) (write_is x y colour)
             ∙ ap (λ q. shown q d) (put_is c (number x y) colour (screens.setting_is c d t e z) (omega arith) lc)
             ∙ dot_shown x y colour h;
@@ -148,7 +146,7 @@ module _ (c : CardState) (d : BiosData) (t : IsPacked c d) (e : mode_row d.mode 
       let runs =
       run_bind card_meaning plan done c
       ∙ ap (λ (q : CardState × Regs). run card_meaning (done q.1) q.0) (run_bind card_meaning (read_pixel_plan d (page_named d page) x y) after c)
-      ∙ ap (λ p. let q = run card_meaning (read_pixel_plan d p x y) c in let w : CardState × Outcome = (q.0, (record r { ax = with_low r.ax q.1 }, d)) in w) (page_is page)
+      ∙ ap (λ p. let q = run card_meaning (read_pixel_plan d p x y) c in let w : CardState × Outcome = (q.0, (record r { ax = with_low r.ax q.1 }, d)) in w) (named_page bytes_320_by_200 d e page)
       ∙ ap (λ p. let q = run card_meaning p c in let w : CardState × Outcome = (q.0, (record r { ax = with_low r.ax q.1 }, d)) in w) (read_is x y) in
       let got = λ (h : There x y). let l = number_small x y h in get_decoded c (setting_in Many) (0xA0000 + number x y) (screens.setting_is c d t e z) (decoded c.host (number x y) (omega arith)) in
       let a = t.tests in

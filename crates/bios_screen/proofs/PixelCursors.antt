@@ -23,6 +23,7 @@ use Rattle.bios_screen.specs.Step.{page_meant, page_refused, refused_on, next, a
 use Rattle.bios_screen.specs.Served.{IsServed}
 use Rattle.bios_screen.proofs.PlanLemmas.{run_bind}
 use Rattle.bios_screen.proofs.Kept.{plan_beam}
+use Rattle.bios_screen.proofs.Shows.{named_page}
 use Rattle.bios_screen.proofs.Cursors.{with_crtc, type_set, start_set, page_allowed, page_data, then_data, data_runs}
 use Rattle.bios_screen.proofs.PixelModes.{Graphics, row_in, start_small}
 use Rattle.bios_screen.proofs.PixelModes.Graphics.{Sixteen, Many}
@@ -33,7 +34,7 @@ use Rattle.bios_screen.proofs.PixelShows.{IsPixels, pixels_shown, pixels_shown_o
 module _ (c : CardState) (d : BiosData) (h : IsPixels c d) where
   -- the page that is meant, and why it is refused
   meant_is : (page : ℕ) → page_named d page ≡ page_meant (pixels_shown c d h) page
-  meant_is page = ap (λ (x : Option ModeRow). if pages_in x == 1 then 0 else page) h.mode
+  meant_is page = named_page h.row d h.mode page
 
   named_refusal_is : (page : ℕ) → page_refusal d (page_named d page) ≡ page_refused (pixels_shown c d h) (page_meant (pixels_shown c d h) page)
   named_refusal_is page =

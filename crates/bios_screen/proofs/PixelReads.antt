@@ -1,6 +1,6 @@
 -- Function 08 in graphics: the service around the lines of the cell at the cursor.
 use Rattle.std.proofs.Common.{◌≡◌, ℕ, ◌<◌, ap, ◌∙◌, List, Option, Some, None, false}
-use Rattle.std.specs.Prelude.{◌==◌, nat_lt, if◌then◌else◌}
+use Rattle.std.specs.Prelude.{nat_lt, if◌then◌else◌}
 use Rattle.vga_bits.specs.declared.refusal.Refusal.{Refusal}
 use Rattle.vga_bits.specs.declared.refusal.Refusal.TheVariants.{BadPage, Outside}
 use Rattle.vga_card.specs.Bus.{card_meaning}
@@ -29,18 +29,16 @@ use Rattle.bios_screen.specs.Step.{page_meant, cursor_refused, cell_line, refuse
 use Rattle.bios_screen.specs.Served.{IsServed}
 use Rattle.bios_screen.proofs.PlanLemmas.{run_bind}
 use Rattle.bios_screen.proofs.Kept.{plan_beam}
+use Rattle.bios_screen.proofs.Shows.{named_page}
 use Rattle.bios_screen.proofs.Writes.{cursor_allowed}
 
 module _ (row : ModeRow) (c : CardState) (d : BiosData) (e : mode_row d.mode ≡ Some row) (text : is_text d.mode ≡ false) where
   abbrev s : Screen
   s = pixel_screen row c d
 
-  page_is : (page : ℕ) → page_named d page ≡ page_meant s page
-  page_is page = ap (λ (x : Option ModeRow). if pages_in x == 1 then 0 else page) e
-
   refusal_is : (page : ℕ) → cursor_refusal d (page_named d page) ≡ cursor_refused s (page_meant s page)
   refusal_is page =
-      ap (cursor_refusal d) (page_is page)
+      ap (cursor_refusal d) (named_page row d e page)
       ∙ ap (λ (x : Option ModeRow). let y : Option Refusal = (if nat_lt (page_meant s page) (pages_in x) then (if nat_lt (cell_number d (place_of d (page_meant s page))) (cells_of d) then None else Some Outside) else Some BadPage) in y) e
 
   abbrev reading : FontSet → ℕ → Plan ℕ
@@ -69,7 +67,7 @@ module _ (row : ModeRow) (c : CardState) (d : BiosData) (e : mode_row d.mode ≡
       let put_in : ℕ → Plan Regs = λ character. Done (record r { ax = with_low r.ax character }) in
       let runs : run card_meaning (plan >>= done) c ≡ (let x = run card_meaning (reading fonts p) c in let y : CardState × Outcome = (x.0, (record r { ax = with_low r.ax x.1 }, d)) in y) =
       run_bind card_meaning plan done c
-      ∙ ap (λ i. let x = run card_meaning (read_cell_service fonts i d r) c in let y : CardState × Outcome = (x.0, (x.1, d)) in y) (page_is page)
+      ∙ ap (λ i. let x = run card_meaning (read_cell_service fonts i d r) c in let y : CardState × Outcome = (x.0, (x.1, d)) in y) (named_page row d e page)
       ∙ ap (λ i. let x = run card_meaning i c in let y : CardState × Outcome = (x.0, (x.1, d)) in y) (service_is fonts r p)
       ∙ ap (λ (x : CardState × Regs). let y : CardState × Outcome = (x.0, (x.1, d)) in y) (run_bind card_meaning (reading fonts p) put_in c) in
       record {

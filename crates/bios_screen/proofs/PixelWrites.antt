@@ -1,6 +1,6 @@
 -- Functions 09 and 0A in graphics: what a loop of characters leaves is the next screen.
 use Rattle.std.proofs.Common.{◌≡◌, ℕ, ◌+◌, ◌<◌, ◌≤◌, sym, ap, ◌∙◌, arith, List, Option, Some, None}
-use Rattle.std.specs.Prelude.{◌==◌, nat_lt, nat_le, if◌then◌else◌}
+use Rattle.std.specs.Prelude.{nat_lt, nat_le, if◌then◌else◌}
 use Rattle.vga_bits.specs.declared.refusal.Refusal.{Refusal}
 use Rattle.vga_bits.specs.declared.refusal.Refusal.TheVariants.{BadPage, Outside, CountPast}
 use Rattle.vga_card.specs.Bus.{card_meaning}
@@ -28,6 +28,7 @@ use Rattle.bios_screen.specs.Served.{IsServed}
 use Rattle.bios_screen.proofs.PlanLemmas.{run_bind, then_runs}
 use Rattle.bios_screen.proofs.Places.{ends_before}
 use Rattle.bios_screen.proofs.Kept.{plan_beam}
+use Rattle.bios_screen.proofs.Shows.{named_page}
 use Rattle.bios_screen.proofs.Writes.{count_allowed}
 
 -- a character is a run of one
@@ -45,12 +46,9 @@ module _ (row : ModeRow) (c : CardState) (d : BiosData) (e : mode_row d.mode ≡
   abbrev s : Screen
   s = pixel_screen row c d
 
-  page_is : (page : ℕ) → page_named d page ≡ page_meant s page
-  page_is page = ap (λ (x : Option ModeRow). if pages_in x == 1 then 0 else page) e
-
   refusal_is : (page count : ℕ) → count_refusal d (page_named d page) count ≡ count_refused s (page_meant s page) count
   refusal_is page count =
-      ap (λ p. count_refusal d p count) (page_is page)
+      ap (λ p. count_refusal d p count) (named_page row d e page)
       ∙ ap (λ (x : Option ModeRow). let y : Option Refusal = (if nat_lt (page_meant s page) (pages_in x) then (if nat_lt (cell_number d (place_of d (page_meant s page))) (cells_of d) then (if nat_le (cell_number d (place_of d (page_meant s page)) + count) (cells_of d) then None else Some CountPast) else Some Outside) else Some BadPage) in y) e
 
   pub write_cells : (cells : CellRun) (fonts : FontSet) (r : Regs) (block : List ℕ)
@@ -68,7 +66,7 @@ module _ (row : ModeRow) (c : CardState) (d : BiosData) (e : mode_row d.mode ≡
         shows = λ allowed.
             let h = count_allowed row.pages p (cell_number d (place_of d p)) cells.count (cells_of d) allowed in
             ap (λ q. shown q.0 q.1.1) runs
-            ∙ ap (λ i. shown (run card_meaning (cell_run_plan fonts d i cells) c).0 d) (page_is cells.page)
+            ∙ ap (λ i. shown (run card_meaning (cell_run_plan fonts d i cells) c).0 d) (named_page row d e cells.page)
             ∙ shows p (cell_number d (place_of d p)) h.page h.within;
         beam = plan_beam (plan >> done) c;
       }

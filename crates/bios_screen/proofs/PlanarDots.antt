@@ -26,6 +26,7 @@ use Rattle.bios_screen.specs.Served.{IsServed}
 use Rattle.bios_screen.proofs.Flat.{set_cell, set_same, set_other}
 use Rattle.bios_screen.proofs.PlanLemmas.{run_bind}
 use Rattle.bios_screen.proofs.Kept.{KeepsBounds, plan_beam}
+use Rattle.bios_screen.proofs.Shows.{named_page}
 use Rattle.bios_screen.proofs.PixelModes.{Planes, row_of, packed_by}
 use Rattle.bios_screen.proofs.PixelDots.{IsPlanar}
 use Rattle.bios_screen.proofs.PlanarHands.{Hand, at_rest, drawing, stored, without_drawing, Loaded, put_draws, get_loads, function_set, mode_set, bits_set}
@@ -172,7 +173,7 @@ module _ (law : KeepsBounds) (m : Planes) (c : CardState) (d : BiosData) (t : Is
             let h = reads.there m c d t e z p x y allowed in
             let drawn = dot_drawn law (without_drawing c) misc clocking (d.size * p + n / 8) (x % 8) v (is_set v 7) c.host.latches c old (reads.enabled_by m) (reads.offset_small m c d t e z p x y h) (omega arith) (screens.begins m c d t e z) in
             ap (λ q. shown q.0 q.1.1) runs
-            ∙ ap (λ i. shown (run card_meaning (write_pixel_plan d i x y v) c).0 d) (reads.page_is m c d t e z page)
+            ∙ ap (λ i. shown (run card_meaning (write_pixel_plan d i x y v) c).0 d) (named_page (row_of m) d e page)
             ∙ ap (λ i. shown (run card_meaning i c).0 d) (write_is p x y v)
             ∙ dot_shown p n v (is_set v 7) (run card_meaning (dot_plan (is_set v 7) (0xA0000 + (d.size * p + n / 8)) (x % 8) v) c).0 h.page (reads.number_within m c d t e z p x y h)
             (subst (λ k. IsDotted (without_drawing c) misc clocking (d.size * p + n / 8) k (ink (is_set v 7) v) (run card_meaning (dot_plan (is_set v 7) (0xA0000 + (d.size * p + n / 8)) (x % 8) v) c).0 old) (reads.rest_of_8 d.columns y x) drawn)

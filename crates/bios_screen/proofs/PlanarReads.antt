@@ -40,6 +40,7 @@ use Rattle.bios_screen.proofs.PlanLemmas.{run_bind}
 use Rattle.bios_screen.proofs.Places.{ends_before}
 use Rattle.bios_screen.proofs.TestLemmas.{lt_is}
 use Rattle.bios_screen.proofs.Kept.{plan_beam}
+use Rattle.bios_screen.proofs.Shows.{named_page}
 use Rattle.bios_screen.proofs.Setting.{Setting, setting, host_at, get_decoded}
 use Rattle.bios_screen.proofs.PixelModes.{Planes, row_of, number_of, setting_in, text_by, packed_by}
 use Rattle.bios_screen.proofs.PixelModes.Planes.{Low, Middle, High}
@@ -161,12 +162,9 @@ module _ (m : Planes) (c : CardState) (d : BiosData) (t : IsPlanar m c d) (e : m
   text : is_text d.mode ≡ false
   text = ap is_text t.number ∙ text_by m
 
-  pub page_is : (page : ℕ) → page_named d page ≡ page_meant s page
-  page_is page = ap (λ (x : Option ModeRow). if pages_in x == 1 then 0 else page) e
-
   pub refusal_is : (page x y : ℕ) → pixel_refusal d (page_named d page) x y ≡ pixel_refused s (page_meant s page) x y
   refusal_is page x y =
-      ap (λ p. pixel_refusal d p x y) (page_is page)
+      ap (λ p. pixel_refusal d p x y) (named_page (row_of m) d e page)
       ∙ ap (λ (q : Option ModeRow). let r : Option Refusal = (if is_text d.mode then Some WrongKind else if nat_lt (page_meant s page) (pages_in q) then (if nat_lt x (8 * d.columns) && nat_lt y (d.height * (d.last_row + 1)) then None else Some Outside) else Some BadPage) in r) e
 
   pub record There (p x y : ℕ) : Type 0 where
@@ -250,7 +248,7 @@ module _ (m : Planes) (c : CardState) (d : BiosData) (t : IsPlanar m c d) (e : m
       let runs =
       run_bind card_meaning plan done c
       ∙ ap (λ (q : CardState × Regs). run card_meaning (done q.1) q.0) (run_bind card_meaning (read_pixel_plan d (page_named d page) x y) after c)
-      ∙ ap (λ i. let q = run card_meaning (read_pixel_plan d i x y) c in let w : CardState × Outcome = (q.0, (record r { ax = with_low r.ax q.1 }, d)) in w) (page_is page)
+      ∙ ap (λ i. let q = run card_meaning (read_pixel_plan d i x y) c in let w : CardState × Outcome = (q.0, (record r { ax = with_low r.ax q.1 }, d)) in w) (named_page (row_of m) d e page)
       ∙ ap (λ i. let q = run card_meaning i c in let w : CardState × Outcome = (q.0, (record r { ax = with_low r.ax q.1 }, d)) in w) (read_is p x y) in
       record {
         refusal = refusal_is page x y;

@@ -1,6 +1,6 @@
 -- The page that a service means in text, and services of dots, which text has not.
 use Rattle.std.proofs.Common.{◌≡◌, ℕ, ◌*◌, sym, ap, ◌∙◌, List, Option, Some, None}
-use Rattle.std.specs.Prelude.{◌==◌, ◌&&◌, nat_lt, if◌then◌else◌}
+use Rattle.std.specs.Prelude.{◌&&◌, nat_lt, if◌then◌else◌}
 use Rattle.vga_bits.specs.declared.refusal.Refusal.{Refusal}
 use Rattle.vga_bits.specs.declared.refusal.Refusal.TheVariants.{WrongKind, BadPage, Outside}
 use Rattle.vga_card.specs.Card.{CardState}
@@ -16,11 +16,11 @@ use Rattle.bios_services.specs.Service.{plan_of}
 use Rattle.bios_screen.specs.Step.{page_meant, page_refused, pixel_refused, refused_on}
 use Rattle.bios_screen.specs.Served.{IsServed}
 use Rattle.bios_screen.proofs.Kept.{plan_beam}
-use Rattle.bios_screen.proofs.Shows.{IsShown, screen_shown}
+use Rattle.bios_screen.proofs.Shows.{IsShown, screen_shown, named_page}
 
 -- the page that is meant, and why it is refused
 pub meant_is : (c : CardState) (d : BiosData) (h : IsShown c d) (page : ℕ) → page_named d page ≡ page_meant (screen_shown c d h) page
-meant_is c d h page = ap (λ (x : Option ModeRow). if pages_in x == 1 then 0 else page) h.mode
+meant_is c d h page = named_page h.row d h.mode page
 
 pub page_refusal_is : (c : CardState) (d : BiosData) (h : IsShown c d) (page : ℕ) → page_refusal d page ≡ page_refused (screen_shown c d h) page
 page_refusal_is c d h page = ap (λ (x : Option ModeRow). let y : Option Refusal = (if nat_lt page (pages_in x) then None else Some BadPage) in y) h.mode

@@ -10,6 +10,8 @@ use Rattle.bios_modes.specs.Modes.{mode_row}
 use Rattle.bios_modes.specs.Bda.{BiosData}
 use Rattle.bios_services.specs.declared.kind.Kind.{Kind}
 use Rattle.bios_services.specs.declared.kind.Kind.TheVariants.{Text, Planar, Packed}
+use Rattle.bios_services.specs.Bounds.{pages_in}
+use Rattle.bios_services.specs.Refusals.{page_named}
 use Rattle.bios_services.specs.ModeSet.{is_text}
 use Rattle.bios_services.specs.Kinds.{kind_of}
 use Rattle.bios_services.specs.Cursor.{cursor_address, start_address}
@@ -28,6 +30,10 @@ pub record HasData (row : ModeRow) (d : BiosData) : Type 0 where
   pub port : d.crtc_address ≡ row.crtc_address
   pub start : d.start ≡ d.size * d.page
   pub page : d.page < row.pages
+
+-- the page that a call names, in a mode with this row
+pub named_page : (row : ModeRow) (d : BiosData) → mode_row d.mode ≡ Some row → (page : ℕ) → page_named d page ≡ (if row.pages == 1 then 0 else page)
+named_page row d e page = ap (λ (x : Option ModeRow). if pages_in x == 1 then 0 else page) e
 
 pub data_is : (row : ModeRow) (d : BiosData) → shows_data row d ≡ true → HasData row d
 data_is row d h =
