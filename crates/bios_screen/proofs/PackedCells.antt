@@ -11,8 +11,7 @@ use Rattle.bios_modes.specs.Fonts.{FontSet}
 use Rattle.bios_services.specs.declared.regs.Regs.{Regs}
 use Rattle.bios_services.specs.declared.kind.Kind.TheVariants.{Packed}
 use Rattle.bios_services.specs.declared.call.Service.TheVariants.{ReadCell}
-use Rattle.bios_services.specs.Bands.{address_in}
-use Rattle.bios_services.specs.Cells.{page_base, cells_of}
+use Rattle.bios_services.specs.Cells.{cells_of}
 use Rattle.bios_services.specs.Drawing.{cell_band, cell_row}
 use Rattle.bios_services.specs.Glyphs.{first_character}
 use Rattle.bios_services.specs.Kinds.{kind_of}
@@ -33,7 +32,7 @@ use Rattle.bios_screen.proofs.PackedWrites as writes
 use Rattle.bios_screen.proofs.PlanarGlyphs.{as_dot, byte_same}
 use Rattle.bios_screen.proofs.PlanarHands.{without_drawing}
 use Rattle.bios_screen.proofs.PlanarWrites.{column_by}
-use Rattle.bios_screen.proofs.PixelCells.{strip_at, strip_within}
+use Rattle.bios_screen.proofs.PixelCells.{strip_at}
 use Rattle.bios_screen.proofs.PixelReads as reads
 use Rattle.bios_screen.proofs.PixelReads.{IsSeen}
 
@@ -143,29 +142,16 @@ module _ (law : KeepsBounds) (c : CardState) (d : BiosData) (t : IsPacked c d) (
   unfolding read_character_plan lines_plan
   plan_is fonts q =
       let kind = ap kind_of t.number in
-      let band = column_by Packed d 0 (q % w) in
-      let none : d.size * 0 ≡ 0 = omega arith in
       let sum : (n : ℕ) → 0xA0000 + (n + 0) ≡ 0xA0000 + n = λ n. omega arith in
-      let address : (r : ℕ) → address_in band (q / w) r 0 ≡ 0xA0000 + place q r = λ r.
-      ap (λ n. n + d.size * 0 + 8 * w * (h * (q / w) + r) + 8 * (q % w) + 0) (ap page_base t.number)
-      ∙ ap (λ n. 0xA0000 + n + 8 * w * (h * (q / w) + r) + 8 * (q % w) + 0) none
-      ∙ writes.address_sum w h (q / w) r (q % w) 0 ∙ sum (place q r) in
       ap (λ k. read_character_plan (column_by k d 0 (q % w)) (q / w) fonts) kind
-      ∙ ap (λ a. seen_by a h fonts) (λ j r. address r j)
+      ∙ ap (λ a. seen_by a h fonts) (λ j r. (writes.address_is law c d t e z q r 0 ∙ sum (place q r)) j)
 
   abbrev old : ℕ → ℕ
   old = packed_pixel c.host.memory
 
-  small : (q r : ℕ) → q < cells_of d → r < h → strip_at w h q r < 8000
-  small q r lq lr =
-      let l = strip_within w h (d.last_row + 1) q r (writes.wide law c d t e z) lr lq in
-      let same : 8 * w * (h * (d.last_row + 1)) ≡ 8 * (w * (h * (d.last_row + 1))) = omega arith in
-      let all = screens.all_pixels c d t e z in
-      omega arith
-
   line_is : (q r : ℕ) → q < cells_of d → r < h → byte_of (λ j. as_dot (old (place q r + (7 - j)))) ≡ cell_line s 0 q r
   line_is q r lq lr =
-      let l = small q r lq lr in
+      let l = writes.strip_small law c d t e z q r lq lr in
       let all = screens.all_pixels c d t e z in
       byte_same (λ j. as_dot (old (place q r + (7 - j)))) (λ j. as_dot (pixel_of s 0 (place q r + (7 - j)))) (λ j lj. ap as_dot (sym (screens.pixel_is c d t e z (place q r + (7 - j)) (omega arith))))
 
@@ -174,7 +160,7 @@ module _ (law : KeepsBounds) (c : CardState) (d : BiosData) (t : IsPacked c d) (
       let at = place q in
       let lines : Plan (List ℕ) = gather (λ r. line_plan Packed (0xA0000 + at r)) h 0 in
       let after : List ℕ → Plan ℕ = λ l. Done (first_character fonts h l 256) in
-      let x = lines_seen law (without_drawing c) at h 0 c old (λ r l. let k = small q r lq (omega arith) in omega arith) (screens.begins c d t e z) in
+      let x = lines_seen law (without_drawing c) at h 0 c old (λ r l. let k = writes.strip_small law c d t e z q r lq (omega arith) in omega arith) (screens.begins c d t e z) in
       let runs = run_bind card_meaning lines after c in
       let plan = plan_is fonts q in
       record {

@@ -77,27 +77,33 @@ module _ (law : KeepsBounds) (c : CardState) (d : BiosData) (t : IsPacked c d) (
   abbrev place : ℕ → ℕ → ℕ → ℕ
   place q r i = 8 * strip_at w h q r + i
 
+  pub address_is : (q r i : ℕ) → address_in (column_by Packed d 0 (q % w)) (q / w) r i ≡ 0xA0000 + place q r i
+  address_is q r i =
+      let none : d.size * 0 ≡ 0 = omega arith in
+      ap (λ n. n + d.size * 0 + 8 * w * (h * (q / w) + r) + 8 * (q % w) + i) (ap page_base t.number)
+      ∙ ap (λ n. 0xA0000 + n + 8 * w * (h * (q / w) + r) + 8 * (q % w) + i) none
+      ∙ address_sum w h (q / w) r (q % w) i
+
   character_is : (fonts : FontSet) (q character : ℕ) (ink : Ink) → character_plan fonts d 0 q character ink ≡ glyph_plan (λ r i. 0xA0000 + place q r i) (glyph_line fonts h character) h ink.colour
   unfolding character_by
   character_is fonts q character ink =
       let kind = ap kind_of t.number in
       let band = column_by Packed d 0 (q % w) in
-      let none : d.size * 0 ≡ 0 = omega arith in
-      let address : (r i : ℕ) → address_in band (q / w) r i ≡ 0xA0000 + place q r i = λ r i.
-      ap (λ n. n + d.size * 0 + 8 * w * (h * (q / w) + r) + 8 * (q % w) + i) (ap page_base t.number)
-      ∙ ap (λ n. 0xA0000 + n + 8 * w * (h * (q / w) + r) + 8 * (q % w) + i) none
-      ∙ address_sum w h (q / w) r (q % w) i in
       ap (λ k. character_by k fonts d 0 q character ink) kind
       ∙ ap (λ k. packed_plan (column_by k d 0 (q % w)) (q / w) fonts character ink.colour) kind
       ∙ plan_is band (q / w) fonts character ink.colour
-      ∙ ap (λ a. glyph_plan a (glyph_line fonts h character) h ink.colour) (λ j r i. address r i j)
+      ∙ ap (λ a. glyph_plan a (glyph_line fonts h character) h ink.colour) (λ j r i. address_is q r i j)
 
-  within : (q r i : ℕ) → q < cells_of d → r < h → i < 8 → place q r i < 65536
-  within q r i lq lr li =
+  -- the page has 8000 strips
+  pub strip_small : (q r : ℕ) → q < cells_of d → r < h → strip_at w h q r < 8000
+  strip_small q r lq lr =
       let l = strip_within w h (d.last_row + 1) q r wide lr lq in
       let same : 8 * w * (h * (d.last_row + 1)) ≡ 8 * (w * (h * (d.last_row + 1))) = omega arith in
       let all = screens.all_pixels c d t e z in
       omega arith
+
+  within : (q r i : ℕ) → q < cells_of d → r < h → i < 8 → place q r i < 65536
+  within q r i lq lr li = let l = strip_small q r lq lr in omega arith
 
   -- a place is of one line and one dot
   apart : (q u r v i j : ℕ) → r < h → v < h → i < 8 → j < 8 → place q r i ≡ place u v j → (q ≡ u) × ((r ≡ v) × (i ≡ j))

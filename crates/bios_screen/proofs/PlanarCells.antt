@@ -1,5 +1,5 @@
 -- The character at the cursor of sixteen colours is the first whose glyph its pixels are.
-use Rattle.std.proofs.Common.{◌≡◌, ℕ, ◌+◌, ◌-◌, ◌*◌, ◌/◌, ◌%◌, ◌<◌, refl, sym, ap, ◌∙◌, arith, List, Some, false}
+use Rattle.std.proofs.Common.{◌≡◌, ℕ, ◌+◌, ◌-◌, ◌*◌, ◌/◌, ◌%◌, ◌<◌, refl, sym, ap, ◌∙◌, arith, List, Some}
 use Rattle.std.specs.Prelude.{slice_index}
 use Rattle.vga_bits.specs.Four.{Four}
 use Rattle.vga_planes.specs.Planes.{bytes_at}
@@ -12,13 +12,11 @@ use Rattle.bios_modes.specs.Fonts.{FontSet}
 use Rattle.bios_services.specs.declared.regs.Regs.{Regs}
 use Rattle.bios_services.specs.declared.kind.Kind.TheVariants.{Planar}
 use Rattle.bios_services.specs.declared.call.Service.TheVariants.{ReadCell}
-use Rattle.bios_services.specs.Bands.{address_in}
-use Rattle.bios_services.specs.Cells.{page_base, cells_of}
+use Rattle.bios_services.specs.Cells.{cells_of}
 use Rattle.bios_services.specs.Cycles.{graphics}
 use Rattle.bios_services.specs.Drawing.{cell_band, cell_row}
 use Rattle.bios_services.specs.Glyphs.{first_character}
 use Rattle.bios_services.specs.Kinds.{kind_of}
-use Rattle.bios_services.specs.ModeSet.{is_text}
 use Rattle.bios_services.specs.Plan.{Plan, run, gather, Done, ◌>>=◌, ◌>>◌}
 use Rattle.bios_services.specs.Reading.{line_plan, lines_plan, read_character_plan}
 use Rattle.bios_screen.specs.Screen.{Screen}
@@ -28,7 +26,7 @@ use Rattle.bios_screen.specs.Served.{IsServed}
 use Rattle.bios_screen.proofs.ListLemmas.{same_from_0}
 use Rattle.bios_screen.proofs.PlanLemmas.{run_bind}
 use Rattle.bios_screen.proofs.Kept.{KeepsBounds}
-use Rattle.bios_screen.proofs.PixelModes.{Planes, row_of, text_by}
+use Rattle.bios_screen.proofs.PixelModes.{Planes, row_of}
 use Rattle.bios_screen.proofs.PixelDots.{IsPlanar}
 use Rattle.bios_screen.proofs.PixelCells.{strip_at, strip_within}
 use Rattle.bios_screen.proofs.PlanarHands.{at_rest, without_drawing, mode_set}
@@ -61,9 +59,6 @@ module _ (law : KeepsBounds) (m : Planes) (c : CardState) (d : BiosData) (t : Is
   abbrev h : ℕ
   h = d.height
 
-  text : is_text d.mode ≡ false
-  text = ap is_text t.number ∙ text_by m
-
   abbrev place : ℕ → ℕ → ℕ → ℕ
   place p q r = d.size * p + strip_at w h q r
 
@@ -71,13 +66,8 @@ module _ (law : KeepsBounds) (m : Planes) (c : CardState) (d : BiosData) (t : Is
   unfolding read_character_plan lines_plan
   plan_is fonts p q =
       let kind = ap kind_of t.number ∙ kind_by m in
-      let left = q % w in
-      let row = q / w in
-      let band = column_by Planar d p left in
-      let address : (r : ℕ) → address_in band row r 0 ≡ 0xA0000 + place p q r = λ r.
-      ap (λ n. n + d.size * p + 1 * w * (h * row + r) + 1 * left + 0) (ap page_base t.number ∙ base_by m) ∙ address_sum (d.size * p) w h row r left in
-      ap (λ k. read_character_plan (column_by k d p left) row fonts) kind
-      ∙ ap (λ a. seen_by a h fonts) (λ j r. address r j)
+      ap (λ k. read_character_plan (column_by k d p (q % w)) (q / w) fonts) kind
+      ∙ ap (λ a. seen_by a h fonts) (λ j r. writes.address_is law m c d t e z p q r j)
 
   abbrev old : ℕ → Four ℕ
   old = bytes_at c.host.memory
@@ -87,7 +77,8 @@ module _ (law : KeepsBounds) (m : Planes) (c : CardState) (d : BiosData) (t : Is
   line_is p q r lp lq lr =
       let b = strip_at w h q r in
       let l = strip_within w h (d.last_row + 1) q r (writes.wide law m c d t e z) lr lq in
-      let same : 8 * w * (h * (d.last_row + 1)) ≡ 8 * (w * (h * (d.last_row + 1))) = omega arith in
+      let small = (screens.strip_small m c d t e z b l).0 in
+      let even : page_pixels d ≡ 8 * (w * (h * (d.last_row + 1))) = omega arith in
       byte_same (λ i. as_dot (nibble_of (old (d.size * p + b)) (7 - i))) (λ i. as_dot (pixel_of s p (8 * b + (7 - i)))) (λ i li.
       let k = 8 * b + (7 - i) in
       let strip : k / 8 ≡ b = omega arith in
@@ -95,7 +86,7 @@ module _ (law : KeepsBounds) (m : Planes) (c : CardState) (d : BiosData) (t : Is
       let less : k < page_pixels d = omega arith in
       ap as_dot (sym (screens.pixel_is m c d t e z p k lp less ∙ ap (λ x. nibble_of (old (d.size * p + x)) (k % 8)) strip ∙ ap (nibble_of (old (d.size * p + b))) dot)))
 
-  seen : (fonts : FontSet) (p q : ℕ) → p < (row_of m).pages → q < cells_of d → IsSeen (row_of m) c d e text fonts p q
+  seen : (fonts : FontSet) (p q : ℕ) → p < (row_of m).pages → q < cells_of d → IsSeen (row_of m) c d e (screens.text m c d t e z) fonts p q
   seen fonts p q lp lq =
       let misc = (row_of m).misc in
       let clocking = slice_index (row_of m).sequencer 1 in
@@ -118,4 +109,4 @@ module _ (law : KeepsBounds) (m : Planes) (c : CardState) (d : BiosData) (t : Is
       }
 
   pub read_cell : (page : ℕ) (fonts : FontSet) (r : Regs) (block : List ℕ) → IsServed (ReadCell page) fonts r block c d s
-  read_cell page fonts r block = reads.read_cell (row_of m) c d e text page fonts r block (λ p q lp lq. seen fonts p q lp lq)
+  read_cell page fonts r block = reads.read_cell (row_of m) c d e (screens.text m c d t e z) page fonts r block (λ p q lp lq. seen fonts p q lp lq)

@@ -1,13 +1,12 @@
 -- The character at the cursor is read from planes, which the graphics controller compares with 0.
-use Rattle.std.proofs.Common.{◌≡◌, ℕ, zero, suc, ◌+◌, ◌-◌, ◌*◌, ◌%◌, ◌<◌, refl, sym, ap, ◌∙◌, subst, arith, List, ◌∷◌, true}
-use Rattle.std.specs.Prelude.{◌==◌, ◌&&◌, nat_le, nat_lt, if◌then◌else◌}
+use Rattle.std.proofs.Common.{◌≡◌, ℕ, zero, suc, ◌+◌, ◌-◌, ◌*◌, ◌<◌, refl, sym, ap, ◌∙◌, subst, arith, List, ◌∷◌, true}
+use Rattle.std.specs.Prelude.{◌==◌, ◌&&◌, if◌then◌else◌}
 use Rattle.std.specs.Int.{bit_at}
 use Rattle.std.proofs.lemmas.Bool.Decides.{nat_tests}
 use Rattle.vga_bits.specs.Bits.{is_set, byte_of}
 use Rattle.vga_bits.specs.Four.{Four}
 use Rattle.vga_planes.specs.Planes.{bytes_at}
 use Rattle.vga_host.specs.Host.{HostState}
-use Rattle.vga_host.specs.Address.{is_decoded}
 use Rattle.vga_host.specs.Read.{read_bit, read_byte}
 use Rattle.vga_card.specs.Bus.{card_meaning}
 use Rattle.vga_card.specs.Card.{CardState}
@@ -17,7 +16,7 @@ use Rattle.bios_services.specs.Reading.{line_plan}
 use Rattle.bios_screen.specs.Listing.{listing}
 use Rattle.bios_screen.proofs.PlanLemmas.{run_bind}
 use Rattle.bios_screen.proofs.Kept.{KeepsBounds}
-use Rattle.bios_screen.proofs.Setting.{host_at, get_decoded}
+use Rattle.bios_screen.proofs.Setting.{host_at, reached, offset_is, get_decoded}
 use Rattle.bios_screen.proofs.PlanarHands.{Hand, drawing, get_loads}
 use Rattle.bios_screen.proofs.PlanarBits.{nibble_of}
 use Rattle.bios_screen.proofs.PlanarCharacters.{Drawn}
@@ -49,12 +48,9 @@ byte_same f g h =
 abbrev pub dots_of : Four ℕ → ℕ
 dots_of q = byte_of (λ i. if nibble_of q (7 - i) == 0 then 0 else 1)
 
-window_is : (a : ℕ) → a < 65536 → (0xA0000 + a - 0xA0000) % 65536 ≡ a
-window_is a l = omega arith
-
 byte_is : (h : HostState) (e d a : ℕ) → a < 65536 → read_byte (host_at h (drawing e d seeing)) (0xA0000 + a) ≡ byte_of (none_of (bytes_at h.memory a))
 unfolding byte_of read_bit
-byte_is h e d a l = ap (λ o. byte_of (none_of (bytes_at h.memory o))) (window_is a l)
+byte_is h e d a l = ap (λ o. byte_of (none_of (bytes_at h.memory o))) (offset_is a l)
 
 complement : (f g : ℕ → ℕ) → ((i : ℕ) → f i + g i ≡ 1) → 255 - byte_of f ≡ byte_of g
 unfolding byte_of
@@ -78,13 +74,10 @@ module _ (law : KeepsBounds) (rest : CardState) (e d : ℕ) (on : is_set e 1 ≡
     still : Drawn rest e d seeing (run card_meaning (line_plan Planar (0xA0000 + a)) c).0 f
     value : (run card_meaning (line_plan Planar (0xA0000 + a)) c).1 ≡ dots_of (f a)
 
-  decoded : (h : HostState) (a : ℕ) → a < 65536 → is_decoded (host_at h (drawing e d seeing)) e (0xA0000 + a) ≡ true
-  decoded h a l = ap (λ t. t && (nat_le 0xA0000 (0xA0000 + a) && nat_lt (0xA0000 + a) 0xB0000)) on ∙ grind (arith, nat_tests)
-
   line_seen : (a : ℕ) (c : CardState) (f : ℕ → Four ℕ) → a < 65536 → Drawn rest e d seeing c f → IsLineSeen a c f
   unfolding line_plan
   line_seen a c f la t =
-      let got = get_decoded c (drawing e d seeing) (0xA0000 + a) t.is.mode (decoded c.host a la) in
+      let got = get_decoded c (drawing e d seeing) (0xA0000 + a) t.is.mode (reached (is_set e 1) a on la) in
       record {
         still = record { latches = f a; is = get_loads law rest e d a seeing t.latches c f on t.is la };
         value = ap (λ n. 255 - n) (ap (λ r. r.1) got ∙ byte_is c.host e d a la ∙ ap (λ q. byte_of (none_of q)) (t.is.cell a))

@@ -1,6 +1,6 @@
 -- Drawing in sixteen colours: the settings that a plan goes through, and what a Put, a Get and a register write leave there.
 use Rattle.std.proofs.Common.{◌≡◌, ◌≢◌, ℕ, ◌+◌, ◌<◌, ⊎_elim, refl, sym, ap, ◌∙◌, subst, arith, List, [], ◌∷◌, length, Bool, true, false}
-use Rattle.std.specs.Prelude.{slice_index, slice_set, ◌==◌, ◌&&◌, nat_le, nat_lt, if◌then◌else◌, bit_and}
+use Rattle.std.specs.Prelude.{slice_index, slice_set, ◌==◌, ◌&&◌, if◌then◌else◌, bit_and}
 use Rattle.std.proofs.lemmas.Bool.{cases_eq, agree_below_at}
 use Rattle.std.proofs.lemmas.Bool.Decides.{nat_tests}
 use Rattle.std.proofs.lemmas.List.{get_or-set_same, get_or-set_other}
@@ -21,7 +21,7 @@ use Rattle.bios_services.specs.Plan.{run, put, get}
 use Rattle.bios_services.specs.Cycles.{sequencer, graphics}
 use Rattle.bios_screen.proofs.Flat.{set_cell, set_same, set_other}
 use Rattle.bios_screen.proofs.Kept.{KeepsBounds, plan_bounds}
-use Rattle.bios_screen.proofs.Setting.{Setting, setting, host_at, with_memory, put_decoded, get_decoded}
+use Rattle.bios_screen.proofs.Setting.{Setting, setting, host_at, with_memory, reached, offset_is, put_decoded, get_decoded}
 
 -- what a plan may change: map mask, function and rotate, mode, bit mask
 pub record Hand : Type 0 where
@@ -67,10 +67,10 @@ and_true true = refl
 and_true false = refl
 
 decoded : (h : HostState) (e d a : ℕ) (k : Hand) → is_set e 1 ≡ true → a < 65536 → is_decoded (host_at h (drawing e d k)) e (0xA0000 + a) ≡ true
-decoded h e d a k b l = ap (λ t. t && (nat_le 0xA0000 (0xA0000 + a) && nat_lt (0xA0000 + a) 0xB0000)) b ∙ grind (arith, nat_tests)
+decoded h e d a k b l = reached (is_set e 1) a b l
 
 window_is : (h : HostState) (e d a : ℕ) (k : Hand) → a < 65536 → window_offset (host_at h (drawing e d k)) (0xA0000 + a) ≡ a
-window_is h e d a k l = omega arith
+window_is h e d a k l = offset_is a l
 
 -- what is stored depends on registers and latches alone
 bare_byte : (h : HostState) (s : Setting) (v p : ℕ) → written_byte (host_at h s) v p ≡ written_byte (bare s h.latches) v p

@@ -22,7 +22,7 @@ use Rattle.bios_screen.proofs.PixelModes.Graphics.{Sixteen}
 use Rattle.bios_screen.proofs.Redrawn.{redrawn}
 use Rattle.bios_screen.proofs.AnyShows.{setting_by}
 use Rattle.bios_screen.proofs.PixelDots.{IsPlanar, pixel_at}
-use Rattle.bios_screen.proofs.PixelFresh.{pixels_of}
+use Rattle.bios_screen.proofs.PixelFresh.{pixels_of, byte_within}
 use Rattle.bios_screen.proofs.PlanarHands.{at_rest, drawing, without_drawing, Loaded}
 use Rattle.bios_screen.proofs.PlanarBits.{nibble_of}
 
@@ -49,7 +49,7 @@ module _ (m : Planes) (c : CardState) (d : BiosData) (t : IsPlanar m c d) (e : m
   abbrev clocking : ℕ
   clocking = slice_index (row_of m).sequencer 1
 
-  text : is_text d.mode ≡ false
+  pub text : is_text d.mode ≡ false
   text = ap is_text t.number ∙ text_by m
 
   pub setting_is : setting c ≡ drawing misc clocking at_rest
@@ -64,6 +64,18 @@ module _ (m : Planes) (c : CardState) (d : BiosData) (t : IsPlanar m c d) (e : m
 
   pub room : (k : ℕ) → k < page_pixels d → k / 8 < d.size
   room k l = subst (λ i. k / 8 < i) (sym t.has.size) (page_room m k (subst (λ i. k < i) all_pixels l))
+
+  -- the place of a pixel is in memory
+  pub in_memory : (p k : ℕ) → p < (row_of m).pages → k < page_pixels d → d.size * p + k / 8 < 65536
+  in_memory p k lp l = subst (λ i. i * p + k / 8 < 65536) (sym t.has.size) (byte_within m p k lp (subst (λ i. k < i) all_pixels l))
+
+  -- a strip of a page lies before all other pages
+  pub strip_small : (b : ℕ) → b < d.columns * (d.height * (d.last_row + 1)) → (8 * b < page_pixels d) × (b < d.size)
+  strip_small b l =
+      let same : 8 * d.columns * (d.height * (d.last_row + 1)) ≡ 8 * (d.columns * (d.height * (d.last_row + 1))) = omega arith in
+      let inside : 8 * b < page_pixels d = omega arith in
+      let k : 8 * b / 8 ≡ b = omega arith in
+      (inside, subst (λ x. x < d.size) k (room (8 * b) inside))
 
   -- a pixel of a page is one of its byte of each plane
   pub pixel_is : (p k : ℕ) → p < (row_of m).pages → k < page_pixels d → pixel_of s p k ≡ nibble_of (bytes_at c.host.memory (d.size * p + k / 8)) (k % 8)

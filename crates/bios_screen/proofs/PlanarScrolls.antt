@@ -129,16 +129,9 @@ module _ (law : KeepsBounds) (m : Planes) (c : CardState) (d : BiosData) (t : Is
       pixel_windows.outside_of (row_of m) c d scroll k test (record { above = omega arith; below = omega arith; before = omega arith; behind = omega arith })
 
   -- strips of the page are of no other page
-  strip_small : (b : ℕ) → b < w * (h * rows) → (8 * b < page_pixels d) × (b < d.size)
-  strip_small b l =
-      let same : 8 * w * (h * rows) ≡ 8 * (w * (h * rows)) = omega arith in
-      let inside : 8 * b < page_pixels d = omega arith in
-      let k : 8 * b / 8 ≡ b = omega arith in
-      (inside, subst (λ x. x < d.size) k (screens.room m c d t e z (8 * b) inside))
-
   no_other : (o : ℕ) → (o < d.size * p) ⊎ (d.size * p + d.size ≤ o) → (b : ℕ) → o ≡ start + b → IsIn b → ⊥
   no_other o out b q i =
-      let l = (strip_small b (within_rows w h rows b wide high (pixel_windows.inside_rows (row_of m) c d scroll (b / w / h) i.above i.below))).1 in
+      let l = (screens.strip_small m c d t e z b (within_rows w h rows b wide high (pixel_windows.inside_rows (row_of m) c d scroll (b / w / h) i.above i.below))).1 in
       ⊎_elim (λ (a : o < d.size * p). absurd (omega arith)) (λ (a : d.size * p + d.size ≤ o). absurd (omega arith)) out
 
   -- a pixel that was painted over

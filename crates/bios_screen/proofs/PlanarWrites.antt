@@ -26,7 +26,7 @@ use Rattle.bios_services.specs.Glyphs.{glyph_line}
 use Rattle.bios_services.specs.Kinds.{kind_of, column_bytes, row_lines}
 use Rattle.bios_services.specs.Plan.{run}
 use Rattle.bios_screen.specs.Screen.{Screen}
-use Rattle.bios_screen.specs.Shown.{page_pixels, pixel_screen, shown}
+use Rattle.bios_screen.specs.Shown.{pixel_screen, shown}
 use Rattle.bios_screen.specs.Step.{pixel_of, pixel_cell, pixel_line, with_pixels, dot_inked, drawn}
 use Rattle.bios_screen.specs.Served.{IsServed}
 use Rattle.bios_screen.proofs.Flat.{Edited, Turn, Leaves}
@@ -35,7 +35,6 @@ use Rattle.bios_screen.proofs.Kept.{KeepsBounds}
 use Rattle.bios_screen.proofs.PixelModes.{Planes, row_of, number_of, packed_by}
 use Rattle.bios_screen.proofs.PixelModes.Planes.{Low, Middle, High}
 use Rattle.bios_screen.proofs.PixelDots.{IsPlanar}
-use Rattle.bios_screen.proofs.PixelFresh.{byte_within}
 use Rattle.bios_screen.proofs.Writes.{inside_test, before_test, behind_test}
 use Rattle.bios_screen.proofs.PlanarHands.{at_rest, without_drawing}
 use Rattle.bios_screen.proofs.PlanarBits.{nibble_of}
@@ -119,6 +118,9 @@ module _ (law : KeepsBounds) (m : Planes) (c : CardState) (d : BiosData) (t : Is
   abbrev place : ℕ → ℕ → ℕ → ℕ
   place p q r = d.size * p + strip_at w h q r
 
+  pub address_is : (p q r : ℕ) → address_in (column_by Planar d p (q % w)) (q / w) r 0 ≡ 0xA0000 + place p q r
+  address_is p q r = ap (λ n. n + d.size * p + 1 * w * (h * (q / w) + r) + 1 * (q % w) + 0) (ap page_base t.number ∙ base_by m) ∙ address_sum (d.size * p) w h (q / w) r (q % w)
+
   character_is : (fonts : FontSet) (p q character : ℕ) (ink : Ink) → character_plan fonts d p q character ink ≡ glyph_by (is_set ink.colour 7) (λ r. 0xA0000 + place p q r) (glyph_line fonts h character) h (ink.colour % 16)
   unfolding character_by
   character_is fonts p q character ink =
@@ -127,13 +129,11 @@ module _ (law : KeepsBounds) (m : Planes) (c : CardState) (d : BiosData) (t : Is
       let row = q / w in
       let band = column_by Planar d p left in
       let lines = glyph_line fonts h character in
-      let address : (r : ℕ) → address_in band row r 0 ≡ 0xA0000 + place p q r = λ r.
-      ap (λ n. n + d.size * p + 1 * w * (h * row + r) + 1 * left + 0) (ap page_base t.number ∙ base_by m) ∙ address_sum (d.size * p) w h row r left in
       ap (λ k. character_by k fonts d p q character ink) kind
       ∙ ap (λ k. planar_plan (column_by k d p left) row fonts character ink.colour) kind
       ∙ ap (λ n. planar_plan (record band { width = n }) row fonts character ink.colour) (one_wide w left (mod-lt q wide))
       ∙ plan_is band row fonts character ink.colour
-      ∙ ap (λ a. glyph_by (is_set ink.colour 7) a lines h (ink.colour % 16)) (λ j r. address r j)
+      ∙ ap (λ a. glyph_by (is_set ink.colour 7) a lines h (ink.colour % 16)) (λ j r. address_is p q r j)
 
   -- the place lies in memory, and behind no other page
   pub within : (p q r : ℕ) → p < (row_of m).pages → q < cells_of d → r < h → (strip_at w h q r < d.size) × (place p q r < 65536)
@@ -141,11 +141,8 @@ module _ (law : KeepsBounds) (m : Planes) (c : CardState) (d : BiosData) (t : Is
       let b = strip_at w h q r in
       let l = strip_within w h (d.last_row + 1) q r wide lr lq in
       let k : 8 * b / 8 ≡ b = omega arith in
-      let same : 8 * w * (h * (d.last_row + 1)) ≡ 8 * (w * (h * (d.last_row + 1))) = omega arith in
-      let inside : 8 * b < page_pixels d = omega arith in (
-        subst (λ n. n < d.size) k (screens.room m c d t e z (8 * b) inside),
-        subst (λ n. d.size * p + n < 65536) k (subst (λ i. i * p + 8 * b / 8 < 65536) (sym t.has.size) (byte_within m p (8 * b) lp (subst (λ i. 8 * b < i) (screens.all_pixels m c d t e z) inside))),
-      )
+      let small = screens.strip_small m c d t e z b l in
+      (small.1, subst (λ n. d.size * p + n < 65536) k (screens.in_memory m c d t e z p (8 * b) lp small.0))
 
   abbrev old : ℕ → Four ℕ
   old = bytes_at c.host.memory

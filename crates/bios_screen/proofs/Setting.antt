@@ -1,5 +1,7 @@
 -- The registers that a cycle of memory looks at, and what it does where they are known.
-use Rattle.std.proofs.Common.{◌≡◌, ℕ, List, true, sym, ap, ◌∙◌}
+use Rattle.std.proofs.Common.{◌≡◌, ℕ, ◌+◌, ◌-◌, ◌%◌, ◌<◌, List, Bool, true, sym, ap, ◌∙◌, arith}
+use Rattle.std.specs.Prelude.{◌&&◌, nat_le, nat_lt}
+use Rattle.std.proofs.lemmas.Bool.Decides.{nat_tests}
 use Rattle.vga_bits.specs.Four.{Four}
 use Rattle.vga_host.specs.Host.{HostState}
 use Rattle.vga_host.specs.Address.{is_decoded, window_offset}
@@ -29,6 +31,13 @@ card_at c s = record c { host = host_at c.host s; misc = s.misc }
 -- the adapter with other memory
 abbrev pub with_memory : CardState → Four (List ℕ) → CardState
 with_memory c m = record c { host = record c.host { memory = m } }
+
+-- an address of graphics is decoded where memory is enabled, and is so far from the first one
+pub reached : (enabled : Bool) (a : ℕ) → enabled ≡ true → a < 65536 → (enabled && (nat_le 0xA0000 (0xA0000 + a) && nat_lt (0xA0000 + a) 0xB0000)) ≡ true
+reached enabled a on l = ap (λ b. b && (nat_le 0xA0000 (0xA0000 + a) && nat_lt (0xA0000 + a) 0xB0000)) on ∙ grind (arith, nat_tests)
+
+pub offset_is : (a : ℕ) → a < 65536 → (0xA0000 + a - 0xA0000) % 65536 ≡ a
+offset_is a l = omega arith
 
 -- a Put at a decoded address: one equation for every setting
 pub put_decoded : (c : CardState) (s : Setting) (a v : ℕ) → setting c ≡ s → is_decoded (host_at c.host s) s.misc a ≡ true → (run card_meaning (put a v) c).0 ≡ with_memory c (memory_after_put (host_at c.host s) (window_offset (host_at c.host s) a) v)
