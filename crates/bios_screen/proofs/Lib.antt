@@ -77,6 +77,7 @@ pub mod PixelKinds
 pub mod PixelTyping
 pub mod PlanarGlyphs
 pub mod PixelReads
+pub mod PixelServices
 pub mod PlanarCells
 pub mod PackedCells
 pub mod Coloured

@@ -17,22 +17,20 @@ use Rattle.bios_services.specs.declared.call.Service.TheVariants.{WritePixel}
 use Rattle.bios_services.specs.Cycles.{graphics}
 use Rattle.bios_services.specs.Plan.{Plan, run, put, get, Done, ◌>>◌}
 use Rattle.bios_services.specs.Pixels.{pixel_address, write_dot_plan, write_pixel_plan}
-use Rattle.bios_services.specs.Refusals.{page_named, refusal_in_mode}
-use Rattle.bios_services.specs.Service.{plan_of, Outcome}
 use Rattle.bios_screen.specs.Screen.{Screen}
 use Rattle.bios_screen.specs.Shown.{page_pixels, pixel_screen, shown}
-use Rattle.bios_screen.specs.Step.{page_meant, refused_on, next, answer_on, pixel_of, pixel_number, with_pixels, inked, dotted}
+use Rattle.bios_screen.specs.Step.{pixel_of, pixel_number, with_pixels, inked, dotted}
 use Rattle.bios_screen.specs.Served.{IsServed}
 use Rattle.bios_screen.proofs.Flat.{set_cell, set_same, set_other}
-use Rattle.bios_screen.proofs.PlanLemmas.{run_bind}
-use Rattle.bios_screen.proofs.Kept.{KeepsBounds, plan_beam}
-use Rattle.bios_screen.proofs.Shows.{named_page}
+use Rattle.bios_screen.proofs.Kept.{KeepsBounds}
 use Rattle.bios_screen.proofs.PixelModes.{Planes, row_of, packed_by}
 use Rattle.bios_screen.proofs.PixelDots.{IsPlanar}
 use Rattle.bios_screen.proofs.PlanarHands.{Hand, at_rest, drawing, stored, without_drawing, Loaded, put_draws, get_loads, function_set, mode_set, bits_set}
 use Rattle.bios_screen.proofs.PlanarBits.{nibble_of, pixel_hand, xor_pixel_hand, pixel_put, pixel_flipped}
 use Rattle.bios_screen.proofs.PlanarScreens as screens
 use Rattle.bios_screen.proofs.PlanarReads as reads
+use Rattle.bios_screen.proofs.PixelServices as services
+use Rattle.bios_screen.proofs.PixelServices.{number_within}
 
 mask_kept : (k : ℕ) → k < 8 → bit_and (0x80 / 2 ^ k) 0xFF ≡ 0x80 / 2 ^ k
 mask_kept k l = let t = agree_below_at (λ k. bit_and (0x80 / 2 ^ k) 0xFF == 0x80 / 2 ^ k) (λ _. true) 8 k refl l in grind (arith, nat_tests)
@@ -157,26 +155,13 @@ module _ (law : KeepsBounds) (m : Planes) (c : CardState) (d : BiosData) (t : Is
   ink_is v = sym (ap (λ i o. let x : ℕ = if i then v else ink (is_set v 7) v o in x) (ap (λ i. i == 0x13) t.number ∙ packed_by m))
 
   pub write_pixel : (page x y v : ℕ) (fonts : FontSet) (r : Regs) (block : List ℕ) → IsServed (WritePixel page x y v) fonts r block c d s
-  unfolding plan_of refusal_in_mode refused_on next answer_on
-  write_pixel page x y v fonts r block =
-      let p = page_meant s page in
+  write_pixel page x y v fonts r block = services.write_pixel (row_of m) c d e (screens.text m c d t e z) page x y v fonts r block (λ p h.
       let n = pixel_number s x y in
       let misc = (row_of m).misc in
       let clocking = slice_index (row_of m).sequencer 1 in
-      let plan = write_pixel_plan d (page_named d page) x y v in
-      let done : Plan Outcome = Done (r, d) in
-      let runs = run_bind card_meaning plan (λ _. done) c in
-      record {
-        refusal = reads.refusal_is m c d t e z page x y;
-        answer = λ _. ap (λ q. q.1.0) runs;
-        shows = λ allowed.
-            let h = reads.there m c d t e z p x y allowed in
-            let drawn = dot_drawn law (without_drawing c) misc clocking (d.size * p + n / 8) (x % 8) v (is_set v 7) c.host.latches c old (reads.enabled_by m) (reads.offset_small m c d t e z p x y h) (omega arith) (screens.begins m c d t e z) in
-            ap (λ q. shown q.0 q.1.1) runs
-            ∙ ap (λ i. shown (run card_meaning (write_pixel_plan d i x y v) c).0 d) (named_page (row_of m) d e page)
-            ∙ ap (λ i. shown (run card_meaning i c).0 d) (write_is p x y v)
-            ∙ dot_shown p n v (is_set v 7) (run card_meaning (dot_plan (is_set v 7) (0xA0000 + (d.size * p + n / 8)) (x % 8) v) c).0 h.page (reads.number_within m c d t e z p x y h)
-            (subst (λ k. IsDotted (without_drawing c) misc clocking (d.size * p + n / 8) k (ink (is_set v 7) v) (run card_meaning (dot_plan (is_set v 7) (0xA0000 + (d.size * p + n / 8)) (x % 8) v) c).0 old) (reads.rest_of_8 d.columns y x) drawn)
-            ∙ ap (λ i. Some (with_pixels s p (dotted n i))) (ink_is v);
-        beam = plan_beam (plan >> done) c;
-      }
+      let plan = dot_plan (is_set v 7) (0xA0000 + (d.size * p + n / 8)) (x % 8) v in
+      let drawn = dot_drawn law (without_drawing c) misc clocking (d.size * p + n / 8) (x % 8) v (is_set v 7) c.host.latches c old (reads.enabled_by m) (reads.offset_small m c d t e z p x y h) (omega arith) (screens.begins m c d t e z) in
+      ap (λ i. shown (run card_meaning i c).0 d) (write_is p x y v)
+      ∙ dot_shown p n v (is_set v 7) (run card_meaning plan c).0 h.page (number_within (row_of m) d p x y h)
+      (subst (λ k. IsDotted (without_drawing c) misc clocking (d.size * p + n / 8) k (ink (is_set v 7) v) (run card_meaning plan c).0 old) (reads.rest_of_8 d.columns y x) drawn)
+      ∙ ap (λ i. Some (with_pixels s p (dotted n i))) (ink_is v))

@@ -1,55 +1,40 @@
 -- A pixel of sixteen colours is read, plane after plane.
-use Rattle.std.proofs.Common.{◌≡◌, ℕ, zero, suc, ◌+◌, ◌-◌, ◌*◌, ◌/◌, ◌%◌, ◌<◌, refl, sym, ap, ◌∙◌, subst, arith, List, [], ◌∷◌, Option, Some, None, Bool, true, false}
-use Rattle.std.specs.Prelude.{slice_index, slice_set, bit_and, ◌==◌, ◌&&◌, nat_lt, nat_le, if◌then◌else◌}
+use Rattle.std.proofs.Common.{◌≡◌, ℕ, zero, suc, ◌+◌, ◌-◌, ◌*◌, ◌/◌, ◌%◌, ◌<◌, refl, sym, ap, ◌∙◌, subst, arith, List, [], ◌∷◌, Some, true}
+use Rattle.std.specs.Prelude.{slice_index, slice_set, bit_and, ◌==◌, if◌then◌else◌}
 use Rattle.std.specs.Int.{bit_at}
-use Rattle.std.proofs.lemmas.Bool.Decides.{nat_tests}
 use Rattle.vga_bits.specs.Bits.{is_set, byte_of}
 use Rattle.vga_bits.proofs.BitLemmas.{byte_bits}
 use Rattle.vga_bits.specs.Four.{four}
-use Rattle.vga_bits.specs.declared.refusal.Refusal.{Refusal}
-use Rattle.vga_bits.specs.declared.refusal.Refusal.TheVariants.{WrongKind, BadPage, Outside}
 use Rattle.vga_planes.specs.Planes.{byte_at}
 use Rattle.vga_host.specs.Host.{HostState}
-use Rattle.vga_host.specs.Address.{is_decoded}
 use Rattle.vga_host.specs.Read.{read_bit, read_byte}
 use Rattle.vga_card.specs.Bounds.{IsCard}
 use Rattle.vga_card.specs.Bus.{card_meaning}
 use Rattle.vga_card.specs.Card.{CardState}
 use Rattle.vga_card.specs.Port.{port_of}
 use Rattle.vga_card.specs.Cycles.{out_at}
-use Rattle.bios_modes.specs.declared.modes.ModeRow.{ModeRow}
 use Rattle.bios_modes.specs.Modes.{mode_row}
 use Rattle.bios_modes.specs.Bda.{BiosData}
 use Rattle.bios_modes.specs.Fonts.{FontSet}
 use Rattle.bios_services.specs.declared.regs.Regs.{Regs}
 use Rattle.bios_services.specs.declared.call.Service.TheVariants.{ReadPixel}
-use Rattle.bios_services.specs.Registers.{with_low}
-use Rattle.bios_services.specs.Bounds.{pages_in}
-use Rattle.bios_services.specs.ModeSet.{is_text}
 use Rattle.bios_services.specs.Cells.{page_base}
 use Rattle.bios_services.specs.Cycles.{graphics}
-use Rattle.bios_services.specs.Plan.{Plan, run, get, Done, ◌>>=◌}
+use Rattle.bios_services.specs.Plan.{Plan, run, get}
 use Rattle.bios_services.specs.Pixels.{pixel_address, read_dot_plan, read_pixel_plan}
-use Rattle.bios_services.specs.Refusals.{page_named, pixel_refusal, refusal_in_mode}
-use Rattle.bios_services.specs.Service.{plan_of, read_pixel_service, Outcome}
 use Rattle.bios_screen.specs.Screen.{Pixels, Screen}
-use Rattle.bios_screen.specs.Shown.{packed_pixel, planar_pixel, pixel_pages, page_pixels, screen_by, pixel_screen, shown}
-use Rattle.bios_screen.specs.Step.{page_meant, pixel_refused, refused_on, next, answer_on, pixel_of}
+use Rattle.bios_screen.specs.Shown.{pixel_pages, page_pixels, screen_by, pixel_screen, shown}
+use Rattle.bios_screen.specs.Step.{pixel_of}
 use Rattle.bios_screen.specs.Served.{IsServed}
-use Rattle.bios_screen.proofs.PlanLemmas.{run_bind}
-use Rattle.bios_screen.proofs.Places.{ends_before}
-use Rattle.bios_screen.proofs.TestLemmas.{lt_is}
-use Rattle.bios_screen.proofs.Kept.{plan_beam}
-use Rattle.bios_screen.proofs.Shows.{named_page}
-use Rattle.bios_screen.proofs.Setting.{Setting, setting, host_at, get_decoded}
-use Rattle.bios_screen.proofs.PixelModes.{Planes, row_of, number_of, setting_in, text_by, packed_by}
+use Rattle.bios_screen.proofs.Setting.{Setting, setting, host_at, reached, offset_is, get_decoded}
+use Rattle.bios_screen.proofs.PixelModes.{Planes, row_of, number_of, packed_by}
 use Rattle.bios_screen.proofs.PixelModes.Planes.{Low, Middle, High}
-use Rattle.bios_screen.proofs.PixelModes.Graphics.{Sixteen}
 use Rattle.bios_screen.proofs.Redrawn.{redrawn}
 use Rattle.bios_screen.proofs.PlanarHands.{without_drawing}
-use Rattle.bios_screen.proofs.AnyShows.{setting_by}
-use Rattle.bios_screen.proofs.PixelDots.{IsPlanar, pixel_at}
-use Rattle.bios_screen.proofs.PixelFresh.{pixels_of, byte_within}
+use Rattle.bios_screen.proofs.PixelDots.{IsPlanar}
+use Rattle.bios_screen.proofs.PlanarScreens as screens
+use Rattle.bios_screen.proofs.PixelServices as services
+use Rattle.bios_screen.proofs.PixelServices.{There, number_within}
 
 -- ---- one plane is picked, and read
 
@@ -71,18 +56,12 @@ pick_set rest e k p v c l t = record {
   others = t.others;
 }
 
-decoded : (h : HostState) (e k p a : ℕ) → is_set e 1 ≡ true → a < 65536 → is_decoded (host_at h (picking e k p)) e (0xA0000 + a) ≡ true
-decoded h e k p a b l = ap (λ t. t && (nat_le 0xA0000 (0xA0000 + a) && nat_lt (0xA0000 + a) 0xB0000)) b ∙ grind (arith, nat_tests)
-
-window_is : (a : ℕ) → a < 65536 → (0xA0000 + a - 0xA0000) % 65536 ≡ a
-window_is a l = omega arith
-
 byte_is : (h : HostState) (e k p a : ℕ) → p < 4 → a < 65536 → byte_at h.memory p a < 256 → read_byte (host_at h (picking e k p)) (0xA0000 + a) ≡ byte_at h.memory p a
 unfolding byte_of read_bit
-byte_is h e k zero a lp l b = byte_bits _ (subst (λ o. slice_index h.memory.plane0 o < 256) (sym (window_is a l)) b) ∙ ap (slice_index h.memory.plane0) (window_is a l)
-byte_is h e k (suc zero) a lp l b = byte_bits _ (subst (λ o. slice_index h.memory.plane1 o < 256) (sym (window_is a l)) b) ∙ ap (slice_index h.memory.plane1) (window_is a l)
-byte_is h e k (suc (suc zero)) a lp l b = byte_bits _ (subst (λ o. slice_index h.memory.plane2 o < 256) (sym (window_is a l)) b) ∙ ap (slice_index h.memory.plane2) (window_is a l)
-byte_is h e k (suc (suc (suc zero))) a lp l b = byte_bits _ (subst (λ o. slice_index h.memory.plane3 o < 256) (sym (window_is a l)) b) ∙ ap (slice_index h.memory.plane3) (window_is a l)
+byte_is h e k zero a lp l b = byte_bits _ (subst (λ o. slice_index h.memory.plane0 o < 256) (sym (offset_is a l)) b) ∙ ap (slice_index h.memory.plane0) (offset_is a l)
+byte_is h e k (suc zero) a lp l b = byte_bits _ (subst (λ o. slice_index h.memory.plane1 o < 256) (sym (offset_is a l)) b) ∙ ap (slice_index h.memory.plane1) (offset_is a l)
+byte_is h e k (suc (suc zero)) a lp l b = byte_bits _ (subst (λ o. slice_index h.memory.plane2 o < 256) (sym (offset_is a l)) b) ∙ ap (slice_index h.memory.plane2) (offset_is a l)
+byte_is h e k (suc (suc (suc zero))) a lp l b = byte_bits _ (subst (λ o. slice_index h.memory.plane3 o < 256) (sym (offset_is a l)) b) ∙ ap (slice_index h.memory.plane3) (offset_is a l)
 byte_is h e k (suc (suc (suc (suc p)))) a lp l b = absurd (omega arith)
 
 -- what a read leaves and answers
@@ -92,7 +71,7 @@ record IsPicked (rest : CardState) (e k p a : ℕ) (c : CardState) : Type 0 wher
 
 pick_get : (rest : CardState) (e k p a : ℕ) (c : CardState) → p < 4 → a < 65536 → is_set e 1 ≡ true → byte_at rest.host.memory p a < 256 → IsPicking rest e k p c → IsPicked rest e k p a c
 pick_get rest e k p a c lp la on b t =
-    let r = get_decoded c (picking e k p) (0xA0000 + a) t.mode (decoded c.host e k p a on la) in
+    let r = get_decoded c (picking e k p) (0xA0000 + a) t.mode (reached (is_set e 1) a on la) in
     let memory : c.host.memory ≡ rest.host.memory = ap (λ (x : CardState). x.host.memory) t.others in
     record {
       still = subst (λ y. IsPicking rest e k p y.0) (sym r) (record { mode = t.mode; others = t.others });
@@ -128,11 +107,6 @@ dot_read rest e k a x c la on b t =
 
 -- ---- numbers of the modes
 
-rest_by : (m : Planes) → setting_in (Sixteen m) ≡ picking (row_of m).misc (slice_index (row_of m).sequencer 1) 0
-rest_by Low = refl
-rest_by Middle = refl
-rest_by High = refl
-
 pub enabled_by : (m : Planes) → is_set (row_of m).misc 1 ≡ true
 enabled_by Low = refl
 enabled_by Middle = refl
@@ -152,41 +126,9 @@ eighth w y x = let e : 8 * w * y ≡ 8 * (w * y) = omega arith in omega arith
 pub rest_of_8 : (w y x : ℕ) → x % 8 ≡ (8 * w * y + x) % 8
 rest_of_8 w y x = let e : 8 * w * y ≡ 8 * (w * y) = omega arith in omega arith
 
-some_none : {Y : Type 0} (why : Refusal) → Some why ≡ None → Y
-some_none why w = absurd (cc)
-
 module _ (m : Planes) (c : CardState) (d : BiosData) (t : IsPlanar m c d) (e : mode_row d.mode ≡ Some (row_of m)) (z : IsCard c) where
   abbrev s : Screen
   s = pixel_screen (row_of m) c d
-
-  text : is_text d.mode ≡ false
-  text = ap is_text t.number ∙ text_by m
-
-  pub refusal_is : (page x y : ℕ) → pixel_refusal d (page_named d page) x y ≡ pixel_refused s (page_meant s page) x y
-  refusal_is page x y =
-      ap (λ p. pixel_refusal d p x y) (named_page (row_of m) d e page)
-      ∙ ap (λ (q : Option ModeRow). let r : Option Refusal = (if is_text d.mode then Some WrongKind else if nat_lt (page_meant s page) (pages_in q) then (if nat_lt x (8 * d.columns) && nat_lt y (d.height * (d.last_row + 1)) then None else Some Outside) else Some BadPage) in r) e
-
-  pub record There (p x y : ℕ) : Type 0 where
-    pub page : p < (row_of m).pages
-    pub across : x < 8 * d.columns
-    pub down : y < d.height * (d.last_row + 1)
-
-  pub there : (p x y : ℕ) → pixel_refused s p x y ≡ None → There p x y
-  there p x y h =
-      by_tests (nat_lt p (row_of m).pages) (nat_lt x (8 * d.columns)) (nat_lt y (d.height * (d.last_row + 1))) refl refl refl
-      (sym (ap (λ b. let r : Option Refusal = (if b then Some WrongKind else if nat_lt p (row_of m).pages then (if nat_lt x (8 * d.columns) && nat_lt y (d.height * (d.last_row + 1)) then None else Some Outside) else Some BadPage) in r) text) ∙ h)
-    where
-      by_tests : (a b f : Bool) → nat_lt p (row_of m).pages ≡ a → nat_lt x (8 * d.columns) ≡ b → nat_lt y (d.height * (d.last_row + 1)) ≡ f → (let r : Option Refusal = (if nat_lt p (row_of m).pages then (if nat_lt x (8 * d.columns) && nat_lt y (d.height * (d.last_row + 1)) then None else Some Outside) else Some BadPage) in r) ≡ None → There p x y
-      by_tests true true true i j k g = record { page = lt_is p (row_of m).pages i; across = lt_is x (8 * d.columns) j; down = lt_is y (d.height * (d.last_row + 1)) k }
-      by_tests true true false i j k g = some_none Outside (sym (
-          ap (λ q. let r : Option Refusal = (if q then (if nat_lt x (8 * d.columns) && nat_lt y (d.height * (d.last_row + 1)) then None else Some Outside) else Some BadPage) in r) i
-          ∙ ap (λ q. let r : Option Refusal = (if q && nat_lt y (d.height * (d.last_row + 1)) then None else Some Outside) in r) j
-          ∙ ap (λ q. let r : Option Refusal = (if q then None else Some Outside) in r) k) ∙ g)
-      by_tests true false f i j k g = some_none Outside (sym (
-          ap (λ q. let r : Option Refusal = (if q then (if nat_lt x (8 * d.columns) && nat_lt y (d.height * (d.last_row + 1)) then None else Some Outside) else Some BadPage) in r) i
-          ∙ ap (λ q. let r : Option Refusal = (if q && nat_lt y (d.height * (d.last_row + 1)) then None else Some Outside) in r) j) ∙ g)
-      by_tests false b f i j k g = some_none BadPage (sym (ap (λ q. let r : Option Refusal = (if q then (if nat_lt x (8 * d.columns) && nat_lt y (d.height * (d.last_row + 1)) then None else Some Outside) else Some BadPage) in r) i) ∙ g)
 
   abbrev number : ℕ → ℕ → ℕ
   number x y = 8 * d.columns * y + x
@@ -195,14 +137,8 @@ module _ (m : Planes) (c : CardState) (d : BiosData) (t : IsPlanar m c d) (e : m
   abbrev offset : ℕ → ℕ → ℕ → ℕ
   offset p x y = d.size * p + number x y / 8
 
-  pub number_within : (p x y : ℕ) → There p x y → number x y < page_pixels d
-  number_within p x y h = let a = h.across in let b = ends_before (8 * d.columns) y (d.height * (d.last_row + 1)) h.down in omega arith
-
-  pub offset_small : (p x y : ℕ) → There p x y → offset p x y < 65536
-  offset_small p x y h =
-      let n = number x y in
-      let all : page_pixels d ≡ pixels_of (row_of m) = ap (λ i. 8 * i * (d.height * (d.last_row + 1))) t.has.columns ∙ ap (λ i. 8 * (row_of m).columns * (i * (d.last_row + 1))) t.has.height ∙ ap (λ i. 8 * (row_of m).columns * ((row_of m).height * (i + 1))) t.has.last_row in
-      subst (λ i. i * p + n / 8 < 65536) (sym t.has.size) (byte_within m p n h.page (subst (λ i. n < i) all (number_within p x y h)))
+  pub offset_small : (p x y : ℕ) → There (row_of m) d p x y → offset p x y < 65536
+  offset_small p x y h = screens.in_memory m c d t e z p (number x y) h.page (number_within (row_of m) d p x y h)
 
   pub address_is : (p x y : ℕ) → pixel_address d p x y ≡ 0xA0000 + offset p x y
   address_is p x y =
@@ -218,41 +154,27 @@ module _ (m : Planes) (c : CardState) (d : BiosData) (t : IsPlanar m c d) (e : m
       ∙ ap (λ a. read_dot_plan a x) (address_is p x y)
 
   begins : IsPicking (without_reads c) (row_of m).misc (slice_index (row_of m).sequencer 1) 0 c
-  begins = record { mode = setting_by (row_of m) c d t.tests ∙ rest_by m; others = refl }
+  begins = record { mode = screens.setting_is m c d t e z; others = refl }
 
-  dot : (p x y : ℕ) → There p x y → IsDotRead (without_reads c) (row_of m).misc (slice_index (row_of m).sequencer 1) (offset p x y) x c
+  dot : (p x y : ℕ) → There (row_of m) d p x y → IsDotRead (without_reads c) (row_of m).misc (slice_index (row_of m).sequencer 1) (offset p x y) x c
   dot p x y h = dot_read (without_reads c) (row_of m).misc (slice_index (row_of m).sequencer 1) (offset p x y) x c (offset_small p x y h) (enabled_by m) (λ q l. z.host.memory.bytes q l (offset p x y)) begins
 
-  pixel_is : (p x y : ℕ) → There p x y → (run card_meaning (read_dot_plan (0xA0000 + offset p x y) x) c).1 ≡ pixel_of s p (number x y)
+  pixel_is : (p x y : ℕ) → There (row_of m) d p x y → (run card_meaning (read_dot_plan (0xA0000 + offset p x y) x) c).1 ≡ pixel_of s p (number x y)
   pixel_is p x y h =
       let n = number x y in
       let f = c.host.memory in
       (dot p x y h).value
       ∙ ap (λ i. bit_at (byte_at f 0 (offset p x y)) (7 - i) + 2 * bit_at (byte_at f 1 (offset p x y)) (7 - i) + 4 * bit_at (byte_at f 2 (offset p x y)) (7 - i) + 8 * bit_at (byte_at f 3 (offset p x y)) (7 - i)) (rest_of_8 d.columns y x)
-      ∙ sym (pixel_at d.mode f d.size (page_pixels d) (row_of m).pages p n h.page (number_within p x y h)
-      ∙ ap (λ b. if b then packed_pixel f (d.size * p + n) else planar_pixel f (d.size * p) n) (ap (λ i. i == 0x13) t.number ∙ packed_by m))
+      ∙ sym (screens.pixel_is m c d t e z p n h.page (number_within (row_of m) d p x y h))
 
   -- the screen stays
   stays : (y : CardState) → IsPicking (without_reads c) (row_of m).misc (slice_index (row_of m).sequencer 1) 0 y → shown y d ≡ Some s
   stays y h =
-      redrawn (row_of m) c y d e text t.tests (h.mode ∙ sym begins.mode) (ap without_drawing h.others)
+      redrawn (row_of m) c y d e (screens.text m c d t e z) t.tests (h.mode ∙ sym begins.mode) (ap without_drawing h.others)
       ∙ ap (λ (x : CardState). Some (screen_by (row_of m) c d 0 (Pixels (pixel_pages d.mode x.host.memory d.size (page_pixels d) (row_of m).pages)) [])) h.others
 
   pub read_pixel : (page x y : ℕ) (fonts : FontSet) (r : Regs) (block : List ℕ) → IsServed (ReadPixel page x y) fonts r block c d s
-  unfolding plan_of read_pixel_service refusal_in_mode refused_on next answer_on
-  read_pixel page x y fonts r block =
-      let p = page_meant s page in
-      let after : ℕ → Plan Regs = λ colour. Done (record r { ax = with_low r.ax colour }) in
-      let done : Regs → Plan Outcome = λ q. Done (q, d) in
-      let plan = read_pixel_plan d (page_named d page) x y >>= after in
-      let runs =
-      run_bind card_meaning plan done c
-      ∙ ap (λ (q : CardState × Regs). run card_meaning (done q.1) q.0) (run_bind card_meaning (read_pixel_plan d (page_named d page) x y) after c)
-      ∙ ap (λ i. let q = run card_meaning (read_pixel_plan d i x y) c in let w : CardState × Outcome = (q.0, (record r { ax = with_low r.ax q.1 }, d)) in w) (named_page (row_of m) d e page)
-      ∙ ap (λ i. let q = run card_meaning i c in let w : CardState × Outcome = (q.0, (record r { ax = with_low r.ax q.1 }, d)) in w) (read_is p x y) in
-      record {
-        refusal = refusal_is page x y;
-        answer = λ allowed. ap (λ q. q.1.0) runs ∙ ap (λ n. let w : Regs = record r { ax = with_low r.ax n } in w) (pixel_is p x y (there p x y allowed));
-        shows = λ allowed. ap (λ q. shown q.0 q.1.1) runs ∙ stays (run card_meaning (read_dot_plan (0xA0000 + offset p x y) x) c).0 (dot p x y (there p x y allowed)).still;
-        beam = plan_beam (plan >>= done) c;
-      }
+  read_pixel page x y fonts r block = services.read_pixel (row_of m) c d e (screens.text m c d t e z) page x y fonts r block (λ p h. record {
+    answer = ap (λ i. (run card_meaning i c).1) (read_is p x y) ∙ pixel_is p x y h;
+    shows = ap (λ i. shown (run card_meaning i c).0 d) (read_is p x y) ∙ stays (run card_meaning (read_dot_plan (0xA0000 + offset p x y) x) c).0 (dot p x y h).still;
+  })
