@@ -2,7 +2,6 @@
 use Rattle.std.proofs.Common.{◌≡◌, ℕ, ◌<◌, ◌≤◌, refl, sym, ap, subst, ◌∙◌, arith, Bool, true, false, List, [], Some, None}
 use Rattle.std.specs.Prelude.{◌==◌, ◌&&◌, ◌/◌, if◌then◌else◌, slice_index, bit_and}
 use Rattle.std.specs.Str.{bytes_eq}
-use Rattle.std.proofs.lemmas.Slice.Eq.{bytes_eq-Decides}
 use Rattle.vga_bits.specs.Four.{Four}
 use Rattle.vga_attr.specs.Fields.{is_palette_shown}
 use Rattle.vga_card.specs.Card.{CardState}
@@ -15,7 +14,7 @@ use Rattle.bios_screen.specs.Shown.{shows_attribute, cells_in, glyphs_in, all_ce
 use Rattle.bios_screen.proofs.TestLemmas.{both_true, same}
 use Rattle.bios_screen.proofs.Setting.{Setting, setting}
 use Rattle.bios_screen.proofs.Display.{control_by as text_control_by}
-use Rattle.bios_screen.proofs.Shows.{AllTests, shows_by, all_of, shown_is, screen_is_text}
+use Rattle.bios_screen.proofs.Shows.{AllTests, setting_by, shows_by, all_of, shown_is, screen_is_text}
 use Rattle.bios_screen.proofs.PixelModes.{Graphics, row_in, graphics_row, control_by}
 use Rattle.bios_screen.proofs.PixelModes.Graphics.{Sixteen, Many}
 use Rattle.bios_screen.proofs.PixelModes.Planes.{Low, Middle, High}
@@ -96,15 +95,6 @@ row_rows (Sixteen Middle) = omega arith
 row_rows (Sixteen High) = omega arith
 row_rows Many = omega arith
 
--- the test gives the setting as a literal
-pub setting_by : (row : ModeRow) (c : CardState) (d : BiosData) → AllTests row c d → setting c ≡ record { misc = row.misc; seq = row.sequencer; gfx = row.graphics }
-setting_by row c d t =
-    let a = both_true (c.misc == row.misc) (bytes_eq c.host.seq row.sequencer && bytes_eq c.host.gfx row.graphics) t.memory in
-    let b = both_true (bytes_eq c.host.seq row.sequencer) (bytes_eq c.host.gfx row.graphics) a.1 in
-    ap (λ x. let r : Setting = record { misc = x; seq = c.host.seq; gfx = c.host.gfx } in r) (same a.0)
-    ∙ ap (λ x. let r : Setting = record { misc = row.misc; seq = x; gfx = c.host.gfx } in r) ((bytes_eq-Decides c.host.seq row.sequencer).0 b.0)
-    ∙ ap (λ x. let r : Setting = record { misc = row.misc; seq = row.sequencer; gfx = x } in r) ((bytes_eq-Decides c.host.gfx row.graphics).0 b.1)
-
 -- the setting and the port of a screen of pixels
 pub record HasSetting (c : CardState) (d : BiosData) (row : ModeRow) : Type 0 where
   pub kind : Graphics
@@ -118,7 +108,7 @@ pixel_setting c d h =
     record {
       kind = g.kind;
       row_is = g.row_is;
-      setting = setting_by h.row c d h.tests ∙ ap (λ (r : ModeRow). let q : Setting = record { misc = r.misc; seq = r.sequencer; gfx = r.graphics } in q) (sym g.row_is);
+      setting = setting_by h.row c h.tests.memory ∙ ap (λ (r : ModeRow). let q : Setting = record { misc = r.misc; seq = r.sequencer; gfx = r.graphics } in q) (sym g.row_is);
       port = h.has.port ∙ ap (λ (r : ModeRow). r.crtc_address) (sym g.row_is) ∙ row_port g.kind;
     }
 

@@ -1,8 +1,6 @@
 -- The dot at a place of a frame of 256 colours is the screen's pixel.
 use Rattle.std.proofs.Common.{◌≡◌, ℕ, ◌+◌, ◌-◌, ◌*◌, ◌/◌, ◌%◌, ◌<◌, refl, sym, ap, subst, ◌∙◌, arith, true, false, List, [], ◌∷◌, get_or}
 use Rattle.std.specs.Prelude.{not, if◌then◌else◌, ◌==◌, ◌&&◌, slice_index, bit_and}
-use Rattle.std.specs.Str.{bytes_eq}
-use Rattle.std.proofs.lemmas.Slice.Eq.{bytes_eq-Decides}
 use Rattle.vga_bits.specs.Bits.{is_set}
 use Rattle.vga_planes.specs.Planes.{byte_at}
 use Rattle.vga_host.specs.Fields.{is_eight_dots, character_width as host_width, is_screen_off, is_256_colours}
@@ -27,8 +25,9 @@ use Rattle.bios_screen.specs.Screen.{Screen}
 use Rattle.bios_screen.specs.Shown.{crtc_registers, packed_pixel, planar_pixel, pixel_pages, palette_in, location_shown, pixel_screen}
 use Rattle.bios_screen.specs.Picture.{shade, tint, pixel_width, pixel_height, pixel_on, pixel_dot}
 use Rattle.bios_screen.specs.Raster.{Raster, HasRaster, Draws}
-use Rattle.bios_screen.proofs.TestLemmas.{both_true, lt_test}
-use Rattle.bios_screen.proofs.Shows.{HasData, AllTests}
+use Rattle.bios_screen.proofs.TestLemmas.{lt_test}
+use Rattle.bios_screen.proofs.Setting.{Setting}
+use Rattle.bios_screen.proofs.Shows.{setting_by, HasData, AllTests}
 use Rattle.bios_screen.proofs.Colours.{HasAttribute, attribute_is}
 use Rattle.bios_screen.proofs.PixelModes.{numbers_of}
 use Rattle.bios_screen.proofs.PixelDots.{pixel_at}
@@ -76,16 +75,10 @@ module _ (c : CardState) (d : BiosData) (t : IsPacked c d) (z : IsCard c) where
   location = location_shown d c.crtc.registers
 
   sequencer_is : c.host.seq ≡ bytes_320_by_200.sequencer
-  sequencer_is =
-      let a = both_true (c.misc == bytes_320_by_200.misc) (bytes_eq c.host.seq bytes_320_by_200.sequencer && bytes_eq c.host.gfx bytes_320_by_200.graphics) t.tests.memory in
-      let b = both_true (bytes_eq c.host.seq bytes_320_by_200.sequencer) (bytes_eq c.host.gfx bytes_320_by_200.graphics) a.1 in
-      (bytes_eq-Decides c.host.seq bytes_320_by_200.sequencer).0 b.0
+  sequencer_is = ap (λ (x : Setting). x.seq) (setting_by bytes_320_by_200 c t.tests.memory)
 
   graphics_are : c.host.gfx ≡ bytes_320_by_200.graphics
-  graphics_are =
-      let a = both_true (c.misc == bytes_320_by_200.misc) (bytes_eq c.host.seq bytes_320_by_200.sequencer && bytes_eq c.host.gfx bytes_320_by_200.graphics) t.tests.memory in
-      let b = both_true (bytes_eq c.host.seq bytes_320_by_200.sequencer) (bytes_eq c.host.gfx bytes_320_by_200.graphics) a.1 in
-      (bytes_eq-Decides c.host.gfx bytes_320_by_200.graphics).0 b.1
+  graphics_are = ap (λ (x : Setting). x.gfx) (setting_by bytes_320_by_200 c t.tests.memory)
 
   attribute : HasAttribute bytes_320_by_200 c.attr
   attribute = attribute_is bytes_320_by_200 c.attr z.attr refl t.tests.attribute

@@ -21,7 +21,7 @@ use Rattle.bios_screen.proofs.PixelModes.{setting_in}
 use Rattle.bios_screen.proofs.PixelModes.Graphics.{Many}
 use Rattle.bios_screen.proofs.Redrawn.{redrawn}
 use Rattle.bios_screen.proofs.PixelDots.{pixel_at}
-use Rattle.bios_screen.proofs.AnyShows.{setting_by}
+use Rattle.bios_screen.proofs.Shows.{setting_by}
 use Rattle.bios_screen.proofs.PackedDots.{IsPacked}
 use Rattle.bios_screen.proofs.PackedMemory.{decoded, byte_read, put_is, pixel_put, packed_memory}
 use Rattle.bios_screen.proofs.PlanarHands.{without_drawing}
@@ -67,7 +67,7 @@ module _ (c : CardState) (d : BiosData) (t : IsPacked c d) (e : mode_row d.mode 
   text = ap is_text t.number
 
   pub setting_is : setting c ≡ setting_in Many
-  setting_is = setting_by bytes_320_by_200 c d t.tests
+  setting_is = setting_by bytes_320_by_200 c t.tests.memory
 
   pub begins : IsFlat (without_drawing c) c (packed_pixel c.host.memory)
   begins = record { mode = setting_is; bounds = z; cell = λ k. refl; others = refl }

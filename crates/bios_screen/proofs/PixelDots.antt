@@ -2,8 +2,6 @@
 use Rattle.std.proofs.Common.{◌≡◌, ℕ, ◌+◌, ◌-◌, ◌*◌, ◌/◌, ◌%◌, ◌<◌, refl, sym, ap, subst, ◌∙◌, arith, true, false, List, [], get_or}
 use Rattle.std.specs.Prelude.{if◌then◌else◌, ◌==◌, ◌&&◌, slice_index, bit_and}
 use Rattle.std.specs.Int.{bit_at}
-use Rattle.std.specs.Str.{bytes_eq}
-use Rattle.std.proofs.lemmas.Slice.Eq.{bytes_eq-Decides}
 use Rattle.std.proofs.lemmas.Nat.{div-mul-add, mod-mul-add}
 use Rattle.std.proofs.lemmas.Nat.Bits.{bit_at-lt}
 use Rattle.vga_bits.specs.Bits.{is_set}
@@ -31,8 +29,9 @@ use Rattle.bios_screen.specs.Shown.{planar_pixel, packed_pixel, pixel_in, pixels
 use Rattle.bios_screen.specs.Picture.{shade, tint, pixel_width, pixel_height, pixel_on, pixel_dot}
 use Rattle.bios_screen.specs.Raster.{Raster, raster_of, HasRaster, Draws}
 use Rattle.bios_screen.proofs.ListLemmas.{listed_at}
-use Rattle.bios_screen.proofs.TestLemmas.{both_true, lt_test}
-use Rattle.bios_screen.proofs.Shows.{HasData, AllTests}
+use Rattle.bios_screen.proofs.TestLemmas.{lt_test}
+use Rattle.bios_screen.proofs.Setting.{Setting}
+use Rattle.bios_screen.proofs.Shows.{setting_by, HasData, AllTests}
 use Rattle.bios_screen.proofs.Colours.{HasAttribute, attribute_is, control_bit, Coloured, dot_shade}
 use Rattle.bios_screen.proofs.PixelModes.{Planes, row_of, number_of, planar_graphics, graphics_by, text_by, packed_by, clock_by, on_by, attributes_by, control_by, planes_by, panning_by, select_by, raster, is_raster, dots_by, columns_by, numbers_of, numbers_by, regular_by, first_by, start_small, base_at, base_by, counter_by, fetch_by, pixel_within}
 
@@ -90,16 +89,10 @@ module _ (m : Planes) (c : CardState) (d : BiosData) (t : IsPlanar m c d) (z : I
   -- ---- registers
 
   sequencer_is : c.host.seq ≡ (row_of m).sequencer
-  sequencer_is =
-      let a = both_true (c.misc == (row_of m).misc) (bytes_eq c.host.seq (row_of m).sequencer && bytes_eq c.host.gfx (row_of m).graphics) t.tests.memory in
-      let b = both_true (bytes_eq c.host.seq (row_of m).sequencer) (bytes_eq c.host.gfx (row_of m).graphics) a.1 in
-      (bytes_eq-Decides c.host.seq (row_of m).sequencer).0 b.0
+  sequencer_is = ap (λ (x : Setting). x.seq) (setting_by (row_of m) c t.tests.memory)
 
   graphics_are : c.host.gfx ≡ planar_graphics
-  graphics_are =
-      let a = both_true (c.misc == (row_of m).misc) (bytes_eq c.host.seq (row_of m).sequencer && bytes_eq c.host.gfx (row_of m).graphics) t.tests.memory in
-      let b = both_true (bytes_eq c.host.seq (row_of m).sequencer) (bytes_eq c.host.gfx (row_of m).graphics) a.1 in
-      (bytes_eq-Decides c.host.gfx (row_of m).graphics).0 b.1 ∙ graphics_by m
+  graphics_are = ap (λ (x : Setting). x.gfx) (setting_by (row_of m) c t.tests.memory) ∙ graphics_by m
 
   attribute : HasAttribute (row_of m) c.attr
   attribute = attribute_is (row_of m) c.attr z.attr (attributes_by m) t.tests.attribute

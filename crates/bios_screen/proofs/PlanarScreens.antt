@@ -20,7 +20,7 @@ use Rattle.bios_screen.proofs.PixelModes.{Planes, row_of, setting_in, text_by, p
 use Rattle.bios_screen.proofs.PixelModes.Planes.{Low, Middle, High}
 use Rattle.bios_screen.proofs.PixelModes.Graphics.{Sixteen}
 use Rattle.bios_screen.proofs.Redrawn.{redrawn}
-use Rattle.bios_screen.proofs.AnyShows.{setting_by}
+use Rattle.bios_screen.proofs.Shows.{setting_by}
 use Rattle.bios_screen.proofs.PixelDots.{IsPlanar, pixel_at}
 use Rattle.bios_screen.proofs.PixelFresh.{pixels_of, byte_within}
 use Rattle.bios_screen.proofs.PlanarHands.{at_rest, drawing, without_drawing, Loaded}
@@ -53,7 +53,7 @@ module _ (m : Planes) (c : CardState) (d : BiosData) (t : IsPlanar m c d) (e : m
   text = ap is_text t.number ∙ text_by m
 
   pub setting_is : setting c ≡ drawing misc clocking at_rest
-  setting_is = setting_by (row_of m) c d t.tests ∙ rest_by m
+  setting_is = setting_by (row_of m) c t.tests.memory ∙ rest_by m
 
   -- memory as cells of four bytes
   pub begins : Loaded (without_drawing c) misc clocking at_rest c (bytes_at c.host.memory) c.host.latches

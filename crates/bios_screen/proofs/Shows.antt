@@ -70,6 +70,15 @@ shows_by row c d t =
     ∙ ap (λ b. b && shows_attribute row c.attr) ((bytes_eq-Decides c.crtc.registers wanted).1 t.crtc)
     ∙ t.attribute
 
+-- the test gives the registers that memory cycles look at
+pub setting_by : (row : ModeRow) (c : CardState) → shows_memory row c ≡ true → setting c ≡ record { misc = row.misc; seq = row.sequencer; gfx = row.graphics }
+setting_by row c h =
+    let a = both_true (c.misc == row.misc) (bytes_eq c.host.seq row.sequencer && bytes_eq c.host.gfx row.graphics) h in
+    let b = both_true (bytes_eq c.host.seq row.sequencer) (bytes_eq c.host.gfx row.graphics) a.1 in
+    ap (λ x. let r : Setting = record { misc = x; seq = c.host.seq; gfx = c.host.gfx } in r) (same a.0)
+    ∙ ap (λ x. let r : Setting = record { misc = row.misc; seq = x; gfx = c.host.gfx } in r) ((bytes_eq-Decides c.host.seq row.sequencer).0 b.0)
+    ∙ ap (λ x. let r : Setting = record { misc = row.misc; seq = row.sequencer; gfx = x } in r) ((bytes_eq-Decides c.host.gfx row.graphics).0 b.1)
+
 -- ---- text
 
 -- the registers of the CRT controller in text
@@ -98,14 +107,13 @@ all_of row c d t = record { memory = t.memory; data_test = t.data_test; crtc = t
 pub test_of : (row : ModeRow) (c : CardState) (d : BiosData) → Tests row c d → shows row c d ≡ true
 test_of row c d t = shows_by row c d (all_of row c d t)
 
--- the test gives the setting as a literal
+-- in text that is a literal
 setting_is : (disp : Display) (mode : ℕ) (row : ModeRow) (c : CardState) → IsTextRow disp mode row → shows_memory row c ≡ true → setting c ≡ text_setting disp
 setting_is disp mode row c text h =
-    let a = both_true (c.misc == row.misc) (bytes_eq c.host.seq row.sequencer && bytes_eq c.host.gfx row.graphics) h in
-    let b = both_true (bytes_eq c.host.seq row.sequencer) (bytes_eq c.host.gfx row.graphics) a.1 in
-    ap (λ x. let r : Setting = record { misc = x; seq = c.host.seq; gfx = c.host.gfx } in r) (same a.0 ∙ text.misc)
-    ∙ ap (λ x. let r : Setting = record { misc = misc_of disp; seq = x; gfx = c.host.gfx } in r) ((bytes_eq-Decides c.host.seq row.sequencer).0 b.0 ∙ text.sequencer)
-    ∙ ap (λ x. let r : Setting = record { misc = misc_of disp; seq = text_sequencer; gfx = x } in r) ((bytes_eq-Decides c.host.gfx row.graphics).0 b.1 ∙ text.graphics)
+    setting_by row c h
+    ∙ ap (λ x. let r : Setting = record { misc = x; seq = row.sequencer; gfx = row.graphics } in r) text.misc
+    ∙ ap (λ x. let r : Setting = record { misc = misc_of disp; seq = x; gfx = row.graphics } in r) text.sequencer
+    ∙ ap (λ x. let r : Setting = record { misc = misc_of disp; seq = text_sequencer; gfx = x } in r) text.graphics
 
 -- all that a shown screen says
 pub record IsShown (c : CardState) (d : BiosData) : Type 0 where
