@@ -12,8 +12,24 @@ use vga_card::Card;
 /// How many bytes a font file has.
 pub const FONTS_LEN: usize = 9_728;
 
+/// Mode 13, and the last pixel of the page in colour AB.
+const PIXEL_CALLS: [Regs; 2] = [
+    Regs {
+        ax: 0x0013,
+        bx: 0,
+        cx: 0,
+        dx: 0,
+    },
+    Regs {
+        ax: 0x0CAB,
+        bx: 0,
+        cx: 0x013F,
+        dx: 0x00C7,
+    },
+];
+
 /// Mode 3, the cursor in the last cell, a blank there in yellow on blue, and an A typed there.
-const CALLS: [Regs; 4] = [
+const CELL_CALLS: [Regs; 4] = [
     Regs {
         ax: 0x0003,
         bx: 0,
@@ -41,24 +57,30 @@ const CALLS: [Regs; 4] = [
 ];
 
 /// Does services one after another, and tells whether all were accepted.
-fn serve(alloc: Global, card: &mut Card, bda: &mut Bda, fonts: &Fonts) -> bool {
+fn serve(alloc: Global, card: &mut Card, bda: &mut Bda, fonts: &Fonts, calls: &[Regs]) -> bool {
     let mut accepted = true;
-    for regs in CALLS {
-        accepted = accepted && bda.valid() && int10(alloc, card, bda, fonts, regs, &[]).is_ok();
+    for regs in calls {
+        accepted = accepted && bda.valid() && int10(alloc, card, bda, fonts, *regs, &[]).is_ok();
     }
     accepted
 }
 
 /// The screen that is shown behind the calls, where one is. There must be none before them.
-pub fn screen_behind_calls(alloc: Global) -> Result<Option<Screen>, Fault> {
+fn screen_behind(alloc: Global, calls: &[Regs]) -> Result<Option<Screen>, Fault> {
     let mut card = Card::new(alloc)?;
     let mut bda = Bda::new();
     let glyphs = Bytes::zeros(alloc, FONTS_LEN)?;
     let fonts = Fonts::from_bytes(alloc, glyphs.as_slice())?;
-    if Screen::read(alloc, &card, &bda)?.is_some() || !serve(alloc, &mut card, &mut bda, &fonts) {
+    let is_shown = Screen::read(alloc, &card, &bda)?.is_some();
+    if is_shown || !serve(alloc, &mut card, &mut bda, &fonts, calls) {
         return Ok(None);
     }
     Screen::read(alloc, &card, &bda)
+}
+
+/// The screen of cells behind its calls.
+pub fn screen_behind_calls(alloc: Global) -> Result<Option<Screen>, Fault> {
+    screen_behind(alloc, &CELL_CALLS)
 }
 
 /// Whether the A went up with its row, and the row behind it has its attribute.
@@ -66,20 +88,42 @@ pub fn is_scrolled(screen: &Screen) -> bool {
     screen.cell(0, 23, 79) == Some((0x41, 0x1E)) && screen.cell(0, 24, 0) == Some((0x20, 0x1E))
 }
 
-/// Checks the parts of a screen that is read.
-pub fn check_screens(alloc: Global) -> Result<Checks> {
-    let mut checks = Checks::new();
-    let found = screen_behind_calls(alloc)?;
-    checks.note("a screen behind calls", found.is_some());
-    let Some(screen) = found else {
-        return Ok(checks);
-    };
-    checks.note("cells of a page that has scrolled", is_scrolled(&screen));
+/// Checks the parts of a screen of pixels that is read.
+fn check_pixels(screen: &Screen, checks: &mut Checks) {
+    checks.note("the last pixel", screen.pixel(0, 319, 199) == Some(0xAB));
+    checks.note("its neighbour", screen.pixel(0, 318, 199) == Some(0));
+    checks.note(
+        "no pixel past the line",
+        screen.pixel(0, 320, 199).is_none(),
+    );
+    checks.note("no line past the last", screen.pixel(0, 319, 200).is_none());
+    checks.note("no pixel of a second page", screen.pixel(1, 0, 0).is_none());
+    checks.note("no cell of graphics", screen.cell(0, 0, 0).is_none());
+}
+
+/// Checks the parts of a screen of cells that is read.
+fn check_parts(screen: &Screen, checks: &mut Checks) {
+    checks.note("cells of a page that has scrolled", is_scrolled(screen));
     let other = screen.cell(7, 0, 0) == Some((0x20, 0x07));
     checks.note("a cell of another page", other);
     checks.note("no cell below the page", screen.cell(0, 25, 0).is_none());
     checks.note("a cursor", screen.cursor(0) == Some((24, 0)));
     checks.note("no cursor of a ninth page", screen.cursor(8).is_none());
     checks.note("no pixel of text", screen.pixel(0, 0, 0).is_none());
+}
+
+/// Checks screens that are read behind calls.
+pub fn check_screens(alloc: Global) -> Result<Checks> {
+    let mut checks = Checks::new();
+    let cells = screen_behind_calls(alloc)?;
+    checks.note("a screen of cells behind calls", cells.is_some());
+    if let Some(screen) = cells {
+        check_parts(&screen, &mut checks);
+    }
+    let pixels = screen_behind(alloc, &PIXEL_CALLS)?;
+    checks.note("a screen of pixels behind calls", pixels.is_some());
+    if let Some(screen) = pixels {
+        check_pixels(&screen, &mut checks);
+    }
     Ok(checks)
 }
