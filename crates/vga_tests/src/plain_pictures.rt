@@ -1,0 +1,186 @@
+//! The picture of a plain screen, dot by dot: docs/SCREENS.md once more.
+ghost use Rattle.std.specs.Prelude.{◌≡◌, ◌<◌};
+
+use crate::plain_modes::Kind;
+use crate::plain_refusals::{high, low};
+use crate::plain_screen::{Line, PlainScreen, Spot, glyph_row};
+use std::alloc::AllocError;
+
+/// The size of a picture in dots, and red, green and blue of each dot, row after row.
+#[derive(Drop)]
+pub struct PlainPicture {
+    pub width: u32,
+    pub height: u32,
+    pub bytes: Vec<u8>,
+}
+
+/// A cell on the screen, and the scan line of it that is drawn.
+#[derive(Clone, Copy)]
+struct ScannedCell {
+    character: u8,
+    attribute: u8,
+    is_cursor: bool,
+    line: u8,
+}
+
+impl PlainScreen<'_> {
+    /// The colour that each colour of a dot has.
+    fn colours(&self) -> [[u8; 3]; 256] {
+        let mut colours = [[0; 3]; 256];
+        for n in 0..=0xFFu8 {
+            let named = match self.mode.kind {
+                Kind::Text | Kind::SixteenColours => self.palette[(n & 0x0F) as usize],
+                Kind::Colours256 => n,
+            };
+            colours[n as usize] = self.dac[(named & self.mask) as usize];
+        }
+        colours
+    }
+
+    /// Whether a dot of a cell has the cell's foreground.
+    fn is_foreground(&self, cell: ScannedCell, dots: u8, i: u8) -> bool
+        requires { i < 9 }
+    {
+        let first = high(self.cursor_type);
+        let last = low(self.cursor_type) & 0x1F;
+        let is_underlined = self.mode.number == 7
+            && cell.line == 15
+            && cell.attribute & 0x77 == 0x01;
+        let is_gone = self.blinks && cell.attribute >= 0x80 && self.frame >= 16;
+        let is_cursor = cell.is_cursor
+            && first & 0x20 == 0
+            && first & 0x1F <= cell.line
+            && cell.line <= last
+            && self.frame & 8 == 0;
+        let is_glyph = if i < 8 {
+            (dots >> (7 - i)) & 1 == 1
+        } else {
+            cell.character >= 0xC0 && cell.character <= 0xDF && dots & 1 == 1
+        };
+        is_cursor || (!is_gone && (is_underlined || is_glyph))
+    }
+
+    /// Draws nine dots of a scan line of a cell.
+    fn draw_cell(
+        &self,
+        colours: &[[u8; 3]; 256],
+        cell: ScannedCell,
+        bytes: &mut Vec<u8>,
+    ) -> Result<(), AllocError> {
+        let dots = glyph_row(self.font, 16, cell.character, cell.line as usize);
+        let high_bits = cell.attribute >> 4;
+        let background = if self.blinks {
+            high_bits & 7
+        } else {
+            high_bits
+        };
+        for i in 0..9u8 {
+            let colour = if self.is_foreground(cell, dots, i) {
+                cell.attribute & 0x0F
+            } else {
+                background
+            };
+            bytes.extend_from_slice(&colours[colour as usize])?;
+        }
+        Ok(())
+    }
+
+    /// Draws a scan line of a row of cells, whose first has this number.
+    fn draw_cells(
+        &self,
+        colours: &[[u8; 3]; 256],
+        cells: &Line,
+        first: u32,
+        line: u8,
+        bytes: &mut Vec<u8>,
+    ) -> Result<(), AllocError> {
+        let cursor = self.cell_number(self.place(self.page));
+        let mut number = first;
+        for spot in cells {
+            if let Spot::Cell(character, attribute) = *spot {
+                let cell = ScannedCell {
+                    character,
+                    attribute,
+                    is_cursor: number == cursor,
+                    line,
+                };
+                self.draw_cell(colours, cell, bytes)?;
+            }
+            number = number.saturating_add(1);
+        }
+        Ok(())
+    }
+
+    /// The dots of the active page's cells.
+    fn text_bytes(&self, colours: &[[u8; 3]; 256]) -> Result<Vec<u8>, AllocError> {
+        let mut bytes = Vec::new(self.alloc);
+        let mut first = 0u32;
+        let Some(page) = self.pages.get(self.page as usize) else {
+            return Ok(bytes);
+        };
+        for strip in page {
+            if let Some(cells) = strip.first() {
+                for line in 0..16u8 {
+                    self.draw_cells(colours, cells, first, line, &mut bytes)?;
+                }
+            }
+            first = first.saturating_add(self.mode.columns as u32);
+        }
+        Ok(bytes)
+    }
+
+    /// Draws a line of pixels.
+    fn draw_pixels(
+        &self,
+        colours: &[[u8; 3]; 256],
+        pixels: &Line,
+        bytes: &mut Vec<u8>,
+    ) -> Result<(), AllocError> {
+        for spot in pixels {
+            if let Spot::Pixel(colour) = *spot {
+                for _ in 0..self.mode.dots {
+                    bytes.extend_from_slice(&colours[colour as usize])?;
+                }
+            }
+        }
+        Ok(())
+    }
+
+    /// The dots of the active page's pixels.
+    fn graphics_bytes(&self, colours: &[[u8; 3]; 256]) -> Result<Vec<u8>, AllocError> {
+        let mut bytes = Vec::new(self.alloc);
+        let Some(page) = self.pages.get(self.page as usize) else {
+            return Ok(bytes);
+        };
+        for strip in page {
+            for pixels in strip {
+                for _ in 0..self.mode.lines {
+                    self.draw_pixels(colours, pixels, &mut bytes)?;
+                }
+            }
+        }
+        Ok(bytes)
+    }
+
+    /// Draws a whole frame: the picture, and the screen has the next frame's number.
+    pub fn draw(&mut self) -> Result<PlainPicture, AllocError> {
+        let colours = self.colours();
+        let bytes = if self.is_text() {
+            self.text_bytes(&colours)?
+        } else {
+            self.graphics_bytes(&colours)?
+        };
+        let columns = self.mode.columns as u32;
+        let width = match self.mode.kind {
+            Kind::Text => 9 * columns,
+            Kind::SixteenColours | Kind::Colours256 => 8 * columns * self.mode.dots as u32,
+        };
+        let height = self.mode.rows as u32 * self.mode.height as u32 * self.mode.lines as u32;
+        self.frame = (self.frame % 32 + 1) % 32;
+        Ok(PlainPicture {
+            width,
+            height,
+            bytes,
+        })
+    }
+}

@@ -1,0 +1,160 @@
+//! Which services a plain screen refuses, and why: the rules of docs/SERVICES.md once more.
+ghost use Rattle.std.specs.Prelude.{◌≡◌, ◌<◌};
+
+use crate::plain_modes::plain_mode;
+use crate::plain_screen::{Place, PlainScreen};
+use bios_services::Regs;
+use vga_bits::Refusal;
+
+/// The high byte of a register.
+pub fn high(register: u16) -> u8 {
+    (register / 256) as u8
+}
+
+/// The low byte of a register.
+pub fn low(register: u16) -> u8 {
+    (register % 256) as u8
+}
+
+/// A row as the high byte of a register, and a column as its low byte.
+pub fn place_of(register: u16) -> Place {
+    Place {
+        row: high(register),
+        column: low(register),
+    }
+}
+
+/// Whether there is such a function, with this AL or BL.
+fn is_function(regs: Regs) -> bool {
+    let al = low(regs.ax);
+    match high(regs.ax) {
+        0x00..=0x03 | 0x05..=0x0A | 0x0C..=0x0F => true,
+        0x10 => matches!(al, 0x00..=0x03 | 0x07..=0x09 | 0x10 | 0x12 | 0x15 | 0x17..=0x19),
+        0x12 => low(regs.bx) == 0x10,
+        0x13 => al < 4,
+        0x1A => al == 0,
+        _ => false,
+    }
+}
+
+/// What is refused where a condition is met.
+fn refused_where(is_met: bool, refusal: Refusal) -> Option<Refusal> {
+    if is_met { Some(refusal) } else { None }
+}
+
+/// How long a block has to be, in bytes.
+fn wanted_length(regs: Regs) -> usize {
+    let count = regs.cx as usize;
+    match (high(regs.ax), low(regs.ax)) {
+        (0x10, 0x02) => 17,
+        (0x10, _) => 3 * count,
+        (_, 0x02 | 0x03) => 2 * count,
+        (_, _) => count,
+    }
+}
+
+impl PlainScreen<'_> {
+    /// The page that BH names.
+    pub fn page_of(&self, regs: Regs) -> u8 {
+        if self.mode.pages == 1 {
+            0
+        } else {
+            high(regs.bx)
+        }
+    }
+
+    /// The cursor's place on a page.
+    pub fn place(&self, page: u8) -> Place {
+        match self.places.get(page as usize) {
+            Some(place) => *place,
+            None => Place { row: 0, column: 0 },
+        }
+    }
+
+    /// The number of the cell at a place, counted along the rows.
+    pub fn cell_number(&self, at: Place) -> u32
+        ensures { result < 65536 }
+    {
+        self.mode.columns as u32 * at.row as u32 + at.column as u32
+    }
+
+    /// How many cells a page has.
+    fn cells(&self) -> u32 {
+        self.mode.columns as u32 * self.mode.rows as u32
+    }
+
+    /// Whether a place is none of the page.
+    fn is_outside(&self, at: Place) -> bool {
+        at.row >= self.mode.rows || at.column >= self.mode.columns
+    }
+
+    /// Whether the registers name a page that the mode has not.
+    fn is_bad_page(&self, regs: Regs) -> bool {
+        match high(regs.ax) {
+            0x02 | 0x03 | 0x08..=0x0A | 0x0C | 0x0D | 0x13 => {
+                self.page_of(regs) >= self.mode.pages
+            }
+            0x05 => low(regs.ax) >= self.mode.pages,
+            _ => false,
+        }
+    }
+
+    /// Whether a pixel or a place of the call is outside.
+    fn is_place_outside(&self, regs: Regs) -> bool {
+        let place = self.place(self.page_of(regs));
+        match high(regs.ax) {
+            0x08..=0x0A => self.cell_number(place) >= self.cells(),
+            0x0C | 0x0D => self.pixel(0, regs.cx, regs.dx).is_none(),
+            0x0E => self.is_outside(self.place(self.page)),
+            0x13 => self.is_outside(place_of(regs.dx)),
+            _ => false,
+        }
+    }
+
+    /// Whether the cells that are to be written go past the page's last.
+    fn is_count_past(&self, regs: Regs) -> bool {
+        let place = self.place(self.page_of(regs));
+        let end = self.cell_number(place) + regs.cx as u32;
+        matches!(high(regs.ax), 0x09 | 0x0A) && end > self.cells()
+    }
+
+    /// The refusal of a call of a function that is there.
+    fn function_refusal(&self, regs: Regs, block: &[u8]) -> Option<Refusal> {
+        let ah = high(regs.ax);
+        let is_bad_mode = ah == 0x00 && plain_mode(low(regs.ax) & 0x7F).is_none();
+        let is_dot = matches!(ah, 0x0C | 0x0D);
+        let takes_block = matches!((ah, low(regs.ax)), (0x10, 0x02 | 0x12) | (0x13, _));
+        let is_bad_block = takes_block && block.len() != wanted_length(regs);
+        refused_where(is_bad_mode, Refusal::BadMode)
+            .or(refused_where(is_dot && self.is_text(), Refusal::WrongKind))
+            .or(refused_where(self.is_bad_page(regs), Refusal::BadPage))
+            .or(refused_where(self.is_place_outside(regs), Refusal::Outside))
+            .or(refused_where(self.is_count_past(regs), Refusal::CountPast))
+            .or(refused_where(is_bad_register(regs), Refusal::BadRegister))
+            .or(refused_where(is_bad_block, Refusal::BadBlock))
+    }
+
+    /// The first refusal of a call, where it is refused.
+    pub fn refusal(&self, regs: Regs, block: &[u8]) -> Option<Refusal> {
+        if is_function(regs) {
+            self.function_refusal(regs, block)
+        } else {
+            Some(Refusal::BadFunction)
+        }
+    }
+}
+
+/// Whether the registers name no palette register or entry of the DAC, or a blinking that is neither.
+fn is_bad_register(regs: Regs) -> bool {
+    let first = regs.bx as u32;
+    if high(regs.ax) != 0x10 {
+        return false;
+    }
+    match low(regs.ax) {
+        0x00 | 0x07 => low(regs.bx) > 0x0F,
+        0x03 => low(regs.bx) > 1,
+        0x10 | 0x15 => first > 0xFF,
+        0x12 | 0x17 => first > 0xFF || first + regs.cx as u32 > 0x100,
+        _ => false,
+    }
+}

@@ -1,0 +1,340 @@
+//! Pseudo-random calls of the video BIOS: mostly with arguments that a mode has, often at its edges, and
+//! some that it refuses.
+ghost use Rattle.std.specs.Prelude.{◌≡◌, ◌<◌};
+
+use crate::plain_modes::{MODES, PlainMode};
+use crate::plain_refusals::high;
+use crate::random_registers::{is_one_in, next_below, next_byte};
+use bios_services::Regs;
+use rand_core::Rng;
+use rand_pcg::Pcg32;
+use std::alloc::{AllocError, Global};
+
+/// The registers of a call, and its block.
+#[derive(Drop)]
+pub struct RandomCall {
+    pub regs: Regs,
+    pub block: Vec<u8>,
+}
+
+/// Functions, each as often as it is to come among so many calls.
+const FUNCTIONS: [u8; 54] = [
+    0x00, 0x01, 0x02, 0x02, 0x02, 0x02, 0x03, 0x05, 0x05, 0x06, 0x06, 0x07, 0x07, 0x08, 0x08, 0x08,
+    0x08, 0x09, 0x09, 0x09, 0x0A, 0x0A, 0x0A, 0x0C, 0x0C, 0x0C, 0x0D, 0x0D, 0x0E, 0x0E, 0x0E, 0x0E,
+    0x0F, 0x10, 0x10, 0x10, 0x10, 0x10, 0x10, 0x10, 0x10, 0x10, 0x10, 0x10, 0x10, 0x10, 0x10, 0x12,
+    0x13, 0x13, 0x13, 0x13, 0x13, 0x1A,
+];
+
+/// The parts of function 10.
+const COLOUR_PARTS: [u8; 13] = [
+    0x00, 0x01, 0x02, 0x03, 0x07, 0x08, 0x09, 0x10, 0x12, 0x15, 0x17, 0x18, 0x19,
+];
+
+/// The characters that are obeyed where they are typed.
+const CONTROLS: [u8; 4] = [0x07, 0x08, 0x0A, 0x0D];
+
+fn word(high: u8, low: u8) -> u16 {
+    256 * high as u16 + low as u16
+}
+
+/// One of some bytes.
+fn one_of(random: &mut Pcg32, bytes: &[u8]) -> u8 {
+    let n = next_byte(random) as usize;
+    match bytes.len() {
+        0 => 0,
+        len => bytes.get(n % len).copied().unwrap_or(0),
+    }
+}
+
+/// A number up to `last`: often the last, seldom one that is past it.
+fn up_to(random: &mut Pcg32, last: u8) -> u8 {
+    match next_below(random, 8) {
+        0 => next_byte(random),
+        1 => last.saturating_add(1),
+        2 | 3 => last,
+        _ => next_below(random, last as u32 + 1).min(0xFF) as u8,
+    }
+}
+
+/// A byte that is mostly this one.
+fn mostly(random: &mut Pcg32, byte: u8) -> u8 {
+    if is_one_in(random, 4) {
+        next_byte(random)
+    } else {
+        byte
+    }
+}
+
+/// A character: often one that is obeyed.
+fn next_character(random: &mut Pcg32) -> u8 {
+    if is_one_in(random, 4) {
+        one_of(random, &CONTROLS)
+    } else {
+        next_byte(random)
+    }
+}
+
+/// A page: mostly the active one.
+fn next_page(random: &mut Pcg32, mode: PlainMode, active: u8) -> u8 {
+    if is_one_in(random, 2) {
+        active
+    } else {
+        up_to(random, mode.pages.saturating_sub(1))
+    }
+}
+
+/// A row and a column: mostly within the page.
+fn next_place(random: &mut Pcg32, mode: PlainMode) -> u16 {
+    let row = up_to(random, mode.rows.saturating_sub(1));
+    let column = up_to(random, mode.columns.saturating_sub(1));
+    if is_one_in(random, 2) {
+        word(row, column)
+    } else {
+        let last_row = mode.rows.saturating_sub(1);
+        let last_column = mode.columns.saturating_sub(1);
+        word(row.min(last_row), column.min(last_column))
+    }
+}
+
+/// How many cells are written: mostly few.
+fn next_count(random: &mut Pcg32) -> u16 {
+    match next_below(random, 8) {
+        0 => next_below(random, 2400) as u16,
+        1 => (random.next_u32() >> 16) as u16,
+        _ => next_below(random, 24) as u16,
+    }
+}
+
+/// A column or a line of pixels, of so many: often the last or the first that is none.
+fn next_coordinate(random: &mut Pcg32, end: u16) -> u16 {
+    match next_below(random, 10) {
+        0 => end,
+        1 => (random.next_u32() >> 16) as u16,
+        2 => end.saturating_sub(1),
+        _ => (next_below(random, end as u32 + 1) as u16).min(end.saturating_sub(1)),
+    }
+}
+
+/// Bytes of which a few are characters that are obeyed.
+fn next_block(alloc: Global, random: &mut Pcg32, len: usize) -> Result<Vec<u8>, AllocError> {
+    let mut block = Vec::new(alloc);
+    for _ in 0..len {
+        let byte = if is_one_in(random, 3) {
+            one_of(random, &CONTROLS)
+        } else {
+            next_byte(random)
+        };
+        block.push(byte)?;
+    }
+    Ok(block)
+}
+
+/// The length of a block: mostly as it is wanted, else one less or one more.
+fn next_length(random: &mut Pcg32, wanted: usize) -> usize
+    requires { wanted < 262144 }
+{
+    match next_below(random, 6) {
+        0 => wanted.saturating_sub(1),
+        1 => wanted + 1,
+        _ => wanted,
+    }
+}
+
+/// The registers of a function of text, with this AH.
+fn cell_call(random: &mut Pcg32, mode: PlainMode, active: u8, ah: u8) -> Regs {
+    let page = next_page(random, mode, active);
+    let colour = next_byte(random);
+    Regs {
+        ax: word(ah, next_character(random)),
+        bx: word(page, colour),
+        cx: next_count(random),
+        dx: next_place(random, mode),
+    }
+}
+
+/// The registers of a function for windows, with this AH.
+fn window_call(random: &mut Pcg32, mode: PlainMode, ah: u8) -> Regs {
+    let by = match next_below(random, 4) {
+        0 => 0,
+        1 => next_byte(random),
+        _ => next_below(random, 12) as u8,
+    };
+    let whole = word(mode.rows.saturating_sub(1), mode.columns.saturating_sub(1));
+    let is_whole = is_one_in(random, 6);
+    Regs {
+        ax: word(ah, by),
+        bx: word(next_byte(random), 0),
+        cx: if is_whole {
+            0
+        } else {
+            next_place(random, mode)
+        },
+        dx: if is_whole {
+            whole
+        } else {
+            next_place(random, mode)
+        },
+    }
+}
+
+/// The registers of a function for pixels, with this AH.
+fn pixel_call(random: &mut Pcg32, mode: PlainMode, active: u8, ah: u8) -> Regs {
+    let width = 8 * mode.columns as u16;
+    let height = mode.rows as u16 * mode.height as u16;
+    Regs {
+        ax: word(ah, next_byte(random)),
+        bx: word(next_page(random, mode, active), 0),
+        cx: next_coordinate(random, width),
+        dx: next_coordinate(random, height),
+    }
+}
+
+/// A string: mostly short, and mostly with as many bytes as it has to have.
+fn string_call(
+    alloc: Global,
+    random: &mut Pcg32,
+    mode: PlainMode,
+    active: u8,
+) -> Result<RandomCall, AllocError> {
+    let count = next_below(random, 32) as u16;
+    let kind = next_below(random, 4) as u8;
+    let part = mostly(random, kind);
+    let each = if part & 2 == 2 { 2 } else { 1 };
+    let len = next_length(random, each * count as usize);
+    let page = next_page(random, mode, active);
+    Ok(RandomCall {
+        regs: Regs {
+            ax: word(0x13, part),
+            bx: word(page, next_byte(random)),
+            cx: count,
+            dx: next_place(random, mode),
+        },
+        block: next_block(alloc, random, len)?,
+    })
+}
+
+/// An entry of the DAC: seldom one that is not there.
+fn next_entry(random: &mut Pcg32) -> u16 {
+    match next_below(random, 8) {
+        0 => 0x100,
+        1 => (random.next_u32() >> 16) as u16,
+        2 => 0xFF,
+        _ => next_byte(random) as u16,
+    }
+}
+
+/// A call for colours.
+fn colour_call(alloc: Global, random: &mut Pcg32) -> Result<RandomCall, AllocError> {
+    let part = one_of(random, &COLOUR_PARTS);
+    let part = if is_one_in(random, 20) {
+        next_byte(random)
+    } else {
+        part
+    };
+    let count = if is_one_in(random, 8) {
+        0x100
+    } else {
+        next_below(random, 6) as u16
+    };
+    let entry = next_entry(random);
+    let bx = match part {
+        0x00 | 0x07 => word(next_byte(random), up_to(random, 0x0F)),
+        0x03 => word(next_byte(random), up_to(random, 1)),
+        0x10 | 0x12 | 0x15 | 0x17 => entry,
+        _ => (random.next_u32() >> 16) as u16,
+    };
+    let cx = match part {
+        0x12 | 0x17 => count,
+        _ => (random.next_u32() >> 16) as u16,
+    };
+    let len = match part {
+        0x02 => next_length(random, 17),
+        0x12 => next_length(random, 3 * count as usize),
+        _ => 0,
+    };
+    Ok(RandomCall {
+        regs: Regs {
+            ax: word(0x10, part),
+            bx,
+            cx,
+            dx: (random.next_u32() >> 16) as u16,
+        },
+        block: next_block(alloc, random, len)?,
+    })
+}
+
+/// A mode: one of the six to be cleared, or none.
+fn mode_call(random: &mut Pcg32) -> Regs {
+    let number = match MODES.get(next_below(random, 12) as usize) {
+        Some(mode) => mode.number,
+        None => (next_byte(random) & 0x0B) | 0x04,
+    };
+    Regs {
+        ax: word(0, number),
+        bx: 0,
+        cx: 0,
+        dx: 0,
+    }
+}
+
+/// The registers of a call without a block, with this AH.
+fn plain_call(random: &mut Pcg32, mode: PlainMode, active: u8, ah: u8) -> Regs {
+    let any = (random.next_u32() >> 16) as u16;
+    match ah {
+        0x00 => mode_call(random),
+        0x01 => Regs {
+            ax: word(ah, 0),
+            bx: 0,
+            cx: if is_one_in(random, 4) {
+                any
+            } else {
+                any & 0x0F1F
+            },
+            dx: 0,
+        },
+        0x05 => Regs {
+            ax: word(ah, up_to(random, mode.pages.saturating_sub(1))),
+            bx: any,
+            cx: 0,
+            dx: 0,
+        },
+        0x06 | 0x07 => window_call(random, mode, ah),
+        0x0C | 0x0D => pixel_call(random, mode, active, ah),
+        0x12 => Regs {
+            ax: word(ah, 0),
+            bx: word(high(any), mostly(random, 0x10)),
+            cx: any,
+            dx: any,
+        },
+        0x1A => Regs {
+            ax: word(ah, mostly(random, 0)),
+            bx: any,
+            cx: any,
+            dx: any,
+        },
+        _ => cell_call(random, mode, active, ah),
+    }
+}
+
+/// The next call on a screen of a mode with this active page.
+pub fn next_call(
+    alloc: Global,
+    random: &mut Pcg32,
+    mode: PlainMode,
+    active: u8,
+) -> Result<RandomCall, AllocError> {
+    let listed = one_of(random, &FUNCTIONS);
+    let ah = if is_one_in(random, 40) {
+        next_byte(random).max(1)
+    } else {
+        listed
+    };
+    match ah {
+        0x10 => colour_call(alloc, random),
+        0x13 => string_call(alloc, random, mode, active),
+        _ => Ok(RandomCall {
+            regs: plain_call(random, mode, active, ah),
+            block: Vec::new(alloc),
+        }),
+    }
+}
