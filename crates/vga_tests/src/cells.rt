@@ -12,14 +12,8 @@ use vga_bits::{Fault, Refusal, Tracked};
 use vga_card::Card;
 use vga_show::dump_cells;
 
-/// How many bytes a line has.
-const LINE_LEN: usize = 408;
-
-/// How many bytes the text of a page has.
-const TEXT_LEN: usize = 25 * LINE_LEN;
-
-/// The rooms that end in the first two lines of a page, and those that end in the last.
-const ROOMS: [(usize, usize); 2] = [(0, 2 * LINE_LEN), (TEXT_LEN - LINE_LEN, TEXT_LEN)];
+/// How many bytes the text of a page has, 25 lines of 408.
+const TEXT_LEN: usize = 25 * 408;
 
 /// BIOS data of a mode, or those before one is set.
 fn data_of(mode: u8) -> Bda {
@@ -59,33 +53,19 @@ fn text_of(alloc: Global, card: &Card) -> Result<Vec<u8>, Fault> {
     Ok(out.into_inner())
 }
 
-/// Whether a writer with room for so many bytes, that then refuses so, answers so and has a front of the text.
-fn takes(
-    alloc: Global,
-    card: &Card,
-    text: &[u8],
-    room: usize,
-    full: Full,
-    answer: Result<(), Fault>,
-) -> bool {
-    let (front, _) = text.split_at(room.min(text.len()));
-    let mut out = Sink::new(alloc, room, full);
+/// Whether a writer with room for so many bytes, that then refuses so, answers so and has these.
+fn takes(alloc: Global, card: &Card, taken: &[u8], full: Full, answer: Result<(), Fault>) -> bool {
+    let mut out = Sink::new(alloc, taken.len(), full);
     write_cells(&mut out, card) == answer
         && out.failed() == answer.is_err()
-        && out.into_inner().taken() == front
+        && out.into_inner().taken() == taken
 }
 
-/// Whether each writer with room for so many bytes or more, but less than those, that then refuses so, fails and has a
-/// front of the text.
-fn are_fronts_taken(
-    alloc: Global,
-    card: &Card,
-    text: &[u8],
-    (least, end): (usize, usize),
-    full: Full,
-) -> bool {
-    for room in least..end {
-        if !takes(alloc, card, text, room, full, Err(Fault::WriteFault)) {
+/// Whether each writer that has too little room for the cells, and then refuses so, fails and has a front of the text.
+fn are_fronts_taken(alloc: Global, card: &Card, text: &[u8], full: Full) -> bool {
+    let fault = Err(Fault::WriteFault);
+    for room in 0..text.len() {
+        if !takes(alloc, card, &text[..room], full, fault) {
             return false;
         }
     }
@@ -105,16 +85,11 @@ pub fn check_cells(alloc: Global) -> Result<Checks> {
     let text = text.as_slice();
     checks.note("25 lines of 408 bytes", text.len() == TEXT_LEN);
     for full in FULL {
+        checks.note("whole cells", takes(alloc, &card, text, full, Ok(())));
         checks.note(
-            "whole cells",
-            takes(alloc, &card, text, text.len(), full, Ok(())),
+            "a front of the cells",
+            are_fronts_taken(alloc, &card, text, full),
         );
-        for rooms in ROOMS {
-            checks.note(
-                "a front of the cells",
-                are_fronts_taken(alloc, &card, text, rooms, full),
-            );
-        }
     }
     Ok(checks)
 }
