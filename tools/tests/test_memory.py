@@ -5,10 +5,11 @@ from __future__ import annotations
 import unittest
 from typing import Optional
 
-from vga_memory.command import report_with
+from vga_memory.command import CRATES, ENDING, FILES, GROWTH, cases_of, jobs
 from vga_memory.judging import (
-    CALLS, FAULT, REFUSED, REFUSED_IN_STEP, RIGHT, Wrong, judge_calls, judge_program, judge_words
+    CALLS, FAULT, IN_WORDS, REFUSED, REFUSED_IN_STEP, RIGHT, Wrong, judge_calls, judge_program
 )
+from vga_memory.program import NoSuchMain, growing
 from vga_memory.trying import Answer, answers_of
 
 EARLY = Answer(1, b"", "Error: memory allocation failed\n")
@@ -28,10 +29,6 @@ def sweep() -> list[Answer]:
     return [told(), told("run", REFUSED_IN_STEP), *refused, told(CALLS[0]), EARLY, EARLY]
 
 
-def is_whole(_: int, answer: Answer) -> bool:
-    return answer == WHOLE
-
-
 def fault(written: bytes = b"") -> Answer:
     return Answer(1, written, FAULT)
 
@@ -48,13 +45,6 @@ class Reading(unittest.TestCase):
             answers_of(output, errors),
             {"000": Answer(0, b"a: b\n", ""), "001": Answer(1, b"", "Error: no\n"), "002": Answer(-1, b"", "")},
         )
-
-    def test_the_report_with_more_steps(self) -> None:
-        lines = report_with(2).decode().split("\n")
-        self.assertEqual(lines[6:], [
-            "7 ax=1017 bx=0000 cx=0001 dx=0000 block 010203", "8 E11 BadBlock",
-            "9 ax=0300 bx=0000 cx=0D0E dx=0000", "10 ax=0300 bx=0000 cx=0D0E dx=0000", "",
-        ])
 
 
 class Calls(unittest.TestCase):
@@ -83,31 +73,60 @@ class Calls(unittest.TestCase):
                 judge_calls(answers)
 
 
+class Jobs(unittest.TestCase):
+    def test_what_each_job_answers(self) -> None:
+        go, asm, refused = jobs().values()
+        self.assertEqual(go.fronts, (b"", b"".join(go.whole.written.splitlines(keepends=True)[:6])))
+        self.assertTrue(go.fronts[1].endswith(b"\n6 ax=1015 bx=0000 cx=0203 dx=0100\n"))
+        self.assertEqual((asm.whole.written[:4], len(asm.whole.written)), (b"VGAS", 44 + len(ENDING)))
+        self.assertEqual((refused.whole.status, refused.fronts), (2, (b"",)))
+        for job in jobs().values():
+            self.assertTrue(set(job.words) & set(FILES), "a job of files that are there")
+
+    def test_the_growth_that_is_refused_becomes_the_first(self) -> None:
+        job = jobs()["asm"]
+        cases = cases_of(1, job)
+        self.assertEqual([case for case in cases], sorted(cases))
+        self.assertEqual({len(case.given) for case in cases.values()}, set(range(job.first, GROWTH)))
+
+
+class Growing(unittest.TestCase):
+    def test_the_main_of_the_program_grows_first(self) -> None:
+        source = (CRATES / "vga" / "src" / "main.rt").read_text()
+        changed = growing(source)
+        self.assertIn("    let _ = grow(&rt);\n    ExitCode::from(status_of_job(&rt))\n", changed)
+        self.assertTrue(changed.startswith(source[:source.index("    ExitCode::from(")]))
+
+    def test_another_main_is_not_changed(self) -> None:
+        for source in ("fn main() {}\n", 2 * "    ExitCode::from(status_of_job(&rt))\n"):
+            with self.subTest(source), self.assertRaises(NoSuchMain):
+                growing(source)
+
+
 class Program(unittest.TestCase):
     def test_runs_that_are_refused(self) -> None:
-        self.assertEqual(judge_program([WHOLE, fault(b"1 ok\n"), fault(), fault()], is_whole, FRONTS), 3)
+        words = IN_WORDS * [fault()]
+        self.assertEqual(judge_program([WHOLE, fault(b"1 ok\n"), fault(), *words], WHOLE, FRONTS), 2 + IN_WORDS)
+        words[3] = WHOLE
+        self.assertEqual(judge_program([WHOLE, fault(b"1 ok\n"), fault(), *words], WHOLE, FRONTS), 1 + IN_WORDS)
 
     def test_what_is_wrong_is_found(self) -> None:
-        behind, before = fault(b"1 ok\n"), fault()
+        behind, before, words = fault(b"1 ok\n"), fault(), IN_WORDS * [fault()]
         wrongs = {
-            "a report that is cut off": [WHOLE, behind, before, fault(b"1 o")],
-            "another fault": [WHOLE, behind, before, Answer(1, b"", "vga: F9 WriteFault\n")],
-            "another status": [WHOLE, behind, before, Answer(0, b"", FAULT)],
-            "a report that is another": [WHOLE, behind, before, Answer(0, b"1 ok\n", "")],
-            "a refusal of which nothing is said": [WHOLE, behind, WHOLE, before],
-            "no run behind whole lines": [WHOLE, before],
-            "too low a number": [behind, before],
+            "a report that is cut off": [WHOLE, behind, before, fault(b"1 o"), *words],
+            "another fault": [WHOLE, behind, before, Answer(1, b"", "vga: F9 WriteFault\n"), *words],
+            "another status": [WHOLE, behind, before, Answer(0, b"", FAULT), *words],
+            "a report that is another": [WHOLE, behind, before, Answer(0, b"1 ok\n", ""), *words],
+            "a refusal of which nothing is said": [WHOLE, behind, WHOLE, before, *words],
+            "two such while words are read": [WHOLE, behind, before, *words[2:], WHOLE, WHOLE],
+            "no run behind whole lines": [WHOLE, before, *words],
+            "too low a number": [behind, before, *words],
             "no refusal": [WHOLE],
+            "no run": [],
         }
         for name, answers in wrongs.items():
             with self.subTest(name), self.assertRaises(Wrong):
-                judge_program(answers, is_whole, FRONTS)
-
-    def test_words_that_are_refused(self) -> None:
-        self.assertEqual(judge_words([WHOLE, fault(), WHOLE, fault()], is_whole), (2, 1))
-        for answers in ([fault()], [WHOLE, fault(b"1 ok\n")], [WHOLE, Answer(2, b"", "")], [WHOLE]):
-            with self.subTest(str(answers)), self.assertRaises(Wrong):
-                judge_words(answers, is_whole)
+                judge_program(answers, WHOLE, FRONTS)
 
 
 if __name__ == "__main__":

@@ -2,7 +2,7 @@
 
 from __future__ import annotations
 
-from typing import Callable, Optional, Sequence
+from typing import Optional, Sequence
 
 from .trying import Answer
 
@@ -21,8 +21,8 @@ CALLS = (
 )
 RIGHT, REFUSED, REFUSED_IN_STEP = "as in its example", "out of memory", "out of memory in a step"
 FAULT = "vga: F10 OutOfMemory\n"
-# Whether a run, by its place among the others, answered as it does with ample memory.
-IsWhole = Callable[[int, Answer], bool]
+# The growths that reading the words takes, at most. They are a run's first ones, so that the last runs meet them.
+IN_WORDS = 12
 
 
 class Wrong(Exception):
@@ -67,33 +67,24 @@ def _expect_in_turn(were_refused: Sequence[bool]) -> None:
         raise Wrong("a growth was refused, and nothing said so")
 
 
-def _refused_runs(answers: Sequence[Answer], is_whole: IsWhole, fronts: Sequence[bytes]) -> list[bool]:
-    """Which runs of the program ended with want of memory, where each then wrote one of these fronts of its report."""
-    were_refused = []
-    for place, answer in enumerate(answers):
-        is_fault = answer.status == 1 and answer.said == FAULT and answer.written in fronts
-        if not is_fault and not is_whole(place, answer):
-            raise Wrong(f"run {place}: status {answer.status}, {answer.written!r}, {answer.said!r}")
-        were_refused.append(is_fault)
+def _is_refused(place: int, answer: Answer, whole: Answer, fronts: Sequence[bytes]) -> bool:
+    """Whether a run of the program ended with want of memory, behind one of these fronts of its report."""
+    if answer.status == 1 and answer.said == FAULT and answer.written in fronts:
+        return True
+    if answer != whole:
+        raise Wrong(f"run {place}: status {answer.status}, {answer.written!r}, {answer.said!r}")
+    return False
+
+
+def judge_program(answers: Sequence[Answer], whole: Answer, fronts: Sequence[bytes]) -> int:
+    """How many runs met a refusal. With each run the growth that was refused stands earlier, up to the first of all. One
+    may be done without: words are collected with room for all of them at once, or else with less."""
+    were_refused = [_is_refused(place, answer, whole, fronts) for place, answer in enumerate(answers)]
+    behind_words = max(len(answers) - IN_WORDS, 1)
+    _expect_in_turn(were_refused[:behind_words])
+    if were_refused[behind_words:].count(False) > 1:
+        raise Wrong("a growth was refused while words were read, and nothing said so")
     written = {answer.written for answer, was_refused in zip(answers, were_refused) if was_refused}
     if written != set(fronts):
         raise Wrong(f"runs ended behind {sorted(written)}, and not behind each of {sorted(fronts)}")
-    return were_refused
-
-
-def judge_program(answers: Sequence[Answer], is_whole: IsWhole, fronts: Sequence[bytes]) -> int:
-    """How many runs met a refusal. With each run the growth that was refused stands earlier."""
-    were_refused = _refused_runs(answers, is_whole, fronts)
-    _expect_in_turn(were_refused)
     return sum(were_refused)
-
-
-def judge_words(answers: Sequence[Answer], is_whole: IsWhole) -> tuple[int, int]:
-    """How many runs met a refusal while their words were read, and how many did without what was refused: words are
-    collected with room for all of them at once, or else with less."""
-    were_refused = _refused_runs(answers, is_whole, [b""])
-    first = were_refused.index(True)
-    if first == 0:
-        raise Wrong("no answer met no refusal: the number of the growth that is refused is too low")
-    refused = were_refused[first:]
-    return sum(refused), len(refused) - sum(refused)

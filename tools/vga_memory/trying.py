@@ -17,9 +17,9 @@ OWN_LINES = ("allocations: ", "checked: ", "interpreter: ")
 
 
 class Case(NamedTuple):
-    """A run of the program: a text, of which `{}` among its words names a file, and its last words."""
+    """A run of the program: its standard input, and its words."""
 
-    text: str
+    given: str
     words: Sequence[str]
 
 
@@ -37,16 +37,16 @@ class TryFailed(Exception):
 
 
 def try_cases(
-    crate: Path, growth: int, words: Sequence[str], cases: Mapping[str, Case], data: Mapping[str, Path]
+    crate: Path, growth: int, cases: Mapping[str, Case], data: Mapping[str, Path]
 ) -> dict[str, Answer]:
-    """What each case of a crate's program answers, with the growth of this number refused."""
+    """What each case of a crate's program answers, with the growth of this number refused, where these files lie."""
     with tempfile.TemporaryDirectory(prefix="vga-memory-") as name:
         folder = Path(name)
-        for case, (text, last) in cases.items():
-            (folder / case).write_text(text)
-            (folder / f"{case}.args").write_text("".join(f"{word}\n" for word in last))
+        for case, (given, words) in cases.items():
+            (folder / case).write_text(given)
+            (folder / f"{case}.args").write_text("".join(f"{word}\n" for word in words))
         files = [word for file, path in data.items() for word in ("--data", f"{file}={path}")]
-        command = ["rt", "try", "--fail-alloc", str(growth), *files, "--cases", str(folder), "--", *words]
+        command = ["rt", "try", "--fail-alloc", str(growth), *files, "--cases", str(folder), "--"]
         done = subprocess.run(command, cwd=crate, stdin=subprocess.DEVNULL, capture_output=True)
     answers = answers_of(done.stdout, done.stderr.decode("utf-8", "replace"))
     if answers.keys() != cases.keys():
