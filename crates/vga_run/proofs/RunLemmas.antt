@@ -56,11 +56,9 @@ spelling_answers until fonts bytes before after (Truncated at) few bad = (bytes,
 spelling_answers until fonts bytes before after _ few bad = absurd bad
 
 pub fault_answers : (until : Option ℕ) (fonts : FontSet) (bytes : List ℕ) (before after : Option (List ℕ)) (f : Fault)
-    → (f ≡ OutOfMemory) ⊎ IsFault bytes f → Reports until fonts (Some bytes) before after (Err f)
-fault_answers until fonts bytes before after f (inl is) = subst (λ (x : Fault). Reports until fonts (Some bytes) before after (Err x)) (sym is) tt
-fault_answers until fonts bytes before after f (inr (inl (is, many))) =
-    subst (λ (x : Fault). Reports until fonts (Some bytes) before after (Err x)) (sym is) many
-fault_answers until fonts bytes before after f (inr (inr (few, bad))) = spelling_answers until fonts bytes before after f few bad
+    → IsFault bytes f → Reports until fonts (Some bytes) before after (Err f)
+fault_answers until fonts bytes before after f (inl (is, many)) = subst (λ (x : Fault). Reports until fonts (Some bytes) before after (Err x)) (sym is) many
+fault_answers until fonts bytes before after f (inr (few, bad)) = spelling_answers until fonts bytes before after f few bad
 
 -- what a script in memory answers to its run is the answer where these bytes were read
 read_bytes : (input : Option (List ℕ)) (bytes others : List ℕ) → IsInput input bytes → IsInput (Some bytes) others → IsInput input others

@@ -11,6 +11,7 @@ mod report;
 mod runs;
 mod screens;
 mod served;
+mod spelled_report;
 
 pub use answer::Answer;
 pub use laws::refused_steps_change_nothing;

@@ -9,7 +9,7 @@ ghost use Rattle.vga_run.specs.Run.{WritesStep, WritesReport};
 ghost use Rattle.vga_script.specs.Step.{IsInRange, AreInRange};
 ghost use Rattle.vga_script.specs.declared.step.Step.TheVariants.{Int};
 ghost use Rattle.vga_script.specs.Shown.{IsShownInRange};
-ghost use Rattle.vga_run.specs.Report.{line as line_of, look_text, picture_line as picture_line_of, steps_until};
+ghost use Rattle.vga_run.specs.Report.{line as line_of, look_text, picture_line as picture_line_of, last_looks, steps_until};
 ghost use Rattle.vga_show.specs.Ppm.{ppm};
 ghost use Rattle.bios_modes.specs.Valid.{IsValid};
 
@@ -22,7 +22,7 @@ use super::served::write_reply;
 use bios_services::{Regs, ServiceError, int10};
 use std::alloc::Global;
 use std::io::Write;
-use vga_bits::{Bytes, Fault, Tracked, flush, write_whole};
+use vga_bits::{Fault, Tracked, flush, write_whole};
 use vga_card::Drawn;
 use vga_script::{Shown, Step};
 use vga_show::{
@@ -146,13 +146,13 @@ fn write_shown<W: Write>(
 
 /// Calls the video BIOS, and writes what it answers as step n.
 #[tactic(auto, unfolding(crate::specs::Step::called, crate::specs::Step::answer_to, crate::specs::Step::after_step))]
-fn write_service<W: Write>(
+pub(crate) fn write_service<W: Write>(
     alloc: Global,
     out: &mut Tracked<W>,
     n: usize,
     machine: &mut Machine,
     regs: Regs,
-    block: &Bytes,
+    block: &[u8],
 ) -> Result<(), Fault>
     requires writer { has_failed out.old ≡ false }
     requires valid { IsValid machine.old.bda }
@@ -167,7 +167,7 @@ fn write_service<W: Write>(
         &mut machine.bda,
         &machine.fonts,
         regs,
-        block.as_slice(),
+        block,
     );
     match outcome {
         Ok(reply) => write_reply(out, n, &reply),
@@ -178,7 +178,7 @@ fn write_service<W: Write>(
 
 /// Takes a step, and writes what it answers, in the line of its number.
 #[tactic(auto, using(crate::proofs::ReportLemmas::step_is_written), unfolding(crate::specs::Step::answer_to, crate::specs::Step::after_step))]
-fn write_step<W: Write>(
+pub(crate) fn write_step<W: Write>(
     alloc: Global,
     out: &mut Tracked<W>,
     line: &mut NumberedLine,
@@ -218,7 +218,7 @@ fn write_step<W: Write>(
                 cx: *cx,
                 dx: *dx,
             };
-            return write_service(alloc, out, line.number(), machine, regs, block);
+            return write_service(alloc, out, line.number(), machine, regs, block.as_slice());
         }
         Step::Advance { dots } => Answer::of_write(machine.card.advance(*dots)),
         Step::Frame => return write_drawn(out, line.number(), machine.card.frame()),
@@ -254,6 +254,34 @@ fn write_lines<W: Write>(
     Ok(())
 }
 
+/// Takes the last looks at the machine, of which the first has this number.
+pub(crate) fn write_last_looks<W: Write>(
+    alloc: Global,
+    out: &mut Tracked<W>,
+    machine: &mut Machine,
+    first: usize,
+) -> Result<(), Fault>
+    requires writer { has_failed out.old ≡ false }
+    requires numbers { first + length last_looks < 2 ^ 64 }
+    requires valid { IsValid machine.old.bda }
+    ensures { WritesReport (W.contents (inner_of out.old)) (W.contents (inner_of out.new))
+        (has_failed out.new) result machine.old first last_looks }
+{
+    let last_looks = [
+        Step::Show {
+            shown: Shown::Registers,
+        },
+        Step::Show { shown: Shown::Beam },
+        Step::Show {
+            shown: Shown::Latches,
+        },
+        Step::Show {
+            shown: Shown::BiosData,
+        },
+    ];
+    write_lines(alloc, out, machine, first, &last_looks)
+}
+
 /// Takes so many of the first steps, all if there are fewer, and then the last looks.
 #[tactic(auto, using(crate::proofs::ReportLemmas::first_in_range))]
 fn write_until<W: Write>(
@@ -272,19 +300,7 @@ fn write_until<W: Write>(
     let count = (most as usize).min(steps.len());
     let (taken, _) = steps.split_at(count);
     write_lines(alloc, out, machine, 1, taken)?;
-    let last_looks = [
-        Step::Show {
-            shown: Shown::Registers,
-        },
-        Step::Show { shown: Shown::Beam },
-        Step::Show {
-            shown: Shown::Latches,
-        },
-        Step::Show {
-            shown: Shown::BiosData,
-        },
-    ];
-    write_lines(alloc, out, machine, count + 1, &last_looks)
+    write_last_looks(alloc, out, machine, count + 1)
 }
 
 /// Takes the steps on this machine, all of them or so many of the first with the last looks.

@@ -11,11 +11,12 @@ ghost use Rattle.vga_run.specs.ScreenReport.{AreOfScreens, ReportsScreens, RunsS
 use super::machine::Machine;
 use super::report::write_report;
 use super::screens::{bytes_fit, reports_are_screens};
+use super::spelled_report::write_spelled_report;
 use bios_modes::Fonts;
 use std::alloc::Global;
 use std::io::{Read, Write};
 use vga_bits::{Fault, Tracked};
-use vga_script::{Script, decode, one_fault, one_script, read_script};
+use vga_script::{Script, SpelledSteps, one_fault, one_script, read_script};
 
 /// Runs a script from power-on, writes its report and nothing else, and flushes the writer. The reader
 /// and the writer must not have failed before.
@@ -152,8 +153,30 @@ fn run_bytes_over<W: Write>(
     ensures stopped { result ≡ Err OutOfMemory → (out.new ≡ out.old) ⊎ StopsRun until fonts (Some script.now)
         (W.contents (inner_of out.old)) (W.contents (inner_of out.new)) }
 {
-    let script = decode(alloc, script)?;
-    run_over(alloc, &script, fonts, out, until)
+    let steps = SpelledSteps::of(script)?;
+    run_spelled_over(alloc, steps, fonts, out, until)
+}
+
+/// Runs steps that are taken from the bytes of a script over some fonts.
+#[tactic(auto, using(crate::proofs::RunLemmas::report_answers, crate::proofs::RunLemmas::report_fails, crate::proofs::RunLemmas::report_stops))]
+fn run_spelled_over<W: Write>(
+    alloc: Global,
+    steps: SpelledSteps<'_>,
+    fonts: Fonts,
+    out: &mut Tracked<W>,
+    until: Option<u32>,
+) -> Result<(), Fault>
+    requires writer { has_failed out.old ≡ false }
+    requires few { length steps ≤ script_limit }
+    ensures answer { ReportsSteps until fonts steps.entry
+        (W.contents (inner_of out.old)) (W.contents (inner_of out.new)) result }
+    ensures write_failed { has_failed out.new ≡ is_write_fault result }
+    ensures unwritten { IfErr result (λ e. e ≢ WriteFault → e ≢ OutOfMemory → out.new ≡ out.old) }
+    ensures stopped { result ≡ Err OutOfMemory → (out.new ≡ out.old) ⊎ StopsSteps until fonts steps.entry
+        (W.contents (inner_of out.old)) (W.contents (inner_of out.new)) }
+{
+    let mut machine = Machine::power_on(alloc, fonts)?;
+    write_spelled_report(alloc, out, &mut machine, steps, until)
 }
 
 /// Runs a script that was decoded or assembled, as `run` does. So its faults are `FontSize`, `WriteFault`

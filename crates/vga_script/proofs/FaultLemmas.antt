@@ -14,7 +14,8 @@ use Rattle.vga_script.specs.Spelling.{script_limit, magic, version, header, opco
 use Rattle.vga_script.specs.Decoding.{shown_len, fields_len, StartsWithBadStep, StartsWithCutStep, SpellsUpTo, IsSpellingFault, IsFault}
 use Rattle.vga_script.proofs.FieldLemmas.{two_back}
 use Rattle.vga_script.proofs.OptionLemmas.{just, some_is}
-use Rattle.vga_script.proofs.GrammarLemmas.{step_of, step_back, plane_back, one_step, rest_spells}
+use Rattle.vga_script.specs.Front.{step_of}
+use Rattle.vga_script.proofs.GrammarLemmas.{step_back, plane_back, one_step, rest_spells}
 
 -- this is an opcode, and its fields are all there
 abbrev HasFields : ℕ → List ℕ → Type 0
@@ -61,11 +62,11 @@ has_fields Frame x opcode rest fits e = let first : opcode ≡ opcode_frame = cc
 has_fields (Show what) x opcode rest fits e = has_look what x opcode rest e
 
 -- no whole step stands at the front of some bytes
-abbrev NoStepStarts : List ℕ → Type 0
+abbrev pub NoStepStarts : List ℕ → Type 0
 NoStepStarts bytes = StartsWithBadStep bytes ⊎ StartsWithCutStep bytes
 
 -- where one does
-step_starts : (s : Step) (x bytes : List ℕ) → IsInRange s → bytes ≡ spelling s ++ x → NoStepStarts bytes → ⊥
+pub step_starts : (s : Step) (x bytes : List ℕ) → IsInRange s → bytes ≡ spelling s ++ x → NoStepStarts bytes → ⊥
 step_starts s x bytes fits e (inl (inr (plane, offset, count, rest, ho, hn, front, bad))) =
     let look : Step = Show (shown.Plane plane offset count) in
     let same : (s, x) ≡ (look, rest) = some_is (s, x) (look, rest) (sym (step_back s x fits) ∙ ap step_of (sym e ∙ front) ∙ plane_back plane offset count rest ho hn) in

@@ -7,50 +7,13 @@ use Rattle.vga_script.specs.declared.step.Step.{Step}
 use Rattle.vga_script.specs.declared.step.Step.TheVariants.{Out, OutWord, In, InWord, Put, PutWord, Get, GetWord, Int, Advance, Frame, Show}
 use Rattle.vga_script.specs.declared.shown.Shown.TheVariants as shown
 use Rattle.vga_script.specs.Shown.{kind_registers, kind_dac, kind_beam, kind_latches, kind_plane, kind_bios_data, kind_cells}
+use Rattle.vga_script.specs.Front.{call_at, step_of}
 use Rattle.vga_script.specs.Step.{IsInRange, AreInRange}
 use Rattle.vga_script.specs.Spelling.{header, opcode_out, opcode_out_word, opcode_in, opcode_in_word, opcode_put, opcode_put_word, opcode_get, opcode_get_word, opcode_int, opcode_advance, opcode_frame, opcode_show, spelling, encoding, SpellsSteps, Spells}
 use Rattle.vga_script.proofs.FieldLemmas.{two_back, four_back}
 use Rattle.vga_script.proofs.OptionLemmas.{just, some_is}
 
--- ---- the step at the front of some bytes, read from its fields
-
--- a call of the BIOS whose block has this length, and what follows its block
-abbrev call_at : ℕ → ℕ → ℕ → ℕ → ℕ → List ℕ → Option (Step × List ℕ)
-call_at ax bx cx dx len rest = Some (Int ax bx cx dx (take len rest), drop len rest)
-
--- a look of this kind, with its fields and what follows them
-abbrev shown_at : ℕ → List ℕ → Option (Step × List ℕ)
-shown_at kind rest =
-    if kind == kind_registers then Some (Show shown.Registers, rest)
-    else if kind == kind_dac then Some (Show (shown.Dac (get_or rest 0 0)), drop 1 rest)
-    else if kind == kind_beam then Some (Show shown.Beam, rest)
-    else if kind == kind_latches then Some (Show shown.Latches, rest)
-    else if kind == kind_plane then Some (Show (shown.Plane (get_or rest 0 0) (little_number 2 (drop 1 rest)) (little_number 2 (drop 3 rest))), drop 5 rest)
-    else if kind == kind_bios_data then Some (Show shown.BiosData, rest)
-    else if kind == kind_cells then Some (Show shown.Cells, rest)
-    else None
-
--- the step of an opcode and its fields, and what follows them
-abbrev step_with : ℕ → List ℕ → Option (Step × List ℕ)
-step_with opcode rest =
-    if opcode == opcode_out then Some (Out (little_number 2 rest) (get_or rest 2 0), drop 3 rest)
-    else if opcode == opcode_out_word then Some (OutWord (little_number 2 rest) (little_number 2 (drop 2 rest)), drop 4 rest)
-    else if opcode == opcode_in then Some (In (little_number 2 rest), drop 2 rest)
-    else if opcode == opcode_in_word then Some (InWord (little_number 2 rest), drop 2 rest)
-    else if opcode == opcode_put then Some (Put (little_number 4 rest) (get_or rest 4 0), drop 5 rest)
-    else if opcode == opcode_put_word then Some (PutWord (little_number 4 rest) (little_number 2 (drop 4 rest)), drop 6 rest)
-    else if opcode == opcode_get then Some (Get (little_number 4 rest), drop 4 rest)
-    else if opcode == opcode_get_word then Some (GetWord (little_number 4 rest), drop 4 rest)
-    else if opcode == opcode_int then call_at (little_number 2 rest) (little_number 2 (drop 2 rest)) (little_number 2 (drop 4 rest)) (little_number 2 (drop 6 rest)) (little_number 2 (drop 8 rest)) (drop 10 rest)
-    else if opcode == opcode_advance then Some (Advance (little_number 4 rest), drop 4 rest)
-    else if opcode == opcode_frame then Some (Frame, rest)
-    else if opcode == opcode_show then shown_at (get_or rest 0 0) (drop 1 rest)
-    else None
-
--- the step at the front of some bytes, and what follows it
-abbrev pub step_of : List ℕ → Option (Step × List ℕ)
-step_of [] = None
-step_of (opcode ∷ rest) = step_with opcode rest
+-- ---- the step at the front of some bytes
 
 -- no step begins where no byte is
 no_step : (p : Step × List ℕ) → step_of [] ≡ just p → ⊥

@@ -10,6 +10,7 @@ pub mod FieldLemmas
 pub mod DecodeLemmas
 pub mod GrammarLemmas
 pub mod FaultLemmas
+pub mod SpelledLemmas
 pub mod ScriptLemmas
 pub mod TextLemmas
 pub mod PrintLemmas

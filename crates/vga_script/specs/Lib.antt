@@ -1,6 +1,8 @@
 pub mod Shown
 pub mod Step
 pub mod Spelling
+pub mod Front
+pub mod Spelled
 pub mod Decoding
 pub mod Words
 pub mod Text

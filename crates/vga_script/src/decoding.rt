@@ -2,6 +2,7 @@
 ghost use Rattle.std.specs.Prelude.{◌≡◌, ◌≢◌, ◌⊎◌, ◌<◌, ◌≤◌, ◌++◌, ◌∷◌, List, length, IfOk, IfErr, IsOkUnless, Err};
 ghost use Rattle.vga_script.specs.Decoding.{StartsOutOfRange, StartsWithBadStep, StartsWithCutStep, IsSpellingFault, IsFault};
 ghost use Rattle.vga_script.specs.Shown.{kind_dac, kind_plane};
+ghost use Rattle.vga_script.specs.Spelled.{spelled_step};
 ghost use Rattle.vga_script.specs.Spelling.{script_limit, header, StartsWithStep, Spells};
 ghost use Rattle.vga_script.specs.Spelling.{opcode_out, opcode_out_word, opcode_in, opcode_in_word};
 ghost use Rattle.vga_script.specs.Spelling.{opcode_put, opcode_put_word, opcode_get, opcode_get_word};
@@ -12,6 +13,7 @@ use super::fields::{NoStep, block_at, u8_at, u16_at, u32_at};
 use super::opcode;
 use super::script::{SCRIPT_LIMIT, Script};
 use super::shown::Shown;
+use super::spelled_step::SpelledStep;
 use super::step::Step;
 use std::alloc::Global;
 use vga_bits::Fault;
@@ -110,21 +112,20 @@ fn advance_at(fields: &[u8]) -> Result<(Step, &[u8]), NoStep>
     Ok((Step::Advance { dots }, rest))
 }
 
-/// The fields of a call of the BIOS, and what follows them.
+/// The fields of a call of the BIOS, whose block is left where it stands, and what follows them.
 #[tactic(auto, using(crate::proofs::DecodeLemmas::cut_int))]
-fn int_at(alloc: Global, fields: &[u8]) -> Result<(Step, &[u8]), NoStep>
-    ensures found { IfOk result (λ x. StartsWithStep (opcode_int ∷ fields.now) x.0 x.1.now) }
-    ensures cut { result ≡ Err NoStep.Cut → StartsWithCutStep (opcode_int ∷ fields.now) }
-    ensures known { result ≢ Err NoStep.Bad }
+fn int_at(fields: &[u8]) -> Result<(SpelledStep<'_>, &[u8]), NoStep>
+    ensures found { IfOk result (λ x. StartsWithStep (opcode_int ∷ fields.now) (spelled_step x.0) x.1.now) }
+    ensures cut { IfErr result (λ e. (e ≡ NoStep.Cut) × StartsWithCutStep (opcode_int ∷ fields.now)) }
 {
     let (ax, rest) = u16_at(fields)?;
     let (bx, rest) = u16_at(rest)?;
     let (cx, rest) = u16_at(rest)?;
     let (dx, rest) = u16_at(rest)?;
     let (len, rest) = u16_at(rest)?;
-    let (block, rest) = block_at(alloc, rest, len)?;
+    let (block, rest) = block_at(rest, len)?;
     Ok((
-        Step::Int {
+        SpelledStep::Int {
             ax,
             bx,
             cx,
@@ -189,15 +190,14 @@ fn shown_at(fields: &[u8]) -> Result<(Step, &[u8]), NoStep>
     Ok((Step::Show { shown }, rest))
 }
 
-/// The step at the front of some bytes, and what follows it.
+/// The step of an opcode, which is no call of the BIOS, and of its fields, and what follows them.
 #[tactic(auto, using(crate::proofs::DecodeLemmas::no_opcode))]
-fn step_at(alloc: Global, bytes: &[u8]) -> Result<(Step, &[u8]), NoStep>
-    requires { 0 < length bytes.now }
-    ensures found { IfOk result (λ x. StartsWithStep bytes.now x.0 x.1.now) }
-    ensures bad { result ≡ Err NoStep.Bad → StartsWithBadStep bytes.now }
-    ensures cut { result ≡ Err NoStep.Cut → StartsWithCutStep bytes.now }
+fn other_at(opcode: u8, fields: &[u8]) -> Result<(Step, &[u8]), NoStep>
+    requires { opcode ≢ opcode_int }
+    ensures found { IfOk result (λ x. StartsWithStep (opcode ∷ fields.now) x.0 x.1.now) }
+    ensures bad { result ≡ Err NoStep.Bad → StartsWithBadStep (opcode ∷ fields.now) }
+    ensures cut { result ≡ Err NoStep.Cut → StartsWithCutStep (opcode ∷ fields.now) }
 {
-    let (opcode, fields) = u8_at(bytes)?;
     match opcode {
         opcode::OUT => out_at(fields),
         opcode::OUT_WORD => out_word_at(fields),
@@ -207,12 +207,26 @@ fn step_at(alloc: Global, bytes: &[u8]) -> Result<(Step, &[u8]), NoStep>
         opcode::PUT_WORD => put_word_at(fields),
         opcode::GET => get_at(fields),
         opcode::GET_WORD => get_word_at(fields),
-        opcode::INT => int_at(alloc, fields),
         opcode::ADVANCE => advance_at(fields),
         opcode::FRAME => Ok((Step::Frame, fields)),
         opcode::SHOW => shown_at(fields),
         _ => Err(NoStep::Bad),
     }
+}
+
+/// The step at the front of some bytes, and what follows it.
+pub(crate) fn step_at(bytes: &[u8]) -> Result<(SpelledStep<'_>, &[u8]), NoStep>
+    requires { 0 < length bytes.now }
+    ensures found { IfOk result (λ x. StartsWithStep bytes.now (spelled_step x.0) x.1.now) }
+    ensures bad { result ≡ Err NoStep.Bad → StartsWithBadStep bytes.now }
+    ensures cut { result ≡ Err NoStep.Cut → StartsWithCutStep bytes.now }
+{
+    let (opcode, fields) = u8_at(bytes)?;
+    if opcode == opcode::INT {
+        return int_at(fields);
+    }
+    let (step, rest) = other_at(opcode, fields)?;
+    Ok((SpelledStep::Other { step }, rest))
 }
 
 /// The steps of a script, from those of its bytes that stand behind the header.
@@ -225,8 +239,9 @@ fn decode_steps(alloc: Global, bytes: &[u8], spelled: &[u8]) -> Result<Vec<Step>
     let mut steps = Vec::new(alloc);
     let mut rest = spelled;
     while !rest.is_empty() {
-        match step_at(alloc, rest) {
+        match step_at(rest) {
             Ok((step, others)) => {
+                let step = step.into_step(alloc)?;
                 if steps.push(step).is_err() {
                     return Err(Fault::OutOfMemory);
                 }
@@ -234,7 +249,6 @@ fn decode_steps(alloc: Global, bytes: &[u8], spelled: &[u8]) -> Result<Vec<Step>
             }
             Err(NoStep::Bad) => return Err(Fault::BadStep(bytes.len() - rest.len())),
             Err(NoStep::Cut) => return Err(Fault::Truncated(bytes.len() - rest.len())),
-            Err(NoStep::OutOfMemory) => return Err(Fault::OutOfMemory),
         }
     }
     Ok(steps)

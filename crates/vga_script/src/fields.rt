@@ -1,11 +1,9 @@
 //! The fields of a step in bytes, from the front.
-ghost use Rattle.std.specs.Prelude.{◌≡◌, ◌⊎◌, ◌<◌, ◌++◌, ◌∷◌, length, IfOk, IfErr};
+ghost use Rattle.std.specs.Prelude.{◌≡◌, ◌<◌, ◌++◌, ◌∷◌, length, IfOk, IfErr};
 ghost use Rattle.byteorder.specs.Endian.{little_bytes};
 ghost use Rattle.vga_script.specs.Step.{IsBlock};
 
 use byteorder::{ByteOrder, LittleEndian};
-use std::alloc::Global;
-use vga_bits::Bytes;
 
 /// Why no step stands at the front of some bytes.
 #[derive(Clone, Copy, PartialEq, Eq, Debug)]
@@ -14,8 +12,6 @@ pub(crate) enum NoStep {
     Bad,
     /// They end before the step does.
     Cut,
-    /// A request for memory was refused.
-    OutOfMemory,
 }
 
 /// One byte, and what follows it.
@@ -57,19 +53,15 @@ pub(crate) fn u32_at(bytes: &[u8]) -> Result<(u32, &[u8]), NoStep>
     Ok((number, rest))
 }
 
-/// A block of so many bytes, and what follows it.
+/// A block of so many bytes, where it stands, and what follows it.
 #[tactic(auto, using(crate::proofs::FieldLemmas::is_block))]
-pub(crate) fn block_at(alloc: Global, bytes: &[u8], len: u16) -> Result<(Bytes, &[u8]), NoStep>
-    ensures found { IfOk result (λ x. (length x.0 ≡ len) × (bytes.now ≡ x.0 ++ x.1.now)) }
-    ensures fits { IfOk result (λ x. IsBlock x.0) }
-    ensures cut { IfErr result (λ e. (e ≡ NoStep.OutOfMemory) ⊎ ((e ≡ NoStep.Cut) × (length bytes.now < len))) }
+pub(crate) fn block_at(bytes: &[u8], len: u16) -> Result<(&[u8], &[u8]), NoStep>
+    ensures found { IfOk result (λ x. (length x.0.now ≡ len) × (bytes.now ≡ x.0.now ++ x.1.now)) }
+    ensures fits { IfOk result (λ x. IsBlock x.0.now) }
+    ensures cut { IfErr result (λ e. (e ≡ NoStep.Cut) × (length bytes.now < len)) }
 {
     if bytes.len() < len as usize {
         return Err(NoStep::Cut);
     }
-    let (block, rest) = bytes.split_at(len as usize);
-    match Bytes::copy(alloc, block) {
-        Ok(block) => Ok((block, rest)),
-        Err(_) => Err(NoStep::OutOfMemory),
-    }
+    Ok(bytes.split_at(len as usize))
 }

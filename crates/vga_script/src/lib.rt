@@ -17,6 +17,8 @@ mod printing;
 mod reading;
 mod script;
 mod shown;
+mod spelled;
+mod spelled_step;
 mod step;
 mod words;
 mod worked_examples;
@@ -31,4 +33,6 @@ pub use laws::{
 pub use printing::print;
 pub use script::Script;
 pub use shown::Shown;
+pub use spelled::SpelledSteps;
+pub use spelled_step::SpelledStep;
 pub use step::Step;

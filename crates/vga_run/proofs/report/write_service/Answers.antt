@@ -1,7 +1,7 @@
-use Rattle.std.proofs.Common.{◌≡◌, Err, subst}
+use Rattle.std.proofs.Common.{◌≡◌}
 use Rattle.bios_services.specs.declared.reply.ServiceError.TheVariants.{Refused}
 use Rattle.vga_run.specs.Step.{called}
-use Rattle.vga_run.proofs.ReportLemmas.{Answers, reply_is_written, refusal_is_written}
+use Rattle.vga_run.proofs.ReportLemmas.{reply_is_written, refusal_is_written}
 use Rattle.vga_run.proofs.report.write_service.Goals as goal
 
 -- registers and a table
@@ -9,7 +9,7 @@ pub returns-in-Ok-clause-text : goal.returns-in-Ok-clause-text
 unfolding called
 returns-in-Ok-clause-text g c =
     let r = c.args.regs in
-    reply_is_written _ _ _ _ c.args.machine.now c.args.n r.ax r.bx r.cx r.dx _ _ _ c.in-Ok.reply (rw c.as_slice.ensures at c.in-Ok.ensures.answer) c.write_reply.ensures
+    reply_is_written _ _ _ _ c.args.machine.now c.args.n r.ax r.bx r.cx r.dx _ _ _ c.in-Ok.reply c.in-Ok.ensures.answer c.write_reply.ensures
 
 -- a refusal
 pub returns-in-Err-Refused-clause-text : goal.returns-in-Err-Refused-clause-text
@@ -17,6 +17,5 @@ returns-in-Err-Refused-clause-text g c =
     let r = c.args.regs in
     let error = c.in-Err-Refused.field-0 in
     let why : error ≡ Refused c.in-Err-Refused.refusal = rw c.in-Err-Refused.is at c.in-Err-Refused.field-0-is in
-    let answers : Answers c.args.machine.now r.ax r.bx r.cx r.dx c.as_slice.result.now (Err error) c.int10-outcome.new.bus c.int10-outcome.new.bda = rw c.in-Err-Refused.is at c.int10-outcome.ensures.answer in
     refusal_is_written _ _ _ _ c.args.machine.now c.args.n r.ax r.bx r.cx r.dx c.args.block.now _ _ error c.in-Err-Refused.refusal why
-    (subst (λ block. Answers c.args.machine.now r.ax r.bx r.cx r.dx block (Err error) c.int10-outcome.new.bus c.int10-outcome.new.bda) c.as_slice.ensures answers) c.write_line.ensures
+    (rw c.in-Err-Refused.is at c.int10-outcome.ensures.answer) c.write_line.ensures

@@ -19,4 +19,4 @@ returns g c =
     let w = rw taken at c.in_ok-write_lines.ensures.text in
     let after = rw taken at c.in_ok-write_lines.ensures.after in
     let number : c.min-count.result + 1 ≡ 1 + length (take c.args.most c.args.steps.now) = omega (arith, c.split_at.ensures.front_len, ap length taken) in
-    writes_others _ _ _ _ _ c.args.machine.now _ 1 _ (take c.args.most c.args.steps.now) last_looks after number w.0 c.write_lines-2.ensures.text
+    writes_others _ _ _ _ _ c.args.machine.now _ 1 _ (take c.args.most c.args.steps.now) last_looks after number w.0 c.write_last_looks.ensures

@@ -1,0 +1,60 @@
+-- The steps at the front of some bytes, read from their fields.
+use Rattle.std.specs.Prelude.{ℕ, zero, suc, ◌==◌, if◌then◌else◌, List, [], ◌∷◌, length, take, drop, get_or, Option, None, Some}
+use Rattle.byteorder.specs.Endian.{little_number}
+use Rattle.vga_script.specs.declared.step.Step.{Step}
+use Rattle.vga_script.specs.declared.step.Step.TheVariants.{Out, OutWord, In, InWord, Put, PutWord, Get, GetWord, Int, Advance, Frame, Show}
+use Rattle.vga_script.specs.declared.shown.Shown.TheVariants as shown
+use Rattle.vga_script.specs.Shown.{kind_registers, kind_dac, kind_beam, kind_latches, kind_plane, kind_bios_data, kind_cells}
+use Rattle.vga_script.specs.Spelling.{opcode_out, opcode_out_word, opcode_in, opcode_in_word, opcode_put, opcode_put_word, opcode_get, opcode_get_word, opcode_int, opcode_advance, opcode_frame, opcode_show}
+
+-- a call of the BIOS whose block has this length, and what follows its block
+abbrev pub call_at : ℕ → ℕ → ℕ → ℕ → ℕ → List ℕ → Option (Step × List ℕ)
+call_at ax bx cx dx len rest = Some (Int ax bx cx dx (take len rest), drop len rest)
+
+-- a look of this kind, with its fields and what follows them
+abbrev pub shown_at : ℕ → List ℕ → Option (Step × List ℕ)
+shown_at kind rest =
+    if kind == kind_registers then Some (Show shown.Registers, rest)
+    else if kind == kind_dac then Some (Show (shown.Dac (get_or rest 0 0)), drop 1 rest)
+    else if kind == kind_beam then Some (Show shown.Beam, rest)
+    else if kind == kind_latches then Some (Show shown.Latches, rest)
+    else if kind == kind_plane then Some (Show (shown.Plane (get_or rest 0 0) (little_number 2 (drop 1 rest)) (little_number 2 (drop 3 rest))), drop 5 rest)
+    else if kind == kind_bios_data then Some (Show shown.BiosData, rest)
+    else if kind == kind_cells then Some (Show shown.Cells, rest)
+    else None
+
+-- the step of an opcode and its fields, and what follows them
+abbrev pub step_with : ℕ → List ℕ → Option (Step × List ℕ)
+step_with opcode rest =
+    if opcode == opcode_out then Some (Out (little_number 2 rest) (get_or rest 2 0), drop 3 rest)
+    else if opcode == opcode_out_word then Some (OutWord (little_number 2 rest) (little_number 2 (drop 2 rest)), drop 4 rest)
+    else if opcode == opcode_in then Some (In (little_number 2 rest), drop 2 rest)
+    else if opcode == opcode_in_word then Some (InWord (little_number 2 rest), drop 2 rest)
+    else if opcode == opcode_put then Some (Put (little_number 4 rest) (get_or rest 4 0), drop 5 rest)
+    else if opcode == opcode_put_word then Some (PutWord (little_number 4 rest) (little_number 2 (drop 4 rest)), drop 6 rest)
+    else if opcode == opcode_get then Some (Get (little_number 4 rest), drop 4 rest)
+    else if opcode == opcode_get_word then Some (GetWord (little_number 4 rest), drop 4 rest)
+    else if opcode == opcode_int then call_at (little_number 2 rest) (little_number 2 (drop 2 rest)) (little_number 2 (drop 4 rest)) (little_number 2 (drop 6 rest)) (little_number 2 (drop 8 rest)) (drop 10 rest)
+    else if opcode == opcode_advance then Some (Advance (little_number 4 rest), drop 4 rest)
+    else if opcode == opcode_frame then Some (Frame, rest)
+    else if opcode == opcode_show then shown_at (get_or rest 0 0) (drop 1 rest)
+    else None
+
+-- the step at the front of some bytes, and what follows it
+abbrev pub step_of : List ℕ → Option (Step × List ℕ)
+step_of [] = None
+step_of (opcode ∷ rest) = step_with opcode rest
+
+-- a step that was read, if one was, and those that its rest gives
+abbrev pub and_others : Option (Step × List ℕ) → (List ℕ → List Step) → List Step
+and_others None others = []
+and_others (Some read) others = read.0 ∷ others read.1
+
+-- the steps at the front of some bytes, so many at most
+abbrev pub steps_from : ℕ → List ℕ → List Step
+steps_from zero bytes = []
+steps_from (suc most) bytes = and_others (step_of bytes) (steps_from most)
+
+-- all steps at the front of some bytes
+unfoldable pub steps_in : List ℕ → List Step
+steps_in bytes = steps_from (length bytes) bytes
