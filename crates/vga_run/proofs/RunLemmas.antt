@@ -1,5 +1,5 @@
 -- What a run answers, from what its parts answer.
-use Rattle.std.proofs.Common.{◌≡◌, ◌∙◌, ◌⊎◌, inl, inr, ℕ, ◌<◌, ◌≤◌, Bool, List, length, Option, None, Some, IfSome, Result, Ok, Err, arith, refl, sym, ap, subst}
+use Rattle.std.proofs.Common.{◌≡◌, ◌∙◌, inl, inr, ℕ, ◌<◌, ◌≤◌, Bool, List, length, Option, None, Some, IfSome, Result, Ok, Err, arith, refl, sym, ap, subst}
 use Rattle.vga_bits.specs.declared.fault.Fault.{Fault}
 use Rattle.vga_bits.specs.declared.fault.Fault.TheVariants.{FontSize, BadMagic, BadVersion, BadStep, Truncated, TooLong, ReadFault, WriteFault, OutOfMemory}
 use Rattle.bios_modes.specs.Fonts.{FontSet, IsFontFault, file_len, fonts_of}

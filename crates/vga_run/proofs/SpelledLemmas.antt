@@ -1,5 +1,5 @@
 -- Taking the first of some steps, one after another.
-use Rattle.std.proofs.Common.{◌≡◌, ℕ, zero, suc, ◌+◌, ◌<◌, ◌≤◌, List, [], ◌∷◌, length, get_or, take, drop, arith, add-one, refl, sym}
+use Rattle.std.proofs.Common.{◌≡◌, ℕ, zero, suc, ◌+◌, ◌<◌, ◌≤◌, List, [], ◌∷◌, length, get_or, take, drop, arith, add-one, sym}
 use Rattle.vga_script.specs.declared.step.Step.{Step}
 
 -- a step that is taken behind the first i, where these are less than so many

@@ -1,5 +1,5 @@
 -- Taking the steps of a script from its bytes.
-use Rattle.std.proofs.Common.{◌≡◌, ℕ, zero, suc, ◌+◌, ◌<◌, ◌≤◌, List, [], ◌∷◌, ◌++◌, length, length-append, Option, None, Some, refl, sym, ap, ◌∙◌, subst, arith, inl, inr}
+use Rattle.std.proofs.Common.{◌≡◌, ℕ, zero, suc, ◌<◌, ◌≤◌, List, [], ◌∷◌, ◌++◌, length, length-append, Option, refl, sym, ap, ◌∙◌, subst, arith, inl, inr}
 use Rattle.vga_script.specs.declared.step.Step.{Step}
 use Rattle.vga_script.specs.declared.step.Step.TheVariants.{Out, OutWord, In, InWord, Put, PutWord, Get, GetWord, Int, Advance, Frame, Show}
 use Rattle.vga_script.specs.declared.fields.NoStep.{NoStep}
@@ -7,7 +7,6 @@ use Rattle.vga_script.specs.declared.fields.NoStep.TheVariants as no_step
 use Rattle.vga_script.specs.Decoding.{StartsWithBadStep, StartsWithCutStep}
 use Rattle.vga_script.specs.Front.{step_of, and_others, steps_from, steps_in}
 use Rattle.vga_script.specs.Spelling.{script_limit, header, spelling, StartsWithStep, SpellsSteps, Spells}
-use Rattle.vga_script.specs.Step.{IsInRange}
 use Rattle.vga_script.proofs.DecodeLemmas.{HasDecoded, decoded_all, decoded_more}
 use Rattle.vga_script.proofs.GrammarLemmas.{step_back, one_step, some_byte}
 use Rattle.vga_script.proofs.FaultLemmas.{NoStepStarts, step_starts}
@@ -79,8 +78,7 @@ pub first_taken : (bytes others : List ℕ) (steps : List Step) (step : Step) �
 first_taken bytes others [] step e (fits, whole) = absurd (some_byte step others fits (sym whole ∙ e))
 first_taken bytes others (s ∷ steps) step (rest, (fits', whole'), more) (fits, whole) =
     let one = one_step step s others rest fits fits' (sym whole ∙ whole') in
-    let left : SpellsSteps others steps = subst (λ (l : List ℕ). SpellsSteps l steps) (sym one.1) more in
-    (
+    let left : SpellsSteps others steps = subst (λ (l : List ℕ). SpellsSteps l steps) (sym one.1) more in (
       steps_are bytes (s ∷ steps) (rest, (fits', whole'), more) ∙ ap (λ (x : Step). x ∷ steps) (sym one.0) ∙ ap (λ (l : List Step). step ∷ l) (sym (steps_are others steps left)),
       spells_in others steps left,
     )

@@ -192,6 +192,7 @@ fn shown_at(fields: &[u8]) -> Result<(Step, &[u8]), NoStep>
 
 /// The step of an opcode, which is no call of the BIOS, and of its fields, and what follows them.
 #[tactic(auto, using(crate::proofs::DecodeLemmas::no_opcode))]
+#[inline(always)]
 fn other_at(opcode: u8, fields: &[u8]) -> Result<(Step, &[u8]), NoStep>
     requires { opcode ≢ opcode_int }
     ensures found { IfOk result (λ x. StartsWithStep (opcode ∷ fields.now) x.0 x.1.now) }
@@ -215,6 +216,7 @@ fn other_at(opcode: u8, fields: &[u8]) -> Result<(Step, &[u8]), NoStep>
 }
 
 /// The step at the front of some bytes, and what follows it.
+#[inline(always)]
 pub(crate) fn step_at(bytes: &[u8]) -> Result<(SpelledStep<'_>, &[u8]), NoStep>
     requires { 0 < length bytes.now }
     ensures found { IfOk result (λ x. StartsWithStep bytes.now (spelled_step x.0) x.1.now) }

@@ -1,4 +1,4 @@
-use Rattle.std.proofs.Common.{rules, ◌≡◌, ◌∙◌, List, [], sym}
+use Rattle.std.proofs.Common.{rules, ◌≡◌, ◌∙◌, [], sym}
 use Rattle.vga_script.specs.Front.{steps_in}
 use Rattle.vga_script.proofs.SpelledLemmas.{none_left, never_stops}
 use Rattle.vga_script.proofs.spelled.SpelledSteps.next.Goals as goal
