@@ -89,6 +89,8 @@ impl Beam {
     }
 
     /// Moves to the first dot of the next line.
+    // A line whose dots are not displayed takes little more than this, so that a call is felt.
+    #[inline(always)]
     fn end_line(&mut self, registers: &Registers)
         requires { IsBeam self.old }
         ensures value { self.new ≡ next_line registers.now self.old }
