@@ -7,6 +7,7 @@ import io
 import sys
 import tempfile
 import unittest
+from dataclasses import replace
 from pathlib import Path
 from random import Random
 
@@ -34,7 +35,7 @@ WRONGS = {
     "sys.exit(3)": "status 3: ''",
     "sys.exit(2)": "its words are refused: ''",
     "os.kill(os.getpid(), signal.SIGSEGV)": "signal 11 has ended it",
-    "time.sleep(60)": "it has not ended in time",
+    "time.sleep(600)": "it has not ended in time",
     "sys.exit('vga: F11 TooMany(5)')": "status 1, and no fault: 'vga: F11 TooMany(5)\\n'",
     "sys.exit('vga: F4 BadStep')": "status 1, and no fault: 'vga: F4 BadStep\\n'",
     "sys.exit('vga: F2 BadMagic(4)')": "status 1, and no fault: 'vga: F2 BadMagic(4)\\n'",
@@ -46,7 +47,10 @@ WRONGS = {
     "print('F2 BadMagic')": "a fault stands on standard output",
     "print('1 ok'); print('oh', file=sys.stderr)": "status 0, and it says 'oh\\n'",
 }
-LIMITS = Limits(seconds=2, memory=1 << 28, output=1 << 16)
+# A machine that has just started may take seconds for a program that ends at once.
+LIMITS = Limits(seconds=60, memory=1 << 28, output=1 << 16)
+# Those of a program that doesn't end.
+SHORT = replace(LIMITS, seconds=5)
 SCRIPT, TEXT = Input(False, b"VGAS\x01", "script"), Input(True, b"in 3DA\n", "text")
 
 
@@ -79,8 +83,7 @@ class Judging(Files):
         for wrong, said in WRONGS.items():
             for given, name in ((SCRIPT, "run"), (TEXT, "go")):
                 with self.subTest(wrong, command=name):
-                    limits = Limits(1 if "sleep" in wrong else 20, LIMITS.memory, LIMITS.output)
-                    fed = self.fed(given, self.program(wrong), limits)
+                    fed = self.fed(given, self.program(wrong), SHORT if "sleep" in wrong else LIMITS)
                     self.assertEqual(fed, Fed("wrong", f"vga {name}: {said}"))
 
     def test_faults_of_one_command_alone(self) -> None:
