@@ -1,7 +1,7 @@
 -- The names of refusals, as a report has them.
 use Rattle.std.specs.Prelude.{ℕ, List, codes}
 use Rattle.vga_bits.specs.declared.refusal.Refusal.{Refusal}
-use Rattle.vga_bits.specs.declared.refusal.Refusal.TheVariants.{NotDecoded, NotInProfile, NoMode, BadFunction, BadMode, WrongKind, BadPage, Outside, CountPast, BadRegister, BadBlock, TooFar}
+use Rattle.vga_bits.specs.declared.refusal.Refusal.TheVariants.{NotDecoded, NotInProfile, NoMode, BadFunction, BadMode, WrongKind, BadPage, Outside, CountPast, BadRegister, BadBlock, TooFar, BadHeight}
 
 -- a refusal's number and name
 abbrev pub refusal_name : Refusal → List ℕ
@@ -17,3 +17,4 @@ refusal_name CountPast = codes "E9 CountPast"
 refusal_name BadRegister = codes "E10 BadRegister"
 refusal_name BadBlock = codes "E11 BadBlock"
 refusal_name TooFar = codes "E12 TooFar"
+refusal_name BadHeight = codes "E13 BadHeight"

@@ -32,6 +32,8 @@ pub enum Refusal {
     BadBlock,
     /// More dots than one step may advance.
     TooFar,
+    /// A height of characters that there is no font of.
+    BadHeight,
 }
 
 impl Refusal {
@@ -54,6 +56,7 @@ impl Refusal {
             Refusal::BadRegister => "E10 BadRegister",
             Refusal::BadBlock => "E11 BadBlock",
             Refusal::TooFar => "E12 TooFar",
+            Refusal::BadHeight => "E13 BadHeight",
         }
     }
 }
