@@ -5,11 +5,13 @@ pub mod bda;
 mod bounds;
 pub mod font;
 pub mod fonts;
+pub mod heights;
 pub mod modes;
 mod palette;
 
 pub use bda::Bda;
 pub use font::Font;
 pub use fonts::Fonts;
+pub use heights::{TextRow, row_at, text_row};
 pub use modes::{ModeRow, mode_row};
 pub use palette::dac_entry;

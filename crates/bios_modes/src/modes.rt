@@ -20,7 +20,7 @@ pub struct ModeRow {
     pub columns: u16,
     /// How many bytes a page has.
     pub size: u16,
-    /// How many pages there are: 8, 2 or 1.
+    /// How many pages there are: 8, 4, 2 or 1.
     pub pages: u8,
     /// The number of the last row of characters.
     pub last_row: u8,

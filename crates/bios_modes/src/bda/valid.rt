@@ -4,7 +4,8 @@ ghost use Rattle.bios_modes.specs.Bda.{power_on_data};
 ghost use Rattle.bios_modes.specs.Valid.{IsOf, IsValid};
 
 use super::{Bda, PAGES};
-use crate::modes::{ModeRow, mode_row};
+use crate::heights::row_at;
+use crate::modes::ModeRow;
 
 impl Bda {
     /// Whether all data are 0.
@@ -36,13 +37,13 @@ impl Bda {
             && self.start as u32 == self.size as u32 * self.page as u32
     }
 
-    /// Whether the data are all 0, or those of one mode: its columns, its size of a page, its last row, its height of
-    /// a character and its port of the CRT controller; the active page is one of the mode's, and begins at
-    /// its number times the size. The cursor's places and type may be any.
+    /// Whether the data are all 0, or those of one mode, in text with characters of 8, 14 or 16 scan lines: its columns,
+    /// size of a page, last row, height of a character and port of the CRT controller; the active page is one of the mode's,
+    /// and begins at its number times the size. The cursor's places and type may be any.
     pub fn valid(&self) -> bool
         ensures { IsTrue result ↔ IsValid self.now }
     {
-        match mode_row(self.mode) {
+        match row_at(self.mode, self.height) {
             Some(row) => self.fits(&row),
             None => self.is_unset(),
         }

@@ -1,0 +1,155 @@
+//! What the height of characters makes of a text mode.
+ghost use Rattle.std.specs.Prelude.{◌≡◌};
+ghost use Rattle.bios_modes.specs.Heights.{colour_rows, fifty_rows, monochrome_rows, row_at as row_at_of, text_row as text_row_of, twenty_eight_rows, twenty_five_rows, with_text};
+
+use super::modes::{ModeRow, mode_row};
+
+/// The registers of the CRT controller that the height of characters changes: the maximum scan line, the end of the
+/// vertical display, and the location of underlines.
+const MAXIMUM_SCAN_LINE: usize = 0x09;
+
+const VERTICAL_DISPLAY_END: usize = 0x12;
+
+const UNDERLINE: usize = 0x14;
+
+/// A row of the text-height table: what the BIOS data and the CRT controller hold in a text mode whose characters have
+/// so many scan lines.
+#[derive(Clone, Copy, PartialEq, Eq, Debug)]
+pub struct TextRow {
+    /// How many scan lines a character has: 8, 14 or 16.
+    pub height: u8,
+    /// The number of the last row of characters.
+    pub last_row: u8,
+    /// How many bytes a page has.
+    pub size: u16,
+    /// How many pages there are: 4 or 8.
+    pub pages: u8,
+    /// Register 09 of the CRT controller: bits 4 to 0 are the last scan line of a character.
+    pub maximum_scan_line: u8,
+    /// Register 12 of the CRT controller: the low byte of the last scan line that is displayed.
+    pub vertical_display_end: u8,
+    /// Register 14 of the CRT controller: the scan line of a character that underlines it.
+    pub underline: u8,
+    /// The cursor's first and last scan line, high and low.
+    pub cursor_type: u16,
+}
+
+impl TextRow {
+    /// Characters of 8 scan lines, 50 rows on a page, underlined in this scan line.
+    fn fifty(underline: u8) -> TextRow
+        ensures { result ≡ fifty_rows underline }
+    {
+        TextRow {
+            height: 8,
+            last_row: 49,
+            size: 0x2000,
+            pages: 4,
+            maximum_scan_line: 0x47,
+            vertical_display_end: 0x8F,
+            underline,
+            cursor_type: 0x0607,
+        }
+    }
+
+    /// Characters of 14 scan lines, 28 rows on a page.
+    fn twenty_eight(underline: u8) -> TextRow
+        ensures { result ≡ twenty_eight_rows underline }
+    {
+        TextRow {
+            height: 14,
+            last_row: 27,
+            size: 0x2000,
+            pages: 4,
+            maximum_scan_line: 0x4D,
+            vertical_display_end: 0x87,
+            underline,
+            cursor_type: 0x0B0C,
+        }
+    }
+
+    /// Characters of 16 scan lines, 25 rows on a page, as a mode set leaves them.
+    fn twenty_five(underline: u8) -> TextRow
+        ensures { result ≡ twenty_five_rows underline }
+    {
+        TextRow {
+            height: 16,
+            last_row: 24,
+            size: 0x1000,
+            pages: 8,
+            maximum_scan_line: 0x4F,
+            vertical_display_end: 0x8F,
+            underline,
+            cursor_type: 0x0D0E,
+        }
+    }
+
+    /// The rows of mode 3, which underlines in no scan line of a character.
+    fn of_colour(height: u8) -> Option<TextRow>
+        ensures { result ≡ colour_rows height }
+    {
+        match height {
+            8 => Some(TextRow::fifty(0x1F)),
+            14 => Some(TextRow::twenty_eight(0x1F)),
+            16 => Some(TextRow::twenty_five(0x1F)),
+            _ => None,
+        }
+    }
+
+    /// The rows of mode 7, which underlines in the last one.
+    fn of_monochrome(height: u8) -> Option<TextRow>
+        ensures { result ≡ monochrome_rows height }
+    {
+        match height {
+            8 => Some(TextRow::fifty(0x07)),
+            14 => Some(TextRow::twenty_eight(0x0D)),
+            16 => Some(TextRow::twenty_five(0x0F)),
+            _ => None,
+        }
+    }
+}
+
+impl ModeRow {
+    /// A text mode with characters of another height.
+    fn with_text(self, text: TextRow) -> ModeRow
+        ensures { result ≡ with_text self text }
+    {
+        let mut row = self;
+        row.crtc[MAXIMUM_SCAN_LINE] = text.maximum_scan_line;
+        row.crtc[VERTICAL_DISPLAY_END] = text.vertical_display_end;
+        row.crtc[UNDERLINE] = text.underline;
+        row.size = text.size;
+        row.pages = text.pages;
+        row.last_row = text.last_row;
+        row.height = text.height;
+        row.cursor_type = text.cursor_type;
+        row
+    }
+}
+
+/// What a text mode, 3 or 7, has with characters of 8, 14 or 16 scan lines. There is no row of any other mode or height.
+pub fn text_row(mode: u8, height: u8) -> Option<TextRow>
+    ensures { result ≡ text_row_of mode height }
+{
+    match mode {
+        0x03 => TextRow::of_colour(height),
+        0x07 => TextRow::of_monochrome(height),
+        _ => None,
+    }
+}
+
+/// The row of a mode whose characters have this height: of a text mode by the text-height table, if there is one; of a
+/// graphics mode its own, whatever the height is.
+pub fn row_at(mode: u8, height: u16) -> Option<ModeRow>
+    ensures { result ≡ row_at_of mode height }
+{
+    let row = mode_row(mode)?;
+    if mode != 0x03 && mode != 0x07 {
+        return Some(row);
+    }
+    if height > u8::MAX as u16 {
+        return None;
+    }
+    let height = height as u8;
+    let text = text_row(mode, height)?;
+    Some(row.with_text(text))
+}
