@@ -1,10 +1,20 @@
 -- How large the numbers of valid BIOS data are.
 use Rattle.std.proofs.Common.{◌≡◌, ◌≢◌, ℕ, ◌*◌, ◌<◌, ◌≤◌, ap, sym, refl, subst, mul-zero, ◌∙◌, arith, IfSome, Bool, true, false, if◌then◌else◌, Option, Some, None, inl, inr, ◌==◌}
 use Rattle.bios_modes.specs.declared.modes.ModeRow.{ModeRow}
+use Rattle.bios_modes.specs.declared.heights.TextRow.{TextRow}
+use Rattle.bios_modes.specs.Heights.{fifty_rows, twenty_eight_rows, twenty_five_rows, colour_rows, monochrome_rows, with_text, with_height, row_at}
 use Rattle.bios_modes.specs.Modes.{mode_row, colour_text, monochrome_text, planes_320_by_200, planes_640_by_350, planes_640_by_480, bytes_320_by_200}
 use Rattle.bios_modes.specs.Bda.{BiosData}
 use Rattle.bios_modes.specs.Begin.{data_of_mode}
 use Rattle.bios_modes.specs.Valid.{IsOf, Fits, IsValid}
+use Rattle.std.specs.Prelude.{◌+◌, ◌||◌, nat_le}
+use Rattle.std.proofs.lemmas.Bool.Decides.{nat_tests}
+use Rattle.vga_bits.specs.declared.refusal.Refusal.{Refusal}
+use Rattle.vga_bits.specs.declared.refusal.Refusal.TheVariants.{WrongKind, CountPast}
+use Rattle.bios_services.specs.declared.glyph_load.GlyphLoad.{GlyphLoad}
+use Rattle.bios_services.specs.ModeSet.{is_text}
+use Rattle.bios_services.specs.Colours.{block_refusal}
+use Rattle.bios_services.specs.GlyphLoads.{AreThere, glyphs_len, load_refusal}
 use Rattle.bios_services.specs.Bounds.{IsSet, StaysInMode, pages_in}
 
 -- what holds of either branch holds of a choice
@@ -16,6 +26,26 @@ on_either P false px py = py
 on_each_mode : (P : Option ModeRow → Type 0) (mode : ℕ) → P (Some colour_text) → P (Some monochrome_text) → P (Some planes_320_by_200) → P (Some planes_640_by_350) → P (Some planes_640_by_480) → P (Some bytes_320_by_200) → P None → P (mode_row mode)
 on_each_mode P mode p3 p7 p0d p10 p12 p13 none =
     on_either P (mode == 0x03) p3 (on_either P (mode == 0x07) p7 (on_either P (mode == 0x0D) p0d (on_either P (mode == 0x10) p10 (on_either P (mode == 0x12) p12 (on_either P (mode == 0x13) p13 none)))))
+
+-- what holds of each row of mode 3, and of none, holds of that of any height
+on_colour : (P : Option ModeRow → Type 0) (height : ℕ) → P (Some (with_text colour_text (fifty_rows 0x1F))) → P (Some (with_text colour_text (twenty_eight_rows 0x1F))) → P (Some (with_text colour_text (twenty_five_rows 0x1F))) → P None → P (with_height colour_text (colour_rows height))
+on_colour P height p8 p14 p16 none =
+    let Q : Option TextRow → Type 0 = λ text. P (with_height colour_text text) in
+    on_either Q (height == 8) p8 (on_either Q (height == 14) p14 (on_either Q (height == 16) p16 none))
+
+-- and so it does of mode 7
+on_monochrome : (P : Option ModeRow → Type 0) (height : ℕ) → P (Some (with_text monochrome_text (fifty_rows 0x07))) → P (Some (with_text monochrome_text (twenty_eight_rows 0x0D))) → P (Some (with_text monochrome_text (twenty_five_rows 0x0F))) → P None → P (with_height monochrome_text (monochrome_rows height))
+on_monochrome P height p8 p14 p16 none =
+    let Q : Option TextRow → Type 0 = λ text. P (with_height monochrome_text text) in
+    on_either Q (height == 8) p8 (on_either Q (height == 14) p14 (on_either Q (height == 16) p16 none))
+
+-- what holds of each row of text of any height, of each row of graphics, and of none, holds of that of any mode and height
+on_each_row : (P : Option ModeRow → Type 0) (mode height : ℕ)
+    → P (Some (with_text colour_text (fifty_rows 0x1F))) → P (Some (with_text colour_text (twenty_eight_rows 0x1F))) → P (Some (with_text colour_text (twenty_five_rows 0x1F)))
+    → P (Some (with_text monochrome_text (fifty_rows 0x07))) → P (Some (with_text monochrome_text (twenty_eight_rows 0x0D))) → P (Some (with_text monochrome_text (twenty_five_rows 0x0F)))
+    → P (Some planes_320_by_200) → P (Some planes_640_by_350) → P (Some planes_640_by_480) → P (Some bytes_320_by_200) → P None → P (row_at mode height)
+on_each_row P mode height c8 c14 c16 m8 m14 m16 p0d p10 p12 p13 none =
+    on_either P (mode == 0x03) (on_colour P height c8 c14 c16 none) (on_either P (mode == 0x07) (on_monochrome P height m8 m14 m16 none) (on_each_mode P mode c16 m16 p0d p10 p12 p13 none))
 
 -- a row whose numbers are small enough
 record Small (row : ModeRow) : Type 0 where
@@ -65,15 +95,28 @@ small_12 = record { some_columns = omega arith; columns = omega arith; rows = om
 small_13 : Small bytes_320_by_200
 small_13 = record { some_columns = omega arith; columns = omega arith; rows = omega arith; height = omega arith; port = omega arith; pages = omega arith; memory = omega arith }
 
--- data that are those of their mode are small
-bounds_of : (d : BiosData) → Fits (mode_row d.mode) d → Bounds (mode_row d.mode) d
-bounds_of d =
-    on_each_mode (λ row. Fits row d → Bounds row d) d.mode
-    (of_row colour_text d small_text) (of_row monochrome_text d small_monochrome) (of_row planes_320_by_200 d small_0d)
-    (of_row planes_640_by_350 d small_10) (of_row planes_640_by_480 d small_12) (of_row bytes_320_by_200 d small_13)
-    (λ none. absurd none)
+small_fifty : (row : ModeRow) (underline : ℕ) → Small row → Small (with_text row (fifty_rows underline))
+small_fifty row underline s = record { some_columns = s.some_columns; columns = s.columns; rows = omega arith; height = omega arith; port = s.port; pages = omega arith; memory = omega arith }
 
-set_of_bounds : (d : BiosData) → Bounds (mode_row d.mode) d → IsSet d
+small_twenty_eight : (row : ModeRow) (underline : ℕ) → Small row → Small (with_text row (twenty_eight_rows underline))
+small_twenty_eight row underline s = record { some_columns = s.some_columns; columns = s.columns; rows = omega arith; height = omega arith; port = s.port; pages = omega arith; memory = omega arith }
+
+small_twenty_five : (row : ModeRow) (underline : ℕ) → Small row → Small (with_text row (twenty_five_rows underline))
+small_twenty_five row underline s = record { some_columns = s.some_columns; columns = s.columns; rows = omega arith; height = omega arith; port = s.port; pages = omega arith; memory = omega arith }
+
+-- what holds of small rows, and of none, holds of that of any mode and height
+on_small : (P : Option ModeRow → Type 0) (mode height : ℕ) → ((row : ModeRow) → Small row → P (Some row)) → P None → P (row_at mode height)
+on_small P mode height some none =
+    on_each_row P mode height
+    (some _ (small_fifty colour_text 0x1F small_text)) (some _ (small_twenty_eight colour_text 0x1F small_text)) (some _ (small_twenty_five colour_text 0x1F small_text))
+    (some _ (small_fifty monochrome_text 0x07 small_monochrome)) (some _ (small_twenty_eight monochrome_text 0x0D small_monochrome)) (some _ (small_twenty_five monochrome_text 0x0F small_monochrome))
+    (some _ small_0d) (some _ small_10) (some _ small_12) (some _ small_13) none
+
+-- data that are those of their mode and height are small
+bounds_of : (d : BiosData) → Fits (row_at d.mode d.height) d → Bounds (row_at d.mode d.height) d
+bounds_of d = on_small (λ row. Fits row d → Bounds row d) d.mode d.height (λ row small. of_row row d small) (λ none. absurd none)
+
+set_of_bounds : (d : BiosData) → Bounds (row_at d.mode d.height) d → IsSet d
 set_of_bounds d b = record { some_columns = b.some_columns; columns = b.columns; rows = b.rows; height = b.height; port = b.port; pages = b.pages; page = b.page; start = b.start; memory = b.memory }
 
 -- valid data of a mode are small
@@ -98,18 +141,80 @@ fits_again (Some row) old new fits stays page = record {
 pub stays_valid : (old new : BiosData) → IsValid old → old.mode ≢ 0 → StaysInMode old new → IsValid new
 stays_valid old new (inl unset) set stays = absurd (set (ap (λ (bios : BiosData). bios.mode) unset))
 stays_valid old new (inr fits) set stays =
-    let again : Fits (mode_row old.mode) new = fits_again (mode_row old.mode) old new fits stays stays.page in
-    inr (subst (λ mode. Fits (mode_row mode) new) (sym stays.mode) again)
+    let again : Fits (row_at old.mode old.height) new = fits_again (row_at old.mode old.height) old new fits stays stays.page in
+    let same : row_at new.mode new.height ≡ row_at old.mode old.height = ap (λ mode. row_at mode new.height) stays.mode ∙ ap (row_at old.mode) stays.height in
+    inr (subst (λ row. Fits row new) (sym same) again)
 
--- the data that a mode begins with are valid
+-- the data that a mode begins with are those of its row
 begins_as : (row : ModeRow) (mode : ℕ) → 0 < row.pages → IsOf row (data_of_mode mode row)
 begins_as row mode some = record { columns = refl; size = refl; last_row = refl; height = refl; crtc_address = refl; page = some; start = sym (mul-zero row.size) }
 
--- each mode has a page
-some_page : (mode : ℕ) → IfSome (mode_row mode) (λ row. 0 < row.pages)
-some_page mode = on_each_mode (λ row. IfSome row (λ r. 0 < r.pages)) mode (omega arith) (omega arith) (omega arith) (omega arith) (omega arith) (omega arith) tt
+-- what is said of each row that begins a mode: it has a page, and is the mode's at its own height
+abbrev BeginsAt : (ℕ → Option ModeRow) → ModeRow → Type 0
+BeginsAt rows row = (0 < row.pages) × (rows row.height ≡ Some row)
 
+colour_begins : (height : ℕ) → IfSome (with_height colour_text (colour_rows height)) (BeginsAt (λ h. with_height colour_text (colour_rows h)))
+colour_begins height = on_colour (λ x. IfSome x (BeginsAt (λ h. with_height colour_text (colour_rows h)))) height (omega arith, refl) (omega arith, refl) (omega arith, refl) tt
+
+monochrome_begins : (height : ℕ) → IfSome (with_height monochrome_text (monochrome_rows height)) (BeginsAt (λ h. with_height monochrome_text (monochrome_rows h)))
+monochrome_begins height = on_monochrome (λ x. IfSome x (BeginsAt (λ h. with_height monochrome_text (monochrome_rows h)))) height (omega arith, refl) (omega arith, refl) (omega arith, refl) tt
+
+-- the rows of graphics
+abbrev graphics_row : ℕ → Option ModeRow
+graphics_row mode = if mode == 0x0D then Some planes_320_by_200 else if mode == 0x10 then Some planes_640_by_350 else if mode == 0x12 then Some planes_640_by_480 else if mode == 0x13 then Some bytes_320_by_200 else None
+
+graphics_page : (mode : ℕ) → IfSome (graphics_row mode) (λ row. 0 < row.pages)
+graphics_page mode =
+    let P : Option ModeRow → Type 0 = λ x. IfSome x (λ row. 0 < row.pages) in
+    on_either P (mode == 0x0D) (omega arith) (on_either P (mode == 0x10) (omega arith) (on_either P (mode == 0x12) (omega arith) (on_either P (mode == 0x13) (omega arith) tt)))
+
+-- the row of a mode, and that of a mode and a height, by the tests of text
+abbrev row_by : Bool → Bool → Option ModeRow → Option ModeRow
+row_by a b rest = if a then Some colour_text else if b then Some monochrome_text else rest
+
+abbrev rows_by : Bool → Bool → Option ModeRow → ℕ → Option ModeRow
+rows_by a b rest height = if a then with_height colour_text (colour_rows height) else if b then with_height monochrome_text (monochrome_rows height) else row_by a b rest
+
+all_begin : (a b : Bool) (height : ℕ) (rest : Option ModeRow) → IfSome rest (λ row. 0 < row.pages) → IfSome (rows_by a b rest height) (BeginsAt (rows_by a b rest))
+all_begin true b height rest some = colour_begins height
+all_begin false true height rest some = monochrome_begins height
+all_begin false false height None some = tt
+all_begin false false height (Some row) some = (some, refl)
+
+all_own : (a b : Bool) (rest : Option ModeRow) → IfSome (row_by a b rest) (λ row. rows_by a b rest row.height ≡ Some row)
+all_own true b rest = refl
+all_own false true rest = refl
+all_own false false None = tt
+all_own false false (Some row) = refl
+
+-- the data that a mode begins with at a height are valid
+pub begins_valid_at : (mode height : ℕ) (row : ModeRow) → row_at mode height ≡ Some row → IsValid (data_of_mode mode row)
+begins_valid_at mode height row e =
+    let h : BeginsAt (row_at mode) row = subst (λ x. IfSome x (BeginsAt (row_at mode))) e (all_begin (mode == 0x03) (mode == 0x07) height (graphics_row mode) (graphics_page mode)) in
+    inr (subst (λ x. Fits x (data_of_mode mode row)) (sym h.1) (begins_as row mode h.0))
+
+-- and those that it begins with at its own
 pub begins_valid : (mode : ℕ) (row : ModeRow) → mode_row mode ≡ Some row → IsValid (data_of_mode mode row)
 begins_valid mode row e =
-    let some : 0 < row.pages = subst (λ x. IfSome x (λ r. 0 < r.pages)) e (some_page mode) in
-    inr (subst (λ x. Fits x (data_of_mode mode row)) (sym e) (begins_as row mode some))
+    begins_valid_at mode row.height row (subst (λ x. IfSome x (λ r. row_at mode r.height ≡ Some r)) e (all_own (mode == 0x03) (mode == 0x07) (graphics_row mode)))
+
+-- ---- function 11
+
+-- a small row of text is no higher than a map of glyphs has lines for, and has its height
+text_height : (mode height : ℕ) (row : ModeRow) → is_text mode ≡ true → row_at mode height ≡ Some row → height ≤ 16
+text_height mode height row text e = grind (arith, nat_tests)
+
+-- glyphs that are not refused, and whose height there is, are there
+pub there_of : (load : GlyphLoad) (mode len : ℕ) (row : ModeRow) → load_refusal load mode len ≡ None → row_at mode load.height ≡ Some row → AreThere load len
+there_of load mode len row allowed e = by_tests (is_text mode) (nat_le (load.first + load.count) 256) load.is_block refl refl refl allowed
+  where
+    by_tests : (a b k : Bool) → is_text mode ≡ a → nat_le (load.first + load.count) 256 ≡ b → load.is_block ≡ k
+        → (let x : Option Refusal = (if a then (if b then (if k then block_refusal len (glyphs_len load) else None) else Some CountPast) else Some WrongKind) in x) ≡ None → AreThere load len
+    by_tests true true true ea eb ek h = record { height = text_height mode load.height row ea e; last = grind (arith, nat_tests); whole = λ z. grind (arith, nat_tests) }
+    by_tests true true false ea eb ek h = record { height = text_height mode load.height row ea e; last = grind (arith, nat_tests); whole = λ z. absurd (cc) }
+    by_tests true false k ea eb ek h = absurd (cc)
+    by_tests false b k ea eb ek h = absurd (cc)
+
+-- the port of a row is small
+pub port_small : (mode height : ℕ) (row : ModeRow) → row_at mode height ≡ Some row → row.crtc_address < 1000
+port_small mode height row e = subst (λ x. IfSome x (λ r. r.crtc_address < 1000)) e (on_small (λ x. IfSome x (λ r. r.crtc_address < 1000)) mode height (λ r small. small.port) tt)

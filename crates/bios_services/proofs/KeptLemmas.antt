@@ -11,6 +11,7 @@ use Rattle.vga_card.specs.Cycles.{out_cycle, inp_cycle, put_cycle, get_cycle}
 use Rattle.vga_card.specs.Bus.{Place, AtPort, AtAddress, Meaning, card_meaning, card_write, card_read}
 use Rattle.bios_modes.specs.declared.modes.ModeRow.{ModeRow}
 use Rattle.bios_modes.specs.Modes.{mode_row}
+use Rattle.bios_modes.specs.Heights.{row_at}
 use Rattle.bios_modes.specs.Bda.{BiosData, power_on_data}
 use Rattle.bios_modes.specs.Begin.{data_of_mode}
 use Rattle.bios_modes.specs.Fonts.{FontSet}
@@ -19,8 +20,9 @@ use Rattle.bios_services.specs.declared.ink.Ink.{Ink}
 use Rattle.bios_services.specs.declared.strings.StringCall.{StringCall}
 use Rattle.bios_services.specs.declared.colours.ColourService.{ColourService}
 use Rattle.bios_services.specs.declared.tables.TableService.{TableService}
+use Rattle.bios_services.specs.declared.glyph_load.GlyphLoad.{GlyphLoad}
 use Rattle.bios_services.specs.declared.call.Call.{Call}
-use Rattle.bios_services.specs.declared.call.Call.TheVariants.{SetMode, ReadTable, InMode}
+use Rattle.bios_services.specs.declared.call.Call.TheVariants.{SetMode, ReadTable, LoadGlyphs, InMode}
 use Rattle.bios_services.specs.declared.call.Service.{Service}
 use Rattle.bios_services.specs.declared.call.Service.TheVariants.{SetCursorType, SetCursor, ReadCursor, SelectPage, ScrollUp, ScrollDown, ReadCell, WriteCells, WritePixel, ReadPixel, Teletype, ReadMode, Colours, ReadAdapter, WriteString, ReadDisplay}
 use Rattle.bios_services.specs.Plan.{Plan, Done, Write, Read, ◌>>=◌, ◌>>◌, run, byte_of, fold}
@@ -38,10 +40,11 @@ use Rattle.bios_services.specs.Strings.{string_len, character_at, ink_at, typed_
 use Rattle.bios_services.specs.ModeSet.{mode_set_plan}
 use Rattle.bios_services.specs.Colours.{colour_service_of, block_refusal, colours_plan}
 use Rattle.bios_services.specs.Tables.{table_refusal, table_plan}
+use Rattle.bios_services.specs.GlyphLoads.{glyph_load_of, load_refusal, load_plan}
 use Rattle.bios_services.specs.Refusals.{page_named, string_refusal, refusal_in_mode}
-use Rattle.bios_services.specs.Calls.{as_colours, service_of, in_mode, call_of, table_or}
-use Rattle.bios_services.specs.Service.{Outcome, Answered, answered, answered_with, asked, in_mode_plan, plan_of, read_cell_service, read_pixel_service, service, set_mode_plan, table_in_mode_plan, table_unless, unless}
-use Rattle.bios_services.proofs.BoundLemmas.{set_of_valid, stays_valid, begins_valid}
+use Rattle.bios_services.specs.Calls.{as_colours, service_of, in_mode, call_of, table_or, glyphs_or}
+use Rattle.bios_services.specs.Service.{Outcome, Answered, answered, answered_with, asked, in_mode_plan, load_at, load_unless, load_in_mode_plan, plan_of, read_cell_service, read_pixel_service, service, set_mode_plan, table_in_mode_plan, table_unless, unless}
+use Rattle.bios_services.proofs.BoundLemmas.{set_of_valid, stays_valid, begins_valid, begins_valid_at}
 
 -- ---- the adapter
 
@@ -160,6 +163,9 @@ first_data = record { valid = inl refl; words = record { places = refl; words = 
 -- the data that a mode begins with
 begun : (mode : ℕ) (row : ModeRow) → mode_row mode ≡ Some row → AreData (data_of_mode mode row)
 begun mode row e = record { valid = begins_valid mode row e; words = record { places = refl; words = zero_words 8 } }
+
+begun_at : (mode height : ℕ) (row : ModeRow) → row_at mode height ≡ Some row → AreData (data_of_mode mode row)
+begun_at mode height row e = record { valid = begins_valid_at mode height row e; words = record { places = refl; words = zero_words 8 } }
 
 module _ (d : BiosData) (a : AreData d) (is : IsSet d) (unset : d.mode ≢ 0) where
   -- a cursor at another place
@@ -312,6 +318,20 @@ unfolding set_mode_plan
 set_mode_keeps None mode keeps fonts d r e a = a
 set_mode_keeps (Some row) mode keeps fonts d r e a = behind AnswerKept (mode_set_plan mode row keeps fonts) (λ _. Done (answered r (data_of_mode mode row))) (λ _. begun mode row e)
 
+load_keeps : (x : Option ModeRow) (load : GlyphLoad) (fonts : FontSet) (d : BiosData) (r : Regs) (block : List ℕ) → row_at d.mode load.height ≡ x → AreData d → Always AnswerKept (load_at x load fonts d r block)
+unfolding load_at
+load_keeps None load fonts d r block e a = a
+load_keeps (Some row) load fonts d r block e a = behind AnswerKept (load_plan fonts load block row) (λ _. Done (answered r (data_of_mode d.mode row))) (λ _. begun_at d.mode load.height row e)
+
+load_in_mode_keeps : (load : GlyphLoad) (fonts : FontSet) (d : BiosData) (r : Regs) (block : List ℕ) → AreData d → Always AnswerKept (load_in_mode_plan load fonts d r block)
+unfolding load_in_mode_plan load_unless
+load_in_mode_keeps load fonts d r block a =
+    on_if AnswerKept (d.mode == 0) _ (load_unless (load_refusal load d.mode (length block)) load fonts d r block) (λ _. a) (λ _. by_refusal (load_refusal load d.mode (length block)))
+  where
+    by_refusal : (x : Option Refusal) → Always AnswerKept (load_unless x load fonts d r block)
+    by_refusal (Some why) = a
+    by_refusal None = load_keeps (row_at d.mode load.height) load fonts d r block refl a
+
 -- a call whose service names a word
 abbrev CallFits : Option Call → Type 0
 CallFits (Some (InMode asked_for)) = FitsWords asked_for
@@ -321,6 +341,7 @@ asked_keeps : (call : Option Call) (fonts : FontSet) (d : BiosData) (r : Regs) (
 asked_keeps None fonts d r block fits a = a
 asked_keeps (Some (SetMode mode keeps)) fonts d r block fits a = set_mode_keeps (mode_row mode) mode keeps fonts d r refl a
 asked_keeps (Some (ReadTable asked_for)) fonts d r block fits a = table_keeps asked_for d r a
+asked_keeps (Some (LoadGlyphs load)) fonts d r block fits a = load_in_mode_keeps load fonts d r block a
 asked_keeps (Some (InMode asked_for)) fonts d r block fits a = in_mode_keeps asked_for fonts d r block fits a
 
 -- ---- the service that registers ask for
@@ -354,14 +375,18 @@ service_fits r l =
     (choose ((high r.ax == 0x1A) && (low r.ax == 0x00)) (Some ReadDisplay) None tt tt))))))))))))))))
 
 call_fits : (r : Regs) → r.dx < 65536 → CallFits (call_of r)
-call_fits r l = by_test (high r.ax == 0x00) _ (table_or_fits _ (service_of r) (service_fits r l))
+call_fits r l = by_test (high r.ax == 0x00) _ (table_or_fits _ _ (glyphs_or_fits (glyph_load_of r) _ (in_mode_fits (service_of r) (service_fits r l))))
   where
     in_mode_fits : (x : Option Service) → IfSome x FitsWords → CallFits (in_mode x)
     in_mode_fits None f = tt
     in_mode_fits (Some asked_for) f = f
 
-    table_or_fits : (t : Option TableService) (x : Option Service) → IfSome x FitsWords → CallFits (table_or t (in_mode x))
-    table_or_fits None x f = in_mode_fits x f
+    glyphs_or_fits : (g : Option GlyphLoad) (x : Option Call) → CallFits x → CallFits (glyphs_or g x)
+    glyphs_or_fits None x f = f
+    glyphs_or_fits (Some load) x f = tt
+
+    table_or_fits : (t : Option TableService) (x : Option Call) → CallFits x → CallFits (table_or t x)
+    table_or_fits None x f = f
     table_or_fits (Some asked_for) x f = tt
 
     by_test : (b : Bool) (x : Option Call) → CallFits x → CallFits (if b then Some (SetMode (low r.ax % 128) (nat_le 128 (low r.ax))) else x)

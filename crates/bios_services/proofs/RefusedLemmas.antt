@@ -1,10 +1,11 @@
 -- A refused service has no cycle, and leaves the BIOS data.
 use Rattle.std.proofs.Common.{◌≡◌, ◌∙◌, ◌==◌, ℕ, Bool, true, false, if◌then◌else◌, Option, Some, None, List, length, Result, Err, sym, ap}
 use Rattle.vga_bits.specs.declared.refusal.Refusal.{Refusal}
-use Rattle.vga_bits.specs.declared.refusal.Refusal.TheVariants.{NoMode, BadMode}
+use Rattle.vga_bits.specs.declared.refusal.Refusal.TheVariants.{NoMode, BadMode, BadHeight}
 use Rattle.vga_card.specs.Bus.{Meaning}
 use Rattle.bios_modes.specs.declared.modes.ModeRow.{ModeRow}
 use Rattle.bios_modes.specs.Modes.{mode_row}
+use Rattle.bios_modes.specs.Heights.{row_at}
 use Rattle.bios_modes.specs.Bda.{BiosData}
 use Rattle.bios_modes.specs.Begin.{data_of_mode}
 use Rattle.bios_modes.specs.Fonts.{FontSet}
@@ -13,15 +14,17 @@ use Rattle.bios_services.specs.declared.reply.Reply.{Reply}
 use Rattle.bios_services.specs.declared.reply.Table.{Table}
 use Rattle.bios_services.specs.declared.reply.Table.TheVariants.{Empty}
 use Rattle.bios_services.specs.declared.tables.TableService.{TableService}
+use Rattle.bios_services.specs.declared.glyph_load.GlyphLoad.{GlyphLoad}
 use Rattle.bios_services.specs.declared.call.Call.{Call}
-use Rattle.bios_services.specs.declared.call.Call.TheVariants.{SetMode, ReadTable, InMode}
+use Rattle.bios_services.specs.declared.call.Call.TheVariants.{SetMode, ReadTable, LoadGlyphs, InMode}
 use Rattle.bios_services.specs.declared.call.Service.{Service}
 use Rattle.bios_services.specs.Plan.{Plan, Done, ◌>>=◌, run}
 use Rattle.bios_services.specs.Calls.{call_of}
 use Rattle.bios_services.specs.ModeSet.{mode_set_plan}
+use Rattle.bios_services.specs.GlyphLoads.{load_refusal, load_plan}
 use Rattle.bios_services.specs.Refusals.{refusal_in_mode, unknown_refusal}
 use Rattle.bios_services.specs.Tables.{table_plan, table_refusal}
-use Rattle.bios_services.specs.Service.{Answered, answered_with, asked, in_mode_plan, plan_of, refused, service, set_mode_plan, table_in_mode_plan, table_unless, unless}
+use Rattle.bios_services.specs.Service.{Answered, answered_with, asked, in_mode_plan, load_at, load_unless, load_in_mode_plan, plan_of, refused, service, set_mode_plan, table_in_mode_plan, table_unless, unless}
 use Rattle.bios_services.proofs.RunLemmas.{run_bind}
 
 -- what a plan does where its answer is a refusal: nothing
@@ -71,10 +74,27 @@ table_in_mode_does_nothing m asked_for d r =
     let why = table_refusal asked_for in
     if_does_nothing m (d.mode == 0) (table_unless why asked_for d r) d (table_does_nothing m why asked_for d r)
 
+load_does_nothing : {S : Type 0} (m : Meaning S) (row : Option ModeRow) (load : GlyphLoad) (fonts : FontSet) (d : BiosData) (r : Regs) (block : List ℕ) → DoesNothing m (load_at row load fonts d r block) d
+unfolding load_at
+load_does_nothing m None load fonts d r block = refusal_does_nothing m BadHeight d
+load_does_nothing m (Some row) load fonts d r block = answer_is_none m (load_plan fonts load block row) (λ _. Empty) (λ _. r) (λ _. data_of_mode d.mode row) d
+
+load_unless_does_nothing : {S : Type 0} (m : Meaning S) (why : Option Refusal) (load : GlyphLoad) (fonts : FontSet) (d : BiosData) (r : Regs) (block : List ℕ) → DoesNothing m (load_unless why load fonts d r block) d
+unfolding load_unless
+load_unless_does_nothing m (Some why) load fonts d r block = refusal_does_nothing m why d
+load_unless_does_nothing m None load fonts d r block = load_does_nothing m (row_at d.mode load.height) load fonts d r block
+
+load_in_mode_does_nothing : {S : Type 0} (m : Meaning S) (load : GlyphLoad) (fonts : FontSet) (d : BiosData) (r : Regs) (block : List ℕ) → DoesNothing m (load_in_mode_plan load fonts d r block) d
+unfolding load_in_mode_plan
+load_in_mode_does_nothing m load fonts d r block =
+    let why = load_refusal load d.mode (length block) in
+    if_does_nothing m (d.mode == 0) (load_unless why load fonts d r block) d (load_unless_does_nothing m why load fonts d r block)
+
 asked_does_nothing : {S : Type 0} (m : Meaning S) (call : Option Call) (fonts : FontSet) (d : BiosData) (r : Regs) (block : List ℕ) → DoesNothing m (asked call fonts d r block) d
 asked_does_nothing m None fonts d r block = refusal_does_nothing m (unknown_refusal d) d
 asked_does_nothing m (Some (SetMode mode keeps)) fonts d r block = set_mode_does_nothing m (mode_row mode) mode keeps fonts d r
 asked_does_nothing m (Some (ReadTable asked_for)) fonts d r block = table_in_mode_does_nothing m asked_for d r
+asked_does_nothing m (Some (LoadGlyphs load)) fonts d r block = load_in_mode_does_nothing m load fonts d r block
 asked_does_nothing m (Some (InMode asked_for)) fonts d r block = in_mode_does_nothing m asked_for fonts d r block
 
 -- so a refused service leaves bus and BIOS data

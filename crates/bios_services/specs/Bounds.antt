@@ -1,16 +1,16 @@
 -- How large the numbers are that the BIOS data of a mode hold.
 use Rattle.std.specs.Prelude.{ℕ, ◌≡◌, ◌*◌, ◌<◌, ◌≤◌, Option, None, Some}
 use Rattle.bios_modes.specs.declared.modes.ModeRow.{ModeRow}
-use Rattle.bios_modes.specs.Modes.{mode_row}
+use Rattle.bios_modes.specs.Heights.{row_at}
 use Rattle.bios_modes.specs.Bda.{BiosData}
 
 abbrev pub pages_in : Option ModeRow → ℕ
 pages_in None = 0
 pages_in (Some row) = row.pages
 
--- how many pages the mode has, none before one is set
+-- how many pages the mode has, in text with characters of their height; none before a mode is set
 abbrev pub pages_of : BiosData → ℕ
-pages_of d = pages_in (mode_row d.mode)
+pages_of d = pages_in (row_at d.mode d.height)
 
 -- every place that such data name is in the memory that the adapter may have
 pub record IsSet (d : BiosData) : Type 0 where

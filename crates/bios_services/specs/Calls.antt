@@ -5,8 +5,9 @@ use Rattle.bios_services.specs.declared.regs.Regs.{Regs}
 use Rattle.bios_services.specs.declared.scroll.Scroll.{Scroll}
 use Rattle.bios_services.specs.declared.colours.ColourService.{ColourService}
 use Rattle.bios_services.specs.declared.tables.TableService.{TableService}
+use Rattle.bios_services.specs.declared.glyph_load.GlyphLoad.{GlyphLoad}
 use Rattle.bios_services.specs.declared.call.Call.{Call}
-use Rattle.bios_services.specs.declared.call.Call.TheVariants.{SetMode, ReadTable, InMode}
+use Rattle.bios_services.specs.declared.call.Call.TheVariants.{SetMode, ReadTable, LoadGlyphs, InMode}
 use Rattle.bios_services.specs.declared.call.Service.{Service}
 use Rattle.bios_services.specs.declared.call.Service.TheVariants.{SetCursorType, SetCursor, ReadCursor, SelectPage, ScrollUp, ScrollDown, ReadCell, WriteCells, WritePixel, ReadPixel, Teletype, ReadMode, Colours, ReadAdapter, WriteString, ReadDisplay}
 use Rattle.bios_services.specs.Registers.{high, low}
@@ -14,6 +15,7 @@ use Rattle.bios_services.specs.Colours.{colour_service_of}
 use Rattle.bios_services.specs.CellRuns.{cell_run_of}
 use Rattle.bios_services.specs.Strings.{string_of}
 use Rattle.bios_services.specs.Tables.{table_service_of}
+use Rattle.bios_services.specs.GlyphLoads.{glyph_load_of}
 
 -- the window of functions 06 and 07: AL rows, BH the attribute or colour of new rows, CX the upper left corner, DX the lower right one
 abbrev pub scroll_of : Regs → Scroll
@@ -59,8 +61,13 @@ abbrev pub table_or : Option TableService → Option Call → Option Call
 table_or None call = call
 table_or (Some service) call = Some (ReadTable service)
 
+-- glyphs, or else another service
+abbrev pub glyphs_or : Option GlyphLoad → Option Call → Option Call
+glyphs_or None call = call
+glyphs_or (Some load) call = Some (LoadGlyphs load)
+
 -- what a call asks for; function 00 sets the mode of the low seven bits of AL, and bit 7 keeps the memory
 abbrev pub call_of : Regs → Option Call
 call_of r =
     if high r.ax == 0x00 then Some (SetMode (low r.ax % 128) (nat_le 128 (low r.ax)))
-    else table_or (table_service_of r) (in_mode (service_of r))
+    else table_or (table_service_of r) (glyphs_or (glyph_load_of r) (in_mode (service_of r)))

@@ -20,6 +20,7 @@ pub mod Palette
 pub mod Dac
 pub mod Colours
 pub mod Tables
+pub mod GlyphLoads
 pub mod Calls
 pub mod Refusals
 pub mod Service

@@ -38,22 +38,22 @@ palette_plan mode n = do
   out 0x3C8 0x00
   each (λ i. colour_plan (dac_entry mode i)) n 0
 
--- the rows of character c of a font of 16 rows, in plane 2
-unfoldable pub glyph_plan : List ℕ → ℕ → Plan (Unit {0})
-glyph_plan font c = each (λ r. put (0xA0000 + 32 * c + r) (glyph_row 16 font c r)) 16 0
+-- the lines of character c, so many, in plane 2
+unfoldable pub glyph_plan : (ℕ → ℕ → ℕ) → ℕ → ℕ → Plan (Unit {0})
+glyph_plan line height c = each (λ r. put (0xA0000 + 32 * c + r) (line c r)) height 0
 
--- the rows of n characters from character 0 on
-unfoldable pub glyphs_plan : List ℕ → ℕ → Plan (Unit {0})
-glyphs_plan font n = each (glyph_plan font) n 0
+-- the lines of n characters from one on
+unfoldable pub glyphs_plan : (ℕ → ℕ → ℕ) → ℕ → ℕ → ℕ → Plan (Unit {0})
+glyphs_plan line height n first = each (glyph_plan line height) n first
 
 -- plane 2 is reached at A0000 alone, and then planes 0 and 1 again where graphics register 6 has this value
-unfoldable pub font_plan : List ℕ → ℕ → Plan (Unit {0})
-font_plan font window = do
+unfoldable pub font_plan : (ℕ → ℕ → ℕ) → ℕ → ℕ → ℕ → ℕ → Plan (Unit {0})
+font_plan line height n first window = do
   sequencer 2 0x04
   sequencer 4 0x06
   graphics 5 0x00
   graphics 6 0x04
-  glyphs_plan font 256
+  glyphs_plan line height n first
   sequencer 2 0x03
   sequencer 4 0x02
   graphics 5 0x10
@@ -74,7 +74,7 @@ clear_plan n = each (λ w. put (0xA0000 + w) 0) n 0
 -- what a text mode sets besides registers and palette
 unfoldable pub text_plan : ModeRow → Bool → List ℕ → Plan (Unit {0})
 text_plan row keeps font = do
-  font_plan font (slice_index row.graphics 6)
+  font_plan (glyph_row 16 font) 16 256 0 (slice_index row.graphics 6)
   if keeps then Done tt else blank_plan row.base 0x8000
 
 -- what a mode sets besides registers and palette: a graphics mode clears its memory

@@ -5,10 +5,11 @@ use Rattle.vga_bits.specs.declared.refusal.Refusal.{Refusal}
 use Rattle.vga_card.specs.Bus.{Meaning}
 use Rattle.bios_modes.specs.declared.modes.ModeRow.{ModeRow}
 use Rattle.bios_modes.specs.Modes.{mode_row}
+use Rattle.bios_modes.specs.Heights.{row_at}
 use Rattle.bios_modes.specs.Bda.{BiosData}
 use Rattle.bios_modes.specs.Begin.{data_of_mode}
 use Rattle.bios_modes.specs.Fonts.{FontSet}
-use Rattle.vga_bits.specs.declared.refusal.Refusal.TheVariants.{NoMode, BadMode}
+use Rattle.vga_bits.specs.declared.refusal.Refusal.TheVariants.{NoMode, BadMode, BadHeight}
 use Rattle.bios_services.specs.declared.regs.Regs.{Regs}
 use Rattle.bios_services.specs.declared.reply.Reply.{Reply}
 use Rattle.bios_services.specs.declared.reply.Table.{Table}
@@ -16,8 +17,9 @@ use Rattle.bios_services.specs.declared.reply.Table.TheVariants.{Empty}
 use Rattle.bios_services.specs.declared.reply.ServiceError.{ServiceError}
 use Rattle.bios_services.specs.declared.reply.ServiceError.TheVariants.{Refused, OutOfMemory}
 use Rattle.bios_services.specs.declared.tables.TableService.{TableService}
+use Rattle.bios_services.specs.declared.glyph_load.GlyphLoad.{GlyphLoad}
 use Rattle.bios_services.specs.declared.call.Call.{Call}
-use Rattle.bios_services.specs.declared.call.Call.TheVariants.{SetMode, ReadTable, InMode}
+use Rattle.bios_services.specs.declared.call.Call.TheVariants.{SetMode, ReadTable, LoadGlyphs, InMode}
 use Rattle.bios_services.specs.declared.call.Service.{Service}
 use Rattle.bios_services.specs.declared.call.Service.TheVariants.{SetCursorType, SetCursor, ReadCursor, SelectPage, ScrollUp, ScrollDown, ReadCell, WriteCells, WritePixel, ReadPixel, Teletype, ReadMode, Colours, ReadAdapter, WriteString, ReadDisplay}
 use Rattle.bios_services.specs.Plan.{Plan, Done, ◌>>=◌, ◌>>◌, run}
@@ -33,6 +35,7 @@ use Rattle.bios_services.specs.Pixels.{write_pixel_plan, read_pixel_plan}
 use Rattle.bios_services.specs.Colours.{colours_plan}
 use Rattle.bios_services.specs.Tables.{table_refusal, table_plan, table_takes_memory}
 use Rattle.bios_services.specs.Strings.{string_plan}
+use Rattle.bios_services.specs.GlyphLoads.{load_refusal, load_plan}
 use Rattle.bios_services.specs.Registers.{low, with_low}
 use Rattle.bios_services.specs.Calls.{call_of}
 use Rattle.bios_services.specs.Refusals.{page_named, refusal_in_mode, unknown_refusal}
@@ -137,11 +140,28 @@ table_unless None service d r = do
 unfoldable pub table_in_mode_plan : TableService → BiosData → Regs → Plan Answered
 table_in_mode_plan service d r = if d.mode == 0 then refused NoMode d else table_unless (table_refusal service) service d r
 
+-- glyphs in a mode of text, where there is a row of their height
+unfoldable pub load_at : Option ModeRow → GlyphLoad → FontSet → BiosData → Regs → List ℕ → Plan Answered
+load_at None load fonts d r block = refused BadHeight d
+load_at (Some row) load fonts d r block = do
+  load_plan fonts load block row
+  Done (answered r (data_of_mode d.mode row))
+
+-- or why they are refused
+unfoldable pub load_unless : Option Refusal → GlyphLoad → FontSet → BiosData → Regs → List ℕ → Plan Answered
+load_unless (Some why) load fonts d r block = refused why d
+load_unless None load fonts d r block = load_at (row_at d.mode load.height) load fonts d r block
+
+-- glyphs, which need a mode
+unfoldable pub load_in_mode_plan : GlyphLoad → FontSet → BiosData → Regs → List ℕ → Plan Answered
+load_in_mode_plan load fonts d r block = if d.mode == 0 then refused NoMode d else load_unless (load_refusal load d.mode (length block)) load fonts d r block
+
 -- what a call asks for
 abbrev pub asked : Option Call → FontSet → BiosData → Regs → List ℕ → Plan Answered
 asked None fonts d r block = refused (unknown_refusal d) d
 asked (Some (SetMode mode keeps)) fonts d r block = set_mode_plan (mode_row mode) mode keeps fonts d r
 asked (Some (ReadTable service)) fonts d r block = table_in_mode_plan service d r
+asked (Some (LoadGlyphs load)) fonts d r block = load_in_mode_plan load fonts d r block
 asked (Some (InMode service)) fonts d r block = in_mode_plan service fonts d r block
 
 -- the service that the registers ask for; one that takes no block does not look at it

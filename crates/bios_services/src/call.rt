@@ -5,6 +5,7 @@ ghost use Rattle.bios_services.specs.Calls.{scroll_of as scroll_of_regs, as_colo
 
 use crate::cell_run::CellRun;
 use crate::colours::{ColourService, colour_service_of};
+use crate::glyph_load::GlyphLoad;
 use crate::regs::{Regs, high, low};
 use crate::scroll::Scroll;
 use crate::strings::StringCall;
@@ -17,6 +18,8 @@ pub enum Call {
     SetMode { mode: u8, keeps: bool },
     /// 10 with AL = 09 or 17: answers a table.
     ReadTable(TableService),
+    /// 11 with AL = 10, 11, 12 or 14 and BL = 00: loads glyphs of text.
+    LoadGlyphs(GlyphLoad),
     /// Any other service.
     InMode(Service),
 }
@@ -164,6 +167,9 @@ pub(crate) fn decode(regs: Regs) -> Option<Call>
     }
     if let Some(service) = table_service_of(regs) {
         return Some(Call::ReadTable(service));
+    }
+    if let Some(load) = GlyphLoad::of(regs) {
+        return Some(Call::LoadGlyphs(load));
     }
     match service_of(regs) {
         Some(service) => Some(Call::InMode(service)),

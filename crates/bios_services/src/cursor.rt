@@ -10,14 +10,14 @@ use bios_modes::Bda;
 use vga_card::Bus;
 
 /// The CRT controller's registers of the cursor's first and last scan line.
-const CURSOR_START: u8 = 0x0A;
+pub(crate) const CURSOR_START: u8 = 0x0A;
 
 const CURSOR_END: u8 = 0x0B;
 
 /// Its registers of the start address and of the cursor's address, each the first of two.
-const START_ADDRESS: u8 = 0x0C;
+pub(crate) const START_ADDRESS: u8 = 0x0C;
 
-const CURSOR_ADDRESS: u8 = 0x0E;
+pub(crate) const CURSOR_ADDRESS: u8 = 0x0E;
 
 /// The number of the cell at a place, counted along the rows.
 pub(crate) fn cell_number(bda: &Bda, place: u16) -> u32
@@ -40,7 +40,7 @@ pub(crate) fn cursor_cell(bda: &Bda, page: u8) -> u32
 
 /// Writes a word to two registers of the CRT controller, the high byte to the first.
 #[tactic(auto, using(crate::proofs::RunLemmas::run_bind), unfolding(crate::specs::Cursor::word_plan))]
-fn write_word<B: Bus>(bus: &mut B, port: u16, i: u8, n: u16)
+pub(crate) fn write_word<B: Bus>(bus: &mut B, port: u16, i: u8, n: u16)
     requires port { port < 1000 }
     requires register { i < 255 }
     ensures { bus.new ≡ (run B.meaning (word_plan port i n) bus.old).0 }

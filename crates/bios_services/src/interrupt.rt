@@ -6,16 +6,19 @@ ghost use Rattle.bios_services.specs.Calls.{call_of};
 ghost use Rattle.bios_services.specs.Bounds.{IsSet, StaysInMode, pages_of};
 ghost use Rattle.bios_services.specs.Refusals.{refusal_in_mode as refusal_in_mode_of};
 ghost use Rattle.bios_modes.specs.Modes.{mode_row as mode_row_of};
+ghost use Rattle.bios_modes.specs.Heights.{row_at as row_at_of};
+ghost use Rattle.bios_services.specs.GlyphLoads.{load_refusal};
 ghost use Rattle.bios_services.specs.declared.reply.Table.TheVariants.{Empty};
 ghost use Rattle.bios_services.specs.declared.reply.ServiceError.TheVariants.{OutOfMemory};
 ghost use Rattle.bios_services.specs.declared.call.Call.TheVariants.{ReadTable};
-ghost use Rattle.bios_services.specs.Service.{set_mode_plan, in_mode_plan, read_cursor_of, read_mode_of, read_adapter_of, read_display_of, read_cell_service, read_pixel_service, plan_of, table_in_mode_plan, service, served as served_of, takes_memory, Serves};
+ghost use Rattle.bios_services.specs.Service.{set_mode_plan, load_at, load_in_mode_plan, in_mode_plan, read_cursor_of, read_mode_of, read_adapter_of, read_display_of, read_cell_service, read_pixel_service, plan_of, table_in_mode_plan, service, served as served_of, takes_memory, Serves};
 
 use crate::call::{Call, Service, decode};
 use crate::cells::{cell_address, read_cell};
 use crate::colours::perform_colours;
 use crate::cursor::{cursor_cell, move_cursor, set_cursor_type, show_page};
 use crate::drawing::cell_band;
+use crate::glyph_load::GlyphLoad;
 use crate::mode_set;
 use crate::mode_set::is_text;
 use crate::pixels::{read_pixel, write_pixel};
@@ -25,7 +28,7 @@ use crate::regs::{Regs, with_low};
 use crate::reply::{Reply, ServiceError, Table};
 use crate::tables::{TableService, read_table, table_refusal};
 use crate::teletype::teletype;
-use bios_modes::{Bda, Fonts, mode_row};
+use bios_modes::{Bda, Fonts, mode_row, row_at};
 use std::alloc::Global;
 use vga_bits::Refusal;
 use vga_card::Bus;
@@ -194,6 +197,53 @@ fn set_mode<B: Bus>(
     answered(regs)
 }
 
+/// Loads glyphs that are not refused but for their height, where there is a row of that.
+#[tactic(auto, using(crate::proofs::RunLemmas::run_bind, crate::proofs::BoundLemmas::begins_valid_at, crate::proofs::BoundLemmas::there_of, crate::proofs::BoundLemmas::port_small), unfolding(crate::specs::Service::load_at))]
+fn load_allowed<B: Bus>(
+    bus: &mut B,
+    bda: &mut Bda,
+    fonts: &Fonts,
+    load: GlyphLoad,
+    regs: Regs,
+    block: &[u8],
+) -> Result<Reply, Refusal>
+    requires valid { IsValid bda.old }
+    requires allowed { load_refusal load bda.old.mode (length block.now) ≡ None }
+    ensures answer { (bus.new, (result, bda.new)) ≡ run B.meaning (load_at (row_at_of bda.old.mode load.height) load fonts.now bda.old regs block.now) bus.old }
+    ensures valid { IsValid bda.new }
+{
+    let mode = bda.mode();
+    let Some(row) = row_at(mode, load.height as u16) else {
+        return Err(Refusal::BadHeight);
+    };
+    load.write(bus, fonts, block, &row);
+    bda.begin_mode(mode, &row);
+    answered(regs)
+}
+
+/// Loads glyphs of text, unless they are refused.
+#[tactic(auto, unfolding(crate::specs::Service::load_in_mode_plan, crate::specs::Service::load_unless))]
+fn load_in_mode<B: Bus>(
+    bus: &mut B,
+    bda: &mut Bda,
+    fonts: &Fonts,
+    load: GlyphLoad,
+    regs: Regs,
+    block: &[u8],
+) -> Result<Reply, Refusal>
+    requires { IsValid bda.old }
+    ensures answer { (bus.new, (result, bda.new)) ≡ run B.meaning (load_in_mode_plan load fonts.now bda.old regs block.now) bus.old }
+    ensures valid { IsValid bda.new }
+{
+    if bda.mode() == 0 {
+        return Err(Refusal::NoMode);
+    }
+    if let Some(why) = load.refusal(bda.mode(), block.len()) {
+        return Err(why);
+    }
+    load_allowed(bus, bda, fonts, load, regs, block)
+}
+
 /// Does a service that needs a mode, unless it is refused.
 #[tactic(auto, using(crate::proofs::RunLemmas::run_bind, crate::proofs::BoundLemmas::set_of_valid), unfolding(crate::specs::Service::in_mode_plan, crate::specs::Service::unless))]
 fn in_mode<B: Bus>(
@@ -256,7 +306,7 @@ fn served(outcome: Result<Reply, Refusal>) -> Result<Reply, ServiceError>
 ///
 /// Registers that a service does not answer stay as they are handed in. A service is refused by name, and
 /// then has no cycle and leaves the BIOS data: `NoMode` before a mode is set, `BadFunction`, `BadMode`,
-/// `WrongKind`, `BadPage`, `Outside`, `CountPast`, `BadRegister` or `BadBlock`; of several the first is answered. Within a service a cycle that the
+/// `WrongKind`, `BadPage`, `Outside`, `CountPast`, `BadRegister`, `BadBlock` or `BadHeight`; of several the first is answered. Within a service a cycle that the
 /// bus refuses does nothing, or gives FF (hexadecimal). The BIOS data must be valid, and are so afterwards.
 ///
 /// Function 10 with AL = 17 alone, which answers entries of the DAC as a table, takes memory, before its first
@@ -280,6 +330,7 @@ pub fn int10<B: Bus>(
         None => Err(ServiceError::Refused(unknown_refusal(bda))),
         Some(Call::SetMode { mode, keeps }) => served(set_mode(bus, bda, fonts, mode, keeps, regs)),
         Some(Call::ReadTable(service)) => table_in_mode(alloc, bus, bda, service, regs),
+        Some(Call::LoadGlyphs(load)) => served(load_in_mode(bus, bda, fonts, load, regs, block)),
         Some(Call::InMode(service)) => served(in_mode(bus, bda, fonts, service, regs, block)),
     }
 }

@@ -10,6 +10,7 @@ mod cursor;
 mod cycles;
 mod dac;
 mod drawing;
+mod glyph_load;
 mod glyphs;
 mod ink;
 mod interrupt;

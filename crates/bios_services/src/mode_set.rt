@@ -2,14 +2,15 @@
 ghost use Rattle.std.specs.Prelude.{◌≡◌, ◌<◌, ◌≤◌, ◌+◌, ◌*◌, ◌^◌, IsTrue, if◌then◌else◌};
 ghost use Rattle.bios_modes.specs.Palette.{is_mode};
 ghost use Rattle.bios_services.specs.Plan.{run};
-ghost use Rattle.bios_services.specs.ModeSet.{is_text as is_text_mode, registers_plan, colour_plan, palette_plan, glyph_plan, glyphs_plan, font_plan, blank_byte as blank_byte_of, blank_plan, clear_plan, text_plan, memory_plan, mode_set_plan};
+ghost use Rattle.bios_services.specs.ModeSet.{is_text as is_text_mode, registers_plan, colour_plan, palette_plan, blank_byte as blank_byte_of, blank_plan, clear_plan, text_plan, memory_plan, mode_set_plan};
 
 use crate::cells::GRAPHICS_BASE;
 use crate::cycles::{
-    DAC_DATA, DAC_MASK, DAC_WRITE_INDEX, GRAPHICS, SEQUENCER, attribute_group, expect_index,
-    graphics, group, indexed, out, put, sequencer, show_palette,
+    DAC_DATA, DAC_MASK, DAC_WRITE_INDEX, GRAPHICS, SEQUENCER, attribute_group, expect_index, group,
+    indexed, out, put, show_palette,
 };
-use bios_modes::{Font, Fonts, ModeRow, dac_entry};
+use crate::glyph_load::GlyphLoad;
+use bios_modes::{Fonts, ModeRow, dac_entry};
 use vga_card::Bus;
 
 /// The port of the miscellaneous output register.
@@ -76,47 +77,6 @@ fn write_palette<B: Bus>(bus: &mut B, mode: u8, n: u16)
     }
 }
 
-/// Writes the 16 rows of a character's glyph.
-#[tactic(auto, using(crate::proofs::RunLemmas::run_bind), unfolding(crate::specs::ModeSet::glyph_plan))]
-fn write_glyph<B: Bus>(bus: &mut B, font: &Font<16>, c: u8)
-    ensures { bus.new ≡ (run B.meaning (glyph_plan font.now c) bus.old).0 }
-{
-    for r in 0..16 {
-        put(
-            bus,
-            GRAPHICS_BASE + 32 * c as u32 + r as u32,
-            font.byte(c, r),
-        );
-    }
-}
-
-/// Writes the glyphs of the first n characters.
-#[tactic(auto, using(crate::proofs::RunLemmas::run_bind), unfolding(crate::specs::ModeSet::glyphs_plan))]
-fn write_glyphs<B: Bus>(bus: &mut B, font: &Font<16>, n: u16)
-    requires { n ≤ 256 }
-    ensures { bus.new ≡ (run B.meaning (glyphs_plan font.now n) bus.old).0 }
-{
-    for c in 0..n {
-        write_glyph(bus, font, c as u8);
-    }
-}
-
-/// Writes the font to plane 2, and reaches planes 0 and 1 again, in the window of this value of graphics register 6.
-#[tactic(auto, using(crate::proofs::RunLemmas::run_bind), unfolding(crate::specs::ModeSet::font_plan))]
-fn write_font<B: Bus>(bus: &mut B, font: &Font<16>, window: u8)
-    ensures { bus.new ≡ (run B.meaning (font_plan font.now window) bus.old).0 }
-{
-    sequencer(bus, 2, 0x04);
-    sequencer(bus, 4, 0x06);
-    graphics(bus, 5, 0x00);
-    graphics(bus, 6, 0x04);
-    write_glyphs(bus, font, 256);
-    sequencer(bus, 2, 0x03);
-    sequencer(bus, 4, 0x02);
-    graphics(bus, 5, 0x10);
-    graphics(bus, 6, window);
-}
-
 /// Byte w of blank cells: a blank, or its attribute.
 fn blank_byte(w: u32) -> u8
     ensures { result ≡ blank_byte_of w }
@@ -148,11 +108,11 @@ fn clear<B: Bus>(bus: &mut B, n: u32)
 
 /// Writes what a text mode has besides registers and palette.
 #[tactic(auto, using(crate::proofs::RunLemmas::run_bind), unfolding(crate::specs::ModeSet::text_plan))]
-fn write_text<B: Bus>(bus: &mut B, row: &ModeRow, keeps: bool, font: &Font<16>)
+fn write_text<B: Bus>(bus: &mut B, row: &ModeRow, keeps: bool, fonts: &Fonts)
     requires { row.now.base < 2 ^ 20 }
-    ensures { bus.new ≡ (run B.meaning (text_plan row.now keeps font.now) bus.old).0 }
+    ensures { bus.new ≡ (run B.meaning (text_plan row.now keeps fonts.now.f16) bus.old).0 }
 {
-    write_font(bus, font, row.graphics[6]);
+    GlyphLoad::write_font_of_16(bus, fonts, row.graphics[6]);
     if !keeps {
         write_blanks(bus, row.base, TEXT_LEN);
     }
@@ -160,12 +120,12 @@ fn write_text<B: Bus>(bus: &mut B, row: &ModeRow, keeps: bool, font: &Font<16>)
 
 /// Writes what a mode has besides registers and palette.
 #[tactic(auto, using(crate::proofs::RunLemmas::run_bind), unfolding(crate::specs::ModeSet::memory_plan))]
-fn write_memory<B: Bus>(bus: &mut B, mode: u8, row: &ModeRow, keeps: bool, font: &Font<16>)
+fn write_memory<B: Bus>(bus: &mut B, mode: u8, row: &ModeRow, keeps: bool, fonts: &Fonts)
     requires { row.now.base < 2 ^ 20 }
-    ensures { bus.new ≡ (run B.meaning (memory_plan mode row.now keeps font.now) bus.old).0 }
+    ensures { bus.new ≡ (run B.meaning (memory_plan mode row.now keeps fonts.now.f16) bus.old).0 }
 {
     if is_text(mode) {
-        write_text(bus, row, keeps, font);
+        write_text(bus, row, keeps, fonts);
     } else if !keeps {
         clear(bus, GRAPHICS_LEN);
     }
@@ -181,5 +141,5 @@ pub(crate) fn set_mode<B: Bus>(bus: &mut B, mode: u8, row: &ModeRow, keeps: bool
 {
     write_registers(bus, row);
     write_palette(bus, mode, 256);
-    write_memory(bus, mode, row, keeps, fonts.f16());
+    write_memory(bus, mode, row, keeps, fonts);
 }

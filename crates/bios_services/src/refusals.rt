@@ -10,14 +10,14 @@ use crate::cursor::cell_number;
 use crate::mode_set::is_text;
 use crate::pixels::{dots_across, dots_down};
 use crate::strings::StringCall;
-use bios_modes::{Bda, mode_row};
+use bios_modes::{Bda, row_at};
 use vga_bits::Refusal;
 
-/// How many pages the mode has.
+/// How many pages the mode has, in text with characters of their height.
 pub(crate) fn pages(bda: &Bda) -> u8
     ensures { result ≡ pages_of bda.now }
 {
-    match mode_row(bda.mode()) {
+    match row_at(bda.mode(), bda.height()) {
         Some(row) => row.pages,
         None => 0,
     }

@@ -1,0 +1,69 @@
+-- Loading glyphs of text, with which the height of characters changes: function 11.
+-- From the IBM PS/2 and PC BIOS Interface Technical Reference, "Interrupt 10H - Video", (AH) = 11H; the refusals and the order of
+-- the cycles are this adapter's choice.
+use Rattle.std.specs.Prelude.{ℕ, ◌≡◌, ◌≤◌, ◌+◌, ◌-◌, ◌*◌, ◌==◌, ◌&&◌, nat_le, true, false, if◌then◌else◌, List, slice_index, Option, Some, None}
+use Rattle.vga_bits.specs.declared.refusal.Refusal.{Refusal}
+use Rattle.vga_bits.specs.declared.refusal.Refusal.TheVariants.{WrongKind, CountPast}
+use Rattle.bios_modes.specs.declared.modes.ModeRow.{ModeRow}
+use Rattle.bios_modes.specs.Fonts.{FontSet}
+use Rattle.bios_services.specs.declared.regs.Regs.{Regs}
+use Rattle.bios_services.specs.declared.glyph_load.GlyphLoad.{GlyphLoad}
+use Rattle.bios_services.specs.Plan.{Plan, ◌>>◌}
+use Rattle.bios_services.specs.Registers.{high, low}
+use Rattle.bios_services.specs.Cycles.{crtc}
+use Rattle.bios_services.specs.ModeSet.{is_text, font_plan}
+use Rattle.bios_services.specs.Cursor.{word_plan}
+use Rattle.bios_services.specs.Glyphs.{glyph_line}
+use Rattle.bios_services.specs.Colours.{block_refusal}
+
+-- all characters of the font of this height
+abbrev pub whole_font : ℕ → GlyphLoad
+whole_font height = record { height = height; first = 0; count = 256; is_block = false }
+
+-- what AL names: 10 the glyphs of the block, BH scan lines each, for CX characters from DX on; 11, 12 and 14 a font of 14, 8
+-- and 16 scan lines
+abbrev pub load_named : Regs → ℕ → Option GlyphLoad
+load_named r al =
+    if al == 0x10 then Some (record { height = high r.bx; first = r.dx; count = r.cx; is_block = true })
+    else if al == 0x11 then Some (whole_font 14)
+    else if al == 0x12 then Some (whole_font 8)
+    else if al == 0x14 then Some (whole_font 16)
+    else None
+
+-- the glyphs that a call loads, if it does: into the one map of glyphs, which BL names
+abbrev pub glyph_load_of : Regs → Option GlyphLoad
+glyph_load_of r = if (high r.ax == 0x11) && (low r.bx == 0x00) then load_named r (low r.ax) else None
+
+-- how many bytes the glyphs of a block have
+abbrev pub glyphs_len : GlyphLoad → ℕ
+glyphs_len load = load.height * load.count
+
+-- glyphs that there are: no higher than the highest font, of characters up to FF, and whole in a block of this length
+pub record AreThere (load : GlyphLoad) (len : ℕ) : Type 0 where
+  pub height : load.height ≤ 16
+  pub last : load.first + load.count ≤ 256
+  pub whole : load.is_block ≡ true → len ≡ glyphs_len load
+
+-- pixels have no glyphs; there are characters up to FF; and a block has as many bytes as its glyphs
+abbrev pub load_refusal : GlyphLoad → ℕ → ℕ → Option Refusal
+load_refusal load mode len =
+    if is_text mode
+    then (if nat_le (load.first + load.count) 256 then (if load.is_block then block_refusal len (glyphs_len load) else None) else Some CountPast)
+    else Some WrongKind
+
+-- scan line r of character c: a byte of the block, or of the font
+abbrev pub loaded_line : FontSet → GlyphLoad → List ℕ → ℕ → ℕ → ℕ
+loaded_line fonts load block c r =
+    if load.is_block then slice_index block (load.height * (c - load.first) + r) else glyph_line fonts load.height c r
+
+-- the glyphs go to plane 2; and the CRT controller gets the height, the cursor and the display of a page's rows, from page 0 on,
+-- with the cursor in its upper left corner
+unfoldable pub load_plan : FontSet → GlyphLoad → List ℕ → ModeRow → Plan (Unit {0})
+load_plan fonts load block row = do
+  font_plan (loaded_line fonts load block) load.height load.count load.first (slice_index row.graphics 6)
+  crtc row.crtc_address 0x09 (slice_index row.crtc 0x09)
+  word_plan row.crtc_address 0x0A row.cursor_type
+  crtc row.crtc_address 0x12 (slice_index row.crtc 0x12)
+  crtc row.crtc_address 0x14 (slice_index row.crtc 0x14)
+  word_plan row.crtc_address 0x0C 0
+  word_plan row.crtc_address 0x0E 0

@@ -1,0 +1,188 @@
+//! Function 11: loading glyphs of text, with which the height of characters changes.
+ghost use Rattle.std.specs.Prelude.{◌≡◌, ◌<◌, ◌≤◌, ◌+◌, length};
+ghost use Rattle.bios_modes.specs.Fonts.{glyph_row};
+ghost use Rattle.bios_services.specs.Plan.{run};
+ghost use Rattle.bios_services.specs.ModeSet.{font_plan, glyph_plan, glyphs_plan};
+ghost use Rattle.bios_services.specs.GlyphLoads.{AreThere, whole_font, glyph_load_of, glyphs_len, load_refusal, loaded_line, load_plan};
+
+use crate::cells::GRAPHICS_BASE;
+use crate::colours::block_refusal;
+use crate::cursor::{CURSOR_ADDRESS, CURSOR_START, START_ADDRESS, write_word};
+use crate::cycles::{graphics, indexed, put, sequencer};
+use crate::glyphs::glyph_line;
+use crate::mode_set::is_text;
+use crate::regs::{Regs, high, low};
+use bios_modes::{Fonts, ModeRow};
+use vga_bits::Refusal;
+use vga_card::Bus;
+
+/// The CRT controller's registers that the height of characters changes, besides those of the cursor.
+const MAXIMUM_SCAN_LINE: u8 = 0x09;
+
+const VERTICAL_DISPLAY_END: u8 = 0x12;
+
+const UNDERLINE: u8 = 0x14;
+
+/// Glyphs that are to be loaded, and the height of characters that comes with them.
+#[derive(Clone, Copy)]
+pub struct GlyphLoad {
+    /// How many scan lines a character has.
+    pub height: u8,
+    /// The first character.
+    pub first: u16,
+    /// How many characters.
+    pub count: u16,
+    /// Whether the glyphs are those of the block, and not of a font.
+    pub is_block: bool,
+}
+
+impl GlyphLoad {
+    /// All characters of the font of this height.
+    fn whole_font(height: u8) -> GlyphLoad
+        ensures { result ≡ whole_font height }
+    {
+        GlyphLoad {
+            height,
+            first: 0,
+            count: 256,
+            is_block: false,
+        }
+    }
+
+    /// The glyphs that a call loads, if it does.
+    pub(crate) fn of(regs: Regs) -> Option<GlyphLoad>
+        ensures { result ≡ glyph_load_of regs }
+    {
+        if high(regs.ax) != 0x11 || low(regs.bx) != 0x00 {
+            return None;
+        }
+        match low(regs.ax) {
+            0x10 => Some(GlyphLoad {
+                height: high(regs.bx),
+                first: regs.dx,
+                count: regs.cx,
+                is_block: true,
+            }),
+            0x11 => Some(GlyphLoad::whole_font(14)),
+            0x12 => Some(GlyphLoad::whole_font(8)),
+            0x14 => Some(GlyphLoad::whole_font(16)),
+            _ => None,
+        }
+    }
+
+    /// How many bytes the glyphs of a block have.
+    fn block_len(self) -> usize
+        ensures { result ≡ glyphs_len self }
+    {
+        self.height as usize * self.count as usize
+    }
+
+    /// Why the glyphs are refused in a mode, with a block of this length.
+    pub(crate) fn refusal(self, mode: u8, len: usize) -> Option<Refusal>
+        ensures { result ≡ load_refusal self mode len }
+    {
+        if !is_text(mode) {
+            return Some(Refusal::WrongKind);
+        }
+        if self.first as u32 + self.count as u32 > 256 {
+            return Some(Refusal::CountPast);
+        }
+        if self.is_block {
+            return block_refusal(len, self.block_len());
+        }
+        None
+    }
+
+    /// Scan line r of character c.
+    fn line(self, fonts: &Fonts, block: &[u8], c: u16, r: u8) -> u8
+        requires there { AreThere self (length block.now) }
+        requires line { r < self.height }
+        requires first { self.first ≤ c }
+        requires last { c < self.first + self.count }
+        ensures { result ≡ loaded_line fonts.now self block.now c r }
+    {
+        if self.is_block {
+            return block[self.height as usize * (c - self.first) as usize + r as usize];
+        }
+        glyph_line(fonts, self.height as u32, c as u8, r as u32)
+    }
+
+    /// Writes the lines of a character to plane 2.
+    #[tactic(auto, using(crate::proofs::RunLemmas::run_bind), unfolding(crate::specs::ModeSet::glyph_plan))]
+    fn write_glyph<B: Bus>(self, bus: &mut B, fonts: &Fonts, block: &[u8], c: u16)
+        requires there { AreThere self (length block.now) }
+        requires first { self.first ≤ c }
+        requires last { c < self.first + self.count }
+        ensures { bus.new ≡ (run B.meaning (glyph_plan (loaded_line fonts.now self block.now) self.height c) bus.old).0 }
+    {
+        for r in 0..self.height {
+            put(
+                bus,
+                GRAPHICS_BASE + 32 * c as u32 + r as u32,
+                self.line(fonts, block, c, r),
+            );
+        }
+    }
+
+    /// Writes the lines of all characters.
+    #[tactic(auto, using(crate::proofs::RunLemmas::run_bind), unfolding(crate::specs::ModeSet::glyphs_plan))]
+    fn write_glyphs<B: Bus>(self, bus: &mut B, fonts: &Fonts, block: &[u8])
+        requires { AreThere self (length block.now) }
+        ensures { bus.new ≡ (run B.meaning (glyphs_plan (loaded_line fonts.now self block.now) self.height self.count self.first) bus.old).0 }
+    {
+        for c in self.first..self.first + self.count {
+            self.write_glyph(bus, fonts, block, c);
+        }
+    }
+
+    /// Writes the glyphs to plane 2, and reaches planes 0 and 1 again, in the window of this value of graphics register 6.
+    #[tactic(auto, using(crate::proofs::RunLemmas::run_bind), unfolding(crate::specs::ModeSet::font_plan))]
+    fn write_font<B: Bus>(self, bus: &mut B, fonts: &Fonts, block: &[u8], window: u8)
+        requires { AreThere self (length block.now) }
+        ensures { bus.new ≡ (run B.meaning (font_plan (loaded_line fonts.now self block.now) self.height self.count self.first window) bus.old).0 }
+    {
+        sequencer(bus, 2, 0x04);
+        sequencer(bus, 4, 0x06);
+        graphics(bus, 5, 0x00);
+        graphics(bus, 6, 0x04);
+        self.write_glyphs(bus, fonts, block);
+        sequencer(bus, 2, 0x03);
+        sequencer(bus, 4, 0x02);
+        graphics(bus, 5, 0x10);
+        graphics(bus, 6, window);
+    }
+
+    /// Writes the font of 16 scan lines, as a mode set does.
+    pub(crate) fn write_font_of_16<B: Bus>(bus: &mut B, fonts: &Fonts, window: u8)
+        ensures { bus.new ≡ (run B.meaning (font_plan (glyph_row 16 fonts.now.f16) 16 256 0 window) bus.old).0 }
+    {
+        GlyphLoad::whole_font(16).write_font(bus, fonts, &[], window);
+    }
+
+    /// Writes the glyphs, and gives the CRT controller the values of the row of their height.
+    #[tactic(auto, using(crate::proofs::RunLemmas::run_bind), unfolding(crate::specs::GlyphLoads::load_plan))]
+    pub(crate) fn write<B: Bus>(self, bus: &mut B, fonts: &Fonts, block: &[u8], row: &ModeRow)
+        requires there { AreThere self (length block.now) }
+        requires port { row.now.crtc_address < 1000 }
+        ensures { bus.new ≡ (run B.meaning (load_plan fonts.now self block.now row.now) bus.old).0 }
+    {
+        let port = row.crtc_address;
+        self.write_font(bus, fonts, block, row.graphics[6]);
+        indexed(
+            bus,
+            port,
+            MAXIMUM_SCAN_LINE,
+            row.crtc[MAXIMUM_SCAN_LINE as usize],
+        );
+        write_word(bus, port, CURSOR_START, row.cursor_type);
+        indexed(
+            bus,
+            port,
+            VERTICAL_DISPLAY_END,
+            row.crtc[VERTICAL_DISPLAY_END as usize],
+        );
+        indexed(bus, port, UNDERLINE, row.crtc[UNDERLINE as usize]);
+        write_word(bus, port, START_ADDRESS, 0);
+        write_word(bus, port, CURSOR_ADDRESS, 0);
+    }
+}
