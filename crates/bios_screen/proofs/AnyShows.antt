@@ -6,7 +6,7 @@ use Rattle.vga_bits.specs.Four.{Four}
 use Rattle.vga_attr.specs.Fields.{is_palette_shown}
 use Rattle.vga_card.specs.Card.{CardState}
 use Rattle.bios_modes.specs.declared.modes.ModeRow.{ModeRow}
-use Rattle.bios_modes.specs.Modes.{mode_row}
+use Rattle.bios_modes.specs.Heights.{row_at}
 use Rattle.bios_modes.specs.Bda.{BiosData}
 use Rattle.bios_services.specs.ModeSet.{is_text}
 use Rattle.bios_screen.specs.Screen.{Contents, Cells, Pixels, Screen}
@@ -25,7 +25,7 @@ use Rattle.bios_screen.proofs.PixelShows.{IsPixels, screen_is_pixels, pixels_of_
 -- all that a screen says, whatever its mode; contents and glyphs are of the memory alone
 pub record IsAny (c : CardState) (d : BiosData) : Type 0 where
   pub row : ModeRow
-  pub mode : mode_row d.mode ≡ Some row
+  pub mode : row_at d.mode d.height ≡ Some row
   pub kind : Tabled
   pub setting : setting c ≡ setting_of kind
   pub port : d.crtc_address ≡ port_of kind
@@ -104,7 +104,7 @@ pub record HasSetting (c : CardState) (d : BiosData) (row : ModeRow) : Type 0 wh
 
 pub pixel_setting : (c : CardState) (d : BiosData) (h : IsPixels c d) → HasSetting c d h.row
 pixel_setting c d h =
-    let g = graphics_row d.mode h.row h.text h.mode in
+    let g = graphics_row d.mode d.height h.row h.text h.mode in
     record {
       kind = g.kind;
       row_is = g.row_is;

@@ -23,7 +23,9 @@ use Rattle.bios_services.specs.CellRuns.{cell_run_of}
 use Rattle.bios_services.specs.Strings.{string_of}
 use Rattle.bios_services.specs.declared.tables.TableService.{TableService}
 use Rattle.bios_services.specs.Tables.{table_service_of}
-use Rattle.bios_services.specs.Calls.{scroll_of, as_colours, service_of, in_mode, call_of, table_or}
+use Rattle.bios_services.specs.declared.glyph_load.GlyphLoad.{GlyphLoad}
+use Rattle.bios_services.specs.GlyphLoads.{glyph_load_of}
+use Rattle.bios_services.specs.Calls.{scroll_of, as_colours, service_of, in_mode, call_of, table_or, glyphs_or}
 use Rattle.bios_services.specs.Refusals.{refusal_in_mode}
 use Rattle.bios_services.specs.Service.{plan_of, set_mode_plan, Outcome, Answered, answered, refused, unless, in_mode_plan, asked}
 use Rattle.bios_modes.specs.Bounds.{IsBda}
@@ -143,13 +145,14 @@ call_done service fonts r block c d s e old i =
 
 -- the service of a call
 service_is : (r : Regs) (service : Service) → call_of r ≡ Some (InMode service) → service_of r ≡ Some service
-service_is r service e = by_test (high r.ax == 0x00) (table_service_of r) (service_of r) e
+service_is r service e = by_test (high r.ax == 0x00) (table_service_of r) (glyph_load_of r) (service_of r) e
   where
-    by_test : (b : Bool) (t : Option TableService) (x : Option Service) → (let y : Option Call = (if b then Some (SetMode (low r.ax % 128) (nat_le 128 (low r.ax))) else table_or t (in_mode x)) in y) ≡ Some (InMode service) → x ≡ Some service
-    by_test true t x h = absurd (cc)
-    by_test false (Some t) x h = absurd (cc)
-    by_test false None None h = absurd (cc)
-    by_test false None (Some t) h = cc
+    by_test : (b : Bool) (t : Option TableService) (g : Option GlyphLoad) (x : Option Service) → (let y : Option Call = (if b then Some (SetMode (low r.ax % 128) (nat_le 128 (low r.ax))) else table_or t (glyphs_or g (in_mode x))) in y) ≡ Some (InMode service) → x ≡ Some service
+    by_test true t g x h = absurd (cc)
+    by_test false (Some t) g x h = absurd (cc)
+    by_test false None (Some load) x h = absurd (cc)
+    by_test false None None None h = absurd (cc)
+    by_test false None None (Some t) h = cc
 
 served_if : (x : Option Service) (service : Service) → x ≡ Some service → IfSome x Serves → Serves service
 served_if x service e f = subst (λ y. IfSome y Serves) e f

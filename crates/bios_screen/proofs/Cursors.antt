@@ -15,7 +15,7 @@ use Rattle.vga_card.specs.Bus.{card_meaning}
 use Rattle.bios_modes.specs.declared.modes.ModeRow.{ModeRow}
 use Rattle.bios_modes.specs.Bda.{BiosData}
 use Rattle.bios_modes.specs.Fonts.{FontSet}
-use Rattle.bios_modes.specs.Modes.{mode_row}
+use Rattle.bios_modes.specs.Heights.{row_at}
 use Rattle.bios_modes.specs.Bounds.{IsBda}
 use Rattle.bios_services.specs.declared.regs.Regs.{Regs}
 use Rattle.bios_services.specs.declared.call.Service.TheVariants.{SetCursorType, SetCursor, SelectPage}
@@ -39,7 +39,7 @@ use Rattle.bios_screen.proofs.PixelModes.Graphics.{Sixteen, Many}
 use Rattle.bios_screen.proofs.AnyModes.{Tabled, setting_of, port_of}
 use Rattle.bios_screen.proofs.AnyModes.Tabled.{OfText, OfPixels}
 use Rattle.bios_screen.proofs.TestLemmas.{both_true, both_are, lt_is, lt_test}
-use Rattle.bios_screen.proofs.Shows.{HasData, text_crtc, IsShown, screen_shown, shown_of}
+use Rattle.bios_screen.proofs.Shows.{HasData, data_is, text_crtc, IsShown, screen_shown, shown_of}
 use Rattle.bios_screen.proofs.Readers.{meant_is, page_refusal_is, named_refusal_is}
 use Rattle.bios_screen.proofs.Display.Display.{Colour, Monochrome}
 
@@ -116,7 +116,7 @@ start_set mode c row type start location n e r l =
 
 -- a screen with other data: the tests that look at the BIOS data and at the CRT controller are given anew
 pub other_data : (c y : CardState) (d e : BiosData) (h : IsShown c d) → e.mode ≡ d.mode → (setting y ≡ setting c) → shows_attribute h.row y.attr ≡ true → shows_data h.row e ≡ true → y.crtc.registers ≡ text_crtc h.row e → shown y e ≡ Some (text_screen h.row y e)
-other_data c y d e h m s a data_test crtc = shown_of y e h.row (ap mode_row m ∙ h.mode) (record {
+other_data c y d e h m s a data_test crtc = shown_of y e h.row (ap (λ n. row_at n e.height) m ∙ ap (row_at d.mode) ((data_is h.row e data_test).height ∙ sym h.has.height) ∙ h.mode) (record {
   is_text = ap is_text m ∙ h.tests.is_text;
   memory = ap (λ (x : Setting). (x.misc == h.row.misc) && (bytes_eq x.seq h.row.sequencer && bytes_eq x.gfx h.row.graphics)) s ∙ h.tests.memory;
   data_test = data_test;

@@ -9,9 +9,9 @@ use Rattle.vga_card.specs.Bus.{card_meaning}
 use Rattle.vga_card.specs.Card.{CardState}
 use Rattle.vga_card.specs.Port.{port_of as reached_by}
 use Rattle.vga_card.specs.Cycles.{out_at}
-use Rattle.bios_modes.specs.Modes.{mode_row}
+use Rattle.bios_modes.specs.Heights.{row_at}
 use Rattle.bios_modes.specs.Palette.{dac_entry}
-use Rattle.bios_modes.specs.Fonts.{FontSet}
+use Rattle.bios_modes.specs.Fonts.{FontSet, glyph_row}
 use Rattle.bios_modes.specs.Begin.{data_of_mode}
 use Rattle.bios_modes.specs.Bda.{BiosData}
 use Rattle.bios_services.specs.declared.regs.Regs.{Regs}
@@ -65,7 +65,7 @@ blanked disp rest c m n l t =
 pub but_entries : (x y : CardState) → without_entries x ≡ without_entries y → x ≡ record y { dac = record x.dac { mask = y.dac.mask } }
 but_entries x y e = ap (λ s. let r : CardState = record s { dac = record x.dac { mask = s.dac.mask } } in r) e
 
-but_glyphs : (x y : CardState) → without_glyphs x ≡ without_glyphs y → x ≡ record y { host = record y.host { memory = record y.host.memory { plane2 = x.host.memory.plane2 } } }
+pub but_glyphs : (x y : CardState) → without_glyphs x ≡ without_glyphs y → x ≡ record y { host = record y.host { memory = record y.host.memory { plane2 = x.host.memory.plane2 } } }
 but_glyphs x y e = ap (λ s. let r : CardState = record s { host = record s.host { memory = record s.host.memory { plane2 = x.host.memory.plane2 } } } in r) e
 
 -- ---- lists
@@ -100,10 +100,10 @@ masked_is : (disp : Display) (c : CardState) (n : ℕ) → (run card_meaning (pa
 unfolding palette_plan reached_by out_at
 masked_is disp c n = refl
 
-abbrev glyphs_on : Plan (Unit {0})
+abbrev pub glyphs_on : Plan (Unit {0})
 glyphs_on = sequencer 2 0x04 >> (sequencer 4 0x06 >> (graphics 5 0x00 >> graphics 6 0x04))
 
-abbrev glyphs_off : ℕ → Plan (Unit {0})
+abbrev pub glyphs_off : ℕ → Plan (Unit {0})
 glyphs_off window = sequencer 2 0x03 >> (sequencer 4 0x02 >> (graphics 5 0x10 >> graphics 6 window))
 
 abbrev in_glyphs : Display → CardState → CardState
@@ -138,7 +138,7 @@ text_mode : (disp : Display) → is_text (number_of disp) ≡ true
 text_mode Colour = refl
 text_mode Monochrome = refl
 
-row_is : (disp : Display) → mode_row (number_of disp) ≡ Some (row_of disp)
+row_is : (disp : Display) → row_at (number_of disp) (row_of disp).height ≡ Some (row_of disp)
 row_is Colour = refl
 row_is Monochrome = refl
 
@@ -150,14 +150,14 @@ glyph_setting_is : (disp : Display) (c : CardState) (d : DacState) → setting (
 glyph_setting_is Colour c d = refl
 glyph_setting_is Monochrome c d = refl
 
-font_is : (font : List ℕ) (window : ℕ) (c : CardState) → (run card_meaning (font_plan font window) c).0 ≡ (run card_meaning (glyphs_on >> (glyphs_plan font 256 >> glyphs_off window)) c).0
+pub font_is : (line : ℕ → ℕ → ℕ) (height n first window : ℕ) (c : CardState) → (run card_meaning (font_plan line height n first window) c).0 ≡ (run card_meaning (glyphs_on >> (glyphs_plan line height n first >> glyphs_off window)) c).0
 unfolding font_plan
-font_is font window c = refl
+font_is line height n first window c = refl
 
-memory_is : (disp : Display) (font : List ℕ) (c : CardState) → (run card_meaning (memory_plan (number_of disp) (row_of disp) false font) c).0 ≡ (run card_meaning (blank_plan (base_of disp) 0x8000) (run card_meaning (font_plan font (slice_index (row_of disp).graphics 6)) c).0).0
+memory_is : (disp : Display) (font : List ℕ) (c : CardState) → (run card_meaning (memory_plan (number_of disp) (row_of disp) false font) c).0 ≡ (run card_meaning (blank_plan (base_of disp) 0x8000) (run card_meaning (font_plan (glyph_row 16 font) 16 256 0 (slice_index (row_of disp).graphics 6)) c).0).0
 unfolding memory_plan text_plan
-memory_is Colour font c = then_runs (font_plan font 0x0E) (blank_plan 0xB8000 0x8000) c
-memory_is Monochrome font c = then_runs (font_plan font 0x0A) (blank_plan 0xB0000 0x8000) c
+memory_is Colour font c = then_runs (font_plan (glyph_row 16 font) 16 256 0 0x0E) (blank_plan 0xB8000 0x8000) c
+memory_is Monochrome font c = then_runs (font_plan (glyph_row 16 font) 16 256 0 0x0A) (blank_plan 0xB0000 0x8000) c
 
 -- the mode set, part after part
 record FreshState (disp : Display) (font : List ℕ) (c s : CardState) : Type 0 where
@@ -192,10 +192,10 @@ fresh_state disp law c fonts z small =
     let z2 : IsCard y2 = subst IsCard e2 (plan_bounds law entries y1 z1) in
     let y3 = in_glyphs disp y2 in
     let z3 : IsCard y3 = subst IsCard (on_is disp c d2) (plan_bounds law glyphs_on y2 z2) in
-    let load = glyphs_plan font 256 in
+    let load = glyphs_plan (glyph_row 16 font) 16 256 0 in
     let s4 = (run card_meaning load y3).0 in
     let loading : IsLoading disp (without_glyphs y3) y3 (slice_index y3.host.memory.plane2) = record { mode = glyph_setting_is disp c d2; size2 = z3.host.memory.size 2 (omega arith); row = λ o l. refl; others = refl } in
-    let loaded = glyphs_loaded disp (without_glyphs y3) y3 (slice_index y3.host.memory.plane2) font 256 (omega arith) small loading in
+    let loaded = glyphs_loaded disp (without_glyphs y3) y3 (slice_index y3.host.memory.plane2) (glyph_row 16 font) 16 256 0 (omega arith) (omega arith) (λ ch r. small (16 * ch + r)) loading in
     let l4 = s4.host.memory.plane2 in
     let y4 = with_glyphs y3 l4 in
     let e4 : s4 ≡ y4 = but_glyphs s4 y3 loaded.shown.others in
@@ -206,8 +206,8 @@ fresh_state disp law c fonts z small =
     let s6 = (run card_meaning blank y5).0 in
     let cells = has_cells disp y5 (text_setting_is disp c d2 l4) z5.host in
     let done = blanked disp (without_text y5) y5 cells.bytes 0x8000 (omega arith) cells.is in
-    let fonted : (run card_meaning (font_plan font window) y2).0 ≡ y5 =
-    font_is font window y2 ∙ then_runs glyphs_on (load >> glyphs_off window) y2
+    let fonted : (run card_meaning (font_plan (glyph_row 16 font) 16 256 0 window) y2).0 ≡ y5 =
+    font_is (glyph_row 16 font) 16 256 0 window y2 ∙ then_runs glyphs_on (load >> glyphs_off window) y2
     ∙ ap (λ x. (run card_meaning (load >> glyphs_off window) x).0) (on_is disp c d2)
     ∙ then_runs load (glyphs_off window) y3
     ∙ ap (λ x. (run card_meaning (glyphs_off window) x).0) e4

@@ -1,4 +1,4 @@
--- The glyphs of a mode set: Puts to plane 2.
+-- Glyphs that are loaded: Puts to plane 2.
 use Rattle.std.proofs.Common.{◌≡◌, ◌≢◌, ℕ, ◌+◌, ◌*◌, ◌<◌, ◌≤◌, ⊎_elim, sym, ap, ◌∙◌, subst, arith, List, [], ◌∷◌, length, true}
 use Rattle.std.specs.Prelude.{slice_index, slice_set}
 use Rattle.std.proofs.lemmas.Bool.{cases_eq}
@@ -12,10 +12,8 @@ use Rattle.vga_host.specs.Address.{is_decoded, window_offset}
 use Rattle.vga_host.specs.Write.{written_bit, combined_bit, written_byte, memory_after_put}
 use Rattle.vga_card.specs.Bus.{card_meaning}
 use Rattle.vga_card.specs.Card.{CardState}
-use Rattle.bios_modes.specs.Fonts.{glyph_row}
 use Rattle.bios_services.specs.Plan.{run, put}
 use Rattle.bios_services.specs.ModeSet.{glyph_plan, glyphs_plan}
-use Rattle.bios_modes.specs.Bounds.{AreBytes}
 use Rattle.bios_screen.proofs.Flat.{Edited, Turn, Leaves, set_cell, set_same, set_other}
 use Rattle.bios_screen.proofs.Edits.{one_edit, edits}
 use Rattle.bios_screen.proofs.Setting.{Setting, setting, host_at, with_memory, put_decoded}
@@ -69,25 +67,27 @@ glyph_put disp rest c g a v l h t =
     (sym (put_decoded c (glyph_setting disp) (0xA0000 + a) v t.mode (glyph_decoded disp c.host a l) ∙ ap (λ o. with_memory c (memory_after_put (host_at c.host (glyph_setting disp)) o v)) (glyph_window disp c.host a l) ∙ ap (with_memory c) (glyph_memory disp c.host a v h)))
     still
 
-glyph_loaded : (disp : Display) (rest c : CardState) (g : ℕ → ℕ) (font : List ℕ) (ch : ℕ) → ch < 256 → AreBytes font → IsLoading disp rest c g → Leaves CardState ℕ (IsLoading disp rest) (run card_meaning (glyph_plan font ch) c).0 (Edited ℕ (Turn (λ _. Unit {0}) 0 16) (λ h. 32 * ch + h.turn) (λ h x. glyph_row 16 font ch h.turn) g)
+glyph_loaded : (disp : Display) (rest c : CardState) (g : ℕ → ℕ) (line : ℕ → ℕ → ℕ) (height ch : ℕ) → ch < 256 → height ≤ 16 → ((r : ℕ) → line ch r < 256) → IsLoading disp rest c g → Leaves CardState ℕ (IsLoading disp rest) (run card_meaning (glyph_plan line height ch) c).0 (Edited ℕ (Turn (λ _. Unit {0}) 0 height) (λ h. 32 * ch + h.turn) (λ h x. line ch h.turn) g)
 unfolding glyph_plan
-glyph_loaded disp rest c g font ch lc small t =
-    edits CardState ℕ card_meaning (λ r. put (0xA0000 + 32 * ch + r) (glyph_row 16 font ch r)) (λ _. IsLoading disp rest) 0 16 (λ _. Unit {0}) (λ r _. 32 * ch + r) (λ r _ x. glyph_row 16 font ch r)
+glyph_loaded disp rest c g line height ch lc lh small t =
+    edits CardState ℕ card_meaning (λ r. put (0xA0000 + 32 * ch + r) (line ch r)) (λ _. IsLoading disp rest) 0 height (λ _. Unit {0}) (λ r _. 32 * ch + r) (λ r _ x. line ch r)
     (λ a b _ _ lb lo hi. omega arith)
     (λ r s x lb w u.
     let e : 0xA0000 + (32 * ch + r) ≡ 0xA0000 + 32 * ch + r = omega arith in
-    let new : ℕ → ℕ = set_cell x (32 * ch + r) (glyph_row 16 font ch r) in
+    let new : ℕ → ℕ = set_cell x (32 * ch + r) (line ch r) in
     record {
       cells = new;
-      shown = subst (λ a. IsLoading disp rest (run card_meaning (put a (glyph_row 16 font ch r)) s).0 new) e (glyph_put disp rest s x (32 * ch + r) (glyph_row 16 font ch r) (omega arith) (small (16 * ch + r)) u);
-      fact = one_edit (32 * ch + r) (glyph_row 16 font ch r) x;
+      shown = subst (λ a. IsLoading disp rest (run card_meaning (put a (line ch r)) s).0 new) e (glyph_put disp rest s x (32 * ch + r) (line ch r) (omega arith) (small r) u);
+      fact = one_edit (32 * ch + r) (line ch r) x;
     })
-    16 0 c g (omega arith) (omega arith) t
+    height 0 c g (omega arith) (omega arith) t
 
-pub glyphs_loaded : (disp : Display) (rest c : CardState) (g : ℕ → ℕ) (font : List ℕ) (characters : ℕ) → characters ≤ 256 → AreBytes font → IsLoading disp rest c g → Leaves CardState ℕ (IsLoading disp rest) (run card_meaning (glyphs_plan font characters) c).0 (Edited ℕ (Turn (λ _. Turn (λ _. Unit {0}) 0 16) 0 characters) (λ h. 32 * h.turn + h.place.turn) (λ h x. glyph_row 16 font h.turn h.place.turn) g)
+-- the lines of n characters from one on
+pub glyphs_loaded : (disp : Display) (rest c : CardState) (g : ℕ → ℕ) (line : ℕ → ℕ → ℕ) (height n first : ℕ) → first + n ≤ 256 → height ≤ 16 → ((ch r : ℕ) → line ch r < 256) → IsLoading disp rest c g
+    → Leaves CardState ℕ (IsLoading disp rest) (run card_meaning (glyphs_plan line height n first) c).0 (Edited ℕ (Turn (λ _. Turn (λ _. Unit {0}) 0 height) first (first + n)) (λ h. 32 * h.turn + h.place.turn) (λ h x. line h.turn h.place.turn) g)
 unfolding glyphs_plan
-glyphs_loaded disp rest c g font characters lc small t =
-    edits CardState ℕ card_meaning (glyph_plan font) (λ _. IsLoading disp rest) 0 characters (λ _. Turn (λ _. Unit {0}) 0 16) (λ ch h. 32 * ch + h.turn) (λ ch h x. glyph_row 16 font ch h.turn)
+glyphs_loaded disp rest c g line height n first lc lh small t =
+    edits CardState ℕ card_meaning (glyph_plan line height) (λ _. IsLoading disp rest) first (first + n) (λ _. Turn (λ _. Unit {0}) 0 height) (λ ch h. 32 * ch + h.turn) (λ ch h x. line ch h.turn)
     (λ a b g h lb lo hi. let x = g.before in let y = h.before in omega arith)
-    (λ ch s x lb w u. glyph_loaded disp rest s x font ch (omega arith) small u)
-    characters 0 c g (omega arith) (omega arith) t
+    (λ ch s x lb w u. glyph_loaded disp rest s x line height ch (omega arith) lh (small ch) u)
+    n first c g (omega arith) (omega arith) t

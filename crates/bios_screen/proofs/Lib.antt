@@ -82,3 +82,5 @@ pub mod PlanarCells
 pub mod PackedCells
 pub mod Coloured
 pub mod ReadingLemmas
+pub mod Loads
+pub mod LoadCalls

@@ -5,7 +5,8 @@ use Rattle.vga_bits.specs.Bits.{byte_of}
 use Rattle.vga_card.specs.Bounds.{IsCard}
 use Rattle.vga_card.specs.Bus.{card_meaning}
 use Rattle.vga_card.specs.Card.{CardState}
-use Rattle.bios_modes.specs.Modes.{mode_row, bytes_320_by_200}
+use Rattle.bios_modes.specs.Modes.{bytes_320_by_200}
+use Rattle.bios_modes.specs.Heights.{row_at}
 use Rattle.bios_modes.specs.Bda.{BiosData}
 use Rattle.bios_modes.specs.Fonts.{FontSet}
 use Rattle.bios_services.specs.declared.regs.Regs.{Regs}
@@ -125,7 +126,7 @@ seen_by at h fonts = do
   lines ← gather (λ r. line_plan Packed (at r)) h 0
   Done (first_character fonts h lines 256)
 
-module _ (law : KeepsBounds) (c : CardState) (d : BiosData) (t : IsPacked c d) (e : mode_row d.mode ≡ Some bytes_320_by_200) (z : IsCard c) where
+module _ (law : KeepsBounds) (c : CardState) (d : BiosData) (t : IsPacked c d) (e : row_at d.mode d.height ≡ Some bytes_320_by_200) (z : IsCard c) where
   abbrev s : Screen
   s = pixel_screen bytes_320_by_200 c d
 

@@ -5,7 +5,8 @@ use Rattle.std.proofs.lemmas.Bool.{cases_lt}
 use Rattle.vga_card.specs.Bounds.{IsCard}
 use Rattle.vga_card.specs.Bus.{card_meaning}
 use Rattle.vga_card.specs.Card.{CardState}
-use Rattle.bios_modes.specs.Modes.{mode_row, bytes_320_by_200}
+use Rattle.bios_modes.specs.Modes.{bytes_320_by_200}
+use Rattle.bios_modes.specs.Heights.{row_at}
 use Rattle.bios_modes.specs.Bda.{BiosData}
 use Rattle.bios_modes.specs.Fonts.{FontSet}
 use Rattle.bios_services.specs.declared.regs.Regs.{Regs}
@@ -51,7 +52,7 @@ pixel_moved law rest from to a b c f ef et la lb t =
 pixel_put_at : (law : KeepsBounds) (rest : CardState) (at j v : ℕ) (c : CardState) (f : ℕ → ℕ) → at ≡ 0xA0000 + j → j < 65536 → v < 256 → IsFlat rest c f → IsFlat rest (run card_meaning (put at v) c).0 (set_cell f j v)
 pixel_put_at law rest at j v c f ea lj lv t = subst (λ x. IsFlat rest (run card_meaning (put x v) c).0 (set_cell f j v)) (sym ea) (put_flat law rest j v c f lj lv t)
 
-module _ (law : KeepsBounds) (c : CardState) (d : BiosData) (t : IsPacked c d) (e : mode_row d.mode ≡ Some bytes_320_by_200) (z : IsCard c) (p : ℕ) (lp : p < bytes_320_by_200.pages) (scroll : Scroll) (few : scroll.fill < 256) where
+module _ (law : KeepsBounds) (c : CardState) (d : BiosData) (t : IsPacked c d) (e : row_at d.mode d.height ≡ Some bytes_320_by_200) (z : IsCard c) (p : ℕ) (lp : p < bytes_320_by_200.pages) (scroll : Scroll) (few : scroll.fill < 256) where
   abbrev s : Screen
   s = pixel_screen bytes_320_by_200 c d
 
@@ -243,8 +244,8 @@ module _ (law : KeepsBounds) (c : CardState) (d : BiosData) (t : IsPacked c d) (
           (cases_lt (pixel_row s k) (top + n))
 
 -- the window of a call is on the active page
-pub scroll_up : (law : KeepsBounds) (c : CardState) (d : BiosData) (t : IsPacked c d) → mode_row d.mode ≡ Some bytes_320_by_200 → IsCard c → (scroll : Scroll) → scroll.fill < 256 → (fonts : FontSet) (r : Regs) (block : List ℕ) → IsServed (ScrollUp scroll) fonts r block c d (pixel_screen bytes_320_by_200 c d)
+pub scroll_up : (law : KeepsBounds) (c : CardState) (d : BiosData) (t : IsPacked c d) → row_at d.mode d.height ≡ Some bytes_320_by_200 → IsCard c → (scroll : Scroll) → scroll.fill < 256 → (fonts : FontSet) (r : Regs) (block : List ℕ) → IsServed (ScrollUp scroll) fonts r block c d (pixel_screen bytes_320_by_200 c d)
 scroll_up law c d t e z scroll few fonts r block = pixel_windows.scroll_up bytes_320_by_200 c d scroll fonts r block (stays law c d t e z d.page t.has.page scroll few) (up_shown law c d t e z d.page t.has.page scroll few)
 
-pub scroll_down : (law : KeepsBounds) (c : CardState) (d : BiosData) (t : IsPacked c d) → mode_row d.mode ≡ Some bytes_320_by_200 → IsCard c → (scroll : Scroll) → scroll.fill < 256 → (fonts : FontSet) (r : Regs) (block : List ℕ) → IsServed (ScrollDown scroll) fonts r block c d (pixel_screen bytes_320_by_200 c d)
+pub scroll_down : (law : KeepsBounds) (c : CardState) (d : BiosData) (t : IsPacked c d) → row_at d.mode d.height ≡ Some bytes_320_by_200 → IsCard c → (scroll : Scroll) → scroll.fill < 256 → (fonts : FontSet) (r : Regs) (block : List ℕ) → IsServed (ScrollDown scroll) fonts r block c d (pixel_screen bytes_320_by_200 c d)
 scroll_down law c d t e z scroll few fonts r block = pixel_windows.scroll_down bytes_320_by_200 c d scroll fonts r block (stays law c d t e z d.page t.has.page scroll few) (down_shown law c d t e z d.page t.has.page scroll few)

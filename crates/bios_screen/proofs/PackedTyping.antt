@@ -3,7 +3,8 @@ use Rattle.std.proofs.Common.{◌≡◌, ℕ, ◌+◌, ◌-◌, ◌<◌, ap, ◌
 use Rattle.vga_card.specs.Bounds.{IsCard}
 use Rattle.vga_card.specs.Bus.{card_meaning}
 use Rattle.vga_card.specs.Card.{CardState}
-use Rattle.bios_modes.specs.Modes.{mode_row, bytes_320_by_200}
+use Rattle.bios_modes.specs.Modes.{bytes_320_by_200}
+use Rattle.bios_modes.specs.Heights.{row_at}
 use Rattle.bios_modes.specs.Bda.{BiosData}
 use Rattle.bios_modes.specs.Fonts.{FontSet}
 use Rattle.bios_services.specs.declared.ink.Ink.{Ink}
@@ -21,7 +22,7 @@ use Rattle.bios_screen.proofs.PixelWindows.{page_raised}
 use Rattle.bios_screen.proofs.PackedWrites.{characters_shown}
 use Rattle.bios_screen.proofs.PackedScrolls.{up_shown}
 
-module _ (law : KeepsBounds) (c : CardState) (d : BiosData) (t : IsPacked c d) (e : mode_row d.mode ≡ Some bytes_320_by_200) (z : IsCard c) (p : ℕ) (lp : p < bytes_320_by_200.pages) where
+module _ (law : KeepsBounds) (c : CardState) (d : BiosData) (t : IsPacked c d) (e : row_at d.mode d.height ≡ Some bytes_320_by_200) (z : IsCard c) (p : ℕ) (lp : p < bytes_320_by_200.pages) where
   abbrev s : Screen
   s = pixel_screen bytes_320_by_200 c d
 

@@ -7,7 +7,8 @@ use Rattle.vga_bits.specs.Bits.{is_set}
 use Rattle.vga_card.specs.Bounds.{IsCard}
 use Rattle.vga_card.specs.Bus.{card_meaning}
 use Rattle.vga_card.specs.Card.{CardState}
-use Rattle.bios_modes.specs.Modes.{mode_row, bytes_320_by_200}
+use Rattle.bios_modes.specs.Modes.{bytes_320_by_200}
+use Rattle.bios_modes.specs.Heights.{row_at}
 use Rattle.bios_modes.specs.Bda.{BiosData}
 use Rattle.bios_modes.specs.Fonts.{FontSet}
 use Rattle.bios_services.specs.declared.regs.Regs.{Regs}
@@ -54,7 +55,7 @@ dot_small : (b : Bool) (colour : ℕ) → colour < 256 → (if b then colour els
 dot_small true colour l = l
 dot_small false colour l = omega arith
 
-module _ (law : KeepsBounds) (c : CardState) (d : BiosData) (t : IsPacked c d) (e : mode_row d.mode ≡ Some bytes_320_by_200) (z : IsCard c) where
+module _ (law : KeepsBounds) (c : CardState) (d : BiosData) (t : IsPacked c d) (e : row_at d.mode d.height ≡ Some bytes_320_by_200) (z : IsCard c) where
   abbrev s : Screen
   s = pixel_screen bytes_320_by_200 c d
 

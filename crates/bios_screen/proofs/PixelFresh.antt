@@ -20,7 +20,7 @@ use Rattle.vga_card.specs.Card.{CardState}
 use Rattle.vga_card.specs.Port.{port_of as reached_by}
 use Rattle.vga_card.specs.Cycles.{out_at}
 use Rattle.bios_modes.specs.declared.modes.ModeRow.{ModeRow}
-use Rattle.bios_modes.specs.Modes.{mode_row}
+use Rattle.bios_modes.specs.Heights.{row_at}
 use Rattle.bios_modes.specs.Palette.{dac_entry}
 use Rattle.bios_modes.specs.Fonts.{FontSet}
 use Rattle.bios_modes.specs.Begin.{data_of_mode}
@@ -194,7 +194,7 @@ pages_blank k f clear =
 
 -- ---- one mode
 
-row_by : (k : Graphics) → mode_row (number_in k) ≡ Some (row_in k)
+row_by : (k : Graphics) → row_at (number_in k) (row_in k).height ≡ Some (row_in k)
 row_by (Sixteen Low) = refl
 row_by (Sixteen Middle) = refl
 row_by (Sixteen High) = refl

@@ -8,6 +8,7 @@ use Rattle.vga_crtc.specs.Beam.{characters, lines, first_counter}
 use Rattle.vga_crtc.specs.Raster.{IsRegular, regular_beam}
 use Rattle.vga_dots.specs.SourceDot.{fetch_address}
 use Rattle.bios_modes.specs.declared.modes.ModeRow.{ModeRow}
+use Rattle.bios_modes.specs.Heights.{colour_rows, monochrome_rows, with_height, row_at}
 use Rattle.bios_modes.specs.Modes.{mode_row, colour_text, monochrome_text, planes_320_by_200, planes_640_by_350, planes_640_by_480, bytes_320_by_200}
 use Rattle.bios_services.specs.ModeSet.{is_text}
 use Rattle.bios_screen.specs.Shown.{crtc_registers}
@@ -62,11 +63,11 @@ not_both b t f = absurd (cc)
 abbrev fourth : ℕ → Option ModeRow
 fourth mode = if mode == 0x10 then Some planes_640_by_350 else if mode == 0x12 then Some planes_640_by_480 else if mode == 0x13 then Some bytes_320_by_200 else None
 
-pub graphics_row : (mode : ℕ) (row : ModeRow) → is_text mode ≡ false → mode_row mode ≡ Some row → GraphicsRow mode row
-graphics_row mode row text e = by_tests (mode == 0x03) (mode == 0x07) (mode == 0x0D) (mode == 0x10) (mode == 0x12) (mode == 0x13) refl refl refl refl refl refl
+pub graphics_row : (mode height : ℕ) (row : ModeRow) → is_text mode ≡ false → row_at mode height ≡ Some row → GraphicsRow mode row
+graphics_row mode height row text e = by_tests (mode == 0x03) (mode == 0x07) (mode == 0x0D) (mode == 0x10) (mode == 0x12) (mode == 0x13) refl refl refl refl refl refl
   where
-    there : (k : Graphics) → mode ≡ number_in k → mode_row (number_in k) ≡ Some (row_in k) → GraphicsRow mode row
-    there k n r = record { kind = k; number = n; row_is = some_same (row_in k) row (sym r ∙ sym (ap mode_row n) ∙ e) }
+    there : (k : Graphics) → mode ≡ number_in k → row_at (number_in k) height ≡ Some (row_in k) → GraphicsRow mode row
+    there k n r = record { kind = k; number = n; row_is = some_same (row_in k) row (sym r ∙ sym (ap (λ m. row_at m height) n) ∙ e) }
 
     by_tests : (a b f g i j : Bool) → (mode == 0x03) ≡ a → (mode == 0x07) ≡ b → (mode == 0x0D) ≡ f → (mode == 0x10) ≡ g → (mode == 0x12) ≡ i → (mode == 0x13) ≡ j → GraphicsRow mode row
     by_tests true b f g i j ea eb ef eg ei ej = not_both (is_text mode) (ap is_text (same ea)) text
@@ -76,7 +77,9 @@ graphics_row mode row text e = by_tests (mode == 0x03) (mode == 0x07) (mode == 0
     by_tests false false false false true j ea eb ef eg ei ej = there (Sixteen High) (same ei) refl
     by_tests false false false false false true ea eb ef eg ei ej = there Many (same ej) refl
     by_tests false false false false false false ea eb ef eg ei ej = none_some row (sym (
-        ap (λ w. if w then Some colour_text else if mode == 0x07 then Some monochrome_text else if mode == 0x0D then Some planes_320_by_200 else fourth mode) ea
+        ap (λ w. if w then with_height colour_text (colour_rows height) else if mode == 0x07 then with_height monochrome_text (monochrome_rows height) else mode_row mode) ea
+        ∙ ap (λ w. if w then with_height monochrome_text (monochrome_rows height) else mode_row mode) eb
+        ∙ ap (λ w. if w then Some colour_text else if mode == 0x07 then Some monochrome_text else if mode == 0x0D then Some planes_320_by_200 else fourth mode) ea
         ∙ ap (λ w. if w then Some monochrome_text else if mode == 0x0D then Some planes_320_by_200 else fourth mode) eb
         ∙ ap (λ w. if w then Some planes_320_by_200 else fourth mode) ef
         ∙ ap (λ w. if w then Some planes_640_by_350 else if mode == 0x12 then Some planes_640_by_480 else if mode == 0x13 then Some bytes_320_by_200 else None) eg

@@ -9,7 +9,8 @@ use Rattle.vga_card.specs.Bounds.{IsCard}
 use Rattle.vga_card.specs.Card.{CardState}
 use Rattle.vga_card.specs.Frames.{frame}
 use Rattle.bios_modes.specs.declared.modes.ModeRow.{ModeRow}
-use Rattle.bios_modes.specs.Modes.{mode_row, bytes_320_by_200}
+use Rattle.bios_modes.specs.Modes.{bytes_320_by_200}
+use Rattle.bios_modes.specs.Heights.{row_at}
 use Rattle.bios_modes.specs.Bda.{BiosData}
 use Rattle.bios_services.specs.ModeSet.{is_text}
 use Rattle.bios_screen.specs.Screen.{Screen}
@@ -32,7 +33,7 @@ use Rattle.bios_screen.proofs.PackedDots as packed
 -- ---- what a frame leaves that draws the pixels of a page
 
 record IsDrawn (m : Raster) (row : ModeRow) (c : CardState) (d : BiosData) : Type 0 where
-  mode : mode_row d.mode ≡ Some row
+  mode : row_at d.mode d.height ≡ Some row
   text : is_text d.mode ≡ false
   tests : AllTests row c d
   raster : HasRaster m c
@@ -59,7 +60,7 @@ framed law m row c d t start =
 
 -- ---- the modes of graphics
 
-planar_drawn : (m : Planes) (c : CardState) (d : BiosData) → mode_row d.mode ≡ Some (row_of m) → IsPlanar m c d → IsCard c → IsDrawn (raster m) (row_of m) c d
+planar_drawn : (m : Planes) (c : CardState) (d : BiosData) → row_at d.mode d.height ≡ Some (row_of m) → IsPlanar m c d → IsCard c → IsDrawn (raster m) (row_of m) c d
 planar_drawn m c d e t z = record {
   mode = e;
   text = ap is_text t.number ∙ text_by m;
@@ -82,7 +83,7 @@ planar_drawn m c d e t z = record {
         ∙ ap (λ i. let w : Shape = record { width = pixel_width (number_of n) * (8 * (row_of n).columns); height = pixel_height (number_of n) * (i * (y.last_row + 1)) } in w) q.has.height
         ∙ ap (λ i. let w : Shape = record { width = pixel_width (number_of n) * (8 * (row_of n).columns); height = pixel_height (number_of n) * ((row_of n).height * (i + 1)) } in w) q.has.last_row)
 
-packed_drawn : (c : CardState) (d : BiosData) → mode_row d.mode ≡ Some bytes_320_by_200 → IsPacked c d → IsCard c → IsDrawn packed_raster bytes_320_by_200 c d
+packed_drawn : (c : CardState) (d : BiosData) → row_at d.mode d.height ≡ Some bytes_320_by_200 → IsPacked c d → IsCard c → IsDrawn packed_raster bytes_320_by_200 c d
 packed_drawn c d e t z =
     let page = packed.only_page c d t z in
     record {
@@ -99,7 +100,7 @@ packed_drawn c d e t z =
     }
 
 -- a mode of graphics is one of these
-frame_by : (law : DotLaws) (c : CardState) (d : BiosData) (k : Graphics) → mode_row d.mode ≡ Some (row_in k) → d.mode ≡ number_in k → AllTests (row_in k) c d → IsCard c → IsFrameStart c.crtc.beam → IsFramed c d (pixel_screen (row_in k) c d)
+frame_by : (law : DotLaws) (c : CardState) (d : BiosData) (k : Graphics) → row_at d.mode d.height ≡ Some (row_in k) → d.mode ≡ number_in k → AllTests (row_in k) c d → IsCard c → IsFrameStart c.crtc.beam → IsFramed c d (pixel_screen (row_in k) c d)
 frame_by law c d (Sixteen m) e n tests z start = framed law (raster m) (row_of m) c d (planar_drawn m c d e (record { number = n; tests = tests; has = data_is (row_of m) d tests.data_test }) z) start
 frame_by law c d Many e n tests z start = framed law packed_raster bytes_320_by_200 c d (packed_drawn c d e (record { number = n; tests = tests; has = data_is bytes_320_by_200 d tests.data_test }) z) start
 
@@ -111,7 +112,7 @@ frame_drawn law c d s z e start = by_kind (is_text d.mode) refl
     by_kind true t = frame_framed law c d s z e t start
     by_kind false t =
         let x = pixels_of_shown c d s t e in
-        let g = graphics_row d.mode x.is.row t x.is.mode in
+        let g = graphics_row d.mode d.height x.is.row t x.is.mode in
         let tests = subst (λ r. AllTests r c d) (sym g.row_is) x.is.tests in
         let framed_there = frame_by law c d g.kind (x.is.mode ∙ ap Some (sym g.row_is)) g.number tests z start in
         subst (IsFramed c d) x.screen (subst (λ r. IsFramed c d (pixel_screen r c d)) g.row_is framed_there)

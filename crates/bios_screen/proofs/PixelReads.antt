@@ -6,7 +6,7 @@ use Rattle.vga_bits.specs.declared.refusal.Refusal.TheVariants.{BadPage, Outside
 use Rattle.vga_card.specs.Bus.{card_meaning}
 use Rattle.vga_card.specs.Card.{CardState}
 use Rattle.bios_modes.specs.declared.modes.ModeRow.{ModeRow}
-use Rattle.bios_modes.specs.Modes.{mode_row}
+use Rattle.bios_modes.specs.Heights.{row_at}
 use Rattle.bios_modes.specs.Bda.{BiosData}
 use Rattle.bios_modes.specs.Fonts.{FontSet}
 use Rattle.bios_services.specs.declared.regs.Regs.{Regs}
@@ -32,7 +32,7 @@ use Rattle.bios_screen.proofs.Kept.{plan_beam}
 use Rattle.bios_screen.proofs.Shows.{named_page}
 use Rattle.bios_screen.proofs.Writes.{cursor_allowed}
 
-module _ (row : ModeRow) (c : CardState) (d : BiosData) (e : mode_row d.mode ≡ Some row) (text : is_text d.mode ≡ false) where
+module _ (row : ModeRow) (c : CardState) (d : BiosData) (e : row_at d.mode d.height ≡ Some row) (text : is_text d.mode ≡ false) where
   abbrev s : Screen
   s = pixel_screen row c d
 

@@ -6,7 +6,7 @@ use Rattle.vga_bits.specs.declared.refusal.Refusal.TheVariants.{WrongKind, BadPa
 use Rattle.vga_card.specs.Bus.{card_meaning}
 use Rattle.vga_card.specs.Card.{CardState}
 use Rattle.bios_modes.specs.declared.modes.ModeRow.{ModeRow}
-use Rattle.bios_modes.specs.Modes.{mode_row}
+use Rattle.bios_modes.specs.Heights.{row_at}
 use Rattle.bios_modes.specs.Bda.{BiosData}
 use Rattle.bios_modes.specs.Fonts.{FontSet}
 use Rattle.bios_services.specs.declared.regs.Regs.{Regs}
@@ -37,7 +37,7 @@ pub record There (row : ModeRow) (d : BiosData) (p x y : ℕ) : Type 0 where
 pub number_within : (row : ModeRow) (d : BiosData) (p x y : ℕ) → There row d p x y → 8 * d.columns * y + x < page_pixels d
 number_within row d p x y h = let a = h.across in let b = ends_before (8 * d.columns) y (d.height * (d.last_row + 1)) h.down in omega arith
 
-module _ (row : ModeRow) (c : CardState) (d : BiosData) (e : mode_row d.mode ≡ Some row) (text : is_text d.mode ≡ false) where
+module _ (row : ModeRow) (c : CardState) (d : BiosData) (e : row_at d.mode d.height ≡ Some row) (text : is_text d.mode ≡ false) where
   abbrev s : Screen
   s = pixel_screen row c d
 

@@ -3,7 +3,7 @@ use Rattle.std.proofs.Common.{◌≡◌, refl, sym, ap, ◌∙◌, false, Option
 use Rattle.std.specs.Prelude.{if◌then◌else◌}
 use Rattle.vga_card.specs.Card.{CardState}
 use Rattle.bios_modes.specs.declared.modes.ModeRow.{ModeRow}
-use Rattle.bios_modes.specs.Modes.{mode_row}
+use Rattle.bios_modes.specs.Heights.{row_at}
 use Rattle.bios_modes.specs.Bda.{BiosData}
 use Rattle.bios_services.specs.ModeSet.{is_text}
 use Rattle.bios_screen.specs.Screen.{Screen}
@@ -14,7 +14,7 @@ use Rattle.bios_screen.proofs.Shows.{HasData, data_is, AllTests, all_tests_of, s
 -- all that a screen of pixels says
 pub record IsPixels (c : CardState) (d : BiosData) : Type 0 where
   pub row : ModeRow
-  pub mode : mode_row d.mode ≡ Some row
+  pub mode : row_at d.mode d.height ≡ Some row
   pub text : is_text d.mode ≡ false
   pub tests : AllTests row c d
   pub has : HasData row d
@@ -31,9 +31,9 @@ pub screen_is_pixels : (row : ModeRow) (c : CardState) (d : BiosData) → is_tex
 screen_is_pixels row c d t = ap (λ b. let x : Screen = (if b then text_screen row c d else pixel_screen row c d) in x) t
 
 pub pixels_of_shown : (c : CardState) (d : BiosData) (s : Screen) → is_text d.mode ≡ false → shown c d ≡ Some s → ShowsPixels c d s
-pixels_of_shown c d s t h = by_row (mode_row d.mode) refl h
+pixels_of_shown c d s t h = by_row (row_at d.mode d.height) refl h
   where
-    by_row : (x : Option ModeRow) → mode_row d.mode ≡ x → shown_by x c d ≡ Some s → ShowsPixels c d s
+    by_row : (x : Option ModeRow) → row_at d.mode d.height ≡ x → shown_by x c d ≡ Some s → ShowsPixels c d s
     by_row None e g = none_some s g
     by_row (Some row) e g =
         let parts = if_some (shows row c d) (screen_of row c d) s g in
@@ -44,7 +44,7 @@ pixels_of_shown c d s t h = by_row (mode_row d.mode) refl h
         }
 
 -- and back
-pub pixels_shown_of : (c : CardState) (d : BiosData) (row : ModeRow) → mode_row d.mode ≡ Some row → is_text d.mode ≡ false → AllTests row c d → shown c d ≡ Some (pixel_screen row c d)
+pub pixels_shown_of : (c : CardState) (d : BiosData) (row : ModeRow) → row_at d.mode d.height ≡ Some row → is_text d.mode ≡ false → AllTests row c d → shown c d ≡ Some (pixel_screen row c d)
 pixels_shown_of c d row e t tests =
     ap (λ x. shown_by x c d) e
     ∙ ap (λ b. if b then Some (screen_of row c d) else None) (shows_by row c d tests)

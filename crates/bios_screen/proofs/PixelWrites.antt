@@ -6,7 +6,7 @@ use Rattle.vga_bits.specs.declared.refusal.Refusal.TheVariants.{BadPage, Outside
 use Rattle.vga_card.specs.Bus.{card_meaning}
 use Rattle.vga_card.specs.Card.{CardState}
 use Rattle.bios_modes.specs.declared.modes.ModeRow.{ModeRow}
-use Rattle.bios_modes.specs.Modes.{mode_row}
+use Rattle.bios_modes.specs.Heights.{row_at}
 use Rattle.bios_modes.specs.Bda.{BiosData}
 use Rattle.bios_modes.specs.Fonts.{FontSet}
 use Rattle.bios_services.specs.declared.regs.Regs.{Regs}
@@ -42,7 +42,7 @@ one_character fonts d p q character ink c =
 pub place_within : (d : BiosData) (place : ℕ) → row_of place < d.last_row + 1 → column_of place < d.columns → cell_number d place + 1 ≤ cells_of d
 place_within d place lr lc = let a = ends_before d.columns (row_of place) (d.last_row + 1) lr in omega arith
 
-module _ (row : ModeRow) (c : CardState) (d : BiosData) (e : mode_row d.mode ≡ Some row) where
+module _ (row : ModeRow) (c : CardState) (d : BiosData) (e : row_at d.mode d.height ≡ Some row) where
   abbrev s : Screen
   s = pixel_screen row c d
 

@@ -13,7 +13,7 @@ use Rattle.vga_card.specs.Bus.{card_meaning}
 use Rattle.vga_card.specs.Card.{CardState}
 use Rattle.vga_card.specs.Port.{port_of}
 use Rattle.vga_card.specs.Cycles.{out_at}
-use Rattle.bios_modes.specs.Modes.{mode_row}
+use Rattle.bios_modes.specs.Heights.{row_at}
 use Rattle.bios_modes.specs.Bda.{BiosData}
 use Rattle.bios_modes.specs.Fonts.{FontSet}
 use Rattle.bios_services.specs.declared.regs.Regs.{Regs}
@@ -126,7 +126,7 @@ eighth w y x = let e : 8 * w * y ≡ 8 * (w * y) = omega arith in omega arith
 pub rest_of_8 : (w y x : ℕ) → x % 8 ≡ (8 * w * y + x) % 8
 rest_of_8 w y x = let e : 8 * w * y ≡ 8 * (w * y) = omega arith in omega arith
 
-module _ (m : Planes) (c : CardState) (d : BiosData) (t : IsPlanar m c d) (e : mode_row d.mode ≡ Some (row_of m)) (z : IsCard c) where
+module _ (m : Planes) (c : CardState) (d : BiosData) (t : IsPlanar m c d) (e : row_at d.mode d.height ≡ Some (row_of m)) (z : IsCard c) where
   abbrev s : Screen
   s = pixel_screen (row_of m) c d
 

@@ -7,7 +7,7 @@ use Rattle.vga_planes.specs.Planes.{bytes_at}
 use Rattle.vga_card.specs.Bounds.{IsCard}
 use Rattle.vga_card.specs.Card.{CardState}
 use Rattle.bios_modes.specs.Bda.{BiosData}
-use Rattle.bios_modes.specs.Modes.{mode_row}
+use Rattle.bios_modes.specs.Heights.{row_at}
 use Rattle.bios_services.specs.ModeSet.{is_text}
 use Rattle.bios_screen.specs.Listing.{listing}
 use Rattle.bios_screen.specs.Screen.{Pixels, Screen}
@@ -39,7 +39,7 @@ page_room Low k l = omega arith
 page_room Middle k l = omega arith
 page_room High k l = omega arith
 
-module _ (m : Planes) (c : CardState) (d : BiosData) (t : IsPlanar m c d) (e : mode_row d.mode ≡ Some (row_of m)) (z : IsCard c) where
+module _ (m : Planes) (c : CardState) (d : BiosData) (t : IsPlanar m c d) (e : row_at d.mode d.height ≡ Some (row_of m)) (z : IsCard c) where
   abbrev s : Screen
   s = pixel_screen (row_of m) c d
 

@@ -8,7 +8,7 @@ use Rattle.vga_planes.specs.Planes.{bytes_at}
 use Rattle.vga_card.specs.Bounds.{IsCard}
 use Rattle.vga_card.specs.Bus.{card_meaning}
 use Rattle.vga_card.specs.Card.{CardState}
-use Rattle.bios_modes.specs.Modes.{mode_row}
+use Rattle.bios_modes.specs.Heights.{row_at}
 use Rattle.bios_modes.specs.Bda.{BiosData}
 use Rattle.bios_modes.specs.Fonts.{FontSet}
 use Rattle.bios_services.specs.declared.regs.Regs.{Regs}
@@ -47,7 +47,7 @@ fits_by Low p l = omega arith
 fits_by Middle p l = omega arith
 fits_by High p l = omega arith
 
-module _ (law : KeepsBounds) (m : Planes) (c : CardState) (d : BiosData) (t : IsPlanar m c d) (e : mode_row d.mode ≡ Some (row_of m)) (z : IsCard c) (p : ℕ) (lp : p < (row_of m).pages) (scroll : Scroll) where
+module _ (law : KeepsBounds) (m : Planes) (c : CardState) (d : BiosData) (t : IsPlanar m c d) (e : row_at d.mode d.height ≡ Some (row_of m)) (z : IsCard c) (p : ℕ) (lp : p < (row_of m).pages) (scroll : Scroll) where
   abbrev s : Screen
   s = pixel_screen (row_of m) c d
 
@@ -227,8 +227,8 @@ module _ (law : KeepsBounds) (m : Planes) (c : CardState) (d : BiosData) (t : Is
           (cases_lt (pixel_row s k) (scroll.top + n))
 
 -- the window of a call is on the active page
-pub scroll_up : (law : KeepsBounds) (m : Planes) (c : CardState) (d : BiosData) (t : IsPlanar m c d) → mode_row d.mode ≡ Some (row_of m) → IsCard c → (scroll : Scroll) (fonts : FontSet) (r : Regs) (block : List ℕ) → IsServed (ScrollUp scroll) fonts r block c d (pixel_screen (row_of m) c d)
+pub scroll_up : (law : KeepsBounds) (m : Planes) (c : CardState) (d : BiosData) (t : IsPlanar m c d) → row_at d.mode d.height ≡ Some (row_of m) → IsCard c → (scroll : Scroll) (fonts : FontSet) (r : Regs) (block : List ℕ) → IsServed (ScrollUp scroll) fonts r block c d (pixel_screen (row_of m) c d)
 scroll_up law m c d t e z scroll fonts r block = pixel_windows.scroll_up (row_of m) c d scroll fonts r block (stays law m c d t e z d.page t.has.page scroll) (up_shown law m c d t e z d.page t.has.page scroll)
 
-pub scroll_down : (law : KeepsBounds) (m : Planes) (c : CardState) (d : BiosData) (t : IsPlanar m c d) → mode_row d.mode ≡ Some (row_of m) → IsCard c → (scroll : Scroll) (fonts : FontSet) (r : Regs) (block : List ℕ) → IsServed (ScrollDown scroll) fonts r block c d (pixel_screen (row_of m) c d)
+pub scroll_down : (law : KeepsBounds) (m : Planes) (c : CardState) (d : BiosData) (t : IsPlanar m c d) → row_at d.mode d.height ≡ Some (row_of m) → IsCard c → (scroll : Scroll) (fonts : FontSet) (r : Regs) (block : List ℕ) → IsServed (ScrollDown scroll) fonts r block c d (pixel_screen (row_of m) c d)
 scroll_down law m c d t e z scroll fonts r block = pixel_windows.scroll_down (row_of m) c d scroll fonts r block (stays law m c d t e z d.page t.has.page scroll) (down_shown law m c d t e z d.page t.has.page scroll)

@@ -8,7 +8,7 @@ use Rattle.std.proofs.lemmas.Slice.Eq.{bytes_eq-Decides}
 use Rattle.vga_bits.specs.Four.{Four}
 use Rattle.vga_card.specs.Card.{CardState}
 use Rattle.bios_modes.specs.declared.modes.ModeRow.{ModeRow}
-use Rattle.bios_modes.specs.Modes.{mode_row}
+use Rattle.bios_modes.specs.Heights.{row_at}
 use Rattle.bios_modes.specs.Bda.{BiosData}
 use Rattle.bios_services.specs.ModeSet.{is_text}
 use Rattle.bios_services.specs.Cursor.{start_address}
@@ -180,11 +180,11 @@ pixel_inside w v page pages x y lp lx ly = let a = ends_before (w * v) page page
 is_both : {Y : Type 0} (b : Bool) → b ≡ true → b ≡ false → Y
 is_both b t f = absurd (cc)
 
-pub text_laid_out : (row : ModeRow) (c : CardState) (d : BiosData) → mode_row d.mode ≡ Some row → is_text d.mode ≡ true → shows row c d ≡ true → (mode : ℕ) (l : Layout) (n m : ℕ) → mode ≡ d.mode → l.columns ≡ d.columns → l.rows ≡ d.last_row + 1 → l.distance ≡ d.size / 2 → l.pages ≡ row.pages → n ≡ 16384 → IsLaidOut mode l n m
+pub text_laid_out : (row : ModeRow) (c : CardState) (d : BiosData) → row_at d.mode d.height ≡ Some row → is_text d.mode ≡ true → shows row c d ≡ true → (mode : ℕ) (l : Layout) (n m : ℕ) → mode ≡ d.mode → l.columns ≡ d.columns → l.rows ≡ d.last_row + 1 → l.distance ≡ d.size / 2 → l.pages ≡ row.pages → n ≡ 16384 → IsLaidOut mode l n m
 text_laid_out row c d e t h mode l n m em ec er ed ep en =
     let tests = tests_of row c d t h in
     let has = data_is row d tests.data_test in
-    let text = (text_row_is d.mode row t e).is in
+    let text = (text_row_is d.mode d.height row t e).is in
     let fits = text.fits in
     let memory = text.memory in
     let last : d.last_row + 1 ≡ row.last_row + 1 = ap (λ k. k + 1) has.last_row in
@@ -211,10 +211,10 @@ numbers_by (Sixteen Middle) = record { columns_few = omega arith; height_few = o
 numbers_by (Sixteen High) = record { columns_few = omega arith; height_few = omega arith; all = omega arith; page = omega arith; packed = λ e. omega arith }
 numbers_by Many = record { columns_few = omega arith; height_few = omega arith; all = omega arith; page = omega arith; packed = λ e. omega arith }
 
-pub pixel_numbers : (row : ModeRow) (c : CardState) (d : BiosData) → mode_row d.mode ≡ Some row → is_text d.mode ≡ false → shows row c d ≡ true → PixelNumbers row d.mode d.columns d.height d.size (page_pixels d)
+pub pixel_numbers : (row : ModeRow) (c : CardState) (d : BiosData) → row_at d.mode d.height ≡ Some row → is_text d.mode ≡ false → shows row c d ≡ true → PixelNumbers row d.mode d.columns d.height d.size (page_pixels d)
 pixel_numbers row c d e t h =
     let has = data_is row d (all_tests_of row c d h).data_test in
-    let g = graphics_row d.mode row t e in
+    let g = graphics_row d.mode d.height row t e in
     let at : PixelNumbers row d.mode row.columns row.height row.size (pixels_of row) = subst (λ r. PixelNumbers r d.mode r.columns r.height r.size (pixels_of r)) g.row_is (subst (λ m. PixelNumbers (row_in g.kind) m (row_in g.kind).columns (row_in g.kind).height (row_in g.kind).size (pixels_of (row_in g.kind))) (sym g.number) (numbers_by g.kind)) in
     let n : pixels_of row ≡ page_pixels d = sym (ap (λ i. 8 * i * (d.height * (d.last_row + 1))) has.columns ∙ ap (λ i. 8 * row.columns * (i * (d.last_row + 1))) has.height ∙ ap (λ i. 8 * row.columns * (row.height * (i + 1))) has.last_row) in
     subst (λ i. PixelNumbers row d.mode i d.height d.size (page_pixels d)) (sym has.columns)

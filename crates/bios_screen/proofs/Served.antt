@@ -5,7 +5,8 @@ use Rattle.vga_card.specs.Card.{CardState}
 use Rattle.bios_modes.specs.Bda.{BiosData}
 use Rattle.bios_modes.specs.Fonts.{FontSet}
 use Rattle.bios_modes.specs.Bounds.{IsBda}
-use Rattle.bios_modes.specs.Modes.{mode_row, bytes_320_by_200}
+use Rattle.bios_modes.specs.Modes.{bytes_320_by_200}
+use Rattle.bios_modes.specs.Heights.{row_at}
 use Rattle.bios_services.specs.ModeSet.{is_text}
 use Rattle.bios_services.specs.declared.regs.Regs.{Regs}
 use Rattle.bios_services.specs.declared.scroll.Scroll.{Scroll}
@@ -70,8 +71,8 @@ read_display = serves_any ReadDisplay (λ fonts r block c d h bytes z bda. any.r
 
 -- in text, in 16 colours and in 256
 serves_each : (service : Service) → ((fonts : FontSet) (r : Regs) (block : List ℕ) (c : CardState) (d : BiosData) (h : IsShown c d) → IsCard c → IsServed service fonts r block c d (screen_shown c d h))
-    → ((m : Planes) (fonts : FontSet) (r : Regs) (block : List ℕ) (c : CardState) (d : BiosData) → IsPlanar m c d → mode_row d.mode ≡ Some (row_of m) → IsCard c → IsServed service fonts r block c d (pixel_screen (row_of m) c d))
-    → ((fonts : FontSet) (r : Regs) (block : List ℕ) (c : CardState) (d : BiosData) → IsPacked c d → mode_row d.mode ≡ Some bytes_320_by_200 → IsCard c → IsServed service fonts r block c d (pixel_screen bytes_320_by_200 c d))
+    → ((m : Planes) (fonts : FontSet) (r : Regs) (block : List ℕ) (c : CardState) (d : BiosData) → IsPlanar m c d → row_at d.mode d.height ≡ Some (row_of m) → IsCard c → IsServed service fonts r block c d (pixel_screen (row_of m) c d))
+    → ((fonts : FontSet) (r : Regs) (block : List ℕ) (c : CardState) (d : BiosData) → IsPacked c d → row_at d.mode d.height ≡ Some bytes_320_by_200 → IsCard c → IsServed service fonts r block c d (pixel_screen bytes_320_by_200 c d))
     → Serves service
 serves_each service text planar packed fonts r block c d s bytes z bda e = by_kind (is_text d.mode) refl
   where

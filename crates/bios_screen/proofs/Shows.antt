@@ -6,7 +6,8 @@ use Rattle.std.proofs.lemmas.Slice.Eq.{bytes_eq-Decides}
 use Rattle.vga_attr.specs.Fields.{is_palette_shown}
 use Rattle.vga_card.specs.Card.{CardState}
 use Rattle.bios_modes.specs.declared.modes.ModeRow.{ModeRow}
-use Rattle.bios_modes.specs.Modes.{mode_row}
+use Rattle.bios_modes.specs.Heights.{row_at}
+use Rattle.bios_modes.specs.Heights.{row_at}
 use Rattle.bios_modes.specs.Bda.{BiosData}
 use Rattle.bios_services.specs.declared.kind.Kind.{Kind}
 use Rattle.bios_services.specs.declared.kind.Kind.TheVariants.{Text, Planar, Packed}
@@ -19,7 +20,7 @@ use Rattle.bios_screen.specs.Screen.{Screen}
 use Rattle.bios_screen.specs.Shown.{shows_memory, crtc_registers, crtc_shown, shows_attribute, shows_data, shows, text_screen, pixel_screen, screen_of, shown_by, shown}
 use Rattle.bios_screen.proofs.TestLemmas.{both_true, if_some, none_some, same, lt_is}
 use Rattle.bios_screen.proofs.Setting.{Setting, setting}
-use Rattle.bios_screen.proofs.Display.{Display, text_setting, text_sequencer, misc_of, IsTextRow, text_row_is, row_of, number_of, control_of, control_by}
+use Rattle.bios_screen.proofs.Display.{Display, text_setting, text_sequencer, misc_of, IsTextRow, text_row_is, Height, row_with, number_of, control_of, control_by}
 
 -- the data as numbers
 pub record HasData (row : ModeRow) (d : BiosData) : Type 0 where
@@ -32,7 +33,7 @@ pub record HasData (row : ModeRow) (d : BiosData) : Type 0 where
   pub page : d.page < row.pages
 
 -- the page that a call names, in a mode with this row
-pub named_page : (row : ModeRow) (d : BiosData) → mode_row d.mode ≡ Some row → (page : ℕ) → page_named d page ≡ (if row.pages == 1 then 0 else page)
+pub named_page : (row : ModeRow) (d : BiosData) → row_at d.mode d.height ≡ Some row → (page : ℕ) → page_named d page ≡ (if row.pages == 1 then 0 else page)
 named_page row d e page = ap (λ (x : Option ModeRow). if pages_in x == 1 then 0 else page) e
 
 pub data_is : (row : ModeRow) (d : BiosData) → shows_data row d ≡ true → HasData row d
@@ -118,10 +119,11 @@ setting_is disp mode row c text h =
 -- all that a shown screen says
 pub record IsShown (c : CardState) (d : BiosData) : Type 0 where
   pub row : ModeRow
-  pub mode : mode_row d.mode ≡ Some row
+  pub mode : row_at d.mode d.height ≡ Some row
   pub display : Display
+  pub height : Height
   pub text : IsTextRow display d.mode row
-  pub row_is : row ≡ row_of display
+  pub row_is : row ≡ row_with display height
   pub number : d.mode ≡ number_of display
   pub tests : Tests row c d
   pub has : HasData row d
@@ -140,21 +142,21 @@ pub screen_is_text : (row : ModeRow) (c : CardState) (d : BiosData) → is_text 
 screen_is_text row c d t = ap (λ b. let x : Screen = (if b then text_screen row c d else pixel_screen row c d) in x) t
 
 pub shown_is : (c : CardState) (d : BiosData) (s : Screen) → is_text d.mode ≡ true → shown c d ≡ Some s → Shows c d s
-shown_is c d s t h = by_row (mode_row d.mode) refl h
+shown_is c d s t h = by_row (row_at d.mode d.height) refl h
   where
-    by_row : (x : Option ModeRow) → mode_row d.mode ≡ x → shown_by x c d ≡ Some s → Shows c d s
+    by_row : (x : Option ModeRow) → row_at d.mode d.height ≡ x → shown_by x c d ≡ Some s → Shows c d s
     by_row None e g = none_some s g
     by_row (Some row) e g =
         let parts = if_some (shows row c d) (screen_of row c d) s g in
         let tests = tests_of row c d t parts.0 in
-        let text = text_row_is d.mode row t e in
+        let text = text_row_is d.mode d.height row t e in
         record {
-          is = record { row = row; mode = e; display = text.display; text = text.is; row_is = text.row_is; number = text.number; tests = tests; has = data_is row d tests.data_test; setting = setting_is text.display d.mode row c text.is tests.memory };
+          is = record { row = row; mode = e; display = text.display; height = text.height; text = text.is; row_is = text.row_is; number = text.number; tests = tests; has = data_is row d tests.data_test; setting = setting_is text.display d.mode row c text.is tests.memory };
           screen = sym (screen_is_text row c d t) ∙ parts.1;
         }
 
 -- and back
-pub shown_of : (c : CardState) (d : BiosData) (row : ModeRow) → mode_row d.mode ≡ Some row → Tests row c d → shown c d ≡ Some (text_screen row c d)
+pub shown_of : (c : CardState) (d : BiosData) (row : ModeRow) → row_at d.mode d.height ≡ Some row → Tests row c d → shown c d ≡ Some (text_screen row c d)
 shown_of c d row e t =
     ap (λ x. shown_by x c d) e
     ∙ ap (λ b. if b then Some (screen_of row c d) else None) (test_of row c d t)
@@ -168,17 +170,17 @@ pub record HasMode (d : BiosData) (s : Screen) : Type 0 where
   pub set : (d.mode == 0) ≡ false
 
 pub mode_of_shown : (c : CardState) (d : BiosData) (s : Screen) → shown c d ≡ Some s → HasMode d s
-mode_of_shown c d s h = by_row (mode_row d.mode) refl h
+mode_of_shown c d s h = by_row (row_at d.mode d.height) refl h
   where
     by_kind : (b : Bool) (row : ModeRow) → (let x : Screen = (if b then text_screen row c d else pixel_screen row c d) in x).mode ≡ d.mode
     by_kind true row = refl
     by_kind false row = refl
 
-    not_0 : (b : Bool) (row : ModeRow) → (d.mode == 0) ≡ b → mode_row d.mode ≡ Some row → (d.mode == 0) ≡ false
-    not_0 true row e g = none_some row (sym (ap mode_row (same e)) ∙ g)
+    not_0 : (b : Bool) (row : ModeRow) → (d.mode == 0) ≡ b → row_at d.mode d.height ≡ Some row → (d.mode == 0) ≡ false
+    not_0 true row e g = none_some row (sym (ap (λ m. row_at m d.height) (same e)) ∙ g)
     not_0 false row e g = e
 
-    by_row : (x : Option ModeRow) → mode_row d.mode ≡ x → shown_by x c d ≡ Some s → HasMode d s
+    by_row : (x : Option ModeRow) → row_at d.mode d.height ≡ x → shown_by x c d ≡ Some s → HasMode d s
     by_row None e g = none_some s g
     by_row (Some row) e g =
         let parts = if_some (shows row c d) (screen_of row c d) s g in

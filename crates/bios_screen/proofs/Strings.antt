@@ -10,7 +10,7 @@ use Rattle.bios_modes.specs.declared.modes.ModeRow.{ModeRow}
 use Rattle.bios_modes.specs.Bda.{BiosData}
 use Rattle.bios_modes.specs.Bounds.{IsBda, AreBytes}
 use Rattle.bios_modes.specs.Fonts.{FontSet}
-use Rattle.bios_modes.specs.Modes.{mode_row}
+use Rattle.bios_modes.specs.Heights.{row_at}
 use Rattle.bios_services.specs.declared.regs.Regs.{Regs}
 use Rattle.bios_services.specs.declared.strings.StringCall.{StringCall}
 use Rattle.bios_services.specs.declared.call.Service.TheVariants.{WriteString}
@@ -89,7 +89,7 @@ module _ (law : KeepsBounds) (fonts : FontSet) (d : BiosData) (p : ℕ) (lp : p 
 string_refusal_is : (c : CardState) (d : BiosData) (h : IsAny c d) (call : StringCall) (len : ℕ) → string_refusal d call len ≡ string_refused (any_screen c d h c) call len
 string_refusal_is c d h call len =
     let wrong = block_refusal len (string_len call) in
-    ap (λ p. let y : Option Refusal = (if nat_lt p (pages_in (mode_row d.mode)) then (if is_on_page d call.place then wrong else Some Outside) else Some BadPage) in y) (any_meant c d h call.page)
+    ap (λ p. let y : Option Refusal = (if nat_lt p (pages_in (row_at d.mode d.height)) then (if is_on_page d call.place then wrong else Some Outside) else Some BadPage) in y) (any_meant c d h call.page)
     ∙ ap (λ (x : Option ModeRow). let y : Option Refusal = (if nat_lt (page_meant (any_screen c d h c) call.page) (pages_in x) then (if is_on_page d call.place then wrong else Some Outside) else Some BadPage) in y) h.mode
     ∙ ap (λ b. let y : Option Refusal = (if nat_lt (page_meant (any_screen c d h c) call.page) h.row.pages then (if b && nat_lt (column_of call.place) d.columns then wrong else Some Outside) else Some BadPage) in y) (le_lt (row_of call.place) d.last_row)
 

@@ -14,8 +14,9 @@ use Rattle.bios_modes.specs.Bda.{BiosData}
 use Rattle.bios_services.specs.Registers.{high, low}
 use Rattle.bios_screen.specs.Shown.{crtc_registers}
 use Rattle.bios_screen.specs.Raster.{Raster}
-use Rattle.bios_screen.proofs.Display.{Display, row_of, number_of}
+use Rattle.bios_screen.proofs.Display.{Display, Height, row_with, number_of}
 use Rattle.bios_screen.proofs.Display.Display.{Colour, Monochrome}
+use Rattle.bios_screen.proofs.Display.Height.{Eight, Fourteen, Sixteen}
 use Rattle.bios_screen.proofs.Shows.{IsShown}
 
 -- the numbers that registers of text say
@@ -45,52 +46,86 @@ pub record IsTextFrame (mode : ℕ) (row : ModeRow) : Type 0 where
 
 -- ---- each row of text is one
 
-abbrev registers_of : Display → ℕ → ℕ → ℕ → List ℕ
-registers_of disp type start location = crtc_registers (row_of disp) type start location
+abbrev registers_of : Display → Height → ℕ → ℕ → ℕ → List ℕ
+registers_of disp height type start location = crtc_registers (row_with disp height) type start location
 
-numbers_by : (disp : Display) (type start location : ℕ) → numbers_of (registers_of disp type start location) ≡ record { dots = 9; columns = (row_of disp).columns; height = (row_of disp).height * ((row_of disp).last_row + 1); characters = 100; lines = 449 }
+numbers_by : (disp : Display) (height : Height) (type start location : ℕ) → numbers_of (registers_of disp height type start location) ≡ record { dots = 9; columns = (row_with disp height).columns; height = (row_with disp height).height * ((row_with disp height).last_row + 1); characters = 100; lines = 449 }
 unfolding horizontal_total horizontal_display_end vertical_total vertical_display_end
-numbers_by Colour type start location = refl
-numbers_by Monochrome type start location = refl
+numbers_by Colour Eight type start location = refl
+numbers_by Colour Fourteen type start location = refl
+numbers_by Colour Sixteen type start location = refl
+numbers_by Monochrome Eight type start location = refl
+numbers_by Monochrome Fourteen type start location = refl
+numbers_by Monochrome Sixteen type start location = refl
 
 -- no frame of text is cut, or begins within a row of characters
-regular_by : (disp : Display) (type start location : ℕ) → IsRegular (registers_of disp type start location)
+regular_by : (disp : Display) (height : Height) (type start location : ℕ) → IsRegular (registers_of disp height type start location)
 unfolding vertical_total line_compare preset_row_scan
-regular_by Colour type start location = record { uncut = omega arith; unscrolled = refl }
-regular_by Monochrome type start location = record { uncut = omega arith; unscrolled = refl }
+regular_by Colour Eight type start location = record { uncut = omega arith; unscrolled = refl }
+regular_by Colour Fourteen type start location = record { uncut = omega arith; unscrolled = refl }
+regular_by Colour Sixteen type start location = record { uncut = omega arith; unscrolled = refl }
+regular_by Monochrome Eight type start location = record { uncut = omega arith; unscrolled = refl }
+regular_by Monochrome Fourteen type start location = record { uncut = omega arith; unscrolled = refl }
+regular_by Monochrome Sixteen type start location = record { uncut = omega arith; unscrolled = refl }
 
-beam_by : (disp : Display) (type start location a frame v x k : ℕ) → regular_beam (registers_of disp type start location) a frame v x k ≡ beam_of (row_of disp) a frame v x k
+beam_by : (disp : Display) (height : Height) (type start location a frame v x k : ℕ) → regular_beam (registers_of disp height type start location) a frame v x k ≡ beam_of (row_with disp height) a frame v x k
 unfolding maximum_scan_line is_double_scan offset
-beam_by Colour type start location a frame v x k = refl
-beam_by Monochrome type start location a frame v x k = refl
+beam_by Colour Eight type start location a frame v x k = refl
+beam_by Colour Fourteen type start location a frame v x k = refl
+beam_by Colour Sixteen type start location a frame v x k = refl
+beam_by Monochrome Eight type start location a frame v x k = refl
+beam_by Monochrome Fourteen type start location a frame v x k = refl
+beam_by Monochrome Sixteen type start location a frame v x k = refl
 
 -- a frame begins with the start address
-first_by : (k : Display) (type start location : ℕ) → first_counter (registers_of k type start location) ≡ (256 * (start / 256) + start % 256 + 0) % 65536
+first_by : (disp : Display) (height : Height) (type start location : ℕ) → first_counter (registers_of disp height type start location) ≡ (256 * (start / 256) + start % 256 + 0) % 65536
 unfolding address_of byte_panning
-first_by Colour type start location = refl
-first_by Monochrome type start location = refl
+first_by Colour Eight type start location = refl
+first_by Colour Fourteen type start location = refl
+first_by Colour Sixteen type start location = refl
+first_by Monochrome Eight type start location = refl
+first_by Monochrome Fourteen type start location = refl
+first_by Monochrome Sixteen type start location = refl
 
-fetch_by : (disp : Display) (type start location n : ℕ) → fetch_address (registers_of disp type start location) n ≡ 2 * n % 65536 + bit_at n 15
+fetch_by : (disp : Display) (height : Height) (type start location n : ℕ) → fetch_address (registers_of disp height type start location) n ≡ 2 * n % 65536 + bit_at n 15
 unfolding fetch_address is_double_word is_byte_mode is_address_wrap
-fetch_by Colour type start location n = refl
-fetch_by Monochrome type start location n = refl
+fetch_by Colour Eight type start location n = refl
+fetch_by Colour Fourteen type start location n = refl
+fetch_by Colour Sixteen type start location n = refl
+fetch_by Monochrome Eight type start location n = refl
+fetch_by Monochrome Fourteen type start location n = refl
+fetch_by Monochrome Sixteen type start location n = refl
 
-underline_by : (disp : Display) (type start location : ℕ) (v : Bool) (r : ℕ) → ((number_of disp == 0x07) && v && r == underline_location (registers_of disp type start location)) ≡ ((number_of disp == 0x07) && (v && (r == 15)))
+underline_by : (disp : Display) (height : Height) (type start location : ℕ) (v : Bool) (r : ℕ) → ((number_of disp == 0x07) && v && r == underline_location (registers_of disp height type start location)) ≡ ((number_of disp == 0x07) && (v && (r == (row_with disp height).height - 1)))
 unfolding underline_location
-underline_by Colour type start location v r = refl
-underline_by Monochrome type start location true r = refl
-underline_by Monochrome type start location false r = refl
+underline_by Colour Eight type start location v r = refl
+underline_by Colour Fourteen type start location v r = refl
+underline_by Colour Sixteen type start location v r = refl
+underline_by Monochrome Eight type start location true r = refl
+underline_by Monochrome Eight type start location false r = refl
+underline_by Monochrome Fourteen type start location true r = refl
+underline_by Monochrome Fourteen type start location false r = refl
+underline_by Monochrome Sixteen type start location true r = refl
+underline_by Monochrome Sixteen type start location false r = refl
 
-cursor_by : (disp : Display) (type start location k r : ℕ) (f : Bool) → (let l = registers_of disp type start location in (k == cursor_location l) && not (is_cursor_off l) && nat_le (cursor_start l) r && nat_le r (cursor_end l) && f)
+cursor_by : (disp : Display) (height : Height) (type start location k r : ℕ) (f : Bool) → (let l = registers_of disp height type start location in (k == cursor_location l) && not (is_cursor_off l) && nat_le (cursor_start l) r && nat_le r (cursor_end l) && f)
     ≡ ((k == 256 * (location / 256) + location % 256) && not (is_set (bit_and (high type) 0x3F) 5) && nat_le (field (bit_and (high type) 0x3F) 4 0) r && nat_le r (field (bit_and (low type) 0x7F) 4 0) && f)
 unfolding cursor_location is_cursor_off cursor_start cursor_end
-cursor_by Colour type start location k r f = refl
-cursor_by Monochrome type start location k r f = refl
+cursor_by Colour Eight type start location k r f = refl
+cursor_by Colour Fourteen type start location k r f = refl
+cursor_by Colour Sixteen type start location k r f = refl
+cursor_by Monochrome Eight type start location k r f = refl
+cursor_by Monochrome Fourteen type start location k r f = refl
+cursor_by Monochrome Sixteen type start location k r f = refl
 
-frame_by : (disp : Display) → IsTextFrame (number_of disp) (row_of disp)
-frame_by Colour = record { some_height = omega arith; few_lines = omega arith; all_characters = 100; all_lines = 449; narrow = omega arith; enough_lines = omega arith; numbers = numbers_by Colour; regular = regular_by Colour; first = first_by Colour; beam = beam_by Colour; fetch = fetch_by Colour; underline = underline_by Colour; cursor = cursor_by Colour }
-frame_by Monochrome = record { some_height = omega arith; few_lines = omega arith; all_characters = 100; all_lines = 449; narrow = omega arith; enough_lines = omega arith; numbers = numbers_by Monochrome; regular = regular_by Monochrome; first = first_by Monochrome; beam = beam_by Monochrome; fetch = fetch_by Monochrome; underline = underline_by Monochrome; cursor = cursor_by Monochrome }
+frame_by : (disp : Display) (height : Height) → IsTextFrame (number_of disp) (row_with disp height)
+frame_by Colour Eight = record { some_height = omega arith; few_lines = omega arith; all_characters = 100; all_lines = 449; narrow = omega arith; enough_lines = omega arith; numbers = numbers_by Colour Eight; regular = regular_by Colour Eight; first = first_by Colour Eight; beam = beam_by Colour Eight; fetch = fetch_by Colour Eight; underline = underline_by Colour Eight; cursor = cursor_by Colour Eight }
+frame_by Colour Fourteen = record { some_height = omega arith; few_lines = omega arith; all_characters = 100; all_lines = 449; narrow = omega arith; enough_lines = omega arith; numbers = numbers_by Colour Fourteen; regular = regular_by Colour Fourteen; first = first_by Colour Fourteen; beam = beam_by Colour Fourteen; fetch = fetch_by Colour Fourteen; underline = underline_by Colour Fourteen; cursor = cursor_by Colour Fourteen }
+frame_by Colour Sixteen = record { some_height = omega arith; few_lines = omega arith; all_characters = 100; all_lines = 449; narrow = omega arith; enough_lines = omega arith; numbers = numbers_by Colour Sixteen; regular = regular_by Colour Sixteen; first = first_by Colour Sixteen; beam = beam_by Colour Sixteen; fetch = fetch_by Colour Sixteen; underline = underline_by Colour Sixteen; cursor = cursor_by Colour Sixteen }
+frame_by Monochrome Eight = record { some_height = omega arith; few_lines = omega arith; all_characters = 100; all_lines = 449; narrow = omega arith; enough_lines = omega arith; numbers = numbers_by Monochrome Eight; regular = regular_by Monochrome Eight; first = first_by Monochrome Eight; beam = beam_by Monochrome Eight; fetch = fetch_by Monochrome Eight; underline = underline_by Monochrome Eight; cursor = cursor_by Monochrome Eight }
+frame_by Monochrome Fourteen = record { some_height = omega arith; few_lines = omega arith; all_characters = 100; all_lines = 449; narrow = omega arith; enough_lines = omega arith; numbers = numbers_by Monochrome Fourteen; regular = regular_by Monochrome Fourteen; first = first_by Monochrome Fourteen; beam = beam_by Monochrome Fourteen; fetch = fetch_by Monochrome Fourteen; underline = underline_by Monochrome Fourteen; cursor = cursor_by Monochrome Fourteen }
+frame_by Monochrome Sixteen = record { some_height = omega arith; few_lines = omega arith; all_characters = 100; all_lines = 449; narrow = omega arith; enough_lines = omega arith; numbers = numbers_by Monochrome Sixteen; regular = regular_by Monochrome Sixteen; first = first_by Monochrome Sixteen; beam = beam_by Monochrome Sixteen; fetch = fetch_by Monochrome Sixteen; underline = underline_by Monochrome Sixteen; cursor = cursor_by Monochrome Sixteen }
 
 -- so is the row of a screen that is shown
 pub frame_of : (c : CardState) (d : BiosData) (h : IsShown c d) → IsTextFrame d.mode h.row
-frame_of c d h = subst (λ m. IsTextFrame m h.row) (sym h.number) (subst (IsTextFrame (number_of h.display)) (sym h.row_is) (frame_by h.display))
+frame_of c d h = subst (λ m. IsTextFrame m h.row) (sym h.number) (subst (IsTextFrame (number_of h.display)) (sym h.row_is) (frame_by h.display h.height))

@@ -5,7 +5,7 @@ use Rattle.vga_card.specs.Bounds.{IsCard}
 use Rattle.vga_card.specs.Bus.{card_meaning}
 use Rattle.vga_card.specs.Card.{CardState}
 use Rattle.bios_modes.specs.declared.modes.ModeRow.{ModeRow}
-use Rattle.bios_modes.specs.Modes.{mode_row}
+use Rattle.bios_modes.specs.Heights.{row_at}
 use Rattle.bios_modes.specs.Bda.{BiosData}
 use Rattle.bios_modes.specs.Fonts.{FontSet}
 use Rattle.bios_services.specs.declared.ink.Ink.{Ink}
@@ -25,10 +25,10 @@ use Rattle.bios_screen.proofs.AnyShows.{any_is}
 use Rattle.bios_screen.proofs.TypedPlaces.{Inside, risen, typed_inside}
 
 -- a page of the mode is one of its row, and back
-pub page_in : (d : BiosData) (row : ModeRow) (p : ℕ) → mode_row d.mode ≡ Some row → p < pages_of d → p < row.pages
+pub page_in : (d : BiosData) (row : ModeRow) (p : ℕ) → row_at d.mode d.height ≡ Some row → p < pages_of d → p < row.pages
 page_in d row p e l = subst (λ (x : Option ModeRow). p < pages_in x) e l
 
-pub page_of : (d : BiosData) (row : ModeRow) (p : ℕ) → mode_row d.mode ≡ Some row → p < row.pages → p < pages_of d
+pub page_of : (d : BiosData) (row : ModeRow) (p : ℕ) → row_at d.mode d.height ≡ Some row → p < row.pages → p < pages_of d
 page_of d row p e l = subst (λ (x : Option ModeRow). p < pages_in x) (sym e) l
 
 -- how the data say that the page of a screen is cut

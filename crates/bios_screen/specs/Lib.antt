@@ -8,5 +8,6 @@ pub mod Picture
 pub mod Raster
 pub mod Framed
 pub mod Served
+pub mod Loaded
 pub mod Called
 pub mod Parts

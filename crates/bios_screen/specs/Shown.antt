@@ -10,7 +10,7 @@ use Rattle.vga_attr.specs.Attr.{AttrState}
 use Rattle.vga_attr.specs.Fields.{is_palette_shown, is_blink, overscan}
 use Rattle.vga_card.specs.Card.{CardState}
 use Rattle.bios_modes.specs.declared.modes.ModeRow.{ModeRow}
-use Rattle.bios_modes.specs.Modes.{mode_row}
+use Rattle.bios_modes.specs.Heights.{row_at}
 use Rattle.bios_modes.specs.Bda.{BiosData}
 use Rattle.bios_services.specs.ModeSet.{is_text}
 use Rattle.bios_services.specs.Cursor.{cursor_address, start_address}
@@ -154,11 +154,11 @@ pixel_screen row c d = screen_by row c d 0 (Pixels (pixel_pages d.mode c.host.me
 abbrev pub screen_of : ModeRow → CardState → BiosData → Screen
 screen_of row c d = if is_text d.mode then text_screen row c d else pixel_screen row c d
 
--- the screen that is shown, if there is one, where the mode has this row
+-- the screen that is shown, if there is one, where the mode has this row with characters of their height
 abbrev pub shown_by : Option ModeRow → CardState → BiosData → Option Screen
 shown_by None c d = None
 shown_by (Some row) c d = if shows row c d then Some (screen_of row c d) else None
 
 -- the screen that the adapter shows with these data, if it shows one
 abbrev pub shown : CardState → BiosData → Option Screen
-shown c d = shown_by (mode_row d.mode) c d
+shown c d = shown_by (row_at d.mode d.height) c d

@@ -11,8 +11,9 @@ ghost use Rattle.bios_services.specs.declared.scroll.Scroll.{Scroll};
 ghost use Rattle.bios_services.specs.declared.cell_run.CellRun.{CellRun};
 ghost use Rattle.bios_services.specs.declared.strings.StringCall.{StringCall};
 ghost use Rattle.bios_services.specs.declared.colours.ColourService.{ColourService};
-ghost use Rattle.bios_services.specs.declared.call.Call.TheVariants.{SetMode, ReadTable, InMode};
+ghost use Rattle.bios_services.specs.declared.call.Call.TheVariants.{SetMode, ReadTable, LoadGlyphs, InMode};
 ghost use Rattle.bios_services.specs.declared.tables.TableService.{TableService};
+ghost use Rattle.bios_services.specs.declared.glyph_load.GlyphLoad.{GlyphLoad};
 ghost use Rattle.bios_services.specs.declared.call.Service.{Service};
 ghost use Rattle.bios_services.specs.Calls.{call_of};
 ghost use Rattle.bios_services.specs.declared.call.Service.TheVariants.{SetCursorType, SetCursor, ReadCursor, SelectPage, ReadCell, WriteCells, ScrollUp, ScrollDown, WritePixel, ReadPixel, Teletype, WriteString, Colours, ReadMode, ReadAdapter, ReadDisplay};
@@ -21,8 +22,8 @@ ghost use Rattle.bios_modes.specs.Bounds.{IsBda};
 ghost use Rattle.bios_screen.specs.Screen.{Screen};
 ghost use Rattle.bios_screen.specs.Shown.{shown};
 ghost use Rattle.bios_screen.specs.Served.{FitsBytes, Serves, ServesText, SetsFresh, after_call};
-ghost use Rattle.bios_modes.specs.Bounds.{AreBytes};
-ghost use Rattle.bios_screen.specs.Called.{AreWords, IsCalled, IsRead, WantsMemory, IsLeft};
+ghost use Rattle.bios_modes.specs.Bounds.{AreBytes, AreFonts};
+ghost use Rattle.bios_screen.specs.Called.{AreWords, IsCalled, IsLoaded, IsRead, WantsMemory, IsLeft};
 
 use vga_card::laws::bounds_stay;
 
@@ -97,14 +98,16 @@ pub fn dots_are_served()
 }
 
 /// From every state that shows a screen a call for a service replies as on the screen, or is refused as
-/// there, and leads to a state that shows the next screen; a call for a table replies with that of the
-/// screen, and leaves it, as does one for which memory is refused; a call for no service, or for a mode that
-/// there is not, changes nothing.
+/// there, and leads to a state that shows the next screen; so does a call that loads glyphs of text; a call for a
+/// table replies with that of the screen, and leaves it, as does one for which memory is refused; a call for no
+/// service, or for a mode that there is not, changes nothing.
 pub fn calls_lead_to_screens()
     ensures served { (service : Service) (fonts : FontSet) (r : Regs) (block : List ℕ) (c : CardState) (d : BiosData) (s : Screen) →
         IsCard c → IsBda d → AreWords r → AreBytes block → shown c d ≡ Some s → call_of r ≡ Some (InMode service) → IsCalled service fonts r block c d s }
     ensures table { (service : TableService) (fonts : FontSet) (r : Regs) (block : List ℕ) (c : CardState) (d : BiosData) (s : Screen) →
         IsCard c → shown c d ≡ Some s → call_of r ≡ Some (ReadTable service) → IsRead service fonts r block c d s }
+    ensures loaded { (load : GlyphLoad) (fonts : FontSet) (r : Regs) (block : List ℕ) (c : CardState) (d : BiosData) (s : Screen) →
+        IsCard c → AreBytes block → AreFonts fonts → shown c d ≡ Some s → call_of r ≡ Some (LoadGlyphs load) → IsLoaded load fonts r block c d s }
     ensures memory { (fonts : FontSet) (r : Regs) (block : List ℕ) (c y : CardState) (d after : BiosData) (s : Screen) →
         shown c d ≡ Some s → WantsMemory fonts r block c d y after → IsLeft c s y after }
     ensures unknown { (fonts : FontSet) (r : Regs) (block : List ℕ) (c : CardState) (d : BiosData) (s : Screen) →

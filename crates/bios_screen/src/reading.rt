@@ -2,7 +2,7 @@
 ghost use Rattle.std.specs.Prelude.{◌≡◌, ◌+◌, ◌*◌, ◌/◌, ◌<◌, ◌≤◌, ◌++◌, true, false, vec_len, Some, IfOk, OnOk, IsOkUnless};
 ghost use Rattle.std.specs.Int.{bit_at};
 ghost use Rattle.vga_planes.specs.Planes.{byte_at};
-ghost use Rattle.bios_modes.specs.Modes.{mode_row as mode_row_of};
+ghost use Rattle.bios_modes.specs.Heights.{row_at as row_at_of};
 ghost use Rattle.bios_services.specs.ModeSet.{is_text as is_text_of};
 ghost use Rattle.bios_screen.specs.Raster.{joined};
 ghost use Rattle.bios_screen.specs.Shown.{cells_in, glyphs_in, planar_pixel, packed_pixel, pixel_in, pixels_in, page_pixels as page_pixels_of, text_screen, pixel_screen, shows, shown};
@@ -10,7 +10,7 @@ ghost use Rattle.bios_screen.specs.Shown.{cells_in, glyphs_in, planar_pixel, pac
 use crate::palette::Palette;
 use crate::screen::{Layout, Screen};
 use crate::shown::{is_shown, is_text};
-use bios_modes::{Bda, ModeRow, mode_row};
+use bios_modes::{Bda, ModeRow, row_at};
 use std::alloc::Global;
 use vga_bits::Fault;
 use vga_card::Card;
@@ -177,7 +177,7 @@ fn layout_of(bda: &Bda, row: &ModeRow, distance: u16) -> Layout
 impl Screen {
     /// The text screen of the adapter and the data, where they show one.
     fn of_text(alloc: Global, card: &Card, bda: &Bda, row: &ModeRow) -> Result<Screen, Fault>
-        requires row { mode_row_of bda.now.mode ≡ Some row.now }
+        requires row { row_at_of bda.now.mode bda.now.height ≡ Some row.now }
         requires shown { shows row.now card.now bda.now ≡ true }
         requires text { is_text_of bda.now.mode ≡ true }
         ensures ok { IfOk result (λ screen. screen ≡ text_screen row.now card.now bda.now) }
@@ -203,7 +203,7 @@ impl Screen {
 
     /// The screen of pixels of the adapter and the data, where they show one.
     fn of_pixels(alloc: Global, card: &Card, bda: &Bda, row: &ModeRow) -> Result<Screen, Fault>
-        requires row { mode_row_of bda.now.mode ≡ Some row.now }
+        requires row { row_at_of bda.now.mode bda.now.height ≡ Some row.now }
         requires shown { shows row.now card.now bda.now ≡ true }
         requires pixels { is_text_of bda.now.mode ≡ false }
         ensures ok { IfOk result (λ screen. screen ≡ pixel_screen row.now card.now bda.now) }
@@ -241,7 +241,7 @@ impl Screen {
         ensures ok { IfOk result (λ found. found ≡ shown card.now bda.now) }
         ensures err { IsOkUnless result Fault.OutOfMemory }
     {
-        let Some(row) = mode_row(bda.mode()) else {
+        let Some(row) = row_at(bda.mode(), bda.height()) else {
             return Ok(None);
         };
         if !is_shown(card, bda, &row) {

@@ -1,7 +1,7 @@
 //! Whether the adapter shows a screen.
 ghost use Rattle.std.specs.Prelude.{◌≡◌, ◌≤◌, ◌<◌, ◌*◌, true, drop, length, Some};
 ghost use Rattle.std.specs.Str.{bytes_eq};
-ghost use Rattle.bios_modes.specs.Modes.{mode_row};
+ghost use Rattle.bios_modes.specs.Heights.{row_at};
 ghost use Rattle.bios_services.specs.ModeSet.{is_text as is_text_of};
 ghost use Rattle.bios_services.specs.Cursor.{start_address};
 ghost use Rattle.bios_screen.specs.Shown.{shows_memory as shows_memory_of, shows_data as shows_data_of, shows_attribute as shows_attribute_of, shows, location_shown, crtc_shown};
@@ -169,15 +169,24 @@ fn shows_attribute(attr: &Attr, row: &ModeRow) -> bool
         && registers_behind_overscan(attr) == row_behind_overscan(row)
 }
 
+/// Whether the CRT controller shows the active page of data that are those of the mode.
+fn shows_page(crtc: &Crtc, bda: &Bda, row: &ModeRow) -> bool
+    requires row { row_at bda.now.mode bda.now.height ≡ Some row.now }
+    requires data { shows_data_of row.now bda.now ≡ true }
+    ensures { result ≡ bytes_eq crtc.now.registers (crtc_shown row.now bda.now crtc.now.registers) }
+{
+    has_registers(crtc, &wanted_registers(bda, crtc, row))
+}
+
 /// Whether the adapter and the data show a screen of the mode.
 #[tactic(auto, unfolding(crate::specs::Shown::shows))]
 pub(crate) fn is_shown(card: &Card, bda: &Bda, row: &ModeRow) -> bool
-    requires { mode_row bda.now.mode ≡ Some row.now }
+    requires { row_at bda.now.mode bda.now.height ≡ Some row.now }
     ensures { result ≡ shows row.now card.now bda.now }
 {
+    if !shows_memory(card, row) || !shows_data(bda, row) {
+        return false;
+    }
     let regs = card.regs();
-    shows_memory(card, row)
-        && shows_data(bda, row)
-        && has_registers(regs.crtc, &wanted_registers(bda, regs.crtc, row))
-        && shows_attribute(regs.attr, row)
+    shows_page(regs.crtc, bda, row) && shows_attribute(regs.attr, row)
 }
