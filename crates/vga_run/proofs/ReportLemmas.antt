@@ -8,7 +8,7 @@ use Rattle.vga_bits.specs.Tracked.{AppendsFront, Writes}
 use Rattle.vga_bits.specs.declared.fault.Fault.{Fault}
 use Rattle.vga_bits.specs.Refusal.{refusal_name}
 use Rattle.vga_bits.specs.declared.refusal.Refusal.{Refusal}
-use Rattle.vga_bits.specs.declared.refusal.Refusal.TheVariants.{NotDecoded, NotInProfile, NoMode, BadFunction, BadMode, WrongKind, BadPage, Outside, CountPast, BadRegister, BadBlock, TooFar}
+use Rattle.vga_bits.specs.declared.refusal.Refusal.TheVariants.{NotDecoded, NotInProfile, NoMode, BadFunction, BadMode, WrongKind, BadPage, Outside, CountPast, BadRegister, BadBlock, TooFar, BadHeight}
 use Rattle.bios_services.specs.declared.reply.Reply.{Reply as ServiceReply}
 use Rattle.vga_script.specs.declared.step.Step.{Step}
 use Rattle.vga_script.specs.declared.step.Step.TheVariants.{Int}
@@ -45,6 +45,7 @@ name_is_short CountPast = omega arith
 name_is_short BadRegister = omega arith
 name_is_short BadBlock = omega arith
 name_is_short TooFar = omega arith
+name_is_short BadHeight = omega arith
 
 -- what a call that writes the line of a step answers is what taking the step does
 pub step_is_written : (before after : Option (List ℕ)) (failed : Bool) (result : Result Unit Fault) (machine : Machine) (n : ℕ) (step : Step)

@@ -1,5 +1,6 @@
 -- Why the report of services and whole frames is the plain screen's.
-use Rattle.std.proofs.Common.{◌≡◌, ◌≢◌, ◌∙◌, inl, inr, ℕ, zero, suc, ◌+◌, ◌^◌, ◌<◌, ◌==◌, Bool, true, false, List, [], ◌∷◌, ◌++◌, drop, Option, Some, None, IfSome, Result, Ok, Err, if◌then◌else◌, arith, refl, sym, ap, subst}
+use Rattle.std.proofs.Common.{◌≡◌, ◌≢◌, ◌∙◌, inl, inr, ℕ, zero, suc, ◌+◌, ◌^◌, ◌<◌, ◌==◌, Bool, true, false, List, [], ◌∷◌, ◌++◌, take, drop, Option, Some, None, IfSome, Result, Ok, Err, if◌then◌else◌, arith, refl, sym, ap, subst}
+use Rattle.std.specs.Prelude.{slice_index}
 use Rattle.std.specs.List.{AllByRecursion}
 use Rattle.std.specs.Io.KnownBytes.{Appends}
 use Rattle.std.proofs.lemmas.Bool.Decides.{nat_tests}
@@ -17,15 +18,17 @@ use Rattle.vga_card.specs.Dots.{dots}
 use Rattle.vga_card.specs.Frames.{frame, frame_count}
 use Rattle.vga_card.specs.Picture.{bytes_of}
 use Rattle.bios_modes.specs.declared.modes.ModeRow.{ModeRow}
+use Rattle.bios_modes.specs.Heights.{row_at}
 use Rattle.bios_modes.specs.Modes.{mode_row, colour_text, monochrome_text, planes_320_by_200, planes_640_by_350, planes_640_by_480, bytes_320_by_200}
 use Rattle.bios_modes.specs.Bda.{BiosData, power_on_data}
-use Rattle.bios_modes.specs.Bounds.{IsBda, AreBytes}
+use Rattle.bios_modes.specs.Bounds.{IsBda, AreBytes, AreFonts}
 use Rattle.bios_modes.specs.Fonts.{FontSet, font_len, fonts_of}
 use Rattle.bios_services.specs.declared.regs.Regs.{Regs}
 use Rattle.bios_services.specs.declared.reply.Reply.{Reply}
 use Rattle.bios_services.specs.declared.tables.TableService.{TableService}
+use Rattle.bios_services.specs.declared.glyph_load.GlyphLoad.{GlyphLoad}
 use Rattle.bios_services.specs.declared.call.Call.{Call}
-use Rattle.bios_services.specs.declared.call.Call.TheVariants.{SetMode, ReadTable, InMode}
+use Rattle.bios_services.specs.declared.call.Call.TheVariants.{SetMode, ReadTable, LoadGlyphs, InMode}
 use Rattle.bios_services.specs.declared.call.Service.{Service}
 use Rattle.bios_services.specs.Calls.{call_of}
 use Rattle.bios_services.specs.ModeSet.{is_text}
@@ -35,7 +38,7 @@ use Rattle.bios_services.specs.Service.{Answered, service}
 use Rattle.bios_screen.specs.Screen.{Screen}
 use Rattle.bios_screen.specs.Shown.{shown, shown_by, shows, screen_of}
 use Rattle.bios_screen.specs.Served.{SetsFresh, after_call}
-use Rattle.bios_screen.specs.Called.{AreWords, IsCalled, IsRead}
+use Rattle.bios_screen.specs.Called.{AreWords, IsCalled, IsLoaded, IsRead}
 use Rattle.bios_screen.specs.Framed.{IsFramed}
 use Rattle.bios_screen.specs.Fresh.{fresh_screen}
 use Rattle.bios_screen.specs.Picture.{picture_width, picture_height}
@@ -62,6 +65,8 @@ pub record Laws : Type 0 where
       → IsCard c → IsBda d → AreWords r → AreBytes block → shown c d ≡ Some s → call_of r ≡ Some (InMode asked_for) → IsCalled asked_for fonts r block c d s
   pub table : (asked_for : TableService) (fonts : FontSet) (r : Regs) (block : List ℕ) (c : CardState) (d : BiosData) (s : Screen)
       → IsCard c → shown c d ≡ Some s → call_of r ≡ Some (ReadTable asked_for) → IsRead asked_for fonts r block c d s
+  pub loaded : (load : GlyphLoad) (fonts : FontSet) (r : Regs) (block : List ℕ) (c : CardState) (d : BiosData) (s : Screen)
+      → IsCard c → AreBytes block → AreFonts fonts → shown c d ≡ Some s → call_of r ≡ Some (LoadGlyphs load) → IsLoaded load fonts r block c d s
   pub unknown : (fonts : FontSet) (r : Regs) (block : List ℕ) (c : CardState) (d : BiosData) (s : Screen) → shown c d ≡ Some s → call_of r ≡ None → after_call fonts r block c d ≡ (c, (Err BadFunction, d))
   pub no_mode : (mode : ℕ) (keeps : Bool) (fonts : FontSet) (r : Regs) (block : List ℕ) (c : CardState) (d : BiosData)
       → call_of r ≡ Some (SetMode mode keeps) → mode_row mode ≡ None → after_call fonts r block c d ≡ (c, (Err BadMode, d))
@@ -106,11 +111,23 @@ block_bytes (byte ∷ block) all zero = let l = all.0 in omega arith
 block_bytes (byte ∷ block) all (suc i) = block_bytes block all.1 i
 
 -- the glyphs of a font file do
-pub glyph_bytes : (file : List ℕ) → AreBytes file → AreBytes (fonts_of file).f16
+taken_bytes : (n : ℕ) (file : List ℕ) → AreBytes file → AreBytes (take n file)
+taken_bytes n file bytes i = taken n file i bytes
+  where
+    taken : (n : ℕ) (l : List ℕ) (i : ℕ) → AreBytes l → slice_index (take n l) i < 256
+    taken zero l i b = omega arith
+    taken (suc n) [] i b = omega arith
+    taken (suc n) (x ∷ xs) zero b = b 0
+    taken (suc n) (x ∷ xs) (suc i) b = taken n xs i (λ k. b (suc k))
+
+dropped_bytes : (n : ℕ) (file : List ℕ) → AreBytes file → AreBytes (drop n file)
+dropped_bytes n file bytes i = subst (λ (k : ℕ). k < 256) (sym (get_or-drop n file i 0)) (bytes (n + i))
+
+pub glyph_bytes : (file : List ℕ) → AreBytes file → AreFonts (fonts_of file)
 unfolding fonts_of
-glyph_bytes file bytes i =
-    let place = get_or-drop (font_len 14) (drop (font_len 8) file) i 0 ∙ get_or-drop (font_len 8) file (font_len 14 + i) 0 in
-    subst (λ (n : ℕ). n < 256) (sym place) (bytes (font_len 8 + (font_len 14 + i)))
+glyph_bytes file bytes =
+    let behind = dropped_bytes (font_len 8) file bytes in
+    record { f8 = taken_bytes (font_len 8) file bytes; f14 = taken_bytes (font_len 14) (drop (font_len 8) file) behind; f16 = dropped_bytes (font_len 14) (drop (font_len 8) file) behind }
 
 -- ---- one step
 
@@ -124,7 +141,7 @@ record Stands (fonts : FontSet) (m : Machine) (s : Screen) : Type 0 where
 
 -- the number of its frame is the beam's
 frame_shown : (c : CardState) (d : BiosData) (s : Screen) → shown c d ≡ Some s → s.frame ≡ c.crtc.beam.frame
-frame_shown c d s e = by_row (mode_row d.mode) e
+frame_shown c d s e = by_row (row_at d.mode d.height) e
   where
     of_screen : (row : ModeRow) → (screen_of row c d).frame ≡ c.crtc.beam.frame
     of_screen row = by_kind (is_text d.mode) refl
@@ -157,10 +174,10 @@ refused_leads x why c d s e shows = record {
 
 -- a mode set that clears the memory
 set_leads : Laws → (mode : ℕ) (keeps : Bool) (fonts : FontSet) (r : Regs) (block : List ℕ) (c : CardState) (d : BiosData) (s : Screen)
-    → Clears (Some (SetMode mode keeps)) → call_of r ≡ Some (SetMode mode keeps) → AreBytes fonts.f16 → IsCard c → s.frame ≡ c.crtc.beam.frame → CallLeads (after_call fonts r block c d) (set_on (mode_row mode) mode fonts r s) c
+    → Clears (Some (SetMode mode keeps)) → call_of r ≡ Some (SetMode mode keeps) → AreFonts fonts → IsCard c → s.frame ≡ c.crtc.beam.frame → CallLeads (after_call fonts r block c d) (set_on (mode_row mode) mode fonts r s) c
 set_leads law mode keeps fonts r block c d s (has, clears) e glyphs z number =
     let h = row_of_mode law mode has in
-    let f = h.fresh fonts r block c d z glyphs (e ∙ ap (λ (k : Bool). let call : Option Call = Some (SetMode mode k) in call) clears) in
+    let f = h.fresh fonts r block c d z glyphs.f16 (e ∙ ap (λ (k : Bool). let call : Option Call = Some (SetMode mode k) in call) clears) in
     let fresh : CallLeads (after_call fonts r block c d) (set_on (Some h.row) mode fonts r s) c = record {
       reply = f.answer;
       shows = f.shows ∙ ap (λ (n : ℕ). Some (fresh_screen mode h.row fonts.f16 n)) (sym number);
@@ -168,7 +185,7 @@ set_leads law mode keeps fonts r block c d s (has, clears) e glyphs z number =
     } in
     subst (λ (row : Option ModeRow). CallLeads (after_call fonts r block c d) (set_on row mode fonts r s) c) (sym h.is) fresh
 
-call_leads : Laws → (call : Option Call) (fonts : FontSet) (r : Regs) (block : List ℕ) (m : Machine) (s : Screen) → call_of r ≡ call → StaysOnScreens call → AreWords r → AreBytes block → AreBytes fonts.f16 → Stands fonts m s
+call_leads : Laws → (call : Option Call) (fonts : FontSet) (r : Regs) (block : List ℕ) (m : Machine) (s : Screen) → call_of r ≡ call → StaysOnScreens call → AreWords r → AreBytes block → AreFonts fonts → Stands fonts m s
     → CallLeads (after_call fonts r block m.card m.bda) (called_on call fonts r block s) m.card
 call_leads law None fonts r block m s e stays words bytes glyphs is = refused_leads _ BadFunction m.card m.bda s (law.unknown fonts r block m.card m.bda s is.shows e) is.shows
 call_leads law (Some (SetMode mode keeps)) fonts r block m s e (inl clears) words bytes glyphs is =
@@ -178,6 +195,9 @@ call_leads law (Some (SetMode mode keeps)) fonts r block m s e (inr none) words 
     subst (λ (row : Option ModeRow). CallLeads (after_call fonts r block m.card m.bda) (set_on row mode fonts r s) m.card) (sym none) left
 call_leads law (Some (ReadTable asked_for)) fonts r block m s e stays words bytes glyphs is =
     let k = law.table asked_for fonts r block m.card m.bda s is.card is.shows e in
+    record { reply = k.reply; shows = k.shows; beam = k.beam }
+call_leads law (Some (LoadGlyphs load)) fonts r block m s e stays words bytes glyphs is =
+    let k = law.loaded load fonts r block m.card m.bda s is.card bytes glyphs is.shows e in
     record { reply = k.reply; shows = k.shows; beam = k.beam }
 call_leads law (Some (InMode asked_for)) fonts r block m s e stays words bytes glyphs is =
     let k = law.served asked_for fonts r block m.card m.bda s is.card is.bda.words words bytes is.shows e in
@@ -206,7 +226,7 @@ frame_stands : Laws → (fonts : FontSet) (m : Machine) (s : Screen) → Stands 
 unfolding after_step screen_after
 frame_stands law fonts m s is f = record { card = law.dots (frame_count m.card) m.card is.card; bda = is.bda; same = is.same; shows = f.next; start = f.start }
 
-step_leads : Laws → (fonts : FontSet) (m : Machine) (s : Screen) (step : Step) → AreBytes fonts.f16 → IsInRange step → IsOfScreens step → Stands fonts m s → StepLeads fonts m s step
+step_leads : Laws → (fonts : FontSet) (m : Machine) (s : Screen) (step : Step) → AreFonts fonts → IsInRange step → IsOfScreens step → Stands fonts m s → StepLeads fonts m s step
 unfolding answer_to reply_on screen_after called
 step_leads law fonts m s (Int ax bx cx dx block) glyphs (ha, hb, hc, hd, (short, all)) stays is =
     let r = registers_of ax bx cx dx in
@@ -226,7 +246,7 @@ step_leads law fonts m s step glyphs range stays is = absurd stays
 
 -- ---- all steps
 
-reports_from : Laws → (fonts : FontSet) (m : Machine) (s : Screen) (n : ℕ) (steps : List Step) → AreBytes fonts.f16 → AreInRange steps → AllByRecursion IsOfScreens steps → Stands fonts m s
+reports_from : Laws → (fonts : FontSet) (m : Machine) (s : Screen) (n : ℕ) (steps : List Step) → AreFonts fonts → AreInRange steps → AllByRecursion IsOfScreens steps → Stands fonts m s
     → report_from m n steps ≡ screen_report_from fonts s n steps
 reports_from law fonts m s n [] glyphs range all is = refl
 reports_from law fonts m s n (step ∷ steps) glyphs range all is =
@@ -235,25 +255,26 @@ reports_from law fonts m s n (step ∷ steps) glyphs range all is =
     ∙ ap (λ (rest : List ℕ). line n (reply_on fonts s step) ++ rest) (reports_from law fonts (after_step m step) (screen_after fonts s step) (n + 1) steps glyphs range.1 all.1 l.stands)
 
 -- a step that is to set a mode does, and the others go on from the fresh screen
-first_reports : Laws → (call : Option Call) (fonts : FontSet) (ax bx cx dx : ℕ) (block : List ℕ) (steps : List Step) → call_of (registers_of ax bx cx dx) ≡ call → Clears call → dx < 65536 → AreBytes fonts.f16
+first_reports : Laws → (call : Option Call) (fonts : FontSet) (ax bx cx dx : ℕ) (block : List ℕ) (steps : List Step) → call_of (registers_of ax bx cx dx) ≡ call → Clears call → dx < 65536 → AreFonts fonts
     → AreInRange steps → AllByRecursion IsOfScreens steps → report_of fonts (Int ax bx cx dx block ∷ steps) ≡ first_report call fonts (registers_of ax bx cx dx) steps
 unfolding answer_to called
 first_reports law None fonts ax bx cx dx block steps e clears small glyphs range all = absurd clears
 first_reports law (Some (ReadTable asked_for)) fonts ax bx cx dx block steps e clears small glyphs range all = absurd clears
+first_reports law (Some (LoadGlyphs load)) fonts ax bx cx dx block steps e clears small glyphs range all = absurd clears
 first_reports law (Some (InMode asked_for)) fonts ax bx cx dx block steps e clears small glyphs range all = absurd clears
 first_reports law (Some (SetMode mode keeps)) fonts ax bx cx dx block steps e (has, clears) small glyphs range all =
     let r = registers_of ax bx cx dx in
     let m = power_on_machine fonts in
     let step : Step = Int ax bx cx dx block in
     let h = row_of_mode law mode has in
-    let f = h.fresh fonts r block power_on_card power_on_data law.first_card glyphs (e ∙ ap (λ (k : Bool). let call : Option Call = Some (SetMode mode k) in call) clears) in
+    let f = h.fresh fonts r block power_on_card power_on_data law.first_card glyphs.f16 (e ∙ ap (λ (k : Bool). let call : Option Call = Some (SetMode mode k) in call) clears) in
     let s = fresh_screen mode h.row fonts.f16 0 in
     let is = call_stands law fonts ax bx cx dx block m s small law.first_card law.first_data refl (record { line = refl; character = refl; dot = refl }) f.shows f.beam in
     ap (λ a. line 1 (of_service a) ++ report_from (after_step m step) 2 steps) f.answer
     ∙ ap (λ (rest : List ℕ). line 1 (Served r []) ++ rest) (reports_from law fonts (after_step m step) s 2 steps glyphs range all is)
     ∙ sym (ap (λ (row : Option ModeRow). set_report row mode fonts r steps) h.is)
 
-pub reports_screens : Laws → (fonts : FontSet) (steps : List Step) → AreBytes fonts.f16 → AreInRange steps → AreOfScreens steps → report_of fonts steps ≡ screen_report fonts steps
+pub reports_screens : Laws → (fonts : FontSet) (steps : List Step) → AreFonts fonts → AreInRange steps → AreOfScreens steps → report_of fonts steps ≡ screen_report fonts steps
 reports_screens law fonts [] glyphs range all = absurd all
 reports_screens law fonts (Int ax bx cx dx block ∷ steps) glyphs ((ha, hb, hc, hd, is_block), range) (clears, all) =
     first_reports law (call_of (registers_of ax bx cx dx)) fonts ax bx cx dx block steps refl clears (omega arith) glyphs range all
@@ -263,14 +284,14 @@ reports_screens law fonts (step ∷ steps) glyphs range all = absurd all
 
 -- the law that this is
 abbrev pub ReportsAlike : Type 0
-ReportsAlike = (fonts : FontSet) (steps : List Step) → AreBytes fonts.f16 → AreInRange steps → AreOfScreens steps → report_of fonts steps ≡ screen_report fonts steps
+ReportsAlike = (fonts : FontSet) (steps : List Step) → AreFonts fonts → AreInRange steps → AreOfScreens steps → report_of fonts steps ≡ screen_report fonts steps
 
 -- the law that no bytes spell two scripts
 abbrev pub OneScript : Type 0
 OneScript = (bytes : List ℕ) (first second : List Step) → Spells bytes first → Spells bytes second → first ≡ second
 
 -- what the run of steps of screens writes is the plain screen's report
-pub steps_of_screens : ReportsAlike → (until : Option ℕ) (fonts : FontSet) (steps : List Step) (before after : Option (List ℕ)) (result : Result Unit Fault) → AreBytes fonts.f16 → AreInRange steps
+pub steps_of_screens : ReportsAlike → (until : Option ℕ) (fonts : FontSet) (steps : List Step) (before after : Option (List ℕ)) (result : Result Unit Fault) → AreFonts fonts → AreInRange steps
     → until ≡ None → AreOfScreens steps → ReportsSteps until fonts steps before after result → ReportsScreens fonts steps before after result
 steps_of_screens law until fonts steps before after (Ok u) glyphs range whole of w =
     subst (Appends before after) (ap (λ (n : Option ℕ). report_of fonts (steps_until n steps)) whole ∙ law fonts steps glyphs range of) w

@@ -15,12 +15,13 @@ use Rattle.bios_services.specs.declared.regs.Regs.{Regs}
 use Rattle.bios_services.specs.declared.reply.Reply.{Reply as ServiceReply}
 use Rattle.bios_services.specs.declared.reply.Table.TheVariants.{Empty}
 use Rattle.bios_services.specs.declared.call.Call.{Call}
-use Rattle.bios_services.specs.declared.call.Call.TheVariants.{SetMode, ReadTable, InMode}
+use Rattle.bios_services.specs.declared.call.Call.TheVariants.{SetMode, ReadTable, LoadGlyphs, InMode}
 use Rattle.bios_services.specs.Calls.{call_of}
 use Rattle.bios_services.specs.Tables.{table_refusal}
 use Rattle.bios_screen.specs.Screen.{Screen}
 use Rattle.bios_screen.specs.Step.{refused_on, next, answer_on}
 use Rattle.bios_screen.specs.Colours.{table_read}
+use Rattle.bios_screen.specs.Loaded.{load_refused, loaded}
 use Rattle.bios_screen.specs.Called.{reply_unless, screen_unless, table_unless}
 use Rattle.bios_screen.specs.Fresh.{fresh_screen}
 use Rattle.bios_screen.specs.Picture.{dot_at, picture_width, picture_height, next_frame}
@@ -70,6 +71,8 @@ abbrev pub called_on : Option Call → FontSet → Regs → List ℕ → Screen 
 called_on None fonts r block s = (s, Err BadFunction)
 called_on (Some (SetMode mode keeps)) fonts r block s = set_on (mode_row mode) mode fonts r s
 called_on (Some (ReadTable service)) fonts r block s = (s, table_unless (table_refusal service) (table_read s service) r)
+called_on (Some (LoadGlyphs load)) fonts r block s =
+    let why = load_refused s load (length block) in (screen_unless why s (loaded fonts s load block), reply_unless why r)
 called_on (Some (InMode service)) fonts r block s =
     let why = refused_on s service (length block) in (screen_unless why s (next fonts s service block), reply_unless why (answer_on fonts s service r))
 

@@ -1,6 +1,6 @@
 //! What runs of services and whole frames answer, in words of the plain screen. Nothing runs here.
 ghost use Rattle.std.specs.Prelude.{◌≡◌, List};
-ghost use Rattle.bios_modes.specs.Bounds.{AreBytes};
+ghost use Rattle.bios_modes.specs.Bounds.{AreBytes, AreFonts};
 ghost use Rattle.bios_modes.specs.Fonts.{FontSet};
 ghost use Rattle.vga_script.specs.Step.{AreInRange};
 ghost use Rattle.vga_script.specs.declared.step.Step.{Step};
@@ -15,7 +15,7 @@ use vga_card::laws::bounds_stay;
 /// The report of services and whole frames alone, of which the first step is a mode set that clears the
 /// memory, is the plain screen's.
 pub fn reports_are_screens()
-    ensures { (fonts : FontSet) (steps : List Step) → AreBytes fonts.f16 → AreInRange steps → AreOfScreens steps →
+    ensures { (fonts : FontSet) (steps : List Step) → AreFonts fonts → AreInRange steps → AreOfScreens steps →
         report_of fonts steps ≡ screen_report fonts steps }
 {
     bounds_stay();

@@ -10,6 +10,7 @@ returns c = reports_screens (record {
   bda = c.calls_keep_bounds.ensures.bda;
   served = c.calls_lead_to_screens.ensures.served;
   table = c.calls_lead_to_screens.ensures.table;
+  loaded = c.calls_lead_to_screens.ensures.loaded;
   unknown = c.calls_lead_to_screens.ensures.unknown;
   no_mode = c.calls_lead_to_screens.ensures.mode;
   colour = c.mode_set_is_fresh.ensures.colour;
