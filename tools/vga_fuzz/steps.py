@@ -25,9 +25,12 @@ PORTS = (0x3C0, 0x3C0, 0x3C2, 0x3C4, 0x3C5, 0x3C6, 0x3C7, 0x3C8, 0x3C9, 0x3CE, 0
 # Ports whose word is an index and its data.
 PAIRS = (0x3C4, 0x3CE, 0x3D4, 0x3B4)
 ADDRESSES = (0x9FFFF, 0xA0000, 0xAFFFF, 0xB0000, 0xB7FFF, 0xB8000, 0xBFFFF, 0xC0000, 0xFFFFFFFF, 0)
-FUNCTIONS = (0, 0, 1, 2, 3, 5, 6, 7, 8, 9, 0x0A, 0x0C, 0x0D, 0x0E, 0x0F, 0x10, 0x10, 0x12, 0x13, 0x1A)
+FUNCTIONS = (0, 0, 1, 2, 3, 5, 6, 7, 8, 9, 0x0A, 0x0C, 0x0D, 0x0E, 0x0F, 0x10, 0x10, 0x11, 0x12, 0x13, 0x1A)
 MODES = (0x03, 0x07, 0x0D, 0x10, 0x12, 0x13)
 PALETTE = (0x00, 0x01, 0x02, 0x03, 0x07, 0x08, 0x09, 0x10, 0x12, 0x15, 0x17, 0x18, 0x19)
+GLYPHS = (0x10, 0x11, 0x12, 0x14)
+# Heights of characters, in BH.
+HEIGHTS = (0x0800, 0x0E00, 0x1000)
 DOTS = (0, 1, 8, 9, 899, 900, 404_100, 16_777_216, 16_777_217, 0xFFFFFFFF)
 # So long are blocks at random, at most.
 MOST_BLOCK = 40
@@ -50,12 +53,16 @@ def _field(random: Random, name: str, place: int, size: str) -> int:
 def _call(random: Random) -> tuple[tuple[int, int, int, int], bytes]:
     """Registers and block of a call of the BIOS."""
     function = random.choice(FUNCTIONS) if random.random() < 0.95 else random.getrandbits(8)
-    part = _number(random, {0: MODES, 0x10: PALETTE, 0x13: (0, 1, 2, 3)}.get(function, BYTES), 8)
+    part = _number(random, {0: MODES, 0x10: PALETTE, 0x11: GLYPHS, 0x13: (0, 1, 2, 3)}.get(function, BYTES), 8)
     bx, dx = (random.getrandbits(16) & random.choice((0x0F0F, 0x7FF, 0xFFFF)) for _ in range(2))
     cx = random.choice((0, 1, random.randrange(12), random.randrange(2000), random.getrandbits(16)))
-    needed = {(0x10, 0x02): 17, (0x10, 0x12): 3 * cx}.get((function, part), cx << (part >> 1 & 1))
-    length = needed if function in (0x10, 0x13) and needed <= 4096 else random.randrange(MOST_BLOCK)
-    has_block = random.random() < (0.95 if function in (0x10, 0x13) else 0.05)
+    if function == 0x11:
+        bx, dx = _number(random, HEIGHTS, 16), _number(random, BYTES, 8)
+    taken = {(0x10, 0x02): 17, (0x10, 0x12): 3 * cx, (0x11, 0x10): cx * (bx >> 8)}
+    needed = taken.get((function, part), cx << (part >> 1 & 1))
+    takes_block = function in (0x10, 0x11, 0x13)
+    length = needed if takes_block and needed <= 4096 else random.randrange(MOST_BLOCK)
+    has_block = random.random() < (0.95 if takes_block else 0.05)
     return (function << 8 | part, bx, cx, dx), random.randbytes(length) if has_block else b""
 
 

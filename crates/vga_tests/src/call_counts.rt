@@ -1,7 +1,8 @@
-//! How often each function ended in each way in each mode, and which ways have to be met.
+//! How often each function ended in each way in each mode, in text with characters of each height, and which ways have
+//! to be met.
 ghost use Rattle.std.specs.Prelude.{◌≡◌, ◌<◌};
 
-use crate::plain_modes::{Kind, MODES, PlainMode};
+use crate::plain_modes::{HEIGHTS, Kind, MODES, PlainMode};
 use crate::plain_refusals::{high, low};
 use bios_services::Regs;
 use std::alloc::{AllocError, Global};
@@ -10,19 +11,28 @@ use vga_bits::Refusal;
 /// How often each way has to be met.
 const OFTEN: u32 = 3;
 
-/// A mode, a function with its part, and how it ended: accepted, or refused so.
+/// A function with its part, and how it ended: accepted, or refused so.
 #[derive(Clone, Copy, PartialEq, Eq)]
 struct Ending {
-    mode: u8,
     function: u8,
     part: u8,
     refusal: Option<Refusal>,
 }
 
-/// How often each way was met.
+/// How often a function ended so in a mode, with characters of a height.
+#[derive(Clone, Copy)]
+struct Count {
+    mode: u8,
+    height: u8,
+    ending: Ending,
+    times: u32,
+}
+
+/// How often each way was met, and mode and height of each frame that was drawn.
 #[derive(Drop)]
 pub struct CallCounts {
-    counts: Vec<(Ending, u32)>,
+    counts: Vec<Count>,
+    drawn: Vec<(u8, u8)>,
     refused: u32,
 }
 
@@ -62,7 +72,7 @@ const ACCEPTED: [(u8, u8); 31] = [
 ];
 
 /// Functions and parts that are refused so in each mode.
-const REFUSED: [(u8, u8, Refusal); 25] = [
+const REFUSED: [(u8, u8, Refusal); 30] = [
     (0x00, 0, Refusal::BadMode),
     (0x05, 0, Refusal::BadPage),
     (0x08, 0, Refusal::Outside),
@@ -80,6 +90,11 @@ const REFUSED: [(u8, u8, Refusal); 25] = [
     (0x10, 0x12, Refusal::BadBlock),
     (0x10, 0x15, Refusal::BadRegister),
     (0x10, 0x17, Refusal::BadRegister),
+    (0x11, 0x10, Refusal::BadFunction),
+    (0x11, 0x11, Refusal::BadFunction),
+    (0x11, 0x12, Refusal::BadFunction),
+    (0x11, 0x14, Refusal::BadFunction),
+    (0x11, 0xFF, Refusal::BadFunction),
     (0x12, 0, Refusal::BadFunction),
     (0x13, 0, Refusal::Outside),
     (0x13, 0, Refusal::BadBlock),
@@ -90,17 +105,74 @@ const REFUSED: [(u8, u8, Refusal); 25] = [
     (0x1A, 0, Refusal::BadFunction),
 ];
 
+/// Functions and parts that are accepted in text with characters of each height, to whom it matters how the cells are cut.
+const ACCEPTED_AT_HEIGHT: [(u8, u8); 17] = [
+    (0x00, 0),
+    (0x02, 0),
+    (0x05, 0),
+    (0x06, 0),
+    (0x07, 0),
+    (0x08, 0),
+    (0x09, 0),
+    (0x0A, 0),
+    (0x0E, 0),
+    (0x11, 0x10),
+    (0x11, 0x11),
+    (0x11, 0x12),
+    (0x11, 0x14),
+    (0x13, 0),
+    (0x13, 1),
+    (0x13, 2),
+    (0x13, 3),
+];
+
+/// Functions and parts that are refused so in text with characters of each height.
+const REFUSED_AT_HEIGHT: [(u8, u8, Refusal); 7] = [
+    (0x02, 0, Refusal::BadPage),
+    (0x05, 0, Refusal::BadPage),
+    (0x08, 0, Refusal::Outside),
+    (0x09, 0, Refusal::Outside),
+    (0x09, 0, Refusal::CountPast),
+    (0x0A, 0, Refusal::CountPast),
+    (0x0E, 0, Refusal::Outside),
+];
+
+/// The parts of function 11, which graphics refuse.
+const GLYPH_PARTS: [u8; 4] = [0x10, 0x11, 0x12, 0x14];
+
+/// How text refuses the glyphs of a block.
+const BLOCK_REFUSALS: [Refusal; 3] = [Refusal::CountPast, Refusal::BadBlock, Refusal::BadHeight];
+
 /// Functions that are refused where BH names a page that is not there, in modes of several pages.
 const PAGED: [u8; 6] = [0x02, 0x03, 0x08, 0x09, 0x0A, 0x13];
 
-/// The part of a function, where it has parts: those of strings that are not there are one.
+/// The part of a function, where it has parts: those of strings and of glyphs that are not there are one.
 fn part_of(regs: Regs) -> u8 {
     let al = low(regs.ax);
     match high(regs.ax) {
         0x10 => al,
+        0x11 if GLYPH_PARTS.contains(&al) => al,
         0x13 if al < 4 => al,
-        0x13 => 0xFF,
+        0x11 | 0x13 => 0xFF,
         _ => 0,
+    }
+}
+
+/// A function with its part that is accepted.
+fn accepted(function: u8, part: u8) -> Ending {
+    Ending {
+        function,
+        part,
+        refusal: None,
+    }
+}
+
+/// A function with its part that is refused so.
+fn refused(function: u8, part: u8, refusal: Refusal) -> Ending {
+    Ending {
+        function,
+        part,
+        refusal: Some(refusal),
     }
 }
 
@@ -109,6 +181,7 @@ impl CallCounts {
     pub fn new(alloc: Global) -> CallCounts {
         CallCounts {
             counts: Vec::new(alloc),
+            drawn: Vec::new(alloc),
             refused: 0,
         }
     }
@@ -118,15 +191,14 @@ impl CallCounts {
         self.refused
     }
 
-    /// Counts a call.
+    /// Counts a call in a mode, with characters of the height that it has before the call.
     pub fn note(
         &mut self,
-        mode: u8,
+        mode: PlainMode,
         regs: Regs,
         refusal: Option<Refusal>,
     ) -> Result<(), AllocError> {
         let ending = Ending {
-            mode,
             function: high(regs.ax),
             part: part_of(regs),
             refusal,
@@ -134,26 +206,45 @@ impl CallCounts {
         if refusal.is_some() {
             self.refused = self.refused.saturating_add(1);
         }
-        for (other, count) in self.counts.iter_mut() {
-            if *other == ending {
-                *count = count.saturating_add(1);
+        for count in self.counts.iter_mut() {
+            if count.mode == mode.number && count.height == mode.height && count.ending == ending {
+                count.times = count.times.saturating_add(1);
                 return Ok(());
             }
         }
-        self.counts.push((ending, 1))?;
+        self.counts.push(Count {
+            mode: mode.number,
+            height: mode.height,
+            ending,
+            times: 1,
+        })?;
         Ok(())
     }
 
-    /// Whether a function was seldom met that ends so in a mode.
-    fn is_seldom(&self, mode: u8, function: u8, part: u8, refusal: Option<Refusal>) -> bool {
-        let ending = Ending {
-            mode,
-            function,
-            part,
-            refusal,
-        };
-        match self.counts.iter().find(|counted| counted.0 == ending) {
-            Some((_, count)) => *count < OFTEN,
+    /// Counts a frame that is drawn in a mode.
+    pub fn note_frame(&mut self, mode: PlainMode) -> Result<(), AllocError> {
+        self.drawn.push((mode.number, mode.height))?;
+        Ok(())
+    }
+
+    /// Whether a way was seldom met in a mode, with characters of any height.
+    fn is_seldom(&self, mode: u8, ending: Ending) -> bool {
+        let mut times = 0u32;
+        for count in self.counts.iter() {
+            if count.mode == mode && count.ending == ending {
+                times = times.saturating_add(count.times);
+            }
+        }
+        times < OFTEN
+    }
+
+    /// Whether a way was seldom met in a mode, with characters of this height.
+    fn is_seldom_at(&self, mode: u8, height: u8, ending: Ending) -> bool {
+        let counted = self.counts.iter().find(|count| {
+            count.mode == mode && count.height == height && count.ending == ending
+        });
+        match counted {
+            Some(count) => count.times < OFTEN,
             None => true,
         }
     }
@@ -161,17 +252,18 @@ impl CallCounts {
     /// A function that was seldom accepted in a mode, or seldom refused in a way that it has there.
     fn seldom_in(&self, mode: PlainMode) -> Option<(u8, u8)> {
         for (function, part) in ACCEPTED {
-            if self.is_seldom(mode.number, function, part, None) {
+            if self.is_seldom(mode.number, accepted(function, part)) {
                 return Some((function, part));
             }
         }
         for (function, part, refusal) in REFUSED {
-            if self.is_seldom(mode.number, function, part, Some(refusal)) {
+            if self.is_seldom(mode.number, refused(function, part, refusal)) {
                 return Some((function, part));
             }
         }
         for function in PAGED {
-            if mode.pages > 1 && self.is_seldom(mode.number, function, 0, Some(Refusal::BadPage)) {
+            let bad_page = refused(function, 0, Refusal::BadPage);
+            if mode.pages > 1 && self.is_seldom(mode.number, bad_page) {
                 return Some((function, 0));
             }
         }
@@ -180,15 +272,15 @@ impl CallCounts {
 
     /// The same of functions for pixels, which text refuses.
     fn seldom_pixel_in(&self, mode: PlainMode) -> Option<(u8, u8)> {
-        let is_text = mode.kind == Kind::Text;
+        let number = mode.number;
         for function in [0x0C, 0x0D] {
-            let is_seldom = if is_text {
-                self.is_seldom(mode.number, function, 0, Some(Refusal::WrongKind))
+            let is_seldom = if mode.kind == Kind::Text {
+                self.is_seldom(number, refused(function, 0, Refusal::WrongKind))
             } else {
-                self.is_seldom(mode.number, function, 0, None)
-                    || self.is_seldom(mode.number, function, 0, Some(Refusal::Outside))
+                self.is_seldom(number, accepted(function, 0))
+                    || self.is_seldom(number, refused(function, 0, Refusal::Outside))
                     || (mode.pages > 1
-                        && self.is_seldom(mode.number, function, 0, Some(Refusal::BadPage)))
+                        && self.is_seldom(number, refused(function, 0, Refusal::BadPage)))
             };
             if is_seldom {
                 return Some((function, 0));
@@ -197,12 +289,89 @@ impl CallCounts {
         None
     }
 
+    /// The same of function 11, which graphics refuse.
+    fn seldom_glyphs_in(&self, mode: PlainMode) -> Option<(u8, u8)> {
+        let number = mode.number;
+        let is_text = mode.kind == Kind::Text;
+        for part in GLYPH_PARTS {
+            let is_seldom = if is_text {
+                self.is_seldom(number, accepted(0x11, part))
+            } else {
+                self.is_seldom(number, refused(0x11, part, Refusal::WrongKind))
+            };
+            if is_seldom {
+                return Some((0x11, part));
+            }
+        }
+        for refusal in BLOCK_REFUSALS {
+            if is_text && self.is_seldom(number, refused(0x11, 0x10, refusal)) {
+                return Some((0x11, 0x10));
+            }
+        }
+        None
+    }
+
+    /// The same of text with characters of a height.
+    fn seldom_at(&self, mode: u8, height: u8) -> Option<(u8, u8)> {
+        for (function, part) in ACCEPTED_AT_HEIGHT {
+            if self.is_seldom_at(mode, height, accepted(function, part)) {
+                return Some((function, part));
+            }
+        }
+        for (function, part, refusal) in REFUSED_AT_HEIGHT {
+            if self.is_seldom_at(mode, height, refused(function, part, refusal)) {
+                return Some((function, part));
+            }
+        }
+        None
+    }
+
+    /// The same of text with characters of each height.
+    fn seldom_at_heights(&self, mode: PlainMode) -> Option<(u8, u8)> {
+        if mode.kind != Kind::Text {
+            return None;
+        }
+        for height in HEIGHTS {
+            let seldom = self.seldom_at(mode.number, height);
+            if seldom.is_some() {
+                return seldom;
+            }
+        }
+        None
+    }
+
     /// The first function, with its part, that was not met often in each way that it has in each mode.
     pub fn seldom(&self) -> Option<(u8, u8)> {
         for mode in MODES {
-            let seldom = self.seldom_in(mode);
+            let seldom = self
+                .seldom_in(mode)
+                .or(self.seldom_glyphs_in(mode))
+                .or(self.seldom_at_heights(mode));
             if seldom.is_some() {
                 return seldom;
+            }
+        }
+        None
+    }
+
+    /// Whether few frames were drawn in a mode with characters of this height.
+    fn is_seldom_drawn(&self, mode: u8, height: u8) -> bool {
+        let mut times = 0u32;
+        for frame in self.drawn.iter() {
+            if *frame == (mode, height) {
+                times = times.saturating_add(1);
+            }
+        }
+        times < OFTEN
+    }
+
+    /// The first mode of text, with the first height, of which few frames were drawn.
+    pub fn seldom_drawn(&self) -> Option<(u8, u8)> {
+        for mode in [0x03, 0x07] {
+            for height in HEIGHTS {
+                if self.is_seldom_drawn(mode, height) {
+                    return Some((mode, height));
+                }
             }
         }
         None

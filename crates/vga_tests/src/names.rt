@@ -5,7 +5,7 @@ use anyhow::Result;
 use std::alloc::Global;
 use vga_bits::{Fault, Refusal};
 
-const REFUSALS: [(Refusal, &str); 12] = [
+const REFUSALS: [(Refusal, &str); 13] = [
     (Refusal::NotDecoded, "E1 NotDecoded"),
     (Refusal::NotInProfile, "E2 NotInProfile"),
     (Refusal::NoMode, "E3 NoMode"),
@@ -18,6 +18,7 @@ const REFUSALS: [(Refusal, &str); 12] = [
     (Refusal::BadRegister, "E10 BadRegister"),
     (Refusal::BadBlock, "E11 BadBlock"),
     (Refusal::TooFar, "E12 TooFar"),
+    (Refusal::BadHeight, "E13 BadHeight"),
 ];
 
 const FAULTS: [(Fault, &str); 10] = [

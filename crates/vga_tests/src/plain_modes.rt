@@ -1,5 +1,6 @@
-//! The six modes once more: how each cuts its screen, and the colours that it begins with. It was written
-//! from docs/MODES.md, and nothing is shared with the crates that are tested.
+//! The six modes once more: how each cuts its screen, text by the height of its characters, and the colours that it
+//! begins with. It was written from docs/MODES.md and docs/SERVICES.md, and nothing is shared with the crates that are
+//! tested.
 ghost use Rattle.std.specs.Prelude.{◌<◌, ◌≤◌};
 
 /// What stands at the places of a screen.
@@ -21,6 +22,8 @@ pub struct PlainMode {
     /// Scan lines of a character.
     pub height: u8,
     pub pages: u8,
+    /// How many cells of text lead from a page to the next.
+    pub distance: u16,
     pub cursor_type: u16,
     pub palette: [u8; 16],
     /// How many dots of a line a pixel has, and how many lines.
@@ -49,6 +52,7 @@ const MODE_3: PlainMode = PlainMode {
     rows: 25,
     height: 16,
     pages: 8,
+    distance: 2048,
     cursor_type: 0x0D0E,
     palette: SIXTY_FOUR_COLOURS,
     dots: 1,
@@ -62,6 +66,7 @@ const MODE_7: PlainMode = PlainMode {
     rows: 25,
     height: 16,
     pages: 8,
+    distance: 2048,
     cursor_type: 0x0D0E,
     palette: MONOCHROME,
     dots: 1,
@@ -75,6 +80,7 @@ const MODE_0D: PlainMode = PlainMode {
     rows: 25,
     height: 8,
     pages: 8,
+    distance: 0,
     cursor_type: 0,
     palette: SIXTEEN_BRIGHT,
     dots: 1,
@@ -88,6 +94,7 @@ const MODE_10: PlainMode = PlainMode {
     rows: 25,
     height: 14,
     pages: 2,
+    distance: 0,
     cursor_type: 0,
     palette: SIXTY_FOUR_COLOURS,
     dots: 1,
@@ -101,6 +108,7 @@ const MODE_12: PlainMode = PlainMode {
     rows: 30,
     height: 16,
     pages: 1,
+    distance: 0,
     cursor_type: 0,
     palette: SIXTY_FOUR_COLOURS,
     dots: 1,
@@ -114,6 +122,7 @@ const MODE_13: PlainMode = PlainMode {
     rows: 25,
     height: 8,
     pages: 1,
+    distance: 0,
     cursor_type: 0,
     palette: IN_ORDER,
     dots: 2,
@@ -126,6 +135,57 @@ pub const MODES: [PlainMode; 6] = [MODE_3, MODE_7, MODE_0D, MODE_10, MODE_12, MO
 /// The mode of this number, where there is one.
 pub fn plain_mode(number: u8) -> Option<PlainMode> {
     MODES.iter().copied().find(|mode| mode.number == number)
+}
+
+/// The heights that characters of text can have.
+pub const HEIGHTS: [u8; 3] = [8, 14, 16];
+
+/// What text has with characters of a height: rows and pages, how far apart the pages are, and the cursor's lines.
+#[derive(Clone, Copy)]
+struct TextCut {
+    height: u8,
+    rows: u8,
+    pages: u8,
+    distance: u16,
+    cursor_type: u16,
+}
+
+/// What text has with characters of each height.
+const TEXT_CUTS: [TextCut; 3] = [
+    TextCut {
+        height: 8,
+        rows: 50,
+        pages: 4,
+        distance: 4096,
+        cursor_type: 0x0607,
+    },
+    TextCut {
+        height: 14,
+        rows: 28,
+        pages: 4,
+        distance: 4096,
+        cursor_type: 0x0B0C,
+    },
+    TextCut {
+        height: 16,
+        rows: 25,
+        pages: 8,
+        distance: 2048,
+        cursor_type: 0x0D0E,
+    },
+];
+
+/// A mode of text with characters of another height, where there are such.
+pub fn with_height(mode: PlainMode, height: u8) -> Option<PlainMode> {
+    let cut = TEXT_CUTS.iter().copied().find(|cut| cut.height == height)?;
+    Some(PlainMode {
+        rows: cut.rows,
+        height: cut.height,
+        pages: cut.pages,
+        distance: cut.distance,
+        cursor_type: cut.cursor_type,
+        ..mode
+    })
 }
 
 /// `v` where bit `i` of `n` is 1, else 0.

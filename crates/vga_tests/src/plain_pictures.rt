@@ -3,7 +3,7 @@ ghost use Rattle.std.specs.Prelude.{◌≡◌, ◌<◌};
 
 use crate::plain_modes::Kind;
 use crate::plain_refusals::{high, low};
-use crate::plain_screen::{Line, PlainScreen, Spot, glyph_row};
+use crate::plain_screen::{Line, Place, PlainScreen};
 use std::alloc::AllocError;
 
 /// The size of a picture in dots, and red, green and blue of each dot, row after row.
@@ -44,7 +44,7 @@ impl PlainScreen<'_> {
         let first = high(self.cursor_type);
         let last = low(self.cursor_type) & 0x1F;
         let is_underlined = self.mode.number == 7
-            && cell.line == 15
+            && cell.line == self.mode.height.saturating_sub(1)
             && cell.attribute & 0x77 == 0x01;
         let is_gone = self.blinks && cell.attribute >= 0x80 && self.frame >= 16;
         let is_cursor = cell.is_cursor
@@ -60,6 +60,12 @@ impl PlainScreen<'_> {
         is_cursor || (!is_gone && (is_underlined || is_glyph))
     }
 
+    /// The dots of a scan line of a character of text.
+    fn glyph_line(&self, character: u8, line: u8) -> u8 {
+        let glyph = self.glyphs[character as usize];
+        if line < 16 { glyph[line as usize] } else { 0 }
+    }
+
     /// Draws nine dots of a scan line of a cell.
     fn draw_cell(
         &self,
@@ -67,7 +73,7 @@ impl PlainScreen<'_> {
         cell: ScannedCell,
         bytes: &mut Vec<u8>,
     ) -> Result<(), AllocError> {
-        let dots = glyph_row(self.font, 16, cell.character, cell.line as usize);
+        let dots = self.glyph_line(cell.character, cell.line);
         let high_bits = cell.attribute >> 4;
         let background = if self.blinks {
             high_bits & 7
@@ -85,28 +91,39 @@ impl PlainScreen<'_> {
         Ok(())
     }
 
-    /// Draws a scan line of a row of cells, whose first has this number.
+    /// Draws a scan line of a row of cells.
     fn draw_cells(
         &self,
         colours: &[[u8; 3]; 256],
-        cells: &Line,
-        first: u32,
+        row: u8,
         line: u8,
         bytes: &mut Vec<u8>,
     ) -> Result<(), AllocError> {
         let cursor = self.cell_number(self.place(self.page));
-        let mut number = first;
-        for spot in cells {
-            if let Spot::Cell(character, attribute) = *spot {
+        for column in 0..self.mode.columns {
+            let at = Place { row, column };
+            if let Some(cell) = self.cell(self.page, at) {
                 let cell = ScannedCell {
-                    character,
-                    attribute,
-                    is_cursor: number == cursor,
+                    character: cell.character,
+                    attribute: cell.attribute,
+                    is_cursor: self.cell_number(at) == cursor,
                     line,
                 };
                 self.draw_cell(colours, cell, bytes)?;
             }
-            number = number.saturating_add(1);
+        }
+        Ok(())
+    }
+
+    /// Draws the scan lines of a row of cells.
+    fn draw_row(
+        &self,
+        colours: &[[u8; 3]; 256],
+        row: u8,
+        bytes: &mut Vec<u8>,
+    ) -> Result<(), AllocError> {
+        for line in 0..self.mode.height {
+            self.draw_cells(colours, row, line, bytes)?;
         }
         Ok(())
     }
@@ -114,17 +131,8 @@ impl PlainScreen<'_> {
     /// The dots of the active page's cells.
     fn text_bytes(&self, colours: &[[u8; 3]; 256]) -> Result<Vec<u8>, AllocError> {
         let mut bytes = Vec::new(self.alloc);
-        let mut first = 0u32;
-        let Some(page) = self.pages.get(self.page as usize) else {
-            return Ok(bytes);
-        };
-        for strip in page {
-            if let Some(cells) = strip.first() {
-                for line in 0..16u8 {
-                    self.draw_cells(colours, cells, first, line, &mut bytes)?;
-                }
-            }
-            first = first.saturating_add(self.mode.columns as u32);
+        for row in 0..self.mode.rows {
+            self.draw_row(colours, row, &mut bytes)?;
         }
         Ok(bytes)
     }
@@ -136,11 +144,9 @@ impl PlainScreen<'_> {
         pixels: &Line,
         bytes: &mut Vec<u8>,
     ) -> Result<(), AllocError> {
-        for spot in pixels {
-            if let Spot::Pixel(colour) = *spot {
-                for _ in 0..self.mode.dots {
-                    bytes.extend_from_slice(&colours[colour as usize])?;
-                }
+        for colour in pixels {
+            for _ in 0..self.mode.dots {
+                bytes.extend_from_slice(&colours[*colour as usize])?;
             }
         }
         Ok(())

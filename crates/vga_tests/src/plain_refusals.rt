@@ -1,8 +1,8 @@
 //! Which services a plain screen refuses, and why: the rules of docs/SERVICES.md once more.
 ghost use Rattle.std.specs.Prelude.{◌≡◌, ◌<◌};
 
-use crate::plain_modes::plain_mode;
-use crate::plain_screen::{Place, PlainScreen};
+use crate::plain_modes::{plain_mode, with_height};
+use crate::plain_screen::{CORNER, Place, PlainScreen};
 use bios_services::Regs;
 use vga_bits::Refusal;
 
@@ -30,11 +30,17 @@ fn is_function(regs: Regs) -> bool {
     match high(regs.ax) {
         0x00..=0x03 | 0x05..=0x0A | 0x0C..=0x0F => true,
         0x10 => matches!(al, 0x00..=0x03 | 0x07..=0x09 | 0x10 | 0x12 | 0x15 | 0x17..=0x19),
+        0x11 => matches!(al, 0x10..=0x12 | 0x14) && low(regs.bx) == 0,
         0x12 => low(regs.bx) == 0x10,
         0x13 => al < 4,
         0x1A => al == 0,
         _ => false,
     }
+}
+
+/// Whether the glyphs of the block are to be loaded, and not those of a font.
+fn loads_block(regs: Regs) -> bool {
+    high(regs.ax) == 0x11 && low(regs.ax) == 0x10
 }
 
 /// What is refused where a condition is met.
@@ -48,6 +54,7 @@ fn wanted_length(regs: Regs) -> usize {
     match (high(regs.ax), low(regs.ax)) {
         (0x10, 0x02) => 17,
         (0x10, _) => 3 * count,
+        (0x11, _) => high(regs.bx) as usize * count,
         (_, 0x02 | 0x03) => 2 * count,
         (_, _) => count,
     }
@@ -67,7 +74,7 @@ impl PlainScreen<'_> {
     pub fn place(&self, page: u8) -> Place {
         match self.places.get(page as usize) {
             Some(place) => *place,
-            None => Place { row: 0, column: 0 },
+            None => CORNER,
         }
     }
 
@@ -111,27 +118,45 @@ impl PlainScreen<'_> {
         }
     }
 
-    /// Whether the cells that are to be written go past the page's last.
+    /// Whether the cells that are to be written go past the page's last, or the characters whose glyphs are to be
+    /// loaded past FF.
     fn is_count_past(&self, regs: Regs) -> bool {
         let place = self.place(self.page_of(regs));
-        let end = self.cell_number(place) + regs.cx as u32;
-        matches!(high(regs.ax), 0x09 | 0x0A) && end > self.cells()
+        let count = regs.cx as u32;
+        match high(regs.ax) {
+            0x09 | 0x0A => self.cell_number(place) + count > self.cells(),
+            0x11 => loads_block(regs) && regs.dx as u32 + count > 0x100,
+            _ => false,
+        }
+    }
+
+    /// Whether the call is for a screen of the other kind: for pixels in text, or for glyphs in graphics.
+    fn is_wrong_kind(&self, regs: Regs) -> bool {
+        match high(regs.ax) {
+            0x0C | 0x0D => self.is_text(),
+            0x11 => !self.is_text(),
+            _ => false,
+        }
     }
 
     /// The refusal of a call of a function that is there.
     fn function_refusal(&self, regs: Regs, block: &[u8]) -> Option<Refusal> {
         let ah = high(regs.ax);
         let is_bad_mode = ah == 0x00 && plain_mode(low(regs.ax) & 0x7F).is_none();
-        let is_dot = matches!(ah, 0x0C | 0x0D);
-        let takes_block = matches!((ah, low(regs.ax)), (0x10, 0x02 | 0x12) | (0x13, _));
+        let takes_block = matches!(
+            (ah, low(regs.ax)),
+            (0x10, 0x02 | 0x12) | (0x11, 0x10) | (0x13, _)
+        );
         let is_bad_block = takes_block && block.len() != wanted_length(regs);
+        let is_bad_height = loads_block(regs) && with_height(self.mode, high(regs.bx)).is_none();
         refused_where(is_bad_mode, Refusal::BadMode)
-            .or(refused_where(is_dot && self.is_text(), Refusal::WrongKind))
+            .or(refused_where(self.is_wrong_kind(regs), Refusal::WrongKind))
             .or(refused_where(self.is_bad_page(regs), Refusal::BadPage))
             .or(refused_where(self.is_place_outside(regs), Refusal::Outside))
             .or(refused_where(self.is_count_past(regs), Refusal::CountPast))
             .or(refused_where(is_bad_register(regs), Refusal::BadRegister))
             .or(refused_where(is_bad_block, Refusal::BadBlock))
+            .or(refused_where(is_bad_height, Refusal::BadHeight))
     }
 
     /// The first refusal of a call, where it is refused.

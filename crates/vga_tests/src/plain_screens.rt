@@ -1,9 +1,10 @@
 //! The adapter and its services against the plain screen, on pseudo-random scripts of services and whole frames
-//! in all six modes: every answer, every refusal, every picture, and screens that are read.
+//! in all six modes, of text with characters of each height: every answer, every refusal, every picture, and screens that
+//! are read.
 ghost use Rattle.std.specs.Prelude.{◌≡◌, ◌<◌};
 
 use crate::call_counts::CallCounts;
-use crate::plain_modes::{MODES, PlainMode};
+use crate::plain_modes::MODES;
 use crate::plain_screen::{Place, PlainScreen};
 use crate::random_calls::{RandomCall, next_call};
 use crate::random_registers::next_byte;
@@ -16,14 +17,65 @@ use std::alloc::{AllocError, Global};
 use std::fmt;
 use vga_card::{Card, Drawn};
 
-/// How many scripts are run in each mode, how many frames each has, and how many services each frame.
+/// What a script begins with: a mode set, and the part of function 11 that then gives text another height, if any does.
+#[derive(Clone, Copy)]
+struct Beginning {
+    mode: u8,
+    font: Option<u8>,
+}
+
+/// Each mode, and text with characters of each height.
+const BEGINNINGS: [Beginning; 10] = [
+    Beginning {
+        mode: 0x03,
+        font: None,
+    },
+    Beginning {
+        mode: 0x03,
+        font: Some(0x11),
+    },
+    Beginning {
+        mode: 0x03,
+        font: Some(0x12),
+    },
+    Beginning {
+        mode: 0x07,
+        font: None,
+    },
+    Beginning {
+        mode: 0x07,
+        font: Some(0x11),
+    },
+    Beginning {
+        mode: 0x07,
+        font: Some(0x12),
+    },
+    Beginning {
+        mode: 0x0D,
+        font: None,
+    },
+    Beginning {
+        mode: 0x10,
+        font: None,
+    },
+    Beginning {
+        mode: 0x12,
+        font: None,
+    },
+    Beginning {
+        mode: 0x13,
+        font: None,
+    },
+];
+
+/// How many scripts have each beginning, how many frames each has, and how many services each frame.
 const SCRIPTS: u32 = 4;
 
 const FRAMES: u32 = 40;
 
 const SERVICES: u32 = 28;
 
-/// Behind how many frames a screen is read.
+/// Behind how many frames a screen of pixels is read. One of cells is read behind each.
 const FRAMES_TO_READ: u32 = 10;
 
 /// In what the adapter first differs from the plain screen.
@@ -43,6 +95,8 @@ enum Difference {
     Cursor(u8),
     /// A function and its part that seldom ended so.
     Seldom(u8, u8),
+    /// A mode and a height of its characters, of which few frames were drawn.
+    SeldomDrawn(u8, u8),
 }
 
 /// How the comparison with plain screens ended.
@@ -144,7 +198,7 @@ impl Pair<'_> {
     fn service_difference(&mut self, call: &RandomCall) -> Result<Option<Difference>> {
         let regs = call.regs;
         let block = call.block.as_slice();
-        let mode = self.plain.mode.number;
+        let mode = self.plain.mode;
         let wanted = self.plain.call(regs, block)?;
         let refusal = match &wanted {
             Ok(_) => None,
@@ -180,6 +234,7 @@ impl Pair<'_> {
     /// Draws a whole frame on both.
     fn frame_difference(&mut self) -> Result<Option<Difference>> {
         let wanted = self.plain.draw()?;
+        self.counts.note_frame(self.plain.mode)?;
         self.frames = self.frames.saturating_add(1);
         Ok(match self.card.frame() {
             Drawn::Picture(width, height, bytes)
@@ -209,14 +264,24 @@ impl Pair<'_> {
         Ok(None)
     }
 
-    /// The cells of a page, those just past it too.
+    /// The cells of a row of a page, and one past them.
+    fn row_difference(&self, screen: &Screen, page: u8, row: u8) -> Option<Difference> {
+        for column in 0..81u8 {
+            let wanted = self.plain.cell(page, Place { row, column });
+            let wanted = wanted.map(|cell| (cell.character, cell.attribute));
+            if screen.cell(page, row, column) != wanted {
+                return Some(Difference::Spot(page, column as u16, row as u16));
+            }
+        }
+        None
+    }
+
+    /// The cells of a page, as many rows as the smallest characters have and one more.
     fn cell_difference(&self, screen: &Screen, page: u8) -> Option<Difference> {
-        for row in 0..26u8 {
-            for column in 0..81u8 {
-                let at = Place { row, column };
-                if screen.cell(page, row, column) != self.plain.cell(page, at) {
-                    return Some(Difference::Spot(page, column as u16, row as u16));
-                }
+        for row in 0..51u8 {
+            let difference = self.row_difference(screen, page, row);
+            if difference.is_some() {
+                return difference;
             }
         }
         if screen.pixel(page, 0, 0).is_some() {
@@ -252,16 +317,25 @@ impl Pair<'_> {
 
 /// Scripts.
 impl Pair<'_> {
-    /// Sets a mode on both.
-    fn set_mode(&mut self, number: u8) -> Result<Option<Difference>> {
+    /// Does a service on both for which AX is enough.
+    fn short_difference(&mut self, ax: u16) -> Result<Option<Difference>> {
         let regs = Regs {
-            ax: number as u16,
+            ax,
             bx: 0,
             cx: 0,
             dx: 0,
         };
         let block = Vec::new(self.alloc);
         self.service_difference(&RandomCall { regs, block })
+    }
+
+    /// Begins a script on both.
+    fn begin(&mut self, beginning: Beginning) -> Result<Option<Difference>> {
+        let difference = self.short_difference(beginning.mode as u16)?;
+        match beginning.font {
+            Some(part) if difference.is_none() => self.short_difference(0x1100 + part as u16),
+            _ => Ok(difference),
+        }
     }
 
     /// Some services, and a whole frame behind them.
@@ -276,39 +350,53 @@ impl Pair<'_> {
         self.frame_difference()
     }
 
-    /// A script that begins with a mode set.
-    fn script(&mut self, random: &mut Pcg32, mode: PlainMode) -> Result<Option<Difference>> {
-        let mut difference = self.set_mode(mode.number)?;
+    /// A script, which begins anew behind each frame that ends in another mode.
+    fn script(&mut self, random: &mut Pcg32, beginning: Beginning) -> Result<Option<Difference>> {
+        let mut difference = self.begin(beginning)?;
         for frame in 0..FRAMES {
             if difference.is_some() {
                 return Ok(difference);
             }
             difference = self.next_frame(random)?;
-            if difference.is_none() && frame % FRAMES_TO_READ == 0 {
+            let is_read = self.plain.is_text() || frame % FRAMES_TO_READ == 0;
+            if difference.is_none() && is_read {
                 difference = self.read_difference()?;
             }
-            if difference.is_none() && self.plain.mode.number != mode.number {
-                difference = self.set_mode(mode.number)?;
+            if difference.is_none() && self.plain.mode.number != beginning.mode {
+                difference = self.begin(beginning)?;
             }
         }
         Ok(difference)
     }
 
-    /// So many scripts in each mode, up to the first difference.
-    fn scripts(&mut self, random: &mut Pcg32) -> Result<Option<Difference>> {
-        for _ in 0..SCRIPTS {
-            for mode in MODES {
-                let difference = self.script(random, mode)?;
-                if difference.is_some() {
-                    return Ok(difference);
-                }
+    /// A script of each beginning, up to the first difference.
+    fn round(&mut self, random: &mut Pcg32) -> Result<Option<Difference>> {
+        for beginning in BEGINNINGS {
+            let difference = self.script(random, beginning)?;
+            if difference.is_some() {
+                return Ok(difference);
             }
         }
-        Ok(
-            self.counts
-                .seldom()
-                .map(|(function, part)| Difference::Seldom(function, part)),
-        )
+        Ok(None)
+    }
+
+    /// So many scripts of each beginning, up to the first difference, and whether all was met often.
+    fn scripts(&mut self, random: &mut Pcg32) -> Result<Option<Difference>> {
+        for _ in 0..SCRIPTS {
+            let difference = self.round(random)?;
+            if difference.is_some() {
+                return Ok(difference);
+            }
+        }
+        Ok(self.seldom())
+    }
+
+    /// What was not met often.
+    fn seldom(&self) -> Option<Difference> {
+        let call = self.counts.seldom();
+        let frame = self.counts.seldom_drawn();
+        call.map(|(function, part)| Difference::Seldom(function, part))
+            .or(frame.map(|(mode, height)| Difference::SeldomDrawn(mode, height)))
     }
 }
 

@@ -3,7 +3,7 @@ ghost use Rattle.std.specs.Prelude.{◌≡◌, ◌<◌};
 
 use crate::plain_modes::plain_mode;
 use crate::plain_refusals::{high, low, place_of};
-use crate::plain_screen::{Place, PlainScreen, Spot, Way, Window, blank};
+use crate::plain_screen::{Place, PlainScreen, Way, Window};
 use bios_services::Regs;
 use std::alloc::AllocError;
 use vga_bits::Refusal;
@@ -56,6 +56,7 @@ impl PlainScreen<'_> {
             0x0C => self.set_pixel(page, regs.cx, regs.dx, low(regs.ax)),
             0x0E => self.type_one(regs)?,
             0x10 => self.set_colours(regs, block),
+            0x11 => self.load_glyphs(regs, block),
             0x13 => self.type_string(regs, block)?,
             _ => (),
         }
@@ -87,8 +88,8 @@ impl PlainScreen<'_> {
         if first.row > last.row || first.column > last.column {
             return Ok(());
         }
-        let spot = blank(self.mode.kind, high(regs.bx));
-        self.scroll(self.page, Window { first, last }, way, low(regs.ax), spot)
+        let window = Window { first, last };
+        self.scroll(self.page, window, way, low(regs.ax), high(regs.bx))
     }
 
     /// Writes a character to so many cells from the cursor on, row after row.
@@ -266,7 +267,7 @@ impl PlainScreen<'_> {
             column: (number % columns) as u8,
         };
         match self.cell(page, at) {
-            Some((character, attribute)) => word(attribute, character),
+            Some(cell) => word(cell.attribute, cell.character),
             None => word(ah, self.character_at(page, at)),
         }
     }

@@ -2,7 +2,7 @@
 //! some that it refuses.
 ghost use Rattle.std.specs.Prelude.{◌≡◌, ◌<◌};
 
-use crate::plain_modes::{MODES, PlainMode};
+use crate::plain_modes::{HEIGHTS, MODES, PlainMode};
 use crate::plain_refusals::high;
 use crate::random_registers::{is_one_in, next_below, next_byte};
 use bios_services::Regs;
@@ -18,17 +18,20 @@ pub struct RandomCall {
 }
 
 /// Functions, each as often as it is to come among so many calls.
-const FUNCTIONS: [u8; 54] = [
+const FUNCTIONS: [u8; 57] = [
     0x00, 0x01, 0x02, 0x02, 0x02, 0x02, 0x03, 0x05, 0x05, 0x06, 0x06, 0x07, 0x07, 0x08, 0x08, 0x08,
     0x08, 0x09, 0x09, 0x09, 0x0A, 0x0A, 0x0A, 0x0C, 0x0C, 0x0C, 0x0D, 0x0D, 0x0E, 0x0E, 0x0E, 0x0E,
-    0x0F, 0x10, 0x10, 0x10, 0x10, 0x10, 0x10, 0x10, 0x10, 0x10, 0x10, 0x10, 0x10, 0x10, 0x10, 0x12,
-    0x13, 0x13, 0x13, 0x13, 0x13, 0x1A,
+    0x0F, 0x10, 0x10, 0x10, 0x10, 0x10, 0x10, 0x10, 0x10, 0x10, 0x10, 0x10, 0x10, 0x10, 0x10, 0x11,
+    0x11, 0x11, 0x12, 0x13, 0x13, 0x13, 0x13, 0x13, 0x1A,
 ];
 
 /// The parts of function 10.
 const COLOUR_PARTS: [u8; 13] = [
     0x00, 0x01, 0x02, 0x03, 0x07, 0x08, 0x09, 0x10, 0x12, 0x15, 0x17, 0x18, 0x19,
 ];
+
+/// The parts of function 11: the glyphs of a block oftener than each font.
+const GLYPH_PARTS: [u8; 5] = [0x10, 0x10, 0x11, 0x12, 0x14];
 
 /// The characters that are obeyed where they are typed.
 const CONTROLS: [u8; 4] = [0x07, 0x08, 0x0A, 0x0D];
@@ -96,10 +99,11 @@ fn next_place(random: &mut Pcg32, mode: PlainMode) -> u16 {
     }
 }
 
-/// How many cells are written: mostly few.
-fn next_count(random: &mut Pcg32) -> u16 {
+/// How many cells are written: mostly few, else up to some more than a page has.
+fn next_count(random: &mut Pcg32, mode: PlainMode) -> u16 {
+    let cells = mode.columns as u32 * mode.rows as u32;
     match next_below(random, 8) {
-        0 => next_below(random, 2400) as u16,
+        0 => next_below(random, cells + 400).min(0xFFFF) as u16,
         1 => (random.next_u32() >> 16) as u16,
         _ => next_below(random, 24) as u16,
     }
@@ -147,7 +151,7 @@ fn cell_call(random: &mut Pcg32, mode: PlainMode, active: u8, ah: u8) -> Regs {
     Regs {
         ax: word(ah, next_character(random)),
         bx: word(page, colour),
-        cx: next_count(random),
+        cx: next_count(random, mode),
         dx: next_place(random, mode),
     }
 }
@@ -263,6 +267,79 @@ fn colour_call(alloc: Global, random: &mut Pcg32) -> Result<RandomCall, AllocErr
     })
 }
 
+/// How many glyphs are loaded: mostly few.
+fn next_glyph_count(random: &mut Pcg32) -> u16 {
+    match next_below(random, 16) {
+        0 | 1 => 0,
+        2 => 0x100,
+        3 => (random.next_u32() >> 16) as u16,
+        _ => next_below(random, 24) as u16,
+    }
+}
+
+/// The character of the first of so many glyphs: often such that the last is FF, or just past it, or such that a sum of
+/// 16 bits would be 0.
+fn next_first_character(random: &mut Pcg32, count: u16) -> u16 {
+    let past = 0x100u16.saturating_sub(count);
+    match next_below(random, 10) {
+        0 => past + 1,
+        1 => (random.next_u32() >> 16) as u16,
+        2 => 0u16.wrapping_sub(count),
+        3 | 4 => past,
+        _ => next_below(random, past as u32 + 1).min(0xFFFF) as u16,
+    }
+}
+
+/// The glyphs of a block, for characters of a height that there mostly is.
+fn block_glyph_call(alloc: Global, random: &mut Pcg32, map: u8) -> Result<RandomCall, AllocError> {
+    let listed = one_of(random, &HEIGHTS);
+    let height = if is_one_in(random, 6) {
+        next_byte(random)
+    } else {
+        listed
+    };
+    let count = next_glyph_count(random);
+    let wanted = height as usize * count.min(0x100) as usize;
+    let len = next_length(random, wanted);
+    Ok(RandomCall {
+        regs: Regs {
+            ax: word(0x11, 0x10),
+            bx: word(height, map),
+            cx: count,
+            dx: next_first_character(random, count),
+        },
+        block: next_block(alloc, random, len)?,
+    })
+}
+
+/// A call that loads glyphs, mostly into the map that there is. Of a font it may have a block, which is not looked at.
+fn glyph_call(alloc: Global, random: &mut Pcg32) -> Result<RandomCall, AllocError> {
+    let map = if is_one_in(random, 5) {
+        next_byte(random)
+    } else {
+        0
+    };
+    let listed = one_of(random, &GLYPH_PARTS);
+    let part = if is_one_in(random, 16) {
+        next_byte(random)
+    } else {
+        listed
+    };
+    if part == 0x10 {
+        return block_glyph_call(alloc, random, map);
+    }
+    let len = next_below(random, 3) as usize;
+    Ok(RandomCall {
+        regs: Regs {
+            ax: word(0x11, part),
+            bx: word(next_byte(random), map),
+            cx: (random.next_u32() >> 16) as u16,
+            dx: (random.next_u32() >> 16) as u16,
+        },
+        block: next_block(alloc, random, len)?,
+    })
+}
+
 /// A mode: one of the six to be cleared, or none.
 fn mode_call(random: &mut Pcg32) -> Regs {
     let number = match MODES.get(next_below(random, 12) as usize) {
@@ -316,7 +393,7 @@ fn plain_call(random: &mut Pcg32, mode: PlainMode, active: u8, ah: u8) -> Regs {
     }
 }
 
-/// The next call on a screen of a mode with this active page.
+/// The next call on a screen of a mode, in text as the height of its characters cuts it, with this active page.
 pub fn next_call(
     alloc: Global,
     random: &mut Pcg32,
@@ -331,6 +408,7 @@ pub fn next_call(
     };
     match ah {
         0x10 => colour_call(alloc, random),
+        0x11 => glyph_call(alloc, random),
         0x13 => string_call(alloc, random, mode, active),
         _ => Ok(RandomCall {
             regs: plain_call(random, mode, active, ah),

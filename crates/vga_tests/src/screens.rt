@@ -56,6 +56,34 @@ const CELL_CALLS: [Regs; 4] = [
     },
 ];
 
+/// Mode 3 with characters of eight scan lines, the cursor in the last cell of page 3, and an A there in yellow on blue.
+const SMALL_CELL_CALLS: [Regs; 4] = [
+    Regs {
+        ax: 0x0003,
+        bx: 0,
+        cx: 0,
+        dx: 0,
+    },
+    Regs {
+        ax: 0x1112,
+        bx: 0,
+        cx: 0,
+        dx: 0,
+    },
+    Regs {
+        ax: 0x0200,
+        bx: 0x0300,
+        cx: 0,
+        dx: 0x314F,
+    },
+    Regs {
+        ax: 0x0941,
+        bx: 0x031E,
+        cx: 1,
+        dx: 0,
+    },
+];
+
 /// Does services one after another, and tells whether all were accepted.
 fn serve(alloc: Global, card: &mut Card, bda: &mut Bda, fonts: &Fonts, calls: &[Regs]) -> bool {
     let mut accepted = true;
@@ -112,6 +140,17 @@ fn check_parts(screen: &Screen, checks: &mut Checks) {
     checks.note("no pixel of text", screen.pixel(0, 0, 0).is_none());
 }
 
+/// Checks the parts of a screen of small cells that is read: 50 rows on each of four pages.
+fn check_small_cells(screen: &Screen, checks: &mut Checks) {
+    let last = screen.cell(3, 49, 79) == Some((0x41, 0x1E));
+    checks.note("the last cell of the last page", last);
+    let other = screen.cell(0, 49, 79) == Some((0x20, 0x07));
+    checks.note("the last cell of another page", other);
+    checks.note("no cell below 50 rows", screen.cell(0, 50, 0).is_none());
+    checks.note("no cell of a fifth page", screen.cell(4, 0, 0).is_none());
+    checks.note("a cursor in row 49", screen.cursor(3) == Some((49, 79)));
+}
+
 /// Checks screens that are read behind calls.
 pub fn check_screens(alloc: Global) -> Result<Checks> {
     let mut checks = Checks::new();
@@ -119,6 +158,11 @@ pub fn check_screens(alloc: Global) -> Result<Checks> {
     checks.note("a screen of cells behind calls", cells.is_some());
     if let Some(screen) = cells {
         check_parts(&screen, &mut checks);
+    }
+    let small = screen_behind(alloc, &SMALL_CELL_CALLS)?;
+    checks.note("a screen of small cells behind calls", small.is_some());
+    if let Some(screen) = small {
+        check_small_cells(&screen, &mut checks);
     }
     let pixels = screen_behind(alloc, &PIXEL_CALLS)?;
     checks.note("a screen of pixels behind calls", pixels.is_some());
