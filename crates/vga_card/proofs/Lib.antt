@@ -7,3 +7,4 @@ pub mod FrameLemmas
 pub mod BoundLemmas
 pub mod RowLemmas
 pub mod LineLemmas
+pub mod DrawnLemmas
