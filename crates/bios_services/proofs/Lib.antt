@@ -3,3 +3,4 @@ pub mod GlyphLemmas
 pub mod BoundLemmas
 pub mod RefusedLemmas
 pub mod KeptLemmas
+pub mod DrawnLemmas

@@ -11,7 +11,7 @@ ghost use Rattle.bios_services.specs.Data.{AreData};
 ghost use Rattle.bios_services.specs.Plan.{run};
 ghost use Rattle.bios_services.specs.Service.{service};
 
-use vga_card::laws::bounds_stay;
+use vga_card::laws::{bounds_stay, cycles_draw_nothing};
 
 /// A refused service leaves the adapter and the BIOS data.
 pub fn refused_services_do_nothing()
@@ -29,4 +29,12 @@ pub fn calls_keep_bounds()
         r.dx < 65536 → AreData d → AreData (run card_meaning (service fonts d r block) c).1.1 }
 {
     bounds_stay();
+}
+
+/// No call draws a dot or takes one away: what is drawn of a frame stays.
+pub fn calls_draw_nothing()
+    ensures { (fonts : FontSet) (d : BiosData) (r : Regs) (block : List ℕ) (c : CardState) →
+        (run card_meaning (service fonts d r block) c).0.drawn ≡ c.drawn }
+{
+    cycles_draw_nothing();
 }
