@@ -114,12 +114,12 @@ picture_lines f w (suc h) =
 
 -- ---- its bytes
 
-bytes_append : (a b : List Dot) → bytes_of (a ++ b) ≡ bytes_of a ++ bytes_of b
+pub bytes_append : (a b : List Dot) → bytes_of (a ++ b) ≡ bytes_of a ++ bytes_of b
 unfolding bytes_of
 bytes_append [] b = refl
 bytes_append (d ∷ a) b = ap (λ l. d.colour ++ l) (bytes_append a b) ∙ sym (append_assoc d.colour (bytes_of a) (bytes_of b))
 
-no_bytes : bytes_of [] ≡ []
+pub no_bytes : bytes_of [] ≡ []
 unfolding bytes_of
 no_bytes = refl
 
@@ -127,7 +127,7 @@ one_byte : (d : Dot) → bytes_of (d ∷ []) ≡ d.colour
 unfolding bytes_of
 one_byte d = append-nil d.colour
 
-bytes_joined : (f : ℕ → List Dot) (n : ℕ) → bytes_of (collect f n) ≡ joined (λ i. bytes_of (f i)) n
+pub bytes_joined : (f : ℕ → List Dot) (n : ℕ) → bytes_of (collect f n) ≡ joined (λ i. bytes_of (f i)) n
 unfolding joined
 bytes_joined f zero = no_bytes
 bytes_joined f (suc n) = bytes_append (collect f n) (f n) ∙ ap (λ l. l ++ bytes_of (f n)) (bytes_joined f n)

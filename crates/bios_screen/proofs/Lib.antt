@@ -84,3 +84,10 @@ pub mod Coloured
 pub mod ReadingLemmas
 pub mod Loads
 pub mod LoadCalls
+pub mod AnyFrames
+pub mod Steady
+pub mod CutAlike
+pub mod OneDot
+pub mod WholeFrames
+pub mod BetweenDots
+pub mod DotExamples

@@ -1,9 +1,9 @@
 -- Calls that load glyphs, whole: refused, or led to the screen with them.
-use Rattle.std.proofs.Common.{◌≡◌, ℕ, ◌+◌, ◌≤◌, refl, sym, ap, ◌∙◌, subst, arith, List, length, Option, Some, None, Bool, true, false, if◌then◌else◌, Err, Ok}
+use Rattle.std.proofs.Common.{◌≡◌, ℕ, ◌+◌, ◌≤◌, refl, sym, ap, ◌∙◌, arith, List, length, Option, Some, None, Bool, true, false, if◌then◌else◌}
 use Rattle.std.specs.Prelude.{◌==◌, nat_le}
 use Rattle.std.proofs.lemmas.Bool.Decides.{nat_tests}
 use Rattle.vga_bits.specs.declared.refusal.Refusal.{Refusal}
-use Rattle.vga_bits.specs.declared.refusal.Refusal.TheVariants.{NoMode, WrongKind, CountPast, BadHeight}
+use Rattle.vga_bits.specs.declared.refusal.Refusal.TheVariants.{NoMode, WrongKind, CountPast}
 use Rattle.vga_card.specs.Bounds.{IsCard}
 use Rattle.vga_card.specs.Bus.{card_meaning}
 use Rattle.vga_card.specs.Card.{CardState}
@@ -28,13 +28,13 @@ use Rattle.bios_screen.specs.Screen.{Screen}
 use Rattle.bios_screen.specs.Shown.{shown}
 use Rattle.bios_screen.specs.Served.{after_call}
 use Rattle.bios_screen.specs.Called.{reply_unless, screen_unless, IsLoaded}
-use Rattle.bios_screen.specs.Loaded.{height_refused, or_else, load_refused, loaded_with, loaded}
+use Rattle.bios_screen.specs.Loaded.{height_refused, or_else, loaded_with, loaded}
 use Rattle.bios_screen.proofs.PlanLemmas.{then_runs, then_answers}
 use Rattle.bios_screen.proofs.Kept.{KeepsBounds, plan_beam}
 use Rattle.bios_screen.proofs.Display.{Display, Height, row_of, row_with, lines_of, number_of}
 use Rattle.bios_screen.proofs.Display.Display.{Colour, Monochrome}
 use Rattle.bios_screen.proofs.Display.Height.{Eight, Fourteen, Sixteen}
-use Rattle.bios_screen.proofs.Shows.{IsShown, screen_shown, shown_is, mode_of_shown}
+use Rattle.bios_screen.proofs.Shows.{screen_shown, shown_is, mode_of_shown}
 use Rattle.bios_screen.proofs.Loads.{load_shown}
 
 -- ---- the row of a height

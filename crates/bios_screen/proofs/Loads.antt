@@ -1,8 +1,7 @@
 -- A call that loads glyphs of text: from a state that shows a screen to one that shows it with characters of another height.
-use Rattle.std.proofs.Common.{◌≡◌, ◌≢◌, ℕ, ◌+◌, ◌*◌, ◌/◌, ◌%◌, ◌<◌, ◌≤◌, refl, sym, ap, ◌∙◌, subst, arith, List, length, Option, Some, None, Bool, true, false, if◌then◌else◌}
+use Rattle.std.proofs.Common.{◌≡◌, ℕ, ◌+◌, ◌*◌, ◌/◌, ◌%◌, ◌<◌, ◌≤◌, refl, sym, ap, ◌∙◌, subst, arith, List, length, Some, Bool, true, false, if◌then◌else◌}
 use Rattle.std.specs.Prelude.{slice_index, nat_le, nat_lt, ◌&&◌, replicate}
 use Rattle.std.proofs.lemmas.Bool.Decides.{nat_tests}
-use Rattle.vga_bits.specs.Four.{Four}
 use Rattle.vga_crtc.specs.Ports.{after_out as after_crtc}
 use Rattle.vga_card.specs.Bounds.{IsCard}
 use Rattle.vga_card.specs.Bus.{card_meaning}
@@ -11,15 +10,15 @@ use Rattle.vga_card.specs.Port.{port_of as reached_by, crtc_port_of}
 use Rattle.vga_card.specs.Cycles.{out_at}
 use Rattle.bios_modes.specs.declared.heights.TextRow.{TextRow}
 use Rattle.bios_modes.specs.declared.modes.ModeRow.{ModeRow}
-use Rattle.bios_modes.specs.Heights.{with_text, text_row, row_at}
+use Rattle.bios_modes.specs.Heights.{with_text, row_at}
 use Rattle.bios_modes.specs.Bda.{BiosData}
 use Rattle.bios_modes.specs.Begin.{data_of_mode}
 use Rattle.bios_modes.specs.Bounds.{AreBytes, AreFonts}
 use Rattle.bios_modes.specs.Fonts.{FontSet, glyph_row}
 use Rattle.bios_services.specs.declared.glyph_load.GlyphLoad.{GlyphLoad}
-use Rattle.bios_services.specs.Plan.{Plan, Done, run, ◌>>◌}
-use Rattle.bios_services.specs.Cycles.{sequencer, graphics, crtc}
-use Rattle.bios_services.specs.ModeSet.{is_text, glyphs_plan, font_plan}
+use Rattle.bios_services.specs.Plan.{Plan, run, ◌>>◌}
+use Rattle.bios_services.specs.Cycles.{crtc}
+use Rattle.bios_services.specs.ModeSet.{glyphs_plan, font_plan}
 use Rattle.bios_services.specs.Cursor.{word_plan, cursor_address, start_address}
 use Rattle.bios_services.specs.Glyphs.{glyph_line}
 use Rattle.bios_services.specs.GlyphLoads.{AreThere, loaded_line, load_plan}
@@ -36,7 +35,7 @@ use Rattle.bios_screen.proofs.PlanLemmas.{then_runs}
 use Rattle.bios_screen.proofs.ListLemmas.{same_from_0, length_listing, listed_at}
 use Rattle.bios_screen.proofs.Kept.{KeepsBounds, plan_bounds}
 use Rattle.bios_screen.proofs.Setting.{Setting, setting, card_at}
-use Rattle.bios_screen.proofs.Display.{Display, Height, window_of, port_of, text_setting, text_sequencer, text_graphics, row_of, row_with, lines_of, number_of}
+use Rattle.bios_screen.proofs.Display.{Display, Height, window_of, port_of, text_setting, row_of, row_with, lines_of, number_of}
 use Rattle.bios_screen.proofs.Display.Display.{Colour, Monochrome}
 use Rattle.bios_screen.proofs.Display.Height.{Eight, Fourteen, Sixteen}
 use Rattle.bios_screen.proofs.Glyphs.{glyph_setting, without_glyphs, IsLoading, glyphs_loaded}

@@ -39,23 +39,23 @@ module _ (c : CardState) (d : BiosData) (h : IsShown c d) (z : IsCard c) where
   page_begins : (g : ℕ) → page_start s g ≡ half * g
   page_begins g = let e = h.has.size ∙ h.text.even in let f : d.size / 2 ≡ half = omega arith in ap (λ n. n * g) f
 
-  start_is : start_address d d.page ≡ half * d.page
-  start_is =
-      ap (λ b. if b then d.size * d.page / 2 else d.size * d.page) h.tests.is_text
-      ∙ half_start d.size half d.page (h.has.size ∙ h.text.even)
+  pub start_is : (g : ℕ) → start_address d g ≡ half * g
+  start_is g =
+      ap (λ b. if b then d.size * g / 2 else d.size * g) h.tests.is_text
+      ∙ half_start d.size half g (h.has.size ∙ h.text.even)
 
   start_small : half * d.page < 65536
   start_small = let a = ends_before half d.page h.row.pages h.has.page in let m = h.text.memory in omega arith
 
-  first_is : first_counter c.crtc.registers ≡ half * d.page
+  pub first_is : first_counter c.crtc.registers ≡ half * d.page
   first_is =
       ap first_counter h.tests.crtc
       ∙ (frame_of c d h).first d.cursor_type (start_address d d.page) (cursor_address d d.page)
-      ∙ begins_at (start_address d d.page) (let e = start_is in let l = start_small in omega arith)
-      ∙ start_is
+      ∙ begins_at (start_address d d.page) (let e = start_is d.page in let l = start_small in omega arith)
+      ∙ start_is d.page
 
   -- the colours of the places are those of the screen
-  draws : (g : ℕ) → g < h.row.pages → Draws (text_raster c d h) c (half * g) (dot_at s g)
+  pub draws : (g : ℕ) → g < h.row.pages → Draws (text_raster c d h) c (half * g) (dot_at s g)
   unfolding text_dot
   draws g lg v x k lv lx lk =
       ap (λ (b : Beam). dot_colour c.host (record c.crtc { beam = b }) c.attr c.dac) (beam_is c d h z g lg v x k lv)

@@ -11,3 +11,6 @@ pub mod Served
 pub mod Loaded
 pub mod Called
 pub mod Parts
+pub mod Drawing
+pub mod Follows
+pub mod Whole

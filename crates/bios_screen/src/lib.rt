@@ -1,6 +1,7 @@
 //! The plain screen that the adapter shows: how it is read, and why services lead from one to the next.
 #![tactic(auto)]
 
+pub mod any_dot;
 pub mod frames;
 pub mod laws;
 mod palette;

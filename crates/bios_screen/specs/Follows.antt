@@ -1,0 +1,45 @@
+-- The adapter follows a plain screen with its beam, dot by dot.
+-- From the IBM PS/2 Hardware Interface Technical Reference, Video Subsystems.
+use Rattle.std.specs.Prelude.{ℕ, zero, suc, ◌≡◌, ◌+◌, ◌<◌, ◌≤◌, ◌/◌, if◌then◌else◌, List, [], ◌∷◌, ◌++◌, Some}
+use Rattle.vga_crtc.specs.Raster.{IsFrameStart, beam_at}
+use Rattle.vga_card.specs.Card.{CardState}
+use Rattle.vga_card.specs.Dots.{character_width, fresh, dots}
+use Rattle.vga_card.specs.Frames.{frame}
+use Rattle.vga_card.specs.Picture.{lines_of, bytes_of, shape}
+use Rattle.bios_modes.specs.Bda.{BiosData}
+use Rattle.bios_services.specs.Cursor.{start_address}
+use Rattle.bios_screen.specs.Screen.{Screen}
+use Rattle.bios_screen.specs.Shown.{shown}
+use Rattle.bios_screen.specs.Picture.{picture_width, picture_height}
+use Rattle.bios_screen.specs.Raster.{joined}
+use Rattle.bios_screen.specs.Drawing.{Drawing, dots_a_line, dots_a_frame, page_shown, so_far, is_of_picture, colour_of, take_frame}
+
+-- the beam is at dot n of a frame whose counter began at start: where dots from dot 0 on have led it, or at the first dot, with
+-- the start still to take
+abbrev pub BeamIsAt : CardState → ℕ → ℕ → Type 0
+BeamIsAt c start zero = IsFrameStart c.crtc.beam
+BeamIsAt c start (suc n) = c.crtc.beam ≡ beam_at (character_width c) c.crtc.registers start c.crtc.beam.frame (suc n)
+
+-- dots from dot n of a frame of this page on, as long as it has not ended before the last, join what is drawn of it
+abbrev pub RowsJoin : CardState → Screen → ℕ → ℕ → Type 0
+RowsJoin c s page n = (j : ℕ) → 0 < j → n + j ≤ dots_a_frame s.mode → bytes_of (dots j c).drawn ≡ bytes_of (fresh c) ++ joined (λ i. colour_of s page (n + i)) j
+
+-- the lines of the dots of the picture among the first n
+unfoldable pub lines_before : Screen → ℕ → List ℕ
+lines_before s zero = []
+lines_before s (suc n) = lines_before s n ++ (if is_of_picture s n then n / dots_a_line s.mode ∷ [] else [])
+
+-- it shows the screen, its beam is at the dot that comes next, in a frame of the page, and it has drawn the picture so far
+pub record Follows (c : CardState) (d : BiosData) (b : Drawing) : Type 0 where
+  pub shows : shown c d ≡ Some b.screen
+  pub within : b.dot < dots_a_frame b.screen.mode
+  pub page : page_shown b < b.screen.layout.pages
+  pub at : BeamIsAt c (start_address d (page_shown b)) b.dot
+  pub lines : lines_of (fresh c) ≡ lines_before b.screen b.dot
+  pub bytes : bytes_of (fresh c) ≡ so_far b
+
+-- a frame ends with the picture so far and the dots that were left of it, and what follows is dot 0 of the next
+pub record EndsFrame (c : CardState) (d : BiosData) (b : Drawing) : Type 0 where
+  pub size : shape (frame c).drawn ≡ Some (record { width = picture_width b.screen; height = picture_height b.screen })
+  pub bytes : bytes_of (frame c).drawn ≡ (take_frame b).picture
+  pub follows : Follows (frame c) d (take_frame b)

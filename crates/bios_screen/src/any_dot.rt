@@ -1,0 +1,91 @@
+//! Laws of dots of plain screens, with services between them. Each is a contract, and nothing that runs.
+ghost use Rattle.std.specs.Prelude.{◌≡◌, ◌+◌, ◌<◌, ℕ, List, length, Some};
+ghost use Rattle.vga_crtc.specs.Raster.{IsFrameStart};
+ghost use Rattle.vga_card.specs.Bounds.{IsCard};
+ghost use Rattle.vga_card.specs.Card.{CardState};
+ghost use Rattle.vga_card.specs.Dots.{dots};
+ghost use Rattle.bios_modes.specs.Bda.{BiosData};
+ghost use Rattle.bios_modes.specs.Bounds.{IsBda, AreBytes, AreFonts};
+ghost use Rattle.bios_modes.specs.Fonts.{FontSet};
+ghost use Rattle.bios_services.specs.declared.regs.Regs.{Regs};
+ghost use Rattle.bios_services.specs.declared.call.Service.{Service};
+ghost use Rattle.bios_services.specs.declared.call.Call.TheVariants.{ReadTable, LoadGlyphs, InMode};
+ghost use Rattle.bios_services.specs.declared.tables.TableService.{TableService};
+ghost use Rattle.bios_services.specs.declared.glyph_load.GlyphLoad.{GlyphLoad};
+ghost use Rattle.bios_services.specs.Cursor.{start_address};
+ghost use Rattle.bios_services.specs.Calls.{call_of};
+ghost use Rattle.bios_screen.specs.Screen.{Screen};
+ghost use Rattle.bios_screen.specs.Shown.{shown};
+ghost use Rattle.bios_screen.specs.Served.{after_call};
+ghost use Rattle.bios_screen.specs.Step.{next, refused_on};
+ghost use Rattle.bios_screen.specs.Loaded.{load_refused, loaded};
+ghost use Rattle.bios_screen.specs.Called.{AreWords, screen_unless};
+ghost use Rattle.bios_screen.specs.Drawing.{Drawing, dots_a_frame, take_dots, MayLoad};
+ghost use Rattle.bios_screen.specs.Whole.{FitsFrame, IsFrameTaken, IsWhole};
+ghost use Rattle.bios_screen.specs.Follows.{BeamIsAt, RowsJoin, Follows, EndsFrame};
+
+use crate::laws::calls_lead_to_screens;
+use bios_services::laws::{calls_draw_nothing, calls_keep_bounds};
+use vga_card::laws::{
+    bounds_stay, dots_are_places, dots_keep, dots_split as card_dots_split, frame_ends_first,
+    regular_shape,
+};
+use vga_crtc::laws::{beam_at_dot, beam_goes_on, dots_split, frame_left, start_is_taken_once};
+
+/// A service that sets no mode leaves the mode of a screen, and how it is cut.
+pub fn services_keep_the_cut()
+    ensures mode { (fonts : FontSet) (s : Screen) (service : Service) (block : List ℕ) → (next fonts s service block).mode ≡ s.mode }
+    ensures layout { (fonts : FontSet) (s : Screen) (service : Service) (block : List ℕ) → (next fonts s service block).layout ≡ s.layout }
+{}
+
+/// Dots of a plain screen: they may be cut anywhere; a frame is the least number of them, at least one, that
+/// leads to dot 0, its picture is the one so far with the dots that were left, and a whole frame's is that
+/// of the active page.
+pub fn frames_are_dots()
+    ensures split { (m n : ℕ) (b : Drawing) → take_dots (m + n) b ≡ take_dots n (take_dots m b) }
+    ensures frame { (b : Drawing) → b.dot < dots_a_frame b.screen.mode → IsFrameTaken b }
+    ensures whole { (b : Drawing) → FitsFrame b.screen → b.dot ≡ 0 → b.dot < dots_a_frame b.screen.mode → IsWhole b }
+{}
+
+/// Dots of the frame under way join what is drawn of it, whatever that is, with the colours of the screen that
+/// is shown. Where the adapter follows a screen it follows it through any number of dots, and at the end of a frame
+/// answers the picture that they collected; dot 0 is the first dot of a frame, and there it follows each screen
+/// that it shows.
+pub fn dots_follow_screens()
+    ensures begins { (c : CardState) (d : BiosData) (b : Drawing) → IsCard c → shown c d ≡ Some b.screen → b.dot ≡ 0 → IsFrameStart c.crtc.beam → Follows c d b }
+    ensures starts { (c : CardState) (d : BiosData) (b : Drawing) → Follows c d b → b.dot ≡ 0 → IsFrameStart c.crtc.beam }
+    ensures joins { (c : CardState) (d : BiosData) (s : Screen) (page n : ℕ) → IsCard c → shown c d ≡ Some s → page < s.layout.pages → n < dots_a_frame s.mode →
+        (n ≡ 0 → page ≡ s.page) → BeamIsAt c (start_address d page) n → RowsJoin c s page n }
+    ensures dots { (n : ℕ) (c : CardState) (d : BiosData) (b : Drawing) → IsCard c → Follows c d b → Follows (dots n c) d (take_dots n b) }
+    ensures frame { (c : CardState) (d : BiosData) (b : Drawing) → IsCard c → Follows c d b → EndsFrame c d b }
+{
+    dots_split();
+    start_is_taken_once();
+    beam_at_dot();
+    beam_goes_on();
+    frame_left();
+    dots_keep();
+    frame_ends_first();
+    dots_are_places();
+    regular_shape();
+    card_dots_split();
+    bounds_stay();
+}
+
+/// Calls between any two dots that set no mode: the adapter follows the next screen. A load of glyphs is one at
+/// dot 0 of a frame, and where it is refused.
+pub fn calls_follow_screens()
+    ensures served { (service : Service) (fonts : FontSet) (r : Regs) (block : List ℕ) (c : CardState) (d : BiosData) (b : Drawing) →
+        IsCard c → IsBda d → AreWords r → AreBytes block → Follows c d b → call_of r ≡ Some (InMode service) →
+        Follows (after_call fonts r block c d).0 (after_call fonts r block c d).1.1 (record b { screen = screen_unless (refused_on b.screen service (length block)) b.screen (next fonts b.screen service block) }) }
+    ensures loaded { (load : GlyphLoad) (fonts : FontSet) (r : Regs) (block : List ℕ) (c : CardState) (d : BiosData) (b : Drawing) →
+        IsCard c → AreBytes block → AreFonts fonts → Follows c d b → MayLoad b load (length block) → call_of r ≡ Some (LoadGlyphs load) →
+        Follows (after_call fonts r block c d).0 (after_call fonts r block c d).1.1 (record b { screen = screen_unless (load_refused b.screen load (length block)) b.screen (loaded fonts b.screen load block) }) }
+    ensures table { (service : TableService) (fonts : FontSet) (r : Regs) (block : List ℕ) (c : CardState) (d : BiosData) (b : Drawing) →
+        IsCard c → Follows c d b → call_of r ≡ Some (ReadTable service) → Follows (after_call fonts r block c d).0 (after_call fonts r block c d).1.1 b }
+{
+    calls_keep_bounds();
+    calls_lead_to_screens();
+    calls_draw_nothing();
+    dots_follow_screens();
+}
