@@ -6,3 +6,6 @@ pub mod RunLemmas
 pub mod ScreenLemmas
 pub mod ServedLemmas
 pub mod StepLemmas
+pub mod DotLemmas
+pub mod DotRuns
+pub mod DotExamples

@@ -81,15 +81,15 @@ pub record Laws : Type 0 where
 -- ---- modes
 
 -- a mode of the table, with its row
-record HasRow (mode : ℕ) : Type 0 where
-  row : ModeRow
-  is : mode_row mode ≡ Some row
-  fresh : SetsFresh mode row
+pub record HasRow (mode : ℕ) : Type 0 where
+  pub row : ModeRow
+  pub is : mode_row mode ≡ Some row
+  pub fresh : SetsFresh mode row
 
 same_mode : (mode known : ℕ) → (mode == known) ≡ true → known ≡ mode
 same_mode mode known e = grind (arith, nat_tests)
 
-row_of_mode : Laws → (mode : ℕ) → mode_row mode ≢ None → HasRow mode
+pub row_of_mode : Laws → (mode : ℕ) → mode_row mode ≢ None → HasRow mode
 row_of_mode law mode there = by_tests (mode == 0x03) (mode == 0x07) (mode == 0x0D) (mode == 0x10) (mode == 0x12) (mode == 0x13) refl refl refl refl refl refl there
   where
     by_tests : (a b f g i j : Bool) → (mode == 0x03) ≡ a → (mode == 0x07) ≡ b → (mode == 0x0D) ≡ f → (mode == 0x10) ≡ g → (mode == 0x12) ≡ i → (mode == 0x13) ≡ j
@@ -105,7 +105,7 @@ row_of_mode law mode there = by_tests (mode == 0x03) (mode == 0x07) (mode == 0x0
 -- ---- numbers
 
 -- a block has bytes
-block_bytes : (block : List ℕ) → AllByRecursion (λ byte. byte < 2 ^ 8) block → AreBytes block
+pub block_bytes : (block : List ℕ) → AllByRecursion (λ byte. byte < 2 ^ 8) block → AreBytes block
 block_bytes [] all i = omega arith
 block_bytes (byte ∷ block) all zero = let l = all.0 in omega arith
 block_bytes (byte ∷ block) all (suc i) = block_bytes block all.1 i
@@ -140,7 +140,7 @@ record Stands (fonts : FontSet) (m : Machine) (s : Screen) : Type 0 where
   start : IsFrameStart m.card.crtc.beam
 
 -- the number of its frame is the beam's
-frame_shown : (c : CardState) (d : BiosData) (s : Screen) → shown c d ≡ Some s → s.frame ≡ c.crtc.beam.frame
+pub frame_shown : (c : CardState) (d : BiosData) (s : Screen) → shown c d ≡ Some s → s.frame ≡ c.crtc.beam.frame
 frame_shown c d s e = by_row (row_at d.mode d.height) e
   where
     of_screen : (row : ModeRow) → (screen_of row c d).frame ≡ c.crtc.beam.frame
@@ -307,12 +307,12 @@ script_of_screens law until file steps before after (Err WriteFault) bytes range
 script_of_screens law until file steps before after (Err _) bytes range w whole of = tt
 
 -- the fields of steps that bytes spell fit
-spelled_range : (bytes : List ℕ) (steps : List Step) → SpellsSteps bytes steps → AreInRange steps
+pub spelled_range : (bytes : List ℕ) (steps : List Step) → SpellsSteps bytes steps → AreInRange steps
 spelled_range bytes [] h = tt
 spelled_range bytes (step ∷ steps) (rest, (fits, whole), more) = (fits, spelled_range rest steps more)
 
 -- the script of an input is the one that its bytes spell
-input_script : OneScript → (input : Option (List ℕ)) (bytes read : List ℕ) (steps found : List Step) → input ≡ Some bytes → IfSome input (λ all. all ≡ read) → Spells bytes steps → Spells read found → found ≡ steps
+pub input_script : OneScript → (input : Option (List ℕ)) (bytes read : List ℕ) (steps found : List Step) → input ≡ Some bytes → IfSome input (λ all. all ≡ read) → Spells bytes steps → Spells read found → found ≡ steps
 input_script law input bytes read steps found e is spelled others =
     let same : bytes ≡ read = subst (λ (i : Option (List ℕ)). IfSome i (λ all. all ≡ read)) e is in
     law read found steps others (subst (λ (l : List ℕ). Spells l steps) same spelled)

@@ -4,3 +4,4 @@ pub mod Step
 pub mod Report
 pub mod Run
 pub mod ScreenReport
+pub mod DotReport

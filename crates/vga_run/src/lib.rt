@@ -16,4 +16,4 @@ mod spelled_report;
 pub use answer::Answer;
 pub use laws::refused_steps_change_nothing;
 pub use runs::{run, run_bytes, run_script};
-pub use screens::reports_are_screens;
+pub use screens::{reports_are_dots, reports_are_screens, whole_frames_are_dots};

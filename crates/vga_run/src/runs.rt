@@ -6,11 +6,12 @@ ghost use Rattle.vga_bits.specs.Reading.{TakesAtMost, is_read_fault};
 ghost use Rattle.bios_modes.specs.Fonts.{file_len, fonts_of};
 ghost use Rattle.vga_script.specs.Spelling.{script_limit};
 ghost use Rattle.vga_run.specs.Run.{Reports, ReportsSteps, RunAnswers, RunsGoodScripts, RunsScript, StopsRun, StopsSteps};
+ghost use Rattle.vga_run.specs.DotReport.{AreOfDots, ReportsDots, RunsDots};
 ghost use Rattle.vga_run.specs.ScreenReport.{AreOfScreens, ReportsScreens, RunsScreens};
 
 use super::machine::Machine;
 use super::report::write_report;
-use super::screens::{bytes_fit, reports_are_screens};
+use super::screens::{bytes_fit, reports_are_dots, reports_are_screens};
 use super::spelled_report::write_spelled_report;
 use bios_modes::Fonts;
 use std::alloc::Global;
@@ -54,6 +55,9 @@ pub fn run<R: Read, W: Write>(
     // The report of services and whole frames alone is the plain screen's.
     ensures screens { RunsScreens until fonts.now (R.remaining (inner_of script.old))
         (W.contents (inner_of out.old)) (W.contents (inner_of out.new)) result }
+    // That of services, dots and frames is its report dot by dot.
+    ensures dots { RunsDots until fonts.now (R.remaining (inner_of script.old))
+        (W.contents (inner_of out.old)) (W.contents (inner_of out.new)) result }
 
     // The reader and the writer fail exactly where the answer says so.
     ensures read_failed { has_failed script.new ≡ is_read_fault result }
@@ -72,6 +76,7 @@ pub fn run<R: Read, W: Write>(
     one_fault(); // A script has no fault.
     one_script();
     reports_are_screens();
+    reports_are_dots();
     bytes_fit(fonts);
     run_steps(alloc, script, fonts, out, until)
 }
@@ -120,6 +125,9 @@ pub fn run_bytes<W: Write>(
     // The report of services and whole frames alone is the plain screen's.
     ensures screens { RunsScreens until fonts.now (Some script.now)
         (W.contents (inner_of out.old)) (W.contents (inner_of out.new)) result }
+    // That of services, dots and frames is its report dot by dot.
+    ensures dots { RunsDots until fonts.now (Some script.now)
+        (W.contents (inner_of out.old)) (W.contents (inner_of out.new)) result }
     ensures unread { is_read_fault result ≡ false }
     // The writer fails exactly where the answer says so, and is left untouched by any other fault; but before
     // want of memory in a step the answers of the steps before are written, whole.
@@ -130,6 +138,7 @@ pub fn run_bytes<W: Write>(
 {
     one_script();
     reports_are_screens();
+    reports_are_dots();
     bytes_fit(fonts);
     let fonts = Fonts::from_bytes(alloc, fonts)?; // Nothing is decoded before.
     run_bytes_over(alloc, script, fonts, out, until)
@@ -196,6 +205,9 @@ pub fn run_script<W: Write>(
     // The report of services and whole frames alone is the plain screen's.
     ensures screens { until ≡ None → AreOfScreens script.now → ReportsScreens (fonts_of fonts.now) script.now
         (W.contents (inner_of out.old)) (W.contents (inner_of out.new)) result }
+    // That of services, dots and frames is its report dot by dot.
+    ensures dots { until ≡ None → AreOfDots (fonts_of fonts.now) script.now → ReportsDots (fonts_of fonts.now) script.now
+        (W.contents (inner_of out.old)) (W.contents (inner_of out.new)) result }
     // The writer fails exactly where the answer says so, and is left untouched by any other fault; but before
     // want of memory in a step the answers of the steps before are written, whole.
     ensures write_failed { has_failed out.new ≡ is_write_fault result }
@@ -204,6 +216,7 @@ pub fn run_script<W: Write>(
         (W.contents (inner_of out.old)) (W.contents (inner_of out.new)) }
 {
     reports_are_screens();
+    reports_are_dots();
     bytes_fit(fonts);
     let _ = script.list(); // The steps are a script's.
     let fonts = Fonts::from_bytes(alloc, fonts)?;

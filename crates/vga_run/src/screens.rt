@@ -5,8 +5,10 @@ ghost use Rattle.bios_modes.specs.Fonts.{FontSet};
 ghost use Rattle.vga_script.specs.Step.{AreInRange};
 ghost use Rattle.vga_script.specs.declared.step.Step.{Step};
 ghost use Rattle.vga_run.specs.Report.{report_of};
+ghost use Rattle.vga_run.specs.DotReport.{AreOfDots, dot_report};
 ghost use Rattle.vga_run.specs.ScreenReport.{AreOfScreens, screen_report};
 
+use bios_screen::any_dot::{calls_follow_screens, dots_follow_screens, frames_are_dots};
 use bios_screen::frames::frame_draws_screen;
 use bios_screen::laws::{calls_lead_to_screens, mode_set_is_fresh};
 use bios_services::laws::calls_keep_bounds;
@@ -23,6 +25,33 @@ pub fn reports_are_screens()
     calls_lead_to_screens();
     mode_set_is_fresh();
     frame_draws_screen();
+}
+
+/// The report of services, dots and frames, of which the first step is a mode set that clears the memory, is
+/// the plain screen's, dot by dot. Each later mode set clears it too and stands at dot 0 of a frame, as does a load
+/// of glyphs; those that are refused may stand anywhere.
+pub fn reports_are_dots()
+    ensures { (fonts : FontSet) (steps : List Step) → AreFonts fonts → AreInRange steps → AreOfDots fonts steps →
+        report_of fonts steps ≡ dot_report fonts steps }
+{
+    bounds_stay();
+    calls_keep_bounds();
+    calls_lead_to_screens();
+    mode_set_is_fresh();
+    frame_draws_screen();
+    calls_follow_screens();
+    dots_follow_screens();
+}
+
+/// Services and whole frames alone are such steps, and their two reports are one.
+pub fn whole_frames_are_dots()
+    ensures steps { (fonts : FontSet) (steps : List Step) → AreOfScreens steps → AreOfDots fonts steps }
+    ensures reports { (fonts : FontSet) (steps : List Step) → AreFonts fonts → AreInRange steps → AreOfScreens steps →
+        screen_report fonts steps ≡ dot_report fonts steps }
+{
+    frames_are_dots();
+    reports_are_screens();
+    reports_are_dots();
 }
 
 /// The bytes of a file are below 256.
