@@ -1,13 +1,12 @@
 //! Compares the adapter with plain, slow models of the register table, on pseudo-random registers, memory
-//! and colours, and with a model of the plain screen, on pseudo-random services; checks scripts, dumps,
-//! pictures and runs where no script of the suite can, as with writers that fail; and prints how each
-//! comparison and each group of checks ended. The exit status is 1 where any model differs or any check fails.
+//! and colours; checks scripts, dumps, pictures and runs where no script of the suite can, as with writers that
+//! fail; and prints how each comparison and each group of checks ended. The exit status is 1 where any model
+//! differs or any check fails.
 //!
 //! With the words `memory N` it does nothing of this: it makes N growths, and then prints how each call ends that takes
 //! memory. So whoever refuses a growth by its number chooses the call that meets it.
 #![tactic(auto)]
 
-mod call_counts;
 mod cells;
 mod checks;
 mod dots;
@@ -16,20 +15,8 @@ mod host_path;
 mod memory;
 mod names;
 mod pictures;
-mod plain_cells;
 mod plain_dots;
-mod plain_glyphs;
 mod plain_host;
-mod plain_loads;
-mod plain_modes;
-mod plain_pictures;
-mod plain_pixels;
-mod plain_refusals;
-mod plain_screen;
-mod plain_screens;
-mod plain_services;
-mod plain_typing;
-mod random_calls;
 mod random_registers;
 mod registers;
 mod runs;
@@ -50,7 +37,6 @@ use host_path::compare_host_path;
 use memory::{CALLS, check_memory};
 use names::check_names;
 use pictures::check_pictures;
-use plain_screens::compare_screens;
 use random_registers::DotSource;
 use registers::check_registers;
 use runs::check_runs;
@@ -89,9 +75,6 @@ fn compare_models<R: Print + AllocGlobal>(rt: &R, tally: &mut Tally) -> Result<(
         println!(rt; "{name}: {dots}")?;
         tally.count(dots.is_alike());
     }
-    let screens = compare_screens(alloc)?;
-    println!(rt; "plain screens: {screens}")?;
-    tally.count(screens.is_alike());
     Ok(())
 }
 

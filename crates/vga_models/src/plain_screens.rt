@@ -7,7 +7,7 @@ use crate::call_counts::CallCounts;
 use crate::plain_modes::MODES;
 use crate::plain_screen::{Place, PlainScreen};
 use crate::random_calls::{RandomCall, next_call};
-use crate::random_registers::next_byte;
+use crate::random_numbers::next_byte;
 use anyhow::Result;
 use bios_modes::{Bda, Fonts};
 use bios_screen::Screen;

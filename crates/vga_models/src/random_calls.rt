@@ -4,7 +4,7 @@ ghost use Rattle.std.specs.Prelude.{◌≡◌, ◌<◌};
 
 use crate::plain_modes::{HEIGHTS, MODES, PlainMode};
 use crate::plain_refusals::high;
-use crate::random_registers::{is_one_in, next_below, next_byte};
+use crate::random_numbers::{is_one_in, next_below, next_byte};
 use bios_services::Regs;
 use rand_core::Rng;
 use rand_pcg::Pcg32;
