@@ -9,6 +9,7 @@ calls of the system are counted too, and with GNU time the most memory.
 """
 import os
 import shutil
+import signal
 import struct
 import subprocess
 import sys
@@ -198,4 +199,6 @@ def main():
 
 
 if __name__ == "__main__":
+    # So that the temporary folder goes.
+    signal.signal(signal.SIGTERM, lambda number, _: sys.exit(128 + number))
     main()

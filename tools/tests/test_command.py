@@ -2,7 +2,9 @@
 
 from __future__ import annotations
 
+import hashlib
 import json
+import os
 import shlex
 import signal
 import subprocess
@@ -90,6 +92,14 @@ class Pictures(Files):
         message = "vga-report: standard input: no step has a picture\n"
         self.assertEqual(run("pictures", "-", folder, given=b"1 ok\n"), (2, b"", message))
 
+    def test_an_enlarged_picture_has_at_most_100_million_dots(self) -> None:
+        path, folder = self.report("r", ppm(100, 101, BLACK * 10100)), self.folder / "a"
+        message = f"vga-report: a picture of 100x101 dots would get 10000x10100, and 100,000,000 dots are the most\n"
+        self.assertEqual(run("pictures", path, folder, "--scale", "100"), (2, b"", message))
+        self.assertEqual(list(folder.iterdir()), [])
+        path = self.report("r", ppm(5000, 1, BLACK * 5000))
+        self.assertIn("would get 1000000x750000,", run("pictures", path, folder, "--scale", "200", "--aspect")[2])
+
     def test_pictures_before_the_damage_are_written(self) -> None:
         status, _, message = run("pictures", "-", self.folder, given=report(PICTURE, PICTURE)[:-3])
         self.assertEqual((status, (self.folder / "0001.png").exists()), (2, True))
@@ -134,6 +144,18 @@ class Compare(Files):
     def test_standard_input_twice(self) -> None:
         self.assertEqual(run("compare", "-", "-"), (2, b"", "vga-report: standard input can be read once\n"))
 
+    def test_a_report_as_text_shows_it(self) -> None:
+        path, other = self.report("a", "ok", PICTURE), self.report("b", "ok", ppm(9, 1, BLACK * 9))
+        shown = run("text", path)[1]
+        self.assertEqual(run("compare", "-", path, given=shown)[0], 0)
+        self.assertEqual(run("text", "-", given=shown), (0, shown, ""))
+        status, text, _ = run("compare", "-", other, given=shown)
+        self.assertEqual(status, 1)
+        line = f"  standard input:2: picture 37 9x1 {hashlib.md5(PICTURE).hexdigest()}\n"
+        self.assertIn(line.encode(), text)
+        message = "vga-report: standard input:2: the picture is shown by its digest, and its dots are not in the file\n"
+        self.assertEqual(run("pictures", "-", self.folder / "p", given=shown), (2, b"", message))
+
 
 class Pipes(Files):
     def test_the_writer_of_standard_input_is_not_cut_off(self) -> None:
@@ -169,6 +191,101 @@ class Check(Files):
             with self.subTest(text):
                 expected.write_text(text)
                 self.assertEqual(run("check", path, expected), (status, said.encode(), ""))
+
+
+class Words(Files):
+    def test_numbers_have_ranges(self) -> None:
+        for words in (
+            ("suite", "x {script}", "--timeout", "-1"),
+            ("suite", "x {script}", "--timeout", "0"),
+            ("suite", "x {script}", "--timeout", "nan"),
+            ("suite", "x {script}", "--timeout", "inf"),
+            ("suite", "x {script}", "--jobs", "0"),
+            ("suite", "x {script}", "--jobs", "1000"),
+            ("suite", "x {script}", "--output", "-1"),
+            ("pictures", "r", "f", "--scale", "0"),
+            ("pictures", "r", "f", "--scale", "1001"),
+            ("pictures", "r", "f", "--scale", "+1"),
+            ("pictures", "r", "f", "--step", "-1"),
+        ):
+            with self.subTest(words):
+                status, output, message = run(*words)
+                self.assertEqual((status, output), (2, b""))
+                self.assertIn(f"argument {words[-2]}: '{words[-1]}' is no number", message)
+
+    def test_an_empty_name(self) -> None:
+        self.assertEqual(run("text", ""), (2, b"", "vga-report: the name of a file is empty\n"))
+
+    @unittest.skipIf(sys.platform in ("win32", "darwin"), "names of any bytes are of Linux")
+    def test_names_of_any_bytes(self) -> None:
+        folder = bytes(self.folder) + b"/\xff\xfe "
+        path = self.report("r", PICTURE)
+        words = [os.fsencode(sys.executable), bytes(PROGRAM), b"pictures", path.encode(), folder]
+        done = subprocess.run(words, capture_output=True)
+        self.assertEqual((done.returncode, done.stdout, done.stderr), (0, folder + b"/0001.png\n", b""))
+        os.rename(path, folder + b"/r")
+        done = subprocess.run([*words[:2], b"text", folder + b"/r", folder], capture_output=True)
+        self.assertEqual(done.returncode, 2)
+        done = subprocess.run([*words[:2], b"compare", folder + b"/r", folder + b"/r"], capture_output=True)
+        self.assertEqual((done.returncode, done.stderr), (0, b""))
+        self.assertIn(folder + b"/r agree", done.stdout.replace(b"\n", b" "))
+        done = subprocess.run([*words[:2], b"text", folder + b"/none"], capture_output=True)
+        self.assertEqual((done.returncode, done.stdout), (2, b""))
+        self.assertIn(b"\\udcff\\udcfe /none: No such file or directory\n", done.stderr)
+
+
+class Closed(Files):
+    """Standard streams that are closed."""
+
+    def shell(self, rest: str, *words: str) -> tuple[int, bytes, bytes]:
+        line = shlex.join([sys.executable, str(PROGRAM), *words]) + " " + rest
+        done = subprocess.run(line, shell=True, capture_output=True)
+        return done.returncode, done.stdout, done.stderr
+
+    def test_a_closed_output_is_told(self) -> None:
+        message = b"vga-report: standard output: it is closed\n"
+        self.assertEqual(self.shell(">&-", "text", self.report("r", "ok")), (2, b"", message))
+
+    def test_a_closed_input_is_told(self) -> None:
+        message = b"vga-report: standard input: it is closed\n"
+        self.assertEqual(self.shell("<&-", "text", "-"), (2, b"", message))
+        self.assertEqual(self.shell("<&-", "text", self.report("r", "ok")), (0, b"1 ok\n", b""))
+
+    def test_nothing_is_said_on_standard_output_in_place_of_a_closed_error(self) -> None:
+        self.assertEqual(self.shell("2>&-", "text", str(self.folder / "none")), (2, b"", b""))
+
+
+class Inputs(Files):
+    """A file that is read is never written."""
+
+    def told(self, name: str, path: str) -> tuple[int, bytes, str]:
+        return 2, b"", f"vga-report: {name}: it is read as {path}, so it isn't written\n"
+
+    def test_a_marked_picture_over_a_report(self) -> None:
+        path, other = self.report("a", PICTURE), self.report("b", ppm(9, 1, BLACK * 9))
+        for name in (path, other):
+            status, _, message = run("compare", path, other, "--picture", name)
+            self.assertEqual((status, message), (2, self.told(name, name)[2]))
+        self.assertEqual((Path(path).read_bytes(), Path(other).read_bytes()),
+                         (report(PICTURE), report(ppm(9, 1, BLACK * 9))))
+
+    def test_a_picture_over_its_report(self) -> None:
+        path = self.report("0001.ppm", PICTURE)
+        self.assertEqual(run("pictures", path, self.folder, "--ppm"), self.told(path, path))
+        self.assertEqual(Path(path).read_bytes(), report(PICTURE))
+
+    def test_a_link_is_the_file_that_it_names(self) -> None:
+        path, link = self.report("a", PICTURE), self.folder / "0001.png"
+        link.symlink_to(path)
+        self.assertEqual(run("pictures", path, self.folder), self.told(str(link), path))
+
+    def test_standard_output_that_is_appended_to_the_report(self) -> None:
+        path = self.report("a", "ok", "ok")
+        with open(path, "ab") as output:
+            done = subprocess.run([sys.executable, PROGRAM, "text", path], stdout=output, stderr=subprocess.PIPE)
+        message = f"vga-report: standard output: it is read as {path}, so it isn't written\n"
+        self.assertEqual((done.returncode, done.stderr.decode()), (2, message))
+        self.assertEqual(Path(path).read_bytes(), b"1 ok\n2 ok\n")
 
 
 class Suite(Files):
@@ -248,7 +365,7 @@ class Suite(Files):
         looks = b"show regs\nshow beam\nshow latches\nshow bda\n"
         self.assertEqual((folder / "a/one.vga").read_bytes(), b"out 3C2 01\nframe\n" + looks)
         self.assertEqual((folder / "b/two.bin").read_bytes(), b"VV")
-        message = "vga-report: the scripts are files: they want a folder\n"
+        message = "vga-report: the files want a folder\n"
         self.assertEqual(run("scripts", "-", "--list", path), (2, b"", message))
 
     def test_commands_that_fail(self) -> None:
@@ -328,6 +445,8 @@ class Suite(Files):
         self.case("a/one", "frame\n", "1 ragged\n")
         for command, message in [
             ("true", "the command 'true' has neither {script} nor {name}"),
+            ("", "the command is empty"),
+            (" ", "the command is empty"),
             ("'{script}", "the command ''{script}': No closing quotation"),
             ("/none/there {script}", "/none/there: No such file or directory"),
         ]:
@@ -337,6 +456,37 @@ class Suite(Files):
         message = "vga-report: no line `fonts FILE` stands before a/one in the list\n"
         self.assertEqual(self.run_suite(), (2, "", message))
         self.assertEqual(self.run_suite("--only", "x")[0], 2)
+        self.assertEqual(self.run_suite("--bytes", ""), (2, "", "vga-report: the command is empty\n"))
+
+    def test_several_fronts_of_names_and_some_that_are_left_out(self) -> None:
+        for name in ("a/one", "a/two", "b/one", "c/one"):
+            self.case(name, "get A0000\n", "1 FF\n")
+        for words, cases in [
+            (("--only", "a/", "--only", "c/"), "3 cases"),
+            (("--except", "a/"), "2 cases"),
+            (("--only", "a/", "--except", "a/t", "--except", "b/"), "1 case"),
+        ]:
+            with self.subTest(words):
+                self.assertIn(f"\n{cases}: ", self.run_suite(*words)[1])
+        message = f"vga-report: {self.folder / 'list.txt'}: no case has a name as --only and --except want it\n"
+        self.assertEqual(self.run_suite("--only", "a/", "--except", "a"), (2, "", message))
+
+    def test_scripts_go_into_no_folder_that_has_files(self) -> None:
+        self.case("a/one", "frame\n", "1 ok\n")
+        path, folder = self.write("list.txt", "\n".join(self.lines) + "\n"), self.folder / "mine" / "a"
+        folder.mkdir(parents=True)
+        (folder / "one.vga").write_text("mine")
+        status, output, message = run("scripts", folder.parent, "--list", path)
+        self.assertEqual((status, output), (2, b""))
+        self.assertIn("the folder has files, and none of them is to be lost", message)
+        self.assertEqual((folder / "one.vga").read_text(), "mine")
+
+    def test_a_case_outside_the_folder(self) -> None:
+        for name in ("../one", "/one", "a/../../one"):
+            with self.subTest(name):
+                path = self.write("list.txt", f"fonts two.fnt\n{name}\n")
+                message = f"vga-report: {path}:2: a case outside the list's folder: '{name}'\n"
+                self.assertEqual(run("scripts", self.folder / "new", "--list", path), (2, b"", message))
 
 
 if __name__ == "__main__":

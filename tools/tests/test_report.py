@@ -93,6 +93,13 @@ class Damage(unittest.TestCase):
             with self.subTest(data[:20]):
                 self.assert_trouble(data, message, good)
 
+    def test_lengths_of_pictures(self) -> None:
+        for length in ("99999999999999", "0", "037", "-1", "3x", "", "37 9x1", "37 9x1 0123"):
+            with self.subTest(length):
+                line = f"2 picture {length}".rstrip()
+                message = f"2: step 2 has a picture of no length: '{line[2:]}'"
+                self.assert_trouble(f"1 ok\n{line}\n3 ok\n".encode(), message, 1)
+
     def test_pictures(self) -> None:
         good = ppm(2, 1, 6 * b"\x01")
         for length, data, message in [

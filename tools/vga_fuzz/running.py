@@ -55,6 +55,7 @@ def run(words: Sequence[str], folder: Path, limits: Limits) -> Outcome:
             status = process.wait(limits.seconds)
         except subprocess.TimeoutExpired:
             status = None
+        finally:
             process.kill()
             process.wait()
     with open(said, "rb") as stream:

@@ -5,7 +5,7 @@ from __future__ import annotations
 import re
 from dataclasses import dataclass
 from pathlib import Path
-from typing import Iterator, Optional
+from typing import Iterator, Optional, Sequence
 
 from .report import FAULT
 from .streams import STANDARD, reading, shown_name
@@ -109,6 +109,15 @@ def read_cases(path: str) -> list[Case]:
     return list(_cases(lines, folder.absolute(), shown_name(path, "standard input")))
 
 
+def chosen_cases(cases: list[Case], wanted: Sequence[str], unwanted: Sequence[str]) -> list[Case]:
+    """The cases whose names begin with a wanted word, or all, but for those that begin with an unwanted one."""
+    return [
+        case
+        for case in cases
+        if case.name.startswith(tuple(wanted) or "") and not case.name.startswith(tuple(unwanted))
+    ]
+
+
 def _cases(lines: list[str], folder: Path, name: str) -> Iterator[Case]:
     fonts: Optional[Path] = None
     front: Optional[Path] = None
@@ -124,5 +133,7 @@ def _cases(lines: list[str], folder: Path, name: str) -> Iterator[Case]:
             found = CASE.fullmatch(line.strip())
             if found is None:
                 raise Trouble(f"no case: '{line[:40]}'", name, number)
+            if ".." in Path(found["name"]).parts or Path(found["name"]).is_absolute():
+                raise Trouble(f"a case outside the list's folder: '{found['name'][:40]}'", name, number)
             until = None if found["steps"] is None else int(found["steps"])
             yield Case(found["name"], folder, fonts, front, until, found["bytes"] is not None)

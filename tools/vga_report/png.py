@@ -8,6 +8,7 @@ from dataclasses import dataclass
 from typing import BinaryIO, Iterable, Iterator
 
 from .picture import Picture, marks_in_row
+from .trouble import Trouble
 
 # Six bits widened to eight, so that 0 stays 0 and 3F is FF.
 WIDENED = bytes(value << 2 | value >> 4 for value in range(64)) + bytes([255] * 192)
@@ -15,6 +16,8 @@ WIDENED = bytes(value << 2 | value >> 4 for value in range(64)) + bytes([255] * 
 MARK = b"\xff\x20\x20"
 DARKENED = bytes(value // 3 for value in range(256))
 COMPRESSION = 6
+# An enlarged picture has at most so many dots.
+MOST_DOTS = 100_000_000
 
 
 @dataclass(frozen=True)
@@ -26,11 +29,14 @@ class Shape:
 
     def size(self, width: int, height: int) -> tuple[int, int]:
         """The width and the height that a picture of this size gets. No dot is lost."""
+        given = f"{width}x{height}"
         width, height = width * self.scale, height * self.scale
         if self.is_monitor and 3 * width > 4 * height:
             height = (3 * width + 2) // 4
         elif self.is_monitor:
             width = (4 * height + 1) // 3
+        if width * height > MOST_DOTS:
+            raise Trouble(f"a picture of {given} dots would get {width}x{height}, and {MOST_DOTS:,} dots are the most")
         return width, height
 
 

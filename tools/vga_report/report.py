@@ -19,6 +19,8 @@ LINES_BETWEEN = 4096
 
 TEXT = re.compile(rb"[ -~]+\n")
 PICTURE = re.compile(r"picture ([1-9][0-9]{0,11})")
+# A picture as `text` shows it: its length, its size and its digest in the place of its bytes.
+SHOWN = re.compile(r"(picture ([1-9][0-9]{0,11})) ([1-9][0-9]{0,6}x[1-9][0-9]{0,6}) ([0-9a-f]{32})")
 READ = re.compile(r"[0-9A-F]{2}|[0-9A-F]{4}")
 REFUSED = re.compile(r"E[1-9][0-9]? [A-Z][A-Za-z]*")
 FAULT = re.compile(r"F[1-9][0-9]? [A-Z][A-Za-z]*(\([0-9]+\))?")
@@ -93,12 +95,22 @@ class Report:
         front, _, answer = text.partition(" ")
         if front != str(number) or not answer:
             raise self._trouble(f"step {number} is to come, and not '{_front_of(text)}'")
-        announced = PICTURE.fullmatch(answer)
-        if announced is not None:
-            return Step(number, place, answer, (), self._picture(number, int(announced[1])))
+        if answer.split(" ")[0] == "picture":
+            return self._picture_step(number, answer)
         if REFUSED.fullmatch(answer) or READ.fullmatch(answer):
             return Step(number, place, answer)
         return Step(number, place, answer, tuple(self._other_lines()))
+
+    def _picture_step(self, number: int, answer: str) -> Step:
+        """The step of a picture, whose bytes stand next, or whose digest stands in their place."""
+        place = self._line
+        announced = PICTURE.fullmatch(answer)
+        if announced is not None:
+            return Step(number, place, answer, (), self._picture(number, int(announced[1])))
+        shown = SHOWN.fullmatch(answer)
+        if shown is None:
+            raise self._trouble(f"step {number} has a picture of no length: '{_front_of(answer)}'")
+        return Step(number, place, shown[1], (), Digest(int(shown[2]), shown[3], shown[4]))
 
     def _fault(self, text: str) -> Step:
         """The step of a fault in the place of a report, behind which nothing may stand."""

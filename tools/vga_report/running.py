@@ -3,13 +3,9 @@
 from __future__ import annotations
 
 import io
-import os
 import re
 import shlex
-import signal
-import subprocess
 import tempfile
-import time
 from dataclasses import dataclass
 from pathlib import Path
 from threading import Event
@@ -18,6 +14,7 @@ from typing import Optional
 from .cases import Case, printable
 from .differences import Comparison, Told
 from .expected import Expected
+from .processes import Limits, Outcome, run_command
 from .report import FAULT, Report
 from .trouble import Trouble
 
@@ -28,8 +25,6 @@ PLACE = re.compile(r"\{(script|fonts|name)\}")
 UNTIL = "{until}"
 # So much of what a command says on standard error is read.
 MOST_MESSAGE = 4096
-# Seconds between two looks whether the user has ended the suite.
-PATIENCE = 0.25
 
 
 @dataclass(frozen=True)
@@ -51,16 +46,18 @@ class Result:
 class Command:
     """A command with places for a case's files."""
 
-    def __init__(self, text: str, timeout: float, has_refusals: bool, is_ended: Event) -> None:
+    def __init__(self, text: str, limits: Limits, has_refusals: bool, is_ended: Event) -> None:
         try:
             self._words = shlex.split(text)
         except ValueError as error:
             raise Trouble(f"the command '{text}': {error}") from error
+        if not self._words:
+            raise Trouble("the command is empty")
         if not any("{script}" in word or "{name}" in word for word in self._words):
             raise Trouble(f"the command '{text}' has neither {{script}} nor {{name}}")
         self.has_refusals = has_refusals
         self.can_stop = UNTIL in self._words
-        self._timeout = timeout
+        self._limits = limits
         self._is_ended = is_ended
 
     def words(self, case: Case, script: Path) -> list[str]:
@@ -72,40 +69,9 @@ class Command:
         words = [stop if word == UNTIL else [PLACE.sub(lambda place: values[place[1]], word)] for word in self._words]
         return [word for some in words for word in some]
 
-    def run(self, case: Case, script: Path, report: Path, messages: Path) -> Optional[int]:
-        """Its exit status, or None where it took too long. What it writes stands in two files then."""
-        words = self.words(case, script)
-        is_posix = os.name == "posix"
-        with open(report, "wb") as output, open(messages, "wb") as errors:
-            try:
-                process = subprocess.Popen(
-                    words, stdin=subprocess.DEVNULL, stdout=output, stderr=errors, start_new_session=is_posix
-                )
-            except OSError as error:
-                raise Trouble(error.strerror or str(error), words[0]) from error
-            try:
-                return self._wait(process)
-            finally:
-                _kill(process)
-
-    def _wait(self, process: subprocess.Popen[bytes]) -> Optional[int]:
-        until = time.monotonic() + self._timeout
-        while not self._is_ended.is_set() and time.monotonic() < until:
-            try:
-                return process.wait(min(PATIENCE, self._timeout))
-            except subprocess.TimeoutExpired:
-                pass
-        return None
-
-
-def _kill(process: subprocess.Popen[bytes]) -> None:
-    """Ends a command that hasn't ended, with all that it has started."""
-    if process.poll() is None:
-        if os.name == "posix":
-            os.killpg(process.pid, signal.SIGKILL)
-        else:
-            process.kill()
-        process.wait()
+    def run(self, case: Case, script: Path, report: Path, messages: Path) -> Outcome:
+        """How it ended. What it wrote and said stands in two files then."""
+        return run_command(self.words(case, script), report, messages, self._limits, self._is_ended)
 
 
 def run_case(case: Case, command: Optional[Command]) -> Result:
@@ -119,11 +85,11 @@ def run_case(case: Case, command: Optional[Command]) -> Result:
         folder = Path(name)
         script, report, messages = folder / f"script{case.suffix}", folder / "report", folder / "messages"
         script.write_bytes(case.script() if command.can_stop else case.stopped_script())
-        status = command.run(case, script, report, messages)
-        if status is None:
-            return Result(case, rule, FAILED, Comparison(), reason="the command took too long")
+        outcome = command.run(case, script, report, messages)
+        if outcome.status is None:
+            return Result(case, rule, FAILED, Comparison(), reason=outcome.reason)
         comparison = Comparison(command.has_refusals)
-        return _judged(case, rule, comparison, status, report, _last_line(messages))
+        return _judged(case, rule, comparison, outcome.status, report, _last_line(messages))
 
 
 def _judged(case: Case, rule: str, comparison: Comparison, status: int, report: Path, message: str) -> Result:

@@ -1,4 +1,4 @@
-"""Files by their names, where `-` is standard input or standard output."""
+"""Files by their names, where `-` is standard input or standard output. An input is never an output."""
 
 from __future__ import annotations
 
@@ -6,14 +6,18 @@ import io
 import os
 import stat
 import sys
+import tempfile
 from contextlib import contextmanager
-from typing import BinaryIO, Iterator, cast
+from pathlib import Path
+from typing import BinaryIO, Iterator, Optional, Union, cast
 
 from .trouble import Trouble
 
 STANDARD = "-"
 # So many bytes are dropped at a time.
 DRAINED = 1 << 16
+# The files that were read: where each is found, and what messages call it.
+_were_read: dict[Union[int, str], str] = {}
 
 
 def shown_name(path: str, standard: str) -> str:
@@ -21,22 +25,47 @@ def shown_name(path: str, standard: str) -> str:
     return standard if path == STANDARD else path
 
 
+def _status_of(place: Union[int, str]) -> Optional[os.stat_result]:
+    """What is known of a regular file, named or open; None of anything else, and where there is none."""
+    try:
+        status = os.stat(place)
+    except (OSError, ValueError):
+        return None
+    return status if stat.S_ISREG(status.st_mode) else None
+
+
+def refuse_input(path: str) -> None:
+    """Ends the work where what is to be written is a file that was read."""
+    output = _status_of(sys.stdout.fileno() if path == STANDARD else path)
+    for place, name in _were_read.items():
+        status = _status_of(place)
+        if output is not None and status is not None and os.path.samestat(output, status):
+            raise Trouble(f"it is read as {name}, so it isn't written", shown_name(path, "standard output"))
+
+
 @contextmanager
 def reading(path: str) -> Iterator[io.BufferedReader]:
     """A file that is read, as bytes. Standard input is read to its end, so that its writer doesn't fail."""
     if path == STANDARD:
+        if sys.stdin is None:
+            raise Trouble("it is closed", "standard input")
         stream = cast(io.BufferedReader, sys.stdin.buffer)
+        _were_read[sys.stdin.fileno()] = "standard input"
         yield stream
         while not sys.stdin.isatty() and stream.read(DRAINED):
             pass
+    elif not path:
+        raise Trouble("the name of a file is empty")
     else:
         with open(path, "rb") as stream:
+            _were_read[path] = path
             yield stream
 
 
 @contextmanager
 def writing(path: str) -> Iterator[BinaryIO]:
-    """A file that is written, as bytes. What stood in it is gone."""
+    """A file that is written, as bytes: a new one beside it that takes its place once it is whole."""
+    refuse_input(path)
     if path == STANDARD:
         sys.stdout.flush()
         # Python's own stream has no buffer where the user wants none, and lines are many.
@@ -44,10 +73,50 @@ def writing(path: str) -> Iterator[BinaryIO]:
             yield stream
         return
     try:
-        with open(path, "wb") as stream:
+        with _written_beside(Path(path)) if _may_be_replaced(path) else open(path, "wb") as stream:
             yield stream
     except OSError as error:
         raise Trouble(error.strerror or str(error), path) from error
+
+
+def _may_be_replaced(path: str) -> bool:
+    """Whether another file may take the place of what has this name: not that of a device or a pipe."""
+    try:
+        return stat.S_ISREG(os.stat(path).st_mode)
+    except OSError:
+        return True
+
+
+@contextmanager
+def _written_beside(path: Path) -> Iterator[BinaryIO]:
+    """A file that takes the place of the one at a path if all goes well, and else goes away."""
+    # A link stays, and its file is replaced.
+    place = Path(os.path.realpath(path))
+    handle, beside = tempfile.mkstemp(prefix=f".{place.name[:100]}-", dir=place.parent)
+    try:
+        with open(handle, "wb") as stream:
+            os.chmod(beside, _mode_of(place))
+            yield stream
+        os.replace(beside, place)
+    except BaseException:
+        os.unlink(beside)
+        raise
+
+
+def _mode_of(path: Path) -> int:
+    """The rights of the file that is replaced, or those of a new one."""
+    try:
+        return stat.S_IMODE(os.stat(path).st_mode)
+    except OSError:
+        mask = os.umask(0)
+        os.umask(mask)
+        return 0o666 & ~mask
+
+
+def write_file(path: str, data: bytes) -> None:
+    """Writes a whole file."""
+    with writing(path) as stream:
+        stream.write(data)
 
 
 def length_of(stream: BinaryIO) -> int:

@@ -1,0 +1,86 @@
+"""The specimens of a font: drawn where each call was done, and else not written."""
+
+from __future__ import annotations
+
+import os
+import shutil
+import subprocess
+import sys
+import unittest
+from pathlib import Path
+
+from .test_cases import Folder
+
+PREVIEW = Path(__file__).resolve().parents[2] / "fonts" / "preview.py"
+# A program that does each call, and whose picture is black.
+GOOD = """#!{python}
+import sys
+steps = open(sys.argv[2]).read().split("\\n")[:-1]
+for number, step in enumerate(steps, 1):
+    if step == "frame":
+        sys.stdout.write("%d picture 16\\nP6\\n2 1\\n63\\n" % number + "\\0" * 6 + "\\n")
+    else:
+        print(number, answer if {wrong} else "ax=0000 bx=0000 cx=0000 dx=0000")
+"""
+
+
+@unittest.skipIf(os.name != "posix", "a script is a program on POSIX")
+class Specimens(Folder):
+    def run_preview(self, wrong: str = "False", more: str = "") -> tuple[int, str, str]:
+        """How it ends with a program that answers so where something is wrong."""
+        program = self.folder / "program"
+        text = GOOD.format(python=sys.executable, wrong=wrong).replace("answer if", "'E4 BadFunction' if") + more
+        program.write_text(text)
+        program.chmod(0o755)
+        out = self.folder / "out"
+        out.mkdir(exist_ok=True)
+        done = subprocess.run([sys.executable, PREVIEW, program, "--out", out], capture_output=True, text=True)
+        return done.returncode, done.stdout, done.stderr
+
+    def test_each_height(self) -> None:
+        names = "specimen-8.png\nspecimen-14.png\nspecimen-16.png\n"
+        self.assertEqual(self.run_preview(), (0, names, ""))
+        self.assertEqual(sorted(os.listdir(self.folder / "out")), sorted(names.split()))
+
+    def test_a_refused_call_leaves_the_file(self) -> None:
+        self.run_preview()
+        old = (self.folder / "out" / "specimen-8.png").stat()
+        status, output, said = self.run_preview("step == 'int ax=1112'")
+        self.assertEqual((status, output), (1, "specimen-14.png\nspecimen-16.png\n"))
+        self.assertEqual(said, "preview.py: specimen-8.png is not written: step 2: 2 E4 BadFunction\n")
+        self.assertEqual((self.folder / "out" / "specimen-8.png").stat(), old)
+
+    def test_a_program_that_fails(self) -> None:
+        status, output, said = self.run_preview(more="sys.exit(3)\n")
+        self.assertEqual((status, output), (1, ""))
+        self.assertIn("preview.py: specimen-8.png is not written: the program ended with status 3\n", said)
+
+    def test_a_frame_without_a_picture(self) -> None:
+        self.run_preview()
+        program = self.folder / "program"
+        program.write_text(program.read_text().replace('if step == "frame"', "if False"))
+        done = subprocess.run([sys.executable, PREVIEW, program, "--out", self.folder], capture_output=True, text=True)
+        self.assertEqual(done.returncode, 1)
+        self.assertIn("specimen-8.png is not written: step 3810 has no picture\n", done.stderr)
+
+
+class Fonts(Folder):
+    def test_the_art_is_no_output(self) -> None:
+        fonts = self.folder / "fonts"
+        shutil.copytree(PREVIEW.parent, fonts)
+        art = (fonts / "glyphs-8.txt").read_bytes()
+        done = subprocess.run(
+            [sys.executable, fonts / "make_font.py", fonts / "glyphs-8.txt"], capture_output=True, text=True
+        )
+        self.assertEqual((done.returncode, done.stdout), (1, ""))
+        self.assertEqual(done.stderr, f"make_font.py: {fonts}/glyphs-8.txt: it is read, so it isn't written\n")
+        self.assertEqual((fonts / "glyphs-8.txt").read_bytes(), art)
+
+    def test_the_font_is_made_again(self) -> None:
+        made = self.folder / "made.fnt"
+        subprocess.run([sys.executable, PREVIEW.parent / "make_font.py", made], check=True, capture_output=True)
+        self.assertEqual(made.read_bytes(), (PREVIEW.parent / "zaklimot.fnt").read_bytes())
+
+
+if __name__ == "__main__":
+    unittest.main()

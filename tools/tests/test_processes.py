@@ -1,0 +1,127 @@
+"""Commands within limits, and what is left of them: nothing."""
+
+from __future__ import annotations
+
+import os
+import signal
+import subprocess
+import sys
+import tempfile
+import time
+import unittest
+from pathlib import Path
+from threading import Event
+
+from vga_report.processes import MEBIBYTE, Limits, Outcome, run_command
+from vga_report.trouble import Trouble
+
+from .test_cases import Folder
+from .test_command import PROGRAM
+
+# Starts a child that sleeps, writes its number into a file, and then does what is wanted.
+PARENT = """
+import subprocess, sys, time
+child = subprocess.Popen([sys.executable, '-c', 'import time; time.sleep(600)'])
+open(sys.argv[1], 'w').write(str(child.pid))
+"""
+
+
+def is_running(number: int) -> bool:
+    """Whether a process runs. One that has ended and that nobody has asked for is none."""
+    try:
+        state = Path(f"/proc/{number}/stat").read_text().rpartition(")")[2].split()[0]
+    except OSError:
+        return False
+    return state not in ("Z", "X")
+
+
+@unittest.skipUnless(Path("/proc/self/stat").exists(), "processes are looked at as Linux shows them")
+class Commands(Folder):
+    def run_python(self, program: str, limits: Limits = Limits(), is_ended: Event | None = None) -> Outcome:
+        words = [sys.executable, "-c", program, str(self.folder / "child")]
+        return run_command(words, self.folder / "out", self.folder / "said", limits, is_ended or Event())
+
+    def child(self) -> int:
+        """The number of the process that the command has started."""
+        file = self.folder / "child"
+        while not file.exists() or not file.read_text():
+            time.sleep(0.01)
+        return int(file.read_text())
+
+    def assert_child_ends(self) -> None:
+        child, until = self.child(), time.monotonic() + 10
+        while is_running(child) and time.monotonic() < until:
+            time.sleep(0.01)
+        self.assertFalse(is_running(child))
+
+    def test_what_is_written_and_said(self) -> None:
+        outcome = self.run_python("import sys; print('written'); print('said', file=sys.stderr); sys.exit(3)")
+        self.assertEqual(outcome, Outcome(3))
+        self.assertEqual(((self.folder / "out").read_text(), (self.folder / "said").read_text()), ("written\n", "said\n"))
+
+    def test_a_child_that_stays_ends_too(self) -> None:
+        self.assertEqual(self.run_python(PARENT), Outcome(0))
+        self.assert_child_ends()
+
+    def test_a_command_that_takes_too_long_ends_with_its_children(self) -> None:
+        outcome = self.run_python(PARENT + "time.sleep(600)", Limits(2))
+        self.assertEqual(outcome, Outcome(None, "the command took too long"))
+        self.assert_child_ends()
+
+    def test_an_output_without_an_end(self) -> None:
+        endless = PARENT + "\nwhile True: sys.stdout.buffer.write(bytes(1 << 16))"
+        outcome = self.run_python(endless, Limits(60, MEBIBYTE))
+        self.assertEqual(outcome, Outcome(None, "the command wrote more than 1 MiB"))
+        self.assertEqual((self.folder / "out").stat().st_size, MEBIBYTE)
+        self.assert_child_ends()
+
+    def test_a_short_output_that_is_too_long(self) -> None:
+        outcome = self.run_python("print('x' * (1 << 20))", Limits(60, MEBIBYTE))
+        self.assertEqual(outcome, Outcome(None, "the command wrote more than 1 MiB"))
+
+    def test_a_user_who_ends_it(self) -> None:
+        is_ended = Event()
+        is_ended.set()
+        self.assertEqual(self.run_python("import time; time.sleep(600)", Limits(), is_ended).status, None)
+
+    def test_no_program(self) -> None:
+        with self.assertRaises(Trouble):
+            run_command(["/none/there"], self.folder / "out", self.folder / "said", Limits(), Event())
+
+
+@unittest.skipUnless(Path("/proc/self/stat").exists(), "processes are looked at as Linux shows them")
+class Signals(Folder):
+    def end_suite(self, number: int, child: str = PARENT + "time.sleep(600)") -> tuple[int, bytes, bytes]:
+        """How a suite ends that gets a signal while its harness sleeps."""
+        self.write("two.fnt", "12")
+        self.write("one.vga", "frame\n")
+        self.write("one.txt", "1 ok\n")
+        script = self.write("harness.py", child)
+        command = f"{sys.executable} {script} {self.folder}/child {{script}}"
+        words = [sys.executable, str(PROGRAM), "suite", command, "--list", self.write("list.txt", "fonts two.fnt\none\n")]
+        (self.folder / "tmp").mkdir(exist_ok=True)
+        process = subprocess.Popen(
+            words,
+            stdout=subprocess.PIPE,
+            stderr=subprocess.PIPE,
+            env={**os.environ, "TMPDIR": str(self.folder / "tmp")},
+            preexec_fn=lambda: [signal.signal(some, signal.SIG_DFL) for some in (signal.SIGINT, signal.SIGTERM, signal.SIGHUP)],
+        )
+        while not (self.folder / "child").exists() or not (self.folder / "child").read_text():
+            time.sleep(0.01)
+        self.assertEqual(len(list((self.folder / "tmp").iterdir())), 1)
+        process.send_signal(number)
+        output, said = process.communicate(timeout=40)
+        return process.returncode, output, said
+
+    def test_signals_end_all_that_was_begun(self) -> None:
+        for number, status in ((signal.SIGTERM, 143), (signal.SIGHUP, 129), (signal.SIGINT, 130)):
+            with self.subTest(number):
+                self.assertEqual(self.end_suite(number), (status, b"", b""))
+                self.assertFalse(is_running(int((self.folder / "child").read_text())))
+                self.assertEqual(list((self.folder / "tmp").iterdir()), [])
+                (self.folder / "child").unlink()
+
+
+if __name__ == "__main__":
+    unittest.main()

@@ -1,0 +1,38 @@
+"""What the commands write on standard output, and what they call files."""
+
+from __future__ import annotations
+
+import os
+import sys
+
+from .streams import STANDARD, shown_name
+from .trouble import Trouble
+
+# The exit status: nothing differs, something does, the work can't be done.
+AGREED, DIFFERED, TROUBLE = 0, 1, 2
+
+
+def name_of(path: str) -> str:
+    """What messages call an input."""
+    return shown_name(path, "standard input")
+
+
+def write(text: str) -> None:
+    """Writes text on standard output. Names of files that are no text pass as the bytes that they are."""
+    sys.stdout.buffer.write(text.encode("utf-8", "surrogateescape"))
+
+
+def write_name(path: str | os.PathLike[str]) -> None:
+    """Writes the name of a file as a line, as its bytes are."""
+    sys.stdout.buffer.write(os.fsencode(path) + b"\n")
+
+
+def say(text: str) -> None:
+    """Says something on standard error. What a terminal can't show of a file's name is escaped."""
+    sys.stderr.write(f"vga-report: {text}\n")
+
+
+def refuse_twice(*paths: str) -> None:
+    """Standard input can be read once."""
+    if paths.count(STANDARD) > 1:
+        raise Trouble("standard input can be read once")

@@ -1,0 +1,151 @@
+"""The commands over reports: `text`, `pictures`, `compare` and `check`."""
+
+from __future__ import annotations
+
+import argparse
+import os
+import sys
+from typing import Iterator, Sequence
+
+from .differences import Comparison, Difference
+from .expected import Expected
+from .output import AGREED, DIFFERED, name_of, refuse_twice, say, write, write_name
+from .picture import Digest, Picture
+from .png import Shape, write_marked_png, write_png
+from .progress import Progress
+from .report import Report, Step
+from .streams import STANDARD, reading, writing
+from .trouble import Trouble
+
+
+def text(words: argparse.Namespace, progress: Progress) -> int:
+    """Writes a report as text."""
+    with reading(words.report) as stream, writing(STANDARD) as output:
+        for step in Report(stream, name_of(words.report), progress).steps():
+            output.write(step.text().encode("ascii"))
+    return AGREED
+
+
+def _wanted_pictures(steps: Iterator[Step], wanted: Sequence[int], name: str) -> Iterator[tuple[int, Picture]]:
+    """The pictures of the steps that are wanted, or all."""
+    last, missing = 0, set(wanted)
+    for step in steps:
+        last = step.number
+        if not wanted or last in missing:
+            if isinstance(step.picture, Digest):
+                raise Trouble("the picture is shown by its digest, and its dots are not in the file", name, step.line)
+            if step.picture is not None:
+                missing.discard(last)
+                yield last, step.picture
+        if wanted and not missing:
+            return
+    if missing:
+        raise Trouble(f"step {min(missing)} has no picture; there are {last} steps", name)
+
+
+def pictures(words: argparse.Namespace, progress: Progress) -> int:
+    """Writes the pictures of a report as files."""
+    shape = Shape(words.scale, words.aspect)
+    if words.ppm and shape != Shape():
+        raise Trouble("--ppm gives the bytes as they are, with neither --scale nor --aspect")
+    if words.folder != STANDARD:
+        os.makedirs(words.folder, exist_ok=True)
+    count = 0
+    with reading(words.report) as stream:
+        name = name_of(words.report)
+        steps = Report(stream, name, progress).steps()
+        for number, picture in _wanted_pictures(steps, words.step, name):
+            count += 1
+            _write_picture(words, f"{number:04}", picture, shape)
+    if not count:
+        raise Trouble("no step has a picture", name)
+    return AGREED
+
+
+def _write_picture(words: argparse.Namespace, stem: str, picture: Picture, shape: Shape) -> None:
+    """Writes one picture, and names its file on standard output unless the picture itself goes there."""
+    path = STANDARD
+    if words.folder != STANDARD:
+        path = os.path.join(words.folder, stem + (".ppm" if words.ppm else ".png"))
+    with writing(path) as stream:
+        if words.ppm:
+            stream.write(picture.ppm)
+        else:
+            write_png(stream, picture, shape)
+    if path != STANDARD:
+        write_name(path)
+
+
+def compare(words: argparse.Namespace, progress: Progress) -> int:
+    """Tells the first step in which two reports differ."""
+    refuse_twice(words.report, words.other)
+    name, other_name = name_of(words.report), name_of(words.other)
+    comparison = Comparison()
+    with reading(words.report) as stream, reading(words.other) as other_stream:
+        steps = Report(stream, name, progress).steps()
+        others = Report(other_stream, other_name).steps()
+        differences = comparison.differences(steps, others)
+        count = _tell_differences(differences, (name, other_name), words, progress)
+    if not count:
+        progress.clear()
+        _tell(f"{name} and {other_name} agree: {comparison.text()}\n", words)
+    return DIFFERED if count else AGREED
+
+
+def _tell_differences(
+    differences: Iterator[Difference], names: tuple[str, str], words: argparse.Namespace, progress: Progress
+) -> int:
+    """Tells the first difference or all, and writes the first picture with its differing dots marked."""
+    count, wants_picture = 0, words.picture is not None
+    for difference in differences:
+        count += 1
+        found = difference.pictures()
+        if words.all or count == 1:
+            progress.clear()
+            _tell(_difference_text(difference, names), words)
+        if wants_picture and found is not None:
+            with writing(words.picture) as stream:
+                write_marked_png(stream, *found, Shape(words.scale, words.aspect))
+            wants_picture = False
+        if not (words.all or wants_picture):
+            break
+    if wants_picture:
+        progress.clear()
+        say(f"no pictures differ, so {words.picture} isn't written")
+    return count
+
+
+def _tell(text: str, words: argparse.Namespace) -> None:
+    """Writes text, on standard error where a picture goes to standard output."""
+    if words.picture == STANDARD:
+        sys.stderr.write(text)
+    else:
+        write(text)
+
+
+def _difference_text(difference: Difference, names: tuple[str, str]) -> str:
+    """A step that differs, with both answers and where they stand."""
+    lines = [f"{difference.place} differs"]
+    for name, step, answer in zip(names, difference, difference.answers()):
+        lines.append(f"  {name}: {answer}" if step is None else f"  {name}:{step.line}: {answer}")
+    dots = difference.dots()
+    return "\n".join(lines + ([f"  {dots}"] if dots else [])) + "\n"
+
+
+def check(words: argparse.Namespace, progress: Progress) -> int:
+    """Compares a report with the one that is expected."""
+    refuse_twice(words.report, words.expected)
+    name, expected_name = name_of(words.report), name_of(words.expected)
+    comparison = Comparison()
+    with reading(words.report) as stream, reading(words.expected) as expected:
+        steps = Report(stream, name, progress).steps()
+        difference = next(comparison.differences(steps, Expected(expected, expected_name).steps()), None)
+    progress.clear()
+    if difference is None:
+        write(f"{name} is as expected: {comparison.text()}\n")
+        return AGREED
+    places = [name, expected_name]
+    for at, step in enumerate(difference):
+        places[at] += f":{step.line}" if step else ""
+    write(f"{places[0]}: {difference.text()} ({places[1]})\n")
+    return DIFFERED

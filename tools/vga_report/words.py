@@ -1,0 +1,107 @@
+"""The words of the command line."""
+
+from __future__ import annotations
+
+import argparse
+import math
+from pathlib import Path
+from typing import Callable
+
+from .progress import Progress
+from .reports import check, compare, pictures, text
+from .suite import scripts, suite
+
+SUITE = Path(__file__).resolve().parents[2] / "crates" / "vga_suite" / "data" / "list.txt"
+# The largest numbers of options: enlargements, commands at a time, MiB, steps, and a day of seconds.
+MOST_SCALE, MOST_JOBS, MOST_OUTPUT, MOST_STEP, MOST_SECONDS = 1000, 256, 1 << 20, 4_294_967_295, 86_400
+
+Job = Callable[[argparse.Namespace, Progress], int]
+
+
+def number_to(most: int, least: int = 1) -> Callable[[str], int]:
+    """Reads a number of decimal digits within these bounds."""
+
+    def read(word: str) -> int:
+        if not (word.isascii() and word.isdigit()) or not least <= int(word) <= most:
+            raise argparse.ArgumentTypeError(f"'{word}' is no number from {least} to {most}")
+        return int(word)
+
+    return read
+
+
+def seconds(word: str) -> float:
+    """Reads a number of seconds above 0."""
+    try:
+        number = float(word)
+    except ValueError:
+        number = math.nan
+    if not 0 < number <= MOST_SECONDS:
+        raise argparse.ArgumentTypeError(f"'{word}' is no number of seconds above 0, to {MOST_SECONDS}")
+    return number
+
+
+def _add_shape(parser: argparse.ArgumentParser) -> None:
+    parser.add_argument(
+        "--scale", type=number_to(MOST_SCALE), default=1, metavar="N", help="each dot N times as wide and as high"
+    )
+    parser.add_argument("--aspect", action="store_true", help="stretched to 4:3, the shape that a monitor shows")
+
+
+def _add_cases(parser: argparse.ArgumentParser) -> None:
+    parser.add_argument("--list", default=str(SUITE), metavar="FILE", help="the list of cases; else the project's")
+    parser.add_argument(
+        "--only", action="append", default=[], metavar="FRONT", help="cases whose names begin so, as `dots/`; may stand again"
+    )
+    parser.add_argument(
+        "--except", dest="except_", action="append", default=[], metavar="FRONT", help="but not those that begin so"
+    )
+
+
+def _add_suite(parser: argparse.ArgumentParser) -> None:
+    parser.add_argument("--bytes", metavar="COMMAND", help="runs scripts of bytes; without it they are left out")
+    _add_cases(parser)
+    parser.add_argument(
+        "--no-refusals", dest="refusals", action="store_false", help="steps that are to be refused count as skipped"
+    )
+    parser.add_argument("--timeout", type=seconds, default=60, metavar="SECONDS", help="for each case; else 60")
+    parser.add_argument(
+        "--output", type=number_to(MOST_OUTPUT), default=256, metavar="MIB", help="a case's report at most; else 256"
+    )
+    parser.add_argument(
+        "--jobs", type=number_to(MOST_JOBS), default=1, metavar="N", help="so many commands at a time; else 1"
+    )
+    parser.add_argument("--json", action="store_true", help="the table for machines")
+
+
+def parser() -> argparse.ArgumentParser:
+    """The parser of the command line."""
+    made = argparse.ArgumentParser(
+        prog="vga-report",
+        description="Reads the reports of runs. `-` is standard input, or standard output, in the place of any file.",
+        epilog="Exit status: 0 done, and nothing differs; 1 something differs; 2 the work can't be done.",
+    )
+    commands = made.add_subparsers(required=True, metavar="COMMAND")
+
+    def add(job: Job, *files: str) -> argparse.ArgumentParser:
+        assert job.__doc__ is not None
+        added = commands.add_parser(job.__name__, help=job.__doc__, description=job.__doc__)
+        added.set_defaults(job=job)
+        for file in files:
+            added.add_argument(file.lower(), metavar=file.upper())
+        return added
+
+    add(text, "report")
+    adding = add(pictures, "report", "folder")
+    adding.add_argument("--ppm", action="store_true", help="the bytes as they are, as NNNN.ppm, in the place of PNG")
+    adding.add_argument(
+        "--step", type=number_to(MOST_STEP), action="append", default=[], metavar="N", help="of this step alone"
+    )
+    _add_shape(adding)
+    adding = add(compare, "report", "other")
+    adding.add_argument("--all", action="store_true", help="all steps that differ, in the place of the first")
+    adding.add_argument("--picture", metavar="FILE", help="the first picture that differs as PNG, its dots marked")
+    _add_shape(adding)
+    add(check, "report", "expected")
+    _add_suite(add(suite, "command"))
+    _add_cases(add(scripts, "folder"))
+    return made
