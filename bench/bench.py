@@ -79,7 +79,7 @@ def dots():
 def frames(example):
     """Frames of what an example sets up before its first frame."""
     with open(os.path.join(EXAMPLES, example)) as file:
-        lines = file.read().splitlines()
+        lines = [line.partition(";")[0].strip() for line in file]
     text = lines[:lines.index("frame")] + ["frame"] * FRAMES
     return "go", "\n".join(text).encode(), FRAMES, "frames"
 

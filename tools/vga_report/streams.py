@@ -119,6 +119,12 @@ def write_file(path: str, data: bytes) -> None:
         stream.write(data)
 
 
+def write_over(path: str, data: bytes) -> None:
+    """Writes a file anew that was read, where the user has asked for that."""
+    _were_read.pop(path, None)
+    write_file(path, data)
+
+
 def length_of(stream: BinaryIO) -> int:
     """How many bytes a file has; 0 where that can't be known, as of a pipe."""
     try:

@@ -9,6 +9,7 @@ from typing import Callable
 
 from .progress import Progress
 from .reports import check, compare, pictures, text
+from .runs import DEFAULT_FONTS, run
 from .suite import scripts, suite
 
 SUITE = Path(__file__).resolve().parents[2] / "crates" / "vga_suite" / "data" / "list.txt"
@@ -73,6 +74,22 @@ def _add_suite(parser: argparse.ArgumentParser) -> None:
     parser.add_argument("--json", action="store_true", help="the table for machines")
 
 
+def _add_run(parser: argparse.ArgumentParser) -> None:
+    parser.add_argument("--vga", metavar="PROGRAM", help="the program; else the one that is built here, or in the path")
+    parser.add_argument("--try", dest="try_", action="store_true", help="the program without its proofs, by `rt try`")
+    parser.add_argument("--fonts", default=DEFAULT_FONTS, metavar="FILE", help="the font file; else the project's")
+    parser.add_argument(
+        "--until", type=number_to(MOST_STEP, 0), metavar="N", help="stops after N steps, and shows the state"
+    )
+    parser.add_argument(
+        "--only", metavar="WHICH", help="shows these steps alone, as 10-20,refused; also read, pictures, dumps, differs"
+    )
+    parser.add_argument("--pictures", metavar="FOLDER", help="writes the pictures of the steps shown, as NNNN.png")
+    parser.add_argument("--show", action="store_true", help="shows pictures as blocks of colour")
+    parser.add_argument("--bless", action="store_true", help="writes the answers into the script, as `; = 55`")
+    _add_shape(parser)
+
+
 def parser() -> argparse.ArgumentParser:
     """The parser of the command line."""
     made = argparse.ArgumentParser(
@@ -90,6 +107,7 @@ def parser() -> argparse.ArgumentParser:
             added.add_argument(file.lower(), metavar=file.upper())
         return added
 
+    _add_run(add(run, "script"))
     add(text, "report")
     adding = add(pictures, "report", "folder")
     adding.add_argument("--ppm", action="store_true", help="the bytes as they are, as NNNN.ppm, in the place of PNG")

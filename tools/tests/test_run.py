@@ -1,0 +1,199 @@
+"""Scripts beside their answers, and answers that scripts expect."""
+
+from __future__ import annotations
+
+import sys
+import unittest
+from pathlib import Path
+
+from vga_report.expecting import answer_of, handed_in, is_as_expected, is_worth_telling
+from vga_report.listing import Choice, Row
+from vga_report.report import Report, Step
+from vga_report.script import blessed_line, expected_in, steps_of
+from vga_report.trouble import Trouble
+
+from .making import BLACK, RED, ppm, stream
+from .program import run_texts
+from .test_command import Files, run
+
+EXAMPLES = Path(__file__).resolve().parents[2] / "examples"
+# A program that understands texts of a few steps: `asm` copies, `dis` prints in upper case, `go` answers by the name.
+FAKE = """#!{python}
+import sys
+words = sys.argv[1:]
+data = open(words[1], "rb").read()
+steps = [line.split(b";")[0].split() for line in data.split(b"\\n")]
+numbered = [(at, step) for at, step in enumerate(steps, 1) if step]
+if words[0] == "asm":
+    open(words[2], "wb").write(data)
+elif words[0] == "dis":
+    for _, step in numbered:
+        print(b" ".join(step).decode().upper())
+elif words[0] in ("go", "run"):
+    for at, step in numbered:
+        if step[0] == b"move":
+            sys.exit("vga: F7 BadLine(%d)" % at)
+    out = sys.stdout.buffer
+    stop = int(words[5]) if words[4:] else len(numbered)
+    for number, (_, step) in enumerate(numbered[:stop], 1):
+        answer = {{b"get": b"E6", b"frame": b"picture 37\\n" + {picture!r}, b"show": b"a\\nb", b"in": b"E1 NotDecoded",
+                  b"int": b"ax=0003 bx=0000 cx=0000 dx=0000"}}.get(step[0], b"ok")
+        out.write(b"%d %s\\n" % (number, answer))
+    if words[4:]:
+        out.write(b"".join(b"%d look\\n" % (stop + at) for at in (1, 2, 3, 4)))
+"""
+TEXT = "; A script.\n\nout 3c2 1\nget a0000 ; = E6\nin 3da\nframe ; = picture 9x1\nint ax=3 ; = ax=0003\nshow regs ; = 2 lines...\n"
+
+
+class Fake(Files):
+    def setUp(self) -> None:
+        super().setUp()
+        self.program = self.folder / "vga"
+        self.program.write_text(FAKE.format(python=sys.executable, picture=ppm(9, 1, RED * 4 + BLACK * 5)))
+        self.program.chmod(0o755)
+        self.path = self.write("s.vga", TEXT)
+
+    def run_script(self, *words: str, path: str = "", given: bytes = b"") -> tuple[int, str, str]:
+        status, output, said = run("run", path or self.path, "--vga", str(self.program), *words, given=given)
+        return status, output.decode(), said
+
+
+@unittest.skipIf(sys.platform == "win32", "a script is a program on POSIX")
+class Listings(Fake):
+    def test_lines_steps_and_answers_in_columns(self) -> None:
+        digest = "picture 9x1 " + "cc3cef99328e895f73a6088030faaab2"
+        self.assertEqual(self.run_script(), (0, (
+            "  line   step  step as understood  answer\n"
+            "     3      1  OUT 3C2 1           ok\n"
+            "     4      2  GET A0000           E6\n"
+            "     5      3  IN 3DA              E1 NotDecoded\n"
+            f"     6      4  FRAME               {digest}\n"
+            "     7      5  INT AX=3            ax=0003 bx=0000 cx=0000 dx=0000\n"
+            "     8      6  SHOW REGS           a\n"
+            "                                   b\n"
+            "6 steps, 1 picture, 4 of 4 answers as expected\n"
+        ), ""))
+        self.assertEqual(self.run_script(path="-", given=TEXT.encode())[1], self.run_script()[1])
+
+    def shown(self, *words: str) -> list[str]:
+        """The numbers of the steps that are shown."""
+        return [line.split()[1] for line in self.run_script(*words)[1].splitlines()[1:-1]]
+
+    def test_some_steps_alone(self) -> None:
+        for which, numbers in [
+            ("1-2,5", ["1", "2", "5"]), ("refused", ["3"]), ("read", ["2"]), ("pictures", ["4"]), ("differs", []),
+            ("refused,1", ["1", "3"]),
+        ]:
+            with self.subTest(which):
+                self.assertEqual(self.shown("--only", which), numbers)
+        message = "vga-report: --only has numbers of steps, as 10-20, and refused, read, pictures, dumps, differs, and not 'x'\n"
+        self.assertEqual(self.run_script("--only", "x"), (2, "", message))
+
+    def test_a_stopped_run_shows_the_state(self) -> None:
+        lines = self.run_script("--until", "2")[1].splitlines()
+        self.assertEqual(lines[3], "            3  show regs           look")
+        self.assertEqual(lines[6], "            6  show bda            look")
+        self.assertEqual(lines[7], "6 steps, 0 pictures, 1 of 1 answers as expected")
+
+    def test_pictures_as_files_and_as_blocks(self) -> None:
+        folder = self.folder / "p"
+        output = self.run_script("--pictures", str(folder), "--show")[1]
+        self.assertTrue((folder / "0004.png").exists())
+        self.assertIn(f"  {folder}/0004.png\n\x1b[38;2;255;0;0;48;2;255;0;0m\u2580", output)
+        self.assertTrue((folder / "0004.png").read_bytes().startswith(b"\x89PNG"))
+
+    def test_a_fault_with_its_reason(self) -> None:
+        path = self.write("bad.vga", "frame\nmove 1\n")
+        names = "out, outw, in, inw, put, putw, get, getw, advance, frame, int, show"
+        message = f"{path}:2: F7 BadLine(2): there is no step 'move'; the steps are {names}\n  move 1\n  ^^^^\n"
+        self.assertEqual(self.run_script(path=path), (2, "", "vga-report: " + message))
+        status, _, said = self.run_script(path="-", given=b"move\n")
+        self.assertEqual((status, said.partition(": there")[0]), (2, "vga-report: standard input:1: F7 BadLine(1)"))
+
+    def test_no_program(self) -> None:
+        status, _, said = run("run", self.path, "--vga", str(self.folder / "none"))
+        self.assertEqual((status, said), (2, f"vga-report: {self.folder / 'none'}: No such file or directory\n"))
+
+    def test_answers_that_differ(self) -> None:
+        path = self.write("t.vga", "get 0 ; = 55\nget 1 ; = *\nframe ; = picture 9x2\n")
+        status, output, _ = self.run_script(path=path, *("--only", "differs"))
+        self.assertEqual(status, 1)
+        self.assertIn("     1      1  GET 0               E6   not 55\n", output)
+        self.assertIn(f"{path}:1: step 1: GET 0 answers E6, not 55\n{path}:3: step 3: FRAME answers picture 9x1 ", output)
+        self.assertTrue(output.endswith("3 steps, 1 picture, 1 of 3 answers as expected\n"))
+
+    def test_answers_are_written_in(self) -> None:
+        path = self.write("t.vga", "out 3C2 1\nget 0\r\nget 1 ; = 55 ; the byte\nget 2 ; = *\nint ax=3\nin 3DA  ; \u00e9\n")
+        self.assertEqual(self.run_script("--bless", path=path)[:2], (0, f"{path}: 4 answers, 3 of them new\n"))
+        self.assertEqual((self.folder / "t.vga").read_bytes().decode(), (
+            "out 3C2 1\nget 0 ; = E6\r\nget 1 ; = E6 ; the byte\nget 2 ; = *\nint ax=3\n"
+            "in 3DA  ; = E1 NotDecoded ; \u00e9\n"
+        ))
+        self.assertEqual(self.run_script(path=path)[0], 0)
+        self.assertEqual(self.run_script("--bless", path="-", given=b"")[0], 2)
+
+    def test_a_picture_over_the_script(self) -> None:
+        path = self.write("0001.png", "frame\n")
+        status, _, said = self.run_script("--pictures", str(self.folder), path=path)
+        self.assertEqual((status, said), (2, f"vga-report: {path}: it is read as {path}, so it isn't written\n"))
+
+
+class Expectations(unittest.TestCase):
+    def test_what_is_as_expected(self) -> None:
+        picture = next(Report(stream(b"1 picture 37\n" + ppm(9, 1, BLACK * 9) + b"\n"), "r").steps())
+        for step, name, good, bad in [
+            (Step(1, 1, "55"), "get", ["55", "*", "5..."], ["5", "54", ""]),
+            (Step(1, 1, "E6"), "get", ["E6", "e6"], ["E6 WrongKind"]),
+            (Step(1, 1, "E1 NotDecoded"), "get", ["E1 NotDecoded"], ["E1", "E2"]),
+            (Step(1, 1, "E6 WrongKind"), "int", ["E6", "E6 WrongKind"], ["E6 BadPage", "E7"]),
+            (Step(1, 1, "ax=0300 bx=0000 cx=0D0E dx=0102"), "int", ["cx=0D0E", "dx=0102 ax=0300"], ["cx=0D0F", "cx", "ex=0"]),
+            (picture, "frame", ["picture 9x1", "picture 9x1 8f4a...", answer_of(picture)], ["picture", "picture 9x2"]),
+            (Step(1, 1, "a", ("b",)), "show", ["2 lines dd8c6a395b5dd36c56d23275028f526c"], ["a", "a b", "2 lines"]),
+        ]:
+            for expected in good + bad:
+                with self.subTest((step.answer, expected)):
+                    self.assertEqual(is_as_expected(step, expected, name), expected in good)
+
+    def test_comments(self) -> None:
+        for comment, expected in [("= 55", "55"), (" =55 ; more", "55"), ("55", None), ("= E6  WrongKind", "E6 WrongKind"), ("=", "")]:
+            with self.subTest(comment):
+                self.assertEqual(expected_in(comment), expected)
+        self.assertEqual([line.number for line in steps_of(b"; a\n\nframe ; =\n \t\r\nframe")], [3, 5])
+        self.assertEqual(blessed_line("frame", "ok"), "frame ; = ok")
+
+    def test_what_is_worth_telling(self) -> None:
+        self.assertEqual(handed_in("int ax=3 dx=12"), "ax=0003 bx=0000 cx=0000 dx=0012")
+        for answer, words, is_worth in [
+            ("ok", "out 3C2 1", False), ("55", "get 0", True), ("ax=0003 bx=0000 cx=0000 dx=0000", "int ax=3", False),
+            ("ax=0300 bx=0000 cx=0D0E dx=0000", "int ax=300", True),
+        ]:
+            self.assertEqual(is_worth_telling(Step(1, 1, answer), words), is_worth)
+
+    def test_choices(self) -> None:
+        self.assertTrue(Choice(None).has(Row(Step(1, 1, "ok"), "")))
+        for text in ("", "1-", "a-b", "1,,2"):
+            with self.subTest(text), self.assertRaises(Trouble):
+                Choice(text)
+
+
+class Examples(unittest.TestCase):
+    """Each example answers what its comments expect."""
+
+    def test_each_example(self) -> None:
+        texts = {path.stem: path.read_bytes() for path in sorted(EXAMPLES.glob("*.vga"))}
+        self.assertGreater(len(texts), 12)
+        for name, ran in run_texts(texts).items():
+            self.assertEqual((ran.status, ran.said), (0, ""), name)
+            lines = steps_of(texts[name])
+            steps = list(Report(stream(ran.report), name).steps())
+            self.assertEqual(len(steps), len(lines), name)
+            expected = [(step, line) for step, line in zip(steps, lines) if line.expected is not None]
+            self.assertTrue(expected, name)
+            for step, line in expected:
+                with self.subTest(f"{name}:{line.number}"):
+                    assert line.expected is not None
+                    self.assertTrue(is_as_expected(step, line.expected, line.name), answer_of(step))
+
+
+if __name__ == "__main__":
+    unittest.main()

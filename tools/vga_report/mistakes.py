@@ -1,0 +1,274 @@
+"""Why a line of a script is no step: the word at which it stops being one, and what could stand there.
+
+Whether a line is a step, the program alone says. Here its answer is explained, and where nothing is found, nothing is said.
+"""
+
+from __future__ import annotations
+
+import difflib
+import re
+from typing import Iterator, NamedTuple, Optional, Sequence
+
+from .grammar import BLOCK, REGISTERS, SHAPES, SHOWN, DecimalNumber, Digits, Number
+
+WORD = re.compile(r"[^ \t\r]+")
+HEX = re.compile(r"[0-9A-Fa-f]+")
+REGISTER = re.compile(r"([A-Za-z]+)=(.*)")
+# Other ways to write a hexadecimal number, with what stands in front of its digits or behind them.
+FOREIGN_HEX = re.compile(r"(?:0x|0X|\$|&[Hh]|#|[Xx]'?|\\x)([0-9A-Fa-f]+)'?|([0-9A-Fa-f]+)[hH]")
+COMMENT_SIGNS = ("#", "//", "/*", "--", "'", "%", "!")
+COMMENT_WORDS = ("rem", "note")
+# Letters and signs that look like digits.
+LOOKALIKES = str.maketrans("OoIl", "0011")
+PUNCTUATION = ",;:."
+PLANE_BYTES = 65_536
+MOST_BLOCK_DIGITS = 131_070
+
+
+class Word(NamedTuple):
+    """A word of a line, and where it begins."""
+
+    at: int
+    text: str
+
+
+class Mistake(NamedTuple):
+    """The part of a line that is wrong, and why it is."""
+
+    at: int
+    width: int
+    reason: str
+
+
+def _wrong(word: Word, reason: str) -> Mistake:
+    return Mistake(word.at, len(word.text), reason)
+
+
+def mistake_in(line: str) -> Optional[Mistake]:
+    """Why a line is no step; None where nothing is found."""
+    step = line.partition(";")[0]
+    words = [Word(found.start(), found[0]) for found in WORD.finditer(step)]
+    if not words:
+        return None
+    odd = next((found for found in map(_odd_byte, words) if found), None)
+    return odd or _in_step(words, len(step.rstrip(" \t\r")))
+
+
+def _odd_byte(word: Word) -> Optional[Mistake]:
+    """A character that stands in no step, as a blank that looks like one."""
+    for at, character in enumerate(word.text):
+        if not "!" <= character <= "~":
+            code = f"U+{ord(character):04X}" if ord(character) < 0xDC80 else f"byte {ord(character) - 0xDC00:02X}"
+            what = "that looks like a blank is none" if character.isspace() else "stands in no step"
+            return Mistake(word.at + at, 1, f"the character {code} {what}; blanks are the space and the tab")
+    return None
+
+
+def _in_step(words: Sequence[Word], end: int) -> Optional[Mistake]:
+    """The mistake of a line with these words, whose last ends there."""
+    name = words[0].text.lower()
+    if name == "int":
+        return _in_call(words[1:])
+    if name == "show":
+        return _in_show(words, end)
+    if name not in SHAPES:
+        return _unknown_step(words[0])
+    return _in_numbers(name, SHAPES[name], words[1:], end)
+
+
+def _unknown_step(word: Word) -> Mistake:
+    text = word.text.lower()
+    if text.startswith(COMMENT_SIGNS) or text in COMMENT_WORDS:
+        return _wrong(word, "comments begin with ;")
+    names = [*SHAPES, "int", "show"]
+    if text.rstrip(PUNCTUATION) in names:
+        return _wrong(word, f"nothing stands behind the name of a step but blanks: write {text.rstrip(PUNCTUATION)}")
+    longest = sorted((name for name, numbers in SHAPES.items() if numbers), key=len, reverse=True)
+    glued = next((name for name in longest if text.startswith(name)), None)
+    if glued and HEX.fullmatch(text[len(glued):]) and len(text) > len(glued) + 1:
+        return _wrong(word, f"a blank stands between words: write {glued} {word.text[len(glued):]}")
+    near = difflib.get_close_matches(text, names, 1)
+    hint = f"did you mean {near[0]}?" if near else f"the steps are {', '.join(names)}"
+    return _wrong(word, f"there is no step '{_short(word.text)}'; {hint}")
+
+
+def _in_numbers(form: str, numbers: Sequence[Number], words: Sequence[Word], end: int) -> Optional[Mistake]:
+    """The mistake in words that are to be these numbers, behind what a step begins with."""
+    usage = " ".join((form, *(number.name for number in numbers)))
+    for number, word in zip(numbers, words):
+        found = _in_number(number, word)
+        if found is not None:
+            return found
+    if len(words) < len(numbers):
+        return Mistake(end, 1, f"{numbers[len(words)].name} is lacking: {usage}")
+    if len(words) > len(numbers):
+        return _word_too_many(words[len(numbers)], usage)
+    return None
+
+
+def _word_too_many(word: Word, usage: str) -> Mistake:
+    if word.text.startswith(COMMENT_SIGNS):
+        return _wrong(word, "comments begin with ;")
+    if word.text.lower() in (*SHAPES, "int", "show"):
+        return _wrong(word, "a word too many: one step stands on a line")
+    return _wrong(word, f"a word too many: {usage}")
+
+
+def _in_number(number: Number, word: Word) -> Optional[Mistake]:
+    """Why a word is not such a number."""
+    return _in_decimal(number, word) if isinstance(number, DecimalNumber) else _in_digits(number, word)
+
+
+def _cleaned(text: str) -> Optional[str]:
+    """The digits of a hexadecimal number that is written otherwise."""
+    bare = text.strip("\"'()[]" + PUNCTUATION)
+    foreign = FOREIGN_HEX.fullmatch(bare)
+    digits = (foreign[1] or foreign[2]) if foreign else bare.replace("_", "")
+    if not HEX.fullmatch(digits):
+        digits = digits.translate(LOOKALIKES)
+    return digits if HEX.fullmatch(digits) else None
+
+
+def _in_digits(number: Digits, word: Word, text: Optional[str] = None) -> Optional[Mistake]:
+    """Why a word, or the part of it that is its number, is none of so many hexadecimal digits."""
+    text = word.text if text is None else text
+    if HEX.fullmatch(text):
+        if len(text) <= number.digits:
+            return _past(number, word, int(text, 16))
+        cut = text.lstrip("0") or "0"
+        hint = f": write {cut}" if len(cut) <= number.digits else ""
+        most = "1 digit is" if number.digits == 1 else f"{number.digits} digits are"
+        return _wrong(word, f"{number.name} has {len(text)} digits, and {most} the most{hint}")
+    if not text:
+        return _wrong(word, f"{number.name} has no digits")
+    cleaned = _cleaned(text)
+    if cleaned is not None and len(cleaned) <= number.digits:
+        return _wrong(word, f"numbers are hexadecimal digits alone: write {cleaned.upper()}")
+    if text[0] in "+-":
+        return _wrong(word, "a number has no sign")
+    wrong = next(character for character in text if not HEX.fullmatch(character))
+    return _wrong(word, f"{number.name} is a hexadecimal number, and '{wrong}' is no digit of one")
+
+
+def _past(number: Number, word: Word, value: int) -> Optional[Mistake]:
+    """Why a number is out of its range."""
+    if number.least <= value <= number.most:
+        return None
+    return _wrong(word, f"{number.name} is from {number.shown(number.least)} to {number.shown(number.most)}")
+
+
+def _in_decimal(number: DecimalNumber, word: Word) -> Optional[Mistake]:
+    text = word.text
+    if text.isascii() and text.isdigit():
+        return _past(number, word, int(text) if len(text) < 100 else number.most + 1)
+    parted = text.strip(PUNCTUATION).replace(",", "").replace("_", "").replace("'", "")
+    if parted.isdigit():
+        return _wrong(word, f"{number.name} is decimal digits alone: write {parted}")
+    hexadecimal = _cleaned(text)
+    if hexadecimal is not None:
+        return _wrong(word, f"{number.name} is decimal, and not hexadecimal: write {int(hexadecimal, 16)}")
+    if text[0] in "+-":
+        return _wrong(word, "a number has no sign")
+    return _wrong(word, f"{number.name} is a decimal number")
+
+
+def _in_show(words: Sequence[Word], end: int) -> Optional[Mistake]:
+    """The mistake of a look at the state."""
+    names = ", ".join(SHOWN)
+    if len(words) == 1:
+        return Mistake(end, 1, f"what is to be shown is lacking: {names}")
+    name = words[1].text.lower()
+    if name not in SHOWN:
+        near = difflib.get_close_matches(name, SHOWN, 1)
+        hint = f"did you mean {near[0]}?" if near else f"there are {names}"
+        return _wrong(words[1], f"nothing of the state has the name '{_short(words[1].text)}'; {hint}")
+    found = _in_numbers(f"show {name}", SHOWN[name], words[2:], end)
+    if found is None and name == "plane":
+        offset, count = int(words[3].text, 16), int(words[4].text)
+        if offset + count > PLANE_BYTES:
+            return _wrong(words[4], f"from {offset:04X} on the plane has {PLANE_BYTES - offset} bytes")
+    return found
+
+
+def _in_call(words: Sequence[Word]) -> Optional[Mistake]:
+    """The mistake of a call of the video BIOS."""
+    last = -1
+    for at, word in enumerate(words):
+        if word.text.lower() == BLOCK:
+            return _in_block(words[at:])
+        found = _in_register(word, words[at + 1:], last)
+        if isinstance(found, Mistake):
+            return found
+        last = found
+    return None
+
+
+def _in_register(word: Word, behind: Sequence[Word], last: int) -> Mistake | int:
+    """The mistake of a register of a call, or else its place among the registers."""
+    found = REGISTER.fullmatch(word.text)
+    name = (found[1] if found else word.text.strip("=" + PUNCTUATION)).lower()
+    if found is None:
+        return _no_register(word, name, behind)
+    if name not in REGISTERS:
+        hint = f"its halves are no registers of their own: write {name[0]}x" if re.fullmatch("[abcd][hl]", name) else ""
+        return _wrong(word, f"a call takes ax, bx, cx and dx{hint and '; '}{hint}")
+    place = REGISTERS.index(name)
+    if place == last:
+        return _wrong(word, f"{name} stands twice")
+    if place < last:
+        return _wrong(word, "registers stand in the order ax, bx, cx, dx")
+    if not found[2] and behind and (HEX.match(behind[0].text) or FOREIGN_HEX.match(behind[0].text)):
+        return _wrong(word, f"no blank stands around =: write {name}={behind[0].text}")
+    return _in_digits(Digits(name, 4), word, found[2]) or place
+
+
+def _no_register(word: Word, name: str, behind: Sequence[Word]) -> Mistake:
+    """Why a word of a call that has no value is wrong."""
+    if word.text.startswith(COMMENT_SIGNS):
+        return _wrong(word, "comments begin with ;")
+    if name in REGISTERS and behind and behind[0].text.startswith("="):
+        value = behind[0].text[1:] or (behind[1].text if len(behind) > 1 else "0")
+        return _wrong(word, f"no blank stands around =: write {name}={value}")
+    if name in REGISTERS:
+        return _wrong(word, f"{name} has no value: write {name}=0")
+    if HEX.fullmatch(word.text) or FOREIGN_HEX.fullmatch(word.text):
+        return _wrong(word, "a call is always interrupt 10, and its numbers stand behind their registers: ax=3")
+    near = difflib.get_close_matches(name, [BLOCK], 1)
+    hint = f"did you mean {near[0]}?" if near else "a call has ax=, bx=, cx=, dx= and block"
+    return _wrong(word, f"'{_short(word.text)}' is no register; {hint}")
+
+
+def _in_block(words: Sequence[Word]) -> Optional[Mistake]:
+    """The mistake of a call's block, which stands last."""
+    if len(words) == 1:
+        return _wrong(words[0], "the block has no digits; a call without a block has no word for it")
+    digits = words[1]
+    if not HEX.fullmatch(digits.text):
+        cleaned = _cleaned(digits.text.replace(",", ""))
+        hint = f": write {cleaned.upper()}" if cleaned and len(cleaned) < 40 else ""
+        return _wrong(digits, f"a block is hexadecimal digits alone, two for each byte{hint}")
+    if len(words) > 2:
+        if HEX.fullmatch(words[2].text):
+            return _wrong(words[2], "no blank stands among the digits of a block")
+        if REGISTER.fullmatch(words[2].text):
+            return _wrong(words[2], "the block stands last, behind the registers")
+        return _word_too_many(words[2], "int ax=N bx=N cx=N dx=N block BYTES")
+    if len(digits.text) % 2:
+        return _wrong(digits, f"a block has two digits for each byte, and these are {len(digits.text)}")
+    if len(digits.text) > MOST_BLOCK_DIGITS:
+        return _wrong(digits, f"a block has at most {MOST_BLOCK_DIGITS // 2} bytes")
+    return None
+
+
+def _short(text: str) -> str:
+    """A word in a message."""
+    return text if len(text) <= 24 else text[:22] + ".."
+
+
+def marked_lines(line: str, mistake: Mistake, most: int = 100) -> Iterator[str]:
+    """A line and the mark below it, cut where it is long, with tabs as blanks."""
+    begin = max(0, mistake.at - most // 2) if len(line) > most else 0
+    part = "".join(character if character.isprintable() else " " for character in line[begin:begin + most])
+    width = max(1, min(mistake.width, most - (mistake.at - begin)))
+    yield ("" if begin == 0 else "..") + part.rstrip() + (".." if len(line) > begin + most else "")
+    yield " " * (mistake.at - begin + (0 if begin == 0 else 2)) + "^" * width

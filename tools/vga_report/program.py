@@ -1,0 +1,138 @@
+"""The program `vga`, and how a script is run by it."""
+
+from __future__ import annotations
+
+import os
+import shutil
+import signal
+import subprocess
+import tempfile
+from contextlib import contextmanager
+from pathlib import Path
+from typing import BinaryIO, Iterator, Optional, Sequence, cast
+
+from .faults import FAULT
+from .processes import IS_POSIX
+from .trouble import Trouble
+
+TOP = Path(__file__).resolve().parents[2]
+CRATE = TOP / "crates" / "vga"
+PROGRAM = CRATE / "out" / "vga"
+FONTS = TOP / "fonts" / "zaklimot.fnt"
+# So much of what the program says is looked at.
+MOST_SAID = 1 << 16
+NO_PROGRAM = (
+    "there is no program vga: `(cd crates/vga && rt run -- --help)` builds and proves it, --vga names another, "
+    "and --try runs it without its proofs"
+)
+
+
+class Outcome:
+    """How a run ended: its status, known once the report was read, and what the program said."""
+
+    def __init__(self, report: BinaryIO) -> None:
+        self.report = report
+        self.status = 0
+        self.said = ""
+
+    @property
+    def fault(self) -> str:
+        """The fault that ended the run, or else what was said last."""
+        found = FAULT.search(self.said)
+        lines = self.said.strip().splitlines()
+        return found[0] if found else lines[-1] if lines else ""
+
+
+def found_program(named: Optional[str]) -> str:
+    """Where the program is: as it is named, or as this repository has built it, or in the path."""
+    if named is not None:
+        return named
+    if os.access(PROGRAM, os.X_OK):
+        return str(PROGRAM)
+    in_path = shutil.which("vga")
+    if in_path is None:
+        raise Trouble(NO_PROGRAM)
+    return in_path
+
+
+def _end(process: subprocess.Popen[bytes]) -> None:
+    """Ends a program with all that it has started, if it has not ended."""
+    if process.poll() is None:
+        if IS_POSIX:
+            os.killpg(process.pid, signal.SIGKILL)
+        else:
+            process.kill()
+    process.wait()
+
+
+@contextmanager
+def _started(words: Sequence[str], folder: Optional[Path] = None) -> Iterator[Outcome]:
+    """A command that runs, with its report as it comes."""
+    with tempfile.TemporaryFile() as said:
+        try:
+            process = subprocess.Popen(
+                words, cwd=folder, stdin=subprocess.DEVNULL, stdout=subprocess.PIPE, stderr=said,
+                start_new_session=IS_POSIX,
+            )
+        except OSError as error:
+            raise Trouble(error.strerror or str(error), words[0]) from error
+        assert process.stdout is not None
+        outcome = Outcome(cast(BinaryIO, process.stdout))
+        try:
+            with process.stdout:
+                yield outcome
+            # What was not read is lost, and the program is told so.
+            outcome.status = process.wait()
+            said.seek(0)
+            outcome.said = said.read(MOST_SAID).decode("utf-8", "replace")
+        finally:
+            _end(process)
+
+
+class Built:
+    """The program as it was built."""
+
+    def __init__(self, path: str) -> None:
+        self._path = path
+
+    @contextmanager
+    def running(self, script: Path, fonts: str, until: Optional[int], is_bytes: bool) -> Iterator[Outcome]:
+        """A run of a script, as text or as bytes."""
+        stop = [] if until is None else ["--until", str(until)]
+        words = [self._path, "run" if is_bytes else "go", str(script), "--fonts", fonts, *stop]
+        with _started(words) as outcome:
+            yield outcome
+
+    def understood(self, script: Path, is_bytes: bool) -> list[str]:
+        """The steps of a script as the program prints them; none where it has a fault."""
+        with tempfile.TemporaryDirectory(prefix="vga-report-") as name:
+            made = script if is_bytes else Path(name) / "script"
+            if not is_bytes:
+                assembled = subprocess.run([self._path, "asm", script, made], capture_output=True)
+                if assembled.returncode:
+                    return []
+            printed = subprocess.run([self._path, "dis", made], capture_output=True)
+        return printed.stdout.decode("ascii", "replace").splitlines() if printed.returncode == 0 else []
+
+
+class Tried:
+    """The program without its proofs, as `rt try` builds and runs it: within a minute, where the proofs take much longer."""
+
+    ENDED = "run=ended status="
+
+    @contextmanager
+    def running(self, script: Path, fonts: str, until: Optional[int], is_bytes: bool) -> Iterator[Outcome]:
+        """A run of a script, as text or as bytes."""
+        stop = [] if until is None else ["--until", str(until)]
+        files = ["--data", f"script={script.resolve()}", "--data", f"fonts={Path(fonts).resolve()}"]
+        words = ["rt", "try", *files, "--", "run" if is_bytes else "go", "script", "--fonts", "fonts", *stop]
+        with _started(words, CRATE) as outcome:
+            yield outcome
+        ended = outcome.said.rpartition(self.ENDED)[2].split()
+        if self.ENDED not in outcome.said:
+            raise Trouble(f"rt try has not run the program: {outcome.fault}")
+        outcome.status = int(ended[0])
+
+    def understood(self, script: Path, is_bytes: bool) -> list[str]:
+        """Nothing: each answer would take a build of its own."""
+        return []

@@ -1,0 +1,126 @@
+"""The command `run`: a script beside its answers."""
+
+from __future__ import annotations
+
+import argparse
+import os
+import shutil
+import tempfile
+from contextlib import contextmanager
+from pathlib import Path
+from typing import Iterator, Union
+
+from .blocks import block_lines
+from .expecting import answer_of, is_worth_telling
+from .listing import Choice, Row, Script, heading, listed
+from .output import AGREED, DIFFERED, name_of, write
+from .picture import Picture
+from .png import Shape, write_png
+from .program import FONTS, Built, Tried, found_program
+from .progress import Progress
+from .script import blessed_line, text_of
+from .streams import STANDARD, reading, write_over, writing
+from .trouble import Trouble
+
+
+@contextmanager
+def _script_file(path: str) -> Iterator[tuple[str, bytes]]:
+    """The path and the bytes of a script; one on standard input becomes a file."""
+    if path != STANDARD:
+        if not os.path.isfile(path):
+            # The program says what is wrong with it.
+            yield path, b""
+            return
+        with reading(path) as stream:
+            yield path, stream.read()
+        return
+    with tempfile.TemporaryDirectory(prefix="vga-report-") as folder, reading(path) as stream:
+        data = stream.read()
+        copy = Path(folder) / "script"
+        copy.write_bytes(data)
+        yield str(copy), data
+
+
+class Tally:
+    """What was seen of a run."""
+
+    def __init__(self) -> None:
+        self.steps = self.pictures = self.expected = 0
+        self.wrong: list[Row] = []
+
+    def count(self, row: Row) -> None:
+        """Counts a step."""
+        self.steps += 1
+        self.pictures += row.step.picture is not None
+        self.expected += row.expected is not None
+        if row.is_wrong:
+            self.wrong.append(row)
+
+    def text(self) -> str:
+        """What was seen, as a line."""
+        parts = [f"{self.steps} step{'s' * (self.steps != 1)}", f"{self.pictures} picture{'s' * (self.pictures != 1)}"]
+        if self.expected:
+            parts.append(f"{self.expected - len(self.wrong)} of {self.expected} answers as expected")
+        return ", ".join(parts)
+
+
+def run(words: argparse.Namespace, progress: Progress) -> int:
+    """Runs a script, and shows each step beside its line and its answer."""
+    choice = Choice(words.only)
+    program: Union[Built, Tried] = Tried() if words.try_ else Built(found_program(words.vga))
+    if words.bless and (words.script == STANDARD or words.until is not None):
+        raise Trouble("--bless writes into the script, whole: it wants a file, and no --until")
+    tally, blessed = Tally(), {}
+    with _script_file(words.script) as (path, data):
+        script = Script(path, data, program, name_of(words.script))
+        if words.pictures is not None:
+            os.makedirs(words.pictures, exist_ok=True)
+        for row in script.rows(program, words.fonts, words.until, progress):
+            if not (words.bless or tally.steps):
+                write(heading(script.width) + "\n")
+            tally.count(row)
+            if words.bless and row.line is not None and (row.expected is not None or is_worth_telling(row.step, row.words)):
+                blessed[row.line] = "*" if row.expected == "*" else answer_of(row.step)
+            if not words.bless and choice.has(row):
+                progress.clear()
+                _show(row, script, words)
+        progress.clear()
+        if words.bless:
+            return _bless(words.script, script, data, blessed)
+    for row in tally.wrong:
+        place = f"{script.shown}:{row.line}: step {row.step.number}"
+        write(f"{place}: {row.words} answers {answer_of(row.step)}, not {row.expected}\n")
+    write(tally.text() + "\n")
+    return DIFFERED if tally.wrong else AGREED
+
+
+def _show(row: Row, script: Script, words: argparse.Namespace) -> None:
+    """Writes a step's lines, and its picture where that is wanted."""
+    picture, more = row.step.picture, ""
+    if isinstance(picture, Picture) and words.pictures is not None:
+        path = os.path.join(words.pictures, f"{row.step.number:04}.png")
+        with writing(path) as stream:
+            write_png(stream, picture, Shape(words.scale, words.aspect))
+        more = f"  {path}"
+    write("".join(line + "\n" for line in listed(row, script.width, more)))
+    if isinstance(picture, Picture) and words.show:
+        columns = shutil.get_terminal_size((80, 24)).columns
+        write("".join(line + "\n" for line in block_lines(picture, columns)))
+
+
+def _bless(path: str, script: Script, data: bytes, blessed: dict[int, str]) -> int:
+    """Writes the answers into the script, each behind its step."""
+    if script.is_bytes:
+        raise Trouble("a script of bytes has no comments to write answers in", path)
+    lines = text_of(data).split("\n")
+    changed = 0
+    for number, answer in blessed.items():
+        line = blessed_line(lines[number - 1], answer)
+        changed += line != lines[number - 1]
+        lines[number - 1] = line
+    write_over(path, "\n".join(lines).encode("utf-8", "surrogateescape"))
+    write(f"{path}: {len(blessed)} answers, {changed} of them new\n")
+    return AGREED
+
+
+DEFAULT_FONTS = str(FONTS)
