@@ -313,7 +313,7 @@ class Suite(Files):
         text = (
             "a (3 cases: 1 agree, 1 skipped, 1 differ)\n"
             "  differs  Memory.\n"
-            "           a/three: step 1: FF, not 55\n"
+            "           a/three: step 1: FF, not 55 (`get A0000`, a/three.vga:2)\n"
             "  skipped  A frame.\n"
             "           a/four: 1 of 2 steps are skipped, the others agree\n"
             "b (1 case: 1 agree)\n"
@@ -336,14 +336,14 @@ class Suite(Files):
                 "rule": "Memory.", "folder": "a", "answer": "differs",
                 "cases": [{
                     "name": "a/one", "answer": "differs", "steps": 1, "skipped": 0, "step": 1, "answered": "FF",
-                    "expected": "55", "reason": "step 1: FF, not 55",
+                    "expected": "55", "reason": "step 1: FF, not 55 (`get A0000`, a/one.vga:2)",
                 }],
             }],
         })
 
     def test_a_skipped_step_hides_no_difference(self) -> None:
         self.case("a/one", "frame\nget A0000\n", "1 ragged\n2 55\n")
-        self.assertIn("a/one: step 2: FF, not 55\n", self.run_suite()[1])
+        self.assertIn("a/one: step 2: FF, not 55 (`get A0000`, a/one.vga:2)\n", self.run_suite()[1])
 
     def test_a_bus_that_refuses_nothing(self) -> None:
         self.case("a/one", "get A0000\nget A0000\n", "1 E1 NotDecoded\n2 FF\n")
@@ -351,7 +351,7 @@ class Suite(Files):
         self.assertEqual(self.run_suite()[1].splitlines()[-1], "2 cases: 2 differ")
         output = self.run_suite("--no-refusals")[1]
         self.assertIn("a/one: 1 of 2 steps are skipped, the others agree\n", output)
-        self.assertIn("a/two: step 2: FF, not 55\n", output)
+        self.assertIn("a/two: step 2: FF, not 55 (`get A0000`, a/two.vga:2)\n", output)
 
     def test_scripts_as_they_are_handed_over(self) -> None:
         self.write("front", "out 3C2 01\n")
@@ -360,18 +360,21 @@ class Suite(Files):
         self.write("b/two.hex", "56*2")
         self.lines.append("bytes b/two")
         path, folder = self.write("list.txt", "\n".join(self.lines) + "\n"), self.folder / "scripts"
-        names = f"{folder / 'a/one.vga'}\n{folder / 'b/two.bin'}\n".encode()
+        names = f"{folder / 'a/one.vga'}\n{folder / 'b/two.bin'}\n{folder / 'list.txt'}\n".encode()
         self.assertEqual(run("scripts", folder, "--list", path), (0, names, ""))
         looks = b"show regs\nshow beam\nshow latches\nshow bda\n"
         self.assertEqual((folder / "a/one.vga").read_bytes(), b"out 3C2 01\nframe\n" + looks)
         self.assertEqual((folder / "b/two.bin").read_bytes(), b"VV")
+        self.assertEqual((folder / "list.txt").read_text(), "a/one.vga fonts/two.fnt\nb/two.bin fonts/two.fnt\n")
+        self.assertEqual((folder / "fonts/two.fnt").read_bytes(), b"12")
         message = "vga-report: the files want a folder\n"
         self.assertEqual(run("scripts", "-", "--list", path), (2, b"", message))
 
     def test_commands_that_fail(self) -> None:
+        ended = "the command ended with status 3, and said\n             "
         for script, reason in [
-            ("crash\n", "the command ended with status 3: no such part?"),
-            ("get 0\ncrash\n", "the command ended with status 3: no such part?"),
+            ("crash\n", f"{ended}first\n             no such part?"),
+            ("get 0\ncrash\n", f"{ended}first\n             no such part?"),
             ("cut\n", "its report:1: the report ends within a line"),
             ("wait\n", "the command took too long"),
         ]:
@@ -408,7 +411,7 @@ class Suite(Files):
         self.assertEqual(status, 1)
         self.assertIn("  agrees   a/one\n", output)
         self.assertIn("a/two: the run: F7 BadLine(2), not F7 BadLine(1)\n", output)
-        self.assertIn("a/three: step 1: F7 BadLine(2) (fault), not ok\n", output)
+        self.assertIn("a/three: step 1: F7 BadLine(2) (fault), not ok (`fault`, a/three.vga:1)\n", output)
 
     def test_scripts_of_bytes_want_a_command_of_their_own(self) -> None:
         self.write("a/one.hex", "69 6E 20 33 43 43 ; in 3CC\n")
@@ -457,6 +460,48 @@ class Suite(Files):
         self.assertEqual(self.run_suite(), (2, "", message))
         self.assertEqual(self.run_suite("--only", "x")[0], 2)
         self.assertEqual(self.run_suite("--bytes", ""), (2, "", "vga-report: the command is empty\n"))
+
+    def test_a_step_of_a_front_is_named_where_it_stands(self) -> None:
+        self.write("front", "; A front.\nget 0\n")
+        self.lines.append("front front")
+        self.case("a/one", "\nget 1\n", "1 FF\n2 55\n")
+        self.case("a/two", "get 1\n", "1 55\n2 FF\n")
+        output = self.run_suite()[1]
+        self.assertIn("a/one: step 2: FF, not 55 (`get 1`, a/one.vga:2)\n", output)
+        self.assertIn("a/two: step 1: FF, not 55 (`get 0`, front:2)\n", output)
+
+    def test_all_that_a_harness_says_is_shown(self) -> None:
+        self.case("a/one", "frame\n", "1 ok\n")
+        program = f"{shlex.quote(sys.executable)} -c 'import sys; [print(at, file=sys.stderr) for at in range(50)]; sys.exit(3)' {{script}}"
+        output = self.run_suite(command=program)[1]
+        shown = [line.strip() for line in output.splitlines()[3:-1]]
+        self.assertEqual(shown, [*map(str, range(10)), ".. 30 lines ..", *map(str, range(40, 50))])
+
+    def test_reports_and_pictures_are_kept(self) -> None:
+        self.case("a/one", "frame\n", f"1 picture 37 9x1\n3F0000*9\n")
+        self.case("a/two", "frame\n", f"1 picture 37 9x1 {hashlib.md5(PICTURE).hexdigest()}\n")
+        self.case("a/three", "frame\n", f"1 ok\n")
+        harness = self.write("harness.py", f"import sys; sys.stdout.buffer.write({report(PICTURE)!r}); print('said', file=sys.stderr)")
+        kept = self.folder / "kept"
+        command = f"{shlex.quote(sys.executable)} {harness} {{script}}"
+        self.assertEqual(self.run_suite("--keep", kept, command=command)[0], 1)
+        names = sorted(str(file.relative_to(kept)) for file in kept.rglob("*.*"))
+        self.assertEqual(names, [
+            "a/one-0001-differing.png", "a/one-0001-expected.png", "a/one-0001.png", "a/one.report", "a/one.said",
+            "a/one.vga", "a/three-0001.png", "a/three.report", "a/three.said", "a/three.vga",
+        ])
+        self.assertEqual((kept / "a/one.report").read_bytes(), report(PICTURE))
+        self.assertEqual(png_rows((kept / "a/one-0001-expected.png").read_bytes()), (9, 1, [b"\xff\0\0" * 9]))
+        self.assertEqual(self.run_suite("--keep", kept, command=command)[0], 2)
+
+    def test_expected_pictures_without_a_program(self) -> None:
+        self.case("a/one", "frame\nframe\n", f"1 picture 37 9x1\n3F0000*9\n2 picture 37 9x1 {hashlib.md5(PICTURE).hexdigest()}\n")
+        path, folder = self.write("list.txt", "\n".join(self.lines) + "\n"), self.folder / "p"
+        written = (0, f"{folder}/a/one-0001.png\n".encode(), "")
+        self.assertEqual(run("suite", "pictures", folder, "--list", path), written)
+        self.assertEqual(png_rows((folder / "a/one-0001.png").read_bytes()), (9, 1, [b"\xff\0\0" * 9]))
+        message = "vga-report: the command is one word of the shell: 'x {script}'\n"
+        self.assertEqual(run("suite", "x", "{script}", "--list", path), (2, b"", message))
 
     def test_several_fronts_of_names_and_some_that_are_left_out(self) -> None:
         for name in ("a/one", "a/two", "b/one", "c/one"):

@@ -8,11 +8,14 @@ from pathlib import Path
 from typing import Iterator, Optional, Sequence
 
 from .report import FAULT
+from .script import steps_of
 from .streams import STANDARD, reading, shown_name
 from .trouble import Trouble
 
 CASE = re.compile(r"(?P<bytes>bytes )?(?P<name>[^ ]+)( until (?P<steps>[0-9]+))?")
 HEX = re.compile(r"([0-9A-Fa-f]{2})(\*([1-9][0-9]{0,7}))?")
+# So much of a step is shown.
+MOST_WORDS = 60
 # What a run that stops after so many steps shows, as if these steps stood next.
 LOOKS = b"show regs\nshow beam\nshow latches\nshow bda\n"
 
@@ -63,6 +66,19 @@ class Case:
         if self.is_bytes:
             return _bytes_of(source, self.source)
         return (self.front.read_bytes() if self.front else b"") + source
+
+    def place_of(self, number: int) -> str:
+        """A step with the file and the line where it stands; empty where it stands in no text."""
+        if self.is_bytes or number < 1:
+            return ""
+        behind = number
+        for file in (self.front, self.source):
+            steps = steps_of(file.read_bytes()) if file else []
+            if behind <= len(steps):
+                step = steps[behind - 1]
+                return printable(f"`{step.words[:MOST_WORDS]}`, {file.relative_to(self.folder)}:{step.number}")
+            behind -= len(steps)
+        return ""
 
     def stopped_script(self) -> bytes:
         """The script that does the same where none can stop it: its first steps, and a look at the state.

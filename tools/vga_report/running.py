@@ -14,6 +14,7 @@ from typing import Optional
 from .cases import Case, printable
 from .differences import Comparison, Told
 from .expected import Expected
+from .keeping import keep_case
 from .processes import Limits, Outcome, run_command
 from .report import FAULT, Report
 from .trouble import Trouble
@@ -23,8 +24,8 @@ AGREES, SKIPPED, DIFFERS, FAILED = "agrees", "skipped", "differs", "failed"
 REPORT_NAME = "its report"
 PLACE = re.compile(r"\{(script|fonts|name)\}")
 UNTIL = "{until}"
-# So much of what a command says on standard error is read.
-MOST_MESSAGE = 4096
+# So many of the first lines that a command says are shown, and of the last.
+SHOWN_LINES = 10
 
 
 @dataclass(frozen=True)
@@ -39,8 +40,11 @@ class Result:
     reason: str = ""
 
     def text(self) -> str:
-        """Why it doesn't agree; empty where it does."""
-        return self.difference.text if self.difference else self.reason
+        """Why it doesn't agree, with the step and its place; empty where it does."""
+        if self.difference is None:
+            return self.reason
+        place = self.case.place_of(self.difference.number)
+        return self.difference.text + (f" ({place})" if place else "")
 
 
 class Command:
@@ -74,8 +78,8 @@ class Command:
         return run_command(self.words(case, script), report, messages, self._limits, self._is_ended)
 
 
-def run_case(case: Case, command: Optional[Command]) -> Result:
-    """Runs a case. Without a command it's left out."""
+def run_case(case: Case, command: Optional[Command], keep: Optional[Path] = None) -> Result:
+    """Runs a case. Without a command it's left out. What doesn't agree is kept in a folder, where one is given."""
     rule = case.rule()
     if command is None:
         return Result(case, rule, SKIPPED, Comparison(), reason="the script is bytes, and --bytes has no command")
@@ -86,17 +90,22 @@ def run_case(case: Case, command: Optional[Command]) -> Result:
         script, report, messages = folder / f"script{case.suffix}", folder / "report", folder / "messages"
         script.write_bytes(case.script() if command.can_stop else case.stopped_script())
         outcome = command.run(case, script, report, messages)
-        if outcome.status is None:
-            return Result(case, rule, FAILED, Comparison(), reason=outcome.reason)
         comparison = Comparison(command.has_refusals)
-        return _judged(case, rule, comparison, outcome.status, report, _last_line(messages))
+        if outcome.status is None:
+            reason = outcome.reason + said_text(messages)
+            result = Result(case, rule, FAILED, Comparison(), reason=reason)
+        else:
+            result = _judged(case, rule, comparison, outcome.status, report, messages)
+        if keep is not None and result.answer in (DIFFERS, FAILED):
+            keep_case(keep, case, script, report, messages)
+    return result
 
 
-def _judged(case: Case, rule: str, comparison: Comparison, status: int, report: Path, message: str) -> Result:
-    """The result of a command that has ended with this status and this last message."""
-    ended = f"the command ended with status {status}" + (f": {message}" if message else "")
+def _judged(case: Case, rule: str, comparison: Comparison, status: int, report: Path, messages: Path) -> Result:
+    """The result of a command that has ended with this status and said these messages."""
+    ended = f"the command ended with status {status}" + said_text(messages)
     if status and not report.stat().st_size:
-        fault = FAULT.search(message)
+        fault = FAULT.search((said_lines(messages) or [""])[-1])
         if fault is None:
             return Result(case, rule, FAILED, comparison, reason=ended)
         line = io.BytesIO(fault[0].encode() + b"\n")
@@ -127,11 +136,18 @@ def _compared(case: Case, rule: str, comparison: Comparison, report: io.Buffered
     return Result(case, rule, AGREES, comparison)
 
 
-def _last_line(messages: Path) -> str:
-    """The last line that a command said on standard error."""
-    with open(messages, "rb") as stream:
-        length = stream.seek(0, io.SEEK_END)
-        stream.seek(max(0, length - MOST_MESSAGE))
-        said = stream.read().decode("utf-8", "replace").split("\n")
-    lines = [line.strip() for line in said if line.strip()]
-    return printable(lines[-1]) if lines else ""
+def said_lines(messages: Path) -> list[str]:
+    """The lines that a command said on standard error, as text that no terminal takes for more."""
+    said = messages.read_bytes().decode("utf-8", "replace").split("\n") if messages.exists() else []
+    return [printable(line.strip()) for line in said if line.strip()]
+
+
+def said_text(messages: Path) -> str:
+    """What a command said, as the end of a message: its first and its last lines."""
+    lines = said_lines(messages)
+    if len(lines) > 2 * SHOWN_LINES:
+        left = len(lines) - 2 * SHOWN_LINES
+        lines = [*lines[:SHOWN_LINES], f".. {left} lines ..", *lines[-SHOWN_LINES:]]
+    if len(lines) < 2:
+        return "".join(f": {line}" for line in lines)
+    return ", and said\n" + "\n".join("  " + line for line in lines)

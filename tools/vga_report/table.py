@@ -57,7 +57,7 @@ def table_lines(results: list[Result]) -> Iterator[str]:
         yield f"  {rule.answer:8} {rule.text}"
         for result in rule.results:
             if result.answer != AGREES:
-                yield f"           {result.case.name}: {result.text()}"
+                yield f"           {result.case.name}: " + result.text().replace("\n", "\n           ")
     yield _counts_text(results)
 
 

@@ -59,6 +59,8 @@ def _add_cases(parser: argparse.ArgumentParser) -> None:
 
 
 def _add_suite(parser: argparse.ArgumentParser) -> None:
+    parser.add_argument("folder", nargs="?", metavar="FOLDER", help="where expected pictures go, behind `pictures`")
+    parser.add_argument("--keep", metavar="FOLDER", help="keeps reports and pictures of cases that don't agree")
     parser.add_argument("--bytes", metavar="COMMAND", help="runs scripts of bytes; without it they are left out")
     _add_cases(parser)
     parser.add_argument(
