@@ -15,6 +15,7 @@ WIDENED = bytes(value << 2 | value >> 4 for value in range(64)) + bytes([255] * 
 # A dot that is marked, and how a dot that is not is darkened.
 MARK = b"\xff\x20\x20"
 DARKENED = bytes(value // 3 for value in range(256))
+SIGNATURE = b"\x89PNG\r\n\x1a\n"
 COMPRESSION = 6
 # An enlarged picture has at most so many dots.
 MOST_DOTS = 100_000_000
@@ -40,22 +41,23 @@ class Shape:
         return width, height
 
 
-def _chunk(kind: bytes, data: bytes) -> bytes:
+def chunk(kind: bytes, data: bytes) -> bytes:
+    """A chunk of a PNG."""
     return struct.pack(">I", len(data)) + kind + data + struct.pack(">I", zlib.crc32(kind + data))
 
 
 def _write(stream: BinaryIO, width: int, height: int, rows: Iterable[bytes]) -> None:
     """Writes rows of eight bits a component; of these the six high ones were given."""
-    stream.write(b"\x89PNG\r\n\x1a\n")
-    stream.write(_chunk(b"IHDR", struct.pack(">IIBBBBB", width, height, 8, 2, 0, 0, 0)))
-    stream.write(_chunk(b"sBIT", bytes([6, 6, 6])))
+    stream.write(SIGNATURE)
+    stream.write(chunk(b"IHDR", struct.pack(">IIBBBBB", width, height, 8, 2, 0, 0, 0)))
+    stream.write(chunk(b"sBIT", bytes([6, 6, 6])))
     packer = zlib.compressobj(COMPRESSION)
     for row in rows:
         packed = packer.compress(b"\0" + row)
         if packed:
-            stream.write(_chunk(b"IDAT", packed))
-    stream.write(_chunk(b"IDAT", packer.flush()))
-    stream.write(_chunk(b"IEND", b""))
+            stream.write(chunk(b"IDAT", packed))
+    stream.write(chunk(b"IDAT", packer.flush()))
+    stream.write(chunk(b"IEND", b""))
 
 
 def _stretched(rows: Iterable[bytes], size: tuple[int, int], new: tuple[int, int]) -> Iterator[bytes]:
@@ -77,10 +79,17 @@ def _write_shaped(stream: BinaryIO, size: tuple[int, int], rows: Iterable[bytes]
     _write(stream, *new, rows if new == size else _stretched(rows, size, new))
 
 
+def shaped_rows(picture: Picture, shape: Shape) -> Iterator[bytes]:
+    """The rows of a picture in its shape, eight bits a component."""
+    size = (picture.width, picture.height)
+    new = shape.size(*size)
+    rows = (picture.row(y).translate(WIDENED) for y in range(picture.height))
+    return rows if new == size else _stretched(rows, size, new)
+
+
 def write_png(stream: BinaryIO, picture: Picture, shape: Shape) -> None:
     """Writes a picture."""
-    rows = (picture.row(y).translate(WIDENED) for y in range(picture.height))
-    _write_shaped(stream, (picture.width, picture.height), rows, shape)
+    _write(stream, *shape.size(picture.width, picture.height), shaped_rows(picture, shape))
 
 
 def _marked_row(picture: Picture, other: Picture, width: int, y: int) -> bytes:

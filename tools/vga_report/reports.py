@@ -5,8 +5,9 @@ from __future__ import annotations
 import argparse
 import os
 import sys
-from typing import Iterator, Sequence
+from typing import Callable, Iterator, Optional, Sequence
 
+from .apng import Animation
 from .differences import Comparison, Difference
 from .expected import Expected
 from .output import AGREED, DIFFERED, name_of, refuse_twice, say, write, write_name
@@ -14,7 +15,9 @@ from .picture import Digest, Picture
 from .png import Shape, write_marked_png, write_png
 from .progress import Progress
 from .report import Report, Step
+from .script import steps_of
 from .streams import STANDARD, reading, writing
+from .timing import USUAL, Timing
 from .trouble import Trouble
 
 
@@ -26,7 +29,7 @@ def text(words: argparse.Namespace, progress: Progress) -> int:
     return AGREED
 
 
-def _wanted_pictures(steps: Iterator[Step], wanted: Sequence[int], name: str) -> Iterator[tuple[int, Picture]]:
+def wanted_pictures(steps: Iterator[Step], wanted: Sequence[int], name: str) -> Iterator[tuple[int, Picture]]:
     """The pictures of the steps that are wanted, or all."""
     last, missing = 0, set(wanted)
     for step in steps:
@@ -48,18 +51,52 @@ def pictures(words: argparse.Namespace, progress: Progress) -> int:
     shape = Shape(words.scale, words.aspect)
     if words.ppm and shape != Shape():
         raise Trouble("--ppm gives the bytes as they are, with neither --scale nor --aspect")
+    if words.folder is None and words.apng is None:
+        raise Trouble("the pictures want a folder, or --apng a file")
+    if words.apng is not None:
+        return _animate(words, shape, progress)
     if words.folder != STANDARD:
         os.makedirs(words.folder, exist_ok=True)
     count = 0
     with reading(words.report) as stream:
         name = name_of(words.report)
         steps = Report(stream, name, progress).steps()
-        for number, picture in _wanted_pictures(steps, words.step, name):
+        for number, picture in wanted_pictures(steps, words.step, name):
             count += 1
             _write_picture(words, f"{number:04}", picture, shape)
     if not count:
         raise Trouble("no step has a picture", name)
     return AGREED
+
+
+def _animate(words: argparse.Namespace, shape: Shape, progress: Progress) -> int:
+    """Writes the pictures of a report as one that moves."""
+    if words.folder is not None or words.ppm:
+        raise Trouble("--apng writes one file, with neither a folder nor --ppm")
+    delays = _delays(words.script)
+    animation = Animation(shape)
+    with reading(words.report) as stream:
+        name = name_of(words.report)
+        for number, picture in wanted_pictures(Report(stream, name, progress).steps(), words.step, name):
+            animation.add(picture, delays(number), f"step {number}")
+    if not animation.frames:
+        raise Trouble("no step has a picture", name)
+    with writing(words.apng) as output:
+        animation.write(output)
+    if words.apng != STANDARD:
+        write(f"{words.apng}: {len(animation.frames)} frames, {animation.seconds:.3f} seconds\n")
+    return AGREED
+
+
+def _delays(script: Optional[str]) -> Callable[[int], float]:
+    """How long the frame of a step lasts, as the script tells it."""
+    timing, frames = Timing(), {}
+    if script is not None:
+        with reading(script) as stream:
+            for number, line in enumerate(steps_of(stream.read()), 1):
+                timing.take(line.words)
+                frames[number] = timing.frame()
+    return lambda number: frames.get(number, USUAL)
 
 
 def _write_picture(words: argparse.Namespace, stem: str, picture: Picture, shape: Shape) -> None:

@@ -9,6 +9,7 @@ from typing import Callable
 
 from .progress import Progress
 from .reports import check, compare, pictures, text
+from .shots import compare_picture
 from .runs import DEFAULT_FONTS, run
 from .suite import scripts, suite
 
@@ -103,7 +104,7 @@ def parser() -> argparse.ArgumentParser:
 
     def add(job: Job, *files: str) -> argparse.ArgumentParser:
         assert job.__doc__ is not None
-        added = commands.add_parser(job.__name__, help=job.__doc__, description=job.__doc__)
+        added = commands.add_parser(job.__name__.replace("_", "-"), help=job.__doc__, description=job.__doc__)
         added.set_defaults(job=job)
         for file in files:
             added.add_argument(file.lower(), metavar=file.upper())
@@ -111,7 +112,10 @@ def parser() -> argparse.ArgumentParser:
 
     _add_run(add(run, "script"))
     add(text, "report")
-    adding = add(pictures, "report", "folder")
+    adding = add(pictures, "report")
+    adding.add_argument("folder", nargs="?", metavar="FOLDER", help="where the files go")
+    adding.add_argument("--apng", metavar="FILE", help="the pictures as one file that moves, each as long as a frame lasts")
+    adding.add_argument("--script", metavar="SCRIPT", help="the text that tells how long; else 70 frames a second")
     adding.add_argument("--ppm", action="store_true", help="the bytes as they are, as NNNN.ppm, in the place of PNG")
     adding.add_argument(
         "--step", type=number_to(MOST_STEP), action="append", default=[], metavar="N", help="of this step alone"
@@ -120,6 +124,11 @@ def parser() -> argparse.ArgumentParser:
     adding = add(compare, "report", "other")
     adding.add_argument("--all", action="store_true", help="all steps that differ, in the place of the first")
     adding.add_argument("--picture", metavar="FILE", help="the first picture that differs as PNG, its dots marked")
+    _add_shape(adding)
+    adding = add(compare_picture, "report")
+    adding.add_argument("step", type=number_to(MOST_STEP), metavar="STEP")
+    adding.add_argument("image", metavar="IMAGE")
+    adding.add_argument("--picture", metavar="FILE", help="the picture as PNG, its dots marked that differ")
     _add_shape(adding)
     add(check, "report", "expected")
     _add_suite(add(suite, "command"))

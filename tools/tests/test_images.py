@@ -1,0 +1,157 @@
+"""Pictures against the images of others, and pictures that move."""
+
+from __future__ import annotations
+
+import struct
+import unittest
+import zlib
+from typing import Callable
+
+from vga_report.images import image_of
+from vga_report.timing import USUAL, Timing
+from vga_report.trouble import Trouble
+
+from .making import BLACK, RED, WHITE, ppm
+from .test_command import PICTURE, Files, run
+
+Filter = Callable[[bytes, bytes, int], bytes]
+
+
+def chunk(kind: bytes, body: bytes) -> bytes:
+    return struct.pack(">I", len(body)) + kind + body + struct.pack(">I", zlib.crc32(kind + body))
+
+
+def png(width: int, height: int, lines: bytes, depth: int = 8, colour: int = 2, palette: bytes = b"", interlace: int = 0) -> bytes:
+    """A PNG of lines that have their filters."""
+    head = struct.pack(">IIBBBBB", width, height, depth, colour, 0, 0, interlace)
+    parts = [chunk(b"IHDR", head), chunk(b"PLTE", palette) if palette else b"", chunk(b"IDAT", zlib.compress(lines))]
+    return b"\x89PNG\r\n\x1a\n" + b"".join(parts) + chunk(b"IEND", b"")
+
+
+class Images(unittest.TestCase):
+    def test_forms_of_png(self) -> None:
+        red, white = b"\xff\x00\x00", b"\xff\xff\xff"
+        for data, rows in [
+            (png(2, 1, b"\0" + red + white), [red + white]),
+            (png(2, 1, b"\0" + red + b"\x01" + white + b"\x80", colour=6), [red + white]),
+            (png(2, 1, b"\0\xff\0\xff\0\0\0" + b"\xff\0" * 3, depth=16), [b"\xff\xff\0" + white]),
+            (png(2, 1, b"\0\x80\xff", colour=0), [b"\x80" * 3 + white]),
+            (png(2, 1, b"\0\x80\0\xff\0", colour=4), [b"\x80" * 3 + white]),
+            (png(3, 1, b"\0\xa0", depth=1, colour=0), [white + b"\0\0\0" + white]),
+            (png(3, 1, b"\0\x10\x10", depth=4, colour=3, palette=red + white), [white + red + white]),
+            (png(2, 2, b"\x01" + red + b"\0\xff\xff" + b"\x02" + b"\0" * 6), [red + white] * 2),
+            (png(2, 2, b"\0" + red + white + b"\x03" + b"\x80\x00\x00\x00\x80\x80"), [red + white] * 2),
+            (png(2, 2, b"\0" + red + white + b"\x04" + b"\0" * 3 + b"\0" * 3), [red + white] * 2),
+        ]:
+            with self.subTest(rows):
+                self.assertEqual(list(image_of(data, "i").rows), rows)
+
+    def test_ppm(self) -> None:
+        self.assertEqual(image_of(b"P6 # a\n1\t1\n255\n\x01\x02\x03", "i").rows, (b"\x01\x02\x03",))
+        self.assertEqual(image_of(ppm(1, 1, RED), "i").most, 63)
+
+    def test_what_is_no_image(self) -> None:
+        good = png(1, 1, b"\0" + bytes(3))
+        for data in (
+            b"", b"GIF89a", b"P6 1", b"P6\n1 1\n255\n\0", b"P6\n1 1\n65535\n123456", good[:-1], good[:40],
+            good.replace(b"IDAT", b"iDAT"), png(1, 2, b"\0" + bytes(3)), png(1, 1, b"\0\0", colour=3, palette=b""),
+            png(1, 1, b"\0" + bytes(3), interlace=1), png(1, 1, b"\0", colour=5),
+        ):
+            with self.subTest(data[:60]), self.assertRaises(Trouble):
+                image_of(data, "i")
+
+
+class ComparePicture(Files):
+    def compared(self, image: bytes, *words: str, picture: bytes = PICTURE) -> tuple[int, str]:
+        """The status, and what is said of an image beside a picture, without the names."""
+        path, shot = self.report("r", "ok", picture), self.folder / "shot"
+        shot.write_bytes(image)
+        status, output, message = run("compare-picture", path, "2", str(shot), *words)
+        self.assertEqual(message, "")
+        return status, output.decode().replace(f"step 2 and {shot} ", "")
+
+    def test_alike(self) -> None:
+        six = b"\x3f\0\0" * 4 + bytes(15)
+        eight = b"\xff\0\0" * 4 + bytes(15)
+        most = "eight bits a component, of which six count"
+        self.assertEqual(self.compared(PICTURE), (0, "agree: 9x1, six bits a component\n"))
+        self.assertEqual(self.compared(png(9, 1, b"\0" + six)), (0, "agree: 9x1, six bits a component\n"))
+        self.assertEqual(self.compared(png(9, 1, b"\0" + eight)), (0, f"agree: 9x1, {most}\n"))
+        self.assertEqual(self.compared(png(9, 1, b"\0" + eight.replace(b"\xff", b"\xfc"))), (0, f"agree: 9x1, {most}\n"))
+
+    def test_repeated_dots_and_lines(self) -> None:
+        wide = b"\0" + b"\xff\0\0" * 8 + bytes(30)
+        told = "the image has each dot twice, the image has each line three times"
+        self.assertEqual(self.compared(png(18, 3, wide * 3))[1], f"agree: 9x1, {told}, eight bits a component, of which six count\n")
+        doubled = ppm(4, 2, (RED * 2 + WHITE * 2) * 2)
+        told = "the picture has each dot of the image twice, the picture has each line of the image twice"
+        self.assertEqual(self.compared(ppm(2, 1, RED + WHITE), picture=doubled), (0, f"agree: 4x2, {told}, six bits a component\n"))
+
+    def test_differing_dots(self) -> None:
+        marked = self.folder / "marked.png"
+        status, text = self.compared(ppm(9, 1, RED * 3 + BLACK * 6), "--picture", str(marked))
+        self.assertEqual(status, 1)
+        self.assertIn("  1 of 9 dots differ, the first is dot 3 of row 0: 3F0000, not 000000\n", text)
+        self.assertTrue(marked.exists())
+
+    def test_other_sizes(self) -> None:
+        text = "differ: they have 9x1 and 10x1 dots, and neither is the other with dots repeated\n"
+        self.assertEqual(self.compared(ppm(10, 1, BLACK * 10)), (1, text))
+        blurred = b"\0" + b"\xff\0\0" * 7 + b"\x80\0\0" + bytes(30)
+        self.assertEqual(self.compared(png(18, 1, blurred))[0], 1)
+
+    def test_no_picture(self) -> None:
+        path = self.report("r", "ok", PICTURE)
+        (self.folder / "i").write_bytes(PICTURE)
+        status, _, message = run("compare-picture", path, "1", str(self.folder / "i"))
+        self.assertEqual((status, message), (2, f"vga-report: {path}: step 1 has no picture; there are 2 steps\n"))
+
+
+class Animations(Files):
+    def frames(self, data: bytes) -> list[tuple[bytes, bytes]]:
+        at, found = 8, []
+        while at < len(data):
+            (length,) = struct.unpack_from(">I", data, at)
+            kind, body = data[at + 4:at + 8], data[at + 8:at + 8 + length]
+            self.assertEqual(data[at + 8 + length:at + 12 + length], struct.pack(">I", zlib.crc32(kind + body)))
+            found.append((kind, body))
+            at += 12 + length
+        return found
+
+    def test_frames_with_their_times(self) -> None:
+        path, moving = self.report("r", "ok", PICTURE, "ok", ppm(9, 1, BLACK * 9)), self.folder / "m.png"
+        script = self.write("s.vga", "int ax=3\nframe\nint ax=12\nframe\n")
+        status, output, message = run("pictures", path, "--apng", str(moving), "--script", script)
+        self.assertEqual((status, output.decode(), message), (0, f"{moving}: 2 frames, 0.031 seconds\n", ""))
+        chunks = self.frames(moving.read_bytes())
+        self.assertEqual([kind for kind, _ in chunks], [b"IHDR", b"sBIT", b"acTL", b"fcTL", b"IDAT", b"fcTL", b"fdAT", b"IEND"])
+        times = [struct.unpack(">IIIIIHHBB", body) for kind, body in chunks if kind == b"fcTL"]
+        self.assertEqual([time[0] for time in times], [0, 1])
+        # 404,100 dots of 28.322 MHz, and 420,000 of 25.175 MHz.
+        self.assertEqual([time[5:7] for time in times], [(713, 50000), (834, 50000)])
+        self.assertEqual(zlib.decompress(chunks[6][1][4:]), b"\0" + bytes(27))
+
+    def test_sizes_and_words_that_can_not_be_meant(self) -> None:
+        path, moving = self.report("r", PICTURE, ppm(1, 1, RED)), str(self.folder / "m.png")
+        message = "vga-report: step 2 has a picture of another size than step 1: --step picks those of one size\n"
+        self.assertEqual(run("pictures", path, "--apng", moving), (2, b"", message))
+        self.assertEqual(run("pictures", path, "--apng", moving, "--step", "2")[0], 0)
+        self.assertEqual(run("pictures", path)[0], 2)
+        self.assertEqual(run("pictures", path, moving, "--apng", moving)[0], 2)
+
+    def test_times_by_registers(self) -> None:
+        for steps, seconds in [
+            ("", USUAL), ("out 3C2 67", USUAL), ("int ax=83", 404_100 / 28_322_000), ("int ax=d", 359_200 / 25_175_000),
+            ("out 3C2 63;outw 3C4 0101;outw 3D4 5F00;outw 3D4 BF06;outw 3D4 1F07", 359_200 / 25_175_000),
+            ("out 3C2 67;out 3D4 0;out 3D5 5F;outw 3D4 BF06;outw 3D4 1F07;outw 3D4 8E11;outw 3D4 0000", 404_100 / 28_322_000),
+            ("int ax=3;out 3C2 6F", USUAL),
+        ]:
+            with self.subTest(steps):
+                timing = Timing()
+                for step in filter(None, steps.split(";")):
+                    timing.take(step)
+                self.assertAlmostEqual(timing.frame(), seconds)
+
+
+if __name__ == "__main__":
+    unittest.main()

@@ -1,0 +1,178 @@
+"""Images of others: PNG and PPM, as rows of red, green and blue of eight bits, or of six."""
+
+from __future__ import annotations
+
+import re
+import struct
+import zlib
+from dataclasses import dataclass
+from typing import Iterator, Sequence
+
+from .picture import Picture
+from .png import MOST_DOTS, SIGNATURE
+from .trouble import Trouble
+
+PPM = re.compile(rb"P6(?:\s|#[^\n]*\n)+(\d{1,7})(?:\s|#[^\n]*\n)+(\d{1,7})(?:\s|#[^\n]*\n)+(\d{1,5})\s")
+# Samples of a dot, by the colour type of a PNG, and the colour type whose dots name entries of a palette.
+SAMPLES, PALETTE = {0: 1, 2: 3, 3: 1, 4: 2, 6: 4}, 3
+
+
+@dataclass(frozen=True)
+class Image:
+    """An image: its rows, three bytes a dot, each up to a most that is 63 or 255."""
+
+    width: int
+    height: int
+    rows: tuple[bytes, ...]
+    most: int
+
+    def every(self, across: int, down: int) -> Image:
+        """The image of each so-manieth dot of each so-manieth row."""
+        rows = tuple(_spread([row[part::3 * across] for part in range(3)]) for row in self.rows[::down])
+        return Image(self.width // across, self.height // down, rows, self.most)
+
+    def is_repeated(self, across: int, down: int) -> bool:
+        """Whether dots that stand together so often across and down are alike."""
+        if any(self.rows[y] != self.rows[y - y % down] for y in range(self.height)):
+            return False
+        return all(
+            row[3 * at::3 * across] == row[::3 * across] and row[3 * at + 1::3 * across] == row[1::3 * across]
+            and row[3 * at + 2::3 * across] == row[2::3 * across]
+            for row in self.rows[::down] for at in range(1, across)
+        )
+
+    def repeated(self, across: int, down: int) -> Image:
+        """The image with each dot so often across and down."""
+        rows = [b"".join(row[at:at + 3] * across for at in range(0, len(row), 3)) for row in self.rows]
+        return Image(self.width * across, self.height * down, tuple(row for row in rows for _ in range(down)), self.most)
+
+    def picture(self, shift: int) -> Picture:
+        """The picture of six bits a component, of which so many low bits are taken off."""
+        table = bytes(min(63, value >> shift) for value in range(256))
+        return Picture.of_dots(self.width, self.height, b"".join(self.rows).translate(table))
+
+
+def image_of_picture(picture: Picture) -> Image:
+    """A report's picture as an image."""
+    return Image(picture.width, picture.height, tuple(picture.row(y) for y in range(picture.height)), 63)
+
+
+def image_of(data: bytes, name: str) -> Image:
+    """The image that a file holds."""
+    if data.startswith(SIGNATURE):
+        return _png(data, name)
+    if data.startswith(b"P6"):
+        return _ppm(data, name)
+    raise Trouble("this is neither a PNG nor a PPM of the kind P6", name)
+
+
+def _spread(parts: Sequence[bytes]) -> bytes:
+    """Rows of red, of green and of blue as one of dots."""
+    row = bytearray(3 * len(parts[0]))
+    for at, part in enumerate(parts):
+        row[at::3] = part
+    return bytes(row)
+
+
+def _ppm(data: bytes, name: str) -> Image:
+    found = PPM.match(data)
+    if found is None:
+        raise Trouble("the header of the PPM is damaged", name)
+    width, height, most = (int(number) for number in found.groups())
+    if most not in (63, 255):
+        raise Trouble(f"the components go to {most}; 63 and 255 can be compared", name)
+    dots = data[found.end():found.end() + 3 * width * height]
+    if not width or not height or len(dots) < 3 * width * height or max(dots) > most:
+        raise Trouble(f"the PPM of {width}x{height} dots is damaged", name)
+    return Image(width, height, tuple(dots[at:at + 3 * width] for at in range(0, len(dots), 3 * width)), most)
+
+
+def _chunks(data: bytes, name: str) -> Iterator[tuple[bytes, bytes]]:
+    at = len(SIGNATURE)
+    while at + 12 <= len(data):
+        (length,) = struct.unpack_from(">I", data, at)
+        kind, body = data[at + 4:at + 8], data[at + 8:at + 8 + length]
+        if data[at + 8 + length:at + 12 + length] != struct.pack(">I", zlib.crc32(kind + body)):
+            break
+        yield kind, body
+        if kind == b"IEND":
+            return
+        at += 12 + length
+    raise Trouble("the PNG is damaged", name)
+
+
+def _png(data: bytes, name: str) -> Image:
+    chunks = list(_chunks(data, name))
+    head = next((body for kind, body in chunks if kind == b"IHDR"), b"")
+    if len(head) != 13:
+        raise Trouble("the PNG is damaged", name)
+    width, height, depth, colour, _, _, interlace = struct.unpack(">IIBBBBB", head)
+    if colour not in SAMPLES or depth not in (1, 2, 4, 8, 16) or not 0 < width * height <= MOST_DOTS:
+        raise Trouble(f"a PNG of this form can't be read: {width}x{height}, depth {depth}, colour type {colour}", name)
+    if interlace:
+        raise Trouble("an interlaced PNG can't be read: save it without interlace", name)
+    palette = next((body for kind, body in chunks if kind == b"PLTE"), b"")
+    bits = depth * SAMPLES[colour]
+    packed = zlib.decompressobj()
+    length = (width * bits + 7) // 8
+    try:
+        lines = packed.decompress(b"".join(body for kind, body in chunks if kind == b"IDAT"), (length + 1) * height)
+    except zlib.error as error:
+        raise Trouble("the PNG is damaged", name) from error
+    if len(lines) != (length + 1) * height:
+        raise Trouble("the PNG is damaged", name)
+    rows = [
+        _dots(_samples(line, width, depth, SAMPLES[colour], colour), colour, palette)
+        for line in _unfiltered(lines, length, max(1, bits // 8))
+    ]
+    if any(len(row) != 3 * width for row in rows):
+        raise Trouble("the PNG names a colour that it does not have", name)
+    return Image(width, height, tuple(rows), 255)
+
+
+def _unfiltered(lines: bytes, length: int, back: int) -> Iterator[bytes]:
+    """The rows of a PNG without their filters."""
+    last = bytearray(length)
+    for at in range(0, len(lines), length + 1):
+        kind, row = lines[at], bytearray(lines[at + 1:at + 1 + length])
+        if kind == 1:
+            for x in range(back, length):
+                row[x] = (row[x] + row[x - back]) & 255
+        elif kind == 2:
+            row = bytearray((a + b) & 255 for a, b in zip(row, last))
+        elif kind in (3, 4):
+            for x in range(length):
+                left = row[x - back] if x >= back else 0
+                if kind == 3:
+                    row[x] = (row[x] + (left + last[x]) // 2) & 255
+                else:
+                    row[x] = (row[x] + _paeth(left, last[x], last[x - back] if x >= back else 0)) & 255
+        last = row
+        yield bytes(row)
+
+
+def _paeth(left: int, above: int, corner: int) -> int:
+    guess = left + above - corner
+    return min((left, above, corner), key=lambda value: abs(guess - value))
+
+
+def _samples(row: bytes, width: int, depth: int, samples: int, colour: int) -> bytes:
+    """A row's samples, eight bits each; those that name entries of a palette as they are."""
+    if depth == 8:
+        return row
+    if depth == 16:
+        return row[::2]
+    most = (1 << depth) - 1
+    scale = 1 if colour == PALETTE else 255 // most
+    spread = [bytes((byte >> shift & most) * scale for shift in range(8 - depth, -1, -depth)) for byte in range(256)]
+    return b"".join(map(spread.__getitem__, row))[:width * samples]
+
+
+def _dots(samples: bytes, colour: int, palette: bytes) -> bytes:
+    """The dots of a row of samples, without their transparency."""
+    if colour == PALETTE:
+        return b"".join(palette[3 * entry:3 * entry + 3] for entry in samples)
+    if colour in (0, 4):
+        grey = samples if colour == 0 else samples[::2]
+        return _spread([grey, grey, grey])
+    return samples if colour == 2 else _spread([samples[part::4] for part in range(3)])

@@ -1,0 +1,77 @@
+"""How long frames last: their dots by the clock that a script has chosen."""
+
+from __future__ import annotations
+
+from typing import Optional
+
+# Dots a second, by bits 3 and 2 of miscellaneous output.
+CLOCKS = {0: 25_175_000, 1: 28_322_000}
+# Where a script doesn't tell.
+USUAL = 1 / 70
+# What mode sets leave: miscellaneous output, dots of a frame, whether the clock is halved.
+MODES = {
+    0x03: (0x67, 404_100, False), 0x07: (0x66, 404_100, False), 0x0D: (0x63, 179_600, True),
+    0x10: (0xA3, 359_200, False), 0x12: (0xE3, 420_000, False), 0x13: (0x63, 359_200, False),
+}
+PORTS = {0x3C4: "seq", 0x3D4: "crtc", 0x3B4: "crtc"}
+
+
+class Timing:
+    """The registers that say how long a frame lasts, as the steps of a script write them."""
+
+    def __init__(self) -> None:
+        self._misc: Optional[int] = None
+        self._set_dots: Optional[tuple[int, bool]] = None
+        self._indexes = {"seq": 0, "crtc": 0}
+        self._registers: dict[str, dict[int, int]] = {"seq": {}, "crtc": {}}
+
+    def take(self, words: str) -> None:
+        """Takes a step."""
+        name, *rest = words.lower().split()
+        if name == "out" and len(rest) == 2:
+            self._out(int(rest[0], 16), int(rest[1], 16))
+        elif name == "outw" and len(rest) == 2:
+            port, value = int(rest[0], 16), int(rest[1], 16)
+            self._out(port, value & 0xFF)
+            self._out(port + 1, value >> 8)
+        elif name == "int" and rest and rest[0].startswith("ax="):
+            mode = int(rest[0][3:], 16)
+            if mode >> 8 == 0 and mode & 0x7F in MODES:
+                self._misc, *dots = MODES[mode & 0x7F]
+                self._set_dots = (dots[0], bool(dots[1]))
+
+    def _out(self, port: int, value: int) -> None:
+        if port == 0x3C2:
+            self._misc = value
+        elif port in PORTS:
+            self._indexes[PORTS[port]] = value
+        elif port - 1 in PORTS:
+            part = PORTS[port - 1]
+            self._write(part, self._indexes[part], value)
+
+    def _write(self, part: str, index: int, value: int) -> None:
+        """Writes a register, unless it is protected; one that shapes the frame takes the place of a mode's."""
+        registers = self._registers[part]
+        if part == "crtc" and index < 8 and registers.get(0x11, 0) & 0x80:
+            return
+        registers[index] = value
+        if (part, index) in (("seq", 1), ("crtc", 0), ("crtc", 6), ("crtc", 7)):
+            self._set_dots = None
+
+    def frame(self) -> float:
+        """The seconds that a frame lasts; those of 70 a second where the script doesn't tell."""
+        if self._misc is None or (self._misc >> 2 & 3) not in CLOCKS:
+            return USUAL
+        found = self._set_dots or self._written_dots()
+        if found is None:
+            return USUAL
+        dots, is_halved = found
+        return dots * (2 if is_halved else 1) / CLOCKS[self._misc >> 2 & 3]
+
+    def _written_dots(self) -> Optional[tuple[int, bool]]:
+        """The dots of a frame, and whether the clock is halved, where the script has written all that says so."""
+        crtc, clocking = self._registers["crtc"], self._registers["seq"].get(1, 0)
+        if not {0, 6, 7} <= crtc.keys():
+            return None
+        lines = crtc[6] + ((crtc[7] & 1) << 8) + ((crtc[7] >> 5 & 1) << 9) + 2
+        return (crtc[0] + 5) * (8 if clocking & 1 else 9) * lines, bool(clocking & 8)
