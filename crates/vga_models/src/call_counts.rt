@@ -8,8 +8,8 @@ use bios_services::Regs;
 use std::alloc::{AllocError, Global};
 use vga_bits::Refusal;
 
-/// How often each way has to be met.
-const OFTEN: u32 = 3;
+/// How often each way has to be met by scripts of whole frames.
+pub const OFTEN: u32 = 3;
 
 /// A function with its part, and how it ended: accepted, or refused so.
 #[derive(Clone, Copy, PartialEq, Eq)]
@@ -28,17 +28,17 @@ struct Count {
     times: u32,
 }
 
-/// How often each way was met, and mode and height of each frame that was drawn.
+/// How often each way was met and has to be, and mode and height of each frame that was drawn.
 #[derive(Drop)]
 pub struct CallCounts {
+    often: u32,
     counts: Vec<Count>,
     drawn: Vec<(u8, u8)>,
     refused: u32,
 }
 
-/// Functions and parts that are accepted in each mode.
-const ACCEPTED: [(u8, u8); 31] = [
-    (0x00, 0),
+/// Functions and parts that are accepted in each mode, beside mode sets.
+const ACCEPTED: [(u8, u8); 30] = [
     (0x01, 0),
     (0x02, 0),
     (0x03, 0),
@@ -177,9 +177,10 @@ fn refused(function: u8, part: u8, refusal: Refusal) -> Ending {
 }
 
 impl CallCounts {
-    /// None yet.
-    pub fn new(alloc: Global) -> CallCounts {
+    /// None yet, where each way has to be met so often.
+    pub fn new(alloc: Global, often: u32) -> CallCounts {
         CallCounts {
+            often,
             counts: Vec::new(alloc),
             drawn: Vec::new(alloc),
             refused: 0,
@@ -235,7 +236,7 @@ impl CallCounts {
                 times = times.saturating_add(count.times);
             }
         }
-        times < OFTEN
+        times < self.often
     }
 
     /// Whether a way was seldom met in a mode, with characters of this height.
@@ -244,7 +245,7 @@ impl CallCounts {
             count.mode == mode && count.height == height && count.ending == ending
         });
         match counted {
-            Some(count) => count.times < OFTEN,
+            Some(count) => count.times < self.often,
             None => true,
         }
     }
@@ -340,11 +341,33 @@ impl CallCounts {
         None
     }
 
+    /// A mode set, where it was seldom accepted in a mode.
+    fn seldom_mode_set_in(&self, mode: PlainMode) -> Option<(u8, u8)> {
+        if self.is_seldom(mode.number, accepted(0x00, 0)) {
+            Some((0x00, 0))
+        } else {
+            None
+        }
+    }
+
+    /// The first function, with its part, that was not met often in each way that it has in each mode, of calls that set no
+    /// mode and load no glyphs of text.
+    pub fn seldom_within_frames(&self) -> Option<(u8, u8)> {
+        for mode in MODES {
+            let seldom = self.seldom_in(mode);
+            if seldom.is_some() {
+                return seldom;
+            }
+        }
+        None
+    }
+
     /// The first function, with its part, that was not met often in each way that it has in each mode.
     pub fn seldom(&self) -> Option<(u8, u8)> {
         for mode in MODES {
             let seldom = self
-                .seldom_in(mode)
+                .seldom_mode_set_in(mode)
+                .or(self.seldom_in(mode))
                 .or(self.seldom_glyphs_in(mode))
                 .or(self.seldom_at_heights(mode));
             if seldom.is_some() {
@@ -362,7 +385,7 @@ impl CallCounts {
                 times = times.saturating_add(1);
             }
         }
-        times < OFTEN
+        times < self.often
     }
 
     /// The first mode of text, with the first height, of which few frames were drawn.

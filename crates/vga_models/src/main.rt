@@ -1,9 +1,15 @@
 //! Compares the adapter and its services with a slow model of the plain screen, on pseudo-random services and
-//! frames, and prints how the comparison ended. The exit status is 1 where it differs.
+//! frames, whole ones and frames that are cut at any dot, and prints how each comparison ended. The exit status is 1
+//! where any differs.
 #![tactic(auto)]
 
+mod beginning;
 mod call_counts;
+mod cut_frames;
+mod difference;
+mod pair;
 mod plain_cells;
+mod plain_drawing;
 mod plain_glyphs;
 mod plain_loads;
 mod plain_modes;
@@ -15,18 +21,34 @@ mod plain_screens;
 mod plain_services;
 mod plain_typing;
 mod random_calls;
+mod random_font;
 mod random_numbers;
+mod screens_outcome;
 
 use anyhow::Result;
+use cut_frames::compare_cut_frames;
 use plain_screens::compare_screens;
+use screens_outcome::ScreensOutcome;
 use std::process::ExitCode;
 use vga_bits::Tally;
 
+/// Prints how a comparison ended, and counts it.
+fn tell<R: Print>(rt: &R, tally: &mut Tally, name: &str, outcome: ScreensOutcome) -> Result<()> {
+    println!(rt; "{name}: {outcome}")?;
+    tally.count(outcome.is_alike());
+    Ok(())
+}
+
 fn main(rt: HostRuntime) -> Result<ExitCode> {
+    let alloc = rt.alloc();
     let mut tally = Tally::new();
-    let screens = compare_screens(rt.alloc())?;
-    println!(rt; "plain screens: {screens}")?;
-    tally.count(screens.is_alike());
+    tell(&rt, &mut tally, "plain screens", compare_screens(alloc)?)?;
+    tell(
+        &rt,
+        &mut tally,
+        "plain screens, dot by dot",
+        compare_cut_frames(alloc)?,
+    )?;
     println!(rt; "{tally}")?;
     Ok(ExitCode::from(tally.status()))
 }

@@ -29,6 +29,16 @@ pub struct PlainMode {
     /// How many dots of a line a pixel has, and how many lines.
     pub dots: u8,
     pub lines: u8,
+    /// How many dots a line has, displayed or not, and how many lines a frame has.
+    pub line_dots: u16,
+    pub frame_lines: u16,
+}
+
+impl PlainMode {
+    /// How many dots a frame has, displayed or not.
+    pub fn frame_dots(self) -> u32 {
+        self.line_dots as u32 * self.frame_lines as u32
+    }
 }
 
 const SIXTY_FOUR_COLOURS: [u8; 16] = [
@@ -57,6 +67,8 @@ const MODE_3: PlainMode = PlainMode {
     palette: SIXTY_FOUR_COLOURS,
     dots: 1,
     lines: 1,
+    line_dots: 900,
+    frame_lines: 449,
 };
 
 const MODE_7: PlainMode = PlainMode {
@@ -71,6 +83,8 @@ const MODE_7: PlainMode = PlainMode {
     palette: MONOCHROME,
     dots: 1,
     lines: 1,
+    line_dots: 900,
+    frame_lines: 449,
 };
 
 const MODE_0D: PlainMode = PlainMode {
@@ -85,6 +99,8 @@ const MODE_0D: PlainMode = PlainMode {
     palette: SIXTEEN_BRIGHT,
     dots: 1,
     lines: 2,
+    line_dots: 400,
+    frame_lines: 449,
 };
 
 const MODE_10: PlainMode = PlainMode {
@@ -99,6 +115,8 @@ const MODE_10: PlainMode = PlainMode {
     palette: SIXTY_FOUR_COLOURS,
     dots: 1,
     lines: 1,
+    line_dots: 800,
+    frame_lines: 449,
 };
 
 const MODE_12: PlainMode = PlainMode {
@@ -113,6 +131,8 @@ const MODE_12: PlainMode = PlainMode {
     palette: SIXTY_FOUR_COLOURS,
     dots: 1,
     lines: 1,
+    line_dots: 800,
+    frame_lines: 525,
 };
 
 const MODE_13: PlainMode = PlainMode {
@@ -127,6 +147,8 @@ const MODE_13: PlainMode = PlainMode {
     palette: IN_ORDER,
     dots: 2,
     lines: 2,
+    line_dots: 800,
+    frame_lines: 449,
 };
 
 /// The six modes.

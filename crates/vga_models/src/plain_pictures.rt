@@ -24,15 +24,20 @@ struct ScannedCell {
 }
 
 impl PlainScreen<'_> {
-    /// The colour that each colour of a dot has.
+    /// Red, green and blue of the colour that a dot has by its cell or its pixel.
+    fn colour_of(&self, n: u8) -> [u8; 3] {
+        let named = match self.mode.kind {
+            Kind::Text | Kind::SixteenColours => self.palette[(n & 0x0F) as usize],
+            Kind::Colours256 => n,
+        };
+        self.dac[(named & self.mask) as usize]
+    }
+
+    /// Red, green and blue of each colour.
     fn colours(&self) -> [[u8; 3]; 256] {
         let mut colours = [[0; 3]; 256];
         for n in 0..=0xFFu8 {
-            let named = match self.mode.kind {
-                Kind::Text | Kind::SixteenColours => self.palette[(n & 0x0F) as usize],
-                Kind::Colours256 => n,
-            };
-            colours[n as usize] = self.dac[(named & self.mask) as usize];
+            colours[n as usize] = self.colour_of(n);
         }
         colours
     }
@@ -66,6 +71,21 @@ impl PlainScreen<'_> {
         if line < 16 { glyph[line as usize] } else { 0 }
     }
 
+    /// The colour of a dot of a scan line of a cell.
+    fn cell_dot(&self, cell: ScannedCell, i: u8) -> u8
+        requires { i < 9 }
+    {
+        let dots = self.glyph_line(cell.character, cell.line);
+        let high_bits = cell.attribute >> 4;
+        if self.is_foreground(cell, dots, i) {
+            cell.attribute & 0x0F
+        } else if self.blinks {
+            high_bits & 7
+        } else {
+            high_bits
+        }
+    }
+
     /// Draws nine dots of a scan line of a cell.
     fn draw_cell(
         &self,
@@ -73,19 +93,8 @@ impl PlainScreen<'_> {
         cell: ScannedCell,
         bytes: &mut Vec<u8>,
     ) -> Result<(), AllocError> {
-        let dots = self.glyph_line(cell.character, cell.line);
-        let high_bits = cell.attribute >> 4;
-        let background = if self.blinks {
-            high_bits & 7
-        } else {
-            high_bits
-        };
         for i in 0..9u8 {
-            let colour = if self.is_foreground(cell, dots, i) {
-                cell.attribute & 0x0F
-            } else {
-                background
-            };
+            let colour = self.cell_dot(cell, i);
             bytes.extend_from_slice(&colours[colour as usize])?;
         }
         Ok(())
@@ -168,6 +177,22 @@ impl PlainScreen<'_> {
         Ok(bytes)
     }
 
+    /// Width and height of a picture, in dots.
+    pub fn picture_size(&self) -> (u32, u32) {
+        let columns = self.mode.columns as u32;
+        let width = match self.mode.kind {
+            Kind::Text => 9 * columns,
+            Kind::SixteenColours | Kind::Colours256 => 8 * columns * self.mode.dots as u32,
+        };
+        let height = self.mode.rows as u32 * self.mode.height as u32 * self.mode.lines as u32;
+        (width, height)
+    }
+
+    /// The screen has the next frame's number.
+    pub fn end_frame(&mut self) {
+        self.frame = (self.frame % 32 + 1) % 32;
+    }
+
     /// Draws a whole frame: the picture, and the screen has the next frame's number.
     pub fn draw(&mut self) -> Result<PlainPicture, AllocError> {
         let colours = self.colours();
@@ -176,17 +201,54 @@ impl PlainScreen<'_> {
         } else {
             self.graphics_bytes(&colours)?
         };
-        let columns = self.mode.columns as u32;
-        let width = match self.mode.kind {
-            Kind::Text => 9 * columns,
-            Kind::SixteenColours | Kind::Colours256 => 8 * columns * self.mode.dots as u32,
-        };
-        let height = self.mode.rows as u32 * self.mode.height as u32 * self.mode.lines as u32;
-        self.frame = (self.frame % 32 + 1) % 32;
+        let (width, height) = self.picture_size();
+        self.end_frame();
         Ok(PlainPicture {
             width,
             height,
             bytes,
         })
+    }
+}
+
+/// Single dots.
+impl PlainScreen<'_> {
+    /// The number of a cell, counted along the rows of all pages.
+    fn number_on(&self, page: u8, at: Place) -> u32 {
+        self.mode.distance as u32 * page as u32 + self.cell_number(at)
+    }
+
+    /// The colour of a dot of the cells of a page, where a cell is there. The cursor of the active page may stand on it.
+    fn text_dot(&self, page: u8, x: u32, y: u32) -> Option<u8> {
+        let height = self.mode.height.max(1) as u32;
+        let row = u8::try_from(y / height).ok()?;
+        let column = u8::try_from(x / 9).ok()?;
+        let at = Place { row, column };
+        let cell = self.cell(page, at)?;
+        let cursor = self.number_on(self.page, self.place(self.page));
+        let cell = ScannedCell {
+            character: cell.character,
+            attribute: cell.attribute,
+            is_cursor: self.number_on(page, at) == cursor,
+            line: (y % height).min(0xFF) as u8,
+        };
+        Some(self.cell_dot(cell, (x % 9) as u8))
+    }
+
+    /// The colour of a dot of the pixels of a page, where a pixel is there.
+    fn pixel_dot(&self, page: u8, x: u32, y: u32) -> Option<u8> {
+        let x = u16::try_from(x / self.mode.dots.max(1) as u32).ok()?;
+        let y = u16::try_from(y / self.mode.lines.max(1) as u32).ok()?;
+        self.pixel(page, x, y)
+    }
+
+    /// Red, green and blue of dot `x` of line `y` where a page is shown; none beside the picture.
+    pub fn dot_colour(&self, page: u8, x: u32, y: u32) -> Option<[u8; 3]> {
+        let colour = if self.is_text() {
+            self.text_dot(page, x, y)?
+        } else {
+            self.pixel_dot(page, x, y)?
+        };
+        Some(self.colour_of(colour))
     }
 }

@@ -1,0 +1,215 @@
+//! The adapter and its services against the plain screen, dot by dot: pseudo-random scripts of services, advances and
+//! frames in all six modes, of text with characters of each height, with services between any two dots. Modes are set and
+//! glyphs loaded at the first dot of a frame.
+ghost use Rattle.std.specs.Prelude.{◌≡◌, ◌<◌, ◌≤◌};
+
+use crate::beginning::{BEGINNINGS, Beginning};
+use crate::call_counts::CallCounts;
+use crate::difference::{Difference, picture_difference};
+use crate::pair::Pair;
+use crate::plain_drawing::PlainDrawing;
+use crate::plain_modes::PlainMode;
+use crate::plain_refusals::high;
+use crate::random_calls::{RandomCall, next_call};
+use crate::random_font::make_font;
+use crate::random_numbers::{is_one_in, next_below};
+use crate::screens_outcome::ScreensOutcome;
+use anyhow::Result;
+use rand_pcg::Pcg32;
+use std::alloc::Global;
+use vga_bits::Refusal;
+
+/// How many scripts have each beginning, how many frames each has that are ended by a frame, and how many services each
+/// of these.
+const SCRIPTS: u32 = 2;
+
+const FRAMES: u32 = 10;
+
+const SERVICES: u32 = 112;
+
+/// Before one of so many services there is an advance.
+const SERVICES_TO_ADVANCE: u32 = 4;
+
+/// In how many frames a screen of pixels is read. One of cells is read in each.
+const FRAMES_TO_READ: u32 = 5;
+
+/// By how many dots an advance goes on at the most.
+const MOST_DOTS: u32 = 16_777_216;
+
+/// By how many dots to go on where so many are left of the frame: mostly by few, at times to its end or just before or
+/// behind it, seldom over up to three frames, or too far.
+fn next_dots(random: &mut Pcg32, mode: PlainMode, left: u32) -> u32 {
+    let line = mode.line_dots as u32;
+    match next_below(random, 128) {
+        0 => 0,
+        1 => left,
+        2 => left.saturating_sub(1),
+        3 => left.saturating_add(1),
+        4 => next_below(random, mode.frame_dots().saturating_mul(3).max(1)),
+        5 => (MOST_DOTS + 1).saturating_add(next_below(random, line.max(1))),
+        6..=47 => next_below(random, 16),
+        48..=79 => next_below(random, 2 * line + 1),
+        _ => next_below(random, 30 * line + 1),
+    }
+}
+
+/// An adapter and a plain screen, which are given the same services, advances and frames.
+#[derive(Drop)]
+struct CutFrames<'a> {
+    pair: Pair<'a>,
+    drawing: PlainDrawing,
+    /// The calls behind the first dot of a frame, where each way is to be met.
+    within: CallCounts,
+}
+
+impl CutFrames<'_> {
+    /// Advances both.
+    fn advance_difference(&mut self, dots: u32) -> Result<Option<Difference>> {
+        let answer = self.pair.card.advance(dots);
+        if dots > MOST_DOTS {
+            let is_alike = answer == Err(Refusal::TooFar);
+            return Ok(if is_alike {
+                None
+            } else {
+                Some(Difference::Advance(dots))
+            });
+        }
+        self.drawing.take_dots(&mut self.pair.plain, dots)?;
+        Ok(if answer.is_ok() {
+            None
+        } else {
+            Some(Difference::Advance(dots))
+        })
+    }
+
+    /// Takes both to the frame's end, and compares the pictures.
+    fn frame_difference(&mut self) -> Result<Option<Difference>> {
+        let left = self.drawing.dots_left(self.pair.plain.mode);
+        self.pair.note_frame()?;
+        self.drawing.take_dots(&mut self.pair.plain, left)?;
+        let size = self.pair.plain.picture_size();
+        Ok(picture_difference(self.pair.card.frame(), size, self.drawing.picture()))
+    }
+
+    /// Takes both to the next frame's first dot, by an advance or by a frame.
+    fn end_difference(&mut self, random: &mut Pcg32) -> Result<Option<Difference>> {
+        if is_one_in(random, 2) {
+            return self.frame_difference();
+        }
+        let left = self.drawing.dots_left(self.pair.plain.mode);
+        self.advance_difference(left)
+    }
+
+    /// Does a service on both. One that sets a mode or loads glyphs is done at the first dot of a frame.
+    fn service_difference(
+        &mut self,
+        random: &mut Pcg32,
+        call: &RandomCall,
+    ) -> Result<Option<Difference>> {
+        let refusal = self.pair.plain.refusal(call.regs, call.block.as_slice());
+        let waits = refusal.is_none() && matches!(high(call.regs.ax), 0x00 | 0x11);
+        if waits && !self.drawing.is_at_first_dot() {
+            let difference = self.end_difference(random)?;
+            if difference.is_some() {
+                return Ok(difference);
+            }
+        }
+        if !self.drawing.is_at_first_dot() {
+            self.within.note(self.pair.plain.mode, call.regs, refusal)?;
+        }
+        self.pair.service_difference(call)
+    }
+
+    /// The next service, often behind an advance.
+    fn next_difference(&mut self, random: &mut Pcg32) -> Result<Option<Difference>> {
+        if is_one_in(random, SERVICES_TO_ADVANCE) {
+            let left = self.drawing.dots_left(self.pair.plain.mode);
+            let dots = next_dots(random, self.pair.plain.mode, left);
+            let difference = self.advance_difference(dots)?;
+            if difference.is_some() {
+                return Ok(difference);
+            }
+        }
+        let plain = &self.pair.plain;
+        let call = next_call(self.pair.alloc, random, plain.mode, plain.page)?;
+        self.service_difference(random, &call)
+    }
+
+    /// Some services and advances. The screen that is then shown is read, and the frame taken to its end.
+    fn next_frame(&mut self, random: &mut Pcg32, is_read: bool) -> Result<Option<Difference>> {
+        for _ in 0..SERVICES {
+            let difference = self.next_difference(random)?;
+            if difference.is_some() {
+                return Ok(difference);
+            }
+        }
+        if is_read || self.pair.plain.is_text() {
+            let difference = self.pair.read_difference()?;
+            if difference.is_some() {
+                return Ok(difference);
+            }
+        }
+        self.frame_difference()
+    }
+}
+
+/// Scripts.
+impl CutFrames<'_> {
+    /// A script, which begins anew behind each frame that ends in another mode.
+    fn script(&mut self, random: &mut Pcg32, beginning: Beginning) -> Result<Option<Difference>> {
+        let mut difference = self.pair.begin(beginning)?;
+        for frame in 0..FRAMES {
+            if difference.is_some() {
+                return Ok(difference);
+            }
+            difference = self.next_frame(random, frame % FRAMES_TO_READ == 0)?;
+            if difference.is_none() && self.pair.plain.mode.number != beginning.mode {
+                difference = self.pair.begin(beginning)?;
+            }
+        }
+        Ok(difference)
+    }
+
+    /// A script of each beginning, up to the first difference.
+    fn round(&mut self, random: &mut Pcg32) -> Result<Option<Difference>> {
+        for beginning in BEGINNINGS {
+            let difference = self.script(random, beginning)?;
+            if difference.is_some() {
+                return Ok(difference);
+            }
+        }
+        Ok(None)
+    }
+
+    /// So many scripts of each beginning, up to the first difference, and whether all was met that is to be.
+    fn scripts(&mut self, random: &mut Pcg32) -> Result<Option<Difference>> {
+        for _ in 0..SCRIPTS {
+            let difference = self.round(random)?;
+            if difference.is_some() {
+                return Ok(difference);
+            }
+        }
+        Ok(self.seldom())
+    }
+
+    /// What was not met within a frame, or of which few frames were drawn.
+    fn seldom(&self) -> Option<Difference> {
+        let call = self.within.seldom_within_frames();
+        let frame = self.pair.counts.seldom_drawn();
+        call.map(|(function, part)| Difference::Seldom(function, part))
+            .or(frame.map(|(mode, height)| Difference::SeldomDrawn(mode, height)))
+    }
+}
+
+/// Compares the adapter with plain screens, dot by dot, on pseudo-random scripts.
+pub fn compare_cut_frames(alloc: Global) -> Result<ScreensOutcome> {
+    let mut random = Pcg32::new(0x5EED, 6);
+    let font = make_font(alloc)?;
+    let mut frames = CutFrames {
+        pair: Pair::new(alloc, font.as_slice())?,
+        drawing: PlainDrawing::new(alloc),
+        within: CallCounts::new(alloc, 1),
+    };
+    let difference = frames.scripts(&mut random)?;
+    Ok(frames.pair.outcome(difference))
+}

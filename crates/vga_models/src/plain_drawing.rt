@@ -1,0 +1,75 @@
+//! How far the frame of a plain screen is drawn, one dot at a time: docs/SCREENS.md once more.
+ghost use Rattle.std.specs.Prelude.{◌≡◌, ◌<◌};
+
+use crate::plain_modes::PlainMode;
+use crate::plain_screen::PlainScreen;
+use std::alloc::{AllocError, Global};
+
+/// How far a frame is drawn.
+#[derive(Drop)]
+pub struct PlainDrawing {
+    /// The dot of the frame that is taken next.
+    dot: u32,
+    /// The page that the frame shows: the one that was active at its first dot.
+    page: u8,
+    /// Red, green and blue of each dot of the picture so far.
+    picture: Vec<u8>,
+}
+
+impl PlainDrawing {
+    /// A frame of which no dot is taken.
+    pub fn new(alloc: Global) -> PlainDrawing {
+        PlainDrawing {
+            dot: 0,
+            page: 0,
+            picture: Vec::new(alloc),
+        }
+    }
+
+    /// Whether no dot of the frame is taken.
+    pub fn is_at_first_dot(&self) -> bool {
+        self.dot == 0
+    }
+
+    /// How many dots lead to the end of a frame of a mode.
+    pub fn dots_left(&self, mode: PlainMode) -> u32 {
+        mode.frame_dots().saturating_sub(self.dot)
+    }
+
+    /// The bytes of the picture so far; at the first dot those of the frame that ended.
+    pub fn picture(&self) -> &[u8] {
+        self.picture.as_slice()
+    }
+
+    /// Takes a dot: its colour joins the picture, and behind the last one the screen has the next frame's number.
+    fn take_dot(&mut self, screen: &mut PlainScreen<'_>) -> Result<(), AllocError> {
+        if self.dot == 0 {
+            self.page = screen.page;
+            self.picture.clear();
+        }
+        let line_dots = screen.mode.line_dots.max(1) as u32;
+        let x = self.dot % line_dots;
+        let y = self.dot / line_dots;
+        if let Some(colour) = screen.dot_colour(self.page, x, y) {
+            self.picture.extend_from_slice(&colour)?;
+        }
+        self.dot = self.dot.saturating_add(1);
+        if self.dot >= screen.mode.frame_dots() {
+            self.dot = 0;
+            screen.end_frame();
+        }
+        Ok(())
+    }
+
+    /// Takes so many dots, over the ends of frames.
+    pub fn take_dots(
+        &mut self,
+        screen: &mut PlainScreen<'_>,
+        count: u32,
+    ) -> Result<(), AllocError> {
+        for _ in 0..count {
+            self.take_dot(screen)?;
+        }
+        Ok(())
+    }
+}

@@ -1,0 +1,37 @@
+//! A font file of pseudo-random glyphs.
+ghost use Rattle.std.specs.Prelude.{◌≡◌, ◌<◌};
+
+use crate::random_numbers::next_byte;
+use rand_pcg::Pcg32;
+use std::alloc::{AllocError, Global};
+
+/// The number that a character's glyph is made from. Those of 81 to FF that are odd have the glyphs of 01 to 7F.
+fn glyph_number(character: u8) -> u8 {
+    if character & 0x81 == 0x81 {
+        character & 0x7F
+    } else {
+        character
+    }
+}
+
+/// Puts a glyph of so many rows behind others: pseudo-random dots, but none for 00 and 20.
+fn push_glyph(font: &mut Vec<u8>, character: u8, height: u8) -> Result<(), AllocError> {
+    let mut random = Pcg32::new(glyph_number(character) as u64, 5);
+    let is_empty = character & 0xDF == 0;
+    for _ in 0..height {
+        let dots = next_byte(&mut random);
+        font.push(if is_empty { 0 } else { dots })?;
+    }
+    Ok(())
+}
+
+/// The bytes of a font file with pseudo-random glyphs, some of them alike.
+pub fn make_font(alloc: Global) -> Result<Vec<u8>, AllocError> {
+    let mut font = Vec::new(alloc);
+    for height in [8, 14, 16] {
+        for character in 0..=0xFFu8 {
+            push_glyph(&mut font, character, height)?;
+        }
+    }
+    Ok(font)
+}
