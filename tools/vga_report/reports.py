@@ -11,12 +11,13 @@ from .apng import Animation
 from .differences import Comparison, Difference
 from .expected import Expected
 from .output import AGREED, DIFFERED, name_of, refuse_twice, say, write, write_name
+from .page import Page, compare_page
 from .picture import Digest, Picture
 from .png import Shape, write_marked_png, write_png
 from .progress import Progress
 from .report import Report, Step
 from .script import steps_of
-from .streams import STANDARD, reading, writing
+from .streams import STANDARD, reading, write_file, writing
 from .timing import USUAL, Timing
 from .trouble import Trouble
 
@@ -118,11 +119,15 @@ def compare(words: argparse.Namespace, progress: Progress) -> int:
     refuse_twice(words.report, words.other)
     name, other_name = name_of(words.report), name_of(words.other)
     comparison = Comparison()
+    page = compare_page(name, other_name) if words.html else None
     with reading(words.report) as stream, reading(words.other) as other_stream:
         steps = Report(stream, name, progress).steps()
         others = Report(other_stream, other_name).steps()
         differences = comparison.differences(steps, others)
-        count = _tell_differences(differences, (name, other_name), words, progress)
+        count = _tell_differences(differences, (name, other_name), words, progress, page)
+        if page is not None:
+            said = f"{count} step{'s differ' if count != 1 else ' differs'}; {comparison.text()}"
+            write_file(words.html, page.text(f"{name} and {other_name}", said).encode("utf-8", "replace"))
     if not count:
         progress.clear()
         _tell(f"{name} and {other_name} agree: {comparison.text()}\n", words)
@@ -130,7 +135,11 @@ def compare(words: argparse.Namespace, progress: Progress) -> int:
 
 
 def _tell_differences(
-    differences: Iterator[Difference], names: tuple[str, str], words: argparse.Namespace, progress: Progress
+    differences: Iterator[Difference],
+    names: tuple[str, str],
+    words: argparse.Namespace,
+    progress: Progress,
+    page: Optional[Page],
 ) -> int:
     """Tells the first difference or all, and writes the first picture with its differing dots marked."""
     count, wants_picture = 0, words.picture is not None
@@ -144,7 +153,9 @@ def _tell_differences(
             with writing(words.picture) as stream:
                 write_marked_png(stream, *found, Shape(words.scale, words.aspect))
             wants_picture = False
-        if not (words.all or wants_picture):
+        if page is not None:
+            page.add_difference(difference)
+        elif not (words.all or wants_picture):
             break
     if wants_picture:
         progress.clear()
@@ -154,7 +165,7 @@ def _tell_differences(
 
 def _tell(text: str, words: argparse.Namespace) -> None:
     """Writes text, on standard error where a picture goes to standard output."""
-    if words.picture == STANDARD:
+    if STANDARD in (words.picture, words.html):
         sys.stderr.write(text)
     else:
         write(text)

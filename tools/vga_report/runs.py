@@ -5,6 +5,7 @@ from __future__ import annotations
 import argparse
 import os
 import shutil
+import sys
 import tempfile
 from contextlib import contextmanager
 from pathlib import Path
@@ -14,12 +15,13 @@ from .blocks import block_lines
 from .expecting import answer_of, is_worth_telling
 from .listing import Choice, Row, Script, heading, listed
 from .output import AGREED, DIFFERED, name_of, write
+from .page import run_page
 from .picture import Picture
 from .png import Shape, write_png
 from .program import FONTS, Built, Tried, found_program
 from .progress import Progress
 from .script import blessed_line, text_of
-from .streams import STANDARD, reading, write_over, writing
+from .streams import STANDARD, reading, write_file, write_over, writing
 from .trouble import Trouble
 
 
@@ -70,28 +72,45 @@ def run(words: argparse.Namespace, progress: Progress) -> int:
     program: Union[Built, Tried] = Tried() if words.try_ else Built(found_program(words.vga))
     if words.bless and (words.script == STANDARD or words.until is not None):
         raise Trouble("--bless writes into the script, whole: it wants a file, and no --until")
-    tally, blessed = Tally(), {}
+    if words.html and (words.bless or words.pictures or words.show):
+        raise Trouble("--html writes a page that has the pictures: without --bless, --pictures and --show")
+    tally, blessed, page = Tally(), {}, run_page()
     with _script_file(words.script) as (path, data):
         script = Script(path, data, program, name_of(words.script))
         if words.pictures is not None:
             os.makedirs(words.pictures, exist_ok=True)
         for row in script.rows(program, words.fonts, words.until, progress):
-            if not (words.bless or tally.steps):
+            if not (words.bless or words.html or tally.steps):
                 write(heading(script.width) + "\n")
             tally.count(row)
             if words.bless and row.line is not None and (row.expected is not None or is_worth_telling(row.step, row.words)):
                 blessed[row.line] = "*" if row.expected == "*" else answer_of(row.step)
             if not words.bless and choice.has(row):
-                progress.clear()
-                _show(row, script, words)
+                if words.html:
+                    page.add_row(row)
+                else:
+                    progress.clear()
+                    _show(row, script, words)
         progress.clear()
         if words.bless:
             return _bless(words.script, script, data, blessed)
+    if words.html:
+        write_file(words.html, page.text(script.shown, tally.text()).encode("utf-8", "replace"))
+    _tell_tally(tally, script, words)
+    return DIFFERED if tally.wrong else AGREED
+
+
+def _tell_tally(tally: Tally, script: Script, words: argparse.Namespace) -> None:
+    """Tells the answers that differ, and what was seen; on standard error where a page goes to standard output."""
+    lines = []
     for row in tally.wrong:
         place = f"{script.shown}:{row.line}: step {row.step.number}"
-        write(f"{place}: {row.words} answers {answer_of(row.step)}, not {row.expected}\n")
-    write(tally.text() + "\n")
-    return DIFFERED if tally.wrong else AGREED
+        lines.append(f"{place}: {row.words} answers {answer_of(row.step)}, not {row.expected}\n")
+    text = "".join([*lines, tally.text() + "\n"])
+    if words.html == STANDARD:
+        sys.stderr.write(text)
+    else:
+        write(text)
 
 
 def _show(row: Row, script: Script, words: argparse.Namespace) -> None:

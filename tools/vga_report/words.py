@@ -89,6 +89,7 @@ def _add_run(parser: argparse.ArgumentParser) -> None:
     )
     parser.add_argument("--pictures", metavar="FOLDER", help="writes the pictures of the steps shown, as NNNN.png")
     parser.add_argument("--show", action="store_true", help="shows pictures as blocks of colour")
+    parser.add_argument("--html", metavar="FILE", help="writes the listing as a page that stands alone, with its pictures")
     parser.add_argument("--bless", action="store_true", help="writes the answers into the script, as `; = 55`")
     _add_shape(parser)
 
@@ -124,6 +125,7 @@ def parser() -> argparse.ArgumentParser:
     adding = add(compare, "report", "other")
     adding.add_argument("--all", action="store_true", help="all steps that differ, in the place of the first")
     adding.add_argument("--picture", metavar="FILE", help="the first picture that differs as PNG, its dots marked")
+    adding.add_argument("--html", metavar="FILE", help="all steps that differ, as a page that stands alone")
     _add_shape(adding)
     adding = add(compare_picture, "report")
     adding.add_argument("step", type=number_to(MOST_STEP), metavar="STEP")

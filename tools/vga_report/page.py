@@ -1,0 +1,147 @@
+"""A run, or two reports that differ, as a page that stands alone: nothing of it comes from elsewhere."""
+
+from __future__ import annotations
+
+import base64
+import io
+import json
+from html import escape
+from pathlib import Path
+from typing import NamedTuple, Optional, Sequence
+
+from .differences import Difference
+from .expecting import answer_of
+from .listing import Row
+from .picture import Picture
+from .png import Shape, write_marked_png, write_png
+from .trouble import Trouble
+
+HERE = Path(__file__).resolve().parent
+# So much stands on a page at most.
+MOST_ROWS, MOST_PICTURES = 100_000, 2_000
+POLICY = "default-src 'none'; img-src data:; style-src 'unsafe-inline'; script-src 'unsafe-inline'"
+SIZES = "".join(f'<option value="{size}">\u00d7{size}</option>' for size in (1, 2, 3, 4))
+
+
+class Frame(NamedTuple):
+    """What the slider comes to: the step, how it is called, and the images by their names."""
+
+    step: int
+    title: str
+    images: Sequence[str]
+
+
+def _data_of(picture: Picture, other: Optional[Picture] = None) -> str:
+    """A picture as an address that is the picture itself; with another one, its differing dots marked."""
+    stream = io.BytesIO()
+    if other is None:
+        write_png(stream, picture, Shape())
+    else:
+        write_marked_png(stream, picture, other, Shape())
+    return "data:image/png;base64," + base64.b64encode(stream.getvalue()).decode("ascii")
+
+
+class Page:
+    """A page that is filled row by row."""
+
+    def __init__(self, captions: Sequence[str], columns: Sequence[str]) -> None:
+        self._captions = captions
+        self._columns = columns
+        self._rows: list[str] = []
+        self._frames: list[Frame] = []
+        self._images = 0
+
+    def _image(self, picture: Picture, other: Optional[Picture] = None) -> tuple[str, str]:
+        """An image's name, and its element."""
+        self._images += 1
+        if self._images > MOST_PICTURES:
+            raise Trouble(f"the page would have more than {MOST_PICTURES} pictures: --only takes some steps")
+        name, frame = f"p{self._images}", len(self._frames)
+        source = _data_of(picture, other)
+        return name, f'<img id="{name}" data-frame="{frame}" alt="{picture.size}" src="{source}">'
+
+    def _add(self, cells: Sequence[str], kind: str) -> None:
+        if len(self._rows) == MOST_ROWS:
+            raise Trouble(f"the page would have more than {MOST_ROWS:,} rows: --only takes some steps")
+        marked = f' class="{kind}"' if kind else ""
+        self._rows.append(f"<tr{marked}>{''.join(cells)}</tr>")
+
+    def add_row(self, row: Row) -> None:
+        """Adds a step of a run."""
+        picture = row.step.picture
+        text = escape(answer_of(row.step) if picture is not None else "\n".join(row.step.lines))
+        if row.is_wrong:
+            text += f"\nnot {escape(row.expected or '')}"
+        if isinstance(picture, Picture):
+            name, image = self._image(picture)
+            self._frames.append(Frame(row.step.number, f"step {row.step.number}, {picture.size}", [name]))
+            text += image
+        number = '<td class="number">{}</td>'.format
+        kind = "differs" if row.is_wrong else "refused" if "refused" in row.kinds else ""
+        line = "" if row.line is None else str(row.line)
+        self._add([number(line), number(row.step.number), f"<td>{escape(row.words)}</td>", f"<td>{text}</td>"], kind)
+
+    def add_difference(self, difference: Difference) -> None:
+        """Adds a step in which two reports differ."""
+        texts = [escape(answer) for answer in difference.answers()]
+        pictures = difference.pictures()
+        dots = escape(difference.dots())
+        if pictures is not None:
+            images = [self._image(pictures[0]), self._image(pictures[1]), self._image(*pictures)]
+            self._frames.append(Frame(difference.number, f"{difference.place}: {dots}", [name for name, _ in images]))
+            texts = [f"{text}{image}" for text, (_, image) in zip(texts, images)]
+            dots += images[2][1]
+        cells = [f'<td class="number">{difference.number}</td>', *(f"<td>{text}</td>" for text in (*texts, dots))]
+        self._add(cells, "differs")
+
+    def text(self, title: str, said: str) -> str:
+        """The whole page."""
+        frames = json.dumps([frame._asdict() for frame in self._frames]).replace("<", "\\u003c")
+        figures = "".join(
+            f'<figure><canvas></canvas><figcaption>{escape(caption)}</figcaption></figure>' for caption in self._captions
+        )
+        heads = "".join(f"<th>{escape(column)}</th>" for column in self._columns)
+        return f"""<!DOCTYPE html>
+<html lang="en">
+<head>
+<meta charset="utf-8">
+<meta http-equiv="Content-Security-Policy" content="{escape(POLICY)}">
+<title>{escape(title)}</title>
+<style>
+{(HERE / "page.css").read_text("utf-8")}</style>
+</head>
+<body>
+<h1>{escape(title)}</h1>
+<p>{escape(said)}</p>
+<section id="viewer" hidden>
+<div class="controls">
+<input id="frame" type="range" min="0" value="0" aria-label="frame">
+<output id="which"></output>
+<label><input id="aspect" type="checkbox"> 4:3</label>
+<label><select id="size">{SIZES}</select></label>
+</div>
+<div class="stage">{figures}</div>
+<div id="dot">Point at a dot.</div>
+</section>
+<table>
+<thead><tr>{heads}</tr></thead>
+<tbody>
+{chr(10).join(self._rows)}
+</tbody>
+</table>
+<script type="application/json" id="frames">{frames}</script>
+<script>
+{(HERE / "page.js").read_text("utf-8")}</script>
+</body>
+</html>
+"""
+
+
+def run_page() -> Page:
+    """An empty page of a run."""
+    return Page([""], ["line", "step", "step as understood", "answer"])
+
+
+def compare_page(name: str, other: str) -> Page:
+    """An empty page of two reports."""
+    return Page([name, other, "where they differ"], ["step", name, other, "dots that differ"])
