@@ -9,40 +9,53 @@ use std::alloc::{AllocError, Global};
 
 /// What the help of `asm` ends with.
 const ASM_EXAMPLE: &str = "\
-Example:
+Examples:
   vga asm bars.vga bars.bin
+  vga asm /dev/stdin bars.bin < bars.vga
 
 The text has a step on each line, and a comment behind a semicolon. A mistake
 is named by its line, counted from 1, as `vga: F7 BadLine(12)` on standard
-error, and then <BIN> is not touched.";
+error, and then <BIN> is not touched.
+
+The project's docs/SCRIPT.md lists every step.";
 
 /// What the help of `dis` ends with.
 const DIS_EXAMPLE: &str = "\
-Example:
+Examples:
   vga dis bars.bin > bars.vga
+  vga dis /dev/stdin < bars.bin
 
 The text has a line for each step, with its values in full. Where it has at most
-16,777,216 bytes, `vga asm` makes the same script of it.";
+16,777,216 bytes, `vga asm` makes the same script of it.
+
+The project's docs/SCRIPT.md lists every step, as text and as bytes.";
 
 /// What the help of `run` ends with.
 const RUN_EXAMPLE: &str = "\
-Example:
+Examples:
   vga run first-path.bin --fonts zaklimot.fnt
   vga run first-path.bin --fonts zaklimot.fnt --until 12
+  vga run /dev/stdin --fonts zaklimot.fnt < first-path.bin
 
 The report has a line for each step. A fault ends it, with a line on standard
 error such as `vga: F1 FontSize`, and with status 1.
 
 With --until the run stops after <N> steps, or at the script's end, and the
-report ends with the registers, the beam, the latches and the BIOS data.";
+report ends with the registers, the beam, the latches and the BIOS data.
+
+The project's docs/REPORT.md explains each answer and each fault.";
 
 /// What the help of `go` ends with.
 const GO_EXAMPLE: &str = "\
-Example:
+Examples:
   vga go bars.vga --fonts zaklimot.fnt
   vga go bars.vga --fonts zaklimot.fnt --until 12
+  vga go /dev/stdin --fonts zaklimot.fnt < bars.vga
 
-The report is that of `vga run` on the bytes that `vga asm` makes of the text.";
+The report is that of `vga run` on the bytes that `vga asm` makes of the text.
+
+The project's docs/SCRIPT.md lists every step, and docs/REPORT.md explains each
+answer and each fault.";
 
 /// What the help of the program ends with.
 const EXAMPLES: &str = "\
@@ -61,7 +74,12 @@ line, as in:
   show regs       ; show every register
 The report has a line for each step, with its number and its answer.
 
-The status is 0 for success, 1 for a fault, and 2 for words that name no job.";
+/dev/stdin in the place of a file that is read is standard input.
+
+The status is 0 for success, 1 for a fault, and 2 for words that name no job.
+
+The project's README.md leads to its pages: docs/SCRIPT.md lists every step, and
+docs/REPORT.md explains each answer and each fault.";
 
 /// An argument that names a file, and cannot be left out.
 fn path_argument<'a>(alloc: Global, id: &'a str, help: &'a str) -> Arg<'a>

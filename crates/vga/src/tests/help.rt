@@ -62,7 +62,12 @@ line, as in:
   show regs       ; show every register
 The report has a line for each step, with its number and its answer.
 
+/dev/stdin in the place of a file that is read is standard input.
+
 The status is 0 for success, 1 for a fault, and 2 for words that name no job.
+
+The project's README.md leads to its pages: docs/SCRIPT.md lists every step, and
+docs/REPORT.md explains each answer and each fault.
 ";
 
 /// The help of `asm`.
@@ -77,12 +82,15 @@ Arguments:
 Options:
   -h, --help  Print help
 
-Example:
+Examples:
   vga asm bars.vga bars.bin
+  vga asm /dev/stdin bars.bin < bars.vga
 
 The text has a step on each line, and a comment behind a semicolon. A mistake
 is named by its line, counted from 1, as `vga: F7 BadLine(12)` on standard
 error, and then <BIN> is not touched.
+
+The project's docs/SCRIPT.md lists every step.
 ";
 
 /// The help of `dis`.
@@ -96,11 +104,14 @@ Arguments:
 Options:
   -h, --help  Print help
 
-Example:
+Examples:
   vga dis bars.bin > bars.vga
+  vga dis /dev/stdin < bars.bin
 
 The text has a line for each step, with its values in full. Where it has at most
 16,777,216 bytes, `vga asm` makes the same script of it.
+
+The project's docs/SCRIPT.md lists every step, as text and as bytes.
 ";
 
 /// The help of `run`.
@@ -116,15 +127,18 @@ Options:
       --until <N>     Stops after so many steps, and shows the card
   -h, --help          Print help
 
-Example:
+Examples:
   vga run first-path.bin --fonts zaklimot.fnt
   vga run first-path.bin --fonts zaklimot.fnt --until 12
+  vga run /dev/stdin --fonts zaklimot.fnt < first-path.bin
 
 The report has a line for each step. A fault ends it, with a line on standard
 error such as `vga: F1 FontSize`, and with status 1.
 
 With --until the run stops after <N> steps, or at the script's end, and the
 report ends with the registers, the beam, the latches and the BIOS data.
+
+The project's docs/REPORT.md explains each answer and each fault.
 ";
 
 /// The help of `go`.
@@ -140,11 +154,15 @@ Options:
       --until <N>     Stops after so many steps, and shows the card
   -h, --help          Print help
 
-Example:
+Examples:
   vga go bars.vga --fonts zaklimot.fnt
   vga go bars.vga --fonts zaklimot.fnt --until 12
+  vga go /dev/stdin --fonts zaklimot.fnt < bars.vga
 
 The report is that of `vga run` on the bytes that `vga asm` makes of the text.
+
+The project's docs/SCRIPT.md lists every step, and docs/REPORT.md explains each
+answer and each fault.
 ";
 
 #[test]
