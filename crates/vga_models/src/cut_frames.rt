@@ -1,7 +1,7 @@
 //! The adapter and its services against the plain screen, dot by dot: pseudo-random scripts of services, advances and
 //! frames in all six modes, of text with characters of each height, with services between any two dots. Modes are set and
 //! glyphs loaded at the first dot of a frame.
-ghost use Rattle.std.specs.Prelude.{◌≡◌, ◌<◌, ◌≤◌};
+ghost use Rattle.std.specs.Prelude.{◌≡◌, ◌<◌};
 
 use crate::beginning::{BEGINNINGS, Beginning};
 use crate::call_counts::CallCounts;

@@ -17,20 +17,20 @@ mod plain_pictures;
 mod plain_pixels;
 mod plain_refusals;
 mod plain_screen;
-mod plain_screens;
 mod plain_services;
 mod plain_typing;
 mod random_calls;
 mod random_font;
 mod random_numbers;
 mod screens_outcome;
+mod whole_frames;
 
 use anyhow::Result;
 use cut_frames::compare_cut_frames;
-use plain_screens::compare_screens;
 use screens_outcome::ScreensOutcome;
 use std::process::ExitCode;
 use vga_bits::Tally;
+use whole_frames::compare_whole_frames;
 
 /// Prints how a comparison ended, and counts it.
 fn tell<R: Print>(rt: &R, tally: &mut Tally, name: &str, outcome: ScreensOutcome) -> Result<()> {
@@ -42,7 +42,12 @@ fn tell<R: Print>(rt: &R, tally: &mut Tally, name: &str, outcome: ScreensOutcome
 fn main(rt: HostRuntime) -> Result<ExitCode> {
     let alloc = rt.alloc();
     let mut tally = Tally::new();
-    tell(&rt, &mut tally, "plain screens", compare_screens(alloc)?)?;
+    tell(
+        &rt,
+        &mut tally,
+        "plain screens",
+        compare_whole_frames(alloc)?,
+    )?;
     tell(
         &rt,
         &mut tally,

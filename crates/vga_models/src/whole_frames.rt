@@ -105,7 +105,7 @@ impl WholeFrames<'_> {
 }
 
 /// Compares the adapter with plain screens on pseudo-random scripts.
-pub fn compare_screens(alloc: Global) -> Result<ScreensOutcome> {
+pub fn compare_whole_frames(alloc: Global) -> Result<ScreensOutcome> {
     let mut random = Pcg32::new(0x5EED, 4);
     let font = make_font(alloc)?;
     let mut frames = WholeFrames {
