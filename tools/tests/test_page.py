@@ -53,7 +53,9 @@ def read(page: str) -> Reader:
     return reader
 
 
-class Pages(Fake):
+class Alone(Files):
+    """A test of pages that stand alone."""
+
     def assert_stands_alone(self, page: str) -> Reader:
         """That a page is well formed, names each element once, and refers to nothing outside."""
         reader = read(page)
@@ -78,6 +80,8 @@ class Pages(Fake):
         frames: list[dict[str, object]] = json.loads(found[1])
         return frames
 
+
+class Runs(Alone, Fake):
     def test_a_run(self) -> None:
         page = self.folder / "page.html"
         status, output, said = self.run_script("--html", str(page))
@@ -109,7 +113,7 @@ class Pages(Fake):
                          f"vga-report: {self.path}: it is read as {self.path}, so it isn't written\n")
 
 
-class Comparisons(Pages, Files):
+class Comparisons(Alone):
     def test_two_reports(self) -> None:
         path, other = self.report("a", "00", PICTURE), self.report("b", "01", ppm(9, 1, RED * 3 + BLACK * 6))
         page = self.folder / "page.html"

@@ -165,11 +165,13 @@ def _bad_step(data: bytes, place: int) -> str:
         return UNKNOWN
     opcode = data[place]
     if opcode not in OPCODES:
-        return f"at offset {place} stands {opcode:02X}, which is no opcode: 01 to 0C are; the bytes before it may be at fault"
+        behind = "the bytes before it may be at fault"
+        return f"at offset {place} stands {opcode:02X}, which is no opcode: 01 to 0C are; {behind}"
     if opcode == 12 and data[place + 1:place + 2] and data[place + 1] > 6:
         return f"at offset {place} stands a show of kind {data[place + 1]:02X}, and the kinds are 00 to 06"
     if opcode == 12:
-        return f"at offset {place} stands a show plane with a plane above 3, no bytes, more than 256, or past the plane's end"
+        wrong = "with a plane above 3, no bytes, more than 256, or past the plane's end"
+        return f"at offset {place} stands a show plane {wrong}"
     return UNKNOWN
 
 
@@ -177,4 +179,5 @@ def _truncated(data: bytes, place: int) -> str:
     if place >= len(data):
         return "nothing stands behind the magic: the version is lacking"
     left = len(data) - place
-    return f"the step {OPCODES.get(data[place], '')} at offset {place} is cut off: the file ends after {left} of its bytes"
+    step = f"the step {OPCODES.get(data[place], '')} at offset {place}"
+    return f"{step} is cut off: the file ends after {left} of its bytes"

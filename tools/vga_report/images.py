@@ -44,7 +44,8 @@ class Image:
     def repeated(self, across: int, down: int) -> Image:
         """The image with each dot so often across and down."""
         rows = [b"".join(row[at:at + 3] * across for at in range(0, len(row), 3)) for row in self.rows]
-        return Image(self.width * across, self.height * down, tuple(row for row in rows for _ in range(down)), self.most)
+        every = tuple(row for row in rows for _ in range(down))
+        return Image(self.width * across, self.height * down, every, self.most)
 
     def picture(self, shift: int) -> Picture:
         """The picture of six bits a component, of which so many low bits are taken off."""

@@ -1,6 +1,7 @@
 """Why a line of a script is no step: the word at which it stops being one, and what could stand there.
 
-Whether a line is a step, the program alone says. Here its answer is explained, and where nothing is found, nothing is said.
+Whether a line is a step, the program alone says. Here its answer is explained, and where nothing is found, nothing is
+said.
 """
 
 from __future__ import annotations

@@ -97,9 +97,8 @@ class Page:
     def text(self, title: str, said: str) -> str:
         """The whole page."""
         frames = json.dumps([frame._asdict() for frame in self._frames]).replace("<", "\\u003c")
-        figures = "".join(
-            f'<figure><canvas></canvas><figcaption>{escape(caption)}</figcaption></figure>' for caption in self._captions
-        )
+        captions = (f"<figcaption>{escape(caption)}</figcaption>" for caption in self._captions)
+        figures = "".join(f"<figure><canvas></canvas>{caption}</figure>" for caption in captions)
         heads = "".join(f"<th>{escape(column)}</th>" for column in self._columns)
         return f"""<!DOCTYPE html>
 <html lang="en">

@@ -116,7 +116,7 @@ class Built:
 
 
 class Tried:
-    """The program without its proofs, as `rt try` builds and runs it: within a minute, where the proofs take much longer."""
+    """The program without its proofs, as `rt try` builds and runs it: in about a minute."""
 
     ENDED = "run=ended status="
 

@@ -83,7 +83,7 @@ def run(words: argparse.Namespace, progress: Progress) -> int:
             if not (words.bless or words.html or tally.steps):
                 write(heading(script.width) + "\n")
             tally.count(row)
-            if words.bless and row.line is not None and (row.expected is not None or is_worth_telling(row.step, row.words)):
+            if words.bless and row.line is not None and _is_blessed(row):
                 blessed[row.line] = "*" if row.expected == "*" else answer_of(row.step)
             if not words.bless and choice.has(row):
                 if words.html:
@@ -111,6 +111,11 @@ def _tell_tally(tally: Tally, script: Script, words: argparse.Namespace) -> None
         sys.stderr.write(text)
     else:
         write(text)
+
+
+def _is_blessed(row: Row) -> bool:
+    """Whether the answer of a step is written into its line."""
+    return row.expected is not None or is_worth_telling(row.step, row.words)
 
 
 def _show(row: Row, script: Script, words: argparse.Namespace) -> None:

@@ -70,7 +70,8 @@ def compare_picture(words: argparse.Namespace, progress: Progress) -> int:
     fitted = _fitted(image_of_picture(picture), image)
     if fitted is None:
         sizes = f"{picture.size} and {image.width}x{image.height}"
-        write(f"step {words.step} and {name} differ: they have {sizes} dots, and neither is the other with dots repeated\n")
+        why = f"they have {sizes} dots, and neither is the other with dots repeated"
+        write(f"step {words.step} and {name} differ: {why}\n")
         return DIFFERED
     _, image, told = fitted
     read, difference, bits = _best(picture, image)

@@ -126,7 +126,8 @@ def _copied_font(font: Optional[Path], folder: Path, fonts: dict[Path, str]) -> 
     if font is None:
         return "-"
     if font not in fonts:
-        fonts[font] = f"fonts/{font.name}" if f"fonts/{font.name}" not in fonts.values() else f"fonts/{len(fonts)}-{font.name}"
+        name = f"fonts/{font.name}"
+        fonts[font] = name if name not in fonts.values() else f"fonts/{len(fonts)}-{font.name}"
         (folder / "fonts").mkdir(exist_ok=True)
         write_file(str(folder / fonts[font]), font.read_bytes())
     return fonts[font]

@@ -52,7 +52,7 @@ def _add_shape(parser: argparse.ArgumentParser) -> None:
 def _add_cases(parser: argparse.ArgumentParser) -> None:
     parser.add_argument("--list", default=str(SUITE), metavar="FILE", help="the list of cases; else the project's")
     parser.add_argument(
-        "--only", action="append", default=[], metavar="FRONT", help="cases whose names begin so, as `dots/`; may stand again"
+        "--only", action="append", default=[], metavar="FRONT", help="cases whose names begin so; again and again"
     )
     parser.add_argument(
         "--except", dest="except_", action="append", default=[], metavar="FRONT", help="but not those that begin so"
@@ -89,8 +89,19 @@ def _add_run(parser: argparse.ArgumentParser) -> None:
     )
     parser.add_argument("--pictures", metavar="FOLDER", help="writes the pictures of the steps shown, as NNNN.png")
     parser.add_argument("--show", action="store_true", help="shows pictures as blocks of colour")
-    parser.add_argument("--html", metavar="FILE", help="writes the listing as a page that stands alone, with its pictures")
+    parser.add_argument("--html", metavar="FILE", help="writes the listing as a page, with its pictures")
     parser.add_argument("--bless", action="store_true", help="writes the answers into the script, as `; = 55`")
+    _add_shape(parser)
+
+
+def _add_pictures(parser: argparse.ArgumentParser) -> None:
+    parser.add_argument("folder", nargs="?", metavar="FOLDER", help="where the files go")
+    parser.add_argument("--apng", metavar="FILE", help="the pictures as one that moves, each as long as a frame lasts")
+    parser.add_argument("--script", metavar="SCRIPT", help="the text that tells how long; else 70 frames a second")
+    parser.add_argument("--ppm", action="store_true", help="the bytes as they are, as NNNN.ppm, in the place of PNG")
+    parser.add_argument(
+        "--step", type=number_to(MOST_STEP), action="append", default=[], metavar="N", help="of this step alone"
+    )
     _add_shape(parser)
 
 
@@ -113,15 +124,7 @@ def parser() -> argparse.ArgumentParser:
 
     _add_run(add(run, "script"))
     add(text, "report")
-    adding = add(pictures, "report")
-    adding.add_argument("folder", nargs="?", metavar="FOLDER", help="where the files go")
-    adding.add_argument("--apng", metavar="FILE", help="the pictures as one file that moves, each as long as a frame lasts")
-    adding.add_argument("--script", metavar="SCRIPT", help="the text that tells how long; else 70 frames a second")
-    adding.add_argument("--ppm", action="store_true", help="the bytes as they are, as NNNN.ppm, in the place of PNG")
-    adding.add_argument(
-        "--step", type=number_to(MOST_STEP), action="append", default=[], metavar="N", help="of this step alone"
-    )
-    _add_shape(adding)
+    _add_pictures(add(pictures, "report"))
     adding = add(compare, "report", "other")
     adding.add_argument("--all", action="store_true", help="all steps that differ, in the place of the first")
     adding.add_argument("--picture", metavar="FILE", help="the first picture that differs as PNG, its dots marked")
