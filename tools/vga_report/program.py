@@ -130,7 +130,7 @@ class Tried:
             yield outcome
         ended = outcome.said.rpartition(self.ENDED)[2].split()
         if self.ENDED not in outcome.said:
-            raise Trouble(f"rt try has not run the program: {outcome.fault}")
+            raise Trouble(f"rt try has not run it to its end, within its limits of time and output: {outcome.fault}")
         outcome.status = int(ended[0])
 
     def understood(self, script: Path, is_bytes: bool) -> list[str]:
