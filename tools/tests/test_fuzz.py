@@ -162,6 +162,11 @@ class Command(Files):
         self.assertEqual((status, lines[-2]), (1, "4 with something wrong"))
         self.assertRegex(lines[0], r"^input 1 \([a-z, ]+\): vga (run|go): status 3: ''$")
         self.assertEqual(sorted(file.stem for file in keep.iterdir()), ["1", "2", "3", "4"])
+        before = {file: file.read_bytes() for file in keep.iterdir()}
+        with contextlib.redirect_stderr(io.StringIO()) as said:
+            self.assertEqual(self.run_command(self.program("sys.exit(3)"), "--seed", "2", "--keep", str(keep))[0], 2)
+        self.assertIn("the folder has files, and none of them is to be lost", said.getvalue())
+        self.assertEqual({file: file.read_bytes() for file in keep.iterdir()}, before)
 
     def test_a_program_that_is_not_there(self) -> None:
         with contextlib.redirect_stderr(io.StringIO()):

@@ -122,6 +122,23 @@ class Signals(Folder):
                 self.assertEqual(list((self.folder / "tmp").iterdir()), [])
                 (self.folder / "child").unlink()
 
+    def test_the_fuzzer_ends_its_program_and_its_folder_goes(self) -> None:
+        program, temporary = self.folder / "program", self.folder / "tmp"
+        program.write_text(f"#!{sys.executable}\nimport os, time\nprint(os.getpid(), flush=True)\ntime.sleep(600)\n")
+        program.chmod(0o755)
+        temporary.mkdir()
+        process = subprocess.Popen(
+            [sys.executable, str(PROGRAM.parent / "vga-fuzz"), str(program)],
+            env={**os.environ, "TMPDIR": str(temporary)},
+        )
+        while not (found := [file for file in temporary.rglob("report") if file.read_text()]):
+            time.sleep(0.01)
+        number = int(found[0].read_text())
+        process.send_signal(signal.SIGTERM)
+        self.assertEqual(process.wait(40), 143)
+        self.assertFalse(is_running(number))
+        self.assertEqual(list(temporary.iterdir()), [])
+
 
 if __name__ == "__main__":
     unittest.main()

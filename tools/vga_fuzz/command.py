@@ -12,6 +12,10 @@ from pathlib import Path
 from random import Random
 from typing import Optional, Sequence
 
+from vga_report.streams import write_file
+from vga_report.suite import empty_folder
+from vga_report.trouble import Trouble
+
 from .feeding import Fed, Program
 from .making import Input, make
 from .running import Limits
@@ -76,8 +80,7 @@ def _tell(number: int, given: Input, fed: Fed, keep: Optional[str]) -> None:
     """Says what was wrong with an input, and keeps it."""
     print(f"input {number} ({given.made}): {fed.trouble}", flush=True)
     if keep is not None:
-        os.makedirs(keep, exist_ok=True)
-        (Path(keep) / f"{number}{'.vga' if given.is_text else '.bin'}").write_bytes(given.data)
+        write_file(str(Path(keep) / f"{number}{'.vga' if given.is_text else '.bin'}"), given.data)
 
 
 def _fuzz(words: argparse.Namespace, folder: Path) -> int:
@@ -105,5 +108,11 @@ def main(words: Optional[Sequence[str]] = None) -> int:
         message = f"vga-fuzz: {parsed.program} is no program; (cd crates/vga && rt run -- --help) builds it"
         print(message, file=sys.stderr)
         return NOT_RUN
+    if parsed.keep is not None:
+        try:
+            empty_folder(parsed.keep)
+        except (Trouble, OSError) as trouble:
+            print(f"vga-fuzz: {trouble}", file=sys.stderr)
+            return NOT_RUN
     with tempfile.TemporaryDirectory(prefix="vga-fuzz-") as folder:
         return _fuzz(parsed, Path(folder))
