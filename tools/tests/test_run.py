@@ -2,8 +2,11 @@
 
 from __future__ import annotations
 
+import os
+import subprocess
 import sys
 import unittest
+from concurrent.futures import ThreadPoolExecutor
 from pathlib import Path
 
 from vga_report.expecting import answer_of, handed_in, is_as_expected, is_worth_telling
@@ -14,7 +17,7 @@ from vga_report.trouble import Trouble
 
 from .making import BLACK, RED, ppm, stream
 from .program import run_texts
-from .test_command import Files, run
+from .test_command import PROGRAM, Files, run
 
 EXAMPLES = Path(__file__).resolve().parents[2] / "examples"
 # A program that understands texts of a few steps: `asm` copies, `dis` prints in upper case, `go` answers by the name.
@@ -109,6 +112,26 @@ class Listings(Fake):
         self.assertEqual(self.run_script(path=path), (2, "", "vga-report: " + message))
         status, _, said = self.run_script(path="-", given=b"move\n")
         self.assertEqual((status, said.partition(": there")[0]), (2, "vga-report: standard input:1: F7 BadLine(1)"))
+
+    def test_a_script_of_a_pipe(self) -> None:
+        pipe = self.folder / "pipe"
+        os.mkfifo(pipe)
+        with ThreadPoolExecutor(1) as pool:
+            pool.submit(pipe.write_text, TEXT)
+            self.assertEqual(self.run_script(path=str(pipe)), self.run_script())
+
+    @unittest.skipUnless(Path("/dev/stdin").exists(), "this system has no name for standard input")
+    def test_standard_input_by_its_name(self) -> None:
+        words = [sys.executable, PROGRAM, "run", "/dev/stdin", "--vga", self.program]
+        with open(self.path, "rb") as script:
+            done = subprocess.run(words, stdin=script, capture_output=True)
+        self.assertEqual(done.stdout.decode(), self.run_script()[1])
+
+    def test_scripts_that_can_not_be_read(self) -> None:
+        self.assertEqual(run("run", "", "--vga", str(self.program))[2], "vga-report: the name of a file is empty\n")
+        message = f"vga-report: {self.folder}: the script can't be read\n"
+        self.program.write_text(self.program.read_text() + "sys.exit('the script can\\'t be read')\n")
+        self.assertEqual(self.run_script(path=self.path)[2], message.replace(str(self.folder), self.path))
 
     def test_no_program(self) -> None:
         status, _, said = run("run", self.path, "--vga", str(self.folder / "none"))

@@ -27,17 +27,18 @@ from .trouble import Trouble
 
 @contextmanager
 def _script_file(path: str) -> Iterator[tuple[str, bytes]]:
-    """The path and the bytes of a script; one on standard input becomes a file."""
-    if path != STANDARD:
-        if not os.path.isfile(path):
-            # The program says what is wrong with it.
-            yield path, b""
-            return
-        with reading(path) as stream:
-            yield path, stream.read()
+    """The path and the bytes of a script; one of a pipe becomes a file, since it is read more than once."""
+    if path not in (STANDARD, "") and (os.path.isdir(path) or not os.path.exists(path)):
+        # The program says what is wrong with it.
+        yield path, b""
         return
-    with tempfile.TemporaryDirectory(prefix="vga-report-") as folder, reading(path) as stream:
+    with reading(path) as stream:
         data = stream.read()
+    # The program's own standard input is another one than that which `/dev/stdin` names here.
+    if os.path.isfile(path) and not path.startswith(("/dev/", "/proc/")):
+        yield path, data
+        return
+    with tempfile.TemporaryDirectory(prefix="vga-report-") as folder:
         copy = Path(folder) / "script"
         copy.write_bytes(data)
         yield str(copy), data
