@@ -29,18 +29,19 @@ class Timing:
         """Takes a step."""
         name, *rest = words.lower().split()
         if name == "out" and len(rest) == 2:
-            self._out(int(rest[0], 16), int(rest[1], 16))
+            self.out(int(rest[0], 16), int(rest[1], 16))
         elif name == "outw" and len(rest) == 2:
             port, value = int(rest[0], 16), int(rest[1], 16)
-            self._out(port, value & 0xFF)
-            self._out(port + 1, value >> 8)
+            self.out(port, value & 0xFF)
+            self.out(port + 1, value >> 8)
         elif name == "int" and rest and rest[0].startswith("ax="):
             mode = int(rest[0][3:], 16)
             if mode >> 8 == 0 and mode & 0x7F in MODES:
                 self._misc, *dots = MODES[mode & 0x7F]
                 self._set_dots = (dots[0], bool(dots[1]))
 
-    def _out(self, port: int, value: int) -> None:
+    def out(self, port: int, value: int) -> None:
+        """Takes a byte that is written to a port."""
         if port == 0x3C2:
             self._misc = value
         elif port in PORTS:
@@ -60,13 +61,18 @@ class Timing:
 
     def frame(self) -> float:
         """The seconds that a frame lasts; those of 70 a second where the script doesn't tell."""
+        found = self.speed()
+        return USUAL if found is None else found[0] / found[1]
+
+    def speed(self) -> Optional[tuple[int, float]]:
+        """The dots of a frame, and the dots that pass in a second; None where the script doesn't tell."""
         if self._misc is None or (self._misc >> 2 & 3) not in CLOCKS:
-            return USUAL
+            return None
         found = self._set_dots or self._written_dots()
         if found is None:
-            return USUAL
+            return None
         dots, is_halved = found
-        return dots * (2 if is_halved else 1) / CLOCKS[self._misc >> 2 & 3]
+        return dots, CLOCKS[self._misc >> 2 & 3] / (2 if is_halved else 1)
 
     def _written_dots(self) -> Optional[tuple[int, bool]]:
         """The dots of a frame, and whether the clock is halved, where the script has written all that says so."""

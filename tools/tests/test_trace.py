@@ -1,0 +1,395 @@
+"""Traces: the lines that are read, the steps that they become, time, frames, warnings, and reports held against them."""
+
+from __future__ import annotations
+
+import contextlib
+import gzip
+import io
+import os
+import subprocess
+import sys
+import unittest
+from pathlib import Path
+from unittest import mock
+
+from vga_report.timing import Timing
+from vga_report.trouble import Trouble
+from vga_trace import converting
+from vga_trace.command import main
+from vga_trace.converting import Listing, Wanted
+from vga_trace.cycle import MEMORY, PORT, VBE, Cycle
+from vga_trace.kinds import count
+from vga_trace.passing import Flips, Pauses, with_frames_every
+from vga_trace.step import ADVANCE, FRAME, GET, IN, NAMES, OUT, OUTW, PUT, PUTW, Step, steps_of, without_polls
+from vga_trace.trace import Trace
+
+from .program import run_texts
+from .test_cases import Folder
+
+PROGRAM = Path(__file__).resolve().parents[1] / "vga-trace"
+EXAMPLES = Path(__file__).resolve().parents[2] / "examples"
+# What a trace from power-on begins with.
+BEGIN = b"0 w p 3C2 67 1\n"
+
+
+def run(*words: str | Path, given: bytes = b"") -> tuple[int, bytes, str]:
+    """Exit status, standard output and standard error of the command."""
+    done = subprocess.run([sys.executable, PROGRAM, *words], input=given, capture_output=True, timeout=200)
+    return done.returncode, done.stdout, done.stderr.decode()
+
+
+def trace(data: bytes) -> Trace:
+    """A trace of these bytes."""
+    return Trace(io.BytesIO(data), "trace")
+
+
+def cycles(data: bytes) -> list[Cycle]:
+    """The cycles of a trace."""
+    return list(trace(data).cycles())
+
+
+def qemu(words: str, name: str = "vga", front: str = "") -> bytes:
+    """A line of qemu's log: `write 3c2 67 1`."""
+    kind, address, value, size = words.split()
+    return f"{front}memory_region_ops_{kind} cpu 0 mr 0x55d0 addr 0x{address} value 0x{value} size {size} name '{name}'\n".encode()
+
+
+def texts(*steps: Step) -> list[str]:
+    """Steps as their lines."""
+    return [step.text().decode().strip() for step in steps]
+
+
+def listed(data: bytes, **wanted: object) -> list[str]:
+    """The steps of a trace in the plain form, as lines."""
+    return texts(*Listing(trace(data), Wanted(**wanted)).steps())  # type: ignore[arg-type]
+
+
+def warned(data: bytes, **wanted: object) -> list[str]:
+    """What a trace is told to lack."""
+    listing = Listing(trace(data), Wanted(**wanted))  # type: ignore[arg-type]
+    list(listing.steps())
+    return listing.warnings()
+
+
+class Lines(unittest.TestCase):
+    def test_regions_of_qemu(self) -> None:
+        for name, space in (
+            ("vga", PORT), ("cirrus-io", PORT), ("vbe", VBE),
+            ("vga-lowmem", MEMORY), ("cirrus-low-memory", MEMORY), ("vga-chain4", MEMORY),
+        ):
+            with self.subTest(name):
+                self.assertEqual(cycles(qemu("write 3c4 302 2", name)), [Cycle(True, space, 0x3C4, 0x302, 2, None)])
+                self.assertEqual(cycles(qemu("read 3c4 2 1", name)), [Cycle(False, space, 0x3C4, 2, 1, None)])
+
+    def test_time_stamps_of_qemu(self) -> None:
+        line = qemu("read 3da 5 1", front="4711@1700000000.000042:")
+        self.assertEqual(cycles(line), [Cycle(False, PORT, 0x3DA, 5, 1, 1_700_000_000_000_042)])
+
+    def test_other_lines_and_regions_of_qemu_are_passed_over(self) -> None:
+        lines = b"qemu: some message\n" + qemu("write 70 f 1", "rtc") + b"\n" + qemu("write 3c2 67 1")
+        self.assertEqual(cycles(lines), [Cycle(True, PORT, 0x3C2, 0x67, 1, None)])
+
+    def test_damaged_lines_of_qemu_are_counted(self) -> None:
+        lines = qemu("write 3c2 67 1") + b"x\n" + 2 * b"memory_region_ops_wri\n" + qemu("write 3c4 2 1")[:-9]
+        read = trace(lines)
+        self.assertEqual(len(list(read.cycles())), 1)
+        self.assertEqual((read.damaged, read.first_damaged), (3, 3))
+
+    def test_the_plain_form(self) -> None:
+        lines = b"; a comment\n\n12 w p 3c4 302 2 ; map mask\r\n- r m A0000 5 1\n \t13\tw  m b8000 0123456789ABCDEF 8"
+        self.assertEqual(cycles(lines), [
+            Cycle(True, PORT, 0x3C4, 0x302, 2, 12), Cycle(False, MEMORY, 0xA0000, 5, 1, None),
+            Cycle(True, MEMORY, 0xB8000, 0x123456789ABCDEF, 8, 13),
+        ])
+
+    def test_faults_of_the_plain_form(self) -> None:
+        no_cycle = "it is no cycle: `TIME r|w p|m ADDRESS VALUE SIZE` is one"
+        for line, reason in (
+            (b"0 w p 3C4 302", no_cycle), (b"0 x p 3C4 2 1", no_cycle), (b"0 w q 3C4 2 1", no_cycle),
+            (b"0.5 w p 3C4 2 1", no_cycle), (b"0 w p 0x3C4 2 1", no_cycle), (b"0 w p 3C4 2 1 2", no_cycle),
+            (b"0 w p 3C4 2 3", "a cycle has 1, 2, 4 or 8 bytes, and not 3"),
+            (b"0 w p 3C4 302 1", "the value 302 has more than 1 bytes"),
+            (b"0 w p FFFF 302 2", "there is no port of address FFFF"),
+            (b"0 w m FFFFFFFF 302 2", "there is no memory of address FFFFFFFF"),
+        ):
+            with self.subTest(line), self.assertRaisesRegex(Trouble, "^" + f"trace:2: {reason}".replace("|", r"\|") + "$"):
+                cycles(BEGIN + line + b"\n")
+
+    def test_a_line_before_the_first_of_the_plain_form(self) -> None:
+        with self.assertRaisesRegex(Trouble, "^trace:2: a line before the first cycle is neither"):
+            cycles(b"; good\n0 w p 3C2 67\n" + BEGIN)
+
+    def test_no_cycle_at_all(self) -> None:
+        for data in (b"", b"; nothing\n", b"hello\n"):
+            with self.subTest(data), self.assertRaisesRegex(Trouble, "^trace: it has no cycle"):
+                cycles(data)
+
+
+class Steps(unittest.TestCase):
+    def steps(self, *lines: str) -> list[str]:
+        return texts(*steps_of(cycles("".join(f"- {line}\n" for line in lines).encode())))
+
+    def test_each_kind_of_step(self) -> None:
+        for line, text, data in (
+            ("w p 3C4 2 1", "out 3C4 02", "01 C4 03 02"),
+            ("w p 3C4 302 2", "outw 3C4 0302", "02 C4 03 02 03"),
+            ("r p 3C5 F 1", "in 3C5 ; = 0F", "03 C5 03"),
+            ("r p 3DA 5 1", "in 3DA", "03 DA 03"),
+            ("r p 3C4 F02 2", "inw 3C4 ; = 0F02", "04 C4 03"),
+            ("w m A0000 55 1", "put A0000 55", "05 00 00 0A 00 55"),
+            ("w m A0001 1234 2", "putw A0001 1234", "06 01 00 0A 00 34 12"),
+            ("r m A0000 55 1", "get A0000 ; = 55", "07 00 00 0A 00"),
+            ("r m A0000 55 2", "getw A0000 ; = 0055", "08 00 00 0A 00"),
+        ):
+            with self.subTest(line):
+                (step,) = steps_of(cycles(f"- {line}\n".encode()))
+                self.assertEqual((step.text(), step.data()), (text.encode() + b"\n", bytes.fromhex(data)))
+        self.assertEqual((Step(FRAME).text(), Step(FRAME).data()), (b"frame\n", b"\x0b"))
+        self.assertEqual((Step(ADVANCE, 258).text(), Step(ADVANCE, 258).data()), (b"advance 258\n", b"\x0a\x02\x01\0\0"))
+
+    def test_bytes_join_to_words(self) -> None:
+        self.assertEqual(self.steps("w m B8000 41 1", "w m B8001 1F 1"), ["putw B8000 1F41"])
+        self.assertEqual(self.steps("r m B8000 41 1", "r m B8001 1F 1"), ["getw B8000 ; = 1F41"])
+        self.assertEqual(self.steps(*(f"w m B800{at} 0{at} 1" for at in range(4))), ["putw B8000 0100", "putw B8002 0302"])
+
+    def test_bytes_that_are_no_word_stay(self) -> None:
+        for lines, steps in (
+            (("w m B8001 41 1", "w m B8002 1F 1"), ["put B8001 41", "put B8002 1F"]),
+            (("w m B8001 41 1", "w m B8000 1F 1"), ["put B8001 41", "put B8000 1F"]),
+            (("w m B8000 41 1", "w m B8003 1F 1"), ["put B8000 41", "put B8003 1F"]),
+            (("w m B8000 41 1", "r m B8001 1F 1"), ["put B8000 41", "get B8001 ; = 1F"]),
+            (("w m B8000 41 1", "w p 3C4 2 1", "w m B8001 1F 1"), ["put B8000 41", "out 3C4 02", "put B8001 1F"]),
+            (("w m B8000 41 1", "w m B8001 1F00 2"), ["put B8000 41", "putw B8001 1F00"]),
+            (("w m B8000 41 1", "w m B8000 42 1", "w m B8001 43 1"), ["put B8000 41", "putw B8000 4342"]),
+            (("w p 3C4 2 1", "w p 3C5 F 1"), ["out 3C4 02", "out 3C5 0F"]),
+            (("w m B8000 41 1",), ["put B8000 41"]),
+        ):
+            with self.subTest(lines):
+                self.assertEqual(self.steps(*lines), steps)
+
+    def test_wider_cycles_become_words(self) -> None:
+        self.assertEqual(self.steps("w m A0000 44332211 4"), ["putw A0000 2211", "putw A0002 4433"])
+        self.assertEqual(self.steps("r p 3C4 44332211 4"), ["inw 3C4 ; = 2211", "inw 3C6 ; = 4433"])
+        self.assertEqual(
+            self.steps("w m A0001 8877665544332211 8"),
+            ["putw A0001 2211", "putw A0003 4433", "putw A0005 6655", "putw A0007 8877"],
+        )
+
+    def test_vbe_is_left_out_and_separates_nothing(self) -> None:
+        lines = qemu("write b8000 41 1", "vga-lowmem") + qemu("write 1ce 4 2", "vbe") + qemu("write b8001 1f 1", "vga-lowmem")
+        self.assertEqual(texts(*steps_of(cycles(lines))), ["putw B8000 1F41"])
+
+    def test_rows_of_polls(self) -> None:
+        poll, mono, other = Step(IN, 0x3DA, 5), Step(IN, 0x3BA, 5), Step(IN, 0x3C9, 5)
+        steps = [poll, poll._replace(value=4), poll, mono, mono, poll, other, other, poll, Step(OUT, 0x3C0, 1), poll, poll]
+        kept = [poll, mono, poll, other, other, poll, Step(OUT, 0x3C0, 1), poll]
+        self.assertEqual(list(without_polls(steps)), kept)
+        self.assertEqual(listed(BEGIN + 3 * b"- r p 3DA 0 1\n"), ["out 3C2 67", *3 * ["in 3DA"], "frame"])
+        self.assertEqual(listed(BEGIN + 3 * b"- r p 3DA 0 1\n", keeps_polls=False), ["out 3C2 67", "in 3DA", "frame"])
+
+
+def registers(misc: int, clocking: int) -> list[Step]:
+    """The steps that choose a clock and the shape of text of 720 by 400 dots."""
+    return [
+        Step(OUT, 0x3C2, misc), Step(OUTW, 0x3C4, clocking << 8 | 1),
+        Step(OUTW, 0x3D4, 0x5F00), Step(OUTW, 0x3D4, 0xBF06), Step(OUTW, 0x3D4, 0x1F07),
+    ]
+
+
+class Passing(unittest.TestCase):
+    def dots(self, misc: int, clocking: int, *times: int) -> list[int]:
+        """The dots of `advance` before steps at these times, behind the registers that choose the clock."""
+        steps = registers(misc, clocking) + [Step(IN, 0x3DA, time=time) for time in times]
+        return [step.address for step in Pauses().steps(steps) if step.opcode == ADVANCE]
+
+    def test_dots_by_the_clock(self) -> None:
+        self.assertEqual(self.dots(0x67, 0, 0, 1000), [28_322])
+        self.assertEqual(self.dots(0x63, 0, 0, 1000), [25_175])
+        self.assertEqual(self.dots(0x67, 8, 0, 1000), [14_161])
+        self.assertEqual(self.dots(0x63, 1, 0, 1000, 3000), [25_175, 50_350])
+
+    def test_a_frame_is_the_most(self) -> None:
+        self.assertEqual(self.dots(0x67, 0, 0, 60_000_000), [900 * 449])
+        self.assertEqual(self.dots(0x67, 1, 0, 60_000_000), [800 * 449])
+
+    def test_short_times_are_put_together(self) -> None:
+        self.assertEqual(self.dots(0x67, 0, 0, 10, 20, 29, 30, 59, 60), [849, 849])
+
+    def test_no_time_where_no_clock_is_known(self) -> None:
+        self.assertEqual(self.dots(0x6B, 0, 0, 1000), [])
+        steps = [Step(OUT, 0x3C2, 0x67), Step(IN, 0x3DA, time=0), Step(IN, 0x3DA, time=1000)]
+        self.assertEqual(list(Pauses().steps(steps)), steps)
+
+    def test_time_that_runs_back_is_no_pause(self) -> None:
+        self.assertEqual(self.dots(0x67, 0, 2000, 1000, 2000), [28_322])
+        self.assertEqual(warned(b"2 w p 3C2 67 1\n1 r p 3DA 0 1\n", has_time=True), ["the time runs back 1 times, which is no pause"])
+
+    def test_the_clock_is_that_before_the_pause(self) -> None:
+        change = Step(OUT, 0x3C2, 0x63, 1000)
+        steps = [*registers(0x67, 0), Step(IN, 0x3DA, time=0), change, Step(IN, 0x3DA, time=2000)]
+        self.assertEqual([s.address for s in Pauses().steps(steps) if s.opcode == ADVANCE], [28_322, 25_175])
+
+    def test_with_time_a_whole_frame_stands_at_the_end(self) -> None:
+        self.assertEqual(listed(BEGIN, has_time=True), ["out 3C2 67", "frame", "frame"])
+
+    def test_time_that_is_asked_for_and_not_there(self) -> None:
+        for wanted in ({"has_time": True}, {"frames": 0.5}):
+            with self.subTest(wanted), self.assertRaisesRegex(Trouble, "^trace:1: the first cycle has no time, and time"):
+                listed(b"- w p 3C2 67 1\n", **wanted)
+            told = ["1 cycles have no time, and come without a pause"]
+            self.assertEqual(warned(BEGIN + b"- r p 3DA 0 1\n", **wanted), told)
+
+    def test_speed_of_what_a_script_has_chosen(self) -> None:
+        timing = Timing()
+        self.assertIsNone(timing.speed())
+        timing.take("int ax=13")
+        self.assertEqual(timing.speed(), (359_200, 25_175_000.0))
+        timing.take("int ax=D")
+        self.assertEqual(timing.speed(), (179_600, 12_587_500.0))
+
+
+class Frames(unittest.TestCase):
+    def flips(self, *steps: Step) -> list[str]:
+        return [NAMES[step.opcode] for step in Flips().steps(steps)]
+
+    def test_a_frame_before_each_change_of_the_start_address(self) -> None:
+        high, low = Step(OUTW, 0x3D4, 0x400C), Step(OUTW, 0x3D4, 0x200D)
+        draw = Step(PUT, 0xA0000, 1)
+        self.assertEqual(self.flips(draw, high, low, draw), ["put", "frame", "outw", "outw", "put"])
+        self.assertEqual(self.flips(draw, low, draw, high), ["put", "frame", "outw", "put", "frame", "outw"])
+
+    def test_bytes_and_the_other_place_of_the_controller(self) -> None:
+        for port in (0x3D4, 0x3B4):
+            steps = [Step(OUT, port, 0x0C), Step(OUT, port + 1, 0x40), Step(OUT, port, 0x0D), Step(OUT, port + 1, 0x20)]
+            self.assertEqual(self.flips(*steps), ["out", "frame", "out", "out", "out"])
+
+    def test_no_frame_where_the_address_stays(self) -> None:
+        zero, other = Step(OUTW, 0x3D4, 0x000C), Step(OUTW, 0x3D4, 0x400E)
+        self.assertEqual(self.flips(zero, other, zero), ["outw", "outw", "outw"])
+
+    def test_frames_by_time(self) -> None:
+        steps = [Step(PUT, 0xA0000, 1, time) for time in (0, 400_000, 500_000, 600_000, 5_000_000)]
+        names = [NAMES[step.opcode] for step in with_frames_every(0.5, steps)]
+        self.assertEqual(names, ["put", "put", "frame", "put", "put", "frame", "put"])
+        self.assertEqual(listed(BEGIN + b"600000 w m A0000 1 1\n", frames=0.5), ["out 3C2 67", "frame", "put A0000 01", "frame"])
+
+    def test_at_the_end_alone(self) -> None:
+        self.assertEqual(listed(BEGIN + b"- w p 3D4 400C 2\n"), ["out 3C2 67", "outw 3D4 400C", "frame"])
+        flipped = ["out 3C2 67", "frame", "outw 3D4 400C", "frame"]
+        self.assertEqual(listed(BEGIN + b"- w p 3D4 400C 2\n", frames="flip"), flipped)
+
+
+class Warnings(unittest.TestCase):
+    def test_a_good_trace_has_none(self) -> None:
+        self.assertEqual(warned(b"- r p 3CC 0 1\n" + BEGIN + b"- w m A0000 1 1\n"), [])
+
+    def test_no_beginning_at_power_on(self) -> None:
+        told = ["cycle 2 writes first, and not port 3C2: the trace doesn't begin at power-on"]
+        self.assertEqual(warned(b"- r p 3CC 0 1\n- w m B8000 1 1\n" + BEGIN), told)
+        self.assertEqual(warned(b"- r p 3CC 0 1\n- w p 3C4 1 1\n" + BEGIN), told)
+
+    def test_vbe(self) -> None:
+        def vbe(index: str, value: str) -> bytes:
+            return qemu("write 3c2 67 1") + qemu(f"write 1ce {index} 2", "vbe") + qemu(f"write 1cf {value} 2", "vbe")
+
+        self.assertEqual(warned(vbe("4", "41")), ["cycle 3 turns VBE on: what follows is no VGA's, and its memory isn't traced"])
+        self.assertEqual(warned(vbe("4", "0")), [])
+        self.assertEqual(warned(vbe("3", "1")), [])
+
+    def test_chain_4_without_memory(self) -> None:
+        told = "chain 4 with map mask 0F has no cycle of memory, first from cycle 3 on: qemu traces none there without the plugin"
+        chained = BEGIN + b"- w p 3C4 0F02 2\n- w p 3C4 0E04 2\n"
+        self.assertEqual(warned(chained), [told])
+        self.assertEqual(warned(chained + b"- w p 3C4 0604 2\n- w m A0000 1 1\n"), [told])
+        self.assertEqual(warned(BEGIN + b"- w p 3C4 4 1\n- w p 3C5 E 1\n- w p 3C4 0F02 2\n"), [told.replace("3 on", "4 on")])
+        self.assertEqual(warned(chained + b"- w p 3C4 0E04 2\n- w m A0000 1 1\n- w p 3C4 0604 2\n"), [])
+        self.assertEqual(warned(BEGIN + b"- w p 3C4 0702 2\n- w p 3C4 0E04 2\n"), [])
+
+    def test_damaged_lines(self) -> None:
+        self.assertEqual(
+            warned(qemu("write 3c2 67 1") + b"memory_region_ops_\n"), ["1 lines of cycles are damaged and left out, line 2 first"]
+        )
+
+
+class Converting(Folder):
+    def trace(self, data: bytes) -> str:
+        path = self.folder / "trace"
+        path.write_bytes(data)
+        return str(path)
+
+    def test_a_script_as_bytes_and_as_text(self) -> None:
+        path, script = self.trace(BEGIN + b"5 r p 3CC 67 1\n"), self.folder / "script"
+        figures = b"2 cycles, 3 steps, 13 bytes: 1 out, 1 in, 1 frame\n"
+        self.assertEqual(run("convert", path, script), (0, figures, ""))
+        self.assertEqual(script.read_bytes(), b"VGAS\x01" + bytes.fromhex("01 C2 03 67 03 CC 03 0B"))
+        figures = "2 cycles, 3 steps, 31 bytes: 1 out, 1 in, 1 frame\n"
+        self.assertEqual(run("convert", path, "-", "--text"), (0, b"out 3C2 67\nin 3CC ; = 67\nframe\n", figures))
+
+    def test_gzip_and_standard_input(self) -> None:
+        for data in (BEGIN, gzip.compress(BEGIN)):
+            self.assertEqual(run("convert", "-", "-", "--text", given=data)[:2], (0, b"out 3C2 67\nframe\n"))
+            self.assertEqual(run("kinds", self.trace(data)), (0, b"           1 write port 3C2 size 1\n", ""))
+
+    def test_damaged_gzip(self) -> None:
+        whole = gzip.compress(os.urandom(1000).hex().encode() + b"\n" + BEGIN)
+        path, script = self.trace(whole[:-20]), self.folder / "script"
+        status, _, said = run("convert", path, script)
+        self.assertEqual((status, script.exists()), (2, False))
+        self.assertIn("its compressed bytes are damaged", said)
+
+    def test_the_first_cycles_alone(self) -> None:
+        self.assertEqual(run("convert", "-", "-", "--text", "--to", "1", given=BEGIN + BEGIN)[1], b"out 3C2 67\nframe\n")
+
+    def test_warnings_are_told(self) -> None:
+        said = "vga-trace: warning: standard input: cycle 1 writes first, and not port 3C2: the trace doesn't begin at power-on\n"
+        self.assertEqual(run("kinds", "-", given=b"- w p 3C4 1 1\n"), (0, b"           1 write port 3C4 size 1\n", said))
+
+    def test_faults_leave_what_was_there(self) -> None:
+        script = self.folder / "script"
+        script.write_bytes(b"old")
+        status, out, said = run("convert", self.trace(BEGIN + b"oh\n"), script)
+        self.assertEqual((status, out, script.read_bytes()), (2, b"", b"old"))
+        self.assertIn("trace:2: it is no cycle", said)
+        self.assertEqual(sorted(file.name for file in self.folder.iterdir()), ["script", "trace"])
+
+    def test_a_trace_is_not_written_over(self) -> None:
+        path = self.trace(BEGIN)
+        self.assertEqual(run("convert", path, path)[0], 2)
+        self.assertEqual(Path(path).read_bytes(), BEGIN)
+
+    def test_a_full_disk_and_a_file_that_is_not_there(self) -> None:
+        self.assertEqual(run("convert", self.trace(BEGIN), "/dev/full")[::2], (2, "vga-trace: /dev/full: No space left on device\n"))
+        none = self.folder / "none"
+        self.assertEqual(run("kinds", none), (2, b"", f"vga-trace: {none}: No such file or directory\n"))
+
+    def test_too_long_is_told_with_a_number_of_cycles_that_fit(self) -> None:
+        path, script = self.trace(BEGIN + 50 * b"- w p 3C4 1 1\n"), str(self.folder / "script")
+        with mock.patch.object(converting, "MOST_BYTES", 200), contextlib.redirect_stderr(io.StringIO()) as said:
+            self.assertEqual(main(["convert", path, script]), 2)
+            told = "the script has more than 200 bytes at cycle 33; `--to 31` ends before it"
+            self.assertEqual(said.getvalue(), f"vga-trace: {path}:33: {told}\n")
+            self.assertFalse(os.path.exists(script))
+            with contextlib.redirect_stdout(io.StringIO()):
+                self.assertEqual(main(["convert", path, script, "--to", "31"]), 0)
+
+    def test_words_that_mean_nothing(self) -> None:
+        for words in ((), ("convert", "a"), ("convert", "a", "b", "--frames", "0"), ("kinds", "a", "--to", "0")):
+            self.assertEqual(run(*words)[0], 2)
+
+    def test_the_program_takes_what_is_written(self) -> None:
+        text = b"- w p 3C4 302 2\n- w p 3C4 204 2\n- w p 3CE 1005 2\n- w p 3CE E06 2\n- w p 3CE FF08 2\n"
+        path = self.trace(BEGIN + text + b"- w m B8000 41 1\n- w m B8001 1F 1\n- r m B8000 1F41 2\n")
+        ran = run_texts({"text": run("convert", path, "-", "--text")[1]})["text"]
+        self.assertEqual(ran.status, 0)
+        self.assertIn(b"\n7 ok\n8 1F41\n9 picture 37\n", ran.report)
+
+
+class Kinds(unittest.TestCase):
+    def test_cycles_are_counted_as_they_are(self) -> None:
+        lines = qemu("write 3c4 2 1") + 2 * qemu("read 3c4 2 2") + qemu("write 1ce 4 2", "vbe")
+        for address in ("a0000", "affff", "b0000", "b8000", "c0000"):
+            lines += qemu(f"write {address} 1 1", "vga-lowmem")
+        self.assertEqual(count(cycles(lines)), {
+            "write port 3C4 size 1": 1, "read port 3C4 size 2": 2, "write vbe 1CE size 2": 1, "write memory A0000 size 1": 2,
+            "write memory B0000 size 1": 1, "write memory B8000 size 1": 1, "write memory elsewhere size 1": 1,
+        })

@@ -1,0 +1,124 @@
+"""The words of the command line, what each command does, and how it ends."""
+
+from __future__ import annotations
+
+import argparse
+import os
+import sys
+from typing import Optional, Sequence, TextIO
+
+from vga_report.output import AGREED, TROUBLE, name_of
+from vga_report.streams import STANDARD, writing
+from vga_report.trouble import Trouble
+from vga_report.words import number_to, seconds
+
+from .converting import END, FLIP, Frames, Listing, Wanted, convert
+from .kinds import count
+from .trace import opened
+
+KEEP, FIRST = "keep", "first"
+# What a shell says of programs that a closed pipe or the user has ended.
+PIPE_CLOSED, INTERRUPTED = 141, 130
+MOST_CYCLES = 1 << 40
+
+
+def _frames(word: str) -> Frames:
+    """Reads when a frame stands."""
+    return word if word in (END, FLIP) else seconds(word)
+
+
+def _add_trace(parser: argparse.ArgumentParser) -> None:
+    parser.add_argument("trace", metavar="TRACE", help="qemu's log or lines of the plain form, by gzip too; - is standard input")
+    parser.add_argument(
+        "--to", type=number_to(MOST_CYCLES), metavar="N", help="the first N cycles alone (default: all)"
+    )
+
+
+def _add_listing(parser: argparse.ArgumentParser) -> None:
+    parser.add_argument(
+        "--polls", choices=[KEEP, FIRST], default=KEEP,
+        help="whether all reads of input status 1 stay, or of a row of them the first (default: keep)",
+    )
+    parser.add_argument("--time", action="store_true", help="the clock goes on by the trace's times, a frame at most a pause")
+    parser.add_argument(
+        "--frames", type=_frames, default=END, metavar="end|flip|SECONDS",
+        help="a frame at the end alone, before each change of the start address, or so often by the trace's times",
+    )
+
+
+def _parser() -> argparse.ArgumentParser:
+    parser = argparse.ArgumentParser(
+        prog="vga-trace", description="Makes scripts of what software did to a VGA. docs/TRACES.md tells how to record it."
+    )
+    commands = parser.add_subparsers(required=True, metavar="COMMAND")
+    command = commands.add_parser("convert", help="makes a script of a trace")
+    _add_trace(command)
+    command.add_argument("script", metavar="SCRIPT", help="the script; - is standard output")
+    command.add_argument("--text", action="store_true", help="a script as text, with the trace's reads as expected answers")
+    _add_listing(command)
+    command.set_defaults(job=_convert)
+    command = commands.add_parser("kinds", help="counts a trace's cycles by kind")
+    _add_trace(command)
+    command.set_defaults(job=_kinds)
+    return parser
+
+
+def _wanted(words: argparse.Namespace) -> Wanted:
+    return Wanted(words.polls == KEEP, words.time, words.frames, words.to)
+
+
+def _say(text: str, stream: Optional[TextIO] = None) -> None:
+    print(text, file=stream or sys.stderr)
+
+
+def _warn(lines: Sequence[str], name: str) -> None:
+    for line in lines:
+        _say(f"vga-trace: warning: {name}: {line}")
+
+
+def _convert(words: argparse.Namespace) -> int:
+    """Makes a script, and says what it has and what the trace lacks."""
+    with opened(words.trace) as trace, writing(words.script) as stream:
+        listing = Listing(trace, _wanted(words))
+        written = convert(listing, trace, stream, words.text)
+    _warn(listing.warnings(), name_of(words.trace))
+    _say(written.line(listing.count, words.text), sys.stderr if words.script == STANDARD else sys.stdout)
+    return AGREED
+
+
+def _kinds(words: argparse.Namespace) -> int:
+    """Counts cycles."""
+    with opened(words.trace) as trace:
+        listing = Listing(trace, Wanted(most=words.to))
+        found = count(listing.cycles())
+    _warn(listing.warnings(), name_of(words.trace))
+    print("\n".join(f"{number:12,} {kind}" for kind, number in found.most_common()))
+    return AGREED
+
+
+def _end(words: argparse.Namespace) -> int:
+    """Does a command's work; what ends it is told on standard error."""
+    try:
+        status: int = words.job(words)
+        sys.stdout.flush()
+        return status
+    except BrokenPipeError:
+        raise
+    except Trouble as trouble:
+        reason = str(trouble)
+    except OSError as error:
+        reason = f"{'standard output' if error.filename is None else error.filename}: {error.strerror}"
+    _say(f"vga-trace: {reason}")
+    return TROUBLE
+
+
+def main(words: Optional[Sequence[str]] = None) -> int:
+    """Runs a command line, and answers its exit status."""
+    try:
+        return _end(_parser().parse_args(words))
+    except BrokenPipeError:
+        # What can't be written would fail once more when Python ends.
+        os.dup2(os.open(os.devnull, os.O_WRONLY), sys.stdout.fileno())
+        return PIPE_CLOSED
+    except KeyboardInterrupt:
+        return INTERRUPTED

@@ -1,0 +1,100 @@
+"""What a script has between cycles: time that passes, and frames."""
+
+from __future__ import annotations
+
+from typing import Iterable, Iterator, Optional
+
+from vga_report.timing import Timing
+
+from .step import ADVANCE, FRAME, Step
+
+# Microseconds that are put together before they become a step: about a line.
+LEAST_PAUSE = 30
+CONTROLLERS = (0x3D4, 0x3B4)
+# The CRT controller's registers of the start address, which a page flip writes.
+START_ADDRESS = (0x0C, 0x0D)
+
+
+class Pauses:
+    """The time between steps, as dots of the clock that the steps before have chosen."""
+
+    def __init__(self) -> None:
+        self._timing = Timing()
+        self._last: Optional[int] = None
+        self._owed = 0
+        self.backwards = 0
+
+    def steps(self, steps: Iterable[Step]) -> Iterator[Step]:
+        """The steps, with the clock advanced before those to which time has passed."""
+        for step in steps:
+            self._wait(step)
+            dots = self._dots()
+            if dots:
+                yield Step(ADVANCE, dots)
+            for port, value in step.written():
+                self._timing.out(port, value)
+            yield step
+
+    def _wait(self, step: Step) -> None:
+        """Counts the time from the last step that has one to this one."""
+        if step.time is None:
+            return
+        passed = 0 if self._last is None else step.time - self._last
+        self._last = step.time
+        self.backwards += passed < 0
+        self._owed += max(passed, 0)
+
+    def _dots(self) -> int:
+        """The dots of the time that was counted, a frame's at most; 0 of less than a line, which is kept for later."""
+        if self._owed < LEAST_PAUSE:
+            return 0
+        owed, self._owed = self._owed, 0
+        speed = self._timing.speed()
+        return 0 if speed is None else min(int(owed * speed[1] / 1_000_000), speed[0])
+
+
+class Flips:
+    """A frame before each write that changes the start address: what was drawn until then."""
+
+    def __init__(self) -> None:
+        self._index = 0
+        self._registers = dict.fromkeys(START_ADDRESS, 0)
+        self._is_flipping = False
+
+    def steps(self, steps: Iterable[Step]) -> Iterator[Step]:
+        """The steps, with the frames; one for the two halves of an address."""
+        for step in steps:
+            if self._begins_flip(step):
+                yield Step(FRAME, time=step.time)
+            yield step
+
+    def _begins_flip(self, step: Step) -> bool:
+        """Whether a step changes the start address, as no step just before it does."""
+        is_of_controller, is_changed = False, False
+        for port, value in step.written():
+            is_of_controller |= port in CONTROLLERS or port - 1 in CONTROLLERS
+            is_changed |= self._write(port, value)
+        was_flipping = self._is_flipping
+        self._is_flipping = is_changed or (was_flipping and is_of_controller and self._index in START_ADDRESS)
+        return is_changed and not was_flipping
+
+    def _write(self, port: int, value: int) -> bool:
+        """Takes a byte that is written to a port; whether it changes the start address."""
+        if port in CONTROLLERS:
+            self._index = value
+        elif port - 1 in CONTROLLERS and self._index in START_ADDRESS:
+            was, self._registers[self._index] = self._registers[self._index], value
+            return was != value
+        return False
+
+
+def with_frames_every(seconds: float, steps: Iterable[Step]) -> Iterator[Step]:
+    """The steps, with a frame each time that so many seconds have passed by their times."""
+    pause = max(int(seconds * 1_000_000), 1)
+    due: Optional[int] = None
+    for step in steps:
+        if step.time is not None and (due is None or step.time >= due):
+            if due is not None:
+                yield Step(FRAME, time=step.time)
+            due = step.time + pause
+        yield step

@@ -1,0 +1,117 @@
+"""Steps of a script: what cycles become, as bytes and as text."""
+
+from __future__ import annotations
+
+import struct
+from typing import Iterable, Iterator, NamedTuple, Optional
+
+from .cycle import PORT, VBE, Cycle
+
+HEADER = b"VGAS\x01"
+# The most bytes that a script may have, and a text too.
+MOST_BYTES = 1 << 24
+OUT, OUTW, IN, INW, PUT, PUTW, GET, GETW = range(1, 9)
+ADVANCE, FRAME = 0x0A, 0x0B
+NAMES = {
+    OUT: "out", OUTW: "outw", IN: "in", INW: "inw", PUT: "put", PUTW: "putw", GET: "get", GETW: "getw",
+    ADVANCE: "advance", FRAME: "frame",
+}
+READS, WRITES = (IN, INW, GET, GETW), (OUT, OUTW, PUT, PUTW)
+PORTS, WORDS = (OUT, OUTW, IN, INW), (OUTW, INW, PUTW, GETW)
+# Input status 1, with colour and without; bits 0 and 3 tell where the beam is.
+STATUS = (0x3DA, 0x3BA)
+BEAM_BITS = 0x09
+FORMS = {
+    OUT: struct.Struct("<BHB"), OUTW: struct.Struct("<BHH"), IN: struct.Struct("<BH"), INW: struct.Struct("<BH"),
+    PUT: struct.Struct("<BIB"), PUTW: struct.Struct("<BIH"), GET: struct.Struct("<BI"), GETW: struct.Struct("<BI"),
+    ADVANCE: struct.Struct("<BI"),
+}
+
+
+class Step(NamedTuple):
+    """A step. `address` has the dots of `advance`; `value` is what was written or, in the trace, read."""
+
+    opcode: int
+    address: int = 0
+    value: int = 0
+    time: Optional[int] = None
+
+    @property
+    def is_port(self) -> bool:
+        """Whether the step is a cycle of a port."""
+        return self.opcode in PORTS
+
+    @property
+    def is_memory(self) -> bool:
+        """Whether the step is a cycle of display memory."""
+        return PUT <= self.opcode <= GETW
+
+    @property
+    def is_status(self) -> bool:
+        """Whether the step reads input status 1 alone."""
+        return self.opcode == IN and self.address in STATUS
+
+    def written(self) -> tuple[tuple[int, int], ...]:
+        """The ports that the step writes, each with its byte."""
+        if self.opcode == OUT:
+            return ((self.address, self.value),)
+        if self.opcode == OUTW:
+            return ((self.address, self.value & 0xFF), (self.address + 1, self.value >> 8))
+        return ()
+
+    def data(self) -> bytes:
+        """The step as bytes of a script."""
+        if self.opcode == FRAME:
+            return bytes([FRAME])
+        if self.opcode in WRITES:
+            return FORMS[self.opcode].pack(self.opcode, self.address, self.value)
+        return FORMS[self.opcode].pack(self.opcode, self.address)
+
+    def text(self) -> bytes:
+        """The step as a line, as `vga dis` prints it; behind a read, what was read is what is expected."""
+        name = NAMES[self.opcode]
+        if self.opcode == FRAME:
+            return b"frame\n"
+        if self.opcode == ADVANCE:
+            return f"advance {self.address}\n".encode()
+        place = f"{self.address:03X}" if self.is_port else f"{self.address:05X}"
+        value = f"{self.value:04X}" if self.opcode in WORDS else f"{self.value:02X}"
+        if self.opcode in READS:
+            value = "" if self.is_status else f"; = {value}"
+        return f"{name} {place} {value}".rstrip().encode() + b"\n"
+
+
+def _narrowed(cycle: Cycle) -> Iterator[Step]:
+    """The steps of a cycle: one of four or eight bytes becomes words, the lowest first."""
+    opcode = (OUT if cycle.space == PORT else PUT) + (0 if cycle.is_write else 2)
+    if cycle.size == 1:
+        yield Step(opcode, cycle.address, cycle.value, cycle.time)
+        return
+    for at in range(0, cycle.size, 2):
+        yield Step(opcode + 1, cycle.address + at, cycle.value >> 8 * at & 0xFFFF, cycle.time)
+
+
+def steps_of(cycles: Iterable[Cycle]) -> Iterator[Step]:
+    """The steps of cycles. A byte of memory at an even address and the next one become a word, as software meant them."""
+    held: Optional[Step] = None
+    for step in (step for cycle in cycles if cycle.space != VBE for step in _narrowed(cycle)):
+        if held is not None and step.opcode == held.opcode and step.address == held.address + 1:
+            yield Step(held.opcode + 1, held.address, held.value | step.value << 8, held.time)
+            held = None
+            continue
+        if held is not None:
+            yield held
+        held = step if step.opcode in (PUT, GET) and not step.address & 1 else None
+        if held is None:
+            yield step
+    if held is not None:
+        yield held
+
+
+def without_polls(steps: Iterable[Step]) -> Iterator[Step]:
+    """The steps, but of a row of reads of input status 1, with nothing between them, the first alone."""
+    last: Optional[Step] = None
+    for step in steps:
+        if not (step.is_status and last is not None and last.is_status and last.address == step.address):
+            yield step
+        last = step

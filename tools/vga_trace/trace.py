@@ -1,0 +1,138 @@
+"""A trace, cycle by cycle: qemu's log, or lines of the plain form."""
+
+from __future__ import annotations
+
+import gzip
+import io
+import re
+import zlib
+from contextlib import contextmanager
+from typing import BinaryIO, Iterator, Optional
+
+from vga_report.output import name_of
+from vga_report.streams import reading
+from vga_report.trouble import Trouble
+
+from .cycle import MEMORY, PORT, VBE, Cycle
+
+# Longer lines are none of a trace's.
+MOST_LINE = 1 << 16
+GZIP = b"\x1f\x8b"
+# What each cycle of qemu's log has, of whatever device.
+EVENT = b"memory_region_ops_"
+QEMU = re.compile(
+    rb"(?:\d+@(\d+)\.(\d{6}):)?memory_region_ops_(read|write) cpu -?\d+ mr (?:0x[0-9a-f]+|\(nil\)) "
+    rb"addr 0x([0-9a-f]+) value 0x([0-9a-f]+) size (\d) name '([^']*)'\s*"
+)
+# The regions of qemu's VGA cards, and of a plugin that sees chain 4.
+REGIONS = {
+    b"vga": PORT, b"cirrus-io": PORT,
+    b"vga-lowmem": MEMORY, b"cirrus-low-memory": MEMORY, b"vga-chain4": MEMORY,
+    b"vbe": VBE,
+}
+PLAIN = re.compile(
+    rb"\s*(-|[0-9]{1,18})\s+([rw])\s+([pm])\s+([0-9A-Fa-f]{1,8})\s+([0-9A-Fa-f]{1,16})\s+(\d)\s*(?:;.*)?", re.DOTALL
+)
+# A line of the plain form without a cycle: blanks, and a comment.
+PASSED = re.compile(rb"\s*(?:;.*)?", re.DOTALL)
+
+
+class Trace:
+    """The cycles of a trace that is read from a stream, and what was found of its lines."""
+
+    def __init__(self, stream: BinaryIO, name: str) -> None:
+        self._stream = stream
+        self._name = name
+        self._is_plain: Optional[bool] = None
+        self._first_other = 0
+        self.line = 0
+        self.damaged = 0
+        self.first_damaged = 0
+
+    def cycles(self) -> Iterator[Cycle]:
+        """The cycles in their order; a Trouble where there is none, or where the trace can't be read on."""
+        for line in self._lines():
+            self.line += 1
+            cycle = self._cycle(line)
+            if cycle is not None:
+                yield cycle
+        if self._is_plain is None:
+            raise Trouble("it has no cycle, neither of qemu's log nor of the plain form", self._name)
+
+    def trouble(self, reason: str) -> Trouble:
+        """What ends the work at the line that was read last."""
+        return Trouble(reason, self._name, self.line)
+
+    def _lines(self) -> Iterator[bytes]:
+        try:
+            yield from iter(lambda: self._stream.readline(MOST_LINE), b"")
+        except (EOFError, gzip.BadGzipFile, zlib.error) as error:
+            raise self.trouble(f"its compressed bytes are damaged behind this line: {error}") from error
+        except OSError as error:
+            raise self.trouble(error.strerror or str(error)) from error
+
+    def _cycle(self, line: bytes) -> Optional[Cycle]:
+        """The cycle of a line, where it has one of a VGA. The first line that has one says which form it is."""
+        if self._is_plain is None:
+            self._is_plain = self._found_form(line)
+        if self._is_plain is None:
+            return None
+        return self._plain(line) if self._is_plain else self._qemu(line)
+
+    def _found_form(self, line: bytes) -> Optional[bool]:
+        """Whether the trace is of the plain form, as far as this line tells."""
+        if EVENT in line:
+            return False
+        if PLAIN.fullmatch(line) is None:
+            if self._first_other == 0 and PASSED.fullmatch(line) is None:
+                self._first_other = self.line
+            return None
+        if self._first_other:
+            raise Trouble("a line before the first cycle is neither a cycle nor a comment", self._name, self._first_other)
+        return True
+
+    def _qemu(self, line: bytes) -> Optional[Cycle]:
+        """The cycle of a line of qemu's log. A log may have other lines, but none of a cycle may be damaged."""
+        if EVENT not in line:
+            return None
+        found = QEMU.fullmatch(line)
+        if found is None:
+            self.damaged += 1
+            self.first_damaged = self.first_damaged or self.line
+            return None
+        seconds, micros, kind, address, value, size, region = found.groups()
+        space = REGIONS.get(region)
+        if space is None:
+            return None
+        time = None if seconds is None else 1_000_000 * int(seconds) + int(micros)
+        return self._judged(Cycle(kind == b"write", space, int(address, 16), int(value, 16), int(size), time))
+
+    def _plain(self, line: bytes) -> Optional[Cycle]:
+        """The cycle of a line of the plain form, which has nothing but cycles and comments."""
+        found = PLAIN.fullmatch(line)
+        if found is None:
+            if PASSED.fullmatch(line) is None:
+                raise self.trouble("it is no cycle: `TIME r|w p|m ADDRESS VALUE SIZE` is one")
+            return None
+        time, kind, space, address, value, size = found.groups()
+        return self._judged(Cycle(
+            kind == b"w", PORT if space == b"p" else MEMORY, int(address, 16), int(value, 16), int(size),
+            None if time == b"-" else int(time),
+        ))
+
+    def _judged(self, cycle: Cycle) -> Cycle:
+        fault = cycle.fault()
+        if fault is not None:
+            raise self.trouble(fault)
+        return cycle
+
+
+@contextmanager
+def opened(path: str) -> Iterator[Trace]:
+    """The trace of a file or of standard input, compressed by gzip or not."""
+    with reading(path) as stream:
+        if stream.peek(2)[:2] == GZIP:
+            with gzip.open(stream) as unpacked:
+                yield Trace(io.BufferedReader(unpacked), name_of(path))  # type: ignore[arg-type]
+        else:
+            yield Trace(stream, name_of(path))
