@@ -23,6 +23,7 @@ from vga_trace.passing import Flips, Pauses, with_frames_every
 from vga_trace.step import ADVANCE, FRAME, GET, IN, NAMES, OUT, OUTW, PUT, PUTW, Step, steps_of, without_polls
 from vga_trace.trace import Trace
 
+from .making import ppm, report
 from .program import run_texts
 from .test_cases import Folder
 
@@ -30,6 +31,7 @@ PROGRAM = Path(__file__).resolve().parents[1] / "vga-trace"
 EXAMPLES = Path(__file__).resolve().parents[2] / "examples"
 # What a trace from power-on begins with.
 BEGIN = b"0 w p 3C2 67 1\n"
+PICTURE = ppm(9, 1, bytes(27))
 
 
 def run(*words: str | Path, given: bytes = b"") -> tuple[int, bytes, str]:
@@ -393,3 +395,96 @@ class Kinds(unittest.TestCase):
             "write port 3C4 size 1": 1, "read port 3C4 size 2": 2, "write vbe 1CE size 2": 1, "write memory A0000 size 1": 2,
             "write memory B0000 size 1": 1, "write memory B8000 size 1": 1, "write memory elsewhere size 1": 1,
         })
+
+
+class Checking(Folder):
+    # Seven steps: two writes, reads of a register, of status, of a byte and a word of memory, and the frame.
+    TRACE = (
+        BEGIN + b"- w p 3C4 2 1\n- r p 3C5 F 1\n- r p 3DA 4 1\n- r m A0000 E1 1\n- r m A0002 1234 2\n"
+    )
+    GOOD = ("ok", "ok", "0F", "04", "E1", "1234", PICTURE)
+
+    def check(self, *answers: str | bytes, given: bytes = TRACE, options: tuple[str, ...] = ()) -> tuple[int, list[str], str]:
+        """Exit status, the lines, and what is said of a report with these answers."""
+        path = self.folder / "trace"
+        path.write_bytes(given)
+        status, out, said = run("check", path, "-", *options, given=report(*answers))
+        return status, out.decode().split("\n")[:-1], said
+
+    def changed(self, **answers: str) -> tuple[str | bytes, ...]:
+        """The good answers, but of the steps `s1`, `s2` and so on."""
+        return tuple(answers.get(f"s{number}", answer) for number, answer in enumerate(self.GOOD, 1))
+
+    def test_a_report_that_agrees(self) -> None:
+        reads = [f"  read            1 {kind}" for kind in
+                 ("in port 3C5 index 02", "in port 3DA", "get memory A0000", "getw memory A0000")]
+        self.assertEqual(self.check(*self.GOOD), (0, ["7 steps, 0 refused, 4 reads answered, 0 differ", *reads], ""))
+        self.assertEqual(self.check(*self.GOOD[:-1], "ragged")[0], 0)
+
+    def test_where_the_beam_is_differs_from_none(self) -> None:
+        for answer in ("05", "0C", "0D"):
+            self.assertEqual(self.check(*self.changed(s4=answer))[0], 0)
+        status, lines, _ = self.check(*self.changed(s4="35"))
+        told = "  differ          1 in port 3DA (first at step 4: traced 04, answered 35)"
+        self.assertEqual((status, lines[0], lines[-1]), (1, "7 steps, 0 refused, 4 reads answered, 1 differ", told))
+
+    def test_reads_that_differ(self) -> None:
+        for step, answer, told in (
+            ("s3", "0E", "in port 3C5 index 02 (first at step 3: traced 0F, answered 0E)"),
+            ("s5", "00", "get memory A0000 (first at step 5: traced E1, answered 00)"),
+            ("s6", "0034", "getw memory A0000 (first at step 6: traced 1234, answered 0034)"),
+        ):
+            with self.subTest(step):
+                status, lines, _ = self.check(*self.changed(**{step: answer}))
+                self.assertEqual((status, lines[-1]), (1, f"  differ          1 {told}"))
+
+    def test_refusals_by_kind(self) -> None:
+        given = BEGIN + 2 * b"- w p 3B4 1 1\n- w p 3B5 2 1\n" + b"- r p 3C7 0 1\n"
+        status, lines, _ = self.check(
+            "ok", *4 * ["E1 NotDecoded"], "E2 NotInProfile", PICTURE, given=given
+        )
+        self.assertEqual((status, lines), (1, [
+            "7 steps, 5 refused, 0 reads answered, 0 differ",
+            "  refused         2 E1 NotDecoded: out port 3B4 (first at step 2)",
+            "  refused         2 E1 NotDecoded: out port 3B5 index 01 (first at step 3)",
+            "  refused         1 E2 NotInProfile: in port 3C7 (first at step 6)",
+        ]))
+
+    def test_so_many_kinds_at_most(self) -> None:
+        given = BEGIN + b"- r p 3C4 0 1\n- r p 3CE 0 1\n"
+        _, lines, _ = self.check("ok", "01", "01", PICTURE, given=given, options=("--most", "1"))
+        self.assertEqual([line.split()[0] for line in lines], ["4", "read", "read", "differ"])
+
+    def test_the_index_of_the_attribute_controller(self) -> None:
+        given = BEGIN + b"- w p 3C0 10 1\n- r p 3C1 0 1\n"
+        self.assertIn("in port 3C1 index 10", self.check("ok", "ok", "01", PICTURE, given=given)[1][-1])
+
+    def test_steps_that_were_left_out(self) -> None:
+        status, lines, _ = self.check(*self.changed(s5="skipped"))
+        self.assertEqual((status, lines[0]), (0, "7 steps, 0 refused, 3 reads answered, 0 differ, 1 skipped"))
+
+    def test_a_report_of_another_script(self) -> None:
+        for answers, told in (
+            (self.GOOD[:-1], "standard input: it ends before step 7, `frame`: it is of another script"),
+            ((*self.GOOD, "ok"), "standard input: it has more than the 7 steps of the trace: it is of another script"),
+            (self.changed(s1="00"), "standard input:1: step 1 is `out`, and '00' answers none: it is of another script"),
+            (self.changed(s3="ok"), "standard input:3: step 3 is `in`, and 'ok' answers none: it is of another script"),
+            (self.changed(s3="000F"), "standard input:3: step 3 is `in`, and '000F' answers none: it is of another script"),
+            (self.changed(s7="ok"), "standard input:7: step 7 is `frame`, and 'ok' answers none: it is of another script"),
+        ):
+            with self.subTest(told):
+                self.assertEqual(self.check(*answers), (2, [], f"vga-trace: {told}\n"))
+
+    def test_with_the_options_of_the_script(self) -> None:
+        given = BEGIN + 2 * b"0 r p 3DA 0 1\n"
+        self.assertEqual(self.check("ok", "00", PICTURE, given=given, options=("--polls", "first"))[0], 0)
+        self.assertEqual(self.check("ok", "00", "00", PICTURE, PICTURE, given=given, options=("--time",))[0], 0)
+        self.assertEqual(self.check("ok", PICTURE, given=given, options=("--to", "1"))[0], 0)
+        self.assertEqual(self.check("ok", "00", PICTURE, given=given)[0], 2)
+
+    def test_a_damaged_report_and_standard_input_twice(self) -> None:
+        self.assertEqual(run("check", "-", "-")[2], "vga-trace: standard input can be read once\n")
+        path = self.folder / "trace"
+        path.write_bytes(self.TRACE)
+        said = "vga-trace: standard input:2: step 2 is to come, and not '3 ok'\n"
+        self.assertEqual(run("check", path, "-", given=b"1 ok\n3 ok\n"), (2, b"", said))

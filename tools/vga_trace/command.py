@@ -7,11 +7,13 @@ import os
 import sys
 from typing import Optional, Sequence, TextIO
 
-from vga_report.output import AGREED, TROUBLE, name_of
-from vga_report.streams import STANDARD, writing
+from vga_report.output import AGREED, DIFFERED, TROUBLE, name_of, refuse_twice
+from vga_report.report import Report
+from vga_report.streams import STANDARD, reading, writing
 from vga_report.trouble import Trouble
 from vga_report.words import number_to, seconds
 
+from .checking import check
 from .converting import END, FLIP, Frames, Listing, Wanted, convert
 from .kinds import count
 from .trace import opened
@@ -19,7 +21,7 @@ from .trace import opened
 KEEP, FIRST = "keep", "first"
 # What a shell says of programs that a closed pipe or the user has ended.
 PIPE_CLOSED, INTERRUPTED = 141, 130
-MOST_CYCLES = 1 << 40
+MOST_CYCLES, MOST_KINDS = 1 << 40, 1 << 20
 
 
 def _frames(word: str) -> Frames:
@@ -57,6 +59,14 @@ def _parser() -> argparse.ArgumentParser:
     command.add_argument("--text", action="store_true", help="a script as text, with the trace's reads as expected answers")
     _add_listing(command)
     command.set_defaults(job=_convert)
+    command = commands.add_parser("check", help="holds a script's report against the trace; with the options of convert")
+    _add_trace(command)
+    command.add_argument("report", metavar="REPORT", help="the report; - is standard input")
+    command.add_argument(
+        "--most", type=number_to(MOST_KINDS), default=40, metavar="N", help="tells N kinds at most (default: 40)"
+    )
+    _add_listing(command)
+    command.set_defaults(job=_check)
     command = commands.add_parser("kinds", help="counts a trace's cycles by kind")
     _add_trace(command)
     command.set_defaults(job=_kinds)
@@ -84,6 +94,18 @@ def _convert(words: argparse.Namespace) -> int:
     _warn(listing.warnings(), name_of(words.trace))
     _say(written.line(listing.count, words.text), sys.stderr if words.script == STANDARD else sys.stdout)
     return AGREED
+
+
+def _check(words: argparse.Namespace) -> int:
+    """Holds a report against a trace."""
+    refuse_twice(words.trace, words.report)
+    name = name_of(words.report)
+    with opened(words.trace) as trace, reading(words.report) as stream:
+        listing = Listing(trace, _wanted(words))
+        checked = check(listing.steps(), Report(stream, name).steps(), name)
+    _warn(listing.warnings(), name_of(words.trace))
+    print("\n".join(checked.lines(words.most)))
+    return AGREED if checked.agrees else DIFFERED
 
 
 def _kinds(words: argparse.Namespace) -> int:

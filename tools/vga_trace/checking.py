@@ -1,0 +1,99 @@
+"""A report against the trace that its script was made from."""
+
+from __future__ import annotations
+
+from collections import Counter
+from dataclasses import dataclass, field
+from typing import Iterable, Iterator, Optional
+
+from vga_report.report import READ, REFUSAL, SKIPPED, VALUE
+from vga_report.report import Step as Answer
+from vga_report.trouble import Trouble
+
+from .kinds import Indexes
+from .step import BEAM_BITS, FRAME, NAMES, READS, WORDS, Step
+
+DONE = "ok"
+FRAME_ANSWERS = ("picture", "ragged")
+
+
+@dataclass
+class Checked:
+    """How many steps were answered, refused and left out, which reads there were, and which of them differ."""
+
+    steps: int = 0
+    skipped: int = 0
+    reads: Counter[str] = field(default_factory=Counter)
+    refused: Counter[str] = field(default_factory=Counter)
+    differing: Counter[str] = field(default_factory=Counter)
+    examples: dict[str, str] = field(default_factory=dict)
+
+    @property
+    def agrees(self) -> bool:
+        """Whether each step was done, and each read answered as in the trace."""
+        return not (self.refused or self.differing)
+
+    def lines(self, most: int) -> Iterator[str]:
+        """The figures, and of refusals and differing reads so many kinds at most."""
+        refused, reads, differing = (sum(kinds.values()) for kinds in (self.refused, self.reads, self.differing))
+        skipped = f", {self.skipped:,} skipped" if self.skipped else ""
+        yield f"{self.steps:,} steps, {refused:,} refused, {reads:,} reads answered, {differing:,} differ{skipped}"
+        for kind, count in self.refused.most_common(most):
+            yield f"  refused {count:9,} {kind} ({self.examples[kind]})"
+        for kind, count in self.reads.most_common():
+            yield f"  read    {count:9,} {kind}"
+        for kind, count in self.differing.most_common(most):
+            yield f"  differ  {count:9,} {kind} ({self.examples[kind]})"
+
+    def refuse(self, kind: str, number: int) -> None:
+        """Counts a refusal."""
+        self.refused[kind] += 1
+        self.examples.setdefault(kind, f"first at step {number:,}")
+
+    def compare(self, kind: str, step: Step, number: int, answer: str) -> None:
+        """Counts a read. Where the beam is no trace can tell: these bits of input status 1 aren't compared."""
+        self.reads[kind] += 1
+        if (int(answer, 16) ^ step.value) & ~(BEAM_BITS if step.is_status else 0):
+            traced = f"{step.value:0{len(answer)}X}"
+            self.differing[kind] += 1
+            self.examples.setdefault(kind, f"first at step {number:,}: traced {traced}, answered {answer}")
+
+
+def _fits(step: Step, answer: Answer) -> bool:
+    """Whether a step may have this answer."""
+    if answer.kind == REFUSAL or answer.answer == SKIPPED:
+        return True
+    if step.opcode in READS:
+        return READ.fullmatch(answer.answer) is not None and len(answer.answer) == (4 if step.opcode in WORDS else 2)
+    if step.opcode == FRAME:
+        return answer.answer.partition(" ")[0] in FRAME_ANSWERS
+    return answer.answer == DONE
+
+
+def _judged(step: Step, number: int, answer: Optional[Answer], name: str) -> Answer:
+    """The answer of a step; a Trouble where the report has none, or one that is no answer of such a step."""
+    if answer is None:
+        raise Trouble(f"it ends before step {number:,}, `{NAMES[step.opcode]}`: it is of another script", name)
+    if not _fits(step, answer):
+        reason = f"step {number:,} is `{NAMES[step.opcode]}`, and '{answer.answer[:40]}' answers none: it is of another script"
+        raise Trouble(reason, name, answer.line)
+    return answer
+
+
+def check(steps: Iterable[Step], answers: Iterator[Answer], name: str) -> Checked:
+    """Holds the answers of a report, which messages call by a name, against the steps of a trace."""
+    checked, indexes = Checked(), Indexes()
+    for number, step in enumerate(steps, 1):
+        answer = _judged(step, number, next(answers, None), name)
+        kind = f"{NAMES[step.opcode]} {indexes.place(step)}"
+        checked.steps += 1
+        if answer.answer == SKIPPED:
+            checked.skipped += 1
+        elif answer.kind == REFUSAL:
+            checked.refuse(f"{answer.answer}: {kind}", number)
+        elif answer.kind == VALUE:
+            checked.compare(kind, step, number, answer.answer)
+        indexes.take(step)
+    if next(answers, None) is not None:
+        raise Trouble(f"it has more than the {checked.steps:,} steps of the trace: it is of another script", name)
+    return checked
