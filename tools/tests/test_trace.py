@@ -4,6 +4,7 @@ from __future__ import annotations
 
 import contextlib
 import gzip
+import hashlib
 import io
 import os
 import subprocess
@@ -488,3 +489,21 @@ class Checking(Folder):
         path.write_bytes(self.TRACE)
         said = "vga-trace: standard input:2: step 2 is to come, and not '3 ok'\n"
         self.assertEqual(run("check", path, "-", given=b"1 ok\n3 ok\n"), (2, b"", said))
+
+
+class Example(Folder):
+    PATH = EXAMPLES / "typed-line.trace"
+
+    def test_its_picture_and_its_reads(self) -> None:
+        script = run("convert", self.PATH, "-", "--text")[1]
+        ran = run_texts({"line": script})["line"]
+        picture = ran.report[ran.report.index(b"P6"):-1]
+        self.assertEqual(hashlib.md5(picture).hexdigest(), "c568c179decaec703a3333f9afda3326")
+        path = self.folder / "report"
+        path.write_bytes(ran.report)
+        status, out, said = run("check", self.PATH, path)
+        self.assertEqual((status, out.split(b"\n")[0], said), (0, b"586 steps, 0 refused, 187 reads answered, 0 differ", ""))
+
+    def test_what_it_becomes(self) -> None:
+        told = b"586 cycles, 586 steps, 2,834 bytes: 186 in, 184 putw, 121 outw, 93 out, 1 getw, 1 frame\n"
+        self.assertEqual(run("convert", self.PATH, self.folder / "script"), (0, told, ""))
