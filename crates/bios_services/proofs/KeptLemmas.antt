@@ -35,15 +35,15 @@ use Rattle.bios_services.specs.Drawing.{character_plan}
 use Rattle.bios_services.specs.CellRuns.{cell_run_plan}
 use Rattle.bios_services.specs.Scroll.{scroll_up_plan, scroll_down_plan}
 use Rattle.bios_services.specs.Pixels.{write_pixel_plan}
-use Rattle.bios_services.specs.Teletype.{line_start, dots_in, fill_of_feed, feed_plan, advance_plan, show_plan, type_plan, teletype_plan}
-use Rattle.bios_services.specs.Strings.{string_len, character_at, ink_at, typed_plan, string_plan}
+use Rattle.bios_services.specs.Teletype.{line_start, dots_in, line_feed_fill, line_feed_plan, cursor_advance_plan, show_plan, type_plan, teletype_plan}
+use Rattle.bios_services.specs.Strings.{string_len, character_at, ink_at, type_string_plan, string_plan}
 use Rattle.bios_services.specs.ModeSet.{mode_set_plan}
 use Rattle.bios_services.specs.Colours.{colour_service_of, block_refusal, colours_plan}
 use Rattle.bios_services.specs.Tables.{table_refusal, table_plan}
 use Rattle.bios_services.specs.GlyphLoads.{glyph_load_of, load_refusal, load_plan}
 use Rattle.bios_services.specs.Refusals.{page_named, string_refusal, refusal_in_mode}
 use Rattle.bios_services.specs.Calls.{as_colours, service_of, in_mode, call_of, table_or, glyphs_or}
-use Rattle.bios_services.specs.Service.{Outcome, Answered, answered, answered_with, asked, in_mode_plan, load_at, load_unless, load_in_mode_plan, plan_of, read_cell_service, read_pixel_service, service, set_mode_plan, table_in_mode_plan, table_unless, unless}
+use Rattle.bios_services.specs.Service.{Outcome, Answered, answer_of, answer_with, call_plan, in_mode_plan, load_at, load_unless, load_in_mode_plan, plan_of, read_cell_service, read_pixel_service, service, set_mode_plan, table_in_mode_plan, table_unless, unless}
 use Rattle.bios_services.proofs.BoundLemmas.{set_of_valid, stays_valid, begins_valid, begins_valid_at}
 
 -- ---- the adapter
@@ -111,23 +111,23 @@ lt_is a b h = grind (arith, nat_tests)
 abbrev IsNear : ℕ → Type 0
 IsNear place = place < 12800
 
-fed_near : (d : BiosData) (page place : ℕ) → d.last_row < 50 → IsNear place → Always IsNear (feed_plan d page place)
-unfolding feed_plan
+fed_near : (d : BiosData) (page place : ℕ) → d.last_row < 50 → IsNear place → Always IsNear (line_feed_plan d page place)
+unfolding line_feed_plan
 fed_near d page place few near =
     on_if IsNear (nat_lt (row_of place) d.last_row) (Done (place + 256)) _
     (λ e. let l = lt_is (row_of place) d.last_row e in omega arith)
-    (λ e. behind IsNear (fill_of_feed d page place) (λ colour. up_plan (band_of d page 0 (d.columns - 1)) 0 (d.last_row + 1) 1 colour >> Done place)
+    (λ e. behind IsNear (line_feed_fill d page place) (λ colour. up_plan (band_of d page 0 (d.columns - 1)) 0 (d.last_row + 1) 1 colour >> Done place)
     (λ colour. behind IsNear (up_plan (band_of d page 0 (d.columns - 1)) 0 (d.last_row + 1) 1 colour) (λ _. Done place) (λ _. near)))
 
 start_near : (place : ℕ) → IsNear place → IsNear (line_start place)
 start_near place near = omega arith
 
-advanced_near : (d : BiosData) (page place : ℕ) → d.last_row < 50 → d.columns ≤ 80 → IsNear place → Always IsNear (advance_plan d page place)
-unfolding advance_plan
+advanced_near : (d : BiosData) (page place : ℕ) → d.last_row < 50 → d.columns ≤ 80 → IsNear place → Always IsNear (cursor_advance_plan d page place)
+unfolding cursor_advance_plan
 advanced_near d page place few narrow near =
     on_if IsNear (nat_lt (column_of place + 1) d.columns) (Done (place + 1)) _
     (λ e. let l = lt_is (column_of place + 1) d.columns e in omega arith)
-    (λ e. behind_such IsNear IsNear (feed_plan d page place) (λ below. Done (line_start below)) (fed_near d page place few near) start_near)
+    (λ e. behind_such IsNear IsNear (line_feed_plan d page place) (λ below. Done (line_start below)) (fed_near d page place few near) start_near)
 
 back_near : (place : ℕ) (b : Bool) → IsNear place → IsNear (if b then place else place - 1)
 back_near place true near = near
@@ -138,9 +138,9 @@ unfolding type_plan show_plan
 typed_near fonts d page place character ink few narrow near =
     on_if IsNear (character == 0x07) (Done place) _ (λ _. near)
     (λ _. on_if IsNear (character == 0x08) (Done (if column_of place == 0 then place else place - 1)) _ (λ _. back_near place (column_of place == 0) near)
-    (λ _. on_if IsNear (character == 0x0A) (feed_plan d page place) _ (λ _. fed_near d page place few near)
+    (λ _. on_if IsNear (character == 0x0A) (line_feed_plan d page place) _ (λ _. fed_near d page place few near)
     (λ _. on_if IsNear (character == 0x0D) (Done (line_start place)) _ (λ _. start_near place near)
-    (λ _. behind IsNear (character_plan fonts d page (cell_number d place) character ink) (λ _. advance_plan d page place) (λ _. advanced_near d page place few narrow near)))))
+    (λ _. behind IsNear (character_plan fonts d page (cell_number d place) character ink) (λ _. cursor_advance_plan d page place) (λ _. advanced_near d page place few narrow near)))))
 
 -- ---- BIOS data
 
@@ -217,9 +217,9 @@ module _ (d : BiosData) (a : AreData d) (is : IsSet d) (unset : d.mode ≢ 0) wh
       (λ next l. characters_near fonts page s block n (i + 1) next l)
 
   string : (fonts : FontSet) (page : ℕ) (s : StringCall) (block : List ℕ) → IsNear s.place → Always AreData (string_plan fonts d page s block)
-  unfolding string_plan typed_plan
+  unfolding string_plan type_string_plan
   string fonts page s block near =
-      behind_such IsNear AreData (typed_plan fonts d page s block) (λ place. if s.moves_cursor then move_cursor_plan d page place else Done d)
+      behind_such IsNear AreData (type_string_plan fonts d page s block) (λ place. if s.moves_cursor then move_cursor_plan d page place else Done d)
       (characters_near fonts page s block s.count 0 s.place near)
       (λ place l. on_if AreData s.moves_cursor (move_cursor_plan d page place) (Done d) (λ _. moved page place (omega arith)) (λ _. a))
 
@@ -301,7 +301,7 @@ in_mode_keeps asked_for fonts d r block fits a =
     by_refusal : d.mode ≢ 0 → (x : Option Refusal) → refusal_in_mode asked_for d (length block) ≡ x → Always AnswerKept (unless x asked_for fonts d r block)
     by_refusal unset (Some why) e = a
     by_refusal unset None e =
-        behind_such OutcomeKept AnswerKept (plan_of asked_for fonts d r block) (λ outcome. Done (answered outcome.0 outcome.1))
+        behind_such OutcomeKept AnswerKept (plan_of asked_for fonts d r block) (λ outcome. Done (answer_of outcome.0 outcome.1))
         (service_keeps asked_for fonts d r block fits a (set_of_valid d a.valid unset) unset e) (λ outcome k. k)
 
 table_keeps : (asked_for : TableService) (d : BiosData) (r : Regs) → AreData d → Always AnswerKept (table_in_mode_plan asked_for d r)
@@ -311,17 +311,17 @@ table_keeps asked_for d r a =
   where
     by_refusal : (x : Option Refusal) → Always AnswerKept (table_unless x asked_for d r)
     by_refusal (Some why) = a
-    by_refusal None = behind AnswerKept (table_plan asked_for d.crtc_address) (λ table. Done (answered_with table r d)) (λ _. a)
+    by_refusal None = behind AnswerKept (table_plan asked_for d.crtc_address) (λ table. Done (answer_with table r d)) (λ _. a)
 
 set_mode_keeps : (x : Option ModeRow) (mode : ℕ) (keeps : Bool) (fonts : FontSet) (d : BiosData) (r : Regs) → mode_row mode ≡ x → AreData d → Always AnswerKept (set_mode_plan x mode keeps fonts d r)
 unfolding set_mode_plan
 set_mode_keeps None mode keeps fonts d r e a = a
-set_mode_keeps (Some row) mode keeps fonts d r e a = behind AnswerKept (mode_set_plan mode row keeps fonts) (λ _. Done (answered r (data_of_mode mode row))) (λ _. begun mode row e)
+set_mode_keeps (Some row) mode keeps fonts d r e a = behind AnswerKept (mode_set_plan mode row keeps fonts) (λ _. Done (answer_of r (data_of_mode mode row))) (λ _. begun mode row e)
 
 load_keeps : (x : Option ModeRow) (load : GlyphLoad) (fonts : FontSet) (d : BiosData) (r : Regs) (block : List ℕ) → row_at d.mode load.height ≡ x → AreData d → Always AnswerKept (load_at x load fonts d r block)
 unfolding load_at
 load_keeps None load fonts d r block e a = a
-load_keeps (Some row) load fonts d r block e a = behind AnswerKept (load_plan fonts load block row) (λ _. Done (answered r (data_of_mode d.mode row))) (λ _. begun_at d.mode load.height row e)
+load_keeps (Some row) load fonts d r block e a = behind AnswerKept (load_plan fonts load block row) (λ _. Done (answer_of r (data_of_mode d.mode row))) (λ _. begun_at d.mode load.height row e)
 
 load_in_mode_keeps : (load : GlyphLoad) (fonts : FontSet) (d : BiosData) (r : Regs) (block : List ℕ) → AreData d → Always AnswerKept (load_in_mode_plan load fonts d r block)
 unfolding load_in_mode_plan load_unless
@@ -337,7 +337,7 @@ abbrev CallFits : Option Call → Type 0
 CallFits (Some (InMode asked_for)) = FitsWords asked_for
 CallFits call = Unit {0}
 
-asked_keeps : (call : Option Call) (fonts : FontSet) (d : BiosData) (r : Regs) (block : List ℕ) → CallFits call → AreData d → Always AnswerKept (asked call fonts d r block)
+asked_keeps : (call : Option Call) (fonts : FontSet) (d : BiosData) (r : Regs) (block : List ℕ) → CallFits call → AreData d → Always AnswerKept (call_plan call fonts d r block)
 asked_keeps None fonts d r block fits a = a
 asked_keeps (Some (SetMode mode keeps)) fonts d r block fits a = set_mode_keeps (mode_row mode) mode keeps fonts d r refl a
 asked_keeps (Some (ReadTable asked_for)) fonts d r block fits a = table_keeps asked_for d r a

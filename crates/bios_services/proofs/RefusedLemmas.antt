@@ -24,7 +24,7 @@ use Rattle.bios_services.specs.ModeSet.{mode_set_plan}
 use Rattle.bios_services.specs.GlyphLoads.{load_refusal, load_plan}
 use Rattle.bios_services.specs.Refusals.{refusal_in_mode, unknown_refusal}
 use Rattle.bios_services.specs.Tables.{table_plan, table_refusal}
-use Rattle.bios_services.specs.Service.{Answered, answered_with, asked, in_mode_plan, load_at, load_unless, load_in_mode_plan, plan_of, refused, service, set_mode_plan, table_in_mode_plan, table_unless, unless}
+use Rattle.bios_services.specs.Service.{Answered, answer_with, call_plan, in_mode_plan, load_at, load_unless, load_in_mode_plan, plan_of, refuse, service, set_mode_plan, table_in_mode_plan, table_unless, unless}
 use Rattle.bios_services.proofs.RunLemmas.{run_bind}
 
 -- what a plan does where its answer is a refusal: nothing
@@ -32,14 +32,14 @@ abbrev DoesNothing : {S : Type 0} → Meaning S → Plan Answered → BiosData �
 DoesNothing {S} m p d = (s : S) (e : Refusal) → (run m p s).1.0 ≡ Err e → run m p s ≡ (s, (Err e, d))
 
 -- a refusal itself
-refusal_does_nothing : {S : Type 0} (m : Meaning S) (why : Refusal) (d : BiosData) → DoesNothing m (refused why d) d
+refusal_does_nothing : {S : Type 0} (m : Meaning S) (why : Refusal) (d : BiosData) → DoesNothing m (refuse why d) d
 refusal_does_nothing m why d s e is = ap (λ (x : Result Reply Refusal). (s, (x, d))) is
 
 -- a plan whose answer is always a table and registers is never refused
 answer_is_none : {S A : Type 0} (m : Meaning S) (p : Plan A) (table : A → Table) (regs : A → Regs) (after : A → BiosData) (d : BiosData)
-    → DoesNothing m (p >>= λ a. Done (answered_with (table a) (regs a) (after a))) d
+    → DoesNothing m (p >>= λ a. Done (answer_with (table a) (regs a) (after a))) d
 answer_is_none {S} m p table regs after d s e is =
-    let whole = run_bind m p (λ a. Done (answered_with (table a) (regs a) (after a))) s in
+    let whole = run_bind m p (λ a. Done (answer_with (table a) (regs a) (after a))) s in
     let wrong = ap (λ (x : S × Answered). x.1.0) (sym whole) ∙ is in
     absurd (cc)
 
@@ -53,7 +53,7 @@ unfolding unless
 unless_does_nothing m (Some why) asked_for fonts d r block = refusal_does_nothing m why d
 unless_does_nothing m None asked_for fonts d r block = answer_is_none m (plan_of asked_for fonts d r block) (λ _. Empty) (λ o. o.0) (λ o. o.1) d
 
-if_does_nothing : {S : Type 0} (m : Meaning S) (unset : Bool) (p : Plan Answered) (d : BiosData) → DoesNothing m p d → DoesNothing m (if unset then refused NoMode d else p) d
+if_does_nothing : {S : Type 0} (m : Meaning S) (unset : Bool) (p : Plan Answered) (d : BiosData) → DoesNothing m p d → DoesNothing m (if unset then refuse NoMode d else p) d
 if_does_nothing m true p d h = refusal_does_nothing m NoMode d
 if_does_nothing m false p d h = h
 
@@ -90,7 +90,7 @@ load_in_mode_does_nothing m load fonts d r block =
     let why = load_refusal load d.mode (length block) in
     if_does_nothing m (d.mode == 0) (load_unless why load fonts d r block) d (load_unless_does_nothing m why load fonts d r block)
 
-asked_does_nothing : {S : Type 0} (m : Meaning S) (call : Option Call) (fonts : FontSet) (d : BiosData) (r : Regs) (block : List ℕ) → DoesNothing m (asked call fonts d r block) d
+asked_does_nothing : {S : Type 0} (m : Meaning S) (call : Option Call) (fonts : FontSet) (d : BiosData) (r : Regs) (block : List ℕ) → DoesNothing m (call_plan call fonts d r block) d
 asked_does_nothing m None fonts d r block = refusal_does_nothing m (unknown_refusal d) d
 asked_does_nothing m (Some (SetMode mode keeps)) fonts d r block = set_mode_does_nothing m (mode_row mode) mode keeps fonts d r
 asked_does_nothing m (Some (ReadTable asked_for)) fonts d r block = table_in_mode_does_nothing m asked_for d r

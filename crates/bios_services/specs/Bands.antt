@@ -10,6 +10,7 @@ use Rattle.bios_services.specs.Plan.{Plan, Done, ◌>>◌, put, move, each, each
 use Rattle.bios_services.specs.Cycles.{sequencer, graphics}
 use Rattle.bios_services.specs.Kinds.{kind_of, column_bytes, row_lines}
 use Rattle.bios_services.specs.Cells.{page_address}
+use Rattle.bios_services.specs.VideoRegisters.{map_mask, all_planes, graphics_mode, copy_latches, plain_access, all_bits}
 
 -- the address of a byte of a line of a row of characters
 abbrev pub address_in : Band → ℕ → ℕ → ℕ → ℕ
@@ -60,12 +61,12 @@ abbrev pub plain : ℕ → Paint
 plain byte = record { even = byte; odd = byte }
 
 -- what byte i of a line is painted with
-abbrev pub painted : Paint → ℕ → ℕ
-painted paint i = if i % 2 == 0 then paint.even else paint.odd
+abbrev pub paint_byte : Paint → ℕ → ℕ
+paint_byte paint i = if i % 2 == 0 then paint.even else paint.odd
 
 -- a line of a row is painted, a row is, and count rows from row `top` on are
 unfoldable pub paint_line : Band → Paint → ℕ → ℕ → Plan (Unit {0})
-paint_line band paint row line = each (λ i. put (address_in band row line i) (painted paint i)) band.width 0
+paint_line band paint row line = each (λ i. put (address_in band row line i) (paint_byte paint i)) band.width 0
 
 unfoldable pub paint_row : Band → Paint → ℕ → Plan (Unit {0})
 paint_row band paint row = each (paint_line band paint row) band.lines 0
@@ -76,7 +77,7 @@ paint_rows band paint top count = each (paint_row band paint) count top
 -- the graphics controller's read and write mode, which services change in 16 colours alone
 abbrev pub access_plan : Kind → ℕ → Plan (Unit {0})
 access_plan Text mode = Done tt
-access_plan Planar mode = graphics 5 mode
+access_plan Planar mode = graphics graphics_mode mode
 access_plan Packed mode = Done tt
 
 -- count rows from row `top` on get one attribute, or one colour, which goes to the planes of its bits
@@ -84,23 +85,23 @@ unfoldable pub fill_plan : Kind → Band → ℕ → ℕ → ℕ → Plan (Unit 
 fill_plan Text band colour top count = paint_rows band (blank colour) top count
 fill_plan Planar band colour top count = do
   paint_rows band (plain 0x00) top count
-  sequencer 2 (colour % 16)
-  paint_rows band (plain 0xFF) top count
-  sequencer 2 0x0F
+  sequencer map_mask (colour % 16)
+  paint_rows band (plain all_bits) top count
+  sequencer map_mask all_planes
 fill_plan Packed band colour top count = paint_rows band (plain colour) top count
 
 -- height rows from row `top` on go up by n, and the last n are filled; planes are copied through the latches
 unfoldable pub up_plan : Band → ℕ → ℕ → ℕ → ℕ → Plan (Unit {0})
 up_plan band top height n colour = do
-  access_plan band.kind 0x01
+  access_plan band.kind copy_latches
   raise_rows band n top (height - n)
-  access_plan band.kind 0x00
+  access_plan band.kind plain_access
   fill_plan band.kind band colour (top + (height - n)) n
 
 -- height rows from row `top` on go down by n, and the first n are filled
 unfoldable pub down_plan : Band → ℕ → ℕ → ℕ → ℕ → Plan (Unit {0})
 down_plan band top height n colour = do
-  access_plan band.kind 0x01
+  access_plan band.kind copy_latches
   lower_rows band n top (height - n)
-  access_plan band.kind 0x00
+  access_plan band.kind plain_access
   fill_plan band.kind band colour top n

@@ -11,6 +11,7 @@ use Rattle.bios_services.specs.Plan.{Plan, Done, ◌>>=◌, ◌>>◌, out, inp}
 use Rattle.bios_services.specs.Registers.{high, low, with_high, with_low}
 use Rattle.bios_services.specs.Palette.{set_register_plan, set_palette_plan, set_blinking_plan, read_register_plan}
 use Rattle.bios_services.specs.Dac.{set_entry_plan, set_entries_plan}
+use Rattle.bios_services.specs.VideoRegisters.{dac_mask, dac_read_index, dac_data}
 
 -- the subfunction of AL, with its arguments
 abbrev pub colour_service_of : Regs → Option ColourService
@@ -64,10 +65,10 @@ colour_refusal ReadMask len = None
 -- 15: red in DH, green in CH, blue in CL
 unfoldable pub read_entry_plan : ℕ → Regs → Plan Regs
 read_entry_plan entry r = do
-  out 0x3C7 entry
-  red ← inp 0x3C9
-  green ← inp 0x3C9
-  blue ← inp 0x3C9
+  out dac_read_index entry
+  red ← inp dac_data
+  green ← inp dac_data
+  blue ← inp dac_data
   Done (record r { cx = 256 * green + blue; dx = with_high r.dx red })
 
 -- 07 and 08: a register of the attribute controller in BH
@@ -79,7 +80,7 @@ read_register_in_bh port register r = do
 -- 19: the mask in BL
 unfoldable pub read_mask_in_bl : Regs → Plan Regs
 read_mask_in_bl r = do
-  mask ← inp 0x3C6
+  mask ← inp dac_mask
   Done (record r { bx = with_low r.bx mask })
 
 -- what a subfunction does and answers that is not refused; the CRT controller's index is at this port
@@ -93,5 +94,5 @@ colours_plan ReadOverscan port r block = read_register_in_bh port 0x11 r
 colours_plan (SetEntry entry red green blue) port r block = set_entry_plan entry red green blue >> Done r
 colours_plan (SetEntries first count) port r block = set_entries_plan first block >> Done r
 colours_plan (ReadEntry entry) port r block = read_entry_plan entry r
-colours_plan (SetMask mask) port r block = out 0x3C6 mask >> Done r
+colours_plan (SetMask mask) port r block = out dac_mask mask >> Done r
 colours_plan ReadMask port r block = read_mask_in_bl r

@@ -5,6 +5,7 @@ use Rattle.bios_modes.specs.Bda.{BiosData}
 use Rattle.bios_services.specs.Plan.{Plan, Done, ◌>>◌}
 use Rattle.bios_services.specs.Cycles.{crtc}
 use Rattle.bios_services.specs.ModeSet.{is_text}
+use Rattle.bios_services.specs.VideoRegisters.{cursor_start, cursor_end, start_address_high, cursor_address_high}
 
 -- the row and the column of a place, its high and its low byte
 abbrev pub row_of : ℕ → ℕ
@@ -38,7 +39,7 @@ cursor_address d page = d.size * page / 2 + cell_number d (place_of d page)
 -- the cursor is shown where it stands, in text on the active page; otherwise nothing is done
 unfoldable pub cursor_plan : BiosData → ℕ → Plan (Unit {0})
 cursor_plan d page =
-    if is_text d.mode then (if page == d.page then word_plan d.crtc_address 0x0E (cursor_address d page) else Done tt) else Done tt
+    if is_text d.mode then (if page == d.page then word_plan d.crtc_address cursor_address_high (cursor_address d page) else Done tt) else Done tt
 
 -- the cursor of a page at another place
 abbrev pub with_place : BiosData → ℕ → ℕ → BiosData
@@ -61,13 +62,13 @@ move_cursor_plan d page place = do
 -- the scan lines from which the cursor is drawn and to which it is, the high and the low byte of its type
 unfoldable pub cursor_type_plan : BiosData → ℕ → Plan BiosData
 cursor_type_plan d cursor_type = do
-  crtc d.crtc_address 0x0A (cursor_type / 256)
-  crtc d.crtc_address 0x0B (cursor_type % 256)
+  crtc d.crtc_address cursor_start (cursor_type / 256)
+  crtc d.crtc_address cursor_end (cursor_type % 256)
   Done (record d { cursor_type = cursor_type })
 
 -- a page is shown from its start address on, with its cursor, and is the active one
 unfoldable pub page_plan : BiosData → ℕ → Plan BiosData
 page_plan d page = do
-  word_plan d.crtc_address 0x0C (start_address d page)
+  word_plan d.crtc_address start_address_high (start_address d page)
   cursor_plan (with_page d page) page
   Done (with_page d page)

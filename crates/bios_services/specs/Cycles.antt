@@ -2,6 +2,7 @@
 -- From the IBM PS/2 Hardware Interface Technical Reference, Video Subsystems, "Video Subsystem Registers".
 use Rattle.std.specs.Prelude.{ℕ, ◌+◌, List, length, slice_index}
 use Rattle.bios_services.specs.Plan.{Plan, Done, ◌>>◌, out, inp, each}
+use Rattle.bios_services.specs.VideoRegisters.{attribute_port, sequencer_port, graphics_port, palette_shown}
 
 -- the register i behind an index port, whose data port is the next
 abbrev pub indexed : ℕ → ℕ → ℕ → Plan (Unit {0})
@@ -11,10 +12,10 @@ indexed port i v = do
 
 -- a register of the sequencer, of the graphics controller, and of the CRT controller at this port
 abbrev pub sequencer : ℕ → ℕ → Plan (Unit {0})
-sequencer i v = indexed 0x3C4 i v
+sequencer i v = indexed sequencer_port i v
 
 abbrev pub graphics : ℕ → ℕ → Plan (Unit {0})
-graphics i v = indexed 0x3CE i v
+graphics i v = indexed graphics_port i v
 
 abbrev pub crtc : ℕ → ℕ → ℕ → Plan (Unit {0})
 crtc port i v = indexed port i v
@@ -22,8 +23,8 @@ crtc port i v = indexed port i v
 -- a register of the attribute controller, where its next write is an index
 abbrev pub attribute : ℕ → ℕ → Plan (Unit {0})
 attribute i v = do
-  out 0x3C0 i
-  out 0x3C0 v
+  out attribute_port i
+  out attribute_port v
 
 -- registers 0, 1, .. behind an index port
 unfoldable pub group : ℕ → List ℕ → Plan (Unit {0})
@@ -41,6 +42,6 @@ expect_index port = inp (port + 6)
 -- the palette is shown again
 abbrev pub show_palette : ℕ → Plan (Unit {0})
 show_palette port = do
-  out 0x3C0 0x20
+  out attribute_port palette_shown
   expect_index port
   Done tt

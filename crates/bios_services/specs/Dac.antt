@@ -2,21 +2,22 @@
 -- From the IBM PS/2 and PC BIOS Interface Technical Reference, "Interrupt 10H - Video", (AH) = 10H.
 use Rattle.std.specs.Prelude.{ℕ, List, length, slice_index}
 use Rattle.bios_services.specs.Plan.{Plan, ◌>>◌, out, each}
+use Rattle.bios_services.specs.VideoRegisters.{dac_write_index, dac_data}
 
 -- 10: red, green and blue of an entry
 unfoldable pub set_entry_plan : ℕ → ℕ → ℕ → ℕ → Plan (Unit {0})
 set_entry_plan entry red green blue = do
-  out 0x3C8 entry
-  out 0x3C9 red
-  out 0x3C9 green
-  out 0x3C9 blue
+  out dac_write_index entry
+  out dac_data red
+  out dac_data green
+  out dac_data blue
 
 -- bytes for the DAC's data, where its index is set
 unfoldable pub components_plan : List ℕ → Plan (Unit {0})
-components_plan block = each (λ i. out 0x3C9 (slice_index block i)) (length block) 0
+components_plan block = each (λ i. out dac_data (slice_index block i)) (length block) 0
 
 -- 12: red, green and blue of each entry from one on, which stand in a block
 unfoldable pub set_entries_plan : ℕ → List ℕ → Plan (Unit {0})
 set_entries_plan first block = do
-  out 0x3C8 first
+  out dac_write_index first
   components_plan block

@@ -15,6 +15,7 @@ use Rattle.bios_services.specs.Kinds.{kind_of}
 use Rattle.bios_services.specs.Cells.{cell_address, write_cell_plan}
 use Rattle.bios_services.specs.Bands.{band_of, address_in, plain, paint_row}
 use Rattle.bios_services.specs.Glyphs.{glyph_line}
+use Rattle.bios_services.specs.VideoRegisters.{map_mask, all_planes, data_rotate, xor, replace}
 
 -- cell q of a page of dots as a band of one column, and the row that it stands in
 abbrev pub cell_band : BiosData → ℕ → ℕ → Band
@@ -28,35 +29,35 @@ unfoldable pub put_glyph : Band → ℕ → FontSet → ℕ → Plan (Unit {0})
 put_glyph cell row fonts character = each (λ r. put (address_in cell row r 0) (glyph_line fonts cell.lines character r)) cell.lines 0
 
 -- the same where each line is read first, so that the latches hold what it is combined with
-abbrev pub turn_byte : ℕ → ℕ → Plan (Unit {0})
-turn_byte address dots = do
+abbrev pub put_over : ℕ → ℕ → Plan (Unit {0})
+put_over address dots = do
   get address
   put address dots
 
-unfoldable pub turn_glyph : Band → ℕ → FontSet → ℕ → Plan (Unit {0})
-turn_glyph cell row fonts character = each (λ r. turn_byte (address_in cell row r 0) (glyph_line fonts cell.lines character r)) cell.lines 0
+unfoldable pub put_glyph_over : Band → ℕ → FontSet → ℕ → Plan (Unit {0})
+put_glyph_over cell row fonts character = each (λ r. put_over (address_in cell row r 0) (glyph_line fonts cell.lines character r)) cell.lines 0
 
 -- a character in 16 colours: the cell is blanked, and the planes of the colour get the glyph
 unfoldable pub plain_plan : Band → ℕ → FontSet → ℕ → ℕ → Plan (Unit {0})
 plain_plan cell row fonts character colour = do
   paint_row cell (plain 0x00) row
-  sequencer 2 (colour % 16)
+  sequencer map_mask (colour % 16)
   put_glyph cell row fonts character
-  sequencer 2 0x0F
+  sequencer map_mask all_planes
 
 -- a character by XOR: the planes of the colour are turned where the glyph has dots
-unfoldable pub turned_plan : Band → ℕ → FontSet → ℕ → ℕ → Plan (Unit {0})
-turned_plan cell row fonts character colour = do
-  graphics 3 0x18
-  sequencer 2 (colour % 16)
-  turn_glyph cell row fonts character
-  sequencer 2 0x0F
-  graphics 3 0x00
+unfoldable pub xor_plan : Band → ℕ → FontSet → ℕ → ℕ → Plan (Unit {0})
+xor_plan cell row fonts character colour = do
+  graphics data_rotate xor
+  sequencer map_mask (colour % 16)
+  put_glyph_over cell row fonts character
+  sequencer map_mask all_planes
+  graphics data_rotate replace
 
 -- a character in 16 colours; bit 7 of the colour asks for XOR
 unfoldable pub planar_plan : Band → ℕ → FontSet → ℕ → ℕ → Plan (Unit {0})
 planar_plan cell row fonts character colour =
-    if is_set colour 7 then turned_plan cell row fonts character colour else plain_plan cell row fonts character colour
+    if is_set colour 7 then xor_plan cell row fonts character colour else plain_plan cell row fonts character colour
 
 -- dot i of a line of a glyph in 256 colours
 abbrev pub dot_of : ℕ → ℕ → ℕ → ℕ

@@ -15,6 +15,7 @@ use Rattle.bios_services.specs.ModeSet.{is_text, font_plan}
 use Rattle.bios_services.specs.Cursor.{word_plan}
 use Rattle.bios_services.specs.Glyphs.{glyph_line}
 use Rattle.bios_services.specs.Colours.{block_refusal}
+use Rattle.bios_services.specs.VideoRegisters.{miscellaneous, maximum_scan_line, cursor_start, vertical_display_end, underline_location, start_address_high, cursor_address_high}
 
 -- all characters of the font of this height
 abbrev pub whole_font : ℕ → GlyphLoad
@@ -22,8 +23,8 @@ whole_font height = record { height = height; first = 0; count = 256; is_block =
 
 -- what AL names: 10 the glyphs of the block, BH scan lines each, for CX characters from DX on; 11, 12 and 14 a font of 14, 8
 -- and 16 scan lines
-abbrev pub load_named : Regs → ℕ → Option GlyphLoad
-load_named r al =
+abbrev pub load_of : Regs → ℕ → Option GlyphLoad
+load_of r al =
     if al == 0x10 then Some (record { height = high r.bx; first = r.dx; count = r.cx; is_block = true })
     else if al == 0x11 then Some (whole_font 14)
     else if al == 0x12 then Some (whole_font 8)
@@ -32,7 +33,7 @@ load_named r al =
 
 -- the glyphs that a call loads, if it does: into the one map of glyphs, which BL names
 abbrev pub glyph_load_of : Regs → Option GlyphLoad
-glyph_load_of r = if (high r.ax == 0x11) && (low r.bx == 0x00) then load_named r (low r.ax) else None
+glyph_load_of r = if (high r.ax == 0x11) && (low r.bx == 0x00) then load_of r (low r.ax) else None
 
 -- how many bytes the glyphs of a block have
 abbrev pub glyphs_len : GlyphLoad → ℕ
@@ -60,10 +61,10 @@ loaded_line fonts load block c r =
 -- with the cursor in its upper left corner
 unfoldable pub load_plan : FontSet → GlyphLoad → List ℕ → ModeRow → Plan (Unit {0})
 load_plan fonts load block row = do
-  font_plan (loaded_line fonts load block) load.height load.count load.first (slice_index row.graphics 6)
-  crtc row.crtc_address 0x09 (slice_index row.crtc 0x09)
-  word_plan row.crtc_address 0x0A row.cursor_type
-  crtc row.crtc_address 0x12 (slice_index row.crtc 0x12)
-  crtc row.crtc_address 0x14 (slice_index row.crtc 0x14)
-  word_plan row.crtc_address 0x0C 0
-  word_plan row.crtc_address 0x0E 0
+  font_plan (loaded_line fonts load block) load.height load.count load.first (slice_index row.graphics miscellaneous)
+  crtc row.crtc_address maximum_scan_line (slice_index row.crtc maximum_scan_line)
+  word_plan row.crtc_address cursor_start row.cursor_type
+  crtc row.crtc_address vertical_display_end (slice_index row.crtc vertical_display_end)
+  crtc row.crtc_address underline_location (slice_index row.crtc underline_location)
+  word_plan row.crtc_address start_address_high 0
+  word_plan row.crtc_address cursor_address_high 0

@@ -1,4 +1,5 @@
 pub mod Plan
+pub mod VideoRegisters
 pub mod Cycles
 pub mod ModeSet
 pub mod Kinds

@@ -7,6 +7,7 @@ use Rattle.bios_modes.specs.Palette.{dac_entry}
 use Rattle.bios_modes.specs.Fonts.{FontSet, glyph_row}
 use Rattle.bios_services.specs.Plan.{Plan, Done, ◌>>◌, out, put, each}
 use Rattle.bios_services.specs.Cycles.{sequencer, graphics, crtc, group, attribute_group, expect_index, show_palette}
+use Rattle.bios_services.specs.VideoRegisters.{miscellaneous_output, sequencer_port, graphics_port, dac_mask, dac_write_index, dac_data, all_bits, vertical_retrace_end, map_mask, glyph_plane, text_planes, memory_mode, all_addresses, odd_and_even_addresses, graphics_mode, plain_access, odd_and_even_access, miscellaneous, window_at_a0000}
 
 -- the two text modes
 abbrev pub is_text : ℕ → Bool
@@ -15,11 +16,11 @@ is_text mode = (mode == 0x03) || (mode == 0x07)
 -- all registers; first those of the CRT controller are unprotected
 unfoldable pub registers_plan : ModeRow → Plan (Unit {0})
 registers_plan row = do
-  out 0x3C2 row.misc
-  group 0x3C4 row.sequencer
-  crtc row.crtc_address 0x11 (bit_and (slice_index row.crtc 0x11) 0x7F)
+  out miscellaneous_output row.misc
+  group sequencer_port row.sequencer
+  crtc row.crtc_address vertical_retrace_end (bit_and (slice_index row.crtc vertical_retrace_end) 0x7F)
   group row.crtc_address row.crtc
-  group 0x3CE row.graphics
+  group graphics_port row.graphics
   expect_index row.crtc_address
   attribute_group row.attribute
   show_palette row.crtc_address
@@ -27,15 +28,15 @@ registers_plan row = do
 -- red, green and blue of one entry of the DAC, whose index is there
 unfoldable pub colour_plan : List ℕ → Plan (Unit {0})
 colour_plan colour = do
-  out 0x3C9 (slice_index colour 0)
-  out 0x3C9 (slice_index colour 1)
-  out 0x3C9 (slice_index colour 2)
+  out dac_data (slice_index colour 0)
+  out dac_data (slice_index colour 1)
+  out dac_data (slice_index colour 2)
 
 -- the DAC's mask, and n entries of a mode's palette from entry 0 on
 unfoldable pub palette_plan : ℕ → ℕ → Plan (Unit {0})
 palette_plan mode n = do
-  out 0x3C6 0xFF
-  out 0x3C8 0x00
+  out dac_mask all_bits
+  out dac_write_index 0x00
   each (λ i. colour_plan (dac_entry mode i)) n 0
 
 -- the lines of character c, so many, in plane 2
@@ -49,15 +50,15 @@ glyphs_plan line height n first = each (glyph_plan line height) n first
 -- plane 2 is reached at A0000 alone, and then planes 0 and 1 again where graphics register 6 has this value
 unfoldable pub font_plan : (ℕ → ℕ → ℕ) → ℕ → ℕ → ℕ → ℕ → Plan (Unit {0})
 font_plan line height n first window = do
-  sequencer 2 0x04
-  sequencer 4 0x06
-  graphics 5 0x00
-  graphics 6 0x04
+  sequencer map_mask glyph_plane
+  sequencer memory_mode all_addresses
+  graphics graphics_mode plain_access
+  graphics miscellaneous window_at_a0000
   glyphs_plan line height n first
-  sequencer 2 0x03
-  sequencer 4 0x02
-  graphics 5 0x10
-  graphics 6 window
+  sequencer map_mask text_planes
+  sequencer memory_mode odd_and_even_addresses
+  graphics graphics_mode odd_and_even_access
+  graphics miscellaneous window
 
 -- byte w of blank cells: a blank and the attribute 07 in turn
 abbrev pub blank_byte : ℕ → ℕ
@@ -74,7 +75,7 @@ clear_plan n = each (λ w. put (0xA0000 + w) 0) n 0
 -- what a text mode sets besides registers and palette
 unfoldable pub text_plan : ModeRow → Bool → List ℕ → Plan (Unit {0})
 text_plan row keeps font = do
-  font_plan (glyph_row 16 font) 16 256 0 (slice_index row.graphics 6)
+  font_plan (glyph_row 16 font) 16 256 0 (slice_index row.graphics miscellaneous)
   if keeps then Done tt else blank_plan row.base 0x8000
 
 -- what a mode sets besides registers and palette: a graphics mode clears its memory

@@ -3,6 +3,7 @@
 use Rattle.std.specs.Prelude.{ℕ, ◌+◌, ◌*◌, List, take, slice_index, bit_and, bit_or}
 use Rattle.bios_services.specs.Plan.{Plan, Done, ◌>>=◌, ◌>>◌, out, inp}
 use Rattle.bios_services.specs.Cycles.{attribute, attribute_group, expect_index, show_palette}
+use Rattle.bios_services.specs.VideoRegisters.{attribute_port, attribute_data, palette_shown, mode_control, not_blinking, overscan}
 
 -- 00, and 01 with register 11: a register of the attribute controller, whose next write is made an index first; the palette is
 -- shown again
@@ -17,23 +18,23 @@ unfoldable pub set_palette_plan : ℕ → List ℕ → Plan (Unit {0})
 set_palette_plan port block = do
   expect_index port
   attribute_group (take 16 block)
-  attribute 0x11 (slice_index block 16)
+  attribute overscan (slice_index block 16)
   show_palette port
 
 -- 03: bit 3 of the mode control register, 10, which makes attributes blink
 unfoldable pub set_blinking_plan : ℕ → ℕ → Plan (Unit {0})
 set_blinking_plan port blinking = do
   expect_index port
-  out 0x3C0 0x30
-  control ← inp 0x3C1
-  out 0x3C0 (bit_or (bit_and control 0xF7) (8 * blinking))
+  out attribute_port (palette_shown + mode_control)
+  control ← inp attribute_data
+  out attribute_port (bit_or (bit_and control not_blinking) (8 * blinking))
   show_palette port
 
 -- what register i of the attribute controller holds, where its next write is an index, and is again afterwards
 unfoldable pub register_plan : ℕ → ℕ → Plan ℕ
 register_plan port i = do
-  out 0x3C0 (0x20 + i)
-  value ← inp 0x3C1
+  out attribute_port (palette_shown + i)
+  value ← inp attribute_data
   expect_index port
   Done value
 

@@ -8,6 +8,7 @@ use Rattle.bios_modes.specs.Bda.{BiosData}
 use Rattle.bios_services.specs.Plan.{Plan, Done, ◌>>=◌, ◌>>◌, put, get}
 use Rattle.bios_services.specs.Cycles.{graphics}
 use Rattle.bios_services.specs.Cells.{page_address}
+use Rattle.bios_services.specs.VideoRegisters.{data_rotate, bit_mask, xor, replace, graphics_mode, write_colour, plain_access, all_bits, read_map_select}
 
 -- how many dots a graphics mode has across, and down
 abbrev pub dots_across : BiosData → ℕ
@@ -22,19 +23,19 @@ pixel_address d page x y = page_address d page + (if d.mode == 0x13 then dots_ac
 
 -- the function of planes, where bit 7 of a colour asks for XOR
 abbrev pub function_plan : ℕ → ℕ → Plan (Unit {0})
-function_plan colour function = if is_set colour 7 then graphics 3 function else Done tt
+function_plan colour function = if is_set colour 7 then graphics data_rotate function else Done tt
 
 -- a dot in 16 colours: its bit alone is written, in write mode 2, over what was read
 unfoldable pub write_dot_plan : ℕ → ℕ → ℕ → Plan (Unit {0})
 write_dot_plan address x colour = do
-  graphics 8 (0x80 / 2 ^ (x % 8))
-  function_plan colour 0x18
+  graphics bit_mask (0x80 / 2 ^ (x % 8))
+  function_plan colour xor
   get address
-  graphics 5 0x02
+  graphics graphics_mode write_colour
   put address colour
-  graphics 5 0x00
-  function_plan colour 0x00
-  graphics 8 0xFF
+  graphics graphics_mode plain_access
+  function_plan colour replace
+  graphics bit_mask all_bits
 
 -- 0C: a dot at a column and a line of a page
 unfoldable pub write_pixel_plan : BiosData → ℕ → ℕ → ℕ → ℕ → Plan (Unit {0})
@@ -44,7 +45,7 @@ write_pixel_plan d page x y colour =
 -- the byte of a plane, whose number is put into read map select
 abbrev pub plane_byte : ℕ → ℕ → Plan ℕ
 plane_byte plane address = do
-  graphics 4 plane
+  graphics read_map_select plane
   get address
 
 -- a dot in 16 colours: its bit of each plane
@@ -54,7 +55,7 @@ read_dot_plan address x = do
   b1 ← plane_byte 1 address
   b2 ← plane_byte 2 address
   b3 ← plane_byte 3 address
-  graphics 4 0
+  graphics read_map_select 0
   Done (bit_at b0 (7 - x % 8) + 2 * bit_at b1 (7 - x % 8) + 4 * bit_at b2 (7 - x % 8) + 8 * bit_at b3 (7 - x % 8))
 
 -- 0D: the colour of a dot

@@ -9,6 +9,7 @@ use Rattle.bios_services.specs.declared.kind.Kind.TheVariants.{Text, Planar, Pac
 use Rattle.bios_services.specs.Plan.{Plan, Done, ◌>>=◌, ◌>>◌, get, fold, gather}
 use Rattle.bios_services.specs.Bands.{address_in, access_plan}
 use Rattle.bios_services.specs.Glyphs.{first_character}
+use Rattle.bios_services.specs.VideoRegisters.{compare_colours, plain_access}
 
 -- a dot of 256 colours is shifted into a line from the right, as 1 where it is not 0
 unfoldable pub shift_dot : ℕ → ℕ → Plan ℕ
@@ -35,7 +36,7 @@ lines_plan cell row = gather (λ r. line_plan cell.kind (address_in cell row r 0
 -- the character whose glyph the dots of a cell are, else 0
 unfoldable pub read_character_plan : Band → ℕ → FontSet → Plan ℕ
 read_character_plan cell row fonts = do
-  access_plan cell.kind 0x08
+  access_plan cell.kind compare_colours
   lines ← lines_plan cell row
-  access_plan cell.kind 0x00
+  access_plan cell.kind plain_access
   Done (first_character fonts cell.lines lines 256)

@@ -101,77 +101,77 @@ abbrev pub Answered : Type 0
 Answered = Result Reply Refusal × BiosData
 
 -- a refused call has no cycle, and leaves the BIOS data
-abbrev pub refused : Refusal → BiosData → Plan Answered
-refused why d = Done (Err why, d)
+abbrev pub refuse : Refusal → BiosData → Plan Answered
+refuse why d = Done (Err why, d)
 
 -- registers, with a table or alone
-abbrev pub answered_with : Table → Regs → BiosData → Answered
-answered_with table r d = (Ok (record { regs = r; table = table }), d)
+abbrev pub answer_with : Table → Regs → BiosData → Answered
+answer_with table r d = (Ok (record { regs = r; table = table }), d)
 
-abbrev pub answered : Regs → BiosData → Answered
-answered r d = answered_with Empty r d
+abbrev pub answer_of : Regs → BiosData → Answered
+answer_of r d = answer_with Empty r d
 
 -- setting a mode, where there is one of this number
 unfoldable pub set_mode_plan : Option ModeRow → ℕ → Bool → FontSet → BiosData → Regs → Plan Answered
-set_mode_plan None mode keeps fonts d r = refused BadMode d
+set_mode_plan None mode keeps fonts d r = refuse BadMode d
 set_mode_plan (Some row) mode keeps fonts d r = do
   mode_set_plan mode row keeps fonts
-  Done (answered r (data_of_mode mode row))
+  Done (answer_of r (data_of_mode mode row))
 
 -- a service in a mode, or why it is refused
 unfoldable pub unless : Option Refusal → Service → FontSet → BiosData → Regs → List ℕ → Plan Answered
-unless (Some why) service fonts d r block = refused why d
+unless (Some why) service fonts d r block = refuse why d
 unless None service fonts d r block = do
   outcome ← plan_of service fonts d r block
-  Done (answered outcome.0 outcome.1)
+  Done (answer_of outcome.0 outcome.1)
 
 -- a service that needs a mode
 unfoldable pub in_mode_plan : Service → FontSet → BiosData → Regs → List ℕ → Plan Answered
-in_mode_plan service fonts d r block = if d.mode == 0 then refused NoMode d else unless (refusal_in_mode service d (length block)) service fonts d r block
+in_mode_plan service fonts d r block = if d.mode == 0 then refuse NoMode d else unless (refusal_in_mode service d (length block)) service fonts d r block
 
 -- a table in a mode, or why it is refused
 unfoldable pub table_unless : Option Refusal → TableService → BiosData → Regs → Plan Answered
-table_unless (Some why) service d r = refused why d
+table_unless (Some why) service d r = refuse why d
 table_unless None service d r = do
   table ← table_plan service d.crtc_address
-  Done (answered_with table r d)
+  Done (answer_with table r d)
 
 -- a table, which needs a mode
 unfoldable pub table_in_mode_plan : TableService → BiosData → Regs → Plan Answered
-table_in_mode_plan service d r = if d.mode == 0 then refused NoMode d else table_unless (table_refusal service) service d r
+table_in_mode_plan service d r = if d.mode == 0 then refuse NoMode d else table_unless (table_refusal service) service d r
 
 -- glyphs in a mode of text, where there is a row of their height
 unfoldable pub load_at : Option ModeRow → GlyphLoad → FontSet → BiosData → Regs → List ℕ → Plan Answered
-load_at None load fonts d r block = refused BadHeight d
+load_at None load fonts d r block = refuse BadHeight d
 load_at (Some row) load fonts d r block = do
   load_plan fonts load block row
-  Done (answered r (data_of_mode d.mode row))
+  Done (answer_of r (data_of_mode d.mode row))
 
 -- or why they are refused
 unfoldable pub load_unless : Option Refusal → GlyphLoad → FontSet → BiosData → Regs → List ℕ → Plan Answered
-load_unless (Some why) load fonts d r block = refused why d
+load_unless (Some why) load fonts d r block = refuse why d
 load_unless None load fonts d r block = load_at (row_at d.mode load.height) load fonts d r block
 
 -- glyphs, which need a mode
 unfoldable pub load_in_mode_plan : GlyphLoad → FontSet → BiosData → Regs → List ℕ → Plan Answered
-load_in_mode_plan load fonts d r block = if d.mode == 0 then refused NoMode d else load_unless (load_refusal load d.mode (length block)) load fonts d r block
+load_in_mode_plan load fonts d r block = if d.mode == 0 then refuse NoMode d else load_unless (load_refusal load d.mode (length block)) load fonts d r block
 
 -- what a call asks for
-abbrev pub asked : Option Call → FontSet → BiosData → Regs → List ℕ → Plan Answered
-asked None fonts d r block = refused (unknown_refusal d) d
-asked (Some (SetMode mode keeps)) fonts d r block = set_mode_plan (mode_row mode) mode keeps fonts d r
-asked (Some (ReadTable service)) fonts d r block = table_in_mode_plan service d r
-asked (Some (LoadGlyphs load)) fonts d r block = load_in_mode_plan load fonts d r block
-asked (Some (InMode service)) fonts d r block = in_mode_plan service fonts d r block
+abbrev pub call_plan : Option Call → FontSet → BiosData → Regs → List ℕ → Plan Answered
+call_plan None fonts d r block = refuse (unknown_refusal d) d
+call_plan (Some (SetMode mode keeps)) fonts d r block = set_mode_plan (mode_row mode) mode keeps fonts d r
+call_plan (Some (ReadTable service)) fonts d r block = table_in_mode_plan service d r
+call_plan (Some (LoadGlyphs load)) fonts d r block = load_in_mode_plan load fonts d r block
+call_plan (Some (InMode service)) fonts d r block = in_mode_plan service fonts d r block
 
 -- the service that the registers ask for; one that takes no block does not look at it
 abbrev pub service : FontSet → BiosData → Regs → List ℕ → Plan Answered
-service fonts d r block = asked (call_of r) fonts d r block
+service fonts d r block = call_plan (call_of r) fonts d r block
 
 -- a refusal, as one of the reasons why a service answers nothing
-abbrev pub served : Result Reply Refusal → Result Reply ServiceError
-served (Ok reply) = Ok reply
-served (Err why) = Err (Refused why)
+abbrev pub outcome_of : Result Reply Refusal → Result Reply ServiceError
+outcome_of (Ok reply) = Ok reply
+outcome_of (Err why) = Err (Refused why)
 
 -- whether a call takes memory, which it does before its first cycle: one for a table that takes some, in any mode
 abbrev pub takes_memory : Option Call → BiosData → Bool

@@ -37,12 +37,12 @@ abbrev pub ink_at : StringCall → List ℕ → ℕ → Ink
 ink_at s block i = record { colour = (if s.has_attributes then slice_index block (2 * i + 1) else s.colour); is_attribute = true }
 
 -- the characters are typed one after another on a page; the answer is the place behind the last
-unfoldable pub typed_plan : FontSet → BiosData → ℕ → StringCall → List ℕ → Plan ℕ
-typed_plan fonts d page s block =
+unfoldable pub type_string_plan : FontSet → BiosData → ℕ → StringCall → List ℕ → Plan ℕ
+type_string_plan fonts d page s block =
     fold (λ i place. type_plan fonts d page place (character_at s block i) (ink_at s block i)) s.count 0 s.place
 
 -- a string is typed on a page, and the cursor moved behind it where that is asked
 unfoldable pub string_plan : FontSet → BiosData → ℕ → StringCall → List ℕ → Plan BiosData
 string_plan fonts d page s block = do
-  place ← typed_plan fonts d page s block
+  place ← type_string_plan fonts d page s block
   if s.moves_cursor then move_cursor_plan d page place else Done d

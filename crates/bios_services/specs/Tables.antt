@@ -13,6 +13,7 @@ use Rattle.bios_services.specs.Plan.{Plan, Done, ◌>>=◌, ◌>>◌, out, inp, 
 use Rattle.bios_services.specs.Cycles.{expect_index}
 use Rattle.bios_services.specs.Palette.{register_plan}
 use Rattle.bios_services.specs.Colours.{has_entries}
+use Rattle.bios_services.specs.VideoRegisters.{dac_read_index, dac_data}
 
 -- the subfunction that answers a table, with its arguments
 abbrev pub table_service_of : Regs → Option TableService
@@ -46,11 +47,11 @@ read_palette_plan port = do
 
 -- 17: red, green and blue of count entries from one on
 unfoldable pub read_components_plan : ℕ → Plan (List ℕ)
-read_components_plan n = gather (λ i. inp 0x3C9) n 0
+read_components_plan n = gather (λ i. inp dac_data) n 0
 
 unfoldable pub read_entries_plan : ℕ → ℕ → Plan (List ℕ)
 read_entries_plan first count = do
-  out 0x3C7 first
+  out dac_read_index first
   read_components_plan (3 * count)
 
 -- what a subfunction does and answers that is not refused; the CRT controller's index is at this port

@@ -16,32 +16,32 @@ abbrev pub line_start : ℕ → ℕ
 line_start place = 256 * row_of place
 
 -- what a new row is filled with: in text the attribute of the last row at this column, in graphics colour 0
-unfoldable pub fill_of_feed : BiosData → ℕ → ℕ → Plan ℕ
-fill_of_feed d page place =
+unfoldable pub line_feed_fill : BiosData → ℕ → ℕ → Plan ℕ
+line_feed_fill d page place =
     if is_text d.mode then get (cell_address d page (d.columns * d.last_row + column_of place) + 1) else Done 0
 
 -- the place below; on the last row the place stays, and the page goes up by a row
-unfoldable pub feed_plan : BiosData → ℕ → ℕ → Plan ℕ
-feed_plan d page place =
+unfoldable pub line_feed_plan : BiosData → ℕ → ℕ → Plan ℕ
+line_feed_plan d page place =
     if nat_lt (row_of place) d.last_row then Done (place + 256)
     else (do
-      colour ← fill_of_feed d page place
+      colour ← line_feed_fill d page place
       up_plan (band_of d page 0 (d.columns - 1)) 0 (d.last_row + 1) 1 colour
       Done place)
 
 -- the place behind: the next column, or the first one of the row below
-unfoldable pub advance_plan : BiosData → ℕ → ℕ → Plan ℕ
-advance_plan d page place =
+unfoldable pub cursor_advance_plan : BiosData → ℕ → ℕ → Plan ℕ
+cursor_advance_plan d page place =
     if nat_lt (column_of place + 1) d.columns then Done (place + 1)
     else (do
-      below ← feed_plan d page place
+      below ← line_feed_plan d page place
       Done (line_start below))
 
 -- a character is written at a place, and the answer is the place behind
 unfoldable pub show_plan : FontSet → BiosData → ℕ → ℕ → ℕ → Ink → Plan ℕ
 show_plan fonts d page place character ink = do
   character_plan fonts d page (cell_number d place) character ink
-  advance_plan d page place
+  cursor_advance_plan d page place
 
 -- a character is typed at a place, and the answer is the place afterwards: a bell does nothing, a backspace goes a column
 -- back, a line feed a row down, a carriage return to the first column; any other is shown
@@ -49,7 +49,7 @@ unfoldable pub type_plan : FontSet → BiosData → ℕ → ℕ → ℕ → Ink 
 type_plan fonts d page place character ink =
     if character == 0x07 then Done place
     else if character == 0x08 then Done (if column_of place == 0 then place else place - 1)
-    else if character == 0x0A then feed_plan d page place
+    else if character == 0x0A then line_feed_plan d page place
     else if character == 0x0D then Done (line_start place)
     else show_plan fonts d page place character ink
 

@@ -8,6 +8,7 @@ use crate::cells::page_address;
 use crate::cycles::{graphics, move_byte, put, sequencer};
 use crate::kind::{Kind, by_kind, column_bytes, kind_of, row_lines};
 use crate::paint::Paint;
+use crate::video_registers::{ALL_BITS, ALL_PLANES, COPY_LATCHES, GRAPHICS_MODE, MAP_MASK, PLAIN};
 use bios_modes::Bda;
 use vga_card::Bus;
 
@@ -32,7 +33,7 @@ pub struct Band {
 pub(crate) fn set_access<B: Bus>(bus: &mut B, kind: Kind, mode: u8)
     ensures { bus.new ≡ (run B.meaning (access_plan kind mode) bus.old).0 }
 {
-    by_kind!(kind, {}, graphics(bus, 5, mode), {})
+    by_kind!(kind, Text => {}, Planar => graphics(bus, GRAPHICS_MODE, mode), Packed => {})
 }
 
 impl Band {
@@ -170,14 +171,14 @@ impl Band {
     {
         by_kind!(
             self.kind,
-            self.paint_rows(bus, Paint::blank(colour), top, end),
-            {
+            Text => self.paint_rows(bus, Paint::blank(colour), top, end),
+            Planar => {
                 self.paint_rows(bus, Paint::plain(0x00), top, end);
-                sequencer(bus, 2, colour % 16);
-                self.paint_rows(bus, Paint::plain(0xFF), top, end);
-                sequencer(bus, 2, 0x0F);
+                sequencer(bus, MAP_MASK, colour % 16);
+                self.paint_rows(bus, Paint::plain(ALL_BITS), top, end);
+                sequencer(bus, MAP_MASK, ALL_PLANES);
             },
-            self.paint_rows(bus, Paint::plain(colour), top, end),
+            Packed => self.paint_rows(bus, Paint::plain(colour), top, end),
         )
     }
 
@@ -190,9 +191,9 @@ impl Band {
         ensures { bus.new ≡ (run B.meaning (up_plan self top height n colour) bus.old).0 }
     {
         let kept = height - n;
-        set_access(bus, self.kind, 0x01);
+        set_access(bus, self.kind, COPY_LATCHES);
         self.raise_rows(bus, n, top, top + kept);
-        set_access(bus, self.kind, 0x00);
+        set_access(bus, self.kind, PLAIN);
         self.fill(bus, colour, top + kept, top + height);
     }
 
@@ -205,9 +206,9 @@ impl Band {
         ensures { bus.new ≡ (run B.meaning (down_plan self top height n colour) bus.old).0 }
     {
         let kept = height - n;
-        set_access(bus, self.kind, 0x01);
+        set_access(bus, self.kind, COPY_LATCHES);
         self.lower_rows(bus, n, top, top + kept);
-        set_access(bus, self.kind, 0x00);
+        set_access(bus, self.kind, PLAIN);
         self.fill(bus, colour, top, top + n);
     }
 }

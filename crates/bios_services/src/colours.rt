@@ -3,10 +3,11 @@ ghost use Rattle.std.specs.Prelude.{◌≡◌, ◌<◌, None, length};
 ghost use Rattle.bios_services.specs.Plan.{run};
 ghost use Rattle.bios_services.specs.Colours.{colour_service_of as colour_service_of_regs, register_refusal as register_refusal_of, entry_refusal as entry_refusal_of, has_entries as has_entries_of, block_refusal as block_refusal_of, colour_refusal as colour_refusal_of, read_entry_plan, read_register_in_bh, read_mask_in_bl, colours_plan};
 
-use crate::cycles::{DAC_DATA, DAC_MASK, DAC_READ_INDEX, inp, out};
+use crate::cycles::{inp, out};
 use crate::dac::{set_entries, set_entry};
-use crate::palette::{OVERSCAN, read_register, set_blinking, set_palette, set_register};
+use crate::palette::{read_register, set_blinking, set_palette, set_register};
 use crate::regs::{Regs, high, low, with_high, with_low};
+use crate::video_registers::{DAC_DATA, DAC_MASK, DAC_READ_INDEX, OVERSCAN};
 use vga_bits::Refusal;
 use vga_card::Bus;
 

@@ -6,18 +6,9 @@ ghost use Rattle.bios_services.specs.Cursor.{cell_number as cell_number_of, curs
 
 use crate::cycles::indexed;
 use crate::mode_set::is_text;
+use crate::video_registers::{CURSOR_ADDRESS, CURSOR_END, CURSOR_START, START_ADDRESS};
 use bios_modes::Bda;
 use vga_card::Bus;
-
-/// The CRT controller's registers of the cursor's first and last scan line.
-pub(crate) const CURSOR_START: u8 = 0x0A;
-
-const CURSOR_END: u8 = 0x0B;
-
-/// Its registers of the start address and of the cursor's address, each the first of two.
-pub(crate) const START_ADDRESS: u8 = 0x0C;
-
-pub(crate) const CURSOR_ADDRESS: u8 = 0x0E;
 
 /// The number of the cell at a place, counted along the rows.
 pub(crate) fn cell_number(bda: &Bda, place: u16) -> u32

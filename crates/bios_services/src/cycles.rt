@@ -3,29 +3,11 @@ ghost use Rattle.std.specs.Prelude.{◌≡◌, ◌<◌, ◌≤◌, length};
 ghost use Rattle.bios_services.specs.Plan.{run, out as out_plan, put as put_plan, inp as inp_plan, get as get_plan, move as move_plan};
 ghost use Rattle.bios_services.specs.Cycles.{indexed as indexed_plan, sequencer as sequencer_plan, graphics as graphics_plan, attribute as attribute_plan, group as group_plan, attribute_group as attribute_group_plan, expect_index as expect_index_plan, show_palette as show_palette_plan};
 
+use crate::video_registers::{ATTRIBUTE, GRAPHICS, PALETTE_SHOWN, SEQUENCER};
 use vga_card::Bus;
 
 /// What a refused read gives.
 const REFUSED: u8 = 0xFF;
-
-/// The index ports of sequencer and graphics controller, and the port of the attribute controller.
-pub(crate) const SEQUENCER: u16 = 0x3C4;
-
-pub(crate) const GRAPHICS: u16 = 0x3CE;
-
-pub(crate) const ATTRIBUTE: u16 = 0x3C0;
-
-/// The ports of the DAC: its mask, the index of reads, the index of writes, and the data.
-pub(crate) const DAC_MASK: u16 = 0x3C6;
-
-pub(crate) const DAC_READ_INDEX: u16 = 0x3C7;
-
-pub(crate) const DAC_WRITE_INDEX: u16 = 0x3C8;
-
-pub(crate) const DAC_DATA: u16 = 0x3C9;
-
-/// The attribute controller's index 0 with the palette address source on.
-const PALETTE_SHOWN: u8 = 0x20;
 
 /// Writes a byte to a port.
 pub(crate) fn out<B: Bus>(bus: &mut B, port: u16, value: u8)

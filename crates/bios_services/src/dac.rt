@@ -3,7 +3,8 @@ ghost use Rattle.std.specs.Prelude.{◌≡◌};
 ghost use Rattle.bios_services.specs.Plan.{run};
 ghost use Rattle.bios_services.specs.Dac.{set_entry_plan, components_plan, set_entries_plan};
 
-use crate::cycles::{DAC_DATA, DAC_WRITE_INDEX, out};
+use crate::cycles::out;
+use crate::video_registers::{DAC_DATA, DAC_WRITE_INDEX};
 use vga_card::Bus;
 
 /// 10: writes red, green and blue of an entry.

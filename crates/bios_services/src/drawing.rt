@@ -3,7 +3,7 @@ ghost use Rattle.std.specs.Prelude.{◌≡◌, ◌<◌, ◌≤◌, ◌+◌};
 ghost use Rattle.bios_services.specs.Plan.{run};
 ghost use Rattle.bios_services.specs.Bounds.{IsSet, pages_of};
 ghost use Rattle.bios_services.specs.Bands.{IsBand};
-ghost use Rattle.bios_services.specs.Drawing.{cell_band as cell_band_of, put_glyph as put_glyph_plan, turn_byte as turn_byte_plan, turn_glyph as turn_glyph_plan, plain_plan, turned_plan, planar_plan, dot_of, put_dots as put_dots_plan, packed_plan, character_plan, characters_plan};
+ghost use Rattle.bios_services.specs.Drawing.{cell_band as cell_band_of, put_glyph as put_glyph_plan, put_over as put_over_plan, put_glyph_over as put_glyph_over_plan, plain_plan, xor_plan, planar_plan, dot_of, put_dots as put_dots_plan, packed_plan, character_plan, characters_plan};
 
 use crate::band::Band;
 use crate::cells::{cell_address, write_cell};
@@ -12,6 +12,7 @@ use crate::glyphs::glyph_line;
 use crate::ink::Ink;
 use crate::kind::{by_kind, kind_of};
 use crate::paint::Paint;
+use crate::video_registers::{ALL_PLANES, DATA_ROTATE, MAP_MASK, REPLACE, XOR};
 use bios_modes::{Bda, Fonts};
 use vga_bits::is_set;
 use vga_card::Bus;
@@ -41,23 +42,23 @@ fn put_glyph<B: Bus>(bus: &mut B, cell: Band, row: u32, fonts: &Fonts, character
 }
 
 /// Reads a byte, so that the latches hold it, and writes dots over it.
-fn turn_byte<B: Bus>(bus: &mut B, address: u32, dots: u8)
-    ensures { bus.new ≡ (run B.meaning (turn_byte_plan address dots) bus.old).0 }
+fn put_over<B: Bus>(bus: &mut B, address: u32, dots: u8)
+    ensures { bus.new ≡ (run B.meaning (put_over_plan address dots) bus.old).0 }
 {
     get(bus, address);
     put(bus, address, dots);
 }
 
 /// Writes a glyph to a cell of planes, each line after it was read.
-#[tactic(auto, using(crate::proofs::RunLemmas::run_bind), unfolding(crate::specs::Drawing::turn_glyph))]
-fn turn_glyph<B: Bus>(bus: &mut B, cell: Band, row: u32, fonts: &Fonts, character: u8)
+#[tactic(auto, using(crate::proofs::RunLemmas::run_bind), unfolding(crate::specs::Drawing::put_glyph_over))]
+fn put_glyph_over<B: Bus>(bus: &mut B, cell: Band, row: u32, fonts: &Fonts, character: u8)
     requires cell { IsBand cell }
     requires row { row < 200000 }
-    ensures { bus.new ≡ (run B.meaning (turn_glyph_plan cell row fonts.now character) bus.old).0 }
+    ensures { bus.new ≡ (run B.meaning (put_glyph_over_plan cell row fonts.now character) bus.old).0 }
 {
     for r in 0..cell.lines {
         let dots = glyph_line(fonts, cell.lines, character, r);
-        turn_byte(bus, cell.address(row, r, 0), dots);
+        put_over(bus, cell.address(row, r, 0), dots);
     }
 }
 
@@ -69,23 +70,23 @@ fn draw_plain<B: Bus>(bus: &mut B, cell: Band, row: u32, fonts: &Fonts, characte
     ensures { bus.new ≡ (run B.meaning (plain_plan cell row fonts.now character colour) bus.old).0 }
 {
     cell.paint_row(bus, Paint::plain(0x00), row);
-    sequencer(bus, 2, colour % 16);
+    sequencer(bus, MAP_MASK, colour % 16);
     put_glyph(bus, cell, row, fonts, character);
-    sequencer(bus, 2, 0x0F);
+    sequencer(bus, MAP_MASK, ALL_PLANES);
 }
 
 /// Draws a character in 16 colours by XOR.
-#[tactic(auto, using(crate::proofs::RunLemmas::run_bind), unfolding(crate::specs::Drawing::turned_plan))]
-fn draw_turned<B: Bus>(bus: &mut B, cell: Band, row: u32, fonts: &Fonts, character: u8, colour: u8)
+#[tactic(auto, using(crate::proofs::RunLemmas::run_bind), unfolding(crate::specs::Drawing::xor_plan))]
+fn draw_by_xor<B: Bus>(bus: &mut B, cell: Band, row: u32, fonts: &Fonts, character: u8, colour: u8)
     requires cell { IsBand cell }
     requires row { row < 200000 }
-    ensures { bus.new ≡ (run B.meaning (turned_plan cell row fonts.now character colour) bus.old).0 }
+    ensures { bus.new ≡ (run B.meaning (xor_plan cell row fonts.now character colour) bus.old).0 }
 {
-    graphics(bus, 3, 0x18);
-    sequencer(bus, 2, colour % 16);
-    turn_glyph(bus, cell, row, fonts, character);
-    sequencer(bus, 2, 0x0F);
-    graphics(bus, 3, 0x00);
+    graphics(bus, DATA_ROTATE, XOR);
+    sequencer(bus, MAP_MASK, colour % 16);
+    put_glyph_over(bus, cell, row, fonts, character);
+    sequencer(bus, MAP_MASK, ALL_PLANES);
+    graphics(bus, DATA_ROTATE, REPLACE);
 }
 
 /// Draws a character in 16 colours, where bit 7 of the colour asks for XOR.
@@ -96,7 +97,7 @@ fn draw_planar<B: Bus>(bus: &mut B, cell: Band, row: u32, fonts: &Fonts, charact
     ensures { bus.new ≡ (run B.meaning (planar_plan cell row fonts.now character colour) bus.old).0 }
 {
     if is_set(colour, 7) {
-        draw_turned(bus, cell, row, fonts, character, colour);
+        draw_by_xor(bus, cell, row, fonts, character, colour);
     } else {
         draw_plain(bus, cell, row, fonts, character, colour);
     }
@@ -156,9 +157,9 @@ pub(crate) fn write_character<B: Bus>(
     let colour = ink.colour;
     by_kind!(
         kind_of(bda.mode()),
-        write_cell(bus, cell_address(bda, page, q), character, ink),
-        draw_planar(bus, cell_band(bda, page, q), row, fonts, character, colour),
-        draw_packed(bus, cell_band(bda, page, q), row, fonts, character, colour),
+        Text => write_cell(bus, cell_address(bda, page, q), character, ink),
+        Planar => draw_planar(bus, cell_band(bda, page, q), row, fonts, character, colour),
+        Packed => draw_packed(bus, cell_band(bda, page, q), row, fonts, character, colour),
     )
 }
 

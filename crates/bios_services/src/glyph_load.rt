@@ -7,21 +7,20 @@ ghost use Rattle.bios_services.specs.GlyphLoads.{AreThere, whole_font, glyph_loa
 
 use crate::cells::GRAPHICS_BASE;
 use crate::colours::block_refusal;
-use crate::cursor::{CURSOR_ADDRESS, CURSOR_START, START_ADDRESS, write_word};
+use crate::cursor::write_word;
 use crate::cycles::{graphics, indexed, put, sequencer};
 use crate::glyphs::glyph_line;
 use crate::mode_set::is_text;
 use crate::regs::{Regs, high, low};
+use crate::video_registers::{
+    ALL_ADDRESSES, CURSOR_ADDRESS, CURSOR_START, GLYPH_PLANE, GRAPHICS_MODE, MAP_MASK,
+    MAXIMUM_SCAN_LINE, MEMORY_MODE, MISCELLANEOUS, ODD_AND_EVEN_ADDRESSES, PLAIN,
+    PLAIN_ODD_AND_EVEN, START_ADDRESS, TEXT_PLANES, UNDERLINE_LOCATION, VERTICAL_DISPLAY_END,
+    WINDOW_AT_A0000,
+};
 use bios_modes::{Fonts, ModeRow};
 use vga_bits::Refusal;
 use vga_card::Bus;
-
-/// The CRT controller's registers that the height of characters changes, besides those of the cursor.
-const MAXIMUM_SCAN_LINE: u8 = 0x09;
-
-const VERTICAL_DISPLAY_END: u8 = 0x12;
-
-const UNDERLINE: u8 = 0x14;
 
 /// Glyphs that are to be loaded, and the height of characters that comes with them.
 #[derive(Clone, Copy)]
@@ -141,15 +140,15 @@ impl GlyphLoad {
         requires { AreThere self (length block.now) }
         ensures { bus.new ≡ (run B.meaning (font_plan (loaded_line fonts.now self block.now) self.height self.count self.first window) bus.old).0 }
     {
-        sequencer(bus, 2, 0x04);
-        sequencer(bus, 4, 0x06);
-        graphics(bus, 5, 0x00);
-        graphics(bus, 6, 0x04);
+        sequencer(bus, MAP_MASK, GLYPH_PLANE);
+        sequencer(bus, MEMORY_MODE, ALL_ADDRESSES);
+        graphics(bus, GRAPHICS_MODE, PLAIN);
+        graphics(bus, MISCELLANEOUS, WINDOW_AT_A0000);
         self.write_glyphs(bus, fonts, block);
-        sequencer(bus, 2, 0x03);
-        sequencer(bus, 4, 0x02);
-        graphics(bus, 5, 0x10);
-        graphics(bus, 6, window);
+        sequencer(bus, MAP_MASK, TEXT_PLANES);
+        sequencer(bus, MEMORY_MODE, ODD_AND_EVEN_ADDRESSES);
+        graphics(bus, GRAPHICS_MODE, PLAIN_ODD_AND_EVEN);
+        graphics(bus, MISCELLANEOUS, window);
     }
 
     /// Writes the font of 16 scan lines, as a mode set does.
@@ -167,7 +166,7 @@ impl GlyphLoad {
         ensures { bus.new ≡ (run B.meaning (load_plan fonts.now self block.now row.now) bus.old).0 }
     {
         let port = row.crtc_address;
-        self.write_font(bus, fonts, block, row.graphics[6]);
+        self.write_font(bus, fonts, block, row.graphics[MISCELLANEOUS as usize]);
         indexed(
             bus,
             port,
@@ -181,7 +180,12 @@ impl GlyphLoad {
             VERTICAL_DISPLAY_END,
             row.crtc[VERTICAL_DISPLAY_END as usize],
         );
-        indexed(bus, port, UNDERLINE, row.crtc[UNDERLINE as usize]);
+        indexed(
+            bus,
+            port,
+            UNDERLINE_LOCATION,
+            row.crtc[UNDERLINE_LOCATION as usize],
+        );
         write_word(bus, port, START_ADDRESS, 0);
         write_word(bus, port, CURSOR_ADDRESS, 0);
     }

@@ -11,7 +11,7 @@ ghost use Rattle.bios_services.specs.GlyphLoads.{load_refusal};
 ghost use Rattle.bios_services.specs.declared.reply.Table.TheVariants.{Empty};
 ghost use Rattle.bios_services.specs.declared.reply.ServiceError.TheVariants.{OutOfMemory};
 ghost use Rattle.bios_services.specs.declared.call.Call.TheVariants.{ReadTable};
-ghost use Rattle.bios_services.specs.Service.{set_mode_plan, load_at, load_in_mode_plan, in_mode_plan, read_cursor_of, read_mode_of, read_adapter_of, read_display_of, read_cell_service, read_pixel_service, plan_of, table_in_mode_plan, service, served as served_of, takes_memory, Serves};
+ghost use Rattle.bios_services.specs.Service.{set_mode_plan, load_at, load_in_mode_plan, in_mode_plan, read_cursor_of, read_mode_of, read_adapter_of, read_display_of, read_cell_service, read_pixel_service, plan_of, table_in_mode_plan, service, outcome_of as outcome_of_result, takes_memory, Serves};
 
 use crate::call::{Call, Service, decode};
 use crate::cells::{cell_address, read_cell};
@@ -166,7 +166,7 @@ fn perform_allowed<B: Bus>(
 }
 
 /// The answer of registers alone.
-fn answered(regs: Regs) -> Result<Reply, Refusal>
+fn answer_of(regs: Regs) -> Result<Reply, Refusal>
     ensures { result ≡ Ok (record { regs = regs; table = Empty }) }
 {
     Ok(Reply {
@@ -194,7 +194,7 @@ fn set_mode<B: Bus>(
     };
     mode_set::set_mode(bus, mode, &row, keeps, fonts);
     bda.begin_mode(mode, &row);
-    answered(regs)
+    answer_of(regs)
 }
 
 /// Loads glyphs that are not refused but for their height, where there is a row of that.
@@ -218,7 +218,7 @@ fn load_allowed<B: Bus>(
     };
     load.write(bus, fonts, block, &row);
     bda.begin_mode(mode, &row);
-    answered(regs)
+    answer_of(regs)
 }
 
 /// Loads glyphs of text, unless they are refused.
@@ -264,7 +264,7 @@ fn in_mode<B: Bus>(
     if let Some(why) = refusal_in_mode(service, bda, block.len()) {
         return Err(why);
     }
-    answered(perform_allowed(bus, bda, fonts, service, regs, block))
+    answer_of(perform_allowed(bus, bda, fonts, service, regs, block))
 }
 
 /// Answers a table, unless that is refused.
@@ -293,8 +293,8 @@ fn table_in_mode<B: Bus>(
 }
 
 /// An answer, or a refusal as one of the reasons why there is none.
-fn served(outcome: Result<Reply, Refusal>) -> Result<Reply, ServiceError>
-    ensures { result ≡ served_of outcome }
+fn outcome_of(outcome: Result<Reply, Refusal>) -> Result<Reply, ServiceError>
+    ensures { result ≡ outcome_of_result outcome }
 {
     match outcome {
         Ok(reply) => Ok(reply),
@@ -328,9 +328,13 @@ pub fn int10<B: Bus>(
 {
     match decode(regs) {
         None => Err(ServiceError::Refused(unknown_refusal(bda))),
-        Some(Call::SetMode { mode, keeps }) => served(set_mode(bus, bda, fonts, mode, keeps, regs)),
+        Some(Call::SetMode { mode, keeps }) => outcome_of(set_mode(
+            bus, bda, fonts, mode, keeps, regs,
+        )),
         Some(Call::ReadTable(service)) => table_in_mode(alloc, bus, bda, service, regs),
-        Some(Call::LoadGlyphs(load)) => served(load_in_mode(bus, bda, fonts, load, regs, block)),
-        Some(Call::InMode(service)) => served(in_mode(bus, bda, fonts, service, regs, block)),
+        Some(Call::LoadGlyphs(load)) => outcome_of(load_in_mode(
+            bus, bda, fonts, load, regs, block,
+        )),
+        Some(Call::InMode(service)) => outcome_of(in_mode(bus, bda, fonts, service, regs, block)),
     }
 }

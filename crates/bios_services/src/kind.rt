@@ -24,9 +24,9 @@ pub(crate) fn kind_of(mode: u8) -> Kind
     }
 }
 
-/// What stands for text, for 16 colours and for 256 colours, by the kind.
+/// What stands for text, for 16 colours and for 256 colours, by the kind. Each arm says for what it stands.
 macro_rules! by_kind {
-    ($kind:expr, $text:expr, $planar:expr, $packed:expr $(,)?) => {
+    ($kind:expr, Text => $text:expr, Planar => $planar:expr, Packed => $packed:expr $(,)?) => {
         match $kind {
             $crate::kind::Kind::Text => $text,
             $crate::kind::Kind::Planar => $planar,
@@ -42,7 +42,7 @@ pub(crate) fn column_bytes(kind: Kind) -> u32
     ensures value { result ≡ column_bytes_of kind }
     ensures few { result ≤ 8 }
 {
-    by_kind!(kind, 2, 1, 8)
+    by_kind!(kind, Text => 2, Planar => 1, Packed => 8)
 }
 
 /// How many lines of the memory a row of characters takes, each of so many dots in height.
@@ -51,5 +51,5 @@ pub(crate) fn row_lines(kind: Kind, height: u16) -> u32
     ensures value { result ≡ row_lines_of kind height }
     ensures few { result ≤ 16 }
 {
-    by_kind!(kind, 1, height as u32, height as u32)
+    by_kind!(kind, Text => 1, Planar => height as u32, Packed => height as u32)
 }

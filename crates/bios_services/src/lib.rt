@@ -28,6 +28,7 @@ mod scroll;
 mod strings;
 mod tables;
 mod teletype;
+mod video_registers;
 
 pub use interrupt::int10;
 pub use regs::Regs;

@@ -5,19 +5,14 @@ ghost use Rattle.bios_services.specs.Plan.{run};
 ghost use Rattle.bios_services.specs.ModeSet.{is_text as is_text_mode, registers_plan, colour_plan, palette_plan, blank_byte as blank_byte_of, blank_plan, clear_plan, text_plan, memory_plan, mode_set_plan};
 
 use crate::cells::GRAPHICS_BASE;
-use crate::cycles::{
-    DAC_DATA, DAC_MASK, DAC_WRITE_INDEX, GRAPHICS, SEQUENCER, attribute_group, expect_index, group,
-    indexed, out, put, show_palette,
-};
+use crate::cycles::{attribute_group, expect_index, group, indexed, out, put, show_palette};
 use crate::glyph_load::GlyphLoad;
+use crate::video_registers::{
+    ALL_BITS, DAC_DATA, DAC_MASK, DAC_WRITE_INDEX, GRAPHICS, MISCELLANEOUS, MISCELLANEOUS_OUTPUT,
+    SEQUENCER, VERTICAL_RETRACE_END,
+};
 use bios_modes::{Fonts, ModeRow, dac_entry};
 use vga_card::Bus;
-
-/// The port of the miscellaneous output register.
-const MISCELLANEOUS: u16 = 0x3C2;
-
-/// The CRT controller's register that protects others by its bit 7.
-const VERTICAL_RETRACE_END: usize = 0x11;
 
 /// How many bytes a text mode clears, and a graphics mode.
 const TEXT_LEN: u32 = 0x8000;
@@ -37,15 +32,10 @@ fn write_registers<B: Bus>(bus: &mut B, row: &ModeRow)
     requires { row.now.crtc_address < 1000 }
     ensures { bus.new ≡ (run B.meaning (registers_plan row.now) bus.old).0 }
 {
-    out(bus, MISCELLANEOUS, row.misc);
+    out(bus, MISCELLANEOUS_OUTPUT, row.misc);
     group(bus, SEQUENCER, &row.sequencer);
-    let unprotected = row.crtc[VERTICAL_RETRACE_END] & 0x7F;
-    indexed(
-        bus,
-        row.crtc_address,
-        VERTICAL_RETRACE_END as u8,
-        unprotected,
-    );
+    let unprotected = row.crtc[VERTICAL_RETRACE_END as usize] & 0x7F;
+    indexed(bus, row.crtc_address, VERTICAL_RETRACE_END, unprotected);
     group(bus, row.crtc_address, &row.crtc);
     group(bus, GRAPHICS, &row.graphics);
     expect_index(bus, row.crtc_address);
@@ -70,7 +60,7 @@ fn write_palette<B: Bus>(bus: &mut B, mode: u8, n: u16)
     requires few { n ≤ 256 }
     ensures { bus.new ≡ (run B.meaning (palette_plan mode n) bus.old).0 }
 {
-    out(bus, DAC_MASK, 0xFF);
+    out(bus, DAC_MASK, ALL_BITS);
     out(bus, DAC_WRITE_INDEX, 0x00);
     for i in 0..n {
         write_colour(bus, dac_entry(mode, i as u8));
@@ -112,7 +102,7 @@ fn write_text<B: Bus>(bus: &mut B, row: &ModeRow, keeps: bool, fonts: &Fonts)
     requires { row.now.base < 2 ^ 20 }
     ensures { bus.new ≡ (run B.meaning (text_plan row.now keeps fonts.now.f16) bus.old).0 }
 {
-    GlyphLoad::write_font_of_16(bus, fonts, row.graphics[6]);
+    GlyphLoad::write_font_of_16(bus, fonts, row.graphics[MISCELLANEOUS as usize]);
     if !keeps {
         write_blanks(bus, row.base, TEXT_LEN);
     }

@@ -1,6 +1,6 @@
 //! The bytes that rows are painted with.
 ghost use Rattle.std.specs.Prelude.{◌≡◌};
-ghost use Rattle.bios_services.specs.Bands.{painted, blank as blank_of, plain as plain_of};
+ghost use Rattle.bios_services.specs.Bands.{paint_byte, blank as blank_of, plain as plain_of};
 
 /// Two bytes in turn.
 #[derive(Clone, Copy)]
@@ -37,7 +37,7 @@ impl Paint {
 
     /// What byte i of a line is painted with.
     pub(crate) fn byte(self, i: u32) -> u8
-        ensures { result ≡ painted self i }
+        ensures { result ≡ paint_byte self i }
     {
         if i % 2 == 0 { self.even } else { self.odd }
     }

@@ -3,19 +3,14 @@ ghost use Rattle.std.specs.Prelude.{◌≡◌, ◌<◌, ◌≤◌, length};
 ghost use Rattle.bios_services.specs.Plan.{run};
 ghost use Rattle.bios_services.specs.Palette.{set_register_plan, set_palette_plan, set_blinking_plan, register_plan, read_register_plan};
 
-use crate::cycles::{ATTRIBUTE, attribute, attribute_group, expect_index, inp, out, show_palette};
+use crate::cycles::{attribute, attribute_group, expect_index, inp, out, show_palette};
+use crate::video_registers::{
+    ATTRIBUTE, ATTRIBUTE_DATA, MODE_CONTROL, NOT_BLINKING, OVERSCAN, PALETTE_SHOWN,
+};
 use vga_card::Bus;
 
-/// The port at which a register of the attribute controller is read.
-const ATTRIBUTE_DATA: u16 = 0x3C1;
-
-/// The overscan register of the attribute controller, behind its 16 palette registers.
-pub(crate) const OVERSCAN: u8 = 0x11;
-
+/// How many palette registers there are.
 const PALETTE_LEN: usize = 16;
-
-/// The attribute controller's index 10, of the mode control register, with the palette shown.
-const CONTROL_SHOWN: u8 = 0x30;
 
 /// 00 and 01: writes a register of the attribute controller.
 #[tactic(auto, using(crate::proofs::RunLemmas::run_bind), unfolding(crate::specs::Palette::set_register_plan))]
@@ -50,9 +45,9 @@ pub(crate) fn set_blinking<B: Bus>(bus: &mut B, port: u16, blinking: u8)
     ensures { bus.new ≡ (run B.meaning (set_blinking_plan port blinking) bus.old).0 }
 {
     expect_index(bus, port);
-    out(bus, ATTRIBUTE, CONTROL_SHOWN);
+    out(bus, ATTRIBUTE, PALETTE_SHOWN + MODE_CONTROL);
     let control = inp(bus, ATTRIBUTE_DATA);
-    out(bus, ATTRIBUTE, (control & 0xF7) | (8 * blinking));
+    out(bus, ATTRIBUTE, (control & NOT_BLINKING) | (8 * blinking));
     show_palette(bus, port);
 }
 
@@ -63,7 +58,7 @@ pub(crate) fn register<B: Bus>(bus: &mut B, port: u16, i: u8) -> u8
     requires register { i < 32 }
     ensures { (bus.new, result) ≡ run B.meaning (register_plan port i) bus.old }
 {
-    out(bus, ATTRIBUTE, 0x20 + i);
+    out(bus, ATTRIBUTE, PALETTE_SHOWN + i);
     let value = inp(bus, ATTRIBUTE_DATA);
     expect_index(bus, port);
     value

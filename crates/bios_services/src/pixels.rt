@@ -7,6 +7,10 @@ ghost use Rattle.bios_services.specs.Pixels.{dots_across as dots_across_of, dots
 
 use crate::cells::page_address;
 use crate::cycles::{get, graphics, put};
+use crate::video_registers::{
+    ALL_BITS, BIT_MASK, DATA_ROTATE, GRAPHICS_MODE, PLAIN, READ_MAP_SELECT, REPLACE, WRITE_COLOUR,
+    XOR,
+};
 use bios_modes::Bda;
 use vga_bits::is_set;
 use vga_card::Bus;
@@ -48,7 +52,7 @@ fn set_function<B: Bus>(bus: &mut B, colour: u8, function: u8)
     ensures { bus.new ≡ (run B.meaning (function_plan colour function) bus.old).0 }
 {
     if is_set(colour, 7) {
-        graphics(bus, 3, function);
+        graphics(bus, DATA_ROTATE, function);
     }
 }
 
@@ -57,14 +61,14 @@ fn set_function<B: Bus>(bus: &mut B, colour: u8, function: u8)
 fn write_dot<B: Bus>(bus: &mut B, address: u32, x: u16, colour: u8)
     ensures { bus.new ≡ (run B.meaning (write_dot_plan address x colour) bus.old).0 }
 {
-    graphics(bus, 8, 0x80 >> (x as u32 % 8));
-    set_function(bus, colour, 0x18);
+    graphics(bus, BIT_MASK, 0x80 >> (x as u32 % 8));
+    set_function(bus, colour, XOR);
     get(bus, address);
-    graphics(bus, 5, 0x02);
+    graphics(bus, GRAPHICS_MODE, WRITE_COLOUR);
     put(bus, address, colour);
-    graphics(bus, 5, 0x00);
-    set_function(bus, colour, 0x00);
-    graphics(bus, 8, 0xFF);
+    graphics(bus, GRAPHICS_MODE, PLAIN);
+    set_function(bus, colour, REPLACE);
+    graphics(bus, BIT_MASK, ALL_BITS);
 }
 
 /// 0C: writes a dot at a column and a line of a page.
@@ -87,7 +91,7 @@ pub(crate) fn write_pixel<B: Bus>(bus: &mut B, bda: &Bda, page: u8, x: u16, y: u
 fn plane_byte<B: Bus>(bus: &mut B, plane: u8, address: u32) -> u8
     ensures { (bus.new, result) ≡ run B.meaning (plane_byte_plan plane address) bus.old }
 {
-    graphics(bus, 4, plane);
+    graphics(bus, READ_MAP_SELECT, plane);
     get(bus, address)
 }
 
@@ -110,7 +114,7 @@ fn read_dot<B: Bus>(bus: &mut B, address: u32, x: u16) -> u8
     let b1 = bit(plane_byte(bus, 1, address), place);
     let b2 = bit(plane_byte(bus, 2, address), place);
     let b3 = bit(plane_byte(bus, 3, address), place);
-    graphics(bus, 4, 0);
+    graphics(bus, READ_MAP_SELECT, 0);
     b0 + 2 * b1 + 4 * b2 + 8 * b3
 }
 

@@ -8,6 +8,7 @@ use crate::band::{Band, set_access};
 use crate::cycles::get;
 use crate::glyphs::first_character;
 use crate::kind::{Kind, by_kind};
+use crate::video_registers::{COMPARE_COLOURS, PLAIN};
 use bios_modes::Fonts;
 use vga_card::Bus;
 
@@ -45,7 +46,12 @@ fn read_line<B: Bus>(bus: &mut B, kind: Kind, address: u32) -> u8
     requires { address < 2 ^ 31 }
     ensures { (bus.new, result) ≡ run B.meaning (line_plan kind address) bus.old }
 {
-    by_kind!(kind, 0, 255 - get(bus, address), packed_line(bus, address))
+    by_kind!(
+        kind,
+        Text => 0,
+        Planar => 255 - get(bus, address),
+        Packed => packed_line(bus, address),
+    )
 }
 
 /// Reads the lines of a cell.
@@ -71,8 +77,8 @@ pub(crate) fn read_character<B: Bus>(bus: &mut B, cell: Band, row: u32, fonts: &
 {
     let mut room = [0u8; MOST_LINES];
     let lines = &mut room[..cell.lines as usize];
-    set_access(bus, cell.kind, 0x08);
+    set_access(bus, cell.kind, COMPARE_COLOURS);
     read_lines(bus, cell, row, lines);
-    set_access(bus, cell.kind, 0x00);
+    set_access(bus, cell.kind, PLAIN);
     first_character(fonts, cell.lines, lines, CHARACTERS)
 }

@@ -3,7 +3,7 @@ ghost use Rattle.std.specs.Prelude.{◌≡◌, ◌<◌, ◌≤◌, length};
 ghost use Rattle.bios_services.specs.Plan.{run};
 ghost use Rattle.bios_services.specs.Bounds.{IsSet, StaysInMode, pages_of};
 ghost use Rattle.bios_services.specs.Cursor.{row_of};
-ghost use Rattle.bios_services.specs.Strings.{string_of as string_of_regs, string_len, character_at, ink_at, typed_plan, string_plan};
+ghost use Rattle.bios_services.specs.Strings.{string_of as string_of_regs, string_len, character_at, ink_at, type_string_plan, string_plan};
 
 use crate::cursor::move_cursor;
 use crate::ink::Ink;
@@ -85,13 +85,13 @@ impl StringCall {
     }
 
     /// Types the characters on a page, and answers the place behind them.
-    #[tactic(auto, using(crate::proofs::RunLemmas::run_bind), unfolding(crate::specs::Strings::typed_plan))]
+    #[tactic(auto, using(crate::proofs::RunLemmas::run_bind), unfolding(crate::specs::Strings::type_string_plan))]
     fn type_all<B: Bus>(self, bus: &mut B, fonts: &Fonts, bda: &Bda, page: u8, block: &[u8]) -> u16
         requires data { IsSet bda.now }
         requires page { page < pages_of bda.now }
         requires row { row_of self.place ≤ bda.now.last_row }
         requires whole { length block.now ≡ string_len self }
-        ensures { (bus.new, result) ≡ run B.meaning (typed_plan fonts.now bda.now page self block.now) bus.old }
+        ensures { (bus.new, result) ≡ run B.meaning (type_string_plan fonts.now bda.now page self block.now) bus.old }
     {
         let mut place = self.place;
         for i in 0..self.count {

@@ -4,10 +4,11 @@ ghost use Rattle.bios_services.specs.Plan.{run};
 ghost use Rattle.bios_services.specs.Tables.{table_service_of as table_service_of_regs, table_refusal as table_refusal_of, palette_register as palette_register_of, registers_plan, read_palette_plan, read_components_plan, read_entries_plan, table_plan, table_takes_memory};
 
 use crate::colours::has_entries;
-use crate::cycles::{DAC_DATA, DAC_READ_INDEX, expect_index, inp, out};
-use crate::palette::{OVERSCAN, register};
+use crate::cycles::{expect_index, inp, out};
+use crate::palette::register;
 use crate::regs::Regs;
 use crate::reply::Table;
+use crate::video_registers::{DAC_DATA, DAC_READ_INDEX, OVERSCAN};
 use std::alloc::{AllocError, Global};
 use vga_bits::{Bytes, Refusal};
 use vga_card::Bus;

@@ -3,7 +3,7 @@ ghost use Rattle.std.specs.Prelude.{◌≡◌, ◌<◌, ◌≤◌, ◌+◌, ◌*
 ghost use Rattle.bios_services.specs.Plan.{run};
 ghost use Rattle.bios_services.specs.Bounds.{IsSet, StaysInMode, pages_of};
 ghost use Rattle.bios_services.specs.Cursor.{row_of, place_of};
-ghost use Rattle.bios_services.specs.Teletype.{fill_of_feed as fill_of_feed_plan, feed_plan, advance_plan, show_plan, type_plan, teletype_plan};
+ghost use Rattle.bios_services.specs.Teletype.{line_feed_fill as line_feed_fill_plan, line_feed_plan, cursor_advance_plan, show_plan, type_plan, teletype_plan};
 
 use crate::band::Band;
 use crate::cells::cell_address;
@@ -25,11 +25,11 @@ const LINE_FEED: u8 = 0x0A;
 const CARRIAGE_RETURN: u8 = 0x0D;
 
 /// What a new row is filled with: an attribute in text, and colour 0 in graphics.
-#[tactic(auto, using(crate::proofs::RunLemmas::run_bind), unfolding(crate::specs::Teletype::fill_of_feed))]
-fn fill_of_feed<B: Bus>(bus: &mut B, bda: &Bda, page: u8, place: u16) -> u8
+#[tactic(auto, using(crate::proofs::RunLemmas::run_bind), unfolding(crate::specs::Teletype::line_feed_fill))]
+fn line_feed_fill<B: Bus>(bus: &mut B, bda: &Bda, page: u8, place: u16) -> u8
     requires data { IsSet bda.now }
     requires page { page < pages_of bda.now }
-    ensures { (bus.new, result) ≡ run B.meaning (fill_of_feed_plan bda.now page place) bus.old }
+    ensures { (bus.new, result) ≡ run B.meaning (line_feed_fill_plan bda.now page place) bus.old }
 {
     if !is_text(bda.mode()) {
         return 0;
@@ -39,37 +39,37 @@ fn fill_of_feed<B: Bus>(bus: &mut B, bda: &Bda, page: u8, place: u16) -> u8
 }
 
 /// The place below one; on the last row the place itself, with the page a row up.
-#[tactic(auto, using(crate::proofs::RunLemmas::run_bind), unfolding(crate::specs::Teletype::feed_plan))]
-fn feed<B: Bus>(bus: &mut B, bda: &Bda, page: u8, place: u16) -> u16
+#[tactic(auto, using(crate::proofs::RunLemmas::run_bind), unfolding(crate::specs::Teletype::line_feed_plan))]
+fn line_feed<B: Bus>(bus: &mut B, bda: &Bda, page: u8, place: u16) -> u16
     requires data { IsSet bda.now }
     requires page { page < pages_of bda.now }
     requires row { row_of place ≤ bda.now.last_row }
-    ensures place { (bus.new, result) ≡ run B.meaning (feed_plan bda.now page place) bus.old }
+    ensures place { (bus.new, result) ≡ run B.meaning (line_feed_plan bda.now page place) bus.old }
     ensures row { row_of result ≤ bda.now.last_row }
 {
     let last = bda.last_row() as u16;
     if place / 256 < last {
         return place + 256;
     }
-    let colour = fill_of_feed(bus, bda, page, place);
+    let colour = line_feed_fill(bus, bda, page, place);
     let whole = Band::of_page(bda, page, 0, (bda.columns() - 1) as u8);
     whole.up(bus, 0, last as u32 + 1, 1, colour);
     place
 }
 
 /// The place behind one.
-#[tactic(auto, using(crate::proofs::RunLemmas::run_bind), unfolding(crate::specs::Teletype::advance_plan))]
-fn advance<B: Bus>(bus: &mut B, bda: &Bda, page: u8, place: u16) -> u16
+#[tactic(auto, using(crate::proofs::RunLemmas::run_bind), unfolding(crate::specs::Teletype::cursor_advance_plan))]
+fn cursor_advance<B: Bus>(bus: &mut B, bda: &Bda, page: u8, place: u16) -> u16
     requires data { IsSet bda.now }
     requires page { page < pages_of bda.now }
     requires row { row_of place ≤ bda.now.last_row }
-    ensures place { (bus.new, result) ≡ run B.meaning (advance_plan bda.now page place) bus.old }
+    ensures place { (bus.new, result) ≡ run B.meaning (cursor_advance_plan bda.now page place) bus.old }
     ensures row { row_of result ≤ bda.now.last_row }
 {
     if place % 256 + 1 < bda.columns() {
         return place + 1;
     }
-    let below = feed(bus, bda, page, place);
+    let below = line_feed(bus, bda, page, place);
     below / 256 * 256
 }
 
@@ -92,7 +92,7 @@ fn show<B: Bus>(
 {
     let q = cell_number(bda, place);
     write_character(bus, fonts, bda, page, q, character, ink);
-    advance(bus, bda, page, place)
+    cursor_advance(bus, bda, page, place)
 }
 
 /// Types a character at a place, and answers the place afterwards.
@@ -115,7 +115,7 @@ pub(crate) fn type_character<B: Bus>(
     match character {
         BELL => place,
         BACKSPACE => { if place % 256 == 0 { place } else { place - 1 } }
-        LINE_FEED => feed(bus, bda, page, place),
+        LINE_FEED => line_feed(bus, bda, page, place),
         CARRIAGE_RETURN => place / 256 * 256,
         _ => show(bus, fonts, bda, page, place, character, ink),
     }
