@@ -18,9 +18,9 @@ use Rattle.bios_services.specs.Service.{service as whole_service, Serves as MayA
 use Rattle.vga_card.specs.Bus.{card_meaning}
 use Rattle.bios_screen.specs.Screen.{Screen}
 use Rattle.bios_screen.specs.Shown.{shown}
-use Rattle.bios_screen.specs.Colours.{table_read}
-use Rattle.bios_screen.specs.Step.{refused_on, next, answer_on}
-use Rattle.bios_screen.specs.Loaded.{load_refused, loaded}
+use Rattle.bios_screen.specs.Colours.{table_answer}
+use Rattle.bios_screen.specs.Step.{refusal_on, next, answer_on}
+use Rattle.bios_screen.specs.Loaded.{load_refusal_on, load_glyphs}
 use Rattle.bios_screen.specs.Served.{after_call}
 
 -- the registers of a call are words
@@ -46,19 +46,19 @@ screen_unless (Some why) old new = old
 
 -- a call for a service replies as on the screen, leads to the next screen, and leaves the beam
 pub record IsCalled (service : Service) (fonts : FontSet) (r : Regs) (block : List ℕ) (c : CardState) (d : BiosData) (s : Screen) : Type 0 where
-  pub reply : (after_call fonts r block c d).1.0 ≡ reply_unless (refused_on s service (length block)) (answer_on fonts s service r)
-  pub shows : shown (after_call fonts r block c d).0 (after_call fonts r block c d).1.1 ≡ Some (screen_unless (refused_on s service (length block)) s (next fonts s service block))
+  pub reply : (after_call fonts r block c d).1.0 ≡ reply_unless (refusal_on s service (length block)) (answer_on fonts s service r)
+  pub shows : shown (after_call fonts r block c d).0 (after_call fonts r block c d).1.1 ≡ Some (screen_unless (refusal_on s service (length block)) s (next fonts s service block))
   pub beam : (after_call fonts r block c d).0.crtc.beam ≡ c.crtc.beam
 
 -- a call that loads glyphs replies with its registers, unless it is refused, leads to the screen with them, and leaves the beam
 pub record IsLoaded (load : GlyphLoad) (fonts : FontSet) (r : Regs) (block : List ℕ) (c : CardState) (d : BiosData) (s : Screen) : Type 0 where
-  pub reply : (after_call fonts r block c d).1.0 ≡ reply_unless (load_refused s load (length block)) r
-  pub shows : shown (after_call fonts r block c d).0 (after_call fonts r block c d).1.1 ≡ Some (screen_unless (load_refused s load (length block)) s (loaded fonts s load block))
+  pub reply : (after_call fonts r block c d).1.0 ≡ reply_unless (load_refusal_on s load (length block)) r
+  pub shows : shown (after_call fonts r block c d).0 (after_call fonts r block c d).1.1 ≡ Some (screen_unless (load_refusal_on s load (length block)) s (load_glyphs fonts s load block))
   pub beam : (after_call fonts r block c d).0.crtc.beam ≡ c.crtc.beam
 
 -- a call for a table replies with that of the screen, and leaves screen and beam
 pub record IsRead (service : TableService) (fonts : FontSet) (r : Regs) (block : List ℕ) (c : CardState) (d : BiosData) (s : Screen) : Type 0 where
-  pub reply : (after_call fonts r block c d).1.0 ≡ table_unless (table_refusal service) (table_read s service) r
+  pub reply : (after_call fonts r block c d).1.0 ≡ table_unless (table_refusal service) (table_answer s service) r
   pub shows : shown (after_call fonts r block c d).0 (after_call fonts r block c d).1.1 ≡ Some s
   pub beam : (after_call fonts r block c d).0.crtc.beam ≡ c.crtc.beam
 

@@ -43,33 +43,33 @@ with_entries s first count block = record s {
 }
 
 -- the screen after a subfunction that is not refused
-unfoldable pub coloured : Screen → ColourService → List ℕ → Screen
-coloured s (SetRegister register value) block = with_value s register value
-coloured s (SetOverscan value) block = record s { overscan = value }
-coloured s SetPalette block = with_block s block
-coloured s (SetBlinking blinking) block = record s { is_blink = blinking == 1 }
-coloured s (ReadRegister register) block = s
-coloured s ReadOverscan block = s
-coloured s (SetEntry entry red green blue) block = with_entries s entry 1 (red ∷ green ∷ blue ∷ [])
-coloured s (SetEntries first count) block = with_entries s first count block
-coloured s (ReadEntry entry) block = s
-coloured s (SetMask mask) block = record s { palette = record s.palette { mask = mask } }
-coloured s ReadMask block = s
+unfoldable pub with_colours : Screen → ColourService → List ℕ → Screen
+with_colours s (SetRegister register value) block = with_value s register value
+with_colours s (SetOverscan value) block = record s { overscan = value }
+with_colours s SetPalette block = with_block s block
+with_colours s (SetBlinking blinking) block = record s { is_blink = blinking == 1 }
+with_colours s (ReadRegister register) block = s
+with_colours s ReadOverscan block = s
+with_colours s (SetEntry entry red green blue) block = with_entries s entry 1 (red ∷ green ∷ blue ∷ [])
+with_colours s (SetEntries first count) block = with_entries s first count block
+with_colours s (ReadEntry entry) block = s
+with_colours s (SetMask mask) block = record s { palette = record s.palette { mask = mask } }
+with_colours s ReadMask block = s
 
 -- the registers that it answers: a value or the overscan in BH; red in DH, green in CH and blue in CL; the mask in BL
-unfoldable pub colours_read : Screen → ColourService → Regs → Regs
-colours_read s (SetRegister register value) r = r
-colours_read s (SetOverscan value) r = r
-colours_read s SetPalette r = r
-colours_read s (SetBlinking blinking) r = r
-colours_read s (ReadRegister register) r = record r { bx = with_high r.bx (slice_index s.palette.values register) }
-colours_read s ReadOverscan r = record r { bx = with_high r.bx s.overscan }
-colours_read s (SetEntry entry red green blue) r = r
-colours_read s (SetEntries first count) r = r
-colours_read s (ReadEntry entry) r =
+unfoldable pub colours_answer : Screen → ColourService → Regs → Regs
+colours_answer s (SetRegister register value) r = r
+colours_answer s (SetOverscan value) r = r
+colours_answer s SetPalette r = r
+colours_answer s (SetBlinking blinking) r = r
+colours_answer s (ReadRegister register) r = record r { bx = with_high r.bx (slice_index s.palette.values register) }
+colours_answer s ReadOverscan r = record r { bx = with_high r.bx s.overscan }
+colours_answer s (SetEntry entry red green blue) r = r
+colours_answer s (SetEntries first count) r = r
+colours_answer s (ReadEntry entry) r =
     record r { cx = 256 * slice_index s.palette.greens entry + slice_index s.palette.blues entry; dx = with_high r.dx (slice_index s.palette.reds entry) }
-colours_read s (SetMask mask) r = r
-colours_read s ReadMask r = record r { bx = with_low r.bx s.palette.mask }
+colours_answer s (SetMask mask) r = r
+colours_answer s ReadMask r = record r { bx = with_low r.bx s.palette.mask }
 
 -- red, green and blue of n entries from entry k on
 abbrev pub entries_from : Palette → ℕ → ℕ → List ℕ
@@ -77,6 +77,6 @@ entries_from p k zero = []
 entries_from p k (suc n) = slice_index p.reds k ∷ slice_index p.greens k ∷ slice_index p.blues k ∷ entries_from p (k + 1) n
 
 -- the table that it answers: the palette's values and then the overscan, or some entries
-abbrev pub table_read : Screen → TableService → Table
-table_read s ReadPalette = PaletteTable (s.palette.values ++ s.overscan ∷ [])
-table_read s (ReadEntries first count) = DacTable (entries_from s.palette first count)
+abbrev pub table_answer : Screen → TableService → Table
+table_answer s ReadPalette = PaletteTable (s.palette.values ++ s.overscan ∷ [])
+table_answer s (ReadEntries first count) = DacTable (entries_from s.palette first count)

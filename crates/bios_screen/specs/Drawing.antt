@@ -5,7 +5,7 @@ use Rattle.std.specs.Prelude.{ℕ, zero, suc, ◌≡◌, ◌≢◌, ◌⊎◌, �
 use Rattle.bios_services.specs.declared.glyph_load.GlyphLoad.{GlyphLoad}
 use Rattle.bios_services.specs.ModeSet.{is_text}
 use Rattle.bios_screen.specs.Screen.{Screen}
-use Rattle.bios_screen.specs.Loaded.{load_refused}
+use Rattle.bios_screen.specs.Loaded.{load_refusal_on}
 use Rattle.bios_screen.specs.Picture.{dot_at, picture_width, picture_height, next_frame}
 
 -- how many dots a line of a mode has, and how many lines a frame has: the picture and what lies right of it and below
@@ -66,4 +66,4 @@ take_frame b = take_dots (dots_a_frame b.screen.mode - b.dot) b
 
 -- a load of glyphs cuts text anew: it may come at dot 0, and at any other where it is refused
 abbrev pub MayLoad : Drawing → GlyphLoad → ℕ → Type 0
-MayLoad b load len = (load_refused b.screen load len ≢ None) ⊎ (b.dot ≡ 0)
+MayLoad b load len = (load_refusal_on b.screen load len ≢ None) ⊎ (b.dot ≡ 0)

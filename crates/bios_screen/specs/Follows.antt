@@ -11,7 +11,7 @@ use Rattle.bios_services.specs.Cursor.{start_address}
 use Rattle.bios_screen.specs.Screen.{Screen}
 use Rattle.bios_screen.specs.Shown.{shown}
 use Rattle.bios_screen.specs.Picture.{picture_width, picture_height}
-use Rattle.bios_screen.specs.Raster.{joined}
+use Rattle.bios_screen.specs.Raster.{join}
 use Rattle.bios_screen.specs.Drawing.{Drawing, dots_a_line, dots_a_frame, page_shown, so_far, is_of_picture, colour_of, take_frame}
 
 -- the beam is at dot n of a frame whose counter began at start: where dots from dot 0 on have led it, or at the first dot, with
@@ -22,7 +22,7 @@ BeamIsAt c start (suc n) = c.crtc.beam ≡ beam_at (character_width c) c.crtc.re
 
 -- dots from dot n of a frame of this page on, as long as it has not ended before the last, join what is drawn of it
 abbrev pub RowsJoin : CardState → Screen → ℕ → ℕ → Type 0
-RowsJoin c s page n = (j : ℕ) → 0 < j → n + j ≤ dots_a_frame s.mode → bytes_of (dots j c).drawn ≡ bytes_of (fresh c) ++ joined (λ i. colour_of s page (n + i)) j
+RowsJoin c s page n = (j : ℕ) → 0 < j → n + j ≤ dots_a_frame s.mode → bytes_of (dots j c).drawn ≡ bytes_of (fresh c) ++ join (λ i. colour_of s page (n + i)) j
 
 -- the lines of the dots of the picture among the first n
 unfoldable pub lines_before : Screen → ℕ → List ℕ

@@ -12,9 +12,9 @@ use Rattle.bios_screen.specs.Listing.{listing}
 use Rattle.bios_screen.specs.Screen.{Layout, Screen}
 
 -- there is no row of text of this height
-abbrev pub height_refused : Option TextRow → Option Refusal
-height_refused None = Some BadHeight
-height_refused (Some text) = None
+abbrev pub height_refusal_on : Option TextRow → Option Refusal
+height_refusal_on None = Some BadHeight
+height_refusal_on (Some text) = None
 
 -- one reason, or else another
 abbrev pub or_else : Option Refusal → Option Refusal → Option Refusal
@@ -22,12 +22,12 @@ or_else None other = other
 or_else (Some why) other = Some why
 
 -- why a load of glyphs is refused on a screen, with a block of this length
-abbrev pub load_refused : Screen → GlyphLoad → ℕ → Option Refusal
-load_refused s load len = or_else (load_refusal load s.mode len) (height_refused (text_row s.mode load.height))
+abbrev pub load_refusal_on : Screen → GlyphLoad → ℕ → Option Refusal
+load_refusal_on s load len = or_else (load_refusal load s.mode len) (height_refusal_on (text_row s.mode load.height))
 
 -- byte i of the glyphs, of which a character has sixteen: of a character that is loaded the first lines are new, and all else stays
-abbrev pub glyph_loaded : FontSet → GlyphLoad → List ℕ → (ℕ → ℕ) → ℕ → ℕ
-glyph_loaded fonts load block old i =
+abbrev pub load_byte : FontSet → GlyphLoad → List ℕ → (ℕ → ℕ) → ℕ → ℕ
+load_byte fonts load block old i =
     if nat_le load.first (i / 16) && (nat_lt (i / 16) (load.first + load.count) && nat_lt (i % 16) load.height)
     then loaded_line fonts load block (i / 16) (i % 16)
     else old i
@@ -37,16 +37,16 @@ abbrev pub layout_with : Layout → TextRow → Layout
 layout_with l text = record { columns = l.columns; rows = text.last_row + 1; height = text.height; distance = text.size / 2; pages = text.pages }
 
 -- the screen with them: its cells stay and are cut anew, the cursors stand in the upper left corner, and page 0 is active
-abbrev pub loaded_with : Option TextRow → FontSet → Screen → GlyphLoad → List ℕ → Screen
-loaded_with None fonts s load block = s
-loaded_with (Some text) fonts s load block = record s {
+abbrev pub load_at_height : Option TextRow → FontSet → Screen → GlyphLoad → List ℕ → Screen
+load_at_height None fonts s load block = s
+load_at_height (Some text) fonts s load block = record s {
   layout = layout_with s.layout text;
   places = replicate 8 0;
   cursor_type = text.cursor_type;
   page = 0;
-  glyphs = listing (glyph_loaded fonts load block (slice_index s.glyphs)) 0 (length s.glyphs);
+  glyphs = listing (load_byte fonts load block (slice_index s.glyphs)) 0 (length s.glyphs);
 }
 
 -- the screen after a load that is not refused
-unfoldable pub loaded : FontSet → Screen → GlyphLoad → List ℕ → Screen
-loaded fonts s load block = loaded_with (text_row s.mode load.height) fonts s load block
+unfoldable pub load_glyphs : FontSet → Screen → GlyphLoad → List ℕ → Screen
+load_glyphs fonts s load block = load_at_height (text_row s.mode load.height) fonts s load block

@@ -20,7 +20,7 @@ use Rattle.bios_services.specs.Calls.{call_of}
 use Rattle.bios_services.specs.Service.{plan_of, Outcome, Answered, service as whole_service}
 use Rattle.bios_screen.specs.Screen.{Screen}
 use Rattle.bios_screen.specs.Shown.{shown}
-use Rattle.bios_screen.specs.Step.{refused_on, next, answer_on}
+use Rattle.bios_screen.specs.Step.{refusal_on, next, answer_on}
 use Rattle.bios_screen.specs.Fresh.{fresh_screen}
 
 -- the adapter, and the registers and data that a service answers
@@ -29,9 +29,9 @@ after_service service fonts r block c d = run card_meaning (plan_of service font
 
 -- a service is refused as on the screen; one that is not answers as on the screen, leaves the next screen, and leaves the beam
 pub record IsServed (service : Service) (fonts : FontSet) (r : Regs) (block : List ℕ) (c : CardState) (d : BiosData) (s : Screen) : Type 0 where
-  pub refusal : refusal_in_mode service d (length block) ≡ refused_on s service (length block)
-  pub answer : refused_on s service (length block) ≡ None → (after_service service fonts r block c d).1.0 ≡ answer_on fonts s service r
-  pub shows : refused_on s service (length block) ≡ None → shown (after_service service fonts r block c d).0 (after_service service fonts r block c d).1.1 ≡ Some (next fonts s service block)
+  pub refusal : refusal_in_mode service d (length block) ≡ refusal_on s service (length block)
+  pub answer : refusal_on s service (length block) ≡ None → (after_service service fonts r block c d).1.0 ≡ answer_on fonts s service r
+  pub shows : refusal_on s service (length block) ≡ None → shown (after_service service fonts r block c d).0 (after_service service fonts r block c d).1.1 ≡ Some (next fonts s service block)
   pub beam : (after_service service fonts r block c d).0.crtc.beam ≡ c.crtc.beam
 
 -- the overscan that a subfunction of function 10 sets is a byte

@@ -20,7 +20,7 @@ use Rattle.bios_services.specs.Colours.{block_refusal, colour_refusal}
 use Rattle.bios_services.specs.Cursor.{row_of, column_of}
 use Rattle.bios_services.specs.Glyphs.{glyph_line, first_character}
 use Rattle.bios_screen.specs.Listing.{listing}
-use Rattle.bios_screen.specs.Colours.{coloured, colours_read}
+use Rattle.bios_screen.specs.Colours.{with_colours, colours_answer}
 use Rattle.bios_screen.specs.Screen.{Cell, Contents, Cells, Pixels, Screen, cell_of, page_cells, page_start, place_number, cursor_place, cursor_cell}
 
 -- ---- why a service is refused
@@ -30,19 +30,19 @@ abbrev pub page_meant : Screen → ℕ → ℕ
 page_meant s page = if s.layout.pages == 1 then 0 else page
 
 -- a page that there is not
-abbrev pub page_refused : Screen → ℕ → Option Refusal
-page_refused s page = if nat_lt page s.layout.pages then None else Some BadPage
+abbrev pub page_refusal_on : Screen → ℕ → Option Refusal
+page_refusal_on s page = if nat_lt page s.layout.pages then None else Some BadPage
 
 -- a page that there is not, or a cursor outside its page
-abbrev pub cursor_refused : Screen → ℕ → Option Refusal
-cursor_refused s page =
+abbrev pub cursor_refusal_on : Screen → ℕ → Option Refusal
+cursor_refusal_on s page =
     if nat_lt page s.layout.pages
     then (if nat_lt (place_number s (cursor_place s page)) (page_cells s) then None else Some Outside)
     else Some BadPage
 
 -- and more cells from the cursor on than the page has
-abbrev pub count_refused : Screen → ℕ → ℕ → Option Refusal
-count_refused s page count =
+abbrev pub count_refusal_on : Screen → ℕ → ℕ → Option Refusal
+count_refusal_on s page count =
     if nat_lt page s.layout.pages
     then (if nat_lt (place_number s (cursor_place s page)) (page_cells s)
     then (if nat_le (place_number s (cursor_place s page) + count) (page_cells s) then None else Some CountPast)
@@ -50,41 +50,41 @@ count_refused s page count =
     else Some BadPage
 
 -- a place whose row or column there is not
-abbrev pub place_refused : Screen → ℕ → Option Refusal
-place_refused s place = if nat_lt (row_of place) s.layout.rows && nat_lt (column_of place) s.layout.columns then None else Some Outside
+abbrev pub place_refusal_on : Screen → ℕ → Option Refusal
+place_refusal_on s place = if nat_lt (row_of place) s.layout.rows && nat_lt (column_of place) s.layout.columns then None else Some Outside
 
 -- a page that there is not, a place outside it, or a block of another length than the string has
-abbrev pub string_refused : Screen → StringCall → ℕ → Option Refusal
-string_refused s call len =
+abbrev pub string_refusal_on : Screen → StringCall → ℕ → Option Refusal
+string_refusal_on s call len =
     if nat_lt (page_meant s call.page) s.layout.pages
     then (if nat_lt (row_of call.place) s.layout.rows && nat_lt (column_of call.place) s.layout.columns then block_refusal len (string_len call) else Some Outside)
     else Some BadPage
 
 -- a dot of text, one of a page that there is not, or one outside it
-abbrev pub pixel_refused : Screen → ℕ → ℕ → ℕ → Option Refusal
-pixel_refused s page x y =
+abbrev pub pixel_refusal_on : Screen → ℕ → ℕ → ℕ → Option Refusal
+pixel_refusal_on s page x y =
     if is_text s.mode then Some WrongKind
     else if nat_lt page s.layout.pages then (if nat_lt x (8 * s.layout.columns) && nat_lt y (s.layout.height * s.layout.rows) then None else Some Outside)
     else Some BadPage
 
 -- why a service is refused on a screen, with a block of this length
-unfoldable pub refused_on : Screen → Service → ℕ → Option Refusal
-refused_on s (SetCursorType cursor_type) len = None
-refused_on s (SetCursor page place) len = page_refused s (page_meant s page)
-refused_on s (ReadCursor page) len = page_refused s (page_meant s page)
-refused_on s (SelectPage page) len = page_refused s page
-refused_on s (ScrollUp window) len = None
-refused_on s (ScrollDown window) len = None
-refused_on s (ReadCell page) len = cursor_refused s (page_meant s page)
-refused_on s (WriteCells cells) len = count_refused s (page_meant s cells.page) cells.count
-refused_on s (WritePixel page x y colour) len = pixel_refused s (page_meant s page) x y
-refused_on s (ReadPixel page x y) len = pixel_refused s (page_meant s page) x y
-refused_on s (Teletype character colour) len = place_refused s (cursor_place s s.page)
-refused_on s ReadMode len = None
-refused_on s (Colours service) len = colour_refusal service len
-refused_on s ReadAdapter len = None
-refused_on s (WriteString call) len = string_refused s call len
-refused_on s ReadDisplay len = None
+unfoldable pub refusal_on : Screen → Service → ℕ → Option Refusal
+refusal_on s (SetCursorType cursor_type) len = None
+refusal_on s (SetCursor page place) len = page_refusal_on s (page_meant s page)
+refusal_on s (ReadCursor page) len = page_refusal_on s (page_meant s page)
+refusal_on s (SelectPage page) len = page_refusal_on s page
+refusal_on s (ScrollUp window) len = None
+refusal_on s (ScrollDown window) len = None
+refusal_on s (ReadCell page) len = cursor_refusal_on s (page_meant s page)
+refusal_on s (WriteCells cells) len = count_refusal_on s (page_meant s cells.page) cells.count
+refusal_on s (WritePixel page x y colour) len = pixel_refusal_on s (page_meant s page) x y
+refusal_on s (ReadPixel page x y) len = pixel_refusal_on s (page_meant s page) x y
+refusal_on s (Teletype character colour) len = place_refusal_on s (cursor_place s s.page)
+refusal_on s ReadMode len = None
+refusal_on s (Colours service) len = colour_refusal service len
+refusal_on s ReadAdapter len = None
+refusal_on s (WriteString call) len = string_refusal_on s call len
+refusal_on s ReadDisplay len = None
 
 -- ---- what it does to the cells
 
@@ -97,20 +97,20 @@ abbrev pub cell_on : Screen → ℕ → Cell
 cell_on s k = cell_of (cells_on s.contents) k
 
 -- as many cells, each given by its number and all the old ones
-abbrev pub renewed : ((ℕ → Cell) → ℕ → Cell) → Contents → Contents
-renewed new (Cells cells) = Cells (listing (new (cell_of cells)) 0 (length cells))
-renewed new (Pixels pages) = Pixels pages
+abbrev pub change_cells : ((ℕ → Cell) → ℕ → Cell) → Contents → Contents
+change_cells new (Cells cells) = Cells (listing (new (cell_of cells)) 0 (length cells))
+change_cells new (Pixels pages) = Pixels pages
 
 abbrev pub with_cells : Screen → ((ℕ → Cell) → ℕ → Cell) → Screen
-with_cells s new = record s { contents = renewed new s.contents }
+with_cells s new = record s { contents = change_cells new s.contents }
 
 -- a character with an attribute; where none is given the cell keeps its own
 abbrev pub character_over : ℕ → Ink → Cell → Cell
 character_over character ink cell = (character, if ink.is_attribute then ink.colour else cell.1)
 
 -- count cells from the first on become a character, and all others stay
-abbrev pub written : ℕ → ℕ → ℕ → Ink → (ℕ → Cell) → ℕ → Cell
-written first count character ink old k =
+abbrev pub write_characters : ℕ → ℕ → ℕ → Ink → (ℕ → Cell) → ℕ → Cell
+write_characters first count character ink old k =
     if nat_le first k && nat_lt k (first + count) then character_over character ink (old k) else old k
 
 -- row and column of cell k on a page
@@ -141,15 +141,15 @@ abbrev pub blank_of : Scroll → Cell
 blank_of w = (0x20, w.fill)
 
 -- the window goes up: a cell takes what stood some rows below it, the last rows are blank, and all outside stays
-abbrev pub gone_up : Screen → ℕ → Scroll → (ℕ → Cell) → ℕ → Cell
-gone_up s page w old k =
+abbrev pub cells_up : Screen → ℕ → Scroll → (ℕ → Cell) → ℕ → Cell
+cells_up s page w old k =
     if is_inside s page w k
     then (if nat_lt (row_on s page k + window_lines s w) (w.top + window_rows s w) then old (k + s.layout.columns * window_lines s w) else blank_of w)
     else old k
 
 -- the window goes down: a cell takes what stood some rows above it, the first rows are blank, and all outside stays
-abbrev pub gone_down : Screen → ℕ → Scroll → (ℕ → Cell) → ℕ → Cell
-gone_down s page w old k =
+abbrev pub cells_down : Screen → ℕ → Scroll → (ℕ → Cell) → ℕ → Cell
+cells_down s page w old k =
     if is_inside s page w k
     then (if nat_le (w.top + window_lines s w) (row_on s page k) then old (k - s.layout.columns * window_lines s w) else blank_of w)
     else old k
@@ -168,20 +168,20 @@ abbrev pub pixel_number : Screen → ℕ → ℕ → ℕ
 pixel_number s x y = 8 * s.layout.columns * y + x
 
 -- a page drawn anew, each pixel given by its number and all the old ones
-abbrev pub redrawn : ℕ → ((ℕ → ℕ) → ℕ → ℕ) → Contents → Contents
-redrawn page new (Cells cells) = Cells cells
-redrawn page new (Pixels pages) = Pixels (set pages page (listing (new (slice_index (get_or pages page []))) 0 (length (get_or pages page []))))
+abbrev pub change_pixels : ℕ → ((ℕ → ℕ) → ℕ → ℕ) → Contents → Contents
+change_pixels page new (Cells cells) = Cells cells
+change_pixels page new (Pixels pages) = Pixels (set pages page (listing (new (slice_index (get_or pages page []))) 0 (length (get_or pages page []))))
 
 abbrev pub with_pixels : Screen → ℕ → ((ℕ → ℕ) → ℕ → ℕ) → Screen
-with_pixels s page new = record s { contents = redrawn page new s.contents }
+with_pixels s page new = record s { contents = change_pixels page new s.contents }
 
 -- what a colour makes of a pixel: one of 256 stands there; of 16 the four low bits do, or by bit 7 their XOR with the pixel
-abbrev pub inked : ℕ → ℕ → ℕ → ℕ
-inked mode colour old = if mode == 0x13 then colour else if is_set colour 7 then bit_xor old (colour % 16) else colour % 16
+abbrev pub colour_over : ℕ → ℕ → ℕ → ℕ
+colour_over mode colour old = if mode == 0x13 then colour else if is_set colour 7 then bit_xor old (colour % 16) else colour % 16
 
 -- one pixel changes, and all others stay
-abbrev pub dotted : ℕ → (ℕ → ℕ) → (ℕ → ℕ) → ℕ → ℕ
-dotted n change old k = if k == n then change (old k) else old k
+abbrev pub change_pixel : ℕ → (ℕ → ℕ) → (ℕ → ℕ) → ℕ → ℕ
+change_pixel n change old k = if k == n then change (old k) else old k
 
 -- the row and the column of characters in which pixel k of a page lies, of which each column has eight pixels
 abbrev pub pixel_row : Screen → ℕ → ℕ
@@ -198,24 +198,24 @@ abbrev pub pixel_line : Screen → ℕ → ℕ
 pixel_line s k = k / (8 * s.layout.columns) % s.layout.height
 
 -- what a character makes of a pixel where its glyph has a dot, and where it has none: that becomes 0, or by XOR stays
-abbrev pub dot_inked : ℕ → ℕ → Bool → ℕ → ℕ
-dot_inked mode colour is_dot old = if is_dot then inked mode colour old else if not (mode == 0x13) && is_set colour 7 then old else 0
+abbrev pub glyph_pixel : ℕ → ℕ → Bool → ℕ → ℕ
+glyph_pixel mode colour is_dot old = if is_dot then colour_over mode colour old else if not (mode == 0x13) && is_set colour 7 then old else 0
 
 -- count cells from the first on get a character by the font of the mode's height, and all other pixels stay
-abbrev pub drawn : FontSet → Screen → ℕ → ℕ → ℕ → ℕ → (ℕ → ℕ) → ℕ → ℕ
-drawn fonts s first count character colour old k =
+abbrev pub draw_characters : FontSet → Screen → ℕ → ℕ → ℕ → ℕ → (ℕ → ℕ) → ℕ → ℕ
+draw_characters fonts s first count character colour old k =
     if nat_le first (pixel_cell s k) && nat_lt (pixel_cell s k) (first + count)
-    then dot_inked s.mode colour (is_set (glyph_line fonts s.layout.height character (pixel_line s k)) (7 - k % 8)) (old k)
+    then glyph_pixel s.mode colour (is_set (glyph_line fonts s.layout.height character (pixel_line s k)) (7 - k % 8)) (old k)
     else old k
 
 -- a character is written to count cells of a page from one on, to cells of text or as dots
-abbrev pub characters_put : FontSet → Screen → ℕ → ℕ → ℕ → ℕ → Ink → Screen
-characters_put fonts s page first count character ink =
-    with_pixels (with_cells s (written (page_start s page + first) count character ink)) page (drawn fonts s first count character ink.colour)
+abbrev pub put_characters : FontSet → Screen → ℕ → ℕ → ℕ → ℕ → Ink → Screen
+put_characters fonts s page first count character ink =
+    with_pixels (with_cells s (write_characters (page_start s page + first) count character ink)) page (draw_characters fonts s first count character ink.colour)
 
 -- it is written from the cursor of a page on
-abbrev pub characters_written : FontSet → Screen → ℕ → CellRun → Screen
-characters_written fonts s page cells = characters_put fonts s page (place_number s (cursor_place s page)) cells.count cells.character cells.ink
+abbrev pub write_at_cursor : FontSet → Screen → ℕ → CellRun → Screen
+write_at_cursor fonts s page cells = put_characters fonts s page (place_number s (cursor_place s page)) cells.count cells.character cells.ink
 
 -- whether pixel k of a page is in a window
 abbrev pub has_pixel : Screen → Scroll → ℕ → Bool
@@ -228,29 +228,29 @@ abbrev pub row_pixels : Screen → ℕ → ℕ
 row_pixels s rows = 8 * s.layout.columns * (s.layout.height * rows)
 
 -- a window's colour as a pixel
-abbrev pub filling : ℕ → ℕ → ℕ
-filling mode colour = if mode == 0x13 then colour else colour % 16
+abbrev pub fill_pixel : ℕ → ℕ → ℕ
+fill_pixel mode colour = if mode == 0x13 then colour else colour % 16
 
 -- the window goes up: a pixel takes what stood some rows of characters below it, the last rows get the colour, and all outside stays
 abbrev pub pixels_up : Screen → Scroll → (ℕ → ℕ) → ℕ → ℕ
 pixels_up s w old k =
     if has_pixel s w k
-    then (if nat_lt (pixel_row s k + window_lines s w) (w.top + window_rows s w) then old (k + row_pixels s (window_lines s w)) else filling s.mode w.fill)
+    then (if nat_lt (pixel_row s k + window_lines s w) (w.top + window_rows s w) then old (k + row_pixels s (window_lines s w)) else fill_pixel s.mode w.fill)
     else old k
 
 -- the window goes down: a pixel takes what stood some rows of characters above it, the first rows get the colour, and all outside stays
 abbrev pub pixels_down : Screen → Scroll → (ℕ → ℕ) → ℕ → ℕ
 pixels_down s w old k =
     if has_pixel s w k
-    then (if nat_le (w.top + window_lines s w) (pixel_row s k) then old (k - row_pixels s (window_lines s w)) else filling s.mode w.fill)
+    then (if nat_le (w.top + window_lines s w) (pixel_row s k) then old (k - row_pixels s (window_lines s w)) else fill_pixel s.mode w.fill)
     else old k
 
 -- a window of a page goes up, or down, with its cells or its pixels
 abbrev pub window_up : Screen → ℕ → Scroll → Screen
-window_up s page w = with_pixels (with_cells s (gone_up s page w)) page (pixels_up s w)
+window_up s page w = with_pixels (with_cells s (cells_up s page w)) page (pixels_up s w)
 
 abbrev pub window_down : Screen → ℕ → Scroll → Screen
-window_down s page w = with_pixels (with_cells s (gone_down s page w)) page (pixels_down s w)
+window_down s page w = with_pixels (with_cells s (cells_down s page w)) page (pixels_down s w)
 
 -- ---- typing
 
@@ -263,50 +263,50 @@ abbrev pub last_colour : Screen → ℕ → ℕ → ℕ
 last_colour s page place = (cell_on s (page_start s page + (s.layout.columns * (s.layout.rows - 1) + column_of place))).1
 
 -- the row below a place; from the last row the page goes up instead, with a row blank in that attribute or colour
-abbrev pub fed : Screen → ℕ → ℕ → Screen × ℕ
-fed s page place =
+abbrev pub line_feed : Screen → ℕ → ℕ → Screen × ℕ
+line_feed s page place =
     if nat_lt (row_of place) (s.layout.rows - 1) then (s, place + 256)
     else (window_up s page (whole_page s (last_colour s page place)), place)
 
 -- the place behind: the next column, or the first one of the row below
-abbrev pub advanced : Screen → ℕ → ℕ → Screen × ℕ
-advanced s page place =
+abbrev pub cursor_advance : Screen → ℕ → ℕ → Screen × ℕ
+cursor_advance s page place =
     if nat_lt (column_of place + 1) s.layout.columns then (s, place + 1)
-    else ((fed s page place).0, line_start (fed s page place).1)
+    else ((line_feed s page place).0, line_start (line_feed s page place).1)
 
 -- a character at a place, and the place behind
-abbrev pub put_on : FontSet → Screen → ℕ → ℕ → ℕ → Ink → Screen
-put_on fonts s page place character ink = characters_put fonts s page (place_number s place) 1 character ink
+abbrev pub put_character : FontSet → Screen → ℕ → ℕ → ℕ → Ink → Screen
+put_character fonts s page place character ink = put_characters fonts s page (place_number s place) 1 character ink
 
 -- a character is typed at a place: a bell does nothing, a backspace goes a column back, a line feed a row down, a carriage
 -- return to the first column; any other is shown
-unfoldable pub typed : FontSet → Screen → ℕ → ℕ → ℕ → Ink → Screen × ℕ
-typed fonts s page place character ink =
+unfoldable pub type_character : FontSet → Screen → ℕ → ℕ → ℕ → Ink → Screen × ℕ
+type_character fonts s page place character ink =
     if character == 0x07 then (s, place)
     else if character == 0x08 then (s, if column_of place == 0 then place else place - 1)
-    else if character == 0x0A then fed s page place
+    else if character == 0x0A then line_feed s page place
     else if character == 0x0D then (s, line_start place)
-    else advanced (put_on fonts s page place character ink) page place
+    else cursor_advance (put_character fonts s page place character ink) page place
 
 -- a cursor at another place of a page
 abbrev pub with_place : Screen → ℕ → ℕ → Screen
 with_place s page place = record s { places = slice_set s.places page place }
 
 -- a character is typed at the cursor of the active page, which then stands behind it; a bell leaves it
-abbrev pub typed_at_cursor : FontSet → Screen → ℕ → ℕ → Screen
-typed_at_cursor fonts s character colour =
-    let after = typed fonts s s.page (cursor_place s s.page) character (dots_in colour) in
+abbrev pub type_at_cursor : FontSet → Screen → ℕ → ℕ → Screen
+type_at_cursor fonts s character colour =
+    let after = type_character fonts s s.page (cursor_place s s.page) character (dots_in colour) in
     if character == 0x07 then s else with_place after.0 s.page after.1
 
 -- n characters of a string, from character i on, are typed one after another on a page, from a screen and a place on
-abbrev pub typed_on : FontSet → StringCall → List ℕ → ℕ → ℕ → ℕ → Screen × ℕ → Screen × ℕ
-typed_on fonts call block page zero i at = at
-typed_on fonts call block page (suc n) i at = typed_on fonts call block page n (i + 1) (typed fonts at.0 page at.1 (character_at call block i) (ink_at call block i))
+abbrev pub type_characters : FontSet → StringCall → List ℕ → ℕ → ℕ → ℕ → Screen × ℕ → Screen × ℕ
+type_characters fonts call block page zero i at = at
+type_characters fonts call block page (suc n) i at = type_characters fonts call block page n (i + 1) (type_character fonts at.0 page at.1 (character_at call block i) (ink_at call block i))
 
 -- a whole string is typed on a page, and the cursor goes behind it where that is asked
-abbrev pub string_typed : FontSet → Screen → ℕ → StringCall → List ℕ → Screen
-string_typed fonts s page call block =
-    let after = typed_on fonts call block page call.count 0 (s, call.place) in
+abbrev pub type_string : FontSet → Screen → ℕ → StringCall → List ℕ → Screen
+type_string fonts s page call block =
+    let after = type_characters fonts call block page call.count 0 (s, call.place) in
     if call.moves_cursor then with_place after.0 page after.1 else after.0
 
 -- ---- services
@@ -320,19 +320,19 @@ next fonts s (SelectPage page) block = record s { page = page }
 next fonts s (ScrollUp window) block = window_up s s.page window
 next fonts s (ScrollDown window) block = window_down s s.page window
 next fonts s (ReadCell page) block = s
-next fonts s (WriteCells cells) block = characters_written fonts s (page_meant s cells.page) cells
-next fonts s (WritePixel page x y colour) block = with_pixels s (page_meant s page) (dotted (pixel_number s x y) (inked s.mode colour))
+next fonts s (WriteCells cells) block = write_at_cursor fonts s (page_meant s cells.page) cells
+next fonts s (WritePixel page x y colour) block = with_pixels s (page_meant s page) (change_pixel (pixel_number s x y) (colour_over s.mode colour))
 next fonts s (ReadPixel page x y) block = s
-next fonts s (Teletype character colour) block = typed_at_cursor fonts s character colour
+next fonts s (Teletype character colour) block = type_at_cursor fonts s character colour
 next fonts s ReadMode block = s
-next fonts s (Colours service) block = coloured s service block
+next fonts s (Colours service) block = with_colours s service block
 next fonts s ReadAdapter block = s
-next fonts s (WriteString call) block = string_typed fonts s (page_meant s call.page) call block
+next fonts s (WriteString call) block = type_string fonts s (page_meant s call.page) call block
 next fonts s ReadDisplay block = s
 
 -- character and attribute at the cursor of a page, as low and high byte
-abbrev pub cell_read : Screen → ℕ → ℕ
-cell_read s page = (cell_on s (cursor_cell s page)).0 + 256 * (cell_on s (cursor_cell s page)).1
+abbrev pub cell_word : Screen → ℕ → ℕ
+cell_word s page = (cell_on s (cursor_cell s page)).0 + 256 * (cell_on s (cursor_cell s page)).1
 
 -- line r of the cell q of a page of pixels as a byte: which of its eight pixels are not 0, the first as the highest bit
 abbrev pub cell_line : Screen → ℕ → ℕ → ℕ → ℕ
@@ -340,13 +340,13 @@ cell_line s page q r =
     byte_of (λ i. if pixel_of s page (8 * (s.layout.columns * (s.layout.height * (q / s.layout.columns) + r) + q % s.layout.columns) + (7 - i)) == 0 then 0 else 1)
 
 -- the first character whose glyph the pixels at the cursor of a page are, those that are not 0 as its dots, else 0
-abbrev pub character_seen : FontSet → Screen → ℕ → ℕ
-character_seen fonts s page = first_character fonts s.layout.height (listing (cell_line s page (place_number s (cursor_place s page))) 0 s.layout.height) 256
+abbrev pub character_at_cursor : FontSet → Screen → ℕ → ℕ
+character_at_cursor fonts s page = first_character fonts s.layout.height (listing (cell_line s page (place_number s (cursor_place s page))) 0 s.layout.height) 256
 
 -- a cell of text is answered in AX, and a character of pixels in AL
-abbrev pub cell_answered : Contents → FontSet → Screen → ℕ → Regs → Regs
-cell_answered (Cells cells) fonts s page r = record r { ax = cell_read s page }
-cell_answered (Pixels pages) fonts s page r = record r { ax = with_low r.ax (character_seen fonts s page) }
+abbrev pub cell_answer : Contents → FontSet → Screen → ℕ → Regs → Regs
+cell_answer (Cells cells) fonts s page r = record r { ax = cell_word s page }
+cell_answer (Pixels pages) fonts s page r = record r { ax = with_low r.ax (character_at_cursor fonts s page) }
 
 -- the registers that it answers
 unfoldable pub answer_on : FontSet → Screen → Service → Regs → Regs
@@ -356,13 +356,13 @@ answer_on fonts s (ReadCursor page) r = record r { cx = s.cursor_type; dx = curs
 answer_on fonts s (SelectPage page) r = r
 answer_on fonts s (ScrollUp window) r = r
 answer_on fonts s (ScrollDown window) r = r
-answer_on fonts s (ReadCell page) r = cell_answered s.contents fonts s (page_meant s page) r
+answer_on fonts s (ReadCell page) r = cell_answer s.contents fonts s (page_meant s page) r
 answer_on fonts s (WriteCells cells) r = r
 answer_on fonts s (WritePixel page x y colour) r = r
 answer_on fonts s (ReadPixel page x y) r = record r { ax = with_low r.ax (pixel_of s (page_meant s page) (pixel_number s x y)) }
 answer_on fonts s (Teletype character colour) r = r
 answer_on fonts s ReadMode r = record r { ax = s.mode + 256 * s.layout.columns; bx = low r.bx + 256 * s.page }
-answer_on fonts s (Colours service) r = colours_read s service r
+answer_on fonts s (Colours service) r = colours_answer s service r
 answer_on fonts s ReadAdapter r = record r { bx = (if s.mode == 0x07 then 0x0103 else 0x0003); cx = 0x0009 }
 answer_on fonts s (WriteString call) r = r
 answer_on fonts s ReadDisplay r = record r { ax = 0x1A1A; bx = 0x0008 }

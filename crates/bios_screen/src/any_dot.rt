@@ -17,8 +17,8 @@ ghost use Rattle.bios_services.specs.Calls.{call_of};
 ghost use Rattle.bios_screen.specs.Screen.{Screen};
 ghost use Rattle.bios_screen.specs.Shown.{shown};
 ghost use Rattle.bios_screen.specs.Served.{after_call};
-ghost use Rattle.bios_screen.specs.Step.{next, refused_on};
-ghost use Rattle.bios_screen.specs.Loaded.{load_refused, loaded};
+ghost use Rattle.bios_screen.specs.Step.{next, refusal_on};
+ghost use Rattle.bios_screen.specs.Loaded.{load_refusal_on, load_glyphs};
 ghost use Rattle.bios_screen.specs.Called.{AreWords, screen_unless};
 ghost use Rattle.bios_screen.specs.Drawing.{Drawing, dots_a_frame, take_dots, MayLoad};
 ghost use Rattle.bios_screen.specs.Whole.{FitsFrame, IsFrameTaken, IsWhole};
@@ -77,10 +77,10 @@ pub fn dots_follow_screens()
 pub fn calls_follow_screens()
     ensures served { (service : Service) (fonts : FontSet) (r : Regs) (block : List ℕ) (c : CardState) (d : BiosData) (b : Drawing) →
         IsCard c → IsBda d → AreWords r → AreBytes block → Follows c d b → call_of r ≡ Some (InMode service) →
-        Follows (after_call fonts r block c d).0 (after_call fonts r block c d).1.1 (record b { screen = screen_unless (refused_on b.screen service (length block)) b.screen (next fonts b.screen service block) }) }
+        Follows (after_call fonts r block c d).0 (after_call fonts r block c d).1.1 (record b { screen = screen_unless (refusal_on b.screen service (length block)) b.screen (next fonts b.screen service block) }) }
     ensures loaded { (load : GlyphLoad) (fonts : FontSet) (r : Regs) (block : List ℕ) (c : CardState) (d : BiosData) (b : Drawing) →
         IsCard c → AreBytes block → AreFonts fonts → Follows c d b → MayLoad b load (length block) → call_of r ≡ Some (LoadGlyphs load) →
-        Follows (after_call fonts r block c d).0 (after_call fonts r block c d).1.1 (record b { screen = screen_unless (load_refused b.screen load (length block)) b.screen (loaded fonts b.screen load block) }) }
+        Follows (after_call fonts r block c d).0 (after_call fonts r block c d).1.1 (record b { screen = screen_unless (load_refusal_on b.screen load (length block)) b.screen (load_glyphs fonts b.screen load block) }) }
     ensures table { (service : TableService) (fonts : FontSet) (r : Regs) (block : List ℕ) (c : CardState) (d : BiosData) (b : Drawing) →
         IsCard c → Follows c d b → call_of r ≡ Some (ReadTable service) → Follows (after_call fonts r block c d).0 (after_call fonts r block c d).1.1 b }
 {

@@ -4,7 +4,7 @@ ghost use Rattle.std.specs.Int.{bit_at};
 ghost use Rattle.vga_planes.specs.Planes.{byte_at};
 ghost use Rattle.bios_modes.specs.Heights.{row_at as row_at_of};
 ghost use Rattle.bios_services.specs.ModeSet.{is_text as is_text_of};
-ghost use Rattle.bios_screen.specs.Raster.{joined};
+ghost use Rattle.bios_screen.specs.Raster.{join};
 ghost use Rattle.bios_screen.specs.Shown.{cells_in, glyphs_in, planar_pixel, packed_pixel, pixel_in, pixels_in, page_pixels as page_pixels_of, text_screen, pixel_screen, shows, shown};
 
 use crate::palette::Palette;
@@ -22,7 +22,7 @@ const CELLS: usize = 16_384;
 const GLYPH_BYTES: usize = 4_096;
 
 /// The first n cells of text memory.
-#[tactic(auto, using(crate::proofs::ReadingLemmas::no_cells, crate::proofs::ReadingLemmas::more_cells))]
+#[tactic(auto, using(crate::proofs::Shows::Reading::no_cells, crate::proofs::Shows::Reading::more_cells))]
 fn read_cells(alloc: Global, planes: &Planes, n: usize) -> Result<Vec<(u8, u8)>, Fault>
     requires { n ≤ 32768 }
     ensures ok { IfOk result (λ cells. cells.items ≡ cells_in planes.now.plane0 planes.now.plane1 n) }
@@ -41,7 +41,7 @@ fn read_cells(alloc: Global, planes: &Planes, n: usize) -> Result<Vec<(u8, u8)>,
 }
 
 /// The first n bytes of the glyphs.
-#[tactic(auto, using(crate::proofs::ReadingLemmas::no_glyphs, crate::proofs::ReadingLemmas::more_glyphs))]
+#[tactic(auto, using(crate::proofs::Shows::Reading::no_glyphs, crate::proofs::Shows::Reading::more_glyphs))]
 fn read_glyphs(alloc: Global, planes: &Planes, n: usize) -> Result<Vec<u8>, Fault>
     requires { n ≤ 4096 }
     ensures ok { IfOk result (λ glyphs. glyphs.items ≡ glyphs_in planes.now.plane2 n) }
@@ -114,7 +114,7 @@ fn pixel(planes: &Planes, mode: u8, z: u32, k: u32) -> u8
 }
 
 /// Appends the first n pixels of a page that begins at byte z.
-#[tactic(auto, using(crate::proofs::ReadingLemmas::no_pixels, crate::proofs::ReadingLemmas::pixel_pushed))]
+#[tactic(auto, using(crate::proofs::Shows::Reading::no_pixels, crate::proofs::Shows::Reading::pixel_pushed))]
 fn read_page(planes: &Planes, mode: u8, z: u32, n: u32, pixels: &mut Vec<u8>) -> Result<(), Fault>
     requires planar { z + (n + 7) / 8 ≤ 65536 }
     requires packed { mode ≡ 0x13 → z + n ≤ 65536 }
@@ -130,7 +130,7 @@ fn read_page(planes: &Planes, mode: u8, z: u32, n: u32, pixels: &mut Vec<u8>) ->
 }
 
 /// The pixels of all pages, page after page, of n each.
-#[tactic(auto, unfolding(crate::specs::Raster::joined))]
+#[tactic(auto, unfolding(crate::specs::Raster::join))]
 fn read_pixels(
     alloc: Global,
     planes: &Planes,
@@ -142,7 +142,7 @@ fn read_pixels(
     requires planar { size * pages ≤ 65536 }
     requires page { (n + 7) / 8 ≤ size }
     requires packed { mode ≡ 0x13 → n ≤ size }
-    ensures ok { IfOk result (λ pixels. pixels.items ≡ joined (λ p. pixels_in mode planes.now (size * p) n) pages) }
+    ensures ok { IfOk result (λ pixels. pixels.items ≡ join (λ p. pixels_in mode planes.now (size * p) n) pages) }
     ensures err { IsOkUnless result Fault.OutOfMemory }
 {
     let mut pixels = Vec::new(alloc);

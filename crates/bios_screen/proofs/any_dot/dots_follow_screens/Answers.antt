@@ -1,5 +1,5 @@
-use Rattle.bios_screen.proofs.OneDot.{rows_join, dots_follow, frame_follows}
-use Rattle.bios_screen.proofs.BetweenDots.{starts, start_of}
+use Rattle.bios_screen.proofs.Dots.OneDot.{rows_join, dots_follow, frame_follows}
+use Rattle.bios_screen.proofs.Dots.BetweenDots.{starts, start_of}
 use Rattle.bios_screen.proofs.any_dot.dots_follow_screens.Goals as goal
 
 pub returns-clause-begins : goal.returns-clause-begins

@@ -1,4 +1,4 @@
-use Rattle.bios_screen.proofs.FrameLemmas.{dots_are_picture, dots_go_on, frame_is_ended, starts_at_0}
+use Rattle.bios_screen.proofs.Dots.Drawing.{dots_are_picture, dots_go_on, frame_is_ended, starts_at_0}
 use Rattle.bios_screen.proofs.frames.dots_are_picture.Goals as goal
 
 pub returns-clause-places : goal.returns-clause-places

@@ -1,4 +1,4 @@
-use Rattle.bios_screen.proofs.FrameLemmas.{all_are_picture, frame_is_picture}
+use Rattle.bios_screen.proofs.Dots.Drawing.{all_are_picture, frame_is_picture}
 use Rattle.bios_screen.proofs.frames.frame_is_picture.Goals as goal
 
 pub returns-clause-all : goal.returns-clause-all

@@ -1,6 +1,6 @@
-use Rattle.bios_screen.proofs.Calls.{calls_lead, unknown_refused, mode_refused}
-use Rattle.bios_screen.proofs.LoadCalls.{load_leads}
-use Rattle.bios_screen.proofs.Tables.{tables_read, memory_wanted}
+use Rattle.bios_screen.proofs.Services.Calls.{calls_lead, unknown_refused, mode_refused}
+use Rattle.bios_screen.proofs.Services.LoadCalls.{load_leads}
+use Rattle.bios_screen.proofs.Services.Tables.{tables_read, memory_wanted}
 use Rattle.bios_screen.proofs.laws.calls_lead_to_screens.Goals as goal
 
 pub returns-clause-served : goal.returns-clause-served

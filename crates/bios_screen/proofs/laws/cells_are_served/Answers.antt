@@ -1,4 +1,4 @@
-use Rattle.bios_screen.proofs.Served.{read_cell, write_cells}
+use Rattle.bios_screen.proofs.Services.All.{read_cell, write_cells}
 use Rattle.bios_screen.proofs.laws.cells_are_served.Goals as goal
 
 pub returns-clause-read : goal.returns-clause-read

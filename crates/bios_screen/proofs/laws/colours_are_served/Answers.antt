@@ -1,4 +1,4 @@
-use Rattle.bios_screen.proofs.Served.{set_colours}
+use Rattle.bios_screen.proofs.Services.All.{set_colours}
 use Rattle.bios_screen.proofs.laws.colours_are_served.Goals as goal
 
 pub returns : goal.returns

@@ -1,4 +1,4 @@
-use Rattle.bios_screen.proofs.Served.{set_cursor_type, set_cursor, select_page}
+use Rattle.bios_screen.proofs.Services.All.{set_cursor_type, set_cursor, select_page}
 use Rattle.bios_screen.proofs.laws.cursor_is_served.Goals as goal
 
 pub returns-clause-kind : goal.returns-clause-kind

@@ -1,4 +1,4 @@
-use Rattle.bios_screen.proofs.Served.{dot_refused, read_refused}
+use Rattle.bios_screen.proofs.Services.All.{dot_refused, read_refused}
 use Rattle.bios_screen.proofs.laws.dots_are_refused.Goals as goal
 
 pub returns-clause-written : goal.returns-clause-written

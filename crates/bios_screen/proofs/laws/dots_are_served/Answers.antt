@@ -1,4 +1,4 @@
-use Rattle.bios_screen.proofs.Served.{write_pixel, read_pixel}
+use Rattle.bios_screen.proofs.Services.All.{write_pixel, read_pixel}
 use Rattle.bios_screen.proofs.laws.dots_are_served.Goals as goal
 
 pub returns-clause-written : goal.returns-clause-written

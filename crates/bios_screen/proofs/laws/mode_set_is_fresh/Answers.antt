@@ -1,8 +1,8 @@
-use Rattle.bios_screen.proofs.Fresh.{sets_fresh}
-use Rattle.bios_screen.proofs.Display.Display.{Colour, Monochrome}
-use Rattle.bios_screen.proofs.PixelModes.Planes.{Low, Middle, High}
-use Rattle.bios_screen.proofs.PixelFresh.{sets_fresh as sets_pixels}
-use Rattle.bios_screen.proofs.PixelModes.Graphics.{Sixteen, Many}
+use Rattle.bios_screen.proofs.Modes.TextFresh.{sets_fresh}
+use Rattle.bios_screen.proofs.Modes.TextModes.Display.{Colour, Monochrome}
+use Rattle.bios_screen.proofs.Modes.PixelModes.Planes.{Low, Middle, High}
+use Rattle.bios_screen.proofs.Modes.PixelFresh.{sets_fresh as sets_pixels}
+use Rattle.bios_screen.proofs.Modes.PixelModes.Graphics.{Sixteen, Many}
 use Rattle.bios_screen.proofs.laws.mode_set_is_fresh.Goals as goal
 
 pub returns-clause-colour : goal.returns-clause-colour

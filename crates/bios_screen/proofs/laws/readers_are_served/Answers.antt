@@ -1,4 +1,4 @@
-use Rattle.bios_screen.proofs.Served.{read_cursor, read_mode, read_adapter, read_display}
+use Rattle.bios_screen.proofs.Services.All.{read_cursor, read_mode, read_adapter, read_display}
 use Rattle.bios_screen.proofs.laws.readers_are_served.Goals as goal
 
 pub returns-clause-cursor : goal.returns-clause-cursor

@@ -1,4 +1,4 @@
-use Rattle.bios_screen.proofs.Served.{teletype, write_string}
+use Rattle.bios_screen.proofs.Services.All.{teletype, write_string}
 use Rattle.bios_screen.proofs.laws.typing_is_served.Goals as goal
 
 pub returns-clause-character : goal.returns-clause-character

@@ -1,4 +1,4 @@
-use Rattle.bios_screen.proofs.Served.{scroll_up, scroll_down}
+use Rattle.bios_screen.proofs.Services.All.{scroll_up, scroll_down}
 use Rattle.bios_screen.proofs.laws.windows_are_served.Goals as goal
 
 pub returns-clause-up : goal.returns-clause-up

@@ -1,5 +1,5 @@
 use Rattle.std.proofs.Common.{arith}
-use Rattle.bios_screen.proofs.ReadingLemmas.{first_elements}
+use Rattle.bios_screen.proofs.Shows.Reading.{first_elements}
 use Rattle.bios_screen.proofs.palette.read_values.Goals as goal
 
 pub returns : goal.returns

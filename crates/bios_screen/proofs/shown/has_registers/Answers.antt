@@ -1,5 +1,5 @@
 use Rattle.std.proofs.Common.{sym, ◌∙◌, arith}
-use Rattle.bios_screen.proofs.ReadingLemmas.{same_bytes}
+use Rattle.bios_screen.proofs.Shows.Reading.{same_bytes}
 use Rattle.bios_screen.proofs.shown.has_registers.Goals as goal
 
 pub returns : goal.returns

@@ -1,4 +1,4 @@
-use Rattle.bios_screen.proofs.ReadingLemmas.{wanted_is}
+use Rattle.bios_screen.proofs.Shows.Reading.{wanted_is}
 use Rattle.bios_screen.proofs.shown.wanted_registers.Goals as goal
 
 pub returns : goal.returns

@@ -1,6 +1,6 @@
 use Rattle.std.proofs.Common.{sym, ap, subst, ◌∙◌, ◌<◌, ◌*◌, ◌+◌}
 use Rattle.bios_screen.specs.Parts.{cell_at}
-use Rattle.bios_screen.proofs.ReadingLemmas.{cell_inside, cell_there}
+use Rattle.bios_screen.proofs.Shows.Reading.{cell_inside, cell_there}
 use Rattle.bios_screen.proofs.screen.Screen.cell.Goals as goal
 
 pub returns-then-column-layout : goal.returns-then-column-layout

@@ -1,6 +1,6 @@
 use Rattle.std.proofs.Common.{ap, ◌∙◌}
 use Rattle.std.specs.Prelude.{◌/◌}
-use Rattle.bios_screen.proofs.ReadingLemmas.{text_laid_out}
+use Rattle.bios_screen.proofs.Shows.Reading.{text_laid_out}
 use Rattle.bios_screen.proofs.screen.Screen.of_text.Goals as goal
 
 pub invariant_of-result : goal.invariant_of-result

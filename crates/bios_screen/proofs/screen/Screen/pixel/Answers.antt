@@ -1,6 +1,6 @@
 use Rattle.std.proofs.Common.{sym, ap, subst, ◌∙◌, ◌<◌, ◌*◌, ◌+◌}
 use Rattle.bios_screen.specs.Parts.{pixel_at}
-use Rattle.bios_screen.proofs.ReadingLemmas.{pixel_there, pixel_inside}
+use Rattle.bios_screen.proofs.Shows.Reading.{pixel_there, pixel_inside}
 use Rattle.bios_screen.proofs.screen.Screen.pixel.Goals as goal
 
 pub index-requires : goal.index-requires

@@ -1,0 +1,15 @@
+-- What stands on no mode: flat memories of cells and what loops leave of them, lists, plans, and registers of memory cycles.
+pub mod Flat
+pub mod Plans
+pub mod Edits
+pub mod Moves
+pub mod Lists
+pub mod Tests
+pub mod Places
+pub mod Kept
+pub mod Setting
+pub mod Bands
+pub mod TypedPlaces
+pub mod DotLists
+pub mod CellPlaces
+pub mod Shifts

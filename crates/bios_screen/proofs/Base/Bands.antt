@@ -1,0 +1,141 @@
+-- Rows of a band that are copied, and rows that are painted, on any machine whose memory is flat.
+use Rattle.std.proofs.Common.{◌≡◌, ◌≢◌, ℕ, ◌+◌, ◌*◌, ◌%◌, ◌<◌, ◌≤◌, arith, Bool, true, false}
+use Rattle.std.specs.Prelude.{◌==◌, if◌then◌else◌}
+use Rattle.vga_card.specs.Bus.{Meaning}
+use Rattle.bios_services.specs.declared.band.Band.{Band}
+use Rattle.bios_services.specs.declared.paint.Paint.{Paint}
+use Rattle.bios_services.specs.Plan.{run, put, move}
+use Rattle.bios_services.specs.Bands.{address_in, paint_byte, copy_line, copy_row, raise_rows, lower_rows, paint_line, paint_row, paint_rows}
+use Rattle.bios_screen.proofs.Base.Flat.{Edited, Moved, Turn, Leaves, set_cell}
+use Rattle.bios_screen.proofs.Base.Edits.{changed_edit, edits}
+use Rattle.bios_screen.proofs.Base.Moves.{one_move, moves_up, moves_down}
+use Rattle.bios_screen.proofs.Base.Places.{ends_before, same_place}
+
+-- a window of a page in a memory of so many cells from an address on: the page has `rows` rows of characters from cell `start`
+-- on, and of these the window has `height` from `top` on, with the band's cells of each line
+pub record IsWindow (base size : ℕ) (band : Band) (start rows top height : ℕ) : Type 0 where
+  pub address : band.start ≡ base + start
+  pub memory : start + band.pitch * (band.lines * rows) ≤ size
+  pub inside : (row : ℕ) → top ≤ row → row < top + height → row < rows
+  pub across : (i : ℕ) → i < band.width → band.left + i < band.pitch
+
+painted_small : (paint : Paint) (i : ℕ) → paint.even < 256 → paint.odd < 256 → paint_byte paint i < 256
+painted_small paint i e o = by_test (i % 2 == 0)
+  where
+    by_test : (b : Bool) → (if b then paint.even else paint.odd) < 256
+    by_test true = e
+    by_test false = o
+
+module _ (S X : Type 0) (m : Meaning S) (base size : ℕ) (band : Band) (start rows top height : ℕ) (w : IsWindow base size band start rows top height) where
+  -- a cell of a line, and one of a row
+  abbrev pub Column : Type 0
+  Column = Turn (λ _. Unit {0}) 0 band.width
+
+  abbrev pub Line : Type 0
+  Line = Turn (λ _. Column) 0 band.lines
+
+  abbrev pub place : ℕ → ℕ → ℕ → ℕ
+  place row line i = start + (band.pitch * (band.lines * row + line) + (band.left + i))
+
+  address_is : (row line i : ℕ) → address_in band row line i ≡ base + place row line i
+  address_is row line i = let e = w.address in omega arith
+
+  within : (row line i : ℕ) → row < rows → line < band.lines → i < band.width → place row line i < size
+  within row line i lr ll li =
+      let a = ends_before band.lines row rows lr in
+      let b = ends_before band.pitch (band.lines * row + line) (band.lines * rows) (omega arith) in
+      let c = w.across i li in
+      let e = w.memory in
+      omega arith
+
+  -- two cells are one only where row and line are
+  same_line : (r a i s b j : ℕ) → a < band.lines → b < band.lines → i < band.width → j < band.width → place r a i ≡ place s b j → (r ≡ s) × (a ≡ b)
+  same_line r a i s b j la lb li lj h =
+      let q : band.pitch * (band.lines * r + a) + (band.left + i) ≡ band.pitch * (band.lines * s + b) + (band.left + j) = omega arith in
+      same_place band.lines r a s b la lb (same_place band.pitch (band.lines * r + a) (band.left + i) (band.lines * s + b) (band.left + j) (w.across i li) (w.across j lj) q).0
+
+  pub rows_apart : (r s : ℕ) (g h : Line) → r ≢ s → place r g.turn g.place.turn ≢ place s h.turn h.place.turn
+  rows_apart r s g h o q = o (same_line r g.turn g.place.turn s h.turn h.place.turn g.before h.before g.place.before h.place.before q).0
+
+  lines_apart : (r a b : ℕ) (g h : Column) → a < band.lines → b < band.lines → a ≢ b → place r a g.turn ≢ place r b h.turn
+  lines_apart r a b g h la lb o q = o (same_line r a g.turn r b h.turn la lb g.before h.before q).1
+
+  -- a cell of a line, as one of its row
+  abbrev of_line : (line : ℕ) → line < band.lines → Column → Line
+  of_line line l h = record { turn = line; from = omega arith; before = l; place = h }
+
+  -- ---- rows are copied
+
+  module _ (R : S → (ℕ → X) → Type 0) (moved : (from to i j : ℕ) (s : S) (f : ℕ → X) → from ≡ base + i → to ≡ base + j → i < size → j < size → R s f → R (run m (move from to) s).0 (set_cell f j (f i))) where
+    line_copied : (from to line : ℕ) (s : S) (f : ℕ → X) → from < rows → to < rows → line < band.lines → from ≢ to → R s f → Leaves S X R (run m (copy_line band from to line) s).0 (Moved X Column (λ h. place from line h.turn) (λ h. place to line h.turn) f)
+    unfolding copy_line
+    line_copied from to line s f lf lt ll o t =
+        moves_up S X m (λ i. move (address_in band from line i) (address_in band to line i)) R 0 band.width (λ _. Unit {0}) (λ k _. place from line k) (λ k _. place to line k)
+        (λ x y _ _ lb lo hi. omega arith)
+        (λ k x g lb hi u. record {
+          cells = set_cell g (place to line k) (g (place from line k));
+          shown = moved (address_in band from line k) (address_in band to line k) (place from line k) (place to line k) x g (address_is from line k) (address_is to line k) (within from line k lf ll hi) (within to line k lt ll hi) u;
+          fact = one_move (place from line k) (place to line k) g;
+        })
+        (λ x y _ _ lb lo hi q. o (same_line from line y to line x ll ll hi (omega arith) q).0)
+        band.width 0 s f (omega arith) (omega arith) t
+
+    row_copied : (from to : ℕ) (s : S) (f : ℕ → X) → from < rows → to < rows → from ≢ to → R s f → Leaves S X R (run m (copy_row band from to) s).0 (Moved X Line (λ h. place from h.turn h.place.turn) (λ h. place to h.turn h.place.turn) f)
+    unfolding copy_row
+    row_copied from to s f lf lt o t =
+        moves_up S X m (copy_line band from to) R 0 band.lines (λ _. Column) (λ line h. place from line h.turn) (λ line h. place to line h.turn)
+        (λ x y g h lb lo hi. lines_apart to x y g h (omega arith) hi (omega arith))
+        (λ line x g lb hi u. line_copied from to line x g lf lt hi o u)
+        (λ x y g h lb lo hi. rows_apart from to (of_line y hi h) (of_line x (omega arith) g) o)
+        band.lines 0 s f (omega arith) (omega arith) t
+
+    -- count rows take what stood n rows below them
+    pub rows_raised : (n count : ℕ) (s : S) (f : ℕ → X) → count + n ≤ height → (0 < count → 0 < n) → R s f → Leaves S X R (run m (raise_rows band n top count) s).0 (Moved X (Turn (λ _. Line) top (top + count)) (λ h. place (h.turn + n) h.place.turn h.place.place.turn) (λ h. place h.turn h.place.turn h.place.place.turn) f)
+    unfolding raise_rows
+    rows_raised n count s f fits some t =
+        moves_up S X m (λ row. copy_row band (row + n) row) R top (top + count) (λ _. Line) (λ row h. place (row + n) h.turn h.place.turn) (λ row h. place row h.turn h.place.turn)
+        (λ x y g h lb lo hi. rows_apart x y g h (omega arith))
+        (λ row x g lb hi u. let z = some (omega arith) in row_copied (row + n) row x g (w.inside (row + n) (omega arith) (omega arith)) (w.inside row (omega arith) (omega arith)) (omega arith) u)
+        (λ x y g h lb lo hi. rows_apart (y + n) x h g (omega arith))
+        count top s f (omega arith) (omega arith) t
+
+    -- and count rows go down by n
+    pub rows_lowered : (n count : ℕ) (s : S) (f : ℕ → X) → count + n ≤ height → (0 < count → 0 < n) → R s f → Leaves S X R (run m (lower_rows band n top count) s).0 (Moved X (Turn (λ _. Line) top (top + count)) (λ h. place h.turn h.place.turn h.place.place.turn) (λ h. place (h.turn + n) h.place.turn h.place.place.turn) f)
+    unfolding lower_rows
+    rows_lowered n count s f fits some t =
+        moves_down S X m (λ row. copy_row band row (row + n)) R top (top + count) (λ _. Line) (λ row h. place row h.turn h.place.turn) (λ row h. place (row + n) h.turn h.place.turn)
+        (λ x y g h lb lo hi. rows_apart (x + n) (y + n) g h (omega arith))
+        (λ row x g lb hi u. let z = some (omega arith) in row_copied row (row + n) x g (w.inside row (omega arith) (omega arith)) (w.inside (row + n) (omega arith) (omega arith)) (omega arith) u)
+        (λ x y g h lb lo hi. rows_apart x (y + n) g h (omega arith))
+        count top s f (omega arith) (omega arith) t
+
+  -- ---- rows are painted, where a byte makes of a cell another
+
+  module _ (R : S → (ℕ → X) → Type 0) (made : ℕ → X → X) (stored : (at j v : ℕ) (s : S) (f : ℕ → X) → at ≡ base + j → j < size → v < 256 → R s f → R (run m (put at v) s).0 (set_cell f j (made v (f j)))) (paint : Paint) (even : paint.even < 256) (odd : paint.odd < 256) where
+    line_painted : (row line : ℕ) (s : S) (f : ℕ → X) → row < rows → line < band.lines → R s f → Leaves S X R (run m (paint_line band paint row line) s).0 (Edited X Column (λ h. place row line h.turn) (λ h x. made (paint_byte paint h.turn) x) f)
+    unfolding paint_line
+    line_painted row line s f lr ll t =
+        edits S X m (λ i. put (address_in band row line i) (paint_byte paint i)) (λ _. R) 0 band.width (λ _. Unit {0}) (λ k _. place row line k) (λ k _ x. made (paint_byte paint k) x)
+        (λ x y _ _ lb lo hi. omega arith)
+        (λ k x g lb hi u. record {
+          cells = set_cell g (place row line k) (made (paint_byte paint k) (g (place row line k)));
+          shown = stored (address_in band row line k) (place row line k) (paint_byte paint k) x g (address_is row line k) (within row line k lr ll hi) (painted_small paint k even odd) u;
+          fact = changed_edit (place row line k) (made (paint_byte paint k)) g;
+        })
+        band.width 0 s f (omega arith) (omega arith) t
+
+    row_painted : (row : ℕ) (s : S) (f : ℕ → X) → row < rows → R s f → Leaves S X R (run m (paint_row band paint row) s).0 (Edited X Line (λ h. place row h.turn h.place.turn) (λ h x. made (paint_byte paint h.place.turn) x) f)
+    unfolding paint_row
+    row_painted row s f lr t =
+        edits S X m (paint_line band paint row) (λ _. R) 0 band.lines (λ _. Column) (λ line h. place row line h.turn) (λ line h x. made (paint_byte paint h.turn) x)
+        (λ x y g h lb lo hi. lines_apart row x y g h (omega arith) hi (omega arith))
+        (λ line x g lb hi u. line_painted row line x g lr hi u)
+        band.lines 0 s f (omega arith) (omega arith) t
+
+    pub rows_painted : (first count : ℕ) (s : S) (f : ℕ → X) → top ≤ first → first + count ≤ top + height → R s f → Leaves S X R (run m (paint_rows band paint first count) s).0 (Edited X (Turn (λ _. Line) first (first + count)) (λ h. place h.turn h.place.turn h.place.place.turn) (λ h x. made (paint_byte paint h.place.place.turn) x) f)
+    unfolding paint_rows
+    rows_painted first count s f low fits t =
+        edits S X m (paint_row band paint) (λ _. R) first (first + count) (λ _. Line) (λ row h. place row h.turn h.place.turn) (λ row h x. made (paint_byte paint h.place.turn) x)
+        (λ x y g h lb lo hi. rows_apart x y g h (omega arith))
+        (λ row x g lb hi u. row_painted row x g (w.inside row (omega arith) (omega arith)) u)
+        count first s f (omega arith) (omega arith) t

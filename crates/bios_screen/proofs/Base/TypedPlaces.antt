@@ -1,0 +1,81 @@
+-- What is typed within a page leaves a place within it.
+use Rattle.std.proofs.Common.{◌≡◌, ℕ, ◌+◌, ◌-◌, ◌<◌, ◌≤◌, refl, sym, ap, subst, arith, Bool, true, false}
+use Rattle.std.specs.Prelude.{◌==◌, nat_lt, if◌then◌else◌}
+use Rattle.std.proofs.lemmas.Bool.Decides.{nat_tests}
+use Rattle.bios_modes.specs.Fonts.{FontSet}
+use Rattle.bios_services.specs.declared.ink.Ink.{Ink}
+use Rattle.bios_services.specs.Cursor.{row_of, column_of}
+use Rattle.bios_services.specs.Teletype.{line_start}
+use Rattle.bios_screen.specs.Screen.{Screen}
+use Rattle.bios_screen.specs.Step.{whole_page, last_colour, window_up, line_feed, cursor_advance, put_character, type_character}
+use Rattle.bios_screen.proofs.Base.Tests.{lt_is}
+
+-- a place is one of a page of so many rows and columns
+pub record Inside (rows columns place : ℕ) : Type 0 where
+  pub row : row_of place < rows
+  pub column : column_of place < columns
+
+-- what a line feed on the last row leaves: the page has gone up by a row
+abbrev pub risen : Screen → ℕ → ℕ → Screen
+risen s p place = window_up s p (whole_page s (last_colour s p place))
+
+module _ (rows columns : ℕ) (narrow : columns ≤ 80) where
+  below_inside : (place : ℕ) → row_of place < rows - 1 → Inside rows columns place → Inside rows columns (place + 256)
+  below_inside place l i = let c = i.column in record { row = omega arith; column = omega arith }
+
+  behind_inside : (place : ℕ) → column_of place + 1 < columns → Inside rows columns place → Inside rows columns (place + 1)
+  behind_inside place l i = let r = i.row in record { row = omega arith; column = omega arith }
+
+  start_inside : (place : ℕ) → Inside rows columns place → Inside rows columns (line_start place)
+  start_inside place i = let r = i.row in let c = i.column in record { row = omega arith; column = omega arith }
+
+  back_inside : (place : ℕ) → Inside rows columns place → Inside rows columns (if column_of place == 0 then place else place - 1)
+  back_inside place i = by_test (column_of place == 0) refl
+    where
+      by_test : (b : Bool) → (column_of place == 0) ≡ b → Inside rows columns (if column_of place == 0 then place else place - 1)
+      by_test true e = subst (λ b. Inside rows columns (if b then place else place - 1)) (sym e) i
+      by_test false e =
+          let some : 0 < column_of place = grind (arith, nat_tests) in
+          let r = i.row in
+          let c = i.column in
+          subst (λ b. Inside rows columns (if b then place else place - 1)) (sym e) (record { row = omega arith; column = omega arith })
+
+  fed_inside : (s : Screen) (p place : ℕ) → s.layout.rows ≡ rows → Inside rows columns place → Inside rows columns (line_feed s p place).1
+  fed_inside s p place e i = by_test (nat_lt (row_of place) (s.layout.rows - 1)) refl
+    where
+      either : Bool → ℕ
+      either b = let x : Screen × ℕ = (if b then (s, place + 256) else (risen s p place, place)) in x.1
+
+      by_test : (b : Bool) → nat_lt (row_of place) (s.layout.rows - 1) ≡ b → Inside rows columns (line_feed s p place).1
+      by_test true t = let a = lt_is (row_of place) (s.layout.rows - 1) t in subst (Inside rows columns) (sym (ap either t)) (below_inside place (omega arith) i)
+      by_test false t = subst (Inside rows columns) (sym (ap either t)) i
+
+  advanced_inside : (s : Screen) (p place : ℕ) → s.layout.rows ≡ rows → s.layout.columns ≡ columns → Inside rows columns place → Inside rows columns (cursor_advance s p place).1
+  advanced_inside s p place e w i = by_test (nat_lt (column_of place + 1) s.layout.columns) refl
+    where
+      either : Bool → ℕ
+      either b = let x : Screen × ℕ = (if b then (s, place + 1) else ((line_feed s p place).0, line_start (line_feed s p place).1)) in x.1
+
+      by_test : (b : Bool) → nat_lt (column_of place + 1) s.layout.columns ≡ b → Inside rows columns (cursor_advance s p place).1
+      by_test true t = let a = lt_is (column_of place + 1) s.layout.columns t in subst (Inside rows columns) (sym (ap either t)) (behind_inside place (omega arith) i)
+      by_test false t = subst (Inside rows columns) (sym (ap either t)) (start_inside (line_feed s p place).1 (fed_inside s p place e i))
+
+  pub typed_inside : (fonts : FontSet) (s : Screen) (p place v : ℕ) (ink : Ink) → s.layout.rows ≡ rows → s.layout.columns ≡ columns → Inside rows columns place → Inside rows columns (type_character fonts s p place v ink).1
+  unfolding type_character
+  typed_inside fonts s p place v ink e w i = by_tests (v == 0x07) (v == 0x08) (v == 0x0A) (v == 0x0D)
+    where
+      back : ℕ
+      back = if column_of place == 0 then place else place - 1
+
+      on : Screen × ℕ
+      on = cursor_advance (put_character fonts s p place v ink) p place
+
+      by_tests : (a b g f : Bool) → Inside rows columns (let x : Screen × ℕ = (if a then (s, place) else if b then (s, back) else if g then line_feed s p place else if f then (s, line_start place) else on) in x.1)
+      by_tests true b g f = i
+      by_tests false true g f = back_inside place i
+      by_tests false false true f = fed_inside s p place e i
+      by_tests false false false true = start_inside place i
+      by_tests false false false false = advanced_inside (put_character fonts s p place v ink) p place e w i
+
+  pub inside_word : (place : ℕ) → rows ≤ 255 → Inside rows columns place → place < 65536
+  inside_word place l i = let r = i.row in omega arith

@@ -1,0 +1,138 @@
+-- Services between dots: the adapter still follows the plain screen.
+use Rattle.std.proofs.Common.{◌≡◌, ◌≢◌, ℕ, zero, suc, ◌<◌, ◌/◌, inl, inr, refl, sym, ap, subst, ◌∙◌, Bool, true, false, List, [], ◌∷◌, ◌++◌, length, Option, Some, None}
+use Rattle.std.specs.Prelude.{◌==◌, ◌*◌, if◌then◌else◌}
+use Rattle.std.proofs.Common.{arith}
+use Rattle.std.proofs.lemmas.Nat.{mul-le}
+use Rattle.vga_crtc.specs.declared.beam.Beam.{Beam}
+use Rattle.vga_crtc.specs.Beam.{is_first_dot}
+use Rattle.vga_crtc.specs.Raster.{IsFrameStart, beam_at}
+use Rattle.vga_card.specs.Bounds.{IsCard}
+use Rattle.vga_card.specs.Card.{CardState}
+use Rattle.vga_card.specs.Dots.{character_width, fresh, fresh_dots}
+use Rattle.vga_card.specs.Picture.{lines_of, bytes_of}
+use Rattle.vga_bits.specs.declared.refusal.Refusal.{Refusal}
+use Rattle.bios_modes.specs.Bda.{BiosData}
+use Rattle.bios_modes.specs.Fonts.{FontSet}
+use Rattle.bios_services.specs.declared.glyph_load.GlyphLoad.{GlyphLoad}
+use Rattle.bios_services.specs.Cursor.{start_address}
+use Rattle.bios_screen.specs.Loaded.{load_refusal_on, load_glyphs}
+use Rattle.bios_screen.specs.Called.{screen_unless}
+use Rattle.bios_screen.specs.Screen.{Layout, Screen}
+use Rattle.bios_screen.specs.Shown.{shown}
+use Rattle.bios_screen.specs.Raster.{all_dots}
+use Rattle.bios_screen.specs.Drawing.{Drawing, dots_a_frame, is_of_picture, dots_a_line, MayLoad}
+use Rattle.bios_screen.specs.Follows.{BeamIsAt, lines_before, Follows}
+use Rattle.bios_screen.proofs.Dots.Any.{HasFrames, frames_of}
+use Rattle.bios_screen.proofs.Shows.Steady.{same_frames}
+use Rattle.bios_screen.proofs.Shows.CutAlike.{IsCutAs, uncut}
+use Rattle.bios_screen.proofs.Dots.OneDot.{not_zero, is_zero, all_is}
+
+-- the test of a dot's place knows the mode of a screen and how it is cut
+picture_kept : (s t : Screen) → IsCutAs s t → (n : ℕ) → is_of_picture t n ≡ is_of_picture s n
+picture_kept s t same n =
+    ap (λ m. is_of_picture (record t { mode = m }) n) same.mode
+    ∙ ap (λ l. is_of_picture (record s { layout = l }) n) same.layout
+
+lines_kept : (s t : Screen) → IsCutAs s t → (n : ℕ) → lines_before t n ≡ lines_before s n
+unfolding lines_before
+lines_kept s t same zero = refl
+lines_kept s t same (suc n) =
+    ap (λ l. l ++ (if is_of_picture t n then n / dots_a_line t.mode ∷ [] else [])) (lines_kept s t same n)
+    ∙ ap (λ v. lines_before s n ++ (if v then n / dots_a_line t.mode ∷ [] else [])) (picture_kept s t same n)
+    ∙ ap (λ m. lines_before s n ++ (if is_of_picture s n then n / dots_a_line m ∷ [] else [])) same.mode
+
+-- the beam that stays is at the same dot, where frames are the same
+at_kept : (c y : CardState) (start n : ℕ) → ((a f k : ℕ) → beam_at (character_width c) c.crtc.registers a f k ≡ beam_at (character_width y) y.crtc.registers a f k)
+    → y.crtc.beam ≡ c.crtc.beam → BeamIsAt c start n → BeamIsAt y start n
+at_kept c y start zero same e at = subst IsFrameStart (sym e) at
+at_kept c y start (suc n) same e at = e ∙ at ∙ same start c.crtc.beam.frame (suc n) ∙ ap (λ (b : Beam). beam_at (character_width y) y.crtc.registers start b.frame (suc n)) (sym e)
+
+-- a state that shows another screen of the same cut, with the same beam and the same dots drawn
+pub screen_follows : (c y : CardState) (d after : BiosData) (b : Drawing) (t : Screen) → Follows c d b → IsCard y → shown y after ≡ Some t → y.crtc.beam ≡ c.crtc.beam → y.drawn ≡ c.drawn → IsCutAs b.screen t
+    → Follows y after (record b { screen = t })
+screen_follows c y d after b t is z shows beam drawn same =
+    let fresh_same : fresh y ≡ fresh c = ap (λ (x : Beam). fresh_dots x y.drawn) beam ∙ ap (fresh_dots c.crtc.beam) drawn in
+    record {
+      shows = shows;
+      within = subst (λ m. b.dot < dots_a_frame m) (sym same.mode) is.within;
+      page = page_by (b.dot == 0) refl;
+      at = at_by b.dot refl;
+      lines = ap lines_of fresh_same ∙ is.lines ∙ sym (lines_kept b.screen t same b.dot);
+      bytes = ap bytes_of fresh_same ∙ is.bytes;
+    }
+  where
+    page_by : (v : Bool) → (b.dot == 0) ≡ v → (if v then t.page else b.page) < t.layout.pages
+    page_by true e = (frames_of y after t z shows).page
+    page_by false e =
+        let p : b.page < b.screen.layout.pages = subst (λ v. (if v then b.screen.page else b.page) < b.screen.layout.pages) e is.page in
+        subst (λ (l : Layout). b.page < l.pages) (sym same.layout) p
+
+    at_by : (n : ℕ) → b.dot ≡ n → BeamIsAt y (start_address after (if b.dot == 0 then t.page else b.page)) b.dot
+    at_by zero e =
+        let old : IsFrameStart c.crtc.beam = subst (λ n. BeamIsAt c (start_address d (if n == 0 then b.screen.page else b.page)) n) e is.at in
+        subst (λ n. BeamIsAt y (start_address after (if n == 0 then t.page else b.page)) n) (sym e) (subst IsFrameStart (sym beam) old)
+    at_by (suc m) e =
+        let frames = same_frames c d b.screen y after t is.shows shows same.mode same.layout in
+        let old : BeamIsAt c (start_address d b.page) (suc m) =
+        subst (λ v. BeamIsAt c (start_address d (if v then b.screen.page else b.page)) (suc m)) (not_zero m)
+        (subst (λ n. BeamIsAt c (start_address d (if n == 0 then b.screen.page else b.page)) n) e is.at) in
+        let new : BeamIsAt y (start_address after b.page) (suc m) = subst (λ a. BeamIsAt y a (suc m)) (frames.begins b.page) (at_kept c y (start_address d b.page) (suc m) frames.beam beam old) in
+        subst (λ n. BeamIsAt y (start_address after (if n == 0 then t.page else b.page)) n) (sym e)
+        (subst (λ v. BeamIsAt y (start_address after (if v then t.page else b.page)) (suc m)) (sym (not_zero m)) new)
+
+-- a frame has dots
+some_dots : (c : CardState) (d : BiosData) (s : Screen) → HasFrames c d s → 0 < dots_a_frame s.mode
+unfolding all_dots
+some_dots c d s h =
+    let m = h.raster in
+    let r = h.has.raster in
+    let some_characters = r.some_columns in
+    let narrow = r.narrow in
+    let some_lines = r.some_lines in
+    let low = r.low in
+    let line = mul-le 1 1 m.characters m.dots (omega arith) r.some_dots in
+    let all = mul-le 1 1 m.lines (m.characters * m.dots) (omega arith) (omega (arith, line)) in
+    subst (λ n. 0 < n) (all_is c d s h) (omega (arith, all))
+
+-- at the first dot of a frame whatever screen is shown is followed
+pub starts : (c : CardState) (d : BiosData) (b : Drawing) → IsCard c → shown c d ≡ Some b.screen → b.dot ≡ 0 → (is_first_dot c.crtc.beam ≡ true) → IsFrameStart c.crtc.beam → Follows c d b
+unfolding lines_before bytes_of
+starts c d b z shows e first start =
+    let h = frames_of c d b.screen z shows in
+    let test = is_zero b.dot e in
+    let none : fresh c ≡ [] = ap (λ v. if v then [] else c.drawn) first in
+    record {
+      shows = shows;
+      within = subst (λ n. n < dots_a_frame b.screen.mode) (sym e) (some_dots c d b.screen h);
+      page = subst (λ v. (if v then b.screen.page else b.page) < b.screen.layout.pages) (sym test) h.page;
+      at = subst (λ n. BeamIsAt c (start_address d (if n == 0 then b.screen.page else b.page)) n) (sym e) start;
+      lines = ap lines_of none ∙ sym (ap (lines_before b.screen) e);
+      bytes = ap bytes_of none ∙ sym (ap (λ v. if v then [] else b.picture) test);
+    }
+
+-- ---- a load of glyphs
+
+-- that at the first dot of a frame whatever is shown is followed
+abbrev pub Begins : Type 0
+Begins = (c : CardState) (d : BiosData) (b : Drawing) → IsCard c → shown c d ≡ Some b.screen → b.dot ≡ 0 → IsFrameStart c.crtc.beam → Follows c d b
+
+-- at dot 0 the beam is at the first dot of a frame
+pub start_of : (c : CardState) (d : BiosData) (b : Drawing) → Follows c d b → b.dot ≡ 0 → IsFrameStart c.crtc.beam
+start_of c d b is e = subst (λ n. BeamIsAt c (start_address d (if n == 0 then b.screen.page else b.page)) n) e is.at
+
+-- a refused call leaves the screen
+refused_cut : (why : Option Refusal) (s t : Screen) → why ≢ None → IsCutAs s (screen_unless why s t)
+refused_cut None s t some = absurd (some refl)
+refused_cut (Some why) s t some = uncut s
+
+-- the screen that a load leads to, also where it is refused
+abbrev pub loaded_on : FontSet → Screen → GlyphLoad → List ℕ → Screen
+loaded_on fonts s load block = screen_unless (load_refusal_on s load (length block)) s (load_glyphs fonts s load block)
+
+-- it is followed
+pub load_follows : Begins → (fonts : FontSet) (load : GlyphLoad) (block : List ℕ) (c y : CardState) (d after : BiosData) (b : Drawing) → MayLoad b load (length block) → Follows c d b → IsCard y
+    → shown y after ≡ Some (loaded_on fonts b.screen load block) → y.crtc.beam ≡ c.crtc.beam → y.drawn ≡ c.drawn → Follows y after (record b { screen = loaded_on fonts b.screen load block })
+load_follows begins fonts load block c y d after b (inl refused) is z shows beam drawn =
+    screen_follows c y d after b _ is z shows beam drawn (refused_cut (load_refusal_on b.screen load (length block)) b.screen (load_glyphs fonts b.screen load block) refused)
+load_follows begins fonts load block c y d after b (inr zeroth) is z shows beam drawn =
+    begins y after (record b { screen = loaded_on fonts b.screen load block }) z shows zeroth (subst IsFrameStart (sym beam) (start_of c d b is zeroth))

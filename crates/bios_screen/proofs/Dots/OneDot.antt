@@ -1,0 +1,382 @@
+-- One dot, any number of them, and the dots to the end of a frame: the adapter follows the plain screen.
+use Rattle.std.proofs.Common.{◌≡◌, ℕ, zero, suc, ◌+◌, ◌-◌, ◌*◌, ◌/◌, ◌%◌, ◌<◌, ◌≤◌, ⊎_elim, refl, sym, ap, subst, ◌∙◌, arith, Bool, true, false, List, [], ◌∷◌, ◌++◌, replicate, Some}
+use Rattle.std.specs.Prelude.{nat_lt, if◌then◌else◌, ◌==◌, ◌&&◌}
+use Rattle.std.proofs.lemmas.Bool.{cases_lt}
+use Rattle.std.proofs.lemmas.Bool.Decides.{nat_tests}
+use Rattle.std.proofs.lemmas.List.{append-nil, map-append}
+use Rattle.std.proofs.lemmas.Nat.{mul-le}
+use Rattle.vga_crtc.specs.declared.beam.Beam.{Beam}
+use Rattle.vga_crtc.specs.Crtc.{first_dot}
+use Rattle.vga_crtc.specs.Beam.{lines, first_counter, is_first_dot, started, after_dot, dots as beam_dots}
+use Rattle.vga_crtc.specs.Raster.{IsFrameStart, IsRegular, line_dots as line_of_dots, beam_at}
+use Rattle.vga_card.specs.Picture.{Dot, line_of, lines_of, lines_from, bytes_of}
+use Rattle.vga_card.specs.Bounds.{IsCard}
+use Rattle.vga_card.specs.Card.{CardState}
+use Rattle.vga_card.specs.Dots.{character_width, fresh, dot, dots}
+use Rattle.vga_card.specs.Frames.{frame_count, frame, collect}
+use Rattle.bios_modes.specs.Bda.{BiosData}
+use Rattle.bios_services.specs.Cursor.{start_address}
+use Rattle.bios_screen.specs.Screen.{Screen}
+use Rattle.bios_screen.specs.Shown.{shown}
+use Rattle.bios_screen.specs.Picture.{dot_at, picture_width, picture_height, next_frame}
+use Rattle.bios_screen.specs.Raster.{Raster, Colours, raster_of, HasRaster, width, line_dots as dots_of_line, all_dots, picture_dot, IsAtDot as AtDot, IsFurther, FrameEnded}
+use Rattle.bios_screen.proofs.Base.DotLists.{bytes_append, no_bytes, bytes_joined, same_joined, whole_picture, picture_lines}
+use Rattle.bios_screen.proofs.Dots.Drawing.{DotLaws, dots_are_picture, dots_go_on, frame_is_ended, starts_at_0}
+use Rattle.bios_screen.specs.Drawing.{dots_a_line, lines_a_frame, dots_a_frame, Drawing, page_shown, so_far, is_of_picture, colour_of, is_last, take_dot, take_dots, take_frame}
+use Rattle.bios_screen.specs.Follows.{BeamIsAt, RowsJoin, lines_before, Follows, EndsFrame}
+use Rattle.bios_screen.proofs.Dots.Any.{HasFrames, frames_of}
+use Rattle.bios_screen.proofs.Shows.Steady.{shown_moved, frame_shown}
+
+-- what the laws of the beam and of the adapter say of dots
+pub record Laws : Type 0 where
+  pub of_dots : DotLaws
+  pub moves : (cw : ℕ) (r : List ℕ) (b : Beam) (start frame m n : ℕ) → IsRegular r → 0 < cw → m + n < lines r * line_of_dots cw r → started r b ≡ beam_at cw r start frame m → 0 < n → beam_dots cw r n b ≡ beam_at cw r start frame (m + n)
+  pub past : (cw : ℕ) (r : List ℕ) (start frame n : ℕ) → 0 < n → started r (beam_at cw r start frame n) ≡ beam_at cw r start frame n
+  pub split : (a b : ℕ) (c : CardState) → dots (a + b) c ≡ dots b (dots a c)
+  pub bounds : (n : ℕ) (c : CardState) → IsCard c → IsCard (dots n c)
+
+-- ---- lists
+
+pub lines_if : (v : Bool) (d : Dot) → lines_of (if v then d ∷ [] else []) ≡ (if v then d.line ∷ [] else [])
+lines_if true d = refl
+lines_if false d = refl
+
+pub bytes_if : (v : Bool) (d : Dot) → bytes_of (if v then d ∷ [] else []) ≡ (if v then d.colour else [])
+unfolding bytes_of
+bytes_if true d = append-nil d.colour
+bytes_if false d = refl
+
+no_line : (s : Screen) → lines_before s 0 ≡ []
+unfolding lines_before
+no_line s = refl
+
+-- ---- tests
+
+pub not_zero : (n : ℕ) → (suc n == 0) ≡ false
+not_zero n = grind (arith, nat_tests)
+
+pub is_zero : (n : ℕ) → n ≡ 0 → (n == 0) ≡ true
+is_zero n e = grind (arith, nat_tests)
+
+same_test : (a b : ℕ) → a ≡ b → (a == b) ≡ true
+same_test a b e = grind (arith, nat_tests)
+
+less_test : (a b : ℕ) → a < b → (a == b) ≡ false
+less_test a b l = grind (arith, nat_tests)
+
+is_away : (v : Bool) → (v ≡ true → ⊥) → v ≡ false
+is_away true h = absurd (h refl)
+is_away false h = refl
+
+wide : (v : Bool) → 0 < (if v then 8 else 9)
+wide true = omega arith
+wide false = omega arith
+
+-- ---- the plain screen
+
+-- a dot that is the last, or is not
+taken : (b : Drawing) (v : Bool) → is_last b ≡ v → take_dot b ≡ record {
+  screen = if v then next_frame b.screen else b.screen;
+  dot = if v then 0 else b.dot + 1;
+  page = page_shown b;
+  picture = so_far b ++ colour_of b.screen (page_shown b) b.dot;
+}
+unfolding take_dot
+taken b v e = ap (λ v. let x : Drawing = record {
+  screen = if v then next_frame b.screen else b.screen;
+  dot = if v then 0 else b.dot + 1;
+  page = page_shown b;
+  picture = so_far b ++ colour_of b.screen (page_shown b) b.dot;
+} in x) e
+
+-- the next dot of the frame
+abbrev pub onward : Drawing → Drawing
+onward b = record { screen = b.screen; dot = suc b.dot; page = page_shown b; picture = so_far b ++ colour_of b.screen (page_shown b) b.dot }
+
+-- dot 0 of the next
+abbrev pub renewed : Drawing → Drawing
+renewed b = record { screen = next_frame b.screen; dot = 0; page = page_shown b; picture = so_far b ++ colour_of b.screen (page_shown b) b.dot }
+
+pub taken_on : (b : Drawing) → b.dot + 1 < dots_a_frame b.screen.mode → take_dot b ≡ onward b
+taken_on b l =
+    let e : b.dot + 1 ≡ suc b.dot = omega arith in
+    taken b false (less_test (b.dot + 1) (dots_a_frame b.screen.mode) l) ∙ ap (λ n. let x : Drawing = record (onward b) { dot = n } in x) e
+
+pub taken_last : (b : Drawing) → b.dot + 1 ≡ dots_a_frame b.screen.mode → take_dot b ≡ renewed b
+taken_last b e = taken b true (same_test (b.dot + 1) (dots_a_frame b.screen.mode) e)
+
+-- k dots that do not end the frame
+pub record IsOn (b : Drawing) (k : ℕ) : Type 0 where
+  pub dot : (take_dots k b).dot ≡ b.dot + k
+  pub screen : (take_dots k b).screen ≡ b.screen
+
+pub dots_on : (k : ℕ) (b : Drawing) → b.dot + k < dots_a_frame b.screen.mode → IsOn b k
+unfolding take_dots
+dots_on zero b l = record { dot = omega arith; screen = refl }
+dots_on (suc k) b l =
+    let on = taken_on b (omega arith) in
+    let rest : IsOn (onward b) k = dots_on k (onward b) (omega arith) in
+    let e : suc b.dot + k ≡ b.dot + suc k = omega arith in
+    record {
+      dot = ap (λ (x : Drawing). (take_dots k x).dot) on ∙ rest.dot ∙ e;
+      screen = ap (λ (x : Drawing). (take_dots k x).screen) on ∙ rest.screen;
+    }
+
+pub taken_more : (k : ℕ) (b : Drawing) → take_dots (suc k) b ≡ take_dot (take_dots k b)
+unfolding take_dots
+taken_more zero b = refl
+taken_more (suc k) b = taken_more k (take_dot b)
+
+-- ---- the dots of the picture
+
+dot_is_one : (c : CardState) → dots 1 c ≡ dot c
+unfolding dots
+dot_is_one c = refl
+
+-- dot n of a frame, by how long lines are, and how wide and high the picture is
+abbrev pub dot_by : ℕ → ℕ → ℕ → Colours → ℕ → List Dot
+dot_by line w h f n = if nat_lt (n % line) w && nat_lt (n / line) h then record { line = n / line; colour = f (n % line) (n / line) } ∷ [] else []
+
+module _ (c : CardState) (d : BiosData) (s : Screen) (h : HasFrames c d s) where
+  dot_is : (f : Colours) (n : ℕ) → picture_dot h.raster f n ≡ dot_by (dots_a_line s.mode) (picture_width s) (picture_height s) f n
+  dot_is f n =
+      ap (λ l. dot_by l (width h.raster) h.raster.height f n) h.line
+      ∙ ap (λ w. dot_by (dots_a_line s.mode) w h.raster.height f n) h.wide
+      ∙ ap (λ v. dot_by (dots_a_line s.mode) (picture_width s) v f n) h.high
+
+  dot_line : (f : Colours) (n : ℕ) → lines_of (picture_dot h.raster f n) ≡ (if is_of_picture s n then n / dots_a_line s.mode ∷ [] else [])
+  dot_line f n = ap lines_of (dot_is f n) ∙ lines_if (is_of_picture s n) _
+
+  dot_bytes : (g n : ℕ) → bytes_of (picture_dot h.raster (dot_at s g) n) ≡ colour_of s g n
+  dot_bytes g n = ap bytes_of (dot_is (dot_at s g) n) ∙ bytes_if (is_of_picture s n) _
+
+  pub all_is : all_dots h.raster ≡ dots_a_frame s.mode
+  unfolding all_dots dots_a_frame
+  all_is = ap (λ n. n * dots_of_line h.raster) h.lines ∙ ap (λ n. lines_a_frame s.mode * n) h.line
+
+  -- all lines of a frame are those of the picture, each as wide as it is
+  lines_collected : (f : Colours) (n : ℕ) → lines_before s n ≡ lines_of (collect (picture_dot h.raster f) n)
+  unfolding lines_before
+  lines_collected f zero = refl
+  lines_collected f (suc n) =
+      ap (λ l. l ++ (if is_of_picture s n then n / dots_a_line s.mode ∷ [] else [])) (lines_collected f n)
+      ∙ ap (λ l. lines_of (collect (picture_dot h.raster f) n) ++ l) (sym (dot_line f n))
+      ∙ sym (map-append line_of (collect (picture_dot h.raster f) n) (picture_dot h.raster f n))
+
+  all_lines : lines_before s (dots_a_frame s.mode) ≡ lines_from 0 (replicate (picture_height s) (picture_width s))
+  unfolding all_dots
+  all_lines =
+      let m = h.raster in
+      let f = dot_at s 0 in
+      let some = h.has.raster.some_dots in
+      let narrow : width m ≤ dots_of_line m = mul-le m.columns m.dots m.characters m.dots h.has.raster.narrow (omega arith) in
+      ap (lines_before s) (sym all_is)
+      ∙ lines_collected f (all_dots m)
+      ∙ ap lines_of (whole_picture m f narrow h.has.raster.low)
+      ∙ picture_lines f (width m) m.height
+      ∙ ap (λ w. lines_from 0 (replicate m.height w)) h.wide
+      ∙ ap (λ v. lines_from 0 (replicate v (picture_width s))) h.high
+
+-- ---- one dot
+
+at_of : Laws → (m : Raster) (c : CardState) (start n : ℕ) → HasRaster m c → n < all_dots m → (n ≡ 0 → first_counter c.crtc.registers ≡ start) → BeamIsAt c start n → AtDot m c start n
+at_of law m c start zero has within first at = subst (λ a. AtDot m c a 0) (first refl) (starts_at_0 law.of_dots m c has at)
+at_of law m c start (suc n) has within first at = record {
+  within = within;
+  beam = ap (started c.crtc.registers) at ∙ law.past (character_width c) c.crtc.registers start c.crtc.beam.frame (suc n) (omega arith);
+}
+
+-- whatever is drawn of a frame, its dots join that with the colours of the screen
+pub rows_join : Laws → (c : CardState) (d : BiosData) (s : Screen) (page n : ℕ) → IsCard c → shown c d ≡ Some s → page < s.layout.pages → n < dots_a_frame s.mode → (n ≡ 0 → page ≡ s.page)
+    → BeamIsAt c (start_address d page) n → RowsJoin c s page n
+rows_join law c d s page n z shows lp within first at j some few =
+    let h = frames_of c d s z shows in
+    let m = h.raster in
+    let f = dot_at s page in
+    let all = all_is c d s h in
+    let here = at_of law m c (start_address d page) n h.has (omega arith) (λ e. h.first ∙ ap (start_address d) (sym (first e))) at in
+    let one : ℕ → List Dot = λ i. picture_dot m f (n + i) in
+    ap bytes_of (dots_are_picture law.of_dots m c (start_address d page) n f h.has here (h.draws page lp) j some (omega arith))
+    ∙ bytes_append (fresh c) (collect one j)
+    ∙ ap (λ l. bytes_of (fresh c) ++ l) (bytes_joined one j ∙ same_joined (λ i. bytes_of (one i)) (λ i. colour_of s page (n + i)) j (λ i. dot_bytes c d s h page (n + i)))
+
+-- what one dot draws, and that the adapter follows
+pub record DotTaken (c : CardState) (d : BiosData) (b : Drawing) : Type 0 where
+  pub lines : lines_of (dot c).drawn ≡ lines_before b.screen (suc b.dot)
+  pub bytes : bytes_of (dot c).drawn ≡ (take_dot b).picture
+  pub follows : Follows (dot c) d (take_dot b)
+
+module _ (law : Laws) (c : CardState) (d : BiosData) (b : Drawing) (z : IsCard c) (is : Follows c d b) where
+  abbrev s : Screen
+  s = b.screen
+
+  abbrev n : ℕ
+  n = b.dot
+
+  abbrev g : ℕ
+  g = page_shown b
+
+  abbrev start : ℕ
+  start = start_address d g
+
+  h : HasFrames c d s
+  h = frames_of c d s z is.shows
+
+  within : n < all_dots h.raster
+  within = let w = is.within in let e = all_is c d s h in omega arith
+
+  begins : n ≡ 0 → first_counter c.crtc.registers ≡ start
+  begins e = h.first ∙ ap (λ v. start_address d (if v then s.page else b.page)) (sym (is_zero n e))
+
+  at : AtDot h.raster c start n
+  at = at_of law h.raster c start n h.has within begins is.at
+
+  ended : FrameEnded h.raster c n (dot_at s g)
+  ended = frame_is_ended law.of_dots h.raster c start n (dot_at s g) h.has at (h.draws g is.page)
+
+  drawn_is : (dot c).drawn ≡ fresh c ++ picture_dot h.raster (dot_at s g) n
+  drawn_is =
+      let f = dot_at s g in
+      let none : n + 0 ≡ n = omega arith in
+      let l = within in
+      ap (λ (x : CardState). x.drawn) (sym (dot_is_one c))
+      ∙ dots_are_picture law.of_dots h.raster c start n f h.has at (h.draws g is.page) 1 (omega arith) (omega arith)
+      ∙ ap (λ k. fresh c ++ picture_dot h.raster f k) none
+
+  lines_are : lines_of (dot c).drawn ≡ lines_before s (suc n)
+  unfolding lines_before
+  lines_are =
+      let one = picture_dot h.raster (dot_at s g) n in
+      ap lines_of drawn_is ∙ map-append line_of (fresh c) one
+      ∙ ap (λ l. l ++ lines_of one) is.lines
+      ∙ ap (λ l. lines_before s n ++ l) (dot_line c d s h (dot_at s g) n)
+
+  bytes_are : bytes_of (dot c).drawn ≡ so_far b ++ colour_of s g n
+  bytes_are =
+      let one = picture_dot h.raster (dot_at s g) n in
+      ap bytes_of drawn_is ∙ bytes_append (fresh c) one
+      ∙ ap (λ l. l ++ bytes_of one) is.bytes
+      ∙ ap (λ l. so_far b ++ l) (dot_bytes c d s h g n)
+
+  -- ---- where the frame goes on
+  module _ (l : n + 1 < dots_a_frame s.mode) where
+    later : n + 1 < all_dots h.raster
+    later = let e = all_is c d s h in omega arith
+
+    away : is_first_dot (dot c).crtc.beam ≡ false
+    away = is_away (is_first_dot (dot c).crtc.beam) (λ t.
+        let count = ended.count in
+        let l = later in
+        (law.of_dots.ends c).first 1 (omega arith) (omega arith) (subst (λ (x : CardState). IsFrameStart x.crtc.beam) (sym (dot_is_one c)) ((law.of_dots.first (dot c).crtc.beam).0 t)))
+
+    further : IsFurther h.raster c start n 1
+    further = dots_go_on law.of_dots h.raster c start n h.has at 1 later
+
+    frame_stays : (dot c).crtc.beam.frame ≡ c.crtc.beam.frame
+    frame_stays = ap (λ (x : CardState). x.crtc.beam.frame) (sym (dot_is_one c)) ∙ further.frame
+
+    keeps : dot c ≡ record c { crtc = record c.crtc { beam = (dot c).crtc.beam }; drawn = (dot c).drawn }
+    keeps = subst (λ (x : CardState). x ≡ record c { crtc = record c.crtc { beam = x.crtc.beam }; drawn = x.drawn }) (dot_is_one c) further.keeps
+
+    moved : (dot c).crtc.beam ≡ beam_at (character_width c) c.crtc.registers start c.crtc.beam.frame (suc n)
+    unfolding dots dot after_dot beam_dots all_dots
+    moved =
+        let w = character_width c in
+        let r = c.crtc.registers in
+        let e : n + 1 ≡ suc n = omega arith in
+        let numbers : all_dots (raster_of c) ≡ all_dots h.raster = ap all_dots h.has.numbers in
+        law.moves w r c.crtc.beam start c.crtc.beam.frame n 1 h.has.regular (wide _) (subst (λ k. n + 1 < k) (sym numbers) later) at.beam (omega arith)
+        ∙ ap (beam_at w r start c.crtc.beam.frame) e
+
+    at_next : BeamIsAt (dot c) start (suc n)
+    unfolding dot after_dot
+    at_next = moved ∙ ap (λ f. beam_at (character_width c) c.crtc.registers start f (suc n)) (sym frame_stays)
+
+    follows_on : Follows (dot c) d (onward b)
+    follows_on = record {
+      shows = ap (λ (x : CardState). shown x d) keeps ∙ shown_moved c d s (dot c).crtc.beam (dot c).drawn is.shows
+          ∙ ap (λ f. Some (record s { frame = f })) (frame_stays ∙ sym (frame_shown c d s is.shows));
+      within = omega arith;
+      page = subst (λ v. (if v then s.page else g) < s.layout.pages) (sym (not_zero n)) is.page;
+      at = subst (λ v. BeamIsAt (dot c) (start_address d (if v then s.page else g)) (suc n)) (sym (not_zero n)) at_next;
+      lines = ap (λ v. lines_of (if v then [] else (dot c).drawn)) away ∙ lines_are;
+      bytes = ap (λ v. bytes_of (if v then [] else (dot c).drawn)) away ∙ bytes_are ∙ sym (ap (λ v. if v then [] else so_far b ++ colour_of s g n) (not_zero n));
+    }
+
+  -- ---- where it ends
+  module _ (e : n + 1 ≡ dots_a_frame s.mode) where
+    ends_here : frame c ≡ dot c
+    ends_here =
+        let count = ended.count in
+        let all = all_is c d s h in
+        let one : frame_count c ≡ 1 = omega arith in
+        ap (λ k. dots k c) one ∙ dot_is_one c
+
+    leaves : dot c ≡ record c { crtc = record c.crtc { beam = first_dot ((c.crtc.beam.frame + 1) % 32) }; drawn = (dot c).drawn }
+    leaves = subst (λ (x : CardState). x ≡ record c { crtc = record c.crtc { beam = first_dot ((c.crtc.beam.frame + 1) % 32) }; drawn = x.drawn }) ends_here ended.leaves
+
+    starts : IsFrameStart (dot c).crtc.beam
+    starts = subst (λ (x : CardState). IsFrameStart x.crtc.beam) (sym leaves) (record { line = refl; character = refl; dot = refl })
+
+    nothing : fresh (dot c) ≡ []
+    nothing = ap (λ v. if v then [] else (dot c).drawn) ((law.of_dots.first (dot c).crtc.beam).1 starts)
+
+    follows_renewed : Follows (dot c) d (renewed b)
+    follows_renewed = record {
+      shows = ap (λ (x : CardState). shown x d) leaves ∙ shown_moved c d s (first_dot ((c.crtc.beam.frame + 1) % 32)) (dot c).drawn is.shows
+          ∙ ap (λ f. Some (record s { frame = (f + 1) % 32 })) (sym (frame_shown c d s is.shows));
+      within = omega (arith, is.within);
+      page = h.page;
+      at = starts;
+      lines = ap lines_of nothing ∙ sym (no_line (next_frame s));
+      bytes = ap bytes_of nothing ∙ no_bytes;
+    }
+
+  pub dot_taken : DotTaken c d b
+  unfolding take_dot
+  dot_taken = record {
+    lines = lines_are;
+    bytes = bytes_are;
+    follows = ⊎_elim
+        (λ (l : n + 1 < dots_a_frame s.mode). subst (Follows (dot c) d) (sym (taken_on b l)) (follows_on l))
+        (λ (l : dots_a_frame s.mode ≤ n + 1). let e : n + 1 ≡ dots_a_frame s.mode = omega (arith, is.within) in subst (Follows (dot c) d) (sym (taken_last b e)) (follows_renewed e))
+        (cases_lt (n + 1) (dots_a_frame s.mode));
+  }
+
+-- ---- any number of dots
+
+pub dots_follow : Laws → (n : ℕ) (c : CardState) (d : BiosData) (b : Drawing) → IsCard c → Follows c d b → Follows (dots n c) d (take_dots n b)
+unfolding dots take_dots
+dots_follow law zero c d b z is = is
+dots_follow law (suc n) c d b z is = dots_follow law n (dot c) d (take_dot b) (law.bounds 1 c z) (dot_taken law c d b z is).follows
+
+-- ---- the end of a frame
+
+pub frame_follows : Laws → (c : CardState) (d : BiosData) (b : Drawing) → IsCard c → Follows c d b → EndsFrame c d b
+frame_follows law c d b z is =
+    let s = b.screen in
+    let n = b.dot in
+    let all = dots_a_frame s.mode in
+    let f = h law c d b z is in
+    let k = all - n - 1 in
+    let within = is.within in
+    let left : all - n ≡ suc k = omega arith in
+    let on = dots_on k b (omega arith) in
+    let c' = dots k c in
+    let b' = take_dots k b in
+    let last = dot_taken law c' d b' (law.bounds k c z) (dots_follow law k c d b z is) in
+    let total = (ended law c d b z is).count in
+    let numbers = all_is c d s f in
+    let count : frame_count c ≡ k + 1 = omega arith in
+    let frame_is : frame c ≡ dot c' = ap (λ j. dots j c) count ∙ law.split k 1 c ∙ dot_is_one c' in
+    let taken_is : take_frame b ≡ take_dot b' = ap (λ j. take_dots j b) left ∙ taken_more k b in
+    let whole : suc (n + k) ≡ all = omega arith in
+    let lines = ap (λ (x : CardState). lines_of x.drawn) frame_is ∙ last.lines
+    ∙ ap (λ (x : Screen). lines_before x (suc b'.dot)) on.screen ∙ ap (λ j. lines_before s (suc j)) on.dot ∙ ap (lines_before s) whole ∙ all_lines c d s f in
+    let w : 0 < picture_width s = subst (λ j. 0 < j) f.wide (mul-le 1 1 f.raster.columns f.raster.dots f.has.raster.some_columns f.has.raster.some_dots) in
+    let v : 0 < picture_height s = subst (λ j. 0 < j) f.high f.has.raster.some_lines in
+    record {
+      size = law.of_dots.regular_shape (picture_width s) (picture_height s) (frame c).drawn w v lines;
+      bytes = ap (λ (x : CardState). bytes_of x.drawn) frame_is ∙ last.bytes ∙ ap (λ (x : Drawing). x.picture) (sym taken_is);
+      follows = subst (λ (x : CardState). Follows x d (take_frame b)) (sym frame_is) (subst (Follows (dot c') d) (sym taken_is) last.follows);
+    }

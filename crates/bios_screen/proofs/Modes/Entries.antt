@@ -1,0 +1,144 @@
+-- The DAC of a mode set.
+use Rattle.std.proofs.Common.{◌≡◌, ◌≢◌, ℕ, ◌+◌, ◌%◌, ◌<◌, ◌≤◌, ⊎_elim, refl, sym, ap, ◌∙◌, subst, arith, List, [], length, true}
+use Rattle.std.specs.Prelude.{◌==◌, slice_index, slice_set, bit_and}
+use Rattle.std.proofs.lemmas.Bool.{cases_eq, agree_below_at}
+use Rattle.std.proofs.lemmas.List.{get_or-set_same, get_or-set_other, length-set}
+use Rattle.vga_dac.specs.declared.component.Component.TheVariants.{Red}
+use Rattle.vga_dac.specs.Dac.{DacState}
+use Rattle.vga_card.specs.Bus.{card_meaning}
+use Rattle.vga_card.specs.Card.{CardState}
+use Rattle.vga_card.specs.Port.{port_of}
+use Rattle.vga_card.specs.Cycles.{out_at}
+use Rattle.bios_modes.specs.Palette.{dac_entry}
+use Rattle.bios_services.specs.Plan.{run, each}
+use Rattle.bios_services.specs.ModeSet.{colour_plan}
+use Rattle.bios_screen.proofs.Base.Flat.{Edited, Leaves, set_cell, set_same, set_other}
+use Rattle.bios_screen.proofs.Base.Edits.{one_edit, edits}
+use Rattle.bios_screen.proofs.Base.Tests.{same}
+
+pub record Colour : Type 0 where
+  pub red : ℕ
+  pub green : ℕ
+  pub blue : ℕ
+
+-- red, green and blue of a list, and the bits of them that the DAC keeps
+abbrev pub colour_of : List ℕ → Colour
+colour_of l = record { red = slice_index l 0; green = slice_index l 1; blue = slice_index l 2 }
+
+abbrev pub kept_colour : Colour → Colour
+kept_colour x = record { red = bit_and x.red 0x3F; green = bit_and x.green 0x3F; blue = bit_and x.blue 0x3F }
+
+-- an entry of the three lists
+abbrev pub entry_at : DacState → ℕ → Colour
+entry_at d k = record { red = slice_index d.reds k; green = slice_index d.greens k; blue = slice_index d.blues k }
+
+-- all of an adapter but its DAC entries and what the DAC waits for
+abbrev pub without_entries : CardState → CardState
+without_entries c = record c { dac = record c.dac { reds = []; greens = []; blues = []; index = 0; component = Red; waiting_red = 0; waiting_green = 0 } }
+
+-- the DAC stands at entry i, its entries are f, and all else is as in `rest`
+pub record HasEntries (rest : CardState) (i : ℕ) (c : CardState) (f : ℕ → Colour) : Type 0 where
+  pub index : c.dac.index ≡ i % 256
+  pub component : c.dac.component ≡ Red
+  pub reds : length c.dac.reds ≡ 256
+  pub greens : length c.dac.greens ≡ 256
+  pub blues : length c.dac.blues ≡ 256
+  pub entry : (k : ℕ) → k < 256 → entry_at c.dac k ≡ f k
+  pub others : without_entries c ≡ rest
+
+-- the DAC after entry i is written with a colour, where i is its index
+abbrev stored : DacState → ℕ → Colour → DacState
+stored d i x = record d {
+  reds = slice_set d.reds i (bit_and x.red 0x3F);
+  greens = slice_set d.greens i (bit_and x.green 0x3F);
+  blues = slice_set d.blues i (bit_and x.blue 0x3F);
+  index = (i + 1) % 256;
+  component = Red;
+  waiting_red = bit_and x.red 0x3F;
+  waiting_green = bit_and x.green 0x3F;
+}
+
+-- three writes are one entry
+three : (l : List ℕ) (i : ℕ) (c : CardState) → c.dac.component ≡ Red → c.dac.index ≡ i → (run card_meaning (colour_plan l) c).0 ≡ record c { dac = stored c.dac i (colour_of l) }
+unfolding colour_plan port_of out_at
+three l i c e w =
+    ap (λ x. (run card_meaning (colour_plan l) (record c { dac = record c.dac { component = x } })).0) e
+    ∙ ap (λ x. let t : CardState = record c { dac = stored c.dac x (colour_of l) } in t) w
+
+pub one_entry : (rest : CardState) (colour : List ℕ) (i : ℕ) (s : CardState) (c : ℕ → Colour) → i < 256 → HasEntries rest i s c → Leaves CardState Colour (HasEntries rest (i + 1)) (run card_meaning (colour_plan colour) s).0 (Edited Colour (Unit {0}) (λ _. i) (λ _ x. kept_colour (colour_of colour)) c)
+one_entry rest colour i s c l t =
+    let new = kept_colour (colour_of colour) in
+    let after : CardState = record s { dac = stored s.dac i (colour_of colour) } in
+    let d : ℕ → Colour = set_cell c i new in
+    let z : i % 256 ≡ i = omega arith in
+    let still : HasEntries rest (i + 1) after d = record {
+      index = refl;
+      component = refl;
+      reds = length-set s.dac.reds i new.red ∙ t.reds;
+      greens = length-set s.dac.greens i new.green ∙ t.greens;
+      blues = length-set s.dac.blues i new.blue ∙ t.blues;
+      entry = λ k h. ⊎_elim
+          (λ (e : k ≡ i).
+          let r = ap (λ j. slice_index after.dac.reds j) e ∙ get_or-set_same s.dac.reds i new.red 0 (omega (arith, t.reds)) in
+          let g = ap (λ j. slice_index after.dac.greens j) e ∙ get_or-set_same s.dac.greens i new.green 0 (omega (arith, t.greens)) in
+          let b = ap (λ j. slice_index after.dac.blues j) e ∙ get_or-set_same s.dac.blues i new.blue 0 (omega (arith, t.blues)) in
+          rw (r, g, b) refl ∙ sym (set_same c i new k e))
+          (λ (n : k ≢ i).
+          let r = get_or-set_other s.dac.reds i k new.red 0 n in
+          let g = get_or-set_other s.dac.greens i k new.green 0 n in
+          let b = get_or-set_other s.dac.blues i k new.blue 0 n in
+          rw (r, g, b) refl ∙ t.entry k h ∙ sym (set_other c i new k n))
+          (cases_eq k i);
+      others = t.others;
+    } in
+    record { cells = d; shown = subst (λ x. HasEntries rest (i + 1) x d) (sym (three colour i s t.component (t.index ∙ z))) still; fact = one_edit i new c }
+
+-- a mode's entries have no bits to lose
+abbrev pub keeps_entries : (mode : ℕ) → ℕ → Type 0
+keeps_entries mode n = (k : ℕ) → k < n → kept_colour (colour_of (dac_entry mode k)) ≡ colour_of (dac_entry mode k)
+
+-- all the entries, n of them
+pub entries_set : (rest : CardState) (mode n : ℕ) (s : CardState) (c : ℕ → Colour) → n ≤ 256 → keeps_entries mode n → HasEntries rest 0 s c → Leaves CardState Colour (HasEntries rest n) (run card_meaning (each (λ i. colour_plan (dac_entry mode i)) n 0) s).0 (λ d. (k : ℕ) → k < n → d k ≡ colour_of (dac_entry mode k))
+entries_set rest mode n s c l small t =
+    let all = edits CardState Colour card_meaning (λ i. colour_plan (dac_entry mode i)) (HasEntries rest) 0 n (λ _. Unit {0}) (λ r h. r) (λ r h x. kept_colour (colour_of (dac_entry mode r))) (λ j k a b lb lo hi q. absurd (omega arith))
+    (λ r s c lb w t. one_entry rest (dac_entry mode r) r s c (omega arith) t)
+    n 0 s c (omega arith) (omega arith) t in
+    record { cells = all.cells; shown = all.shown; fact = λ k h. all.fact.inside (record { turn = k; from = omega arith; before = h; place = tt }) ∙ small k h }
+
+-- where that is so of each component
+keeps_by : (mode : ℕ) → ((k : ℕ) → k < 256 → (bit_and (colour_of (dac_entry mode k)).red 0x3F == (colour_of (dac_entry mode k)).red) ≡ true) → ((k : ℕ) → k < 256 → (bit_and (colour_of (dac_entry mode k)).green 0x3F == (colour_of (dac_entry mode k)).green) ≡ true) → ((k : ℕ) → k < 256 → (bit_and (colour_of (dac_entry mode k)).blue 0x3F == (colour_of (dac_entry mode k)).blue) ≡ true) → keeps_entries mode 256
+keeps_by mode f g h k l =
+    let x = colour_of (dac_entry mode k) in
+    ap (λ n. let y : Colour = record { red = n; green = bit_and x.green 0x3F; blue = bit_and x.blue 0x3F } in y) (same (f k l))
+    ∙ ap (λ n. let y : Colour = record { red = x.red; green = n; blue = bit_and x.blue 0x3F } in y) (same (g k l))
+    ∙ ap (λ n. let y : Colour = record { red = x.red; green = x.green; blue = n } in y) (same (h k l))
+
+pub keeps_3 : keeps_entries 3 256
+keeps_3 k l =
+    let r = agree_below_at (λ n. bit_and (colour_of (dac_entry 3 n)).red 0x3F == (colour_of (dac_entry 3 n)).red) (λ _. true) 256 k refl l in
+    let g = agree_below_at (λ n. bit_and (colour_of (dac_entry 3 n)).green 0x3F == (colour_of (dac_entry 3 n)).green) (λ _. true) 256 k refl l in
+    let b = agree_below_at (λ n. bit_and (colour_of (dac_entry 3 n)).blue 0x3F == (colour_of (dac_entry 3 n)).blue) (λ _. true) 256 k refl l in
+    let r' : bit_and (colour_of (dac_entry 3 k)).red 0x3F ≡ (colour_of (dac_entry 3 k)).red = same r in
+    let g' : bit_and (colour_of (dac_entry 3 k)).green 0x3F ≡ (colour_of (dac_entry 3 k)).green = same g in
+    let b' : bit_and (colour_of (dac_entry 3 k)).blue 0x3F ≡ (colour_of (dac_entry 3 k)).blue = same b in
+    ap (λ x. let y : Colour = record { red = x; green = bit_and (colour_of (dac_entry 3 k)).green 0x3F; blue = bit_and (colour_of (dac_entry 3 k)).blue 0x3F } in y) r'
+    ∙ ap (λ x. let y : Colour = record { red = (colour_of (dac_entry 3 k)).red; green = x; blue = bit_and (colour_of (dac_entry 3 k)).blue 0x3F } in y) g'
+    ∙ ap (λ x. let y : Colour = record { red = (colour_of (dac_entry 3 k)).red; green = (colour_of (dac_entry 3 k)).green; blue = x } in y) b'
+
+pub keeps_7 : keeps_entries 7 256
+keeps_7 k l =
+    let r = agree_below_at (λ n. bit_and (colour_of (dac_entry 7 n)).red 0x3F == (colour_of (dac_entry 7 n)).red) (λ _. true) 256 k refl l in
+    let r' : bit_and (colour_of (dac_entry 7 k)).red 0x3F ≡ (colour_of (dac_entry 7 k)).red = same r in
+    ap (λ x. let y : Colour = record { red = x; green = x; blue = x } in y) r'
+
+pub keeps_0D : keeps_entries 0x0D 256
+keeps_0D = keeps_by 0x0D
+    (λ k l. agree_below_at (λ n. bit_and (colour_of (dac_entry 0x0D n)).red 0x3F == (colour_of (dac_entry 0x0D n)).red) (λ _. true) 256 k refl l)
+    (λ k l. agree_below_at (λ n. bit_and (colour_of (dac_entry 0x0D n)).green 0x3F == (colour_of (dac_entry 0x0D n)).green) (λ _. true) 256 k refl l)
+    (λ k l. agree_below_at (λ n. bit_and (colour_of (dac_entry 0x0D n)).blue 0x3F == (colour_of (dac_entry 0x0D n)).blue) (λ _. true) 256 k refl l)
+
+pub keeps_13 : keeps_entries 0x13 256
+keeps_13 = keeps_by 0x13
+    (λ k l. agree_below_at (λ n. bit_and (colour_of (dac_entry 0x13 n)).red 0x3F == (colour_of (dac_entry 0x13 n)).red) (λ _. true) 256 k refl l)
+    (λ k l. agree_below_at (λ n. bit_and (colour_of (dac_entry 0x13 n)).green 0x3F == (colour_of (dac_entry 0x13 n)).green) (λ _. true) 256 k refl l)
+    (λ k l. agree_below_at (λ n. bit_and (colour_of (dac_entry 0x13 n)).blue 0x3F == (colour_of (dac_entry 0x13 n)).blue) (λ _. true) 256 k refl l)

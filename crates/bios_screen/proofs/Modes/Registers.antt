@@ -1,0 +1,63 @@
+-- The registers of a mode set, from any state.
+use Rattle.std.proofs.Common.{◌≡◌, ℕ, ap, ◌∙◌, List, false}
+use Rattle.std.specs.Prelude.{slice_index}
+use Rattle.vga_crtc.specs.Ports.{after_out as after_crtc}
+use Rattle.vga_crtc.specs.Fields.{is_protected, overflow}
+use Rattle.vga_card.specs.Bounds.{IsCard}
+use Rattle.vga_card.specs.Bus.{card_meaning}
+use Rattle.vga_card.specs.Card.{CardState}
+use Rattle.vga_card.specs.Port.{port_of, crtc_port_of}
+use Rattle.vga_card.specs.Cycles.{out_at, inp_at}
+use Rattle.bios_modes.specs.declared.modes.ModeRow.{ModeRow}
+use Rattle.bios_modes.specs.Modes.{colour_text, monochrome_text, planes_320_by_200, planes_640_by_350, planes_640_by_480, bytes_320_by_200}
+use Rattle.bios_services.specs.Plan.{run}
+use Rattle.bios_services.specs.Cycles.{group, attribute_group}
+use Rattle.bios_services.specs.ModeSet.{registers_plan}
+use Rattle.bios_screen.specs.Listing.{listing}
+use Rattle.bios_screen.proofs.Base.Lists.{spelled}
+
+abbrev with_registers : CardState → List ℕ → List ℕ → List ℕ → List ℕ → CardState
+with_registers c seq gfx crtc attr = record c { host = record c.host { seq = seq; gfx = gfx }; crtc = record c.crtc { registers = crtc }; attr = record c.attr { registers = attr } }
+
+abbrev spelled_card : CardState → CardState
+spelled_card c = with_registers c (listing (slice_index c.host.seq) 0 5) (listing (slice_index c.host.gfx) 0 9) (listing (slice_index c.crtc.registers) 0 25) (listing (slice_index c.attr.registers) 0 21)
+
+card_spelled : (c : CardState) → IsCard c → c ≡ spelled_card c
+card_spelled c z =
+    ap (λ x. with_registers c x c.host.gfx c.crtc.registers c.attr.registers) (spelled c.host.seq 5 z.host.seq_size)
+    ∙ ap (λ x. with_registers c (listing (slice_index c.host.seq) 0 5) x c.crtc.registers c.attr.registers) (spelled c.host.gfx 9 z.host.gfx_size)
+    ∙ ap (λ x. with_registers c (listing (slice_index c.host.seq) 0 5) (listing (slice_index c.host.gfx) 0 9) x c.attr.registers) (spelled c.crtc.registers 25 z.crtc.size)
+    ∙ ap (λ x. with_registers c (listing (slice_index c.host.seq) 0 5) (listing (slice_index c.host.gfx) 0 9) (listing (slice_index c.crtc.registers) 0 25) x) (spelled c.attr.registers 21 z.attr.size)
+
+-- the adapter with a mode's registers; memory, latches, DAC, beam and drawn dots are as they were
+abbrev pub in_mode : ModeRow → CardState → CardState
+in_mode row c = record c {
+  host = record c.host { seq = row.sequencer; gfx = row.graphics; seq_index = 4; gfx_index = 8 };
+  crtc = record c.crtc { registers = row.crtc; index = 24 };
+  attr = record { registers = row.attribute; index = 0x20; is_data = false };
+  misc = row.misc;
+}
+
+pub registers_3 : (c : CardState) → IsCard c → (run card_meaning (registers_plan colour_text) c).0 ≡ in_mode colour_text c
+unfolding registers_plan group attribute_group port_of crtc_port_of out_at inp_at after_crtc is_protected overflow
+registers_3 c z = ap (λ x. (run card_meaning (registers_plan colour_text) x).0) (card_spelled c z)
+
+pub registers_7 : (c : CardState) → IsCard c → (run card_meaning (registers_plan monochrome_text) c).0 ≡ in_mode monochrome_text c
+unfolding registers_plan group attribute_group port_of crtc_port_of out_at inp_at after_crtc is_protected overflow
+registers_7 c z = ap (λ x. (run card_meaning (registers_plan monochrome_text) x).0) (card_spelled c z)
+
+pub registers_0D : (c : CardState) → IsCard c → (run card_meaning (registers_plan planes_320_by_200) c).0 ≡ in_mode planes_320_by_200 c
+unfolding registers_plan group attribute_group port_of crtc_port_of out_at inp_at after_crtc is_protected overflow
+registers_0D c z = ap (λ x. (run card_meaning (registers_plan planes_320_by_200) x).0) (card_spelled c z)
+
+pub registers_10 : (c : CardState) → IsCard c → (run card_meaning (registers_plan planes_640_by_350) c).0 ≡ in_mode planes_640_by_350 c
+unfolding registers_plan group attribute_group port_of crtc_port_of out_at inp_at after_crtc is_protected overflow
+registers_10 c z = ap (λ x. (run card_meaning (registers_plan planes_640_by_350) x).0) (card_spelled c z)
+
+pub registers_12 : (c : CardState) → IsCard c → (run card_meaning (registers_plan planes_640_by_480) c).0 ≡ in_mode planes_640_by_480 c
+unfolding registers_plan group attribute_group port_of crtc_port_of out_at inp_at after_crtc is_protected overflow
+registers_12 c z = ap (λ x. (run card_meaning (registers_plan planes_640_by_480) x).0) (card_spelled c z)
+
+pub registers_13 : (c : CardState) → IsCard c → (run card_meaning (registers_plan bytes_320_by_200) c).0 ≡ in_mode bytes_320_by_200 c
+unfolding registers_plan group attribute_group port_of crtc_port_of out_at inp_at after_crtc is_protected overflow
+registers_13 c z = ap (λ x. (run card_meaning (registers_plan bytes_320_by_200) x).0) (card_spelled c z)

@@ -1,0 +1,8 @@
+-- Drawing in 256 colours, under chain 4.
+pub mod Memory
+pub mod Pixels
+pub mod Screens
+pub mod Writes
+pub mod Scrolls
+pub mod Typing
+pub mod Cells

@@ -1,0 +1,109 @@
+-- Under chain 4 the planes are one flat memory of pixels of 256 colours.
+use Rattle.std.proofs.Common.{◌≡◌, ◌≢◌, ℕ, zero, suc, ◌+◌, ◌*◌, ◌/◌, ◌%◌, ◌<◌, ⊎_elim, refl, sym, ap, ◌∙◌, subst, arith, List, length, true, false}
+use Rattle.std.specs.Prelude.{slice_index, slice_set, ◌==◌, if◌then◌else◌}
+use Rattle.std.proofs.lemmas.Bool.{cases_eq}
+use Rattle.std.proofs.lemmas.Bool.Decides.{nat_tests}
+use Rattle.std.proofs.lemmas.List.{get_or-set_same, get_or-set_other}
+use Rattle.vga_bits.specs.Bits.{byte_of}
+use Rattle.vga_bits.proofs.BitLemmas.{byte_bits}
+use Rattle.vga_bits.specs.Four.{Four, of_plane}
+use Rattle.vga_planes.specs.Planes.{bytes_at}
+use Rattle.vga_host.specs.Host.{HostState}
+use Rattle.vga_host.specs.Address.{is_decoded, window_offset}
+use Rattle.vga_host.specs.Write.{written_bit, combined_bit, written_byte, memory_after_put}
+use Rattle.vga_host.specs.Read.{read_bit, read_byte}
+use Rattle.vga_card.specs.Bus.{card_meaning}
+use Rattle.vga_card.specs.Card.{CardState}
+use Rattle.bios_services.specs.Plan.{run, put}
+use Rattle.bios_screen.specs.Shown.{packed_pixel}
+use Rattle.bios_screen.proofs.Base.Flat.{set_cell, set_same, set_other}
+use Rattle.bios_screen.proofs.Base.Setting.{setting, host_at, with_memory, put_decoded}
+use Rattle.bios_screen.proofs.Modes.PixelModes.{setting_in}
+use Rattle.bios_screen.proofs.Modes.PixelModes.Graphics.{Many}
+
+pub decoded : (h : HostState) (n : ℕ) → n < 65536 → is_decoded (host_at h (setting_in Many)) 0x63 (0xA0000 + n) ≡ true
+decoded h n l = grind (arith, nat_tests)
+
+window_is : (h : HostState) (n : ℕ) → n < 65536 → window_offset (host_at h (setting_in Many)) (0xA0000 + n) ≡ n
+window_is h n l = omega arith
+
+written : (h : HostState) (b p : ℕ) → p < 4 → b < 256 → written_byte (host_at h (setting_in Many)) b p ≡ b
+unfolding byte_of written_bit combined_bit
+written h b zero k l = byte_bits b l
+written h b (suc zero) k l = byte_bits b l
+written h b (suc (suc zero)) k l = byte_bits b l
+written h b (suc (suc (suc zero))) k l = byte_bits b l
+written h b (suc (suc (suc (suc p)))) k l = absurd (omega arith)
+
+-- the planes, each of which may have a new byte
+abbrev four_packed : Four (List ℕ) → ℕ → ℕ → ℕ → ℕ → ℕ → Four (List ℕ)
+four_packed m n x0 x1 x2 x3 = record {
+  plane0 = if 0 == n % 4 then slice_set m.plane0 (n / 4 * 4) x0 else m.plane0;
+  plane1 = if 1 == n % 4 then slice_set m.plane1 (n / 4 * 4) x1 else m.plane1;
+  plane2 = if 2 == n % 4 then slice_set m.plane2 (n / 4 * 4) x2 else m.plane2;
+  plane3 = if 3 == n % 4 then slice_set m.plane3 (n / 4 * 4) x3 else m.plane3;
+}
+
+abbrev pub packed_memory : Four (List ℕ) → ℕ → ℕ → Four (List ℕ)
+packed_memory m n b = four_packed m n b b b b
+
+memory_is : (h : HostState) (n b : ℕ) → b < 256 → memory_after_put (host_at h (setting_in Many)) n b ≡ packed_memory h.memory n b
+memory_is h n b l =
+    let w = written_byte (host_at h (setting_in Many)) b in
+    ap (λ x. four_packed h.memory n x (w 1) (w 2) (w 3)) (written h b 0 (omega arith) l)
+    ∙ ap (λ x. four_packed h.memory n b x (w 2) (w 3)) (written h b 1 (omega arith) l)
+    ∙ ap (λ x. four_packed h.memory n b b x (w 3)) (written h b 2 (omega arith) l)
+    ∙ ap (λ x. four_packed h.memory n b b b x) (written h b 3 (omega arith) l)
+
+pub put_is : (c : CardState) (n b : ℕ) → setting c ≡ setting_in Many → n < 65536 → b < 256 → (run card_meaning (put (0xA0000 + n) b) c).0 ≡ with_memory c (packed_memory c.host.memory n b)
+put_is c n b e l h =
+    put_decoded c (setting_in Many) (0xA0000 + n) b e (decoded c.host n l)
+    ∙ ap (λ o. with_memory c (memory_after_put (host_at c.host (setting_in Many)) o b)) (window_is c.host n l)
+    ∙ ap (with_memory c) (memory_is c.host n b h)
+
+plane_after : (m : Four (List ℕ)) (n b p : ℕ) → p < 4 → of_plane (packed_memory m n b) p ≡ (if p == n % 4 then slice_set (of_plane m p) (n / 4 * 4) b else of_plane m p)
+plane_after m n b zero l = refl
+plane_after m n b (suc zero) l = refl
+plane_after m n b (suc (suc zero)) l = refl
+plane_after m n b (suc (suc (suc zero))) l = refl
+plane_after m n b (suc (suc (suc (suc p)))) l = absurd (omega arith)
+
+-- a Put changes one pixel
+pub pixel_put : (m : Four (List ℕ)) (n b k : ℕ) → ((p : ℕ) → p < 4 → length (of_plane m p) ≡ 65536) → n < 65536 → packed_pixel (packed_memory m n b) k ≡ set_cell (packed_pixel m) n b k
+pixel_put m n b k size l =
+    let p : k % 4 < 4 = omega arith in
+    let o = n / 4 * 4 in
+    let plane = of_plane m (k % 4) in
+    let long = size (k % 4) p in
+    ap (λ x. slice_index x (k / 4 * 4)) (plane_after m n b (k % 4) p)
+    ∙ ⊎_elim
+    (λ (e : k ≡ n).
+    let same_plane : (k % 4 == n % 4) ≡ true = grind (arith, nat_tests) in
+    let z : k / 4 * 4 ≡ o = omega arith in
+    ap (λ v. slice_index (if v then slice_set plane o b else plane) (k / 4 * 4)) same_plane ∙ ap (slice_index (slice_set plane o b)) z ∙ get_or-set_same plane o b 0 (omega (arith, long)) ∙ sym (set_same (packed_pixel m) n b k e))
+    (λ (e : k ≢ n). ⊎_elim
+    (λ (q : k % 4 ≡ n % 4).
+    let same_plane : (k % 4 == n % 4) ≡ true = grind (arith, nat_tests) in
+    let z : k / 4 * 4 ≢ o = λ w. e (omega arith) in
+    ap (λ v. slice_index (if v then slice_set plane o b else plane) (k / 4 * 4)) same_plane ∙ get_or-set_other plane o (k / 4 * 4) b 0 z ∙ sym (set_other (packed_pixel m) n b k e))
+    (λ (q : k % 4 ≢ n % 4).
+    let other_plane : (k % 4 == n % 4) ≡ false = grind (arith, nat_tests) in
+    ap (λ v. slice_index (if v then slice_set plane o b else plane) (k / 4 * 4)) other_plane ∙ sym (set_other (packed_pixel m) n b k e))
+    (cases_eq (k % 4) (n % 4)))
+    (cases_eq k n)
+
+-- a byte of the four is the plane's
+byte_of_plane : (m : Four (List ℕ)) (o p : ℕ) → p < 4 → of_plane (bytes_at m o) p ≡ slice_index (of_plane m p) o
+byte_of_plane m o zero l = refl
+byte_of_plane m o (suc zero) l = refl
+byte_of_plane m o (suc (suc zero)) l = refl
+byte_of_plane m o (suc (suc (suc zero))) l = refl
+byte_of_plane m o (suc (suc (suc (suc p)))) l = absurd (omega arith)
+
+pub byte_read : (h : HostState) (n : ℕ) → n < 65536 → packed_pixel h.memory n < 256 → read_byte (host_at h (setting_in Many)) (0xA0000 + n) ≡ packed_pixel h.memory n
+unfolding byte_of read_bit
+byte_read h n l b =
+    let w = window_offset (host_at h (setting_in Many)) (0xA0000 + n) in
+    let p : w % 4 < 4 = omega arith in
+    let e : of_plane (bytes_at h.memory (w / 4 * 4)) (w % 4) ≡ packed_pixel h.memory n = byte_of_plane h.memory (w / 4 * 4) (w % 4) p ∙ ap (packed_pixel h.memory) (window_is h n l) in
+    byte_bits (of_plane (bytes_at h.memory (w / 4 * 4)) (w % 4)) (subst (λ x. x < 256) (sym e) b) ∙ e

@@ -1,0 +1,114 @@
+-- Drawn memory of 256 colours as a flat list of pixels, and the screen that it shows.
+use Rattle.std.proofs.Common.{◌≡◌, ℕ, ◌+◌, ◌*◌, ◌/◌, ◌%◌, ◌<◌, refl, sym, ap, ◌∙◌, subst, arith, List, [], ◌∷◌, length, get_or, Some, false}
+use Rattle.std.specs.Prelude.{◌==◌, if◌then◌else◌}
+use Rattle.vga_bits.specs.Four.{Four}
+use Rattle.vga_card.specs.Bounds.{IsCard}
+use Rattle.vga_card.specs.Bus.{card_meaning}
+use Rattle.vga_card.specs.Card.{CardState}
+use Rattle.bios_modes.specs.Bda.{BiosData}
+use Rattle.bios_modes.specs.Modes.{bytes_320_by_200}
+use Rattle.bios_modes.specs.Heights.{row_at}
+use Rattle.bios_services.specs.ModeSet.{is_text}
+use Rattle.bios_services.specs.Plan.{run, put, get}
+use Rattle.bios_screen.specs.Listing.{listing}
+use Rattle.bios_screen.specs.Screen.{Pixels, Screen}
+use Rattle.bios_screen.specs.Shown.{packed_pixel, planar_pixel, pixel_in, pixels_in, pixel_pages, page_pixels, screen_by, pixel_screen, shown}
+use Rattle.bios_screen.specs.Step.{pixel_of, with_pixels}
+use Rattle.bios_screen.proofs.Base.Flat.{set_cell}
+use Rattle.bios_screen.proofs.Base.Lists.{same_from_0, length_listing}
+use Rattle.bios_screen.proofs.Base.Kept.{KeepsBounds, plan_bounds}
+use Rattle.bios_screen.proofs.Base.Setting.{setting, with_memory, get_decoded}
+use Rattle.bios_screen.proofs.Modes.PixelModes.{setting_in}
+use Rattle.bios_screen.proofs.Modes.PixelModes.Graphics.{Many}
+use Rattle.bios_screen.proofs.Pixels.NewPixels.{redrawn}
+use Rattle.bios_screen.proofs.Dots.PlanarDots.{pixel_at}
+use Rattle.bios_screen.proofs.Shows.Screens.{setting_by}
+use Rattle.bios_screen.proofs.Dots.PackedDots.{IsPacked}
+use Rattle.bios_screen.proofs.Packed.Memory.{decoded, byte_read, put_is, pixel_put, packed_memory}
+use Rattle.bios_screen.proofs.Planar.Settings.{without_drawing}
+
+-- the adapter is in the setting of 256 colours, and its pixels are these
+pub record IsFlat (rest : CardState) (c : CardState) (f : ℕ → ℕ) : Type 0 where
+  pub mode : setting c ≡ setting_in Many
+  pub bounds : IsCard c
+  pub cell : (k : ℕ) → packed_pixel c.host.memory k ≡ f k
+  pub others : without_drawing c ≡ rest
+
+-- a Put changes one of them
+pub put_flat : (law : KeepsBounds) (rest : CardState) (n v : ℕ) (c : CardState) (f : ℕ → ℕ) → n < 65536 → v < 256 → IsFlat rest c f → IsFlat rest (run card_meaning (put (0xA0000 + n) v) c).0 (set_cell f n v)
+put_flat law rest n v c f l lv t =
+    let after = put_is c n v t.mode l lv in
+    let still : IsFlat rest (with_memory c (packed_memory c.host.memory n v)) (set_cell f n v) = record {
+      mode = t.mode;
+      bounds = subst IsCard after (plan_bounds law (put (0xA0000 + n) v) c t.bounds);
+      cell = λ k. pixel_put c.host.memory n v k t.bounds.host.memory.size l ∙ ap (λ x. if k == n then v else x) (t.cell k);
+      others = t.others;
+    } in
+    subst (λ x. IsFlat rest x (set_cell f n v)) (sym after) still
+
+-- a Get answers one of them
+pub record IsGot (rest : CardState) (a : ℕ) (c : CardState) (f : ℕ → ℕ) : Type 0 where
+  pub still : IsFlat rest (run card_meaning (get (0xA0000 + a)) c).0 f
+  pub value : (run card_meaning (get (0xA0000 + a)) c).1 ≡ f a
+
+pub get_flat : (law : KeepsBounds) (rest : CardState) (a : ℕ) (c : CardState) (f : ℕ → ℕ) → a < 65536 → IsFlat rest c f → IsGot rest a c f
+get_flat law rest a c f la t =
+    let got = get_decoded c (setting_in Many) (0xA0000 + a) t.mode (decoded c.host a la) in
+    let after = ap (λ r. r.0) got in
+    record {
+      still = subst (λ y. IsFlat rest y f) (sym after) (record { mode = t.mode; bounds = subst IsCard after (plan_bounds law (get (0xA0000 + a)) c t.bounds); cell = t.cell; others = t.others });
+      value = ap (λ r. r.1) got ∙ byte_read c.host a la (t.bounds.host.memory.bytes (a % 4) (omega arith) (a / 4 * 4)) ∙ t.cell a;
+    }
+
+module _ (c : CardState) (d : BiosData) (t : IsPacked c d) (e : row_at d.mode d.height ≡ Some bytes_320_by_200) (z : IsCard c) where
+  abbrev s : Screen
+  s = pixel_screen bytes_320_by_200 c d
+
+  pub text : is_text d.mode ≡ false
+  text = ap is_text t.number
+
+  pub setting_is : setting c ≡ setting_in Many
+  setting_is = setting_by bytes_320_by_200 c t.tests.memory
+
+  pub begins : IsFlat (without_drawing c) c (packed_pixel c.host.memory)
+  begins = record { mode = setting_is; bounds = z; cell = λ k. refl; others = refl }
+
+  pub all_pixels : page_pixels d ≡ 64000
+  all_pixels = ap (λ i. 8 * i * (d.height * (d.last_row + 1))) t.has.columns ∙ ap (λ i. 320 * (i * (d.last_row + 1))) t.has.height ∙ ap (λ i. 320 * (8 * (i + 1))) t.has.last_row
+
+  -- a pixel of the page, in memory that shows it
+  pixel_by : (m : Four (List ℕ)) (k : ℕ) → pixel_in d.mode m (d.size * 0) k ≡ packed_pixel m k
+  pixel_by m k =
+      let at : d.size * 0 + k ≡ k = omega arith in
+      ap (λ i. if i == 0x13 then packed_pixel m (d.size * 0 + k) else planar_pixel m (d.size * 0) k) t.number ∙ ap (packed_pixel m) at
+
+  pub pixel_is : (k : ℕ) → k < page_pixels d → pixel_of s 0 k ≡ packed_pixel c.host.memory k
+  pixel_is k l = pixel_at d.mode c.host.memory d.size (page_pixels d) 1 0 k (omega arith) l ∙ pixel_by c.host.memory k
+
+  -- what the adapter shows where the page has other pixels
+  pub pixels_redrawn : (y : CardState) (f : ℕ → ℕ) (change : (ℕ → ℕ) → ℕ → ℕ) → setting y ≡ setting_in Many → ((k : ℕ) → packed_pixel y.host.memory k ≡ f k) → without_drawing y ≡ without_drawing c → ((k : ℕ) → k < page_pixels d → f k ≡ change (pixel_of s 0) k) → shown y d ≡ Some (with_pixels s 0 change)
+  unfolding pixel_pages pixels_in
+  pixels_redrawn y f change mode cell others inside =
+      let row = bytes_320_by_200 in
+      let n = page_pixels d in
+      let old = pixel_pages d.mode c.host.memory d.size n 1 in
+      let long : length (get_or old 0 []) ≡ n = length_listing (pixel_in d.mode c.host.memory (d.size * 0)) 0 n in
+      let page : pixels_in d.mode y.host.memory (d.size * 0) n ≡ listing (change (pixel_of s 0)) 0 (length (get_or old 0 [])) =
+      same_from_0 (change (pixel_of s 0)) (pixel_in d.mode y.host.memory (d.size * 0)) n (λ k l. pixel_by y.host.memory k ∙ cell k ∙ inside k l)
+      ∙ ap (listing (change (pixel_of s 0)) 0) (sym long) in
+      redrawn row c y d e text t.tests (mode ∙ sym setting_is) others
+      ∙ ap (λ x. Some (screen_by row c d 0 (Pixels (x ∷ [])) [])) page
+
+  pub page_redrawn : (y : CardState) (f : ℕ → ℕ) (change : (ℕ → ℕ) → ℕ → ℕ) → IsFlat (without_drawing c) y f → ((k : ℕ) → k < page_pixels d → f k ≡ change (pixel_of s 0) k) → shown y d ≡ Some (with_pixels s 0 change)
+  page_redrawn y f change h inside = pixels_redrawn y f change h.mode h.cell h.others inside
+
+  -- and where all pixels are as they were, the screen stays
+  pub stays : (y : CardState) → IsFlat (without_drawing c) y (packed_pixel c.host.memory) → shown y d ≡ Some s
+  unfolding pixel_pages pixels_in
+  stays y h =
+      let row = bytes_320_by_200 in
+      let n = page_pixels d in
+      let page : pixels_in d.mode y.host.memory (d.size * 0) n ≡ pixels_in d.mode c.host.memory (d.size * 0) n =
+      same_from_0 (pixel_in d.mode c.host.memory (d.size * 0)) (pixel_in d.mode y.host.memory (d.size * 0)) n (λ k l. pixel_by y.host.memory k ∙ h.cell k ∙ sym (pixel_by c.host.memory k)) in
+      redrawn row c y d e text t.tests (h.mode ∙ sym setting_is) h.others
+      ∙ ap (λ x. Some (screen_by row c d 0 (Pixels (x ∷ [])) [])) page

@@ -1,0 +1,8 @@
+-- Services on pixels, whether they have sixteen colours or 256.
+pub mod Cursors
+pub mod NewPixels
+pub mod Writes
+pub mod Windows
+pub mod Typing
+pub mod Reads
+pub mod Dots

@@ -1,0 +1,253 @@
+-- A character in sixteen colours, plain and by XOR: what its lines leave of four bytes each, and what that is to the pixels.
+use Rattle.std.proofs.Common.{◌≡◌, ◌≢◌, ℕ, zero, suc, ◌+◌, ◌-◌, ◌*◌, ◌%◌, ◌<◌, refl, sym, ap, ◌∙◌, subst, arith, Bool, true, false}
+use Rattle.std.specs.Prelude.{◌==◌, if◌then◌else◌, bit_xor}
+use Rattle.std.specs.Int.{bit_at}
+use Rattle.std.proofs.lemmas.Bool.{agree_below_at}
+use Rattle.std.proofs.lemmas.Bool.Decides.{nat_tests}
+use Rattle.std.proofs.lemmas.Nat.Bits.{bit_at-lt}
+use Rattle.vga_bits.specs.Bits.{is_set, byte_of}
+use Rattle.vga_bits.specs.Four.{Four, four, of_plane}
+use Rattle.vga_host.specs.Write.{written_bit, combined_bit}
+use Rattle.vga_card.specs.Bus.{card_meaning}
+use Rattle.vga_card.specs.Card.{CardState}
+use Rattle.bios_services.specs.Cycles.{sequencer, graphics}
+use Rattle.bios_services.specs.Plan.{Plan, run, put, get, each, ◌>>◌}
+use Rattle.bios_services.specs.Drawing.{put_over}
+use Rattle.bios_screen.proofs.Base.Flat.{Edited, Turn, Leaves, set_cell}
+use Rattle.bios_screen.proofs.Base.Edits.{one_edit, edited_twice, edits}
+use Rattle.bios_screen.proofs.Base.Plans.{run_bind}
+use Rattle.bios_screen.proofs.Base.Kept.{KeepsBounds}
+use Rattle.bios_screen.proofs.Planar.Settings.{Hand, at_rest, drawing, stored, Loaded, put_draws, get_loads, mask_set, function_set}
+use Rattle.bios_screen.proofs.Planar.Bits.{nibble_of, bit_of, xor_16}
+
+-- ---- four bytes
+
+-- a byte as a Put stores it
+abbrev pub byte : ℕ → ℕ
+byte v = byte_of (bit_at v)
+
+-- a byte goes to the planes of a mask, and the others stay
+abbrev pub masked : ℕ → ℕ → Four ℕ → Four ℕ
+masked mask v old = four (λ p. if is_set mask p then byte v else of_plane old p)
+
+-- the XOR of two bytes, and of a byte with the planes of a mask
+abbrev xor_byte : ℕ → ℕ → ℕ
+xor_byte a b = byte_of (λ i. (bit_at a i + bit_at b i) % 2)
+
+abbrev pub turned : ℕ → ℕ → Four ℕ → Four ℕ
+turned mask v old = four (λ p. if is_set mask p then xor_byte v (of_plane old p) else of_plane old p)
+
+-- a line of a glyph, plain over zeros or by XOR
+abbrev pub lined : Bool → ℕ → ℕ → Four ℕ → Four ℕ
+lined b mask v old = if b then turned mask v old else masked mask v (masked 0x0F 0x00 old)
+
+-- what it is to a pixel
+abbrev pub dotted_by : Bool → ℕ → Bool → ℕ → ℕ
+dotted_by b mask is_dot old = if is_dot then (if b then bit_xor old mask else mask) else if b then old else 0
+
+kept_bit : (v i : ℕ) → i < 8 → bit_at (byte v) i ≡ bit_at v i
+kept_bit v i l = bit_of (bit_at v) (bit_at-lt v) i l
+
+pixel_plain : (mask v i : ℕ) (old : Four ℕ) → mask < 16 → i < 8 → nibble_of (masked mask v (masked 0x0F 0x00 old)) i ≡ (if is_set v (7 - i) then mask else 0)
+pixel_plain mask v i old l li =
+    let p0 = chosen (is_set mask 0) in
+    let p1 = chosen (is_set mask 1) in
+    let p2 = chosen (is_set mask 2) in
+    let p3 = chosen (is_set mask 3) in
+    rw (p0, p1, p2, p3) (at_bit (bit_at v (7 - i)) (bit_at-lt v (7 - i)))
+  where
+    chosen : (t : Bool) → bit_at (if t then byte v else byte 0x00) (7 - i) ≡ (if t then bit_at v (7 - i) else 0)
+    chosen true = kept_bit v (7 - i) (omega arith)
+    chosen false = kept_bit 0x00 (7 - i) (omega arith) ∙ none (7 - i)
+      where
+        none : (j : ℕ) → bit_at 0x00 j ≡ 0
+        none j = omega arith
+
+    whole : (m : ℕ) → m < 16 → (if bit_at m 0 == 1 then 1 else 0) + 2 * (if bit_at m 1 == 1 then 1 else 0) + 4 * (if bit_at m 2 == 1 then 1 else 0) + 8 * (if bit_at m 3 == 1 then 1 else 0) ≡ m
+    whole m l = let t = agree_below_at (λ m. (if bit_at m 0 == 1 then 1 else 0) + 2 * (if bit_at m 1 == 1 then 1 else 0) + 4 * (if bit_at m 2 == 1 then 1 else 0) + 8 * (if bit_at m 3 == 1 then 1 else 0) == m) (λ _. true) 16 m refl l in grind (arith, nat_tests)
+
+    none : (t : Bool) → (let x : ℕ = if t then 0 else 0 in x) ≡ 0
+    none true = refl
+    none false = refl
+
+    at_bit : (b : ℕ) → b < 2 → (if bit_at mask 0 == 1 then b else 0) + 2 * (if bit_at mask 1 == 1 then b else 0) + 4 * (if bit_at mask 2 == 1 then b else 0) + 8 * (if bit_at mask 3 == 1 then b else 0) ≡ (if b == 1 then mask else 0)
+    at_bit zero h = rw (none (bit_at mask 0 == 1), none (bit_at mask 1 == 1), none (bit_at mask 2 == 1), none (bit_at mask 3 == 1)) refl
+    at_bit (suc zero) h = whole mask l
+    at_bit (suc (suc b)) h = absurd (omega arith)
+
+abbrev xor_bit : ℕ → ℕ → ℕ → ℕ
+xor_bit a b i = (bit_at a i + bit_at b i) % 2
+
+xor_bit_small : (a b i : ℕ) → xor_bit a b i < 2
+xor_bit_small a b i = omega arith
+
+xor_bits : (a b i : ℕ) → i < 8 → bit_at (xor_byte a b) i ≡ xor_bit a b i
+xor_bits a b i l = bit_of (xor_bit a b) (xor_bit_small a b) i l
+
+pixel_turned : (mask v i : ℕ) (old : Four ℕ) → mask < 16 → i < 8 → nibble_of (turned mask v old) i ≡ (if is_set v (7 - i) then bit_xor (nibble_of old i) mask else nibble_of old i)
+pixel_turned mask v i old l hi =
+    let j = 7 - i in
+    let z : bit_at v j < 2 = bit_at-lt v j in
+    rw (chosen (bit_at mask 0 == 1) old.plane0, chosen (bit_at mask 1 == 1) old.plane1, chosen (bit_at mask 2 == 1) old.plane2, chosen (bit_at mask 3 == 1) old.plane3) (at_bit (bit_at v j) z)
+  where
+    chosen : (t : Bool) (x : ℕ) → bit_at (if t then xor_byte v x else x) (7 - i) ≡ (if t then (bit_at v (7 - i) + bit_at x (7 - i)) % 2 else bit_at x (7 - i))
+    chosen true x = xor_bits v x (7 - i) (omega arith)
+    chosen false x = refl
+
+    stays : (t : Bool) (x : ℕ) → (if t then (0 + bit_at x (7 - i)) % 2 else bit_at x (7 - i)) ≡ bit_at x (7 - i)
+    stays true x = omega arith
+    stays false x = refl
+
+    flip : (m k x : ℕ) → x < 2 → (if bit_at m k == 1 then (1 + x) % 2 else x) ≡ (x + bit_at m k) % 2
+    flip m k x h = grind (arith, nat_tests)
+
+    at_bit : (b : ℕ) → b < 2 →
+        (if bit_at mask 0 == 1 then (b + bit_at old.plane0 (7 - i)) % 2 else bit_at old.plane0 (7 - i)) + 2 * (if bit_at mask 1 == 1 then (b + bit_at old.plane1 (7 - i)) % 2 else bit_at old.plane1 (7 - i))
+        + 4 * (if bit_at mask 2 == 1 then (b + bit_at old.plane2 (7 - i)) % 2 else bit_at old.plane2 (7 - i)) + 8 * (if bit_at mask 3 == 1 then (b + bit_at old.plane3 (7 - i)) % 2 else bit_at old.plane3 (7 - i))
+        ≡ (if b == 1 then bit_xor (nibble_of old i) mask else nibble_of old i)
+    at_bit zero h = rw (stays (bit_at mask 0 == 1) old.plane0, stays (bit_at mask 1 == 1) old.plane1, stays (bit_at mask 2 == 1) old.plane2, stays (bit_at mask 3 == 1) old.plane3) refl
+    at_bit (suc zero) h =
+        let x0 = bit_at old.plane0 (7 - i) in let x1 = bit_at old.plane1 (7 - i) in let x2 = bit_at old.plane2 (7 - i) in let x3 = bit_at old.plane3 (7 - i) in
+        let x = x0 + 2 * x1 + 4 * x2 + 8 * x3 in
+        let s0 : x0 < 2 = bit_at-lt old.plane0 (7 - i) in
+        let s1 : x1 < 2 = bit_at-lt old.plane1 (7 - i) in
+        let s2 : x2 < 2 = bit_at-lt old.plane2 (7 - i) in
+        let s3 : x3 < 2 = bit_at-lt old.plane3 (7 - i) in
+        let b0 : bit_at x 0 ≡ x0 = omega arith in
+        let b1 : bit_at x 1 ≡ x1 = omega arith in
+        let b2 : bit_at x 2 ≡ x2 = omega arith in
+        let b3 : bit_at x 3 ≡ x3 = omega arith in
+        let small : x < 16 = omega arith in
+        let f : ℕ → ℕ → ℕ → ℕ → ℕ = λ a b c d. (a + bit_at mask 0) % 2 + 2 * ((b + bit_at mask 1) % 2) + 4 * ((c + bit_at mask 2) % 2) + 8 * ((d + bit_at mask 3) % 2) in
+        rw (flip mask 0 x0 s0, flip mask 1 x1 s1, flip mask 2 x2 s2, flip mask 3 x3 s3)
+        (sym (ap (λ a. f a (bit_at x 1) (bit_at x 2) (bit_at x 3)) b0 ∙ ap (λ b. f x0 b (bit_at x 2) (bit_at x 3)) b1 ∙ ap (λ c. f x0 x1 c (bit_at x 3)) b2 ∙ ap (λ d. f x0 x1 x2 d) b3) ∙ xor_16 x mask small l)
+    at_bit (suc (suc b)) h = absurd (omega arith)
+
+-- a pixel of a line of a character
+pub pixel_lined : (b : Bool) (mask v i : ℕ) (old : Four ℕ) → mask < 16 → i < 8 → nibble_of (lined b mask v old) i ≡ dotted_by b mask (is_set v (7 - i)) (nibble_of old i)
+pixel_lined true mask v i old l li = pixel_turned mask v i old l li
+pixel_lined false mask v i old l li = pixel_plain mask v i old l li
+
+-- ---- the plans, by the places of the lines
+
+-- any latches
+pub record Drawn (rest : CardState) (e d : ℕ) (h : Hand) (c : CardState) (f : ℕ → Four ℕ) : Type 0 where
+  pub latches : Four ℕ
+  pub is : Loaded rest e d h c f latches
+
+abbrev plain : ℕ → Hand
+plain mask = record { mask = mask; turn = 0x00; mode = 0x00; bits = 0xFF }
+
+abbrev turning : ℕ → Hand
+turning mask = record { mask = mask; turn = 0x18; mode = 0x00; bits = 0xFF }
+
+abbrev pub lines_plan : (ℕ → ℕ) → (ℕ → ℕ) → ℕ → Plan (Unit {0})
+lines_plan at g n = each (λ r. put (at r) (g r)) n 0
+
+abbrev pub turns_plan : (ℕ → ℕ) → (ℕ → ℕ) → ℕ → Plan (Unit {0})
+turns_plan at g n = each (λ r. put_over (at r) (g r)) n 0
+
+abbrev pub plain_by : (ℕ → ℕ) → (ℕ → ℕ) → ℕ → ℕ → Plan (Unit {0})
+plain_by at g n mask = do
+  lines_plan at (λ r. 0x00) n
+  sequencer 2 mask
+  lines_plan at g n
+  sequencer 2 0x0F
+
+abbrev pub turned_by : (ℕ → ℕ) → (ℕ → ℕ) → ℕ → ℕ → Plan (Unit {0})
+turned_by at g n mask = do
+  graphics 3 0x18
+  sequencer 2 mask
+  turns_plan at g n
+  sequencer 2 0x0F
+  graphics 3 0x00
+
+abbrev pub glyph_by : Bool → (ℕ → ℕ) → (ℕ → ℕ) → ℕ → ℕ → Plan (Unit {0})
+glyph_by b at g n mask = if b then turned_by at g n mask else plain_by at g n mask
+
+module _ (law : KeepsBounds) (rest : CardState) (e d : ℕ) (on : is_set e 1 ≡ true) (at : ℕ → ℕ) (height : ℕ) (within : (r : ℕ) → r < height → at r < 65536) (apart : (j k : ℕ) → j < k → k < height → at j ≢ at k) where
+  abbrev Line : Type 0
+  Line = Turn (λ _. Unit {0}) 0 height
+
+  -- what is stored, by hand
+  plainly : (v mask : ℕ) (q old : Four ℕ) → stored (drawing e d (plain mask)) mask v q old ≡ masked mask v old
+  unfolding byte_of written_bit combined_bit
+  plainly v mask q old = refl
+
+  by_xor : (mask v : ℕ) (q : Four ℕ) → stored (drawing e d (turning mask)) mask v q q ≡ turned mask v q
+  unfolding byte_of written_bit combined_bit
+  by_xor mask v q = refl
+
+  lines_put : (mask : ℕ) (g : ℕ → ℕ) (c : CardState) (f : ℕ → Four ℕ) → Drawn rest e d (plain mask) c f → Leaves CardState (Four ℕ) (Drawn rest e d (plain mask)) (run card_meaning (lines_plan (λ r. 0xA0000 + at r) g height) c).0 (Edited (Four ℕ) Line (λ h. at h.turn) (λ h x. masked mask (g h.turn) x) f)
+  lines_put mask g c f t =
+      edits CardState (Four ℕ) card_meaning (λ r. put (0xA0000 + at r) (g r)) (λ _. Drawn rest e d (plain mask)) 0 height (λ _. Unit {0}) (λ r _. at r) (λ r _ x. masked mask (g r) x)
+      (λ j k _ _ lb lo hi. apart j k lo hi)
+      (λ r s x lb l u.
+      let new = stored (drawing e d (plain mask)) mask (g r) u.latches (x (at r)) in
+      let one = one_edit (at r) new x in
+      record {
+        cells = set_cell x (at r) new;
+        shown = record { latches = u.latches; is = put_draws law rest e d (at r) (g r) (plain mask) u.latches s x on u.is (within r l) };
+        fact = record { inside = λ h. one.inside h ∙ plainly (g r) mask u.latches (x (at r)); outside = one.outside };
+      })
+      height 0 c f (omega arith) (omega arith) t
+
+  lines_turned : (mask : ℕ) (g : ℕ → ℕ) (c : CardState) (f : ℕ → Four ℕ) → Drawn rest e d (turning mask) c f → Leaves CardState (Four ℕ) (Drawn rest e d (turning mask)) (run card_meaning (turns_plan (λ r. 0xA0000 + at r) g height) c).0 (Edited (Four ℕ) Line (λ h. at h.turn) (λ h x. turned mask (g h.turn) x) f)
+  lines_turned mask g c f t =
+      edits CardState (Four ℕ) card_meaning (λ r. put_over (0xA0000 + at r) (g r)) (λ _. Drawn rest e d (turning mask)) 0 height (λ _. Unit {0}) (λ r _. at r) (λ r _ x. turned mask (g r) x)
+      (λ j k _ _ lb lo hi. apart j k lo hi)
+      (λ r s x lb l u.
+      let a = at r in
+      let s1 = (run card_meaning (get (0xA0000 + a)) s).0 in
+      let t1 = get_loads law rest e d a (turning mask) u.latches s x on u.is (within r l) in
+      let new = stored (drawing e d (turning mask)) mask (g r) (x a) (x a) in
+      let one = one_edit a new x in
+      record {
+        cells = set_cell x a new;
+        shown = record { latches = x a; is = put_draws law rest e d a (g r) (turning mask) (x a) s1 x on t1 (within r l) };
+        fact = record { inside = λ h. one.inside h ∙ by_xor mask (g r) (x a); outside = one.outside };
+      })
+      height 0 c f (omega arith) (omega arith) t
+
+  abbrev Lined : Bool → (ℕ → ℕ) → ℕ → (ℕ → Four ℕ) → (ℕ → Four ℕ) → Type 0
+  Lined b g mask f = Edited (Four ℕ) Line (λ h. at h.turn) (λ h x. lined b mask (g h.turn) x) f
+
+  -- a character, from rest to rest
+  pub glyph_drawn : (b : Bool) (mask : ℕ) (g : ℕ → ℕ) (c : CardState) (f : ℕ → Four ℕ) → mask < 16 → Drawn rest e d at_rest c f → Leaves CardState (Four ℕ) (Drawn rest e d at_rest) (run card_meaning (glyph_by b (λ r. 0xA0000 + at r) g height mask) c).0 (Lined b g mask f)
+  glyph_drawn false mask g c f lm t =
+      let p1 = lines_plan (λ r. 0xA0000 + at r) (λ r. 0x00) height in
+      let p3 = lines_plan (λ r. 0xA0000 + at r) g height in
+      let p4 = sequencer 2 0x0F in
+      let c1 = (run card_meaning p1 c).0 in
+      let m1 = lines_put 0x0F (λ r. 0x00) c f t in
+      let c2 = (run card_meaning (sequencer 2 mask) c1).0 in
+      let m2 : Drawn rest e d (plain mask) c2 m1.cells = record { latches = m1.shown.latches; is = mask_set law rest e d mask (plain 0x0F) m1.shown.latches c1 m1.cells lm m1.shown.is } in
+      let c3 = (run card_meaning p3 c2).0 in
+      let m3 = lines_put mask g c2 m1.cells m2 in
+      let all : Leaves CardState (Four ℕ) (Drawn rest e d at_rest) (run card_meaning p4 c3).0 (Lined false g mask f) = record {
+        cells = m3.cells;
+        shown = record { latches = m3.shown.latches; is = mask_set law rest e d 0x0F (plain mask) m3.shown.latches c3 m3.cells (omega arith) m3.shown.is };
+        fact = edited_twice (λ (h : Line). at h.turn) (λ h x. masked 0x0F 0x00 x) (λ h x. masked mask (g h.turn) x) f m1.cells m3.cells m1.fact m3.fact;
+      } in
+      let e1 = run_bind card_meaning p1 (λ _. sequencer 2 mask >> (p3 >> p4)) c in
+      let e2 = run_bind card_meaning p3 (λ _. p4) c2 in
+      subst (λ r. Leaves CardState (Four ℕ) (Drawn rest e d at_rest) r.0 (Lined false g mask f)) (sym (e1 ∙ e2)) all
+  glyph_drawn true mask g c f lm t =
+      let h1 : Hand = record at_rest { turn = 0x18 } in
+      let p3 = turns_plan (λ r. 0xA0000 + at r) g height in
+      let c1 = (run card_meaning (graphics 3 0x18) c).0 in
+      let t1 = function_set law rest e d 0x18 at_rest t.latches c f refl t.is in
+      let c2 = (run card_meaning (sequencer 2 mask) c1).0 in
+      let t2 = mask_set law rest e d mask h1 t.latches c1 f lm t1 in
+      let m3 = lines_turned mask g c2 f (record { latches = t.latches; is = t2 }) in
+      let c3 = (run card_meaning p3 c2).0 in
+      let q = m3.shown.latches in
+      let c4 = (run card_meaning (sequencer 2 0x0F) c3).0 in
+      let t4 = mask_set law rest e d 0x0F (turning mask) q c3 m3.cells (omega arith) m3.shown.is in
+      let all : Leaves CardState (Four ℕ) (Drawn rest e d at_rest) (run card_meaning (graphics 3 0x00) c4).0 (Lined true g mask f) = record {
+        cells = m3.cells;
+        shown = record { latches = q; is = function_set law rest e d 0x00 h1 q c4 m3.cells refl t4 };
+        fact = m3.fact;
+      } in
+      let e1 = run_bind card_meaning p3 (λ _. sequencer 2 0x0F >> graphics 3 0x00) c2 in
+      subst (λ r. Leaves CardState (Four ℕ) (Drawn rest e d at_rest) r.0 (Lined true g mask f)) (sym e1) all

@@ -1,0 +1,180 @@
+-- A pixel of sixteen colours is read, plane after plane.
+use Rattle.std.proofs.Common.{◌≡◌, ℕ, zero, suc, ◌+◌, ◌-◌, ◌*◌, ◌/◌, ◌%◌, ◌<◌, refl, sym, ap, ◌∙◌, subst, arith, List, [], ◌∷◌, Some, true}
+use Rattle.std.specs.Prelude.{slice_index, slice_set, bit_and, ◌==◌, if◌then◌else◌}
+use Rattle.std.specs.Int.{bit_at}
+use Rattle.vga_bits.specs.Bits.{is_set, byte_of}
+use Rattle.vga_bits.proofs.BitLemmas.{byte_bits}
+use Rattle.vga_bits.specs.Four.{four}
+use Rattle.vga_planes.specs.Planes.{byte_at}
+use Rattle.vga_host.specs.Host.{HostState}
+use Rattle.vga_host.specs.Read.{read_bit, read_byte}
+use Rattle.vga_card.specs.Bounds.{IsCard}
+use Rattle.vga_card.specs.Bus.{card_meaning}
+use Rattle.vga_card.specs.Card.{CardState}
+use Rattle.vga_card.specs.Port.{port_of}
+use Rattle.vga_card.specs.Cycles.{out_at}
+use Rattle.bios_modes.specs.Heights.{row_at}
+use Rattle.bios_modes.specs.Bda.{BiosData}
+use Rattle.bios_modes.specs.Fonts.{FontSet}
+use Rattle.bios_services.specs.declared.regs.Regs.{Regs}
+use Rattle.bios_services.specs.declared.call.Service.TheVariants.{ReadPixel}
+use Rattle.bios_services.specs.Cells.{page_base}
+use Rattle.bios_services.specs.Cycles.{graphics}
+use Rattle.bios_services.specs.Plan.{Plan, run, get}
+use Rattle.bios_services.specs.Pixels.{pixel_address, read_dot_plan, read_pixel_plan}
+use Rattle.bios_screen.specs.Screen.{Pixels, Screen}
+use Rattle.bios_screen.specs.Shown.{pixel_pages, page_pixels, screen_by, pixel_screen, shown}
+use Rattle.bios_screen.specs.Step.{pixel_of}
+use Rattle.bios_screen.specs.Served.{IsServed}
+use Rattle.bios_screen.proofs.Base.Setting.{Setting, setting, host_at, reached, offset_is, get_decoded}
+use Rattle.bios_screen.proofs.Modes.PixelModes.{Planes, row_of, number_of, packed_by}
+use Rattle.bios_screen.proofs.Modes.PixelModes.Planes.{Low, Middle, High}
+use Rattle.bios_screen.proofs.Pixels.NewPixels.{redrawn}
+use Rattle.bios_screen.proofs.Planar.Settings.{without_drawing}
+use Rattle.bios_screen.proofs.Dots.PlanarDots.{IsPlanar}
+use Rattle.bios_screen.proofs.Planar.Screens as screens
+use Rattle.bios_screen.proofs.Pixels.Dots as services
+use Rattle.bios_screen.proofs.Pixels.Dots.{There, number_within}
+
+-- ---- one plane is picked, and read
+
+abbrev picking : ℕ → ℕ → ℕ → Setting
+picking misc clocking p = record { misc = misc; seq = 0x03 ∷ clocking ∷ 0x0F ∷ 0x00 ∷ 0x06 ∷ []; gfx = 0x00 ∷ 0x00 ∷ 0x00 ∷ 0x00 ∷ p ∷ 0x00 ∷ 0x05 ∷ 0x0F ∷ 0xFF ∷ [] }
+
+-- all of an adapter but what a read moves
+abbrev without_reads : CardState → CardState
+without_reads c = record c { host = record c.host { latches = four (λ p. 0); seq = []; gfx = []; gfx_index = 0 } }
+
+record IsPicking (rest : CardState) (e k p : ℕ) (c : CardState) : Type 0 where
+  mode : setting c ≡ picking e k p
+  others : without_reads c ≡ rest
+
+pick_set : (rest : CardState) (e k p v : ℕ) (c : CardState) → bit_and v 3 ≡ v → IsPicking rest e k p c → IsPicking rest e k v (run card_meaning (graphics 4 v) c).0
+unfolding port_of out_at
+pick_set rest e k p v c l t = record {
+  mode = ap (λ (s : Setting). let x : Setting = record s { gfx = slice_set s.gfx 4 (bit_and v 3) } in x) t.mode ∙ ap (picking e k) l;
+  others = t.others;
+}
+
+byte_is : (h : HostState) (e k p a : ℕ) → p < 4 → a < 65536 → byte_at h.memory p a < 256 → read_byte (host_at h (picking e k p)) (0xA0000 + a) ≡ byte_at h.memory p a
+unfolding byte_of read_bit
+byte_is h e k zero a lp l b = byte_bits _ (subst (λ o. slice_index h.memory.plane0 o < 256) (sym (offset_is a l)) b) ∙ ap (slice_index h.memory.plane0) (offset_is a l)
+byte_is h e k (suc zero) a lp l b = byte_bits _ (subst (λ o. slice_index h.memory.plane1 o < 256) (sym (offset_is a l)) b) ∙ ap (slice_index h.memory.plane1) (offset_is a l)
+byte_is h e k (suc (suc zero)) a lp l b = byte_bits _ (subst (λ o. slice_index h.memory.plane2 o < 256) (sym (offset_is a l)) b) ∙ ap (slice_index h.memory.plane2) (offset_is a l)
+byte_is h e k (suc (suc (suc zero))) a lp l b = byte_bits _ (subst (λ o. slice_index h.memory.plane3 o < 256) (sym (offset_is a l)) b) ∙ ap (slice_index h.memory.plane3) (offset_is a l)
+byte_is h e k (suc (suc (suc (suc p)))) a lp l b = absurd (omega arith)
+
+-- what a read leaves and answers
+record IsPicked (rest : CardState) (e k p a : ℕ) (c : CardState) : Type 0 where
+  still : IsPicking rest e k p (run card_meaning (get (0xA0000 + a)) c).0
+  value : (run card_meaning (get (0xA0000 + a)) c).1 ≡ byte_at rest.host.memory p a
+
+pick_get : (rest : CardState) (e k p a : ℕ) (c : CardState) → p < 4 → a < 65536 → is_set e 1 ≡ true → byte_at rest.host.memory p a < 256 → IsPicking rest e k p c → IsPicked rest e k p a c
+pick_get rest e k p a c lp la on b t =
+    let r = get_decoded c (picking e k p) (0xA0000 + a) t.mode (reached (is_set e 1) a on la) in
+    let memory : c.host.memory ≡ rest.host.memory = ap (λ (x : CardState). x.host.memory) t.others in
+    record {
+      still = subst (λ y. IsPicking rest e k p y.0) (sym r) (record { mode = t.mode; others = t.others });
+      value = ap (λ y. y.1) r ∙ byte_is c.host e k p a lp la (subst (λ m. byte_at m p a < 256) (sym memory) b) ∙ ap (λ m. byte_at m p a) memory;
+    }
+
+-- four planes, one after another
+record IsDotRead (rest : CardState) (e k a x : ℕ) (c : CardState) : Type 0 where
+  still : IsPicking rest e k 0 (run card_meaning (read_dot_plan (0xA0000 + a) x) c).0
+  value : (run card_meaning (read_dot_plan (0xA0000 + a) x) c).1 ≡ bit_at (byte_at rest.host.memory 0 a) (7 - x % 8) + 2 * bit_at (byte_at rest.host.memory 1 a) (7 - x % 8) + 4 * bit_at (byte_at rest.host.memory 2 a) (7 - x % 8) + 8 * bit_at (byte_at rest.host.memory 3 a) (7 - x % 8)
+
+dot_read : (rest : CardState) (e k a x : ℕ) (c : CardState) → a < 65536 → is_set e 1 ≡ true → ((p : ℕ) → p < 4 → byte_at rest.host.memory p a < 256) → IsPicking rest e k 0 c → IsDotRead rest e k a x c
+unfolding read_dot_plan
+dot_read rest e k a x c la on b t =
+    let m = rest.host.memory in
+    let g = get (0xA0000 + a) in
+    let c0 = (run card_meaning (graphics 4 0) c).0 in
+    let t0 = pick_get rest e k 0 a c0 (omega arith) la on (b 0 (omega arith)) (pick_set rest e k 0 0 c refl t) in
+    let c1 = (run card_meaning (graphics 4 1) (run card_meaning g c0).0).0 in
+    let t1 = pick_get rest e k 1 a c1 (omega arith) la on (b 1 (omega arith)) (pick_set rest e k 0 1 (run card_meaning g c0).0 refl t0.still) in
+    let c2 = (run card_meaning (graphics 4 2) (run card_meaning g c1).0).0 in
+    let t2 = pick_get rest e k 2 a c2 (omega arith) la on (b 2 (omega arith)) (pick_set rest e k 1 2 (run card_meaning g c1).0 refl t1.still) in
+    let c3 = (run card_meaning (graphics 4 3) (run card_meaning g c2).0).0 in
+    let t3 = pick_get rest e k 3 a c3 (omega arith) la on (b 3 (omega arith)) (pick_set rest e k 2 3 (run card_meaning g c2).0 refl t2.still) in
+    let j = 7 - x % 8 in
+    record {
+      still = pick_set rest e k 3 0 (run card_meaning g c3).0 refl t3.still;
+      value = ap (λ v. bit_at v j + 2 * bit_at (run card_meaning g c1).1 j + 4 * bit_at (run card_meaning g c2).1 j + 8 * bit_at (run card_meaning g c3).1 j) t0.value
+          ∙ ap (λ v. bit_at (byte_at m 0 a) j + 2 * bit_at v j + 4 * bit_at (run card_meaning g c2).1 j + 8 * bit_at (run card_meaning g c3).1 j) t1.value
+          ∙ ap (λ v. bit_at (byte_at m 0 a) j + 2 * bit_at (byte_at m 1 a) j + 4 * bit_at v j + 8 * bit_at (run card_meaning g c3).1 j) t2.value
+          ∙ ap (λ v. bit_at (byte_at m 0 a) j + 2 * bit_at (byte_at m 1 a) j + 4 * bit_at (byte_at m 2 a) j + 8 * bit_at v j) t3.value;
+    }
+
+-- ---- numbers of the modes
+
+pub enabled_by : (m : Planes) → is_set (row_of m).misc 1 ≡ true
+enabled_by Low = refl
+enabled_by Middle = refl
+enabled_by High = refl
+
+base_by : (m : Planes) (a b f : ℕ) → page_base (number_of m) + a + (if number_of m == 0x13 then b else f) ≡ 0xA0000 + a + f
+base_by Low a b f = refl
+base_by Middle a b f = refl
+base_by High a b f = refl
+
+sum_is : (a b : ℕ) → 0xA0000 + a + b ≡ 0xA0000 + (a + b)
+sum_is a b = omega arith
+
+eighth : (w y x : ℕ) → w * y + x / 8 ≡ (8 * w * y + x) / 8
+eighth w y x = let e : 8 * w * y ≡ 8 * (w * y) = omega arith in omega arith
+
+pub rest_of_8 : (w y x : ℕ) → x % 8 ≡ (8 * w * y + x) % 8
+rest_of_8 w y x = let e : 8 * w * y ≡ 8 * (w * y) = omega arith in omega arith
+
+module _ (m : Planes) (c : CardState) (d : BiosData) (t : IsPlanar m c d) (e : row_at d.mode d.height ≡ Some (row_of m)) (z : IsCard c) where
+  abbrev s : Screen
+  s = pixel_screen (row_of m) c d
+
+  abbrev number : ℕ → ℕ → ℕ
+  number x y = 8 * d.columns * y + x
+
+  -- the place of a pixel's byte in each plane
+  abbrev offset : ℕ → ℕ → ℕ → ℕ
+  offset p x y = d.size * p + number x y / 8
+
+  pub offset_small : (p x y : ℕ) → There (row_of m) d p x y → offset p x y < 65536
+  offset_small p x y h = screens.in_memory m c d t e z p (number x y) h.page (number_within (row_of m) d p x y h)
+
+  pub address_is : (p x y : ℕ) → pixel_address d p x y ≡ 0xA0000 + offset p x y
+  address_is p x y =
+      ap (λ i. page_base i + d.size * p + (if i == 0x13 then 8 * d.columns * y + x else d.columns * y + x / 8)) t.number
+      ∙ base_by m (d.size * p) (8 * d.columns * y + x) (d.columns * y + x / 8)
+      ∙ sum_is (d.size * p) (d.columns * y + x / 8)
+      ∙ ap (λ i. 0xA0000 + (d.size * p + i)) (eighth d.columns y x)
+
+  read_is : (p x y : ℕ) → read_pixel_plan d p x y ≡ read_dot_plan (0xA0000 + offset p x y) x
+  unfolding read_pixel_plan
+  read_is p x y =
+      ap (λ b. let q : Plan ℕ = (if b then get (pixel_address d p x y) else read_dot_plan (pixel_address d p x y) x) in q) (ap (λ i. i == 0x13) t.number ∙ packed_by m)
+      ∙ ap (λ a. read_dot_plan a x) (address_is p x y)
+
+  begins : IsPicking (without_reads c) (row_of m).misc (slice_index (row_of m).sequencer 1) 0 c
+  begins = record { mode = screens.setting_is m c d t e z; others = refl }
+
+  dot : (p x y : ℕ) → There (row_of m) d p x y → IsDotRead (without_reads c) (row_of m).misc (slice_index (row_of m).sequencer 1) (offset p x y) x c
+  dot p x y h = dot_read (without_reads c) (row_of m).misc (slice_index (row_of m).sequencer 1) (offset p x y) x c (offset_small p x y h) (enabled_by m) (λ q l. z.host.memory.bytes q l (offset p x y)) begins
+
+  pixel_is : (p x y : ℕ) → There (row_of m) d p x y → (run card_meaning (read_dot_plan (0xA0000 + offset p x y) x) c).1 ≡ pixel_of s p (number x y)
+  pixel_is p x y h =
+      let n = number x y in
+      let f = c.host.memory in
+      (dot p x y h).value
+      ∙ ap (λ i. bit_at (byte_at f 0 (offset p x y)) (7 - i) + 2 * bit_at (byte_at f 1 (offset p x y)) (7 - i) + 4 * bit_at (byte_at f 2 (offset p x y)) (7 - i) + 8 * bit_at (byte_at f 3 (offset p x y)) (7 - i)) (rest_of_8 d.columns y x)
+      ∙ sym (screens.pixel_is m c d t e z p n h.page (number_within (row_of m) d p x y h))
+
+  -- the screen stays
+  stays : (y : CardState) → IsPicking (without_reads c) (row_of m).misc (slice_index (row_of m).sequencer 1) 0 y → shown y d ≡ Some s
+  stays y h =
+      redrawn (row_of m) c y d e (screens.text m c d t e z) t.tests (h.mode ∙ sym begins.mode) (ap without_drawing h.others)
+      ∙ ap (λ (x : CardState). Some (screen_by (row_of m) c d 0 (Pixels (pixel_pages d.mode x.host.memory d.size (page_pixels d) (row_of m).pages)) [])) h.others
+
+  pub read_pixel : (page x y : ℕ) (fonts : FontSet) (r : Regs) (block : List ℕ) → IsServed (ReadPixel page x y) fonts r block c d s
+  read_pixel page x y fonts r block = services.read_pixel (row_of m) c d e (screens.text m c d t e z) page x y fonts r block (λ p h. record {
+    answer = ap (λ i. (run card_meaning i c).1) (read_is p x y) ∙ pixel_is p x y h;
+    shows = ap (λ i. shown (run card_meaning i c).0 d) (read_is p x y) ∙ stays (run card_meaning (read_dot_plan (0xA0000 + offset p x y) x) c).0 (dot p x y h).still;
+  })

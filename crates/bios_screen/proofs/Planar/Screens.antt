@@ -1,0 +1,138 @@
+-- From drawn memory of sixteen colours to the screen that it shows, in which one page is drawn anew.
+use Rattle.std.proofs.Common.{◌≡◌, ◌≢◌, ℕ, ◌+◌, ◌*◌, ◌/◌, ◌%◌, ◌<◌, ◌≤◌, ◌⊎◌, inl, inr, ⊎_elim, refl, sym, ap, ◌∙◌, subst, arith, [], length, get_or, Some, false}
+use Rattle.std.specs.Prelude.{slice_index, set, ◌==◌, if◌then◌else◌}
+use Rattle.std.proofs.lemmas.Bool.{cases_lt}
+use Rattle.vga_bits.specs.Four.{Four}
+use Rattle.vga_planes.specs.Planes.{bytes_at}
+use Rattle.vga_card.specs.Bounds.{IsCard}
+use Rattle.vga_card.specs.Card.{CardState}
+use Rattle.bios_modes.specs.Bda.{BiosData}
+use Rattle.bios_modes.specs.Heights.{row_at}
+use Rattle.bios_services.specs.ModeSet.{is_text}
+use Rattle.bios_screen.specs.Listing.{listing}
+use Rattle.bios_screen.specs.Screen.{Pixels, Screen}
+use Rattle.bios_screen.specs.Shown.{packed_pixel, planar_pixel, pixel_in, pixels_in, pixel_pages, page_pixels, screen_by, pixel_screen, shown}
+use Rattle.bios_screen.specs.Step.{pixel_of, with_pixels}
+use Rattle.bios_screen.proofs.Base.Lists.{same_from_0, length_listing, listed_at, listing_set}
+use Rattle.bios_screen.proofs.Base.Places.{ends_before}
+use Rattle.bios_screen.proofs.Base.Setting.{setting}
+use Rattle.bios_screen.proofs.Modes.PixelModes.{Planes, row_of, setting_in, text_by, packed_by}
+use Rattle.bios_screen.proofs.Modes.PixelModes.Planes.{Low, Middle, High}
+use Rattle.bios_screen.proofs.Modes.PixelModes.Graphics.{Sixteen}
+use Rattle.bios_screen.proofs.Pixels.NewPixels.{redrawn}
+use Rattle.bios_screen.proofs.Shows.Screens.{setting_by}
+use Rattle.bios_screen.proofs.Dots.PlanarDots.{IsPlanar, pixel_at}
+use Rattle.bios_screen.proofs.Modes.PixelFresh.{pixels_of, byte_within}
+use Rattle.bios_screen.proofs.Planar.Settings.{at_rest, drawing, without_drawing, Loaded}
+use Rattle.bios_screen.proofs.Planar.Bits.{nibble_of}
+
+-- ---- numbers of the modes
+
+pub rest_by : (m : Planes) → setting_in (Sixteen m) ≡ drawing (row_of m).misc (slice_index (row_of m).sequencer 1) at_rest
+rest_by Low = refl
+rest_by Middle = refl
+rest_by High = refl
+
+-- a page has room for its pixels, and pages for all that the mode has
+pub page_room : (m : Planes) (k : ℕ) → k < pixels_of (row_of m) → k / 8 < (row_of m).size
+page_room Low k l = omega arith
+page_room Middle k l = omega arith
+page_room High k l = omega arith
+
+module _ (m : Planes) (c : CardState) (d : BiosData) (t : IsPlanar m c d) (e : row_at d.mode d.height ≡ Some (row_of m)) (z : IsCard c) where
+  abbrev s : Screen
+  s = pixel_screen (row_of m) c d
+
+  abbrev misc : ℕ
+  misc = (row_of m).misc
+
+  abbrev clocking : ℕ
+  clocking = slice_index (row_of m).sequencer 1
+
+  pub text : is_text d.mode ≡ false
+  text = ap is_text t.number ∙ text_by m
+
+  pub setting_is : setting c ≡ drawing misc clocking at_rest
+  setting_is = setting_by (row_of m) c t.tests.memory ∙ rest_by m
+
+  -- memory as cells of four bytes
+  pub begins : Loaded (without_drawing c) misc clocking at_rest c (bytes_at c.host.memory) c.host.latches
+  begins = record { mode = setting_is; bounds = z; cell = λ o. refl; others = refl; latch = refl }
+
+  pub all_pixels : page_pixels d ≡ pixels_of (row_of m)
+  all_pixels = ap (λ i. 8 * i * (d.height * (d.last_row + 1))) t.has.columns ∙ ap (λ i. 8 * (row_of m).columns * (i * (d.last_row + 1))) t.has.height ∙ ap (λ i. 8 * (row_of m).columns * ((row_of m).height * (i + 1))) t.has.last_row
+
+  pub room : (k : ℕ) → k < page_pixels d → k / 8 < d.size
+  room k l = subst (λ i. k / 8 < i) (sym t.has.size) (page_room m k (subst (λ i. k < i) all_pixels l))
+
+  -- the place of a pixel is in memory
+  pub in_memory : (p k : ℕ) → p < (row_of m).pages → k < page_pixels d → d.size * p + k / 8 < 65536
+  in_memory p k lp l = subst (λ i. i * p + k / 8 < 65536) (sym t.has.size) (byte_within m p k lp (subst (λ i. k < i) all_pixels l))
+
+  -- a strip of a page lies before all other pages
+  pub strip_small : (b : ℕ) → b < d.columns * (d.height * (d.last_row + 1)) → (8 * b < page_pixels d) × (b < d.size)
+  strip_small b l =
+      let same : 8 * d.columns * (d.height * (d.last_row + 1)) ≡ 8 * (d.columns * (d.height * (d.last_row + 1))) = omega arith in
+      let inside : 8 * b < page_pixels d = omega arith in
+      let k : 8 * b / 8 ≡ b = omega arith in
+      (inside, subst (λ x. x < d.size) k (room (8 * b) inside))
+
+  -- a pixel of a page is one of its byte of each plane
+  pub pixel_is : (p k : ℕ) → p < (row_of m).pages → k < page_pixels d → pixel_of s p k ≡ nibble_of (bytes_at c.host.memory (d.size * p + k / 8)) (k % 8)
+  pixel_is p k lp l =
+      let f = c.host.memory in
+      pixel_at d.mode f d.size (page_pixels d) (row_of m).pages p k lp l
+      ∙ ap (λ b. if b then packed_pixel f (d.size * p + k) else planar_pixel f (d.size * p) k) (ap (λ i. i == 0x13) t.number ∙ packed_by m)
+
+  -- other pages lie apart
+  apart : (p q k : ℕ) → p ≢ q → k < d.size → (d.size * q + k < d.size * p) ⊎ (d.size * p + d.size ≤ d.size * q + k)
+  apart p q k n l = ⊎_elim
+      (λ (a : p < q). let w = ends_before d.size p q a in inr (omega arith))
+      (λ (a : q ≤ p). ⊎_elim
+      (λ (b : q < p). let w = ends_before d.size q p b in inl (omega arith))
+      (λ (b : p ≤ q). absurd (n (omega arith)))
+      (cases_lt q p))
+      (cases_lt p q)
+
+  -- what the adapter shows at rest again, where one page has other pixels
+  pub page_redrawn : (p : ℕ) (y : CardState) (f : ℕ → Four ℕ) (q : Four ℕ) (change : (ℕ → ℕ) → ℕ → ℕ) → p < (row_of m).pages → Loaded (without_drawing c) misc clocking at_rest y f q
+      → ((k : ℕ) → k < page_pixels d → nibble_of (f (d.size * p + k / 8)) (k % 8) ≡ change (pixel_of s p) k)
+      → ((o : ℕ) → (o < d.size * p) ⊎ (d.size * p + d.size ≤ o) → f o ≡ bytes_at c.host.memory o)
+      → shown y d ≡ Some (with_pixels s p change)
+  unfolding pixel_pages pixels_in
+  page_redrawn p y f q change lp h inside outside =
+      let row = row_of m in
+      let n = page_pixels d in
+      let old = pixel_pages d.mode c.host.memory d.size n row.pages in
+      let packed : (d.mode == 0x13) ≡ false = ap (λ i. i == 0x13) t.number ∙ packed_by m in
+      let new_pixel : (g k : ℕ) → pixel_in d.mode y.host.memory (d.size * g) k ≡ nibble_of (f (d.size * g + k / 8)) (k % 8) = λ g k.
+      ap (λ b. if b then packed_pixel y.host.memory (d.size * g + k) else planar_pixel y.host.memory (d.size * g) k) packed
+      ∙ ap (λ (x : Four ℕ). nibble_of x (k % 8)) (h.cell (d.size * g + k / 8)) in
+      let old_pixel : (g k : ℕ) → pixel_in d.mode c.host.memory (d.size * g) k ≡ nibble_of (bytes_at c.host.memory (d.size * g + k / 8)) (k % 8) = λ g k.
+      ap (λ b. if b then packed_pixel c.host.memory (d.size * g + k) else planar_pixel c.host.memory (d.size * g) k) packed in
+      let page = listing (change (pixel_of s p)) 0 n in
+      let long : length (get_or old p []) ≡ n = ap length (listed_at (λ g. pixels_in d.mode c.host.memory (d.size * g) n) row.pages p [] lp) ∙ length_listing (pixel_in d.mode c.host.memory (d.size * p)) 0 n in
+      let pages : pixel_pages d.mode y.host.memory d.size n row.pages ≡ set old p page =
+      listing_set (λ g. pixels_in d.mode c.host.memory (d.size * g) n) (λ g. pixels_in d.mode y.host.memory (d.size * g) n) row.pages p page lp
+      (same_from_0 (change (pixel_of s p)) (pixel_in d.mode y.host.memory (d.size * p)) n (λ k l. new_pixel p k ∙ inside k l))
+      (λ g lg w. same_from_0 (pixel_in d.mode c.host.memory (d.size * g)) (pixel_in d.mode y.host.memory (d.size * g)) n (λ k l.
+      new_pixel g k ∙ ap (λ (x : Four ℕ). nibble_of x (k % 8)) (outside (d.size * g + k / 8) (apart p g (k / 8) (λ v. w (sym v)) (room k l))) ∙ sym (old_pixel g k))) in
+      redrawn row c y d e text t.tests (h.mode ∙ sym setting_is) h.others
+      ∙ ap (λ x. Some (screen_by row c d 0 (Pixels x) [])) (pages ∙ ap (λ i. set old p (listing (change (pixel_of s p)) 0 i)) (sym long))
+
+  -- and where all its bytes are as they were, the screen stays
+  pub stays : (y : CardState) (f : ℕ → Four ℕ) (q : Four ℕ) → Loaded (without_drawing c) misc clocking at_rest y f q → ((o : ℕ) → f o ≡ bytes_at c.host.memory o) → shown y d ≡ Some s
+  unfolding pixel_pages pixels_in
+  stays y f q h same =
+      let row = row_of m in
+      let n = page_pixels d in
+      let packed : (d.mode == 0x13) ≡ false = ap (λ i. i == 0x13) t.number ∙ packed_by m in
+      let pixel : (g k : ℕ) → pixel_in d.mode y.host.memory (d.size * g) k ≡ pixel_in d.mode c.host.memory (d.size * g) k = λ g k.
+      ap (λ b. if b then packed_pixel y.host.memory (d.size * g + k) else planar_pixel y.host.memory (d.size * g) k) packed
+      ∙ ap (λ (x : Four ℕ). nibble_of x (k % 8)) (h.cell (d.size * g + k / 8) ∙ same (d.size * g + k / 8))
+      ∙ sym (ap (λ b. if b then packed_pixel c.host.memory (d.size * g + k) else planar_pixel c.host.memory (d.size * g) k) packed) in
+      let pages : pixel_pages d.mode y.host.memory d.size n row.pages ≡ pixel_pages d.mode c.host.memory d.size n row.pages =
+      same_from_0 (λ g. pixels_in d.mode c.host.memory (d.size * g) n) (λ g. pixels_in d.mode y.host.memory (d.size * g) n) row.pages
+      (λ g lg. same_from_0 (pixel_in d.mode c.host.memory (d.size * g)) (pixel_in d.mode y.host.memory (d.size * g)) n (λ k l. pixel g k)) in
+      redrawn row c y d e text t.tests (h.mode ∙ sym setting_is) h.others
+      ∙ ap (λ x. Some (screen_by row c d 0 (Pixels x) [])) pages

@@ -1,0 +1,14 @@
+-- The services by their numbers, and calls.
+pub mod TextReaders
+pub mod Cursors
+pub mod Typing
+pub mod Teletypes
+pub mod Strings
+pub mod Attributes
+pub mod Dacs
+pub mod All
+pub mod Calls
+pub mod Tables
+pub mod AnyReaders
+pub mod Palette
+pub mod LoadCalls

@@ -1,0 +1,176 @@
+-- Calls: the service that the registers ask for, whole.
+use Rattle.std.proofs.Common.{◌≡◌, ℕ, ◌%◌, ◌<◌, refl, sym, ap, ◌∙◌, subst, arith, List, length, Option, Some, None, Bool, true, false, Err}
+use Rattle.std.specs.Prelude.{◌==◌, ◌&&◌, nat_lt, nat_le, if◌then◌else◌, IfSome}
+use Rattle.vga_bits.specs.declared.refusal.Refusal.{Refusal}
+use Rattle.vga_bits.specs.declared.refusal.Refusal.TheVariants.{NoMode, BadFunction, BadMode}
+use Rattle.vga_card.specs.Bounds.{IsCard}
+use Rattle.vga_card.specs.Bus.{card_meaning}
+use Rattle.vga_card.specs.Card.{CardState}
+use Rattle.bios_modes.specs.Bda.{BiosData}
+use Rattle.bios_modes.specs.Modes.{mode_row}
+use Rattle.bios_modes.specs.Fonts.{FontSet}
+use Rattle.bios_services.specs.declared.regs.Regs.{Regs}
+use Rattle.bios_services.specs.declared.call.Call.{Call}
+use Rattle.bios_services.specs.declared.call.Call.TheVariants.{SetMode, InMode}
+use Rattle.bios_services.specs.declared.call.Service.{Service}
+use Rattle.bios_services.specs.declared.call.Service.TheVariants.{ReadDisplay}
+use Rattle.bios_services.specs.Plan.{Plan, run, Done, ◌>>=◌}
+use Rattle.bios_services.specs.declared.colours.ColourService.{ColourService}
+use Rattle.bios_services.specs.declared.colours.ColourService.TheVariants.{ReadMask}
+use Rattle.bios_services.specs.Registers.{high, low}
+use Rattle.bios_services.specs.Colours.{colour_service_of}
+use Rattle.bios_services.specs.CellRuns.{cell_run_of}
+use Rattle.bios_services.specs.Strings.{string_of}
+use Rattle.bios_services.specs.declared.tables.TableService.{TableService}
+use Rattle.bios_services.specs.Tables.{table_service_of}
+use Rattle.bios_services.specs.declared.glyph_load.GlyphLoad.{GlyphLoad}
+use Rattle.bios_services.specs.GlyphLoads.{glyph_load_of}
+use Rattle.bios_services.specs.Calls.{scroll_of, as_colours, service_of, in_mode, call_of, table_or, glyphs_or}
+use Rattle.bios_services.specs.Refusals.{refusal_in_mode}
+use Rattle.bios_services.specs.Service.{plan_of, set_mode_plan, Outcome, Answered, answer_of, refuse, unless, in_mode_plan, call_plan}
+use Rattle.bios_modes.specs.Bounds.{IsBda}
+use Rattle.bios_screen.specs.Screen.{Screen}
+use Rattle.bios_screen.specs.Shown.{shown}
+use Rattle.bios_screen.specs.Step.{refusal_on, next, answer_on}
+use Rattle.bios_screen.specs.Served.{FitsBytes, IsServed, Serves, after_call}
+use Rattle.bios_modes.specs.Bounds.{AreBytes}
+use Rattle.bios_screen.specs.Called.{AreWords, reply_unless, screen_unless, IsCalled}
+use Rattle.bios_screen.proofs.Base.Plans.{run_bind}
+use Rattle.bios_screen.proofs.Base.Kept.{KeepsBounds, plan_beam}
+use Rattle.bios_screen.proofs.Shows.Screens.{mode_of_shown}
+use Rattle.bios_screen.proofs.Services.All as served
+
+-- ---- each service that registers ask for is served
+
+choose : (b : Bool) (x y : Option Service) → IfSome x Serves → IfSome y Serves → IfSome (if b then x else y) Serves
+choose true x y f g = f
+choose false x y f g = g
+
+high_small : (n : ℕ) → n < 65536 → high n < 256
+high_small n l = omega arith
+
+low_small : (n : ℕ) → low n < 256
+low_small n = omega arith
+
+-- the subfunctions of function 10, whose overscan is a byte
+choose_colours : (b : Bool) (x y : Option ColourService) → IfSome x FitsBytes → IfSome y FitsBytes → IfSome (if b then x else y) FitsBytes
+choose_colours true x y f g = f
+choose_colours false x y f g = g
+
+colours_fit : (r : Regs) → AreWords r → IfSome (colour_service_of r) FitsBytes
+colours_fit r w =
+    let al = low r.ax in
+    choose_colours (al == 0x00) _ _ tt
+    (choose_colours (al == 0x01) _ _ (high_small r.bx w.bx)
+    (choose_colours (al == 0x02) _ _ tt
+    (choose_colours (al == 0x03) _ _ tt
+    (choose_colours (al == 0x07) _ _ tt
+    (choose_colours (al == 0x08) _ _ tt
+    (choose_colours (al == 0x10) _ _ tt
+    (choose_colours (al == 0x12) _ _ tt
+    (choose_colours (al == 0x15) _ _ tt
+    (choose_colours (al == 0x18) _ _ tt
+    (choose_colours (al == 0x19) (Some ReadMask) None tt tt))))))))))
+
+colours_are_served : (r : Regs) → AreWords r → IfSome (as_colours (colour_service_of r)) Serves
+colours_are_served r w = by_service (colour_service_of r) (colours_fit r w)
+  where
+    by_service : (x : Option ColourService) → IfSome x FitsBytes → IfSome (as_colours x) Serves
+    by_service None f = tt
+    by_service (Some service) f = served.set_colours service f
+
+asked_is_served : KeepsBounds → (r : Regs) → AreWords r → IfSome (service_of r) Serves
+asked_is_served law r w =
+    choose (high r.ax == 0x01) _ _ (served.set_cursor_type r.cx)
+    (choose (high r.ax == 0x02) _ _ (served.set_cursor (high r.bx) r.dx w.dx)
+    (choose (high r.ax == 0x03) _ _ (served.read_cursor (high r.bx))
+    (choose (high r.ax == 0x05) _ _ (served.select_page (low r.ax))
+    (choose (high r.ax == 0x06) _ _ (served.scroll_up law (scroll_of r) (high_small r.bx w.bx))
+    (choose (high r.ax == 0x07) _ _ (served.scroll_down law (scroll_of r) (high_small r.bx w.bx))
+    (choose (high r.ax == 0x08) _ _ (served.read_cell law (high r.bx))
+    (choose (high r.ax == 0x09) _ _ (served.write_cells law (cell_run_of r true) (low_small r.ax) (low_small r.bx))
+    (choose (high r.ax == 0x0A) _ _ (served.write_cells law (cell_run_of r false) (low_small r.ax) (low_small r.bx))
+    (choose (high r.ax == 0x0C) _ _ (served.write_pixel law (high r.bx) r.cx r.dx (low r.ax) (low_small r.ax))
+    (choose (high r.ax == 0x0D) _ _ (served.read_pixel (high r.bx) r.cx r.dx)
+    (choose (high r.ax == 0x0E) _ _ (served.teletype law (low r.ax) (low r.bx) (low_small r.ax) (low_small r.bx))
+    (choose (high r.ax == 0x0F) _ _ (served.read_mode)
+    (choose (high r.ax == 0x10) _ _ (colours_are_served r w)
+    (choose ((high r.ax == 0x12) && (low r.bx == 0x10)) _ _ (served.read_adapter)
+    (choose ((high r.ax == 0x13) && nat_lt (low r.ax) 4) _ _ (served.write_string law (string_of r) (low_small r.bx))
+    (choose ((high r.ax == 0x1A) && (low r.ax == 0x00)) (Some ReadDisplay) None (served.read_display) tt))))))))))))))))
+
+-- ---- the call around a service
+
+-- what a service's plan leaves, wrapped as an answer of a call
+pub record IsDone (service : Service) (fonts : FontSet) (r : Regs) (block : List ℕ) (c : CardState) (d : BiosData) (s : Screen) (x : CardState × Answered) : Type 0 where
+  pub reply : x.1.0 ≡ reply_unless (refusal_on s service (length block)) (answer_on fonts s service r)
+  pub shows : shown x.0 x.1.1 ≡ Some (screen_unless (refusal_on s service (length block)) s (next fonts s service block))
+
+done_unless : (service : Service) (fonts : FontSet) (r : Regs) (block : List ℕ) (c : CardState) (d : BiosData) (s : Screen) → shown c d ≡ Some s → IsServed service fonts r block c d s → IsDone service fonts r block c d s (run card_meaning (unless (refusal_on s service (length block)) service fonts d r block) c)
+unfolding unless
+done_unless service fonts r block c d s old i = by_refusal (refusal_on s service (length block)) refl
+  where
+    done : Outcome → Plan Answered
+    done outcome = Done (answer_of outcome.0 outcome.1)
+
+    by_refusal : (x : Option Refusal) → refusal_on s service (length block) ≡ x → IsDone service fonts r block c d s (run card_meaning (unless (refusal_on s service (length block)) service fonts d r block) c)
+    by_refusal (Some why) e =
+        let runs : run card_meaning (unless (refusal_on s service (length block)) service fonts d r block) c ≡ (c, (Err why, d)) = ap (λ x. run card_meaning (unless x service fonts d r block) c) e in
+        record {
+          reply = ap (λ x. x.1.0) runs ∙ sym (ap (λ x. reply_unless x (answer_on fonts s service r)) e);
+          shows = ap (λ x. shown x.0 x.1.1) runs ∙ old ∙ sym (ap (λ x. Some (screen_unless x s (next fonts s service block))) e);
+        }
+    by_refusal None e =
+        let runs : run card_meaning (unless (refusal_on s service (length block)) service fonts d r block) c ≡ run card_meaning (plan_of service fonts d r block >>= done) c = ap (λ x. run card_meaning (unless x service fonts d r block) c) e in
+        let bound = run_bind card_meaning (plan_of service fonts d r block) done c in
+        record {
+          reply = ap (λ x. x.1.0) (runs ∙ bound) ∙ ap (λ q. reply_unless None q) (i.answer e) ∙ sym (ap (λ x. reply_unless x (answer_on fonts s service r)) e);
+          shows = ap (λ x. shown x.0 x.1.1) (runs ∙ bound) ∙ i.shows e ∙ sym (ap (λ x. Some (screen_unless x s (next fonts s service block))) e);
+        }
+
+call_done : (service : Service) (fonts : FontSet) (r : Regs) (block : List ℕ) (c : CardState) (d : BiosData) (s : Screen) → call_of r ≡ Some (InMode service) → shown c d ≡ Some s → IsServed service fonts r block c d s → IsCalled service fonts r block c d s
+unfolding in_mode_plan
+call_done service fonts r block c d s e old i =
+    let plan = unless (refusal_on s service (length block)) service fonts d r block in
+    let runs : after_call fonts r block c d ≡ run card_meaning plan c =
+    ap (λ (q : Option Call). run card_meaning (call_plan q fonts d r block) c) e
+    ∙ ap (λ b. run card_meaning (if b then refuse NoMode d else unless (refusal_in_mode service d (length block)) service fonts d r block) c) (mode_of_shown c d s old).set
+    ∙ ap (λ q. run card_meaning (unless q service fonts d r block) c) i.refusal in
+    let t = done_unless service fonts r block c d s old i in
+    record {
+      reply = ap (λ y. y.1.0) runs ∙ t.reply;
+      shows = ap (λ y. shown y.0 y.1.1) runs ∙ t.shows;
+      beam = ap (λ y. y.0.crtc.beam) runs ∙ plan_beam plan c;
+    }
+
+-- the service of a call
+service_is : (r : Regs) (service : Service) → call_of r ≡ Some (InMode service) → service_of r ≡ Some service
+service_is r service e = by_test (high r.ax == 0x00) (table_service_of r) (glyph_load_of r) (service_of r) e
+  where
+    by_test : (b : Bool) (t : Option TableService) (g : Option GlyphLoad) (x : Option Service) → (let y : Option Call = (if b then Some (SetMode (low r.ax % 128) (nat_le 128 (low r.ax))) else table_or t (glyphs_or g (in_mode x))) in y) ≡ Some (InMode service) → x ≡ Some service
+    by_test true t g x h = absurd (cc)
+    by_test false (Some t) g x h = absurd (cc)
+    by_test false None (Some load) x h = absurd (cc)
+    by_test false None None None h = absurd (cc)
+    by_test false None None (Some t) h = cc
+
+served_if : (x : Option Service) (service : Service) → x ≡ Some service → IfSome x Serves → Serves service
+served_if x service e f = subst (λ y. IfSome y Serves) e f
+
+pub calls_lead : KeepsBounds → (service : Service) (fonts : FontSet) (r : Regs) (block : List ℕ) (c : CardState) (d : BiosData) (s : Screen) → IsCard c → IsBda d → AreWords r → AreBytes block → shown c d ≡ Some s → call_of r ≡ Some (InMode service) → IsCalled service fonts r block c d s
+calls_lead law service fonts r block c d s z bda w bytes old e =
+    let serves = served_if (service_of r) service (service_is r service e) (asked_is_served law r w) in
+    call_done service fonts r block c d s e old (serves fonts r block c d s bytes z bda old)
+
+-- a call for no service is refused
+pub unknown_refused : (fonts : FontSet) (r : Regs) (block : List ℕ) (c : CardState) (d : BiosData) (s : Screen) → shown c d ≡ Some s → call_of r ≡ None → after_call fonts r block c d ≡ (c, (Err BadFunction, d))
+unknown_refused fonts r block c d s old e =
+    ap (λ (q : Option Call). run card_meaning (call_plan q fonts d r block) c) e
+    ∙ ap (λ b. let y : CardState × Answered = (c, (Err (if b then NoMode else BadFunction), d)) in y) (mode_of_shown c d s old).set
+
+-- and so is one for a mode that there is not
+pub mode_refused : (mode : ℕ) (keeps : Bool) (fonts : FontSet) (r : Regs) (block : List ℕ) (c : CardState) (d : BiosData) → call_of r ≡ Some (SetMode mode keeps) → mode_row mode ≡ None → after_call fonts r block c d ≡ (c, (Err BadMode, d))
+unfolding set_mode_plan
+mode_refused mode keeps fonts r block c d e none =
+    ap (λ (q : Option Call). run card_meaning (call_plan q fonts d r block) c) e
+    ∙ ap (λ x. run card_meaning (set_mode_plan x mode keeps fonts d r) c) none

@@ -1,0 +1,161 @@
+-- Calls that load glyphs, whole: refused, or led to the screen with them.
+use Rattle.std.proofs.Common.{◌≡◌, ℕ, ◌+◌, ◌≤◌, refl, sym, ap, ◌∙◌, arith, List, length, Option, Some, None, Bool, true, false, if◌then◌else◌}
+use Rattle.std.specs.Prelude.{◌==◌, nat_le}
+use Rattle.std.proofs.lemmas.Bool.Decides.{nat_tests}
+use Rattle.vga_bits.specs.declared.refusal.Refusal.{Refusal}
+use Rattle.vga_bits.specs.declared.refusal.Refusal.TheVariants.{NoMode, WrongKind, CountPast}
+use Rattle.vga_card.specs.Bounds.{IsCard}
+use Rattle.vga_card.specs.Bus.{card_meaning}
+use Rattle.vga_card.specs.Card.{CardState}
+use Rattle.bios_modes.specs.declared.heights.TextRow.{TextRow}
+use Rattle.bios_modes.specs.declared.modes.ModeRow.{ModeRow}
+use Rattle.bios_modes.specs.Heights.{fifty_rows, twenty_eight_rows, twenty_five_rows, text_row, with_height, row_at}
+use Rattle.bios_modes.specs.Bda.{BiosData}
+use Rattle.bios_modes.specs.Begin.{data_of_mode}
+use Rattle.bios_modes.specs.Bounds.{AreBytes, AreFonts}
+use Rattle.bios_modes.specs.Fonts.{FontSet}
+use Rattle.bios_services.specs.declared.regs.Regs.{Regs}
+use Rattle.bios_services.specs.declared.glyph_load.GlyphLoad.{GlyphLoad}
+use Rattle.bios_services.specs.declared.call.Call.{Call}
+use Rattle.bios_services.specs.declared.call.Call.TheVariants.{LoadGlyphs}
+use Rattle.bios_services.specs.Plan.{Plan, Done, run, ◌>>◌}
+use Rattle.bios_services.specs.ModeSet.{is_text}
+use Rattle.bios_services.specs.Colours.{block_refusal}
+use Rattle.bios_services.specs.GlyphLoads.{AreThere, glyphs_len, load_refusal, load_plan}
+use Rattle.bios_services.specs.Calls.{call_of}
+use Rattle.bios_services.specs.Service.{Answered, answer_of, call_plan, refuse, load_at, load_unless, load_in_mode_plan}
+use Rattle.bios_screen.specs.Screen.{Screen}
+use Rattle.bios_screen.specs.Shown.{shown}
+use Rattle.bios_screen.specs.Served.{after_call}
+use Rattle.bios_screen.specs.Called.{reply_unless, screen_unless, IsLoaded}
+use Rattle.bios_screen.specs.Loaded.{height_refusal_on, or_else, load_at_height, load_glyphs}
+use Rattle.bios_screen.proofs.Base.Plans.{then_runs, then_answers}
+use Rattle.bios_screen.proofs.Base.Kept.{KeepsBounds, plan_beam}
+use Rattle.bios_screen.proofs.Modes.TextModes.{Display, Height, row_of, row_with, lines_of, number_of}
+use Rattle.bios_screen.proofs.Modes.TextModes.Display.{Colour, Monochrome}
+use Rattle.bios_screen.proofs.Modes.TextModes.Height.{Eight, Fourteen, Sixteen}
+use Rattle.bios_screen.proofs.Shows.Screens.{screen_shown, shown_is, mode_of_shown}
+use Rattle.bios_screen.proofs.Text.Loads.{load_shown}
+
+-- ---- the row of a height
+
+-- the height of a row of the text-height table
+record HasLines (disp : Display) (height : ℕ) (text : TextRow) : Type 0 where
+  new : Height
+  is : text ≡ lines_of disp new
+  few : height ≤ 16
+
+some_text : {A : Type 0} (a b : TextRow) → ((a ≡ b) → A) → (let x : Option TextRow = Some a in x) ≡ Some b → A
+some_text a b f e = f (cc)
+
+lines_are : (disp : Display) (height : ℕ) (text : TextRow) → text_row (number_of disp) height ≡ Some text → HasLines disp height text
+lines_are disp height text e = by_display disp e
+  where
+    by_tests : (k : Display) (a b f : Bool) (u8 u14 u16 : ℕ) → (height == 8) ≡ a → (height == 14) ≡ b → (height == 16) ≡ f → fifty_rows u8 ≡ lines_of k Eight → twenty_eight_rows u14 ≡ lines_of k Fourteen → twenty_five_rows u16 ≡ lines_of k Sixteen
+        → (let x : Option TextRow = (if a then Some (fifty_rows u8) else if b then Some (twenty_eight_rows u14) else if f then Some (twenty_five_rows u16) else None) in x) ≡ Some text → HasLines k height text
+    by_tests k true b f u8 u14 u16 ea eb ef e8 e14 e16 h = some_text (fifty_rows u8) text (λ q. record { new = Eight; is = sym q ∙ e8; few = grind (arith, nat_tests) }) h
+    by_tests k false true f u8 u14 u16 ea eb ef e8 e14 e16 h = some_text (twenty_eight_rows u14) text (λ q. record { new = Fourteen; is = sym q ∙ e14; few = grind (arith, nat_tests) }) h
+    by_tests k false false true u8 u14 u16 ea eb ef e8 e14 e16 h = some_text (twenty_five_rows u16) text (λ q. record { new = Sixteen; is = sym q ∙ e16; few = grind (arith, nat_tests) }) h
+    by_tests k false false false u8 u14 u16 ea eb ef e8 e14 e16 h = absurd (cc)
+
+    by_display : (k : Display) → text_row (number_of k) height ≡ Some text → HasLines k height text
+    by_display Colour h = by_tests Colour (height == 8) (height == 14) (height == 16) 0x1F 0x1F 0x1F refl refl refl refl refl refl h
+    by_display Monochrome h = by_tests Monochrome (height == 8) (height == 14) (height == 16) 0x07 0x0D 0x0F refl refl refl refl refl refl h
+
+-- the mode's row of a height is that of the text-height table
+rows_agree : (disp : Display) (height : ℕ) → row_at (number_of disp) height ≡ with_height (row_of disp) (text_row (number_of disp) height)
+rows_agree Colour height = refl
+rows_agree Monochrome height = refl
+
+-- ---- why a load is refused
+
+-- glyphs that are not refused are of text, of characters up to FF, and whole in their block
+record IsAllowed (load : GlyphLoad) (mode len : ℕ) : Type 0 where
+  text : is_text mode ≡ true
+  last : load.first + load.count ≤ 256
+  whole : load.is_block ≡ true → len ≡ glyphs_len load
+
+block_whole : (len taken : ℕ) → block_refusal len taken ≡ None → len ≡ taken
+block_whole len taken e = grind (arith, nat_tests)
+
+allowed_of : (load : GlyphLoad) (mode len : ℕ) → load_refusal load mode len ≡ None → IsAllowed load mode len
+allowed_of load mode len e = by_tests (is_text mode) (nat_le (load.first + load.count) 256) load.is_block refl refl refl e
+  where
+    by_tests : (a b k : Bool) → is_text mode ≡ a → nat_le (load.first + load.count) 256 ≡ b → load.is_block ≡ k
+        → (let x : Option Refusal = (if a then (if b then (if k then block_refusal len (glyphs_len load) else None) else Some CountPast) else Some WrongKind) in x) ≡ None → IsAllowed load mode len
+    by_tests true true true ea eb ek h = record { text = ea; last = grind (arith, nat_tests); whole = λ z. block_whole len (glyphs_len load) h }
+    by_tests true true false ea eb ek h = record { text = ea; last = grind (arith, nat_tests); whole = λ z. absurd (cc) }
+    by_tests true false k ea eb ek h = absurd (cc)
+    by_tests false b k ea eb ek h = absurd (cc)
+
+-- ---- the call
+
+-- what a plan leaves and answers, as the screen has it
+record Leads (why : Option Refusal) (r : Regs) (s new : Screen) (x : CardState × Answered) : Type 0 where
+  reply : x.1.0 ≡ reply_unless why r
+  shows : shown x.0 x.1.1 ≡ Some (screen_unless why s new)
+
+refused_leads : (why : Refusal) (r : Regs) (s new : Screen) (c : CardState) (d : BiosData) → shown c d ≡ Some s → Leads (Some why) r s new (run card_meaning (refuse why d) c)
+refused_leads why r s new c d e = record { reply = refl; shows = e }
+
+module _ (law : KeepsBounds) (fonts : FontSet) (load : GlyphLoad) (r : Regs) (block : List ℕ) (bytes : AreBytes block) (are : AreFonts fonts) (c : CardState) (d : BiosData) (s : Screen) (z : IsCard c) (old : shown c d ≡ Some s) where
+  abbrev new : Screen
+  new = load_glyphs fonts s load block
+
+  -- glyphs that are allowed, where there is a row of their height
+  row_leads : (a : IsAllowed load d.mode (length block)) (text : TextRow) → text_row d.mode load.height ≡ Some text → Leads None r s (load_at_height (Some text) fonts s load block) (run card_meaning (load_at (row_at d.mode load.height) load fonts d r block) c)
+  unfolding load_at
+  row_leads a text e =
+      let x = shown_is c d s a.text old in
+      let h = x.is in
+      let disp = h.display in
+      let there_is : text_row (number_of disp) load.height ≡ Some text = ap (λ m. text_row m load.height) (sym h.number) ∙ e in
+      let lines = lines_are disp load.height text there_is in
+      let row = row_with disp lines.new in
+      let at : row_at d.mode load.height ≡ Some row = ap (λ m. row_at m load.height) h.number ∙ rows_agree disp load.height ∙ ap (with_height (row_of disp)) there_is ∙ ap (λ (t : TextRow). with_height (row_of disp) (Some t)) lines.is in
+      let there : AreThere load (length block) = record { height = lines.few; last = a.last; whole = a.whole } in
+      let plan = load_plan fonts load block row in
+      let done : Plan Answered = Done (answer_of r (data_of_mode d.mode row)) in
+      let runs : run card_meaning (load_at (row_at d.mode load.height) load fonts d r block) c ≡ run card_meaning (plan >> done) c = ap (λ q. run card_meaning (load_at q load fonts d r block) c) at in
+      record {
+        reply = ap (λ y. y.1.0) runs ∙ ap (λ (y : Answered). y.0) (then_answers plan done c);
+        shows = ap (λ y. shown y.0 y.1.1) runs
+            ∙ ap (λ y. shown y (run card_meaning (plan >> done) c).1.1) (then_runs plan done c)
+            ∙ ap (λ (y : Answered). shown (run card_meaning plan c).0 y.1) (then_answers plan done c)
+            ∙ load_shown law fonts load block bytes are there c d h z lines.new
+            ∙ ap (λ t. Some (load_at_height (Some t) fonts (screen_shown c d h) load block)) (sym lines.is)
+            ∙ ap (λ q. Some (load_at_height (Some text) fonts q load block)) x.screen;
+      }
+
+  -- where there is none it is refused
+  height_leads : (a : IsAllowed load d.mode (length block)) (q : Option TextRow) → text_row d.mode load.height ≡ q → Leads (height_refusal_on q) r s (load_at_height q fonts s load block) (run card_meaning (load_at (row_at d.mode load.height) load fonts d r block) c)
+  unfolding load_at
+  height_leads a (Some text) e = row_leads a text e
+  height_leads a None e =
+      let x = shown_is c d s a.text old in
+      let h = x.is in
+      let at : row_at d.mode load.height ≡ None = ap (λ m. row_at m load.height) h.number ∙ rows_agree h.display load.height ∙ ap (with_height (row_of h.display)) (ap (λ m. text_row m load.height) (sym h.number) ∙ e) in
+      let runs = ap (λ (q : Option ModeRow). run card_meaning (load_at q load fonts d r block) c) at in
+      record { reply = ap (λ y. y.1.0) runs; shows = ap (λ y. shown y.0 y.1.1) runs ∙ old }
+
+  unless_leads : (why : Option Refusal) → load_refusal load d.mode (length block) ≡ why → Leads (or_else why (height_refusal_on (text_row d.mode load.height))) r s (load_at_height (text_row d.mode load.height) fonts s load block) (run card_meaning (load_unless why load fonts d r block) c)
+  unfolding load_unless
+  unless_leads (Some why) e = refused_leads why r s _ c d old
+  unless_leads None e = height_leads (allowed_of load d.mode (length block) e) (text_row d.mode load.height) refl
+
+  pub load_leads : call_of r ≡ Some (LoadGlyphs load) → IsLoaded load fonts r block c d s
+  unfolding load_in_mode_plan load_glyphs
+  load_leads e =
+      let why = load_refusal load d.mode (length block) in
+      let plan = load_unless why load fonts d r block in
+      let mode = mode_of_shown c d s old in
+      let runs : after_call fonts r block c d ≡ run card_meaning plan c =
+      ap (λ (q : Option Call). run card_meaning (call_plan q fonts d r block) c) e
+      ∙ ap (λ b. run card_meaning (if b then refuse NoMode d else plan) c) mode.set in
+      let t = unless_leads why refl in
+      let same = sym mode.is in
+      record {
+        reply = ap (λ y. y.1.0) runs ∙ t.reply ∙ ap (λ m. reply_unless (or_else (load_refusal load m (length block)) (height_refusal_on (text_row m load.height))) r) same;
+        shows = ap (λ y. shown y.0 y.1.1) runs ∙ t.shows ∙ ap (λ m. Some (screen_unless (or_else (load_refusal load m (length block)) (height_refusal_on (text_row m load.height))) s (load_at_height (text_row m load.height) fonts s load block))) same;
+        beam = ap (λ y. y.0.crtc.beam) runs ∙ plan_beam plan c;
+      }

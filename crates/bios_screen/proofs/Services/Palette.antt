@@ -1,0 +1,288 @@
+-- Function 10: from a state that shows a screen to one that shows the next.
+use Rattle.std.proofs.Common.{◌≡◌, ℕ, zero, suc, ◌+◌, ◌*◌, ◌%◌, ◌<◌, ◌≤◌, refl, sym, ap, ◌∙◌, arith, List, [], ◌∷◌, length, Option, Some, None, Bool, true, false}
+use Rattle.std.specs.Prelude.{◌==◌, ◌&&◌, nat_lt, nat_le, if◌then◌else◌, slice_index, slice_set, take, drop, bit_and, bit_or}
+use Rattle.std.specs.Str.{bytes_eq}
+use Rattle.std.proofs.lemmas.Bool.{agree_below_at}
+use Rattle.std.proofs.lemmas.List.{get_or-set_same, get_or-set_other, get_or-take, length-take-le, take-set-le, drop-set-lt}
+use Rattle.std.proofs.Math.Seq.{take-set-lt}
+use Rattle.vga_bits.specs.Bits.{is_set}
+use Rattle.vga_bits.specs.declared.refusal.Refusal.{Refusal}
+use Rattle.vga_bits.specs.declared.refusal.Refusal.TheVariants.{BadRegister, BadBlock}
+use Rattle.vga_attr.specs.Attr.{attr_masks}
+use Rattle.vga_attr.specs.Fields.{is_palette_shown}
+use Rattle.vga_dac.specs.declared.component.Component.TheVariants.{Red}
+use Rattle.vga_dac.specs.Dac.{DacState}
+use Rattle.vga_card.specs.Bounds.{IsCard}
+use Rattle.vga_card.specs.Bus.{card_meaning}
+use Rattle.vga_card.specs.Card.{CardState}
+use Rattle.vga_card.specs.Port.{port_of as reached_by}
+use Rattle.vga_card.specs.Cycles.{out_at, inp_at}
+use Rattle.bios_modes.specs.Bda.{BiosData}
+use Rattle.bios_modes.specs.Bounds.{AreBytes}
+use Rattle.bios_modes.specs.Fonts.{FontSet}
+use Rattle.bios_services.specs.declared.regs.Regs.{Regs}
+use Rattle.bios_services.specs.declared.colours.ColourService.{ColourService}
+use Rattle.bios_services.specs.declared.colours.ColourService.TheVariants.{SetRegister, SetOverscan, SetPalette, SetBlinking, ReadRegister, ReadOverscan, SetEntry, SetEntries, ReadEntry, SetMask, ReadMask}
+use Rattle.bios_services.specs.declared.call.Service.TheVariants.{Colours}
+use Rattle.bios_services.specs.Registers.{with_high, with_low}
+use Rattle.bios_services.specs.Plan.{Plan, run, Done, out, ◌>>=◌, ◌>>◌}
+use Rattle.bios_services.specs.Palette.{set_register_plan, set_palette_plan, set_blinking_plan, read_register_plan}
+use Rattle.bios_services.specs.Dac.{set_entry_plan, set_entries_plan}
+use Rattle.bios_services.specs.Colours.{colour_refusal, has_entries, read_register_in_bh, read_mask_in_bl, colours_plan}
+use Rattle.bios_services.specs.Refusals.{refusal_in_mode}
+use Rattle.bios_services.specs.Service.{plan_of, Outcome}
+use Rattle.bios_screen.specs.Listing.{listing}
+use Rattle.bios_screen.specs.Screen.{Screen}
+use Rattle.bios_screen.specs.Shown.{shows_attribute, shown}
+use Rattle.bios_screen.specs.Colours.{six_bits, with_value, with_block, with_entries, with_colours, colours_answer}
+use Rattle.bios_screen.specs.Step.{refusal_on, next, answer_on}
+use Rattle.bios_screen.specs.Served.{FitsBytes, IsServed}
+use Rattle.bios_screen.proofs.Base.Plans.{run_bind, then_runs, then_answers}
+use Rattle.bios_screen.proofs.Base.Lists.{same_from_0, spelled}
+use Rattle.bios_screen.proofs.Base.Tests.{both_true, same, lt_is, le_is}
+use Rattle.bios_screen.proofs.Base.Kept.{plan_beam}
+use Rattle.bios_screen.proofs.Modes.TextModes.Display.{Colour, Monochrome}
+use Rattle.bios_screen.proofs.Modes.PixelModes.Graphics.{Sixteen, Many}
+use Rattle.bios_screen.proofs.Modes.AnyModes.{Tabled, port_of, control_of}
+use Rattle.bios_screen.proofs.Modes.AnyModes.Tabled.{OfText, OfPixels}
+use Rattle.bios_screen.proofs.Shows.Any.{IsAny, any_screen, any_shown, still_any, any_control}
+use Rattle.bios_screen.proofs.Services.Cursors.{and_255}
+use Rattle.bios_screen.proofs.Services.Attributes.{with_attr, with_blinking, with_palette, register_set, blinking_set, palette_set, index_shown, register_read}
+use Rattle.bios_screen.proofs.Services.Dacs.{with_dac, IsLoaded, entries_loaded, entry_loaded, entry_read}
+
+-- what a subfunction leaves and answers
+pub record IsColoured (service : ColourService) (r : Regs) (block : List ℕ) (c : CardState) (d : BiosData) (s : Screen) : Type 0 where
+  pub answer : (run card_meaning (colours_plan service d.crtc_address r block) c).1 ≡ colours_answer s service r
+  pub shows : shown (run card_meaning (colours_plan service d.crtc_address r block) c).0 d ≡ Some (with_colours s service block)
+
+module _ (c : CardState) (d : BiosData) (h : IsAny c d) where
+  abbrev s : Screen
+  s = any_screen c d h c
+
+  abbrev registers : List ℕ
+  registers = c.attr.registers
+
+  pub port_is : d.crtc_address ≡ port_of h.kind
+  port_is = h.port
+
+  -- ---- the attribute controller
+
+  -- the test looks at bits of mode control, and at the registers behind the overscan
+  rest_is : ((bit_and (slice_index registers 0x10) 0xF7 == bit_and (slice_index h.row.attribute 0x10) 0xF7) && bytes_eq (drop 0x12 registers) (drop 0x12 h.row.attribute)) ≡ true
+  rest_is = (both_true (is_palette_shown c.attr) _ h.tests.attribute).1
+
+  attribute_stays : (l : List ℕ) (i : ℕ) → is_set i 5 ≡ true → bit_and (slice_index l 0x10) 0xF7 ≡ bit_and (slice_index registers 0x10) 0xF7 → drop 0x12 l ≡ drop 0x12 registers → shows_attribute h.row (with_attr c l i false).attr ≡ true
+  attribute_stays l i e control rest =
+      ap (λ b. b && ((bit_and (slice_index l 0x10) 0xF7 == bit_and (slice_index h.row.attribute 0x10) 0xF7) && bytes_eq (drop 0x12 l) (drop 0x12 h.row.attribute))) e
+      ∙ ap (λ n. (n == bit_and (slice_index h.row.attribute 0x10) 0xF7) && bytes_eq (drop 0x12 l) (drop 0x12 h.row.attribute)) control
+      ∙ ap (λ m. (bit_and (slice_index registers 0x10) 0xF7 == bit_and (slice_index h.row.attribute 0x10) 0xF7) && bytes_eq m (drop 0x12 h.row.attribute)) rest
+      ∙ rest_is
+
+  -- other registers show other colours
+  attribute_shown : (l : List ℕ) (i : ℕ) → is_set i 5 ≡ true → bit_and (slice_index l 0x10) 0xF7 ≡ bit_and (slice_index registers 0x10) 0xF7 → drop 0x12 l ≡ drop 0x12 registers → (values : List ℕ) (overscan : ℕ) (blink : Bool) → take 16 l ≡ values → slice_index l 0x11 ≡ overscan → is_set (slice_index l 0x10) 3 ≡ blink
+      → shown (with_attr c l i false) d ≡ Some (record s { palette = record s.palette { values = values }; overscan = overscan; is_blink = blink })
+  attribute_shown l i e control rest values overscan blink ev eo eb =
+      any_shown c (with_attr c l i false) d h refl refl (attribute_stays l i e control rest)
+      ∙ ap (λ k. let x : Screen = record s { palette = record s.palette { values = k }; overscan = slice_index l 0x11; is_blink = is_set (slice_index l 0x10) 3 } in Some x) ev
+      ∙ ap (λ k. let x : Screen = record s { palette = record s.palette { values = values }; overscan = k; is_blink = is_set (slice_index l 0x10) 3 } in Some x) eo
+      ∙ ap (λ k. let x : Screen = record s { palette = record s.palette { values = values }; overscan = overscan; is_blink = k } in Some x) eb
+
+  -- another DAC too
+  pub dac_shown : (new : DacState) → shown (with_dac c new) d ≡ Some (record s { palette = record s.palette { reds = new.reds; greens = new.greens; blues = new.blues; mask = new.mask } })
+  dac_shown new = any_shown c (with_dac c new) d h refl refl h.tests.attribute
+
+  loaded_shown : (y : CardState) (first count : ℕ) (block : List ℕ) → IsLoaded c y first count block → shown y d ≡ Some (with_entries s first count block)
+  loaded_shown y first count block t =
+      let p = s.palette in
+      let n = with_entries s first count block in
+      ap (λ x. shown x d) (ap (λ x. with_dac x y.dac) t.others)
+      ∙ dac_shown y.dac
+      ∙ ap (λ k. let x : Screen = record s { palette = record p { reds = k; greens = y.dac.greens; blues = y.dac.blues; mask = y.dac.mask } } in Some x) t.entries.reds
+      ∙ ap (λ k. let x : Screen = record s { palette = record p { reds = n.palette.reds; greens = k; blues = y.dac.blues; mask = y.dac.mask } } in Some x) t.entries.greens
+      ∙ ap (λ k. let x : Screen = record s { palette = record p { reds = n.palette.reds; greens = n.palette.greens; blues = k; mask = y.dac.mask } } in Some x) t.entries.blues
+      ∙ ap (λ k. let x : Screen = record n { palette = record n.palette { mask = k } } in Some x) (ap (λ x. x.dac.mask) t.others)
+
+  -- ---- services that set
+
+  -- a plan, and then the same registers
+  setting_served : (service : ColourService) (r : Regs) (block : List ℕ) (p : ℕ → Plan (Unit {0})) → colours_plan service d.crtc_address r block ≡ (p d.crtc_address >> Done r) → colours_answer s service r ≡ r → shown (run card_meaning (p (port_of h.kind)) c).0 d ≡ Some (with_colours s service block) → IsColoured service r block c d s
+  setting_served service r block p e a t =
+      let q = p d.crtc_address in
+      let done : Plan Regs = Done r in
+      record {
+        answer = ap (λ w. (run card_meaning w c).1) e ∙ then_answers q done c ∙ sym a;
+        shows = ap (λ w. shown (run card_meaning w c).0 d) e ∙ ap (λ x. shown x d) (then_runs q done c) ∙ ap (λ n. shown (run card_meaning (p n) c).0 d) port_is ∙ t;
+      }
+
+  masks_are : (i : ℕ) → i < 16 → slice_index attr_masks i ≡ 0x3F
+  masks_are i l = same (agree_below_at (λ n. slice_index attr_masks n == 0x3F) (λ _. true) 16 i refl l)
+
+  value_shown : (i v : ℕ) → i < 16 → shown (run card_meaning (set_register_plan (port_of h.kind) i v) c).0 d ≡ Some (with_value s i v)
+  value_shown i v l =
+      let x = six_bits v in
+      let new = slice_set registers i x in
+      let control : slice_index new 0x10 ≡ slice_index registers 0x10 = get_or-set_other registers i 0x10 x 0 (omega arith) in
+      ap (λ y. shown y d) (register_set h.kind c i v h.setting (omega arith))
+      ∙ ap (λ m. shown (with_attr c (slice_set registers i (bit_and v m)) 0x20 false) d) (masks_are i l)
+      ∙ attribute_shown new 0x20 refl (ap (λ n. bit_and n 0xF7) control) (drop-set-lt 0x12 registers i x (omega arith))
+      (slice_set s.palette.values i x) s.overscan s.is_blink (take-set-lt 16 registers i x l) (get_or-set_other registers i 0x11 x 0 (omega arith)) (ap (λ n. is_set n 3) control)
+
+  overscan_shown : (v : ℕ) → v < 256 → IsCard c → shown (run card_meaning (set_register_plan (port_of h.kind) 0x11 v) c).0 d ≡ Some (record s { overscan = v })
+  overscan_shown v l z =
+      let size = z.attr.size in
+      let new = slice_set registers 0x11 v in
+      let control : slice_index new 0x10 ≡ slice_index registers 0x10 = get_or-set_other registers 0x11 0x10 v 0 (omega arith) in
+      ap (λ y. shown y d) (register_set h.kind c 0x11 v h.setting (omega arith))
+      ∙ ap (λ m. shown (with_attr c (slice_set registers 0x11 m) 0x20 false) d) (and_255 v l)
+      ∙ attribute_shown new 0x20 refl (ap (λ n. bit_and n 0xF7) control) (drop-set-lt 0x12 registers 0x11 v (omega arith))
+      s.palette.values v s.is_blink (take-set-le 16 registers 0x11 v (omega arith)) (get_or-set_same registers 0x11 v 0 (omega arith)) (ap (λ n. is_set n 3) control)
+
+  palette_shown : (block : List ℕ) → AreBytes block → IsCard c → length block ≡ 17 → shown (run card_meaning (set_palette_plan (port_of h.kind) block) c).0 d ≡ Some (with_block s block)
+  palette_shown block bytes z e =
+      let values = take 16 block in
+      let v = slice_index block 16 in
+      let new = with_palette registers values v in
+      let last : drop 0x12 new ≡ drop 0x12 registers = sym (ap (drop 0x12) (spelled registers 21 z.attr.size)) in
+      ap (λ y. shown y d) (palette_set h.kind c block h.setting z (length-take-le 16 block (omega arith)))
+      ∙ attribute_shown new 0x20 refl refl last
+      (listing (λ i. six_bits (slice_index block i)) 0 16) v s.is_blink
+      (same_from_0 (λ i. six_bits (slice_index block i)) (λ i. six_bits (slice_index values i)) 16 (λ k l. ap six_bits (get_or-take 16 block k 0 l)))
+      (and_255 v (bytes 16)) refl
+
+  -- blinking is bit 3 of mode control, whose other bits are the mode's
+  blink_by : (k : Tabled) (b : ℕ) → b < 2 → (bit_and (bit_and (bit_or (control_of k) (8 * b)) 0xEF) 0xF7 ≡ control_of k) × (is_set (bit_and (bit_or (control_of k) (8 * b)) 0xEF) 3 ≡ (b == 1))
+  blink_by (OfText Colour) zero l = (refl, refl)
+  blink_by (OfText Colour) (suc zero) l = (refl, refl)
+  blink_by (OfText Monochrome) zero l = (refl, refl)
+  blink_by (OfText Monochrome) (suc zero) l = (refl, refl)
+  blink_by (OfPixels (Sixteen m)) zero l = (refl, refl)
+  blink_by (OfPixels (Sixteen m)) (suc zero) l = (refl, refl)
+  blink_by (OfPixels Many) zero l = (refl, refl)
+  blink_by (OfPixels Many) (suc zero) l = (refl, refl)
+  blink_by k (suc (suc b)) l = absurd (omega arith)
+
+  blink_shown : (b : ℕ) → b < 2 → IsCard c → shown (run card_meaning (set_blinking_plan (port_of h.kind) b) c).0 d ≡ Some (record s { is_blink = b == 1 })
+  blink_shown b l z =
+      let size = z.attr.size in
+      let v = bit_and (bit_or (bit_and (slice_index registers 0x10) 0xF7) (8 * b)) 0xEF in
+      let new = with_blinking registers b in
+      let at : slice_index new 0x10 ≡ v = get_or-set_same registers 0x10 v 0 (omega arith) in
+      let value : slice_index new 0x10 ≡ bit_and (bit_or (control_of h.kind) (8 * b)) 0xEF = at ∙ ap (λ n. bit_and (bit_or n (8 * b)) 0xEF) (any_control c d h) in
+      let by = blink_by h.kind b l in
+      ap (λ y. shown y d) (blinking_set h.kind c b h.setting)
+      ∙ attribute_shown new 0x20 refl (ap (λ n. bit_and n 0xF7) value ∙ by.0 ∙ sym (any_control c d h)) (drop-set-lt 0x12 registers 0x10 v (omega arith))
+      s.palette.values s.overscan (b == 1) (take-set-le 16 registers 0x10 v (omega arith)) (get_or-set_other registers 0x10 0x11 v 0 (omega arith)) (ap (λ n. is_set n 3) value ∙ by.1)
+
+  mask_by : (v : ℕ) → (run card_meaning (out 0x3C6 v) c).0 ≡ with_dac c (record c.dac { mask = v })
+  unfolding reached_by out_at
+  mask_by v = refl
+
+  -- ---- services that read
+
+  -- a register of the attribute controller is read into BH
+  register_in_bh : (i : ℕ) (r : Regs) → i < 18 → run card_meaning (read_register_in_bh d.crtc_address i r) c ≡ (with_attr c registers (0x20 + i) false, record r { bx = with_high r.bx (slice_index registers i) })
+  unfolding read_register_in_bh
+  register_in_bh i r l =
+      let done : ℕ → Plan Regs = λ value. Done (record r { bx = with_high r.bx value }) in
+      run_bind card_meaning (read_register_plan d.crtc_address i) done c
+      ∙ ap (λ p. let x = run card_meaning (read_register_plan p i) c in run card_meaning (done x.1) x.0) port_is
+      ∙ ap (λ (x : CardState × ℕ). run card_meaning (done x.1) x.0) (register_read h.kind c i h.setting l)
+
+  pub index_moved : (i : ℕ) → i < 18 → shown (with_attr c registers (0x20 + i) false) d ≡ Some s
+  index_moved i l = attribute_shown registers (0x20 + i) (index_shown i l) refl refl s.palette.values s.overscan s.is_blink refl refl refl
+
+  mask_read : (r : Regs) → run card_meaning (read_mask_in_bl r) c ≡ (c, record r { bx = with_low r.bx c.dac.mask })
+  unfolding read_mask_in_bl reached_by inp_at
+  mask_read r = refl
+
+  -- ---- what is known where they are not refused
+
+  register_allowed : (i : ℕ) → (let x : Option Refusal = (if nat_lt i 0x10 then None else Some BadRegister) in x) ≡ None → i < 16
+  register_allowed i e = by_test (nat_lt i 0x10) refl e
+    where
+      by_test : (b : Bool) → nat_lt i 0x10 ≡ b → (let x : Option Refusal = (if b then None else Some BadRegister) in x) ≡ None → i < 16
+      by_test true t e = lt_is i 0x10 t
+      by_test false t e = absurd (cc)
+
+  entry_allowed : (i : ℕ) → (let x : Option Refusal = (if nat_lt i 0x100 then None else Some BadRegister) in x) ≡ None → i < 256
+  entry_allowed i e = by_test (nat_lt i 0x100) refl e
+    where
+      by_test : (b : Bool) → nat_lt i 0x100 ≡ b → (let x : Option Refusal = (if b then None else Some BadRegister) in x) ≡ None → i < 256
+      by_test true t e = lt_is i 0x100 t
+      by_test false t e = absurd (cc)
+
+  blink_allowed : (b : ℕ) → (let x : Option Refusal = (if nat_le b 1 then None else Some BadRegister) in x) ≡ None → b < 2
+  blink_allowed b e = by_test (nat_le b 1) refl e
+    where
+      by_test : (t : Bool) → nat_le b 1 ≡ t → (let x : Option Refusal = (if t then None else Some BadRegister) in x) ≡ None → b < 2
+      by_test true t e = let z = le_is b 1 t in omega arith
+      by_test false t e = absurd (cc)
+
+  block_allowed : (n taken : ℕ) → (let x : Option Refusal = (if n == taken then None else Some BadBlock) in x) ≡ None → n ≡ taken
+  block_allowed n taken e = by_test (n == taken) refl e
+    where
+      by_test : (b : Bool) → (n == taken) ≡ b → (let x : Option Refusal = (if b then None else Some BadBlock) in x) ≡ None → n ≡ taken
+      by_test true t e = same t
+      by_test false t e = absurd (cc)
+
+  record EntriesAllowed (first count len : ℕ) : Type 0 where
+    begin : first < 256
+    all : first + count ≤ 256
+    whole : len ≡ 3 * count
+
+  entries_allowed : (first count len : ℕ) → (let x : Option Refusal = (if has_entries first count then (if len == 3 * count then None else Some BadBlock) else Some BadRegister) in x) ≡ None → EntriesAllowed first count len
+  entries_allowed first count len e = by_tests (has_entries first count) (len == 3 * count) refl refl e
+    where
+      by_tests : (a b : Bool) → has_entries first count ≡ a → (len == 3 * count) ≡ b → (let x : Option Refusal = (if a then (if b then None else Some BadBlock) else Some BadRegister) in x) ≡ None → EntriesAllowed first count len
+      by_tests true true t u e = let both = both_true (nat_lt first 0x100) (nat_le (first + count) 0x100) t in record { begin = lt_is first 0x100 both.0; all = le_is (first + count) 0x100 both.1; whole = same u }
+      by_tests true false t u e = absurd (cc)
+      by_tests false b t u e = absurd (cc)
+
+  -- ---- each subfunction
+
+  pub is_coloured : (service : ColourService) (r : Regs) (block : List ℕ) → FitsBytes service → AreBytes block → IsCard c → colour_refusal service (length block) ≡ None → IsColoured service r block c d s
+  unfolding colour_refusal colours_plan with_colours colours_answer
+  is_coloured (SetRegister i v) r block fits bytes z e = setting_served (SetRegister i v) r block (λ p. set_register_plan p i v) refl refl (value_shown i v (register_allowed i e))
+  is_coloured (SetOverscan v) r block fits bytes z e = setting_served (SetOverscan v) r block (λ p. set_register_plan p 0x11 v) refl refl (overscan_shown v fits z)
+  is_coloured SetPalette r block fits bytes z e = setting_served SetPalette r block (λ p. set_palette_plan p block) refl refl (palette_shown block bytes z (block_allowed (length block) 17 e))
+  is_coloured (SetBlinking b) r block fits bytes z e = setting_served (SetBlinking b) r block (λ p. set_blinking_plan p b) refl refl (blink_shown b (blink_allowed b e) z)
+  is_coloured (ReadRegister i) r block fits bytes z e =
+      let l = register_allowed i e in
+      let runs = register_in_bh i r (omega arith) in
+      record {
+        answer = ap (λ x. x.1) runs ∙ ap (λ n. let x : Regs = record r { bx = with_high r.bx n } in x) (sym (get_or-take 16 registers i 0 l));
+        shows = ap (λ x. shown x.0 d) runs ∙ index_moved i (omega arith);
+      }
+  is_coloured ReadOverscan r block fits bytes z e =
+      let runs = register_in_bh 0x11 r (omega arith) in
+      record { answer = ap (λ x. x.1) runs; shows = ap (λ x. shown x.0 d) runs ∙ index_moved 0x11 (omega arith) }
+  is_coloured (SetEntry entry red green blue) r block fits bytes z e =
+      setting_served (SetEntry entry red green blue) r block (λ p. set_entry_plan entry red green blue) refl refl
+      (loaded_shown (run card_meaning (set_entry_plan entry red green blue) c).0 entry 1 (red ∷ green ∷ blue ∷ []) (entry_loaded c entry red green blue z.dac (entry_allowed entry e)))
+  is_coloured (SetEntries first count) r block fits bytes z e =
+      let a = entries_allowed first count (length block) e in
+      setting_served (SetEntries first count) r block (λ p. set_entries_plan first block) refl refl
+      (loaded_shown (run card_meaning (set_entries_plan first block) c).0 first count block (entries_loaded c first count block z.dac a.all a.begin a.whole))
+  is_coloured (ReadEntry entry) r block fits bytes z e =
+      let runs = entry_read c entry r in
+      record { answer = ap (λ x. x.1) runs; shows = ap (λ x. shown x.0 d) runs ∙ dac_shown (record c.dac { index = (entry + 1) % 256; component = Red }) }
+  is_coloured (SetMask mask) r block fits bytes z e =
+      setting_served (SetMask mask) r block (λ p. out 0x3C6 mask) refl refl (ap (λ y. shown y d) (mask_by mask) ∙ dac_shown (record c.dac { mask = mask }))
+  is_coloured ReadMask r block fits bytes z e =
+      let runs = mask_read r in
+      record { answer = ap (λ x. x.1) runs; shows = ap (λ x. shown x.0 d) runs ∙ still_any c d h }
+
+-- ---- function 10
+
+pub set_colours : (service : ColourService) (fonts : FontSet) (r : Regs) (block : List ℕ) (c : CardState) (d : BiosData) (h : IsAny c d) → FitsBytes service → AreBytes block → IsCard c → IsServed (Colours service) fonts r block c d (any_screen c d h c)
+unfolding plan_of refusal_in_mode refusal_on next answer_on
+set_colours service fonts r block c d h fits bytes z =
+    let plan = colours_plan service d.crtc_address r block in
+    let done : Regs → Plan Outcome = λ after. Done (after, d) in
+    let runs = run_bind card_meaning plan done c in
+    record {
+      refusal = refl;
+      answer = λ e. ap (λ x. x.1.0) runs ∙ (is_coloured c d h service r block fits bytes z e).answer;
+      shows = λ e. ap (λ x. shown x.0 x.1.1) runs ∙ (is_coloured c d h service r block fits bytes z e).shows;
+      beam = plan_beam (plan >>= done) c;
+    }

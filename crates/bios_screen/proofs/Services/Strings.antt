@@ -1,0 +1,125 @@
+-- Typing a string: from a state that shows a screen to one that shows the next.
+use Rattle.std.proofs.Common.{◌≡◌, ℕ, zero, suc, ◌+◌, ◌*◌, ◌<◌, refl, ap, ◌∙◌, List, length, Option, Some, None, Bool, true, false}
+use Rattle.std.specs.Prelude.{◌&&◌, nat_lt, if◌then◌else◌, slice_index}
+use Rattle.vga_bits.specs.declared.refusal.Refusal.{Refusal}
+use Rattle.vga_bits.specs.declared.refusal.Refusal.TheVariants.{BadPage, Outside}
+use Rattle.vga_card.specs.Bounds.{IsCard}
+use Rattle.vga_card.specs.Bus.{card_meaning}
+use Rattle.vga_card.specs.Card.{CardState}
+use Rattle.bios_modes.specs.declared.modes.ModeRow.{ModeRow}
+use Rattle.bios_modes.specs.Bda.{BiosData}
+use Rattle.bios_modes.specs.Bounds.{IsBda, AreBytes}
+use Rattle.bios_modes.specs.Fonts.{FontSet}
+use Rattle.bios_modes.specs.Heights.{row_at}
+use Rattle.bios_services.specs.declared.regs.Regs.{Regs}
+use Rattle.bios_services.specs.declared.strings.StringCall.{StringCall}
+use Rattle.bios_services.specs.declared.call.Service.TheVariants.{WriteString}
+use Rattle.bios_services.specs.Plan.{Plan, run, Done, fold}
+use Rattle.bios_services.specs.Bounds.{pages_in, pages_of}
+use Rattle.bios_services.specs.Colours.{block_refusal}
+use Rattle.bios_services.specs.Cursor.{row_of, column_of, move_cursor_plan}
+use Rattle.bios_services.specs.Teletype.{type_plan}
+use Rattle.bios_services.specs.Strings.{string_len, character_at, ink_at, type_string_plan, string_plan}
+use Rattle.bios_services.specs.Refusals.{page_named, string_refusal, refusal_in_mode, is_inside as is_on_page}
+use Rattle.bios_services.specs.Service.{plan_of}
+use Rattle.bios_screen.specs.Screen.{Screen}
+use Rattle.bios_screen.specs.Shown.{shown}
+use Rattle.bios_screen.specs.Step.{page_meant, string_refusal_on, refusal_on, next, answer_on, type_character, type_characters, type_string, with_place as placed_on}
+use Rattle.bios_screen.specs.Served.{IsServed}
+use Rattle.bios_screen.proofs.Base.Plans.{run_bind}
+use Rattle.bios_screen.proofs.Base.Kept.{KeepsBounds, plan_bounds, plan_beam}
+use Rattle.bios_screen.proofs.Base.Tests.{lt_is}
+use Rattle.bios_screen.proofs.Shows.Any.{IsAny, any_screen, still_any}
+use Rattle.bios_screen.proofs.Services.AnyReaders.{any_meant}
+use Rattle.bios_screen.proofs.Services.Cursors.{then_data, data_runs}
+use Rattle.bios_screen.proofs.Base.TypedPlaces.{Inside}
+use Rattle.bios_screen.proofs.Services.Typing.{page_of, LeadsInside, leads_on, is_typed}
+use Rattle.bios_screen.proofs.Services.Teletypes.{le_lt, can_type, moved}
+
+-- ---- characters one after another
+
+module _ (law : KeepsBounds) (fonts : FontSet) (d : BiosData) (p : ℕ) (lp : p < pages_of d) (call : StringCall) (block : List ℕ) (bytes : AreBytes block) (colour : call.colour < 256) where
+  ink_small : (i : ℕ) → (ink_at call block i).colour < 256
+  ink_small i = by_test call.has_attributes
+    where
+      by_test : (b : Bool) → (if b then slice_index block (2 * i + 1) else call.colour) < 256
+      by_test true = bytes (2 * i + 1)
+      by_test false = colour
+
+  -- one character of the string
+  abbrev one : ℕ → ℕ → Plan ℕ
+  one i place = type_plan fonts d p place (character_at call block i) (ink_at call block i)
+
+  -- n characters from character i on
+  all_typed : (n i place : ℕ) (c : CardState) (s : Screen) → shown c d ≡ Some s → IsCard c → Inside (d.last_row + 1) d.columns place → LeadsInside (fold one n i place) c d (type_characters fonts call block p n i (s, place))
+  all_typed zero i place c s e z l = record { leads = record { answer = refl; shows = e }; inside = l }
+  all_typed (suc n) i place c s e z l =
+      let v = character_at call block i in
+      let ink = ink_at call block i in
+      let t = is_typed law fonts d p (can_type law fonts d p lp) c s place v ink z e l (bytes _) (ink_small i) in
+      let after = type_character fonts s p place v ink in
+      let rest = all_typed n (i + 1) after.1 (run card_meaning (one i place) c).0 after.0 t.leads.shows (plan_bounds law (one i place) c z) t.inside in
+      record {
+        leads = leads_on (one i place) (fold one n (i + 1)) c d after (type_characters fonts call block p n (i + 1) after) t.leads rest.leads;
+        inside = rest.inside;
+      }
+
+  string_shown : (c : CardState) (s : Screen) → shown c d ≡ Some s → IsCard c → IsBda d → Inside (d.last_row + 1) d.columns call.place → (let x = run card_meaning (string_plan fonts d p call block) c in shown x.0 x.1) ≡ Some (type_string fonts s p call block)
+  unfolding string_plan type_string_plan
+  string_shown c s e z bda l = ap (λ y. shown y.0 y.1) (run_bind card_meaning (type_string_plan fonts d p call block) cursor c) ∙ ap (λ k. let y = run card_meaning (cursor k) c1 in shown y.0 y.1) all.leads.answer ∙ by_test call.moves_cursor
+    where
+      after : Screen × ℕ
+      after = type_characters fonts call block p call.count 0 (s, call.place)
+
+      cursor : ℕ → Plan BiosData
+      cursor place = if call.moves_cursor then move_cursor_plan d p place else Done d
+
+      c1 : CardState
+      c1 = (run card_meaning (fold one call.count 0 call.place) c).0
+
+      all : LeadsInside (fold one call.count 0 call.place) c d after
+      all = all_typed call.count 0 call.place c s e z l
+
+      by_test : (b : Bool) → (let q : Plan BiosData = (if b then move_cursor_plan d p after.1 else Done d) in shown (run card_meaning q c1).0 (run card_meaning q c1).1) ≡ Some (if b then placed_on after.0 p after.1 else after.0)
+      by_test true = moved c1 d after.0 p after.1 all.leads.shows bda lp all.inside
+      by_test false = all.leads.shows
+
+-- ---- function 13
+
+string_refusal_is : (c : CardState) (d : BiosData) (h : IsAny c d) (call : StringCall) (len : ℕ) → string_refusal d call len ≡ string_refusal_on (any_screen c d h c) call len
+string_refusal_is c d h call len =
+    let wrong = block_refusal len (string_len call) in
+    ap (λ p. let y : Option Refusal = (if nat_lt p (pages_in (row_at d.mode d.height)) then (if is_on_page d call.place then wrong else Some Outside) else Some BadPage) in y) (any_meant c d h call.page)
+    ∙ ap (λ (x : Option ModeRow). let y : Option Refusal = (if nat_lt (page_meant (any_screen c d h c) call.page) (pages_in x) then (if is_on_page d call.place then wrong else Some Outside) else Some BadPage) in y) h.mode
+    ∙ ap (λ b. let y : Option Refusal = (if nat_lt (page_meant (any_screen c d h c) call.page) h.row.pages then (if b && nat_lt (column_of call.place) d.columns then wrong else Some Outside) else Some BadPage) in y) (le_lt (row_of call.place) d.last_row)
+
+record StringAllowed (pages p rows columns place : ℕ) : Type 0 where
+  page : p < pages
+  inside : Inside rows columns place
+
+string_allowed : (pages p rows columns place : ℕ) (wrong : Option Refusal) → (let x : Option Refusal = (if nat_lt p pages then (if nat_lt (row_of place) rows && nat_lt (column_of place) columns then wrong else Some Outside) else Some BadPage) in x) ≡ None → StringAllowed pages p rows columns place
+string_allowed pages p rows columns place wrong h = by_tests (nat_lt p pages) (nat_lt (row_of place) rows) (nat_lt (column_of place) columns) refl refl refl h
+  where
+    by_tests : (a b e : Bool) → nat_lt p pages ≡ a → nat_lt (row_of place) rows ≡ b → nat_lt (column_of place) columns ≡ e → (let x : Option Refusal = (if a then (if b && e then wrong else Some Outside) else Some BadPage) in x) ≡ None → StringAllowed pages p rows columns place
+    by_tests true true true q f g i = record { page = lt_is p pages q; inside = record { row = lt_is (row_of place) rows f; column = lt_is (column_of place) columns g } }
+    by_tests true true false q f g i = absurd (cc)
+    by_tests true false e q f g i = absurd (cc)
+    by_tests false b e q f g i = absurd (cc)
+
+pub write_string : (law : KeepsBounds) (call : StringCall) (fonts : FontSet) (r : Regs) (block : List ℕ) (c : CardState) (d : BiosData) (h : IsAny c d) → AreBytes block → call.colour < 256 → IsCard c → IsBda d → IsServed (WriteString call) fonts r block c d (any_screen c d h c)
+unfolding plan_of refusal_in_mode refusal_on next answer_on
+write_string law call fonts r block c d h bytes colour z bda =
+    let s = any_screen c d h c in
+    let p = page_named d call.page in
+    let q = page_meant s call.page in
+    let runs = data_runs (string_plan fonts d p call block) r c in
+    record {
+      refusal = string_refusal_is c d h call (length block);
+      answer = λ _. ap (λ x. x.1.0) runs;
+      shows = λ allowed.
+          let a = string_allowed h.row.pages q (d.last_row + 1) d.columns call.place (block_refusal (length block) (string_len call)) allowed in
+          ap (λ x. shown x.0 x.1.1) runs
+          ∙ ap (λ n. let x = run card_meaning (string_plan fonts d n call block) c in shown x.0 x.1) (any_meant c d h call.page)
+          ∙ string_shown law fonts d q (page_of d h.row q h.mode a.page) call block bytes colour c s (still_any c d h) z bda a.inside;
+      beam = plan_beam (then_data (string_plan fonts d p call block) r) c;
+    }

@@ -1,0 +1,202 @@
+-- Calls for tables: from a state that shows a screen, its palette or some of its entries are replied, and it stays.
+use Rattle.std.proofs.Common.{◌≡◌, ℕ, zero, suc, ◌+◌, ◌*◌, ◌%◌, ◌<◌, ◌≤◌, refl, sym, ap, ◌∙◌, subst, arith, List, [], ◌∷◌, ◌++◌, Option, Some, None, Bool, true, false, Err}
+use Rattle.std.specs.Prelude.{nat_lt, nat_le, if◌then◌else◌, slice_index, take}
+use Rattle.vga_bits.specs.declared.refusal.Refusal.{Refusal}
+use Rattle.vga_bits.specs.declared.refusal.Refusal.TheVariants.{NoMode, BadRegister}
+use Rattle.vga_dac.specs.declared.component.Component.TheVariants.{Red}
+use Rattle.vga_card.specs.Bounds.{IsCard}
+use Rattle.vga_card.specs.Bus.{card_meaning}
+use Rattle.vga_card.specs.Card.{CardState}
+use Rattle.vga_card.specs.Port.{port_of as reached_by, crtc_port_of}
+use Rattle.vga_card.specs.Cycles.{out_at, inp_at}
+use Rattle.bios_modes.specs.Bda.{BiosData}
+use Rattle.bios_modes.specs.Fonts.{FontSet}
+use Rattle.bios_services.specs.declared.regs.Regs.{Regs}
+use Rattle.bios_services.specs.declared.reply.Table.{Table}
+use Rattle.bios_services.specs.declared.reply.Table.TheVariants.{Palette as PaletteTable, Dac as DacTable}
+use Rattle.bios_services.specs.declared.tables.TableService.{TableService}
+use Rattle.bios_services.specs.declared.tables.TableService.TheVariants.{ReadPalette, ReadEntries}
+use Rattle.bios_services.specs.declared.call.Call.{Call}
+use Rattle.bios_services.specs.declared.call.Call.TheVariants.{ReadTable}
+use Rattle.bios_services.specs.Plan.{Plan, run, Done, out, inp, gather, ◌>>=◌}
+use Rattle.bios_services.specs.Palette.{register_plan}
+use Rattle.bios_services.specs.Tables.{table_refusal, registers_plan, read_palette_plan, read_components_plan, read_entries_plan, table_plan}
+use Rattle.bios_services.specs.Colours.{has_entries}
+use Rattle.bios_services.specs.Calls.{call_of}
+use Rattle.bios_services.specs.Service.{Answered, answer_with, refuse, table_unless, table_in_mode_plan, call_plan}
+use Rattle.bios_screen.specs.Listing.{listing}
+use Rattle.bios_screen.specs.Screen.{Screen}
+use Rattle.bios_screen.specs.Shown.{palette_in, shown}
+use Rattle.bios_screen.specs.Colours.{entries_from, table_answer}
+use Rattle.bios_screen.specs.Served.{after_call}
+use Rattle.bios_screen.specs.Called.{IsRead, WantsMemory, IsLeft, table_unless as replied_unless}
+use Rattle.bios_screen.proofs.Base.Plans.{run_bind}
+use Rattle.bios_screen.proofs.Base.Lists.{spelled}
+use Rattle.bios_screen.proofs.Base.Tests.{both_true, lt_is, le_is}
+use Rattle.bios_screen.proofs.Base.Kept.{plan_beam}
+use Rattle.bios_screen.proofs.Base.Setting.{setting, card_at}
+use Rattle.bios_screen.proofs.Modes.TextModes.Display.{Colour, Monochrome}
+use Rattle.bios_screen.proofs.Modes.PixelModes.Planes.{Low, Middle, High}
+use Rattle.bios_screen.proofs.Modes.PixelModes.Graphics.{Sixteen, Many}
+use Rattle.bios_screen.proofs.Modes.AnyModes.{Tabled, setting_of, port_of}
+use Rattle.bios_screen.proofs.Modes.AnyModes.Tabled.{OfText, OfPixels}
+use Rattle.bios_screen.proofs.Shows.Screens.{mode_of_shown}
+use Rattle.bios_screen.proofs.Shows.Any.{IsAny, any_screen, any_is}
+use Rattle.bios_screen.proofs.Services.Attributes.{with_attr}
+use Rattle.bios_screen.proofs.Services.Dacs.{with_dac}
+use Rattle.bios_screen.proofs.Services.Palette.{port_is, index_moved, dac_shown}
+
+-- ---- the palette is read
+
+-- sixteen values and then the overscan
+abbrev values_of : List ℕ → List ℕ
+values_of l = take 16 l ++ slice_index l 0x11 ∷ []
+
+palette_by : (mode : Tabled) (c : CardState) (l : List ℕ) → run card_meaning (read_palette_plan (port_of mode)) (with_attr (card_at c (setting_of mode)) (listing (slice_index l) 0 21) c.attr.index c.attr.is_data) ≡ (with_attr (card_at c (setting_of mode)) (listing (slice_index l) 0 21) 0x31 false, values_of (listing (slice_index l) 0 21))
+unfolding read_palette_plan registers_plan register_plan reached_by crtc_port_of out_at inp_at
+palette_by (OfText Colour) c l = refl
+palette_by (OfText Monochrome) c l = refl
+palette_by (OfPixels (Sixteen Low)) c l = refl
+palette_by (OfPixels (Sixteen Middle)) c l = refl
+palette_by (OfPixels (Sixteen High)) c l = refl
+palette_by (OfPixels Many) c l = refl
+
+palette_read : (mode : Tabled) (c : CardState) → setting c ≡ setting_of mode → IsCard c → run card_meaning (read_palette_plan (port_of mode)) c ≡ (with_attr c c.attr.registers 0x31 false, values_of c.attr.registers)
+palette_read mode c e z =
+    let l = c.attr.registers in
+    let plan = read_palette_plan (port_of mode) in
+    let whole = spelled l 21 z.attr.size in
+    ap (λ x. run card_meaning plan (card_at c x)) e
+    ∙ ap (λ k. run card_meaning plan (with_attr (card_at c (setting_of mode)) k c.attr.index c.attr.is_data)) whole
+    ∙ palette_by mode c l
+    ∙ ap (λ k. let p : CardState × List ℕ = (with_attr (card_at c (setting_of mode)) k 0x31 false, values_of k) in p) (sym whole)
+    ∙ ap (λ x. let p : CardState × List ℕ = (with_attr (card_at c x) l 0x31 false, values_of l) in p) (sym e)
+
+-- ---- entries are read
+
+-- the DAC stands before red of an entry
+abbrev at_entry : CardState → ℕ → CardState
+at_entry c k = with_dac c (record c.dac { index = k; component = Red })
+
+abbrev next_byte : ℕ → Plan ℕ
+next_byte i = inp 0x3C9
+
+abbrev with_byte : ℕ → List ℕ → Plan (List ℕ)
+with_byte x l = Done (x ∷ l)
+
+three_more : (p : Plan (List ℕ)) (x y z : ℕ) (c : CardState) → run card_meaning (((p >>= with_byte z) >>= with_byte y) >>= with_byte x) c ≡ (let r = run card_meaning p c in let q : CardState × List ℕ = (r.0, x ∷ y ∷ z ∷ r.1) in q)
+three_more p x y z c =
+    run_bind card_meaning ((p >>= with_byte z) >>= with_byte y) (with_byte x) c
+    ∙ ap (λ (r : CardState × List ℕ). run card_meaning (with_byte x r.1) r.0) (run_bind card_meaning (p >>= with_byte z) (with_byte y) c)
+    ∙ ap (λ (r : CardState × List ℕ). let q : CardState × List ℕ = (r.0, x ∷ y ∷ r.1) in q) (run_bind card_meaning p (with_byte z) c)
+
+entry_by : (c : CardState) (n i k : ℕ) → run card_meaning (gather next_byte (suc (suc (suc n))) i) (at_entry c k) ≡ run card_meaning (((gather next_byte n (i + 1 + 1 + 1) >>= with_byte (slice_index c.dac.blues k)) >>= with_byte (slice_index c.dac.greens k)) >>= with_byte (slice_index c.dac.reds k)) (at_entry c ((k + 1) % 256))
+unfolding reached_by inp_at
+entry_by c n i k = refl
+
+-- so many entries from one on
+entries_by : (c : CardState) (n i k : ℕ) → k + n ≤ 256 → run card_meaning (gather next_byte (3 * n) i) (at_entry c (k % 256)) ≡ (at_entry c ((k + n) % 256), entries_from (palette_in c) k n)
+entries_by c zero i k l = let z : k ≡ k + 0 = omega arith in ap (λ j. let p : CardState × List ℕ = (at_entry c (j % 256), []) in p) z
+entries_by c (suc n) i k l =
+    let count : 3 * suc n ≡ suc (suc (suc (3 * n))) = omega arith in
+    let small : k % 256 ≡ k = omega arith in
+    let all : k + 1 + n ≡ k + suc n = omega arith in
+    let red = slice_index c.dac.reds k in
+    let green = slice_index c.dac.greens k in
+    let blue = slice_index c.dac.blues k in
+    ap (λ m. run card_meaning (gather next_byte m i) (at_entry c (k % 256))) count
+    ∙ ap (λ j. run card_meaning (gather next_byte (suc (suc (suc (3 * n)))) i) (at_entry c j)) small
+    ∙ entry_by c (3 * n) i k
+    ∙ three_more (gather next_byte (3 * n) (i + 1 + 1 + 1)) red green blue (at_entry c ((k + 1) % 256))
+    ∙ ap (λ (x : CardState × List ℕ). let p : CardState × List ℕ = (x.0, red ∷ green ∷ blue ∷ x.1) in p) (entries_by c n (i + 1 + 1 + 1) (k + 1) (omega arith))
+    ∙ ap (λ j. let p : CardState × List ℕ = (at_entry c (j % 256), entries_from (palette_in c) k (suc n)) in p) all
+
+index_by : (c : CardState) (v : ℕ) → (run card_meaning (out 0x3C7 v) c).0 ≡ at_entry c v
+unfolding reached_by out_at
+index_by c v = refl
+
+entries_read : (c : CardState) (first count : ℕ) → first < 256 → first + count ≤ 256 → run card_meaning (read_entries_plan first count) c ≡ (at_entry c ((first + count) % 256), entries_from (palette_in c) first count)
+unfolding read_entries_plan read_components_plan
+entries_read c first count begin few =
+    let small : first ≡ first % 256 = omega arith in
+    run_bind card_meaning (out 0x3C7 first) (λ _. gather next_byte (3 * count) 0) c
+    ∙ ap (λ s. run card_meaning (gather next_byte (3 * count) 0) s) (index_by c first)
+    ∙ ap (λ j. run card_meaning (gather next_byte (3 * count) 0) (at_entry c j)) small
+    ∙ entries_by c count 0 first few
+
+-- ---- a table that is not refused
+
+record EntriesAllowed (first count : ℕ) : Type 0 where
+  begin : first < 256
+  all : first + count ≤ 256
+
+entries_allowed : (first count : ℕ) → (let x : Option Refusal = (if has_entries first count then None else Some BadRegister) in x) ≡ None → EntriesAllowed first count
+entries_allowed first count e = by_test (has_entries first count) refl e
+  where
+    by_test : (b : Bool) → has_entries first count ≡ b → (let x : Option Refusal = (if b then None else Some BadRegister) in x) ≡ None → EntriesAllowed first count
+    by_test true t e = let both = both_true (nat_lt first 0x100) (nat_le (first + count) 0x100) t in record { begin = lt_is first 0x100 both.0; all = le_is (first + count) 0x100 both.1 }
+    by_test false t e = absurd (cc)
+
+record IsTable (service : TableService) (c : CardState) (d : BiosData) (s : Screen) : Type 0 where
+  answer : (run card_meaning (table_plan service d.crtc_address) c).1 ≡ table_answer s service
+  shows : shown (run card_meaning (table_plan service d.crtc_address) c).0 d ≡ Some s
+
+is_table : (service : TableService) (c : CardState) (d : BiosData) (h : IsAny c d) → IsCard c → table_refusal service ≡ None → IsTable service c d (any_screen c d h c)
+unfolding table_plan
+is_table ReadPalette c d h z e =
+    let done : List ℕ → Plan Table = λ values. Done (PaletteTable values) in
+    let runs =
+    run_bind card_meaning (read_palette_plan d.crtc_address) done c
+    ∙ ap (λ p. let x = run card_meaning (read_palette_plan p) c in run card_meaning (done x.1) x.0) (port_is c d h)
+    ∙ ap (λ (x : CardState × List ℕ). run card_meaning (done x.1) x.0) (palette_read h.kind c h.setting z) in
+    record { answer = ap (λ x. x.1) runs; shows = ap (λ x. shown x.0 d) runs ∙ index_moved c d h 0x11 (omega arith) }
+is_table (ReadEntries first count) c d h z e =
+    let a = entries_allowed first count e in
+    let done : List ℕ → Plan Table = λ values. Done (DacTable values) in
+    let runs =
+    run_bind card_meaning (read_entries_plan first count) done c
+    ∙ ap (λ (x : CardState × List ℕ). run card_meaning (done x.1) x.0) (entries_read c first count a.begin a.all) in
+    record { answer = ap (λ x. x.1) runs; shows = ap (λ x. shown x.0 d) runs ∙ dac_shown c d h (record c.dac { index = (first + count) % 256; component = Red }) }
+
+-- ---- the call
+
+call_read : (service : TableService) (fonts : FontSet) (r : Regs) (block : List ℕ) (c : CardState) (d : BiosData) (h : IsAny c d) → IsCard c → shown c d ≡ Some (any_screen c d h c) → call_of r ≡ Some (ReadTable service) → IsRead service fonts r block c d (any_screen c d h c)
+unfolding table_in_mode_plan table_unless
+call_read service fonts r block c d h z old e = by_refusal (table_refusal service) refl
+  where
+    done : Table → Plan Answered
+    done table = Done (answer_with table r d)
+
+    runs : after_call fonts r block c d ≡ run card_meaning (table_unless (table_refusal service) service d r) c
+    runs =
+        ap (λ (q : Option Call). run card_meaning (call_plan q fonts d r block) c) e
+        ∙ ap (λ b. run card_meaning (if b then refuse NoMode d else table_unless (table_refusal service) service d r) c) (mode_of_shown c d (any_screen c d h c) old).set
+
+    beam_is : (after_call fonts r block c d).0.crtc.beam ≡ c.crtc.beam
+    beam_is = ap (λ y. y.0.crtc.beam) runs ∙ plan_beam (table_unless (table_refusal service) service d r) c
+
+    by_refusal : (x : Option Refusal) → table_refusal service ≡ x → IsRead service fonts r block c d (any_screen c d h c)
+    by_refusal (Some why) q =
+        let all : after_call fonts r block c d ≡ (c, (Err why, d)) = runs ∙ ap (λ x. run card_meaning (table_unless x service d r) c) q in
+        record {
+          reply = ap (λ x. x.1.0) all ∙ sym (ap (λ x. replied_unless x (table_answer (any_screen c d h c) service) r) q);
+          shows = ap (λ x. shown x.0 x.1.1) all ∙ old;
+          beam = beam_is;
+        }
+    by_refusal None q =
+        let t = is_table service c d h z q in
+        let all = runs ∙ ap (λ x. run card_meaning (table_unless x service d r) c) q ∙ run_bind card_meaning (table_plan service d.crtc_address) done c in
+        record {
+          reply = ap (λ x. x.1.0) all ∙ ap (λ k. replied_unless None k r) t.answer ∙ sym (ap (λ x. replied_unless x (table_answer (any_screen c d h c) service) r) q);
+          shows = ap (λ x. shown x.0 x.1.1) all ∙ t.shows;
+          beam = beam_is;
+        }
+
+pub tables_read : (service : TableService) (fonts : FontSet) (r : Regs) (block : List ℕ) (c : CardState) (d : BiosData) (s : Screen) → IsCard c → shown c d ≡ Some s → call_of r ≡ Some (ReadTable service) → IsRead service fonts r block c d s
+tables_read service fonts r block c d s z old e =
+    let x = any_is c d s old in
+    subst (IsRead service fonts r block c d) x.screen (call_read service fonts r block c d x.is z (old ∙ ap Some (sym x.screen)) e)
+
+-- where there is no memory nothing has changed
+pub memory_wanted : (fonts : FontSet) (r : Regs) (block : List ℕ) (c y : CardState) (d after : BiosData) (s : Screen) → shown c d ≡ Some s → WantsMemory fonts r block c d y after → IsLeft c s y after
+memory_wanted fonts r block c y d after s old h = record { shows = ap (λ x. shown x after) h.0 ∙ ap (shown c) h.1 ∙ old; beam = ap (λ x. x.crtc.beam) h.0 }

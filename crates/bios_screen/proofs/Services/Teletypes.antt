@@ -1,0 +1,111 @@
+-- Typing at the cursor of the active page: from a state that shows a screen to one that shows the next.
+use Rattle.std.proofs.Common.{◌≡◌, ℕ, ◌+◌, ◌<◌, refl, ap, ◌∙◌, arith, List, Option, Some, None, Bool, true, false}
+use Rattle.std.specs.Prelude.{◌==◌, ◌&&◌, nat_lt, nat_le, if◌then◌else◌}
+use Rattle.std.proofs.lemmas.Bool.Decides.{nat_tests}
+use Rattle.vga_bits.specs.declared.refusal.Refusal.{Refusal}
+use Rattle.vga_bits.specs.declared.refusal.Refusal.TheVariants.{Outside}
+use Rattle.vga_card.specs.Bounds.{IsCard}
+use Rattle.vga_card.specs.Bus.{card_meaning}
+use Rattle.vga_card.specs.Card.{CardState}
+use Rattle.bios_modes.specs.Bda.{BiosData}
+use Rattle.bios_modes.specs.Bounds.{IsBda}
+use Rattle.bios_modes.specs.Fonts.{FontSet}
+use Rattle.bios_services.specs.declared.regs.Regs.{Regs}
+use Rattle.bios_services.specs.declared.call.Service.TheVariants.{Teletype}
+use Rattle.bios_services.specs.Bounds.{pages_of}
+use Rattle.bios_services.specs.ModeSet.{is_text}
+use Rattle.bios_services.specs.Plan.{Plan, run, Done, ◌>>=◌}
+use Rattle.bios_services.specs.Cursor.{row_of, column_of, place_of, move_cursor_plan}
+use Rattle.bios_services.specs.Teletype.{dots_in, type_plan, teletype_plan}
+use Rattle.bios_services.specs.Refusals.{refusal_in_mode}
+use Rattle.bios_services.specs.Service.{plan_of}
+use Rattle.bios_screen.specs.Screen.{Screen}
+use Rattle.bios_screen.specs.Shown.{shown}
+use Rattle.bios_screen.specs.Step.{refusal_on, next, answer_on, type_character, type_at_cursor, with_place as placed_on}
+use Rattle.bios_screen.specs.Served.{IsServed}
+use Rattle.bios_screen.proofs.Base.Plans.{run_bind}
+use Rattle.bios_screen.proofs.Base.Kept.{KeepsBounds, plan_beam}
+use Rattle.bios_screen.proofs.Base.Tests.{lt_is}
+use Rattle.bios_screen.proofs.Shows.Screens.{shown_is}
+use Rattle.bios_screen.proofs.Shows.Pixels.{pixels_of_shown}
+use Rattle.bios_screen.proofs.Shows.Any.{IsAny, any_screen, still_any}
+use Rattle.bios_screen.proofs.Services.Cursors.{then_data, data_runs, moved_shown}
+use Rattle.bios_screen.proofs.Pixels.Cursors.{moved_shown as moved_in_pixels}
+use Rattle.bios_screen.proofs.Base.TypedPlaces.{Inside, inside_word}
+use Rattle.bios_screen.proofs.Services.Typing.{page_in, cut_is, CanType, is_typed}
+use Rattle.bios_screen.proofs.Text.Typing.{can_type as can_type_text}
+use Rattle.bios_screen.proofs.Pixels.Typing.{can_type as can_type_pixels}
+
+place_allowed : (rows columns place : ℕ) → (let x : Option Refusal = (if nat_lt (row_of place) rows && nat_lt (column_of place) columns then None else Some Outside) in x) ≡ None → Inside rows columns place
+place_allowed rows columns place h = by_tests (nat_lt (row_of place) rows) (nat_lt (column_of place) columns) refl refl h
+  where
+    by_tests : (a b : Bool) → nat_lt (row_of place) rows ≡ a → nat_lt (column_of place) columns ≡ b → (let x : Option Refusal = (if a && b then None else Some Outside) in x) ≡ None → Inside rows columns place
+    by_tests true true e f g = record { row = lt_is (row_of place) rows e; column = lt_is (column_of place) columns f }
+    by_tests true false e f g = absurd (cc)
+    by_tests false b e f g = absurd (cc)
+
+pub le_lt : (row last : ℕ) → nat_le row last ≡ nat_lt row (last + 1)
+le_lt row last = grind (arith, nat_tests)
+
+-- ---- what typing stands on, in every mode
+
+pub can_type : KeepsBounds → (fonts : FontSet) (d : BiosData) (p : ℕ) → p < pages_of d → CanType fonts d p
+can_type law fonts d p lp = by_kind (is_text d.mode) refl
+  where
+    by_kind : (b : Bool) → is_text d.mode ≡ b → CanType fonts d p
+    by_kind true t = can_type_text law fonts d p lp t
+    by_kind false t = can_type_pixels law fonts d p lp t
+
+-- the cursor goes to a place of the page
+pub moved : (c : CardState) (d : BiosData) (s : Screen) (p place : ℕ) → shown c d ≡ Some s → IsBda d → p < pages_of d → Inside (d.last_row + 1) d.columns place → (let x = run card_meaning (move_cursor_plan d p place) c in shown x.0 x.1) ≡ Some (placed_on s p place)
+moved c d s p place e bda lp i = by_kind (is_text d.mode) refl
+  where
+    by_kind : (b : Bool) → is_text d.mode ≡ b → (let x = run card_meaning (move_cursor_plan d p place) c in shown x.0 x.1) ≡ Some (placed_on s p place)
+    by_kind true t =
+        let x = shown_is c d s t e in
+        let small = inside_word (d.last_row + 1) d.columns (cut_is c d s e).narrow place (cut_is c d s e).low i in
+        moved_shown c d x.is p place bda (page_in d x.is.row p x.is.mode lp) small ∙ ap (λ (w : Screen). Some (placed_on w p place)) x.screen
+    by_kind false t = let x = pixels_of_shown c d s t e in moved_in_pixels c d x.is p place ∙ ap (λ (w : Screen). Some (placed_on w p place)) x.screen
+
+-- ---- function 0E
+
+module _ (law : KeepsBounds) (v colour : ℕ) (lv : v < 256) (la : colour < 256) (fonts : FontSet) (c : CardState) (d : BiosData) (h : IsAny c d) (z : IsCard c) (bda : IsBda d) where
+  abbrev s : Screen
+  s = any_screen c d h c
+
+  abbrev at : ℕ
+  at = place_of d d.page
+
+  typed_at : d.page < pages_of d → Inside (d.last_row + 1) d.columns at → (let x = run card_meaning (teletype_plan fonts d v colour) c in shown x.0 x.1) ≡ Some (type_at_cursor fonts s v colour)
+  unfolding teletype_plan
+  typed_at lp inside = by_test (v == 0x07)
+    where
+      plan : Plan ℕ
+      plan = type_plan fonts d d.page at v (dots_in colour)
+
+      cursor : ℕ → Plan BiosData
+      cursor n = move_cursor_plan d d.page n
+
+      after : Screen × ℕ
+      after = type_character fonts s d.page at v (dots_in colour)
+
+      by_test : (b : Bool) → (let q : Plan BiosData = (if b then Done d else (plan >>= cursor)) in shown (run card_meaning q c).0 (run card_meaning q c).1) ≡ Some (if b then s else placed_on after.0 d.page after.1)
+      by_test true = still_any c d h
+      by_test false =
+          let t = is_typed law fonts d d.page (can_type law fonts d d.page lp) c s at v (dots_in colour) z (still_any c d h) inside lv la in
+          let c1 = (run card_meaning plan c).0 in
+          ap (λ r. shown r.0 r.1) (run_bind card_meaning plan cursor c)
+          ∙ ap (λ n. let x = run card_meaning (cursor n) c1 in shown x.0 x.1) t.leads.answer
+          ∙ moved c1 d after.0 d.page after.1 t.leads.shows bda lp t.inside
+
+  pub teletype : (r : Regs) (block : List ℕ) → IsServed (Teletype v colour) fonts r block c d s
+  unfolding plan_of refusal_in_mode refusal_on next answer_on
+  teletype r block =
+      let plan = teletype_plan fonts d v colour in
+      let runs = data_runs plan r c in
+      record {
+        refusal = ap (λ b. let x : Option Refusal = (if b && nat_lt (column_of at) d.columns then None else Some Outside) in x) (le_lt (row_of at) d.last_row);
+        answer = λ _. ap (λ x. x.1.0) runs;
+        shows = λ allowed. ap (λ x. shown x.0 x.1.1) runs ∙ typed_at (cut_is c d s (still_any c d h)).active (place_allowed (d.last_row + 1) d.columns at allowed);
+        beam = plan_beam (then_data plan r) c;
+      }

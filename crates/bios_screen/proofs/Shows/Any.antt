@@ -1,0 +1,161 @@
+-- What every screen that is shown says, in text and in graphics.
+use Rattle.std.proofs.Common.{◌≡◌, ℕ, ◌<◌, ◌≤◌, refl, sym, ap, subst, ◌∙◌, arith, Bool, true, false, List, [], Some, None}
+use Rattle.std.specs.Prelude.{◌==◌, ◌&&◌, ◌/◌, if◌then◌else◌, slice_index, bit_and}
+use Rattle.std.specs.Str.{bytes_eq}
+use Rattle.vga_bits.specs.Four.{Four}
+use Rattle.vga_attr.specs.Fields.{is_palette_shown}
+use Rattle.vga_card.specs.Card.{CardState}
+use Rattle.bios_modes.specs.declared.modes.ModeRow.{ModeRow}
+use Rattle.bios_modes.specs.Heights.{row_at}
+use Rattle.bios_modes.specs.Bda.{BiosData}
+use Rattle.bios_services.specs.ModeSet.{is_text}
+use Rattle.bios_screen.specs.Screen.{Contents, Cells, Pixels, Screen}
+use Rattle.bios_screen.specs.Shown.{shows_attribute, cells_in, glyphs_in, all_cells, pixel_pages, page_pixels, crtc_shown, screen_by, screen_of, shown_by, shown}
+use Rattle.bios_screen.proofs.Base.Tests.{both_true, same}
+use Rattle.bios_screen.proofs.Base.Setting.{Setting, setting}
+use Rattle.bios_screen.proofs.Modes.TextModes.{control_by as text_control_by}
+use Rattle.bios_screen.proofs.Shows.Screens.{AllTests, setting_by, shows_by, all_of, shown_is, screen_is_text}
+use Rattle.bios_screen.proofs.Modes.PixelModes.{Graphics, row_in, graphics_row, control_by}
+use Rattle.bios_screen.proofs.Modes.PixelModes.Graphics.{Sixteen, Many}
+use Rattle.bios_screen.proofs.Modes.PixelModes.Planes.{Low, Middle, High}
+use Rattle.bios_screen.proofs.Modes.AnyModes.{Tabled, setting_of, port_of, control_of}
+use Rattle.bios_screen.proofs.Modes.AnyModes.Tabled.{OfText, OfPixels}
+use Rattle.bios_screen.proofs.Shows.Pixels.{IsPixels, screen_is_pixels, pixels_of_shown}
+
+-- all that a screen says, whatever its mode; contents and glyphs are of the memory alone
+pub record IsAny (c : CardState) (d : BiosData) : Type 0 where
+  pub row : ModeRow
+  pub mode : row_at d.mode d.height ≡ Some row
+  pub kind : Tabled
+  pub setting : setting c ≡ setting_of kind
+  pub port : d.crtc_address ≡ port_of kind
+  pub control : bit_and (slice_index row.attribute 0x10) 0xF7 ≡ control_of kind
+  pub columns : row.columns ≤ 80
+  pub last_row : row.last_row < 255
+  pub tests : AllTests row c d
+  pub distance : ℕ
+  pub contents : Four (List ℕ) → Contents
+  pub glyphs : Four (List ℕ) → List ℕ
+  pub screen : (y : CardState) → screen_of row y d ≡ screen_by row y d distance (contents y.host.memory) (glyphs y.host.memory)
+
+abbrev pub any_screen : (c : CardState) (d : BiosData) → IsAny c d → (y : CardState) → Screen
+any_screen c d h y = screen_by h.row y d h.distance (h.contents y.host.memory) (h.glyphs y.host.memory)
+
+-- the test in another state, where registers that memory looks at and those of the CRT controller are the same
+pub same_tests : (row : ModeRow) (c y : CardState) (d : BiosData) → setting y ≡ setting c → y.crtc.registers ≡ c.crtc.registers → shows_attribute row y.attr ≡ true → AllTests row c d → AllTests row y d
+same_tests row c y d s e a t = record {
+  memory = ap (λ (x : Setting). (x.misc == row.misc) && (bytes_eq x.seq row.sequencer && bytes_eq x.gfx row.graphics)) s ∙ t.memory;
+  data_test = t.data_test;
+  crtc = e ∙ t.crtc ∙ ap (crtc_shown row d) (sym e);
+  attribute = a;
+}
+
+-- other registers that are shown, where those of the CRT controller and those that memory looks at stay
+pub any_shown : (c y : CardState) (d : BiosData) (h : IsAny c d) → setting y ≡ setting c → y.crtc.registers ≡ c.crtc.registers → shows_attribute h.row y.attr ≡ true → shown y d ≡ Some (any_screen c d h y)
+any_shown c y d h s e a =
+    ap (λ x. shown_by x y d) h.mode
+    ∙ ap (λ b. if b then Some (screen_of h.row y d) else None) (shows_by h.row y d (same_tests h.row c y d s e a h.tests))
+    ∙ ap (λ (x : Screen). Some x) (h.screen y)
+
+pub still_any : (c : CardState) (d : BiosData) (h : IsAny c d) → shown c d ≡ Some (any_screen c d h c)
+still_any c d h = any_shown c c d h refl refl h.tests.attribute
+
+-- mode control, but for blinking, is the mode's
+pub any_control : (c : CardState) (d : BiosData) (h : IsAny c d) → bit_and (slice_index c.attr.registers 0x10) 0xF7 ≡ control_of h.kind
+any_control c d h =
+    let a = both_true (is_palette_shown c.attr) _ h.tests.attribute in
+    let b = both_true (bit_and (slice_index c.attr.registers 0x10) 0xF7 == bit_and (slice_index h.row.attribute 0x10) 0xF7) _ a.1 in
+    same b.0 ∙ h.control
+
+-- ---- from a screen that is shown
+
+pub record ShowsAny (c : CardState) (d : BiosData) (s : Screen) : Type 0 where
+  pub is : IsAny c d
+  pub screen : any_screen c d is c ≡ s
+
+row_control : (k : Graphics) → bit_and (slice_index (row_in k).attribute 0x10) 0xF7 ≡ control_of (OfPixels k)
+row_control (Sixteen m) = control_by m
+row_control Many = refl
+
+row_port : (k : Graphics) → (row_in k).crtc_address ≡ 0x3D4
+row_port (Sixteen Low) = refl
+row_port (Sixteen Middle) = refl
+row_port (Sixteen High) = refl
+row_port Many = refl
+
+row_columns : (k : Graphics) → (row_in k).columns ≤ 80
+row_columns (Sixteen Low) = omega arith
+row_columns (Sixteen Middle) = omega arith
+row_columns (Sixteen High) = omega arith
+row_columns Many = omega arith
+
+row_rows : (k : Graphics) → (row_in k).last_row < 255
+row_rows (Sixteen Low) = omega arith
+row_rows (Sixteen Middle) = omega arith
+row_rows (Sixteen High) = omega arith
+row_rows Many = omega arith
+
+-- the setting and the port of a screen of pixels
+pub record HasSetting (c : CardState) (d : BiosData) (row : ModeRow) : Type 0 where
+  pub kind : Graphics
+  pub row_is : row_in kind ≡ row
+  pub setting : setting c ≡ setting_of (OfPixels kind)
+  pub port : d.crtc_address ≡ port_of (OfPixels kind)
+
+pub pixel_setting : (c : CardState) (d : BiosData) (h : IsPixels c d) → HasSetting c d h.row
+pixel_setting c d h =
+    let g = graphics_row d.mode d.height h.row h.text h.mode in
+    record {
+      kind = g.kind;
+      row_is = g.row_is;
+      setting = setting_by h.row c h.tests.memory ∙ ap (λ (r : ModeRow). let q : Setting = record { misc = r.misc; seq = r.sequencer; gfx = r.graphics } in q) (sym g.row_is);
+      port = h.has.port ∙ ap (λ (r : ModeRow). r.crtc_address) (sym g.row_is) ∙ row_port g.kind;
+    }
+
+pub any_is : (c : CardState) (d : BiosData) (s : Screen) → shown c d ≡ Some s → ShowsAny c d s
+any_is c d s h = by_kind (is_text d.mode) refl
+  where
+    by_kind : (b : Bool) → is_text d.mode ≡ b → ShowsAny c d s
+    by_kind true t =
+        let x = shown_is c d s t h in
+        let y = x.is in
+        record {
+          is = record {
+            row = y.row;
+            mode = y.mode;
+            kind = OfText y.display;
+            setting = y.setting;
+            port = y.has.port ∙ y.text.port;
+            control = ap (λ (r : ModeRow). bit_and (slice_index r.attribute 0x10) 0xF7) y.row_is ∙ text_control_by y.display;
+            columns = y.text.columns;
+            last_row = y.text.last_row;
+            tests = all_of y.row c d y.tests;
+            distance = d.size / 2;
+            contents = λ m. Cells (cells_in m.plane0 m.plane1 all_cells);
+            glyphs = λ m. glyphs_in m.plane2 4096;
+            screen = λ z. screen_is_text y.row z d t;
+          };
+          screen = x.screen;
+        }
+    by_kind false t =
+        let x = pixels_of_shown c d s t h in
+        let y = x.is in
+        let g = pixel_setting c d y in
+        record {
+          is = record {
+            row = y.row;
+            mode = y.mode;
+            kind = OfPixels g.kind;
+            setting = g.setting;
+            port = g.port;
+            control = ap (λ (r : ModeRow). bit_and (slice_index r.attribute 0x10) 0xF7) (sym g.row_is) ∙ row_control g.kind;
+            columns = subst (λ (r : ModeRow). r.columns ≤ 80) g.row_is (row_columns g.kind);
+            last_row = subst (λ (r : ModeRow). r.last_row < 255) g.row_is (row_rows g.kind);
+            tests = y.tests;
+            distance = 0;
+            contents = λ m. Pixels (pixel_pages d.mode m d.size (page_pixels d) y.row.pages);
+            glyphs = λ m. [];
+            screen = λ z. screen_is_pixels y.row z d t;
+          };
+          screen = x.screen;
+        }

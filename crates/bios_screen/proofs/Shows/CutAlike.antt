@@ -1,0 +1,104 @@
+-- What services leave of a plain screen: its mode, and how it is cut.
+use Rattle.std.proofs.Common.{◌≡◌, ℕ, zero, suc, ◌+◌, ◌-◌, refl, ◌∙◌, Bool, true, false, List, Option, Some, None}
+use Rattle.std.specs.Prelude.{◌==◌, nat_lt, if◌then◌else◌}
+use Rattle.vga_bits.specs.declared.refusal.Refusal.{Refusal}
+use Rattle.bios_modes.specs.Fonts.{FontSet}
+use Rattle.bios_services.specs.declared.ink.Ink.{Ink}
+use Rattle.bios_services.specs.declared.strings.StringCall.{StringCall}
+use Rattle.bios_services.specs.declared.colours.ColourService.{ColourService}
+use Rattle.bios_services.specs.declared.colours.ColourService.TheVariants.{SetRegister, SetOverscan, SetPalette, SetBlinking, ReadRegister, ReadOverscan, SetEntry, SetEntries, ReadEntry, SetMask, ReadMask}
+use Rattle.bios_services.specs.declared.call.Service.{Service}
+use Rattle.bios_services.specs.declared.call.Service.TheVariants.{SetCursorType, SetCursor, ReadCursor, SelectPage, ScrollUp, ScrollDown, ReadCell, WriteCells, WritePixel, ReadPixel, Teletype, ReadMode, Colours, ReadAdapter, WriteString, ReadDisplay}
+use Rattle.bios_services.specs.Teletype.{line_start, dots_in}
+use Rattle.bios_services.specs.Strings.{character_at, ink_at}
+use Rattle.bios_services.specs.Cursor.{row_of, column_of}
+use Rattle.bios_screen.specs.Screen.{Screen, cursor_place}
+use Rattle.bios_screen.specs.Colours.{with_colours}
+use Rattle.bios_screen.specs.Called.{screen_unless}
+use Rattle.bios_screen.specs.Step.{page_meant, last_colour, whole_page, window_up, line_feed, cursor_advance, put_character, type_character, type_characters, with_place, next}
+
+-- t has the mode of s, and is cut as s is
+pub record IsCutAs (s t : Screen) : Type 0 where
+  pub mode : t.mode ≡ s.mode
+  pub layout : t.layout ≡ s.layout
+
+pub uncut : (s : Screen) → IsCutAs s s
+uncut s = record { mode = refl; layout = refl }
+
+cut_on : {s t u : Screen} → IsCutAs s t → IsCutAs t u → IsCutAs s u
+cut_on a b = record { mode = b.mode ∙ a.mode; layout = b.layout ∙ a.layout }
+
+cut_if : (s : Screen) (b : Bool) (x y : Screen × ℕ) → IsCutAs s x.0 → IsCutAs s y.0 → IsCutAs s (if b then x else y).0
+cut_if s true x y h k = h
+cut_if s false x y h k = k
+
+cut_either : (s : Screen) (b : Bool) (x y : Screen) → IsCutAs s x → IsCutAs s y → IsCutAs s (if b then x else y)
+cut_either s true x y h k = h
+cut_either s false x y h k = k
+
+fed_cut : (s : Screen) (page place : ℕ) → IsCutAs s (line_feed s page place).0
+fed_cut s page place = cut_if s (nat_lt (row_of place) (s.layout.rows - 1)) (s, place + 256) (window_up s page (whole_page s (last_colour s page place)), place) (uncut s) (record { mode = refl; layout = refl })
+
+advanced_cut : (s : Screen) (page place : ℕ) → IsCutAs s (cursor_advance s page place).0
+advanced_cut s page place = cut_if s (nat_lt (column_of place + 1) s.layout.columns) (s, place + 1) ((line_feed s page place).0, line_start (line_feed s page place).1) (uncut s) (fed_cut s page place)
+
+typed_cut : (fonts : FontSet) (s : Screen) (page place character : ℕ) (ink : Ink) → IsCutAs s (type_character fonts s page place character ink).0
+unfolding type_character
+typed_cut fonts s page place character ink =
+    let put = put_character fonts s page place character ink in
+    let is_put : IsCutAs s put = record { mode = refl; layout = refl } in
+    cut_if s (character == 0x07) (s, place) _ (uncut s)
+    (cut_if s (character == 0x08) (s, if column_of place == 0 then place else place - 1) _ (uncut s)
+    (cut_if s (character == 0x0A) (line_feed s page place) _ (fed_cut s page place)
+    (cut_if s (character == 0x0D) (s, line_start place) (cursor_advance put page place) (uncut s) (cut_on is_put (advanced_cut put page place)))))
+
+string_cut : (fonts : FontSet) (call : StringCall) (block : List ℕ) (page n i : ℕ) (at : Screen × ℕ) → IsCutAs at.0 (type_characters fonts call block page n i at).0
+string_cut fonts call block page zero i at = uncut at.0
+string_cut fonts call block page (suc n) i at =
+    let after = type_character fonts at.0 page at.1 (character_at call block i) (ink_at call block i) in
+    cut_on (typed_cut fonts at.0 page at.1 (character_at call block i) (ink_at call block i)) (string_cut fonts call block page n (i + 1) after)
+
+coloured_cut : (s : Screen) (service : ColourService) (block : List ℕ) → IsCutAs s (with_colours s service block)
+unfolding with_colours
+coloured_cut s (SetRegister register value) block = record { mode = refl; layout = refl }
+coloured_cut s (SetOverscan value) block = record { mode = refl; layout = refl }
+coloured_cut s SetPalette block = record { mode = refl; layout = refl }
+coloured_cut s (SetBlinking blinking) block = record { mode = refl; layout = refl }
+coloured_cut s (ReadRegister register) block = uncut s
+coloured_cut s ReadOverscan block = uncut s
+coloured_cut s (SetEntry entry red green blue) block = record { mode = refl; layout = refl }
+coloured_cut s (SetEntries first count) block = record { mode = refl; layout = refl }
+coloured_cut s (ReadEntry entry) block = uncut s
+coloured_cut s (SetMask mask) block = record { mode = refl; layout = refl }
+coloured_cut s ReadMask block = uncut s
+
+-- a service that sets no mode leaves both
+pub next_cut : (fonts : FontSet) (s : Screen) (service : Service) (block : List ℕ) → IsCutAs s (next fonts s service block)
+unfolding next
+next_cut fonts s (SetCursorType cursor_type) block = record { mode = refl; layout = refl }
+next_cut fonts s (SetCursor page place) block = record { mode = refl; layout = refl }
+next_cut fonts s (ReadCursor page) block = uncut s
+next_cut fonts s (SelectPage page) block = record { mode = refl; layout = refl }
+next_cut fonts s (ScrollUp window) block = record { mode = refl; layout = refl }
+next_cut fonts s (ScrollDown window) block = record { mode = refl; layout = refl }
+next_cut fonts s (ReadCell page) block = uncut s
+next_cut fonts s (WriteCells cells) block = record { mode = refl; layout = refl }
+next_cut fonts s (WritePixel page x y colour) block = record { mode = refl; layout = refl }
+next_cut fonts s (ReadPixel page x y) block = uncut s
+next_cut fonts s (Teletype character colour) block =
+    let after = type_character fonts s s.page (cursor_place s s.page) character (dots_in colour) in
+    let is : IsCutAs s after.0 = typed_cut fonts s s.page (cursor_place s s.page) character (dots_in colour) in
+    cut_either s (character == 0x07) s (with_place after.0 s.page after.1) (uncut s) (record { mode = is.mode; layout = is.layout })
+next_cut fonts s ReadMode block = uncut s
+next_cut fonts s (Colours service) block = coloured_cut s service block
+next_cut fonts s ReadAdapter block = uncut s
+next_cut fonts s (WriteString call) block =
+    let page = page_meant s call.page in
+    let after = type_characters fonts call block page call.count 0 (s, call.place) in
+    let is : IsCutAs s after.0 = string_cut fonts call block page call.count 0 (s, call.place) in
+    cut_either s call.moves_cursor (with_place after.0 page after.1) after.0 (record { mode = is.mode; layout = is.layout }) is
+next_cut fonts s ReadDisplay block = uncut s
+
+pub unless_cut : (why : Option Refusal) (fonts : FontSet) (s : Screen) (service : Service) (block : List ℕ) → IsCutAs s (screen_unless why s (next fonts s service block))
+unless_cut None fonts s service block = next_cut fonts s service block
+unless_cut (Some why) fonts s service block = uncut s

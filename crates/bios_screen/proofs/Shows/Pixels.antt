@@ -1,0 +1,51 @@
+-- What a screen of pixels that is shown says of registers and data.
+use Rattle.std.proofs.Common.{◌≡◌, refl, sym, ap, ◌∙◌, false, Option, Some, None}
+use Rattle.std.specs.Prelude.{if◌then◌else◌}
+use Rattle.vga_card.specs.Card.{CardState}
+use Rattle.bios_modes.specs.declared.modes.ModeRow.{ModeRow}
+use Rattle.bios_modes.specs.Heights.{row_at}
+use Rattle.bios_modes.specs.Bda.{BiosData}
+use Rattle.bios_services.specs.ModeSet.{is_text}
+use Rattle.bios_screen.specs.Screen.{Screen}
+use Rattle.bios_screen.specs.Shown.{shows, text_screen, pixel_screen, screen_of, shown_by, shown}
+use Rattle.bios_screen.proofs.Base.Tests.{if_some, none_some}
+use Rattle.bios_screen.proofs.Shows.Screens.{HasData, data_is, AllTests, all_tests_of, shows_by}
+
+-- all that a screen of pixels says
+pub record IsPixels (c : CardState) (d : BiosData) : Type 0 where
+  pub row : ModeRow
+  pub mode : row_at d.mode d.height ≡ Some row
+  pub text : is_text d.mode ≡ false
+  pub tests : AllTests row c d
+  pub has : HasData row d
+
+abbrev pub pixels_shown : (c : CardState) (d : BiosData) → IsPixels c d → Screen
+pixels_shown c d h = pixel_screen h.row c d
+
+pub record ShowsPixels (c : CardState) (d : BiosData) (s : Screen) : Type 0 where
+  pub is : IsPixels c d
+  pub screen : pixels_shown c d is ≡ s
+
+-- in graphics the screen of the mode is one of pixels
+pub screen_is_pixels : (row : ModeRow) (c : CardState) (d : BiosData) → is_text d.mode ≡ false → screen_of row c d ≡ pixel_screen row c d
+screen_is_pixels row c d t = ap (λ b. let x : Screen = (if b then text_screen row c d else pixel_screen row c d) in x) t
+
+pub pixels_of_shown : (c : CardState) (d : BiosData) (s : Screen) → is_text d.mode ≡ false → shown c d ≡ Some s → ShowsPixels c d s
+pixels_of_shown c d s t h = by_row (row_at d.mode d.height) refl h
+  where
+    by_row : (x : Option ModeRow) → row_at d.mode d.height ≡ x → shown_by x c d ≡ Some s → ShowsPixels c d s
+    by_row None e g = none_some s g
+    by_row (Some row) e g =
+        let parts = if_some (shows row c d) (screen_of row c d) s g in
+        let tests = all_tests_of row c d parts.0 in
+        record {
+          is = record { row = row; mode = e; text = t; tests = tests; has = data_is row d tests.data_test };
+          screen = sym (screen_is_pixels row c d t) ∙ parts.1;
+        }
+
+-- and back
+pub pixels_shown_of : (c : CardState) (d : BiosData) (row : ModeRow) → row_at d.mode d.height ≡ Some row → is_text d.mode ≡ false → AllTests row c d → shown c d ≡ Some (pixel_screen row c d)
+pixels_shown_of c d row e t tests =
+    ap (λ x. shown_by x c d) e
+    ∙ ap (λ b. if b then Some (screen_of row c d) else None) (shows_by row c d tests)
+    ∙ ap (λ (x : Screen). Some x) (screen_is_pixels row c d t)

@@ -1,0 +1,202 @@
+-- What a shown screen says of registers and data, and what has to be known for a screen to be shown.
+use Rattle.std.proofs.Common.{◌≡◌, ℕ, ◌+◌, ◌*◌, ◌<◌, refl, sym, ap, ◌∙◌, Bool, true, false, List, Option, Some, None}
+use Rattle.std.specs.Prelude.{slice_index, bit_and, ◌==◌, ◌&&◌, if◌then◌else◌}
+use Rattle.std.specs.Str.{bytes_eq}
+use Rattle.std.proofs.lemmas.Slice.Eq.{bytes_eq-Decides}
+use Rattle.vga_attr.specs.Fields.{is_palette_shown}
+use Rattle.vga_card.specs.Card.{CardState}
+use Rattle.bios_modes.specs.declared.modes.ModeRow.{ModeRow}
+use Rattle.bios_modes.specs.Heights.{row_at}
+use Rattle.bios_modes.specs.Heights.{row_at}
+use Rattle.bios_modes.specs.Bda.{BiosData}
+use Rattle.bios_services.specs.declared.kind.Kind.{Kind}
+use Rattle.bios_services.specs.declared.kind.Kind.TheVariants.{Text, Planar, Packed}
+use Rattle.bios_services.specs.Bounds.{pages_in}
+use Rattle.bios_services.specs.Refusals.{page_named}
+use Rattle.bios_services.specs.ModeSet.{is_text}
+use Rattle.bios_services.specs.Kinds.{kind_of}
+use Rattle.bios_services.specs.Cursor.{cursor_address, start_address}
+use Rattle.bios_screen.specs.Screen.{Screen}
+use Rattle.bios_screen.specs.Shown.{shows_memory, crtc_registers, crtc_shown, shows_attribute, shows_data, shows, text_screen, pixel_screen, screen_of, shown_by, shown}
+use Rattle.bios_screen.proofs.Base.Tests.{both_true, if_some, none_some, same, lt_is}
+use Rattle.bios_screen.proofs.Base.Setting.{Setting, setting}
+use Rattle.bios_screen.proofs.Modes.TextModes.{Display, text_setting, text_sequencer, misc_of, IsTextRow, text_row_is, Height, row_with, number_of, control_of, control_by}
+
+-- the data as numbers
+pub record HasData (row : ModeRow) (d : BiosData) : Type 0 where
+  pub columns : d.columns ≡ row.columns
+  pub size : d.size ≡ row.size
+  pub last_row : d.last_row ≡ row.last_row
+  pub height : d.height ≡ row.height
+  pub port : d.crtc_address ≡ row.crtc_address
+  pub start : d.start ≡ d.size * d.page
+  pub page : d.page < row.pages
+
+-- the page that a call names, in a mode with this row
+pub named_page : (row : ModeRow) (d : BiosData) → row_at d.mode d.height ≡ Some row → (page : ℕ) → page_named d page ≡ (if row.pages == 1 then 0 else page)
+named_page row d e page = ap (λ (x : Option ModeRow). if pages_in x == 1 then 0 else page) e
+
+pub data_is : (row : ModeRow) (d : BiosData) → shows_data row d ≡ true → HasData row d
+data_is row d h =
+    let a = both_true (d.columns == row.columns) _ h in
+    let b = both_true (d.size == row.size) _ a.1 in
+    let e = both_true (d.last_row == row.last_row) _ b.1 in
+    let f = both_true (d.height == row.height) _ e.1 in
+    let g = both_true (d.crtc_address == row.crtc_address) _ f.1 in
+    let i = both_true (d.start == d.size * d.page) _ g.1 in
+    record { columns = same a.0; size = same b.0; last_row = same e.0; height = same f.0; port = same g.0; start = same i.0; page = lt_is d.page row.pages i.1 }
+
+-- the test's parts
+pub record AllTests (row : ModeRow) (c : CardState) (d : BiosData) : Type 0 where
+  pub memory : shows_memory row c ≡ true
+  pub data_test : shows_data row d ≡ true
+  pub crtc : c.crtc.registers ≡ crtc_shown row d c.crtc.registers
+  pub attribute : shows_attribute row c.attr ≡ true
+
+pub all_tests_of : (row : ModeRow) (c : CardState) (d : BiosData) → shows row c d ≡ true → AllTests row c d
+unfolding shows
+all_tests_of row c d h =
+    let wanted = crtc_shown row d c.crtc.registers in
+    let a = both_true (shows_memory row c) (shows_data row d && (bytes_eq c.crtc.registers wanted && shows_attribute row c.attr)) h in
+    let b = both_true (shows_data row d) (bytes_eq c.crtc.registers wanted && shows_attribute row c.attr) a.1 in
+    let e = both_true (bytes_eq c.crtc.registers wanted) (shows_attribute row c.attr) b.1 in
+    record { memory = a.0; data_test = b.0; crtc = (bytes_eq-Decides c.crtc.registers wanted).0 e.0; attribute = e.1 }
+
+pub shows_by : (row : ModeRow) (c : CardState) (d : BiosData) → AllTests row c d → shows row c d ≡ true
+unfolding shows
+shows_by row c d t =
+    let wanted = crtc_shown row d c.crtc.registers in
+    ap (λ b. b && (shows_data row d && (bytes_eq c.crtc.registers wanted && shows_attribute row c.attr))) t.memory
+    ∙ ap (λ b. b && (bytes_eq c.crtc.registers wanted && shows_attribute row c.attr)) t.data_test
+    ∙ ap (λ b. b && shows_attribute row c.attr) ((bytes_eq-Decides c.crtc.registers wanted).1 t.crtc)
+    ∙ t.attribute
+
+-- the test gives the registers that memory cycles look at
+pub setting_by : (row : ModeRow) (c : CardState) → shows_memory row c ≡ true → setting c ≡ record { misc = row.misc; seq = row.sequencer; gfx = row.graphics }
+setting_by row c h =
+    let a = both_true (c.misc == row.misc) (bytes_eq c.host.seq row.sequencer && bytes_eq c.host.gfx row.graphics) h in
+    let b = both_true (bytes_eq c.host.seq row.sequencer) (bytes_eq c.host.gfx row.graphics) a.1 in
+    ap (λ x. let r : Setting = record { misc = x; seq = c.host.seq; gfx = c.host.gfx } in r) (same a.0)
+    ∙ ap (λ x. let r : Setting = record { misc = row.misc; seq = x; gfx = c.host.gfx } in r) ((bytes_eq-Decides c.host.seq row.sequencer).0 b.0)
+    ∙ ap (λ x. let r : Setting = record { misc = row.misc; seq = row.sequencer; gfx = x } in r) ((bytes_eq-Decides c.host.gfx row.graphics).0 b.1)
+
+-- ---- text
+
+-- the registers of the CRT controller in text
+abbrev pub text_crtc : ModeRow → BiosData → List ℕ
+text_crtc row d = crtc_registers row d.cursor_type (start_address d d.page) (cursor_address d d.page)
+
+text_crtc_is : (row : ModeRow) (d : BiosData) (l : List ℕ) → is_text d.mode ≡ true → crtc_shown row d l ≡ text_crtc row d
+text_crtc_is row d l t = ap (λ b. crtc_registers row d.cursor_type (start_address d d.page) (if b then cursor_address d d.page else 256 * slice_index l 0x0E + slice_index l 0x0F)) t
+
+-- the test's parts in text
+pub record Tests (row : ModeRow) (c : CardState) (d : BiosData) : Type 0 where
+  pub is_text : is_text d.mode ≡ true
+  pub memory : shows_memory row c ≡ true
+  pub data_test : shows_data row d ≡ true
+  pub crtc : c.crtc.registers ≡ text_crtc row d
+  pub attribute : shows_attribute row c.attr ≡ true
+
+pub tests_of : (row : ModeRow) (c : CardState) (d : BiosData) → is_text d.mode ≡ true → shows row c d ≡ true → Tests row c d
+tests_of row c d text h =
+    let t = all_tests_of row c d h in
+    record { is_text = text; memory = t.memory; data_test = t.data_test; crtc = t.crtc ∙ text_crtc_is row d c.crtc.registers text; attribute = t.attribute }
+
+pub all_of : (row : ModeRow) (c : CardState) (d : BiosData) → Tests row c d → AllTests row c d
+all_of row c d t = record { memory = t.memory; data_test = t.data_test; crtc = t.crtc ∙ sym (text_crtc_is row d c.crtc.registers t.is_text); attribute = t.attribute }
+
+pub test_of : (row : ModeRow) (c : CardState) (d : BiosData) → Tests row c d → shows row c d ≡ true
+test_of row c d t = shows_by row c d (all_of row c d t)
+
+-- in text that is a literal
+setting_is : (disp : Display) (mode : ℕ) (row : ModeRow) (c : CardState) → IsTextRow disp mode row → shows_memory row c ≡ true → setting c ≡ text_setting disp
+setting_is disp mode row c text h =
+    setting_by row c h
+    ∙ ap (λ x. let r : Setting = record { misc = x; seq = row.sequencer; gfx = row.graphics } in r) text.misc
+    ∙ ap (λ x. let r : Setting = record { misc = misc_of disp; seq = x; gfx = row.graphics } in r) text.sequencer
+    ∙ ap (λ x. let r : Setting = record { misc = misc_of disp; seq = text_sequencer; gfx = x } in r) text.graphics
+
+-- all that a shown screen says
+pub record IsShown (c : CardState) (d : BiosData) : Type 0 where
+  pub row : ModeRow
+  pub mode : row_at d.mode d.height ≡ Some row
+  pub display : Display
+  pub height : Height
+  pub text : IsTextRow display d.mode row
+  pub row_is : row ≡ row_with display height
+  pub number : d.mode ≡ number_of display
+  pub tests : Tests row c d
+  pub has : HasData row d
+  pub setting : setting c ≡ text_setting display
+
+abbrev pub screen_shown : (c : CardState) (d : BiosData) → IsShown c d → Screen
+screen_shown c d h = text_screen h.row c d
+
+-- the screen that is shown, and what is known then
+pub record Shows (c : CardState) (d : BiosData) (s : Screen) : Type 0 where
+  pub is : IsShown c d
+  pub screen : screen_shown c d is ≡ s
+
+-- in text the screen of the mode is one of text
+pub screen_is_text : (row : ModeRow) (c : CardState) (d : BiosData) → is_text d.mode ≡ true → screen_of row c d ≡ text_screen row c d
+screen_is_text row c d t = ap (λ b. let x : Screen = (if b then text_screen row c d else pixel_screen row c d) in x) t
+
+pub shown_is : (c : CardState) (d : BiosData) (s : Screen) → is_text d.mode ≡ true → shown c d ≡ Some s → Shows c d s
+shown_is c d s t h = by_row (row_at d.mode d.height) refl h
+  where
+    by_row : (x : Option ModeRow) → row_at d.mode d.height ≡ x → shown_by x c d ≡ Some s → Shows c d s
+    by_row None e g = none_some s g
+    by_row (Some row) e g =
+        let parts = if_some (shows row c d) (screen_of row c d) s g in
+        let tests = tests_of row c d t parts.0 in
+        let text = text_row_is d.mode d.height row t e in
+        record {
+          is = record { row = row; mode = e; display = text.display; height = text.height; text = text.is; row_is = text.row_is; number = text.number; tests = tests; has = data_is row d tests.data_test; setting = setting_is text.display d.mode row c text.is tests.memory };
+          screen = sym (screen_is_text row c d t) ∙ parts.1;
+        }
+
+-- and back
+pub shown_of : (c : CardState) (d : BiosData) (row : ModeRow) → row_at d.mode d.height ≡ Some row → Tests row c d → shown c d ≡ Some (text_screen row c d)
+shown_of c d row e t =
+    ap (λ x. shown_by x c d) e
+    ∙ ap (λ b. if b then Some (screen_of row c d) else None) (test_of row c d t)
+    ∙ ap (λ (x : Screen). Some x) (screen_is_text row c d t.is_text)
+
+-- ---- any mode
+
+-- a screen has the mode of the data, and that is one of the six
+pub record HasMode (d : BiosData) (s : Screen) : Type 0 where
+  pub is : s.mode ≡ d.mode
+  pub set : (d.mode == 0) ≡ false
+
+pub mode_of_shown : (c : CardState) (d : BiosData) (s : Screen) → shown c d ≡ Some s → HasMode d s
+mode_of_shown c d s h = by_row (row_at d.mode d.height) refl h
+  where
+    by_kind : (b : Bool) (row : ModeRow) → (let x : Screen = (if b then text_screen row c d else pixel_screen row c d) in x).mode ≡ d.mode
+    by_kind true row = refl
+    by_kind false row = refl
+
+    not_0 : (b : Bool) (row : ModeRow) → (d.mode == 0) ≡ b → row_at d.mode d.height ≡ Some row → (d.mode == 0) ≡ false
+    not_0 true row e g = none_some row (sym (ap (λ m. row_at m d.height) (same e)) ∙ g)
+    not_0 false row e g = e
+
+    by_row : (x : Option ModeRow) → row_at d.mode d.height ≡ x → shown_by x c d ≡ Some s → HasMode d s
+    by_row None e g = none_some s g
+    by_row (Some row) e g =
+        let parts = if_some (shows row c d) (screen_of row c d) s g in
+        record { is = ap (λ (x : Screen). x.mode) (sym parts.1) ∙ by_kind (is_text d.mode) row; set = not_0 (d.mode == 0) row refl e }
+
+-- a screen of text
+pub text_shown : (c : CardState) (d : BiosData) (s : Screen) → shown c d ≡ Some s → is_text s.mode ≡ true → is_text d.mode ≡ true
+text_shown c d s h t = ap is_text (sym (mode_of_shown c d s h).is) ∙ t
+
+-- the mode uses the memory for text
+pub kind_is : (c : CardState) (d : BiosData) → IsShown c d → kind_of d.mode ≡ Text
+kind_is c d h = ap (λ b. let k : Kind = (if b then Text else if d.mode == 0x13 then Packed else Planar) in k) h.tests.is_text
+
+-- mode control, but for blinking, is the mode's
+pub control_is : (c : CardState) (d : BiosData) (h : IsShown c d) → bit_and (slice_index c.attr.registers 0x10) 0xF7 ≡ control_of h.display
+control_is c d h =
+    let a = both_true (is_palette_shown c.attr) _ h.tests.attribute in
+    let b = both_true (bit_and (slice_index c.attr.registers 0x10) 0xF7 == bit_and (slice_index h.row.attribute 0x10) 0xF7) _ a.1 in
+    same b.0 ∙ ap (λ (r : ModeRow). bit_and (slice_index r.attribute 0x10) 0xF7) h.row_is ∙ control_by h.display

@@ -1,0 +1,264 @@
+-- A call that loads glyphs of text: from a state that shows a screen to one that shows it with characters of another height.
+use Rattle.std.proofs.Common.{◌≡◌, ℕ, ◌+◌, ◌*◌, ◌/◌, ◌%◌, ◌<◌, ◌≤◌, refl, sym, ap, ◌∙◌, subst, arith, List, length, Some, Bool, true, false, if◌then◌else◌}
+use Rattle.std.specs.Prelude.{slice_index, nat_le, nat_lt, ◌&&◌, replicate}
+use Rattle.std.proofs.lemmas.Bool.Decides.{nat_tests}
+use Rattle.vga_crtc.specs.Ports.{after_out as after_crtc}
+use Rattle.vga_card.specs.Bounds.{IsCard}
+use Rattle.vga_card.specs.Bus.{card_meaning}
+use Rattle.vga_card.specs.Card.{CardState}
+use Rattle.vga_card.specs.Port.{port_of as reached_by, crtc_port_of}
+use Rattle.vga_card.specs.Cycles.{out_at}
+use Rattle.bios_modes.specs.declared.heights.TextRow.{TextRow}
+use Rattle.bios_modes.specs.declared.modes.ModeRow.{ModeRow}
+use Rattle.bios_modes.specs.Heights.{with_text, row_at}
+use Rattle.bios_modes.specs.Bda.{BiosData}
+use Rattle.bios_modes.specs.Begin.{data_of_mode}
+use Rattle.bios_modes.specs.Bounds.{AreBytes, AreFonts}
+use Rattle.bios_modes.specs.Fonts.{FontSet, glyph_row}
+use Rattle.bios_services.specs.declared.glyph_load.GlyphLoad.{GlyphLoad}
+use Rattle.bios_services.specs.Plan.{Plan, run, ◌>>◌}
+use Rattle.bios_services.specs.Cycles.{crtc}
+use Rattle.bios_services.specs.ModeSet.{glyphs_plan, font_plan}
+use Rattle.bios_services.specs.Cursor.{word_plan, cursor_address, start_address}
+use Rattle.bios_services.specs.Glyphs.{glyph_line}
+use Rattle.bios_services.specs.GlyphLoads.{AreThere, loaded_line, load_plan}
+use Rattle.bios_screen.specs.Screen.{Screen}
+use Rattle.std.specs.Str.{bytes_eq}
+use Rattle.std.specs.Prelude.{◌-◌, ◌==◌, bit_and, drop}
+use Rattle.vga_attr.specs.Attr.{AttrState}
+use Rattle.vga_attr.specs.Fields.{is_palette_shown}
+use Rattle.bios_screen.specs.Shown.{crtc_registers, shows_data, shows_attribute, text_screen, glyph_byte, glyphs_in, shown}
+use Rattle.bios_screen.specs.Loaded.{load_byte, load_at_height}
+use Rattle.bios_screen.specs.Listing.{listing}
+use Rattle.bios_screen.proofs.Base.Flat.{Edited, Turn}
+use Rattle.bios_screen.proofs.Base.Plans.{then_runs}
+use Rattle.bios_screen.proofs.Base.Lists.{same_from_0, length_listing, listed_at}
+use Rattle.bios_screen.proofs.Base.Kept.{KeepsBounds, plan_bounds}
+use Rattle.bios_screen.proofs.Base.Setting.{Setting, setting, card_at}
+use Rattle.bios_screen.proofs.Modes.TextModes.{Display, Height, window_of, port_of, text_setting, row_of, row_with, lines_of, number_of}
+use Rattle.bios_screen.proofs.Modes.TextModes.Display.{Colour, Monochrome}
+use Rattle.bios_screen.proofs.Modes.TextModes.Height.{Eight, Fourteen, Sixteen}
+use Rattle.bios_screen.proofs.Text.Glyphs.{glyph_setting, without_glyphs, IsLoading, glyphs_loaded}
+use Rattle.bios_screen.proofs.Shows.Screens.{Tests, IsShown, screen_shown, shown_of, text_crtc}
+use Rattle.bios_screen.proofs.Services.Cursors.{with_crtc}
+use Rattle.bios_screen.proofs.Modes.TextFresh.{but_glyphs, font_is, glyphs_on, glyphs_off}
+
+-- ---- the registers
+
+-- an adapter whose memory is reached by other registers, and their indexes
+abbrev pub through : CardState → Setting → CardState
+through c s = record c { host = record c.host { seq = s.seq; gfx = s.gfx; seq_index = 4; gfx_index = 6 } }
+
+on_by : (disp : Display) (c : CardState) → (run card_meaning glyphs_on (card_at c (text_setting disp))).0 ≡ through (card_at c (text_setting disp)) (glyph_setting disp)
+unfolding reached_by out_at
+on_by Colour c = refl
+on_by Monochrome c = refl
+
+off_by : (disp : Display) (c : CardState) → (run card_meaning (glyphs_off (window_of disp)) (card_at c (glyph_setting disp))).0 ≡ through (card_at c (glyph_setting disp)) (text_setting disp)
+unfolding reached_by out_at
+off_by Colour c = refl
+off_by Monochrome c = refl
+
+-- the CRT controller gets what the height changes
+abbrev height_plan : ℕ → ModeRow → Plan (Unit {0})
+height_plan port row =
+    crtc port 0x09 (slice_index row.crtc 0x09) >> (word_plan port 0x0A row.cursor_type
+    >> (crtc port 0x12 (slice_index row.crtc 0x12) >> (crtc port 0x14 (slice_index row.crtc 0x14)
+    >> (word_plan port 0x0C 0 >> word_plan port 0x0E 0))))
+
+height_by : (disp : Display) (new : Height) (old : TextRow) (c : CardState) (type start location : ℕ)
+    → (run card_meaning (height_plan (port_of disp) (row_with disp new)) (card_at (with_crtc c (crtc_registers (with_text (row_of disp) old) type start location) c.crtc.index) (text_setting disp))).0
+    ≡ with_crtc (card_at c (text_setting disp)) (crtc_registers (row_with disp new) (row_with disp new).cursor_type 0 0) 0x0F
+unfolding word_plan reached_by crtc_port_of out_at after_crtc
+height_by Colour Eight old c type start location = refl
+height_by Colour Fourteen old c type start location = refl
+height_by Colour Sixteen old c type start location = refl
+height_by Monochrome Eight old c type start location = refl
+height_by Monochrome Fourteen old c type start location = refl
+height_by Monochrome Sixteen old c type start location = refl
+
+-- the plan's parts
+load_is : (fonts : FontSet) (load : GlyphLoad) (block : List ℕ) (row : ModeRow) (c : CardState)
+    → (run card_meaning (load_plan fonts load block row) c).0 ≡ (run card_meaning (height_plan row.crtc_address row) (run card_meaning (font_plan (loaded_line fonts load block) load.height load.count load.first (slice_index row.graphics 6)) c).0).0
+unfolding load_plan
+load_is fonts load block row c = then_runs (font_plan (loaded_line fonts load block) load.height load.count load.first (slice_index row.graphics 6)) (height_plan row.crtc_address row) c
+
+-- ---- the glyphs
+
+-- lines of glyphs that are loaded over others
+abbrev pub AreLoaded : FontSet → GlyphLoad → List ℕ → (ℕ → ℕ) → (ℕ → ℕ) → Type 0
+AreLoaded fonts load block old new = Edited ℕ (Turn (λ _. Turn (λ _. Unit {0}) 0 load.height) load.first (load.first + load.count)) (λ h. 32 * h.turn + h.place.turn) (λ h x. loaded_line fonts load block h.turn h.place.turn) old new
+
+-- a byte of the glyphs is the new one where it is loaded, and else the old one
+glyph_is : (fonts : FontSet) (load : GlyphLoad) (block : List ℕ) (old new : ℕ → ℕ) (i : ℕ) → load.height ≤ 16 → AreLoaded fonts load block old new
+    → new (32 * (i / 16) + i % 16) ≡ load_byte fonts load block (λ k. old (32 * (k / 16) + k % 16)) i
+glyph_is fonts load block old new i few edited =
+    by_test (nat_le load.first (i / 16)) (nat_lt (i / 16) (load.first + load.count)) (nat_lt (i % 16) load.height) refl refl refl
+  where
+    by_test : (a b e : Bool) → nat_le load.first (i / 16) ≡ a → nat_lt (i / 16) (load.first + load.count) ≡ b → nat_lt (i % 16) load.height ≡ e
+        → new (32 * (i / 16) + i % 16) ≡ (if a && (b && e) then loaded_line fonts load block (i / 16) (i % 16) else old (32 * (i / 16) + i % 16))
+    by_test true true true ea eb ee = edited.inside (record { turn = i / 16; from = grind (arith, nat_tests); before = grind (arith, nat_tests); place = record { turn = i % 16; from = omega arith; before = grind (arith, nat_tests); place = tt } })
+    by_test false b e ea eb ee = edited.outside (32 * (i / 16) + i % 16) (λ h q. let x = h.from in let y = h.place.before in grind (arith, nat_tests))
+    by_test true false e ea eb ee = edited.outside (32 * (i / 16) + i % 16) (λ h q. let x = h.before in let y = h.place.before in grind (arith, nat_tests))
+    by_test true true false ea eb ee = edited.outside (32 * (i / 16) + i % 16) (λ h q. let y = h.place.before in grind (arith, nat_tests))
+
+-- and so are all of them
+glyphs_are : (fonts : FontSet) (load : GlyphLoad) (block old new : List ℕ) (cells : ℕ → ℕ) → load.height ≤ 16 → AreLoaded fonts load block (slice_index old) cells → ((o : ℕ) → o < 65536 → slice_index new o ≡ cells o)
+    → glyphs_in new 4096 ≡ listing (load_byte fonts load block (slice_index (glyphs_in old 4096))) 0 (length (glyphs_in old 4096))
+unfolding glyphs_in
+glyphs_are fonts load block old new cells few edited row =
+    same_from_0 (load_byte fonts load block (slice_index (listing (glyph_byte old) 0 4096))) (glyph_byte new) 4096 (λ i l.
+    row (32 * (i / 16) + i % 16) (omega arith)
+    ∙ glyph_is fonts load block (slice_index old) cells i few edited
+    ∙ ap (λ x. if nat_le load.first (i / 16) && (nat_lt (i / 16) (load.first + load.count) && nat_lt (i % 16) load.height) then loaded_line fonts load block (i / 16) (i % 16) else x) (sym (listed_at (glyph_byte old) 4096 i 0 l)))
+    ∙ ap (listing (load_byte fonts load block (slice_index (listing (glyph_byte old) 0 4096))) 0) (sym (length_listing (glyph_byte old) 0 4096))
+
+-- ---- what the plan leaves
+
+-- other glyphs and other registers of the CRT controller, and text is reached
+abbrev pub left : Display → CardState → List ℕ → List ℕ → CardState
+left disp c glyphs registers = with_crtc (through (record c { host = record c.host { memory = record c.host.memory { plane2 = glyphs } } }) (text_setting disp)) registers 0x0F
+
+window_by : (disp : Display) → slice_index (row_of disp).graphics 6 ≡ window_of disp
+window_by Colour = refl
+window_by Monochrome = refl
+
+port_by : (disp : Display) → (row_of disp).crtc_address ≡ port_of disp
+port_by Colour = refl
+port_by Monochrome = refl
+
+-- the glyphs after a load, and the adapter
+pub record IsLoadedCard (fonts : FontSet) (load : GlyphLoad) (block : List ℕ) (disp : Display) (row : ModeRow) (c y : CardState) : Type 0 where
+  pub plane2 : List ℕ
+  pub cells : ℕ → ℕ
+  pub glyphs : AreLoaded fonts load block (slice_index c.host.memory.plane2) cells
+  pub byte : (o : ℕ) → o < 65536 → slice_index plane2 o ≡ cells o
+  pub is : y ≡ left disp c plane2 (crtc_registers row row.cursor_type 0 0)
+
+line_small : (fonts : FontSet) (load : GlyphLoad) (block : List ℕ) → AreBytes block → AreFonts fonts → (ch r : ℕ) → loaded_line fonts load block ch r < 256
+line_small fonts load block bytes are ch r = by_source load.is_block
+  where
+    by_height : (a b : Bool) → (if a then glyph_row 8 fonts.f8 ch r else if b then glyph_row 14 fonts.f14 ch r else glyph_row 16 fonts.f16 ch r) < 256
+    by_height true b = are.f8 (8 * ch + r)
+    by_height false true = are.f14 (14 * ch + r)
+    by_height false false = are.f16 (16 * ch + r)
+
+    by_source : (k : Bool) → (if k then slice_index block (load.height * (ch - load.first) + r) else glyph_line fonts load.height ch r) < 256
+    by_source true = bytes (load.height * (ch - load.first) + r)
+    by_source false = by_height (load.height == 8) (load.height == 14)
+
+module _ (law : KeepsBounds) (fonts : FontSet) (load : GlyphLoad) (block : List ℕ) (bytes : AreBytes block) (are : AreFonts fonts) (there : AreThere load (length block)) (c : CardState) (d : BiosData) (h : IsShown c d) (z : IsCard c) (new : Height) where
+  abbrev pub disp : Display
+  disp = h.display
+
+  abbrev line : ℕ → ℕ → ℕ
+  line = loaded_line fonts load block
+
+  abbrev pub row : ModeRow
+  row = row_with disp new
+
+  pub loaded_card : IsLoadedCard fonts load block disp row c (run card_meaning (load_plan fonts load block row) c).0
+  loaded_card =
+      let loading = glyphs_plan line load.height load.count load.first in
+      let window = slice_index row.graphics 6 in
+      let c1 = through c (glyph_setting disp) in
+      let e1 : (run card_meaning glyphs_on c).0 ≡ c1 =
+      ap (λ x. (run card_meaning glyphs_on (card_at c x)).0) h.setting ∙ on_by disp c ∙ ap (λ x. through (card_at c x) (glyph_setting disp)) (sym h.setting) in
+      let z1 : IsCard c1 = subst IsCard e1 (plan_bounds law glyphs_on c z) in
+      let at1 : setting c1 ≡ glyph_setting disp = ap (λ (x : Setting). let q : Setting = record { misc = x.misc; seq = (glyph_setting disp).seq; gfx = (glyph_setting disp).gfx } in q) h.setting in
+      let start : IsLoading disp (without_glyphs c1) c1 (slice_index c1.host.memory.plane2) = record { mode = at1; size2 = z1.host.memory.size 2 (omega arith); row = λ o l. refl; others = refl } in
+      let loaded = glyphs_loaded disp (without_glyphs c1) c1 (slice_index c1.host.memory.plane2) line load.height load.count load.first there.last there.height (line_small fonts load block bytes are) start in
+      let s2 = (run card_meaning loading c1).0 in
+      let l2 = s2.host.memory.plane2 in
+      let c2 : CardState = record c1 { host = record c1.host { memory = record c1.host.memory { plane2 = l2 } } } in
+      let e2 : s2 ≡ c2 = but_glyphs s2 c1 loaded.shown.others in
+      let c3 = through c2 (text_setting disp) in
+      let e3 : (run card_meaning (glyphs_off window) c2).0 ≡ c3 =
+      ap (λ w. (run card_meaning (glyphs_off w) c2).0) (window_by disp)
+      ∙ ap (λ x. (run card_meaning (glyphs_off (window_of disp)) (card_at c2 x)).0) at1
+      ∙ off_by disp c2
+      ∙ ap (λ x. through (card_at c2 x) (text_setting disp)) (sym at1) in
+      let at3 : setting c3 ≡ text_setting disp = ap (λ (x : Setting). let q : Setting = record { misc = x.misc; seq = (text_setting disp).seq; gfx = (text_setting disp).gfx } in q) h.setting in
+      let registers : c3.crtc.registers ≡ crtc_registers (with_text (row_of disp) (lines_of disp h.height)) d.cursor_type (start_address d d.page) (cursor_address d d.page) =
+      h.tests.crtc ∙ ap (λ r. crtc_registers r d.cursor_type (start_address d d.page) (cursor_address d d.page)) h.row_is in
+      let plan = height_plan row.crtc_address row in
+      let e4 : (run card_meaning plan c3).0 ≡ with_crtc c3 (crtc_registers row row.cursor_type 0 0) 0x0F =
+      ap (λ port. (run card_meaning (height_plan port row) c3).0) (port_by disp)
+      ∙ ap (λ x. (run card_meaning (height_plan (port_of disp) row) (card_at c3 x)).0) at3
+      ∙ ap (λ x. (run card_meaning (height_plan (port_of disp) row) (card_at (with_crtc c3 x c3.crtc.index) (text_setting disp))).0) registers
+      ∙ height_by disp new (lines_of disp h.height) c3 d.cursor_type (start_address d d.page) (cursor_address d d.page)
+      ∙ ap (λ x. with_crtc (card_at c3 x) (crtc_registers row row.cursor_type 0 0) 0x0F) (sym at3) in
+      let fonted : (run card_meaning (font_plan line load.height load.count load.first window) c).0 ≡ c3 =
+      font_is line load.height load.count load.first window c ∙ then_runs glyphs_on (loading >> glyphs_off window) c
+      ∙ ap (λ x. (run card_meaning (loading >> glyphs_off window) x).0) e1
+      ∙ then_runs loading (glyphs_off window) c1
+      ∙ ap (λ x. (run card_meaning (glyphs_off window) x).0) e2
+      ∙ e3 in
+      record {
+        plane2 = l2;
+        cells = loaded.cells;
+        glyphs = loaded.fact;
+        byte = loaded.shown.row;
+        is = load_is fonts load block row c ∙ ap (λ x. (run card_meaning plan x).0) fonted ∙ e4;
+      }
+
+-- ---- the screen
+
+-- the data of a mode with a height, by cases
+own_row : (disp : Display) (new : Height) → row_at (number_of disp) (row_with disp new).height ≡ Some (row_with disp new)
+own_row Colour Eight = refl
+own_row Colour Fourteen = refl
+own_row Colour Sixteen = refl
+own_row Monochrome Eight = refl
+own_row Monochrome Fourteen = refl
+own_row Monochrome Sixteen = refl
+
+data_by : (disp : Display) (new : Height) (mode : ℕ) → shows_data (row_with disp new) (data_of_mode mode (row_with disp new)) ≡ true
+data_by Colour Eight mode = refl
+data_by Colour Fourteen mode = refl
+data_by Colour Sixteen mode = refl
+data_by Monochrome Eight mode = refl
+data_by Monochrome Fourteen mode = refl
+data_by Monochrome Sixteen mode = refl
+
+crtc_by : (disp : Display) (new : Height) → (let d = data_of_mode (number_of disp) (row_with disp new) in crtc_registers (row_with disp new) (row_with disp new).cursor_type 0 0 ≡ text_crtc (row_with disp new) d)
+crtc_by Colour Eight = refl
+crtc_by Colour Fourteen = refl
+crtc_by Colour Sixteen = refl
+crtc_by Monochrome Eight = refl
+crtc_by Monochrome Fourteen = refl
+crtc_by Monochrome Sixteen = refl
+
+memory_by : (disp : Display) → (let s = text_setting disp in let row = row_of disp in (s.misc == row.misc) && (bytes_eq s.seq row.sequencer && bytes_eq s.gfx row.graphics)) ≡ true
+memory_by Colour = refl
+memory_by Monochrome = refl
+
+-- the tests of attributes look at the row's attributes alone
+attribute_stays : (row other : ModeRow) (a : AttrState) → row.attribute ≡ other.attribute → shows_attribute row a ≡ true → shows_attribute other a ≡ true
+attribute_stays row other a e t =
+    sym (ap (λ (l : List ℕ). is_palette_shown a && ((bit_and (slice_index a.registers 0x10) 0xF7 == bit_and (slice_index l 0x10) 0xF7) && bytes_eq (drop 0x12 a.registers) (drop 0x12 l))) e) ∙ t
+
+pub load_shown : (law : KeepsBounds) (fonts : FontSet) (load : GlyphLoad) (block : List ℕ) → AreBytes block → AreFonts fonts → AreThere load (length block) → (c : CardState) (d : BiosData) (h : IsShown c d) → IsCard c → (new : Height)
+    → (let row = row_with h.display new in shown (run card_meaning (load_plan fonts load block row) c).0 (data_of_mode d.mode row) ≡ Some (load_at_height (Some (lines_of h.display new)) fonts (screen_shown c d h) load block))
+load_shown law fonts load block bytes are there c d h z new =
+    let disp = h.display in
+    let row = row_with disp new in
+    let t = loaded_card law fonts load block bytes are there c d h z new in
+    let registers = crtc_registers row row.cursor_type 0 0 in
+    let y = left disp c t.plane2 registers in
+    let after : BiosData = data_of_mode d.mode row in
+    let s = screen_shown c d h in
+    let set : setting y ≡ text_setting disp = ap (λ (x : Setting). let q : Setting = record { misc = x.misc; seq = (text_setting disp).seq; gfx = (text_setting disp).gfx } in q) h.setting in
+    let own : row_at d.mode row.height ≡ Some row = ap (λ m. row_at m row.height) h.number ∙ own_row disp new in
+    let tests : Tests row y after = record {
+      is_text = h.tests.is_text;
+      memory = ap (λ (x : Setting). (x.misc == row.misc) && (bytes_eq x.seq row.sequencer && bytes_eq x.gfx row.graphics)) set ∙ memory_by disp;
+      data_test = data_by disp new d.mode;
+      crtc = crtc_by disp new ∙ sym (ap (λ m. text_crtc row (data_of_mode m row)) h.number);
+      attribute = attribute_stays h.row row c.attr (ap (λ (r : ModeRow). r.attribute) h.row_is) h.tests.attribute;
+    } in
+    let columns : row.columns ≡ d.columns = sym (h.has.columns ∙ ap (λ (r : ModeRow). r.columns) h.row_is) in
+    ap (λ x. shown x after) t.is
+    ∙ shown_of y after row own tests
+    ∙ ap (λ g. let x : Screen = record (text_screen row y after) { glyphs = g } in Some x) (glyphs_are fonts load block c.host.memory.plane2 t.plane2 t.cells there.height t.glyphs t.byte)
+    ∙ ap (λ n. let x : Screen = record s { layout = record { columns = n; rows = row.last_row + 1; height = row.height; distance = row.size / 2; pages = row.pages }; places = replicate 8 0; cursor_type = row.cursor_type; page = 0; glyphs = listing (load_byte fonts load block (slice_index s.glyphs)) 0 (length s.glyphs) } in Some x) columns
