@@ -20,6 +20,8 @@ HERE = os.path.dirname(os.path.abspath(__file__))
 FONT = os.path.join(HERE, "..", "fonts", "zaklimot.fnt")
 EXAMPLES = os.path.join(HERE, "..", "examples")
 HEADER = b"VGAS\x01"
+# The header of a script that may have blocks.
+BLOCKS = b"VGAS\x02"
 MOST_BYTES = 16_777_216
 MOST_DOTS = 16_777_216
 FRAMES = 200
@@ -49,6 +51,11 @@ def advance(dots):
 def service(ax, bx=0, cx=0, dx=0):
     """A call of the video BIOS, without a block."""
     return struct.pack("<BHHHHH", 0x09, ax, bx, cx, dx, 0)
+
+
+def block(count, steps):
+    """Steps that are taken so many times."""
+    return struct.pack("<BH", 0x0D, count) + steps + b"\x0E"
 
 
 # Memory on, all addresses alike, all planes written, all bits let through.
@@ -125,6 +132,17 @@ def teletype_scrolling():
     return "run", HEADER + begin + row * 5_000, 400_000, "characters"
 
 
+def repeated():
+    """A block of 200 steps, register writes, port reads, memory writes and reads in turn, 65,535 times."""
+    turn = out(0x3CF, 0xF0) + inp(0x3CC) + put(0xA1234, 0x5A) + get(0xA1234)
+    return "run", BLOCKS + MEMORY + block(65_535, turn * 50), 200 * 65_535, "steps"
+
+
+def repeated_frames():
+    """The dots of 65,535 frames from power-on, a frame at a time: two lines of 45 dots each."""
+    return "run", BLOCKS + block(65_535, advance(90)), 65_535, "frames"
+
+
 def assembling():
     """The text of the most steps `int`, 11 bytes each, that a script may have."""
     count = (MOST_BYTES - len(HEADER)) // 11
@@ -139,7 +157,7 @@ def printing():
 
 SCRIPTS = (
     puts, cycles, dots, text_frames, planar_frames, byte_frames, mode_sets, scrolls, teletype, teletype_scrolling,
-    assembling, printing)
+    repeated, repeated_frames, assembling, printing)
 
 
 def words(program, job, path):

@@ -3,8 +3,8 @@ use Rattle.std.proofs.Common.{◌≡◌, ◌⊎◌, inl, inr, ℕ, Bool, false, 
 use Rattle.std.specs.declared.alloc.Global.{Global}
 use Rattle.vga_bits.specs.Tracked.{Writes, is_write_fault}
 use Rattle.vga_bits.specs.declared.fault.Fault.{Fault}
-use Rattle.vga_bits.specs.declared.fault.Fault.TheVariants.{FontSize, BadMagic, BadVersion, BadStep, Truncated, TooLong, BadLine, WriteFault, OutOfMemory}
-use Rattle.vga_script.specs.declared.step.Step.{Step}
+use Rattle.vga_bits.specs.declared.fault.Fault.TheVariants.{FontSize, BadMagic, BadVersion, BadStep, Truncated, TooLong, BadLine, WriteFault, OutOfMemory, TooMany}
+use Rattle.vga_script.specs.Item.{Listing, expanded}
 use Rattle.vga_script.specs.Decoding.{IsFault, IsSpellingFault}
 use Rattle.vga_script.specs.Input.{IsInput, IsReadingFault}
 use Rattle.vga_script.specs.Printing.{printed}
@@ -32,14 +32,14 @@ bad_text input text (BadLine n) read (inr (short, bad)) = (text, read, bad)
 bad_text input text _ read (inr bad) = absurd bad
 
 -- a text that is assembled
-pub good_text : (input : Option (List ℕ)) (text : List ℕ) (steps : List Step) → IsInput input text → SpellsText text steps → IsScript steps → FindsScript input (Ok steps)
-good_text input text steps read spelled script = (text, read, spelled, script)
+pub good_text : (input : Option (List ℕ)) (text : List ℕ) (script : Listing) → IsInput input text → SpellsText text script → IsScript script → FindsScript input (Ok script)
+good_text input text script read spelled good = (text, read, spelled, good)
 
 -- and its bytes
-pub assembled : (input : Option (List ℕ)) (steps : List Step) (result : Result (Vec ℕ Global) Fault) → FindsScript input (Ok steps)
-    → IfOk result (λ bytes. bytes.items ≡ encoding steps) → IsOkUnless result OutOfMemory → Assembles input result
-assembled input steps (Ok bytes) found are only = (steps, found, are)
-assembled input steps (Err f) found are only = subst (λ (x : Fault). Assembles input (Err x)) (sym only) tt
+pub assembled : (input : Option (List ℕ)) (script : Listing) (result : Result (Vec ℕ Global) Fault) → FindsScript input (Ok script)
+    → IfOk result (λ bytes. bytes.items ≡ encoding script) → IsOkUnless result OutOfMemory → Assembles input result
+assembled input script (Ok bytes) found are only = (script, found, are)
+assembled input script (Err f) found are only = subst (λ (x : Fault). Assembles input (Err x)) (sym only) tt
 
 -- ---- a text that is run
 
@@ -55,18 +55,18 @@ no_write_fault input failed WriteFault h sound = absurd h
 no_write_fault input failed _ h sound = sound
 
 -- a text whose script is run
-pub script_is_run : (until : Option ℕ) (file : List ℕ) (input before after : Option (List ℕ)) (steps : List Step) (result : Result Unit Fault) → FindsScript input (Ok steps)
-    → RunsScript until file steps before after result → RunsText until file input before after result
-script_is_run until file input before after steps (Ok u) found (size, written) = (size, (steps, found, written))
-script_is_run until file input before after steps (Err WriteFault) found (size, written) = (size, (steps, found, written))
-script_is_run until file input before after steps (Err FontSize) found h = (h, (steps, found))
-script_is_run until file input before after steps (Err OutOfMemory) found h = tt
-script_is_run until file input before after steps (Err _) found h = absurd h.1
+pub script_is_run : (until : Option ℕ) (file : List ℕ) (input before after : Option (List ℕ)) (script : Listing) (result : Result Unit Fault) → FindsScript input (Ok script)
+    → RunsScript until file (expanded script.items) before after result → RunsText until file input before after result
+script_is_run until file input before after script (Ok u) found (size, written) = (size, (script, found, written))
+script_is_run until file input before after script (Err WriteFault) found (size, written) = (size, (script, found, written))
+script_is_run until file input before after script (Err FontSize) found h = (h, (script, found))
+script_is_run until file input before after script (Err OutOfMemory) found h = tt
+script_is_run until file input before after script (Err _) found h = absurd h.1
 
 -- and where its run stops
-pub script_stops : (until : Option ℕ) (fonts : FontSet) (input before after : Option (List ℕ)) (steps : List Step) → FindsScript input (Ok steps)
-    → StopsSteps until fonts steps before after → StopsText until fonts input before after
-script_stops until fonts input before after steps found stops = (steps, found, stops)
+pub script_stops : (until : Option ℕ) (fonts : FontSet) (input before after : Option (List ℕ)) (script : Listing) → FindsScript input (Ok script)
+    → StopsSteps until fonts (expanded script.items) before after → StopsText until fonts input before after
+script_stops until fonts input before after script found stops = (script, found, stops)
 
 -- ---- a script in bytes
 
@@ -82,6 +82,7 @@ unspelled input before after bytes BadMagic read bad = (bytes, read, bad)
 unspelled input before after bytes BadVersion read bad = (bytes, read, bad)
 unspelled input before after bytes (BadStep at) read bad = (bytes, read, bad)
 unspelled input before after bytes (Truncated at) read bad = (bytes, read, bad)
+unspelled input before after bytes (TooMany at) read bad = (bytes, read, bad)
 unspelled input before after bytes _ read bad = absurd bad
 
 pub bad_script : (input before after : Option (List ℕ)) (bytes : List ℕ) (f : Fault) → IsInput input bytes → (f ≡ OutOfMemory) ⊎ IsFault bytes f → Prints input before after (Err f)
@@ -94,8 +95,8 @@ pub unprinted_script : (input before after : Option (List ℕ)) (f : Fault) → 
 unprinted_script input before after f is = subst (λ (x : Fault). Prints input before after (Err x)) (sym is) tt
 
 -- a script that is printed
-pub good_script : (input before after : Option (List ℕ)) (bytes : List ℕ) (steps : List Step) (failed : Bool) (result : Result Unit Fault) → IsInput input bytes
-    → Spells bytes steps → Writes before after failed result (printed steps) → Prints input before after result
-good_script input before after bytes steps failed (Ok u) read spelled w = (steps, (bytes, read, spelled), w.0)
-good_script input before after bytes steps failed (Err f) read spelled w =
-    subst (λ (x : Fault). Prints input before after (Err x)) (sym w.0) (steps, (bytes, read, spelled), w.2)
+pub good_script : (input before after : Option (List ℕ)) (bytes : List ℕ) (script : Listing) (failed : Bool) (result : Result Unit Fault) → IsInput input bytes
+    → Spells bytes script → Writes before after failed result (printed script) → Prints input before after result
+good_script input before after bytes script failed (Ok u) read spelled w = (script, (bytes, read, spelled), w.0)
+good_script input before after bytes script failed (Err f) read spelled w =
+    subst (λ (x : Fault). Prints input before after (Err x)) (sym w.0) (script, (bytes, read, spelled), w.2)

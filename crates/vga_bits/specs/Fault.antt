@@ -1,7 +1,7 @@
 -- The names of faults, as the program prints them.
 use Rattle.std.specs.Prelude.{ℕ, List, ◌++◌, codes, decimal}
 use Rattle.vga_bits.specs.declared.fault.Fault.{Fault}
-use Rattle.vga_bits.specs.declared.fault.Fault.TheVariants.{FontSize, BadMagic, BadVersion, BadStep, Truncated, TooLong, BadLine, ReadFault, WriteFault, OutOfMemory}
+use Rattle.vga_bits.specs.declared.fault.Fault.TheVariants.{FontSize, BadMagic, BadVersion, BadStep, Truncated, TooLong, BadLine, ReadFault, WriteFault, OutOfMemory, TooMany}
 
 -- a fault's number and name, and its place in decimal
 abbrev pub fault_name : Fault → List ℕ
@@ -15,3 +15,4 @@ fault_name (BadLine line) = codes "F7 BadLine(" ++ (decimal line ++ codes ")")
 fault_name ReadFault = codes "F8 ReadFault"
 fault_name WriteFault = codes "F9 WriteFault"
 fault_name OutOfMemory = codes "F10 OutOfMemory"
+fault_name (TooMany at) = codes "F11 TooMany(" ++ (decimal at ++ codes ")")

@@ -6,8 +6,8 @@ use arrayvec::ArrayString;
 use itoa::Buffer;
 use thiserror::Error;
 
-/// Why a run ends before its script does. Those that stand before `WriteFault` come before the first
-/// byte of a report.
+/// Why a run ends before its script does. Those that stand before `WriteFault`, and `TooMany`, come before
+/// the first byte of a report.
 #[derive(Clone, Copy, PartialEq, Eq, Debug, Error)]
 #[error("{}", self.name())]
 pub enum Fault {
@@ -31,6 +31,8 @@ pub enum Fault {
     WriteFault,
     /// A request for memory was refused.
     OutOfMemory,
+    /// With the step or the block at this offset of the script, in bytes, it means more than 16,777,216 steps.
+    TooMany(usize),
 }
 
 /// Room for the longest name of a fault: 13 bytes, a number of at most 20 digits, and one byte.
@@ -80,6 +82,7 @@ impl Fault {
             Fault::ReadFault => plain("F8 ReadFault"),
             Fault::WriteFault => plain("F9 WriteFault"),
             Fault::OutOfMemory => plain("F10 OutOfMemory"),
+            Fault::TooMany(at) => with_number("F11 TooMany(", *at),
         }
     }
 }

@@ -6,8 +6,8 @@ use Rattle.bios_modes.specs.Fonts.{FontSet}
 use Rattle.vga_script.specs.declared.step.Step.TheVariants.{Int, Advance, Frame}
 use Rattle.vga_run.specs.declared.answer.Answer.TheVariants.{Done, Refused}
 use Rattle.vga_run.specs.Answer.{Plain}
-use Rattle.bios_screen.specs.Step.{refused_on, next}
-use Rattle.bios_screen.specs.Loaded.{loaded}
+use Rattle.bios_screen.specs.Step.{refusal_on, next}
+use Rattle.bios_screen.specs.Loaded.{load_glyphs}
 use Rattle.bios_screen.specs.Drawing.{Drawing, dots_a_frame, take_dot, take_dots}
 use Rattle.vga_run.specs.DotReport.{reply_to, drawing_after, AreOfDots}
 
@@ -34,6 +34,6 @@ module _ (fonts : FontSet) (b : Drawing) where
 
   -- mode 3 with text of 8 lines; five dots, the cursor set, a loading of glyphs that wants a block and is refused; the frame's other dots
   are_of_dots : AreOfDots fonts (Int 0x0003 0 0 0 [] ∷ Int 0x1112 0 0 0 [] ∷ Advance 5 ∷ Int 0x0200 0 0 0 [] ∷ Int 0x1110 0x0800 1 0 [] ∷ Frame ∷ [])
-  unfolding drawing_after take_dots take_dot dots_a_frame refused_on next loaded
+  unfolding drawing_after take_dots take_dot dots_a_frame refusal_on next load_glyphs
   are_of_dots =
       ((not_none colour_text, refl), (inl ((not_none colour_text, refl), refl), (inr refl, (tt, (tt, (inl (not_none BadBlock), (tt, tt)))))))

@@ -28,8 +28,8 @@ use Rattle.bios_services.specs.Service.{Answered}
 use Rattle.bios_screen.specs.Screen.{Screen}
 use Rattle.bios_screen.specs.Shown.{shown}
 use Rattle.bios_screen.specs.Served.{after_call}
-use Rattle.bios_screen.specs.Step.{refused_on, next}
-use Rattle.bios_screen.specs.Loaded.{load_refused, loaded}
+use Rattle.bios_screen.specs.Step.{refusal_on, next}
+use Rattle.bios_screen.specs.Loaded.{load_refusal_on, load_glyphs}
 use Rattle.bios_screen.specs.Called.{AreWords, screen_unless}
 use Rattle.bios_screen.specs.Fresh.{fresh_screen}
 use Rattle.bios_screen.specs.Picture.{picture_width, picture_height}
@@ -53,10 +53,10 @@ pub record Laws : Type 0 where
   pub screens : ScreenLaws
   pub served : (asked_for : Service) (fonts : FontSet) (r : Regs) (block : List ℕ) (c : CardState) (d : BiosData) (b : Drawing)
       → IsCard c → IsBda d → AreWords r → AreBytes block → Follows c d b → call_of r ≡ Some (InMode asked_for)
-      → Follows (after_call fonts r block c d).0 (after_call fonts r block c d).1.1 (record b { screen = screen_unless (refused_on b.screen asked_for (length block)) b.screen (next fonts b.screen asked_for block) })
+      → Follows (after_call fonts r block c d).0 (after_call fonts r block c d).1.1 (record b { screen = screen_unless (refusal_on b.screen asked_for (length block)) b.screen (next fonts b.screen asked_for block) })
   pub loads : (load : GlyphLoad) (fonts : FontSet) (r : Regs) (block : List ℕ) (c : CardState) (d : BiosData) (b : Drawing)
       → IsCard c → AreBytes block → AreFonts fonts → Follows c d b → MayLoad b load (length block) → call_of r ≡ Some (LoadGlyphs load)
-      → Follows (after_call fonts r block c d).0 (after_call fonts r block c d).1.1 (record b { screen = screen_unless (load_refused b.screen load (length block)) b.screen (loaded fonts b.screen load block) })
+      → Follows (after_call fonts r block c d).0 (after_call fonts r block c d).1.1 (record b { screen = screen_unless (load_refusal_on b.screen load (length block)) b.screen (load_glyphs fonts b.screen load block) })
   pub table : (asked_for : TableService) (fonts : FontSet) (r : Regs) (block : List ℕ) (c : CardState) (d : BiosData) (b : Drawing)
       → IsCard c → Follows c d b → call_of r ≡ Some (ReadTable asked_for) → Follows (after_call fonts r block c d).0 (after_call fonts r block c d).1.1 b
   pub begins : (c : CardState) (d : BiosData) (b : Drawing) → IsCard c → shown c d ≡ Some b.screen → b.dot ≡ 0 → IsFrameStart c.crtc.beam → Follows c d b

@@ -17,7 +17,7 @@ use Rattle.vga_script.specs.Step.{AreInRange}
 use Rattle.vga_run.specs.Report.{report_of, steps_until}
 use Rattle.vga_run.specs.Run.{RunAnswers, ReportsSteps, RunsScript}
 use Rattle.vga_run.specs.ScreenReport.{Clears, StaysOnScreens, registers_of, IsOfScreens, AreOfScreens}
-use Rattle.vga_run.proofs.ScreenLemmas.{OneScript, glyph_bytes, spelled_range, input_script}
+use Rattle.vga_run.proofs.ScreenLemmas.{OneList, StepsFit, glyph_bytes, input_script}
 use Rattle.bios_screen.specs.Drawing.{Drawing, dots_a_frame, take_frame}
 use Rattle.bios_screen.specs.Whole.{IsFrameTaken}
 use Rattle.vga_run.specs.DotReport.{drawing_after, power_on_drawing, dot_report, StaysAt, AllOfDots, AreOfDots, ReportsDots, RunsDots}
@@ -43,19 +43,19 @@ script_of_dots law until file steps before after (Ok u) bytes range w whole of =
 script_of_dots law until file steps before after (Err WriteFault) bytes range w whole of = steps_of_dots law until (fonts_of file) steps before after (Err WriteFault) (glyph_bytes file bytes) range whole of w.1
 script_of_dots law until file steps before after (Err _) bytes range w whole of = tt
 
-pub run_of_dots : ReportsAlike → OneScript → (until : Option ℕ) (file : List ℕ) (input before after : Option (List ℕ)) (result : Result Unit Fault) → AreBytes file
+pub run_of_dots : ReportsAlike → OneList → StepsFit → (until : Option ℕ) (file : List ℕ) (input before after : Option (List ℕ)) (result : Result Unit Fault) → AreBytes file
     → RunAnswers until file input before after result → RunsDots until file input before after result
-run_of_dots law one until file input before after (Ok u) glyphs (size, (found, (read, is, others), w)) =
+run_of_dots law one fit until file input before after (Ok u) glyphs (size, (found, (read, is, others), w)) =
     λ bytes steps whole e spelled of.
     let same = input_script one input bytes read steps found e is.0 spelled others in
-    steps_of_dots law until (fonts_of file) steps before after (Ok u) (glyph_bytes file glyphs) (spelled_range spelled.0 steps spelled.2) whole of
+    steps_of_dots law until (fonts_of file) steps before after (Ok u) (glyph_bytes file glyphs) (fit bytes steps spelled) whole of
     (subst (λ (l : List Step). Appends before after (report_of (fonts_of file) (steps_until until l))) same w)
-run_of_dots law one until file input before after (Err WriteFault) glyphs (size, (found, (read, is, others), w)) =
+run_of_dots law one fit until file input before after (Err WriteFault) glyphs (size, (found, (read, is, others), w)) =
     λ bytes steps whole e spelled of.
     let same = input_script one input bytes read steps found e is.0 spelled others in
-    steps_of_dots law until (fonts_of file) steps before after (Err WriteFault) (glyph_bytes file glyphs) (spelled_range spelled.0 steps spelled.2) whole of
+    steps_of_dots law until (fonts_of file) steps before after (Err WriteFault) (glyph_bytes file glyphs) (fit bytes steps spelled) whole of
     (subst (λ (l : List Step). AppendsFront before after (report_of (fonts_of file) (steps_until until l))) same w)
-run_of_dots law one until file input before after (Err _) glyphs h = λ bytes steps whole e spelled of. tt
+run_of_dots law one fit until file input before after (Err _) glyphs h = λ bytes steps whole e spelled of. tt
 
 -- ---- whole frames
 

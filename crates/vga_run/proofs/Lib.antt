@@ -1,7 +1,7 @@
 pub mod LookLemmas
 pub mod NumberLemmas
 pub mod ReportLemmas
-pub mod SpelledLemmas
+pub mod TakenLemmas
 pub mod RunLemmas
 pub mod ScreenLemmas
 pub mod ServedLemmas

@@ -1,9 +1,11 @@
 -- What a run answers, from what its parts answer.
 use Rattle.std.proofs.Common.{◌≡◌, ◌∙◌, inl, inr, ℕ, ◌<◌, ◌≤◌, Bool, List, length, Option, None, Some, IfSome, Result, Ok, Err, arith, refl, sym, ap, subst}
 use Rattle.vga_bits.specs.declared.fault.Fault.{Fault}
-use Rattle.vga_bits.specs.declared.fault.Fault.TheVariants.{FontSize, BadMagic, BadVersion, BadStep, Truncated, TooLong, ReadFault, WriteFault, OutOfMemory}
+use Rattle.vga_bits.specs.declared.fault.Fault.TheVariants.{FontSize, BadMagic, BadVersion, BadStep, Truncated, TooLong, ReadFault, WriteFault, OutOfMemory, TooMany}
 use Rattle.bios_modes.specs.Fonts.{FontSet, IsFontFault, file_len, fonts_of}
 use Rattle.vga_script.specs.declared.step.Step.{Step}
+use Rattle.vga_script.specs.Item.{Listing}
+use Rattle.vga_script.specs.Spelled.{SpellsExpanded}
 use Rattle.vga_script.specs.Spelling.{Spells, script_limit}
 use Rattle.vga_bits.specs.Reading.{is_read_fault}
 use Rattle.vga_bits.specs.Tracked.{is_write_fault}
@@ -35,12 +37,12 @@ report_stops before after failed (Err e) machine n steps (inr (is, sound, stops)
 
 -- where memory runs out in the run of a script, it does in that of bytes that spell it
 pub stops_of_steps : (until : Option ℕ) (fonts : FontSet) (bytes : List ℕ) (before after : Option (List ℕ)) (steps : List Step)
-    → length bytes ≤ script_limit → Spells bytes steps → StopsSteps until fonts steps before after → StopsRun until fonts (Some bytes) before after
+    → length bytes ≤ script_limit → SpellsExpanded bytes steps → StopsSteps until fonts steps before after → StopsRun until fonts (Some bytes) before after
 stops_of_steps until fonts bytes before after steps few spelled stops = (steps, (bytes, (refl, few), spelled), stops)
 
 -- what the run of a script answers is the answer for bytes that spell it
 pub reports_of_steps : (until : Option ℕ) (fonts : FontSet) (bytes : List ℕ) (before after : Option (List ℕ)) (result : Result Unit Fault) (steps : List Step)
-    → length bytes ≤ script_limit → Spells bytes steps → ReportsSteps until fonts steps before after result → Reports until fonts (Some bytes) before after result
+    → length bytes ≤ script_limit → SpellsExpanded bytes steps → ReportsSteps until fonts steps before after result → Reports until fonts (Some bytes) before after result
 reports_of_steps until fonts bytes before after (Ok u) steps few spelled written = (steps, (bytes, (refl, few), spelled), written)
 reports_of_steps until fonts bytes before after (Err WriteFault) steps few spelled written = (steps, (bytes, (refl, few), spelled), written)
 reports_of_steps until fonts bytes before after (Err OutOfMemory) steps few spelled h = tt
@@ -53,6 +55,7 @@ spelling_answers until fonts bytes before after BadMagic few bad = (bytes, (refl
 spelling_answers until fonts bytes before after BadVersion few bad = (bytes, (refl, few), bad)
 spelling_answers until fonts bytes before after (BadStep at) few bad = (bytes, (refl, few), bad)
 spelling_answers until fonts bytes before after (Truncated at) few bad = (bytes, (refl, few), bad)
+spelling_answers until fonts bytes before after (TooMany at) few bad = (bytes, (refl, few), bad)
 spelling_answers until fonts bytes before after _ few bad = absurd bad
 
 pub fault_answers : (until : Option ℕ) (fonts : FontSet) (bytes : List ℕ) (before after : Option (List ℕ)) (f : Fault)
@@ -129,13 +132,13 @@ unread_answers until file input before after f size (inr (inr is)) = subst (λ (
 
 -- the law that no bytes that spell a script have a fault but that they are too long
 abbrev pub NoFault : Type 0
-NoFault = (bytes : List ℕ) (steps : List Step) (fault : Fault) → Spells bytes steps → IsFault bytes fault → fault ≡ TooLong
+NoFault = (bytes : List ℕ) (script : Listing) (fault : Fault) → Spells bytes script → IsFault bytes fault → fault ≡ TooLong
 
 -- so an input that spells a script has no fault
-no_input_fault : NoFault → (input : Option (List ℕ)) (f : Fault) (bytes : List ℕ) (steps : List Step) → input ≡ Some bytes → Spells bytes steps → InputHasFault input f → ⊥
-no_input_fault law input f bytes steps e spelled (others, read, bad) =
+no_input_fault : NoFault → (input : Option (List ℕ)) (f : Fault) (bytes : List ℕ) (steps : List Step) → input ≡ Some bytes → SpellsExpanded bytes steps → InputHasFault input f → ⊥
+no_input_fault law input f bytes steps e (script, spelled, means) (others, read, bad) =
     let same : bytes ≡ others = subst (λ (i : Option (List ℕ)). IfSome i (λ all. all ≡ others)) e read.0 in
-    let long = law others steps f (subst (λ (l : List ℕ). Spells l steps) same spelled) (inr (read.1, bad)) in
+    let long = law others script f (subst (λ (l : List ℕ). Spells l script) same spelled) (inr (read.1, bad)) in
     subst (IsSpellingFault others) long bad
 
 -- so a script is run, unless memory runs out or a stream fails

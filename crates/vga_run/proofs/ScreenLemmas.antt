@@ -45,7 +45,7 @@ use Rattle.bios_screen.specs.Picture.{picture_width, picture_height}
 use Rattle.vga_script.specs.declared.step.Step.{Step}
 use Rattle.vga_script.specs.declared.step.Step.TheVariants.{Int, Frame}
 use Rattle.vga_script.specs.Step.{IsInRange, AreInRange}
-use Rattle.vga_script.specs.Spelling.{Spells, SpellsSteps}
+use Rattle.vga_script.specs.Spelled.{SpellsExpanded}
 use Rattle.vga_run.specs.declared.machine.Machine.{Machine}
 use Rattle.vga_run.specs.Machine.{power_on_machine}
 use Rattle.vga_run.specs.Answer.{Served, of_service, of_shape}
@@ -286,9 +286,9 @@ reports_screens law fonts (step ∷ steps) glyphs range all = absurd all
 abbrev pub ReportsAlike : Type 0
 ReportsAlike = (fonts : FontSet) (steps : List Step) → AreFonts fonts → AreInRange steps → AreOfScreens steps → report_of fonts steps ≡ screen_report fonts steps
 
--- the law that no bytes spell two scripts
-abbrev pub OneScript : Type 0
-OneScript = (bytes : List ℕ) (first second : List Step) → Spells bytes first → Spells bytes second → first ≡ second
+-- the law that no bytes mean two lists of steps
+abbrev pub OneList : Type 0
+OneList = (bytes : List ℕ) (first second : List Step) → SpellsExpanded bytes first → SpellsExpanded bytes second → first ≡ second
 
 -- what the run of steps of screens writes is the plain screen's report
 pub steps_of_screens : ReportsAlike → (until : Option ℕ) (fonts : FontSet) (steps : List Step) (before after : Option (List ℕ)) (result : Result Unit Fault) → AreFonts fonts → AreInRange steps
@@ -306,27 +306,26 @@ script_of_screens law until file steps before after (Ok u) bytes range w whole o
 script_of_screens law until file steps before after (Err WriteFault) bytes range w whole of = steps_of_screens law until (fonts_of file) steps before after (Err WriteFault) (glyph_bytes file bytes) range whole of w.1
 script_of_screens law until file steps before after (Err _) bytes range w whole of = tt
 
--- the fields of steps that bytes spell fit
-pub spelled_range : (bytes : List ℕ) (steps : List Step) → SpellsSteps bytes steps → AreInRange steps
-spelled_range bytes [] h = tt
-spelled_range bytes (step ∷ steps) (rest, (fits, whole), more) = (fits, spelled_range rest steps more)
-
--- the script of an input is the one that its bytes spell
-pub input_script : OneScript → (input : Option (List ℕ)) (bytes read : List ℕ) (steps found : List Step) → input ≡ Some bytes → IfSome input (λ all. all ≡ read) → Spells bytes steps → Spells read found → found ≡ steps
+-- the steps of an input are those that its bytes mean
+pub input_script : OneList → (input : Option (List ℕ)) (bytes read : List ℕ) (steps found : List Step) → input ≡ Some bytes → IfSome input (λ all. all ≡ read) → SpellsExpanded bytes steps → SpellsExpanded read found → found ≡ steps
 input_script law input bytes read steps found e is spelled others =
     let same : bytes ≡ read = subst (λ (i : Option (List ℕ)). IfSome i (λ all. all ≡ read)) e is in
-    law read found steps others (subst (λ (l : List ℕ). Spells l steps) same spelled)
+    law read found steps others (subst (λ (l : List ℕ). SpellsExpanded l steps) same spelled)
 
-pub run_of_screens : ReportsAlike → OneScript → (until : Option ℕ) (file : List ℕ) (input before after : Option (List ℕ)) (result : Result Unit Fault) → AreBytes file
+-- the law that their fields fit
+abbrev pub StepsFit : Type 0
+StepsFit = (bytes : List ℕ) (steps : List Step) → SpellsExpanded bytes steps → AreInRange steps
+
+pub run_of_screens : ReportsAlike → OneList → StepsFit → (until : Option ℕ) (file : List ℕ) (input before after : Option (List ℕ)) (result : Result Unit Fault) → AreBytes file
     → RunAnswers until file input before after result → RunsScreens until file input before after result
-run_of_screens law one until file input before after (Ok u) glyphs (size, (found, (read, is, others), w)) =
+run_of_screens law one fit until file input before after (Ok u) glyphs (size, (found, (read, is, others), w)) =
     λ bytes steps whole e spelled of.
     let same = input_script one input bytes read steps found e is.0 spelled others in
-    steps_of_screens law until (fonts_of file) steps before after (Ok u) (glyph_bytes file glyphs) (spelled_range spelled.0 steps spelled.2) whole of
+    steps_of_screens law until (fonts_of file) steps before after (Ok u) (glyph_bytes file glyphs) (fit bytes steps spelled) whole of
     (subst (λ (l : List Step). Appends before after (report_of (fonts_of file) (steps_until until l))) same w)
-run_of_screens law one until file input before after (Err WriteFault) glyphs (size, (found, (read, is, others), w)) =
+run_of_screens law one fit until file input before after (Err WriteFault) glyphs (size, (found, (read, is, others), w)) =
     λ bytes steps whole e spelled of.
     let same = input_script one input bytes read steps found e is.0 spelled others in
-    steps_of_screens law until (fonts_of file) steps before after (Err WriteFault) (glyph_bytes file glyphs) (spelled_range spelled.0 steps spelled.2) whole of
+    steps_of_screens law until (fonts_of file) steps before after (Err WriteFault) (glyph_bytes file glyphs) (fit bytes steps spelled) whole of
     (subst (λ (l : List Step). AppendsFront before after (report_of (fonts_of file) (steps_until until l))) same w)
-run_of_screens law one until file input before after (Err _) glyphs h = λ bytes steps whole e spelled of. tt
+run_of_screens law one fit until file input before after (Err _) glyphs h = λ bytes steps whole e spelled of. tt

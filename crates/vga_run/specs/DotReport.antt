@@ -17,7 +17,7 @@ use Rattle.bios_screen.specs.Fresh.{fresh_text}
 use Rattle.bios_screen.specs.Picture.{picture_width, picture_height}
 use Rattle.vga_script.specs.declared.step.Step.{Step}
 use Rattle.vga_script.specs.declared.step.Step.TheVariants.{Int, Advance, Frame}
-use Rattle.vga_script.specs.Spelling.{Spells}
+use Rattle.vga_script.specs.Spelled.{SpellsExpanded}
 use Rattle.vga_run.specs.declared.answer.Answer.TheVariants.{Done, Refused}
 use Rattle.vga_run.specs.Answer.{Reply, Plain, Picture, Ragged, of_service}
 use Rattle.vga_run.specs.ScreenReport.{Clears, registers_of, called_on}
@@ -87,4 +87,4 @@ ReportsDots fonts steps before after (Err _) = Unit {0}
 -- What a run over a font file answers that is not stopped: that, where its input spells such steps.
 abbrev pub RunsDots : Option ℕ → List ℕ → Option (List ℕ) → Option (List ℕ) → Option (List ℕ) → Result Unit Fault → Type 0
 RunsDots until file input before after result =
-    (bytes : List ℕ) (steps : List Step) → until ≡ None → input ≡ Some bytes → Spells bytes steps → AreOfDots (fonts_of file) steps → ReportsDots (fonts_of file) steps before after result
+    (bytes : List ℕ) (steps : List Step) → until ≡ None → input ≡ Some bytes → SpellsExpanded bytes steps → AreOfDots (fonts_of file) steps → ReportsDots (fonts_of file) steps before after result

@@ -6,8 +6,9 @@ use Rattle.vga_bits.specs.declared.fault.Fault.{Fault}
 use Rattle.vga_bits.specs.declared.fault.Fault.TheVariants.{FontSize, TooLong, ReadFault, WriteFault, OutOfMemory}
 use Rattle.bios_modes.specs.Fonts.{FontSet, file_len, fonts_of}
 use Rattle.vga_script.specs.declared.step.Step.{Step}
-use Rattle.vga_script.specs.Spelling.{script_limit, Spells}
-use Rattle.vga_script.specs.Input.{InputHasFault, InputSpells, IsTooLong}
+use Rattle.vga_script.specs.Spelling.{script_limit}
+use Rattle.vga_script.specs.Spelled.{SpellsExpanded}
+use Rattle.vga_script.specs.Input.{InputHasFault, InputMeans, IsTooLong}
 use Rattle.vga_run.specs.declared.machine.Machine.{Machine}
 use Rattle.vga_run.specs.Machine.{power_on_machine}
 use Rattle.vga_run.specs.Step.{TakesMemory, answer_to, after_steps}
@@ -40,7 +41,7 @@ abbrev pub StopsSteps : Option ℕ → FontSet → List Step → Option (List �
 StopsSteps until fonts steps before after = StopsIn (power_on_machine fonts) 1 (steps_until until steps) before after
 
 abbrev pub StopsRun : Option ℕ → FontSet → Option (List ℕ) → Option (List ℕ) → Option (List ℕ) → Type 0
-StopsRun until fonts input before after = (steps : List Step) × InputSpells input steps × StopsSteps until fonts steps before after
+StopsRun until fonts input before after = (steps : List Step) × InputMeans input steps × StopsSteps until fonts steps before after
 
 -- What the run of these steps over some fonts answers that is stopped after so many, or not, over a writer that holds what is
 -- before and after: it has written their report, or a front of it where the writer fails; or memory ran out.
@@ -59,8 +60,8 @@ RunsScript until file steps before after result = (length file ≡ file_len) × 
 -- writer that holds what is before and after: it has written the report of the input's script, or a front of it where the
 -- writer fails; or there is a fault of the input, the first in order.
 abbrev pub Reports : Option ℕ → FontSet → Option (List ℕ) → Option (List ℕ) → Option (List ℕ) → Result Unit Fault → Type 0
-Reports until fonts input before after (Ok u) = (steps : List Step) × InputSpells input steps × Appends before after (report_of fonts (steps_until until steps))
-Reports until fonts input before after (Err WriteFault) = (steps : List Step) × InputSpells input steps × AppendsFront before after (report_of fonts (steps_until until steps))
+Reports until fonts input before after (Ok u) = (steps : List Step) × InputMeans input steps × Appends before after (report_of fonts (steps_until until steps))
+Reports until fonts input before after (Err WriteFault) = (steps : List Step) × InputMeans input steps × AppendsFront before after (report_of fonts (steps_until until steps))
 Reports until fonts input before after (Err FontSize) = ⊥
 Reports until fonts input before after (Err ReadFault) = ⊤
 Reports until fonts input before after (Err TooLong) = IsTooLong input
@@ -76,5 +77,5 @@ RunAnswers until file input before after result = (length file ≡ file_len) × 
 -- fails.
 abbrev pub RunsGoodScripts : List ℕ → Option (List ℕ) → Bool → Bool → Result Unit Fault → Type 0
 RunsGoodScripts file input read_failed write_failed result =
-    (bytes : List ℕ) (steps : List Step) → length file ≡ file_len → input ≡ Some bytes → length bytes ≤ script_limit → Spells bytes steps
+    (bytes : List ℕ) (steps : List Step) → length file ≡ file_len → input ≡ Some bytes → length bytes ≤ script_limit → SpellsExpanded bytes steps
     → read_failed ≡ false → write_failed ≡ false → IsOkUnless result OutOfMemory

@@ -19,16 +19,16 @@ use Rattle.bios_services.specs.declared.call.Call.TheVariants.{SetMode, ReadTabl
 use Rattle.bios_services.specs.Calls.{call_of}
 use Rattle.bios_services.specs.Tables.{table_refusal}
 use Rattle.bios_screen.specs.Screen.{Screen}
-use Rattle.bios_screen.specs.Step.{refused_on, next, answer_on}
-use Rattle.bios_screen.specs.Colours.{table_read}
-use Rattle.bios_screen.specs.Loaded.{load_refused, loaded}
+use Rattle.bios_screen.specs.Step.{refusal_on, next, answer_on}
+use Rattle.bios_screen.specs.Colours.{table_answer}
+use Rattle.bios_screen.specs.Loaded.{load_refusal_on, load_glyphs}
 use Rattle.bios_screen.specs.Called.{reply_unless, screen_unless, table_unless}
 use Rattle.bios_screen.specs.Fresh.{fresh_screen}
 use Rattle.bios_screen.specs.Picture.{dot_at, picture_width, picture_height, next_frame}
 use Rattle.bios_screen.specs.Raster.{picture_bytes}
 use Rattle.vga_script.specs.declared.step.Step.{Step}
 use Rattle.vga_script.specs.declared.step.Step.TheVariants.{Int, Frame}
-use Rattle.vga_script.specs.Spelling.{Spells}
+use Rattle.vga_script.specs.Spelled.{SpellsExpanded}
 use Rattle.vga_run.specs.Answer.{Reply, Served, Picture, Ragged, of_service}
 use Rattle.vga_run.specs.Report.{line}
 
@@ -70,11 +70,11 @@ set_on (Some row) mode fonts r s = (fresh_screen mode row fonts.f16 s.frame, Ok 
 abbrev pub called_on : Option Call → FontSet → Regs → List ℕ → Screen → Screen × Result ServiceReply Refusal
 called_on None fonts r block s = (s, Err BadFunction)
 called_on (Some (SetMode mode keeps)) fonts r block s = set_on (mode_row mode) mode fonts r s
-called_on (Some (ReadTable service)) fonts r block s = (s, table_unless (table_refusal service) (table_read s service) r)
+called_on (Some (ReadTable service)) fonts r block s = (s, table_unless (table_refusal service) (table_answer s service) r)
 called_on (Some (LoadGlyphs load)) fonts r block s =
-    let why = load_refused s load (length block) in (screen_unless why s (loaded fonts s load block), reply_unless why r)
+    let why = load_refusal_on s load (length block) in (screen_unless why s (load_glyphs fonts s load block), reply_unless why r)
 called_on (Some (InMode service)) fonts r block s =
-    let why = refused_on s service (length block) in (screen_unless why s (next fonts s service block), reply_unless why (answer_on fonts s service r))
+    let why = refusal_on s service (length block) in (screen_unless why s (next fonts s service block), reply_unless why (answer_on fonts s service r))
 
 -- what a call answers; a frame answers the picture of the active page. No other step is of screens.
 unfoldable pub reply_on : FontSet → Screen → Step → Reply
@@ -121,4 +121,4 @@ ReportsScreens fonts steps before after (Err _) = Unit {0}
 -- What a run over a font file answers that is not stopped: that, where its input spells steps of screens.
 abbrev pub RunsScreens : Option ℕ → List ℕ → Option (List ℕ) → Option (List ℕ) → Option (List ℕ) → Result Unit Fault → Type 0
 RunsScreens until file input before after result =
-    (bytes : List ℕ) (steps : List Step) → until ≡ None → input ≡ Some bytes → Spells bytes steps → AreOfScreens steps → ReportsScreens (fonts_of file) steps before after result
+    (bytes : List ℕ) (steps : List Step) → until ≡ None → input ≡ Some bytes → SpellsExpanded bytes steps → AreOfScreens steps → ReportsScreens (fonts_of file) steps before after result

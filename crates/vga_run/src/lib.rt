@@ -11,7 +11,7 @@ mod report;
 mod runs;
 mod screens;
 mod served;
-mod spelled_report;
+mod steps_report;
 
 pub use answer::Answer;
 pub use laws::refused_steps_change_nothing;

@@ -1,5 +1,5 @@
 //! The report of a run.
-ghost use Rattle.std.specs.Prelude.{◌≡◌, ◌+◌, ◌*◌, ◌<◌, ◌≤◌, ◌++◌, length, false, OnOk, ◌^◌, codes, decimal, Some};
+ghost use Rattle.std.specs.Prelude.{◌≡◌, ◌+◌, ◌*◌, ◌<◌, ◌≤◌, ◌++◌, length, false, OnOk, ◌^◌, codes, decimal};
 ghost use Rattle.vga_bits.specs.Tracked.{inner_of, has_failed, Writes};
 ghost use Rattle.vga_card.specs.Frames.{IsSmall};
 ghost use Rattle.vga_card.specs.Picture.{widest, highest};
@@ -9,7 +9,7 @@ ghost use Rattle.vga_run.specs.Run.{WritesStep, WritesReport};
 ghost use Rattle.vga_script.specs.Step.{IsInRange, AreInRange};
 ghost use Rattle.vga_script.specs.declared.step.Step.TheVariants.{Int};
 ghost use Rattle.vga_script.specs.Shown.{IsShownInRange};
-ghost use Rattle.vga_run.specs.Report.{line as line_of, look_text, picture_line as picture_line_of, last_looks, steps_until};
+ghost use Rattle.vga_run.specs.Report.{line as line_of, look_text, picture_line as picture_line_of, last_looks};
 ghost use Rattle.vga_show.specs.Ppm.{ppm};
 ghost use Rattle.bios_modes.specs.Valid.{IsValid};
 
@@ -22,7 +22,7 @@ use super::served::write_reply;
 use bios_services::{Regs, ServiceError, int10};
 use std::alloc::Global;
 use std::io::Write;
-use vga_bits::{Fault, Tracked, flush, write_whole};
+use vga_bits::{Fault, Tracked, write_whole};
 use vga_card::Drawn;
 use vga_script::{Shown, Step};
 use vga_show::{
@@ -146,7 +146,7 @@ fn write_shown<W: Write>(
 
 /// Calls the video BIOS, and writes what it answers as step n.
 #[tactic(auto, unfolding(crate::specs::Step::called, crate::specs::Step::answer_to, crate::specs::Step::after_step))]
-pub(crate) fn write_service<W: Write>(
+fn write_service<W: Write>(
     alloc: Global,
     out: &mut Tracked<W>,
     n: usize,
@@ -183,7 +183,7 @@ pub(crate) fn write_step<W: Write>(
     out: &mut Tracked<W>,
     line: &mut NumberedLine,
     machine: &mut Machine,
-    step: &Step,
+    step: &Step<'_>,
 ) -> Result<(), Fault>
     requires writer { has_failed out.old ≡ false }
     requires range { IsInRange step.now }
@@ -235,7 +235,7 @@ fn write_lines<W: Write>(
     out: &mut Tracked<W>,
     machine: &mut Machine,
     first: usize,
-    steps: &[Step],
+    steps: &[Step<'_>],
 ) -> Result<(), Fault>
     requires writer { has_failed out.old ≡ false }
     requires numbers { first + length steps.now < 2 ^ 64 }
@@ -280,66 +280,4 @@ pub(crate) fn write_last_looks<W: Write>(
         },
     ];
     write_lines(alloc, out, machine, first, &last_looks)
-}
-
-/// Takes so many of the first steps, all if there are fewer, and then the last looks.
-#[tactic(auto, using(crate::proofs::ReportLemmas::first_in_range))]
-fn write_until<W: Write>(
-    alloc: Global,
-    out: &mut Tracked<W>,
-    machine: &mut Machine,
-    steps: &[Step],
-    most: u32,
-) -> Result<(), Fault>
-    requires writer { has_failed out.old ≡ false }
-    requires range { AreInRange steps.now }
-    requires valid { IsValid machine.old.bda }
-    ensures { WritesReport (W.contents (inner_of out.old)) (W.contents (inner_of out.new))
-        (has_failed out.new) result machine.old 1 (steps_until (Some most) steps.now) }
-{
-    let count = (most as usize).min(steps.len());
-    let (taken, _) = steps.split_at(count);
-    write_lines(alloc, out, machine, 1, taken)?;
-    write_last_looks(alloc, out, machine, count + 1)
-}
-
-/// Takes the steps on this machine, all of them or so many of the first with the last looks.
-fn write_steps<W: Write>(
-    alloc: Global,
-    out: &mut Tracked<W>,
-    machine: &mut Machine,
-    steps: &[Step],
-    until: Option<u32>,
-) -> Result<(), Fault>
-    requires writer { has_failed out.old ≡ false }
-    requires range { AreInRange steps.now }
-    requires valid { IsValid machine.old.bda }
-    ensures { WritesReport (W.contents (inner_of out.old)) (W.contents (inner_of out.new))
-        (has_failed out.new) result machine.old 1 (steps_until until steps.now) }
-{
-    match until {
-        Some(most) => write_until(alloc, out, machine, steps, most),
-        None => write_lines(alloc, out, machine, 1, steps),
-    }
-}
-
-/// Takes the steps on this machine, all of them or so many of the first with the last looks, writes what each
-/// answers, of which the first has the number 1, and flushes the writer. It fails with `WriteFault` where the
-/// writer does, which then has a front of the report, and with `OutOfMemory` before a step that takes memory.
-#[tactic(auto, using(crate::proofs::ReportLemmas::report_is_flushed))]
-pub(crate) fn write_report<W: Write>(
-    alloc: Global,
-    out: &mut Tracked<W>,
-    machine: &mut Machine,
-    steps: &[Step],
-    until: Option<u32>,
-) -> Result<(), Fault>
-    requires writer { has_failed out.old ≡ false }
-    requires range { AreInRange steps.now }
-    requires valid { IsValid machine.old.bda }
-    ensures { WritesReport (W.contents (inner_of out.old)) (W.contents (inner_of out.new))
-        (has_failed out.new) result machine.old 1 (steps_until until steps.now) }
-{
-    write_steps(alloc, out, machine, steps, until)?;
-    flush(out)
 }

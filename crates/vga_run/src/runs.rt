@@ -4,20 +4,20 @@ ghost use Rattle.vga_bits.specs.declared.fault.Fault.TheVariants.{WriteFault, Ou
 ghost use Rattle.vga_bits.specs.Tracked.{inner_of, has_failed, is_write_fault, taken_of};
 ghost use Rattle.vga_bits.specs.Reading.{TakesAtMost, is_read_fault};
 ghost use Rattle.bios_modes.specs.Fonts.{file_len, fonts_of};
+ghost use Rattle.vga_script.specs.Item.{expanded};
 ghost use Rattle.vga_script.specs.Spelling.{script_limit};
 ghost use Rattle.vga_run.specs.Run.{Reports, ReportsSteps, RunAnswers, RunsGoodScripts, RunsScript, StopsRun, StopsSteps};
 ghost use Rattle.vga_run.specs.DotReport.{AreOfDots, ReportsDots, RunsDots};
 ghost use Rattle.vga_run.specs.ScreenReport.{AreOfScreens, ReportsScreens, RunsScreens};
 
 use super::machine::Machine;
-use super::report::write_report;
 use super::screens::{bytes_fit, reports_are_dots, reports_are_screens};
-use super::spelled_report::write_spelled_report;
+use super::steps_report::write_report;
 use bios_modes::Fonts;
 use std::alloc::Global;
 use std::io::{Read, Write};
 use vga_bits::{Fault, Tracked};
-use vga_script::{Script, SpelledSteps, one_fault, one_script, read_script};
+use vga_script::{Script, Steps, one_fault, one_list, read_script, steps_fit};
 
 /// Runs a script from power-on, writes its report and nothing else, and flushes the writer. The reader
 /// and the writer must not have failed before.
@@ -30,7 +30,7 @@ use vga_script::{Script, SpelledSteps, one_fault, one_script, read_script};
 /// - `FontSize`: `fonts`, the font file, has not 9,728 bytes. Nothing is read.
 /// - `ReadFault`: the reader failed.
 /// - `TooLong`: the reader had more than 16,777,216 bytes. One more is read, and none behind it.
-/// - `BadMagic`, `BadVersion`, `BadStep`, `Truncated`: the bytes are no script.
+/// - `BadMagic`, `BadVersion`, `BadStep`, `Truncated`, `TooMany`: the bytes are no script.
 /// - `WriteFault`: the writer failed, and has a front of the report.
 ///
 /// `OutOfMemory` comes where a request for memory was refused: before the first byte is written, or in a
@@ -74,7 +74,8 @@ pub fn run<R: Read, W: Write>(
         (W.contents (inner_of out.old)) (W.contents (inner_of out.new)) }
 {
     one_fault(); // A script has no fault.
-    one_script();
+    one_list();
+    steps_fit();
     reports_are_screens();
     reports_are_dots();
     bytes_fit(fonts);
@@ -136,7 +137,8 @@ pub fn run_bytes<W: Write>(
     ensures stopped { result ≡ Err OutOfMemory → (out.new ≡ out.old) ⊎ StopsRun until (fonts_of fonts.now) (Some script.now)
         (W.contents (inner_of out.old)) (W.contents (inner_of out.new)) }
 {
-    one_script();
+    one_list();
+    steps_fit();
     reports_are_screens();
     reports_are_dots();
     bytes_fit(fonts);
@@ -162,15 +164,15 @@ fn run_bytes_over<W: Write>(
     ensures stopped { result ≡ Err OutOfMemory → (out.new ≡ out.old) ⊎ StopsRun until fonts (Some script.now)
         (W.contents (inner_of out.old)) (W.contents (inner_of out.new)) }
 {
-    let steps = SpelledSteps::of(script)?;
-    run_spelled_over(alloc, steps, fonts, out, until)
+    let steps = Steps::of(script)?;
+    run_steps_over(alloc, steps, fonts, out, until)
 }
 
 /// Runs steps that are taken from the bytes of a script over some fonts.
 #[tactic(auto, using(crate::proofs::RunLemmas::report_answers, crate::proofs::RunLemmas::report_fails, crate::proofs::RunLemmas::report_stops))]
-fn run_spelled_over<W: Write>(
+fn run_steps_over<W: Write>(
     alloc: Global,
-    steps: SpelledSteps<'_>,
+    steps: Steps<'_>,
     fonts: Fonts,
     out: &mut Tracked<W>,
     until: Option<u32>,
@@ -185,7 +187,7 @@ fn run_spelled_over<W: Write>(
         (W.contents (inner_of out.old)) (W.contents (inner_of out.new)) }
 {
     let mut machine = Machine::power_on(alloc, fonts)?;
-    write_spelled_report(alloc, out, &mut machine, steps, until)
+    write_report(alloc, out, &mut machine, steps, until)
 }
 
 /// Runs a script that was decoded or assembled, as `run` does. So its faults are `FontSize`, `WriteFault`
@@ -200,46 +202,25 @@ pub fn run_script<W: Write>(
 ) -> Result<(), Fault>
     requires { has_failed out.old ≡ false }
     // The report of the script's steps, or the first fault.
-    ensures answer { RunsScript until fonts.now script.now
+    ensures answer { RunsScript until fonts.now (expanded script.now.items)
         (W.contents (inner_of out.old)) (W.contents (inner_of out.new)) result }
     // The report of services and whole frames alone is the plain screen's.
-    ensures screens { until ≡ None → AreOfScreens script.now → ReportsScreens (fonts_of fonts.now) script.now
+    ensures screens { until ≡ None → AreOfScreens (expanded script.now.items) → ReportsScreens (fonts_of fonts.now) (expanded script.now.items)
         (W.contents (inner_of out.old)) (W.contents (inner_of out.new)) result }
     // That of services, dots and frames is its report dot by dot.
-    ensures dots { until ≡ None → AreOfDots (fonts_of fonts.now) script.now → ReportsDots (fonts_of fonts.now) script.now
+    ensures dots { until ≡ None → AreOfDots (fonts_of fonts.now) (expanded script.now.items) → ReportsDots (fonts_of fonts.now) (expanded script.now.items)
         (W.contents (inner_of out.old)) (W.contents (inner_of out.new)) result }
     // The writer fails exactly where the answer says so, and is left untouched by any other fault; but before
     // want of memory in a step the answers of the steps before are written, whole.
     ensures write_failed { has_failed out.new ≡ is_write_fault result }
     ensures unwritten { IfErr result (λ e. e ≢ WriteFault → e ≢ OutOfMemory → out.new ≡ out.old) }
-    ensures stopped { result ≡ Err OutOfMemory → (out.new ≡ out.old) ⊎ StopsSteps until (fonts_of fonts.now) script.now
+    ensures stopped { result ≡ Err OutOfMemory → (out.new ≡ out.old) ⊎ StopsSteps until (fonts_of fonts.now) (expanded script.now.items)
         (W.contents (inner_of out.old)) (W.contents (inner_of out.new)) }
 {
     reports_are_screens();
     reports_are_dots();
     bytes_fit(fonts);
-    let _ = script.list(); // The steps are a script's.
+    let steps = script.steps();
     let fonts = Fonts::from_bytes(alloc, fonts)?;
-    run_over(alloc, script, fonts, out, until)
-}
-
-/// Runs a script over some fonts.
-#[tactic(auto, using(crate::proofs::RunLemmas::report_answers, crate::proofs::RunLemmas::report_fails, crate::proofs::RunLemmas::report_stops))]
-fn run_over<W: Write>(
-    alloc: Global,
-    script: &Script,
-    fonts: Fonts,
-    out: &mut Tracked<W>,
-    until: Option<u32>,
-) -> Result<(), Fault>
-    requires { has_failed out.old ≡ false }
-    ensures answer { ReportsSteps until fonts script.now
-        (W.contents (inner_of out.old)) (W.contents (inner_of out.new)) result }
-    ensures write_failed { has_failed out.new ≡ is_write_fault result }
-    ensures unwritten { IfErr result (λ e. e ≢ WriteFault → e ≢ OutOfMemory → out.new ≡ out.old) }
-    ensures stopped { result ≡ Err OutOfMemory → (out.new ≡ out.old) ⊎ StopsSteps until fonts script.now
-        (W.contents (inner_of out.old)) (W.contents (inner_of out.new)) }
-{
-    let mut machine = Machine::power_on(alloc, fonts)?;
-    write_report(alloc, out, &mut machine, script.list(), until)
+    run_steps_over(alloc, steps, fonts, out, until)
 }

@@ -1,13 +1,17 @@
 -- Decoding the bytes of a script.
-use Rattle.std.proofs.Common.{◌≡◌, ℕ, ◌<◌, ◌≤◌, ◌^◌, ◌↔◌, Bool, false, IsTrue, inl, inr, ◌+◌, ◌-◌, List, [], ◌∷◌, ◌++◌, length, drop, refl, sym, ap, ◌∙◌, arith, append_assoc, append-nil, length-append, None, subst}
+use Rattle.std.proofs.Common.{◌≡◌, ◌≢◌, ℕ, ◌<◌, ◌≤◌, ◌^◌, ◌↔◌, Bool, false, IsTrue, inl, inr, ◌+◌, ◌-◌, List, [], ◌∷◌, ◌++◌, length, drop, refl, sym, ap, ◌∙◌, arith, append_assoc, append-nil, length-append, None, subst}
+use Rattle.vga_bits.specs.declared.fault.Fault.{Fault}
+use Rattle.vga_bits.specs.declared.fault.Fault.TheVariants as fault
 use Rattle.byteorder.specs.Endian.{little_bytes, little_number}
 use Rattle.vga_script.proofs.FieldLemmas.{two_back}
 use Rattle.vga_script.specs.declared.step.Step.{Step}
 use Rattle.vga_script.specs.declared.shown.Shown.TheVariants as shown
+use Rattle.vga_script.specs.Item.{Item, Listing, listing, expanded, step_limit, steps_of, IsItemOf, Once}
+use Rattle.vga_script.specs.declared.version.Version.{Version}
 use Rattle.vga_script.specs.Shown.{IsShownInRange, kind_dac, kind_plane}
-use Rattle.vga_script.specs.Step.{IsInRange}
-use Rattle.vga_script.specs.Spelling.{header, opcode_out, opcode_out_word, opcode_in, opcode_in_word, opcode_put, opcode_put_word, opcode_get, opcode_get_word, opcode_int, opcode_advance, opcode_show, spelling, StartsWithStep, SpellsSteps, Spells}
-use Rattle.vga_script.specs.Decoding.{shown_len, fields_len, StartsOutOfRange, StartsWithBadStep, StartsWithCutStep, SpellsUpTo}
+use Rattle.vga_script.specs.Spelling.{StartsWithStep, header, opcode_out, opcode_out_word, opcode_in, opcode_in_word, opcode_put, opcode_put_word, opcode_get, opcode_get_word, opcode_int, opcode_advance, opcode_show, item_spelling, StartsWithItem, SpellsItems, Spells}
+use Rattle.vga_script.specs.Decoding.{shown_len, fields_len, StartsOutOfRange, StartsWithBadStep, StartsWithCutStep, SpellsUpTo, IsItemFault, HasItemFault, IsSpellingFault}
+use Rattle.vga_script.proofs.ItemLemmas.{length-expanded-push}
 
 -- an opcode whose fields are not all there
 pub cut_out : (fields : List ℕ) → length fields < 3 → StartsWithCutStep (opcode_out ∷ fields)
@@ -77,49 +81,105 @@ out_of_range fields rest plane offset count b e ho hn same is =
 pub bad_range : (bytes : List ℕ) → StartsOutOfRange bytes → StartsWithBadStep bytes
 bad_range bytes h = inr h
 
--- one more step behind some steps
-spells_more : (front : List ℕ) (steps : List Step) (step : Step) → SpellsSteps front steps → IsInRange step → SpellsSteps (front ++ spelling step) (steps ++ step ∷ [])
-spells_more front [] step none fits =
-    ([], (fits, ap (λ (l : List ℕ). l ++ spelling step) none ∙ sym (append-nil (spelling step))), refl)
-spells_more front (s ∷ steps) step (rest, (fits, whole), more) last =
-    (rest ++ spelling step, (fits, ap (λ (l : List ℕ). l ++ spelling step) whole ∙ append_assoc (spelling s) rest (spelling step)), spells_more rest steps step more last)
+-- ---- the items of a script
 
--- the steps so far stand before the rest of a script
-pub record HasDecoded (bytes : List ℕ) (steps : List Step) (rest : List ℕ) : Type 0 where
+-- one more item behind some
+items_more : (version : Version) (front : List ℕ) (items : List Item) (i : Item) → SpellsItems version front items → IsItemOf version i → SpellsItems version (front ++ item_spelling i) (items ++ i ∷ [])
+items_more version front [] i none fits = ([], (fits, ap (λ (l : List ℕ). l ++ item_spelling i) none ∙ sym (append-nil (item_spelling i))), refl)
+items_more version front (j ∷ items) i (rest, (fits, whole), more) last =
+    (rest ++ item_spelling i, (fits, ap (λ (l : List ℕ). l ++ item_spelling i) whole ∙ append_assoc (item_spelling j) rest (item_spelling i)), items_more version rest items i more last)
+
+-- the items so far, which mean so many steps, stand before the rest of a script
+pub record HasDecoded (bytes : List ℕ) (version : Version) (items : List Item) (taken : ℕ) (rest : List ℕ) : Type 0 where
   pub front : List ℕ
-  pub good : Spells front steps
+  pub good : Spells front (listing version items)
   pub whole : bytes ≡ front ++ rest
   pub short : length rest ≤ length bytes
+  pub count : taken ≡ length (expanded items)
+  pub few : taken ≤ step_limit
 
--- no step is decoded
-pub decoded_none : (bytes rest : List ℕ) → bytes ≡ header ++ rest → HasDecoded bytes [] rest
-decoded_none bytes rest e = record {
-  front = header;
-  good = ([], refl, refl);
+-- no item is decoded
+decoded_nothing : (bytes rest : List ℕ) (version : Version) → bytes ≡ header version ++ rest → HasDecoded bytes version [] 0 rest
+decoded_nothing bytes rest version e = record {
+  front = header version;
+  good = ([], refl, refl, omega arith);
   whole = e;
   short = let l = ap length e in omega arith;
+  count = refl;
+  few = omega arith;
 }
 
--- one more step is decoded
-pub decoded_more : (bytes rest others : List ℕ) (steps : List Step) (step : Step) → HasDecoded bytes steps rest → StartsWithStep rest step others → HasDecoded bytes (steps ++ step ∷ []) others
-decoded_more bytes rest others steps step h (fits, e) =
+-- one more is
+pub decoded_more : (bytes rest others : List ℕ) (version : Version) (items : List Item) (taken more : ℕ) (i : Item) → HasDecoded bytes version items taken rest → StartsWithItem version rest i others
+    → more ≡ taken + length (steps_of i) → more ≤ step_limit → HasDecoded bytes version (items ++ i ∷ []) more others
+decoded_more bytes rest others version items taken more i h (fits, e) sum few =
+    let pushed = length-expanded-push items i in
+    let so_far = h.count in
     record {
-      front = h.front ++ spelling step;
-      good = (h.good.0 ++ spelling step, ap (λ (l : List ℕ). l ++ spelling step) h.good.1 ∙ append_assoc header h.good.0 (spelling step), spells_more h.good.0 steps step h.good.2 fits);
-      whole = h.whole ∙ ap (λ (l : List ℕ). h.front ++ l) e ∙ sym (append_assoc h.front (spelling step) others);
-      short = let l = ap length e ∙ length-append (spelling step) others in let s = h.short in omega arith;
+      front = h.front ++ item_spelling i;
+      good = (
+        h.good.0 ++ item_spelling i,
+        ap (λ (l : List ℕ). l ++ item_spelling i) h.good.1 ∙ append_assoc (header version) h.good.0 (item_spelling i),
+        items_more version h.good.0 items i h.good.2 fits,
+        omega arith,
+      );
+      whole = h.whole ∙ ap (λ (l : List ℕ). h.front ++ l) e ∙ sym (append_assoc h.front (item_spelling i) others);
+      short = let l = ap length e ∙ length-append (item_spelling i) others in let s = h.short in omega arith;
+      count = omega arith;
+      few = few;
     }
 
--- nothing is left
-pub decoded_all : (bytes rest : List ℕ) (steps : List Step) → HasDecoded bytes steps rest → rest ≡ [] → Spells bytes steps
-decoded_all bytes rest steps h e = subst (λ (l : List ℕ). Spells l steps) (sym (h.whole ∙ ap (λ (l : List ℕ). h.front ++ l) e ∙ append-nil h.front)) h.good
+-- a list of no length
+pub nothing : {A : Type 0} (xs : List A) → length xs ≡ 0 → xs ≡ []
+nothing [] e = refl
+nothing (x ∷ xs) e = absurd (omega arith)
 
--- the rest stands where the steps so far end
-pub decoded_front : (bytes rest : List ℕ) (steps : List Step) (offset : ℕ) → HasDecoded bytes steps rest → offset ≡ length bytes - length rest → SpellsUpTo bytes offset rest
-decoded_front bytes rest steps offset h e = record {
+-- nothing is left
+pub decoded_all : (bytes rest : List ℕ) (version : Version) (items : List Item) (taken : ℕ) → HasDecoded bytes version items taken rest → rest ≡ [] → Spells bytes (listing version items)
+decoded_all bytes rest version items taken h none =
+    subst (λ (l : List ℕ). Spells l (listing version items)) (sym (h.whole ∙ ap (λ (l : List ℕ). h.front ++ l) none ∙ append-nil h.front)) h.good
+
+-- the rest stands where the items so far end
+up_to : (bytes rest : List ℕ) (version : Version) (items : List Item) (taken offset : ℕ) → HasDecoded bytes version items taken rest → offset ≡ length bytes - length rest → SpellsUpTo bytes (listing version items) offset rest
+up_to bytes rest version items taken offset h e = record {
   front = h.front;
-  steps = steps;
   whole = h.whole;
   good = h.good;
   place = let l = ap length h.whole ∙ length-append h.front rest in omega arith;
 }
+
+-- a fault of the next item is that of the script
+pub item_fault : (bytes : List ℕ) (f : Fault) → HasItemFault bytes f → IsSpellingFault bytes f
+item_fault bytes (fault.BadStep at) h = h
+item_fault bytes (fault.Truncated at) h = inr h
+item_fault bytes (fault.TooMany at) h = h
+item_fault bytes _ (script, offset, rest, up, h) = absurd h
+
+pub decoded_fault : (bytes rest : List ℕ) (version : Version) (items : List Item) (taken offset : ℕ) (f : Fault) → HasDecoded bytes version items taken rest → offset ≡ length bytes - length rest
+    → IsItemFault version taken offset rest f → IsSpellingFault bytes f
+decoded_fault bytes rest version items taken offset f h e bad =
+    item_fault bytes f (listing version items, offset, rest, up_to bytes rest version items taken offset h e, subst (λ (n : ℕ). IsItemFault version n offset rest f) h.count bad)
+
+-- ---- passing over items
+
+pub decoded_none : (bytes rest : List ℕ) (version : Version) → bytes ≡ header version ++ rest → (items : List Item) × HasDecoded bytes version items 0 rest
+decoded_none bytes rest version e = ([], decoded_nothing bytes rest version e)
+
+-- one more item is passed over
+pub passed_more : (bytes rest others : List ℕ) (version : Version) (taken more : ℕ) (i : Item) → (items : List Item) × HasDecoded bytes version items taken rest → StartsWithItem version rest i others
+    → more ≡ taken + length (steps_of i) → more ≤ step_limit → (items : List Item) × HasDecoded bytes version items more others
+passed_more bytes rest others version taken more i (items, h) starts sum few = (items ++ i ∷ [], decoded_more bytes rest others version items taken more i h starts sum few)
+
+-- and one more step
+pub passed_step : (bytes rest others : List ℕ) (version : Version) (taken : ℕ) (step : Step) → (items : List Item) × HasDecoded bytes version items taken rest → StartsWithStep rest step others → taken ≢ step_limit
+    → (items : List Item) × HasDecoded bytes version items (taken + 1) others
+passed_step bytes rest others version taken step (items, h) starts other = let few = h.few in passed_more bytes rest others version taken (taken + 1) (Once step) (items, h) starts refl (omega arith)
+
+-- with which there are too many
+pub many_steps : (bytes rest others : List ℕ) (version : Version) (taken offset : ℕ) (step : Step) → (items : List Item) × HasDecoded bytes version items taken rest → offset ≡ length bytes - length rest → StartsWithStep rest step others
+    → taken ≡ step_limit → IsSpellingFault bytes (fault.TooMany offset)
+many_steps bytes rest others version taken offset step (items, h) e starts is = decoded_fault bytes rest version items taken offset (fault.TooMany offset) h e (refl, (Once step, others, starts, omega arith))
+
+-- all items were passed over
+pub passed_all : (bytes rest : List ℕ) (version : Version) (taken : ℕ) → (items : List Item) × HasDecoded bytes version items taken rest → length rest ≡ 0 → (script : Listing) × Spells bytes script
+passed_all bytes rest version taken (items, h) none = (listing version items, decoded_all bytes rest version items taken h (nothing rest none))

@@ -1,198 +1,159 @@
 -- No bytes have two faults, and none that spell a script of allowed length have one.
-use Rattle.std.proofs.Common.{◌≡◌, ◌≢◌, ◌⊎◌, ℕ, ◌+◌, ◌<◌, ◌≤◌, List, [], ◌∷◌, ◌++◌, length, length-append, drop, Some, None, Result, Ok, Err, arith, refl, sym, ap, ◌∙◌, subst, append_assoc, inl, inr}
+use Rattle.std.proofs.Common.{◌≡◌, ◌≢◌, ◌⊎◌, ℕ, ◌+◌, ◌≤◌, List, [], ◌∷◌, ◌++◌, length, length-append, Result, Ok, Err, arith, sym, ap, ◌∙◌, subst, subst₂, append_assoc, append-nil, inl, inr, refl}
 use Rattle.std.specs.Prelude.{IfErr, IsOkUnless}
-use Rattle.byteorder.specs.Endian.{little_bytes, little_number}
+use Rattle.std.specs.List.{flat_map}
 use Rattle.vga_bits.specs.declared.fault.Fault.{Fault}
 use Rattle.vga_bits.specs.declared.fault.Fault.TheVariants as fault
-use Rattle.vga_script.specs.declared.step.Step.{Step}
-use Rattle.vga_script.specs.declared.step.Step.TheVariants.{Out, OutWord, In, InWord, Put, PutWord, Get, GetWord, Int, Advance, Frame, Show}
-use Rattle.vga_script.specs.declared.shown.Shown.{Shown}
-use Rattle.vga_script.specs.declared.shown.Shown.TheVariants as shown
-use Rattle.vga_script.specs.Shown.{shown_spelling}
-use Rattle.vga_script.specs.Step.{IsInRange}
-use Rattle.vga_script.specs.Spelling.{script_limit, magic, version, header, opcode_out, opcode_out_word, opcode_in, opcode_in_word, opcode_put, opcode_put_word, opcode_get, opcode_get_word, opcode_int, opcode_advance, opcode_frame, opcode_show, spelling, SpellsSteps, Spells}
-use Rattle.vga_script.specs.Decoding.{shown_len, fields_len, StartsWithBadStep, StartsWithCutStep, SpellsUpTo, IsSpellingFault, IsFault}
-use Rattle.vga_script.proofs.FieldLemmas.{two_back}
-use Rattle.vga_script.proofs.OptionLemmas.{just, some_is}
-use Rattle.vga_script.specs.Front.{step_of}
-use Rattle.vga_script.proofs.GrammarLemmas.{step_back, plane_back, one_step, rest_spells}
+use Rattle.vga_script.specs.Item.{Item, Listing, expanded, step_limit, steps_of, IsItemOf, AreItemsOf}
+use Rattle.vga_script.specs.declared.version.Version.{Version}
+use Rattle.vga_script.specs.Version.{version_byte}
+use Rattle.vga_script.specs.Spelling.{script_limit, magic, header, item_spelling, Spells}
+use Rattle.vga_script.specs.Decoding.{SpellsUpTo, HasItemFault, IsSpellingFault, IsFault}
+use Rattle.vga_script.proofs.PrefixLemmas.{Compared, compare}
+use Rattle.vga_script.proofs.ItemLemmas.{length-expanded-append, length-expanded-cons}
+use Rattle.vga_script.proofs.GrammarLemmas.{one_item, some_item_byte, items_fit, spelled_items, one_header}
+use Rattle.vga_script.proofs.ItemFaultLemmas.{Kinds, kind, item_or_kind, one_kind, kind_at_end}
 
--- this is an opcode, and its fields are all there
-abbrev HasFields : ℕ → List ℕ → Type 0
-HasFields opcode rest = (n : ℕ) × (fields_len opcode rest ≡ Some n) × (n ≤ length rest)
+-- ---- where the first fault stands
 
--- then they are not cut off
-not_cut : (opcode : ℕ) (rest : List ℕ) (needed : ℕ) → HasFields opcode rest → fields_len opcode rest ≡ Some needed → length rest < needed → ⊥
-not_cut opcode rest needed (n, has, room) is short = let same : needed ≡ n = some_is needed n (sym is ∙ has) in absurd (omega arith)
+-- the items before a place of a script, and what stands there
+record StandsAt (bytes : List ℕ) (version : Version) (items : List Item) (offset : ℕ) (rest : List ℕ) : Type 0 where
+  whole : bytes ≡ header version ++ (flat_map item_spelling items ++ rest)
+  fits : AreItemsOf version items
+  few : length (expanded items) ≤ step_limit
+  place : offset + length rest ≡ length bytes
 
--- what is shown is of a kind, and its fields are all there, in range or not
-has_shown : (what : Shown) (x rest : List ℕ) → rest ≡ shown_spelling what ++ x → HasFields opcode_show rest
-has_shown shown.Registers x rest e = (1, ap shown_len e, let l = ap length e in omega arith)
-has_shown (shown.Dac index) x rest e = (2, ap shown_len e, let l = ap length e in omega arith)
-has_shown shown.Beam x rest e = (1, ap shown_len e, let l = ap length e in omega arith)
-has_shown shown.Latches x rest e = (1, ap shown_len e, let l = ap length e in omega arith)
-has_shown (shown.Plane plane offset count) x rest e = (6, ap shown_len e, let l = ap length e in omega arith)
-has_shown shown.BiosData x rest e = (1, ap shown_len e, let l = ap length e in omega arith)
-has_shown shown.Cells x rest e = (1, ap shown_len e, let l = ap length e in omega arith)
+stands_at : (bytes : List ℕ) (script : Listing) (offset : ℕ) (rest : List ℕ) → SpellsUpTo bytes script offset rest → StandsAt bytes script.version script.items offset rest
+stands_at bytes script offset rest h = record {
+  whole = h.whole ∙ ap (λ (l : List ℕ). l ++ rest) (h.good.1 ∙ ap (λ (l : List ℕ). header script.version ++ l) (spelled_items script.version h.good.0 script.items h.good.2)) ∙ append_assoc (header script.version) (flat_map item_spelling script.items) rest;
+  fits = items_fit script.version h.good.0 script.items h.good.2;
+  few = h.good.3;
+  place = let whole = ap length h.whole ∙ length-append h.front rest in let place = h.place in omega arith;
+}
 
--- so is a look at it
-has_look : (what : Shown) (x : List ℕ) (opcode : ℕ) (rest : List ℕ) → spelling (Show what) ++ x ≡ opcode ∷ rest → HasFields opcode rest
-has_look what x opcode rest e =
-    let first : opcode_show ≡ opcode = cc in
-    let tail : rest ≡ shown_spelling what ++ x = cc in
-    subst (λ (o : ℕ). HasFields o rest) first (has_shown what x rest tail)
+-- items that go on with one more stay within the limit with it
+within_limit : (items others : List Item) (i : Item) (longer : List Item) → longer ≡ items ++ i ∷ others → length (expanded longer) ≤ step_limit → length (expanded items) + length (steps_of i) ≤ step_limit
+within_limit items others i longer e few =
+    let len = ap (λ (l : List Item). length (expanded l)) e in
+    let whole = length-expanded-append items (i ∷ others) in
+    let first = length-expanded-cons i others in omega arith
 
--- the opcode of a step is one, and its fields are all there
-has_fields : (s : Step) (x : List ℕ) (opcode : ℕ) (rest : List ℕ) → IsInRange s → spelling s ++ x ≡ opcode ∷ rest → HasFields opcode rest
-has_fields (Out p v) x opcode rest fits e = let first : opcode ≡ opcode_out = cc in (3, ap (λ (o : ℕ). fields_len o rest) first, let l = ap length e in omega arith)
-has_fields (OutWord p v) x opcode rest fits e = let first : opcode ≡ opcode_out_word = cc in (4, ap (λ (o : ℕ). fields_len o rest) first, let l = ap length e in omega arith)
-has_fields (In p) x opcode rest fits e = let first : opcode ≡ opcode_in = cc in (2, ap (λ (o : ℕ). fields_len o rest) first, let l = ap length e in omega arith)
-has_fields (InWord p) x opcode rest fits e = let first : opcode ≡ opcode_in_word = cc in (2, ap (λ (o : ℕ). fields_len o rest) first, let l = ap length e in omega arith)
-has_fields (Put p v) x opcode rest fits e = let first : opcode ≡ opcode_put = cc in (5, ap (λ (o : ℕ). fields_len o rest) first, let l = ap length e in omega arith)
-has_fields (PutWord p v) x opcode rest fits e = let first : opcode ≡ opcode_put_word = cc in (6, ap (λ (o : ℕ). fields_len o rest) first, let l = ap length e in omega arith)
-has_fields (Get p) x opcode rest fits e = let first : opcode ≡ opcode_get = cc in (4, ap (λ (o : ℕ). fields_len o rest) first, let l = ap length e in omega arith)
-has_fields (GetWord p) x opcode rest fits e = let first : opcode ≡ opcode_get_word = cc in (4, ap (λ (o : ℕ). fields_len o rest) first, let l = ap length e in omega arith)
-has_fields (Advance p) x opcode rest fits e = let first : opcode ≡ opcode_advance = cc in (4, ap (λ (o : ℕ). fields_len o rest) first, let l = ap length e in omega arith)
-has_fields (Int a b c d block) x opcode rest (ha, hb, hc, hd, (hl, all)) e =
-    let tail : rest ≡ (little_bytes 2 a ++ (little_bytes 2 b ++ (little_bytes 2 c ++ (little_bytes 2 d ++ (little_bytes 2 (length block) ++ block))))) ++ x = cc in
-    let first : opcode ≡ opcode_int = cc in
-    let count : little_number 2 (drop 8 rest) ≡ length block = ap (λ (t : List ℕ). little_number 2 (drop 8 t)) tail ∙ two_back (length block) (block ++ x) hl in
-    (10 + length block, ap (λ (o : ℕ). fields_len o rest) first ∙ ap (λ (n : ℕ). just (10 + n)) count, let k = ap length tail in let j = length-append block x in omega arith)
-has_fields Frame x opcode rest fits e = let first : opcode ≡ opcode_frame = cc in (0, ap (λ (o : ℕ). fields_len o rest) first, omega arith)
-has_fields (Show what) x opcode rest fits e = has_look what x opcode rest e
-
--- no whole step stands at the front of some bytes
-abbrev pub NoStepStarts : List ℕ → Type 0
-NoStepStarts bytes = StartsWithBadStep bytes ⊎ StartsWithCutStep bytes
-
--- where one does
-pub step_starts : (s : Step) (x bytes : List ℕ) → IsInRange s → bytes ≡ spelling s ++ x → NoStepStarts bytes → ⊥
-step_starts s x bytes fits e (inl (inr (plane, offset, count, rest, ho, hn, front, bad))) =
-    let look : Step = Show (shown.Plane plane offset count) in
-    let same : (s, x) ≡ (look, rest) = some_is (s, x) (look, rest) (sym (step_back s x fits) ∙ ap step_of (sym e ∙ front) ∙ plane_back plane offset count rest ho hn) in
-    bad (subst IsInRange (ap (λ (p : Step × List ℕ). p.0) same) fits)
-step_starts s x bytes fits e (inl (inl (opcode, rest, front, none))) =
-    let f = has_fields s x opcode rest fits (sym e ∙ front) in
-    let bad : None ≡ Some f.0 = sym none ∙ f.1 in
-    absurd (cc)
-step_starts s x bytes fits e (inr (opcode, rest, needed, front, is, short)) =
-    not_cut opcode rest needed (has_fields s x opcode rest fits (sym e ∙ front)) is short
-
--- a step is bad or cut off
-one_reason : (bytes : List ℕ) → StartsWithBadStep bytes → StartsWithCutStep bytes → ⊥
-one_reason bytes (inr (plane, offset, count, x, ho, hn, front, bad)) (opcode, rest, needed, front', is, short) =
-    not_cut opcode rest needed (has_look (shown.Plane plane offset count) x opcode rest (sym front ∙ front')) is short
-one_reason bytes (inl (opcode, rest, front, none)) (opcode', rest', needed, front', is, short) =
-    let e : opcode ∷ rest ≡ opcode' ∷ rest' = sym front ∙ front' in
-    let same : opcode ≡ opcode' = cc in
-    let others : rest ≡ rest' = cc in
-    let bad : None ≡ just needed = sym none ∙ ap (λ (o : ℕ). fields_len o rest) same ∙ ap (fields_len opcode') others ∙ is in
-    absurd (cc)
-
--- the first place where no step starts is one place
-one_stop : (f f' r r' : List ℕ) (ss ts : List Step) → SpellsSteps f ss → SpellsSteps f' ts → f ++ r ≡ f' ++ r' → NoStepStarts r → NoStepStarts r' → r ≡ r'
-one_stop f f' r r' [] [] p q e stop stop' =
-    let bare : [] ++ r ≡ [] ++ r' = ap (λ (l : List ℕ). l ++ r) (sym p) ∙ e ∙ ap (λ (l : List ℕ). l ++ r') q in bare
-one_stop f f' r r' [] (t ∷ ts) p (x, (fits, w), m) e stop stop' =
-    let bare : [] ++ r ≡ spelling t ++ (x ++ r') = ap (λ (l : List ℕ). l ++ r) (sym p) ∙ e ∙ ap (λ (l : List ℕ). l ++ r') w ∙ append_assoc (spelling t) x r' in
-    absurd (step_starts t (x ++ r') r fits bare stop)
-one_stop f f' r r' (s ∷ ss) [] (x, (fits, w), m) q e stop stop' =
-    let bare : [] ++ r' ≡ spelling s ++ (x ++ r) = ap (λ (l : List ℕ). l ++ r') (sym q) ∙ sym e ∙ ap (λ (l : List ℕ). l ++ r) w ∙ append_assoc (spelling s) x r in
-    absurd (step_starts s (x ++ r) r' fits bare stop')
-one_stop f f' r r' (s ∷ ss) (t ∷ ts) (x, (fits, w), m) (x', (fits', w'), m') e stop stop' =
-    let front : f ++ r ≡ spelling s ++ (x ++ r) = ap (λ (l : List ℕ). l ++ r) w ∙ append_assoc (spelling s) x r in
-    let front' : f' ++ r' ≡ spelling t ++ (x' ++ r') = ap (λ (l : List ℕ). l ++ r') w' ∙ append_assoc (spelling t) x' r' in
-    let one = one_step s t (x ++ r) (x' ++ r') fits fits' (sym front ∙ e ∙ front') in
-    one_stop x x' r r' ss ts m m' one.1 stop stop'
-
--- bytes with a script at their front begin with the header, and then with the script's steps
-script_front : (bytes rest : List ℕ) (at : ℕ) (h : SpellsUpTo bytes at rest) → bytes ≡ header ++ (h.good.0 ++ rest)
-script_front bytes rest at h = h.whole ∙ ap (λ (l : List ℕ). l ++ rest) h.good.1 ∙ append_assoc header h.good.0 rest
-
--- so the offset of a fault is one
-one_offset : (bytes rest rest' : List ℕ) (at at' : ℕ) → SpellsUpTo bytes at rest → SpellsUpTo bytes at' rest' → NoStepStarts rest → NoStepStarts rest' → (at ≡ at') × (rest ≡ rest')
-one_offset bytes rest rest' at at' h h' stop stop' =
-    let e : header ++ (h.good.0 ++ rest) ≡ header ++ (h'.good.0 ++ rest') = sym (script_front bytes rest at h) ∙ script_front bytes rest' at' h' in
-    let steps : h.good.0 ++ rest ≡ h'.good.0 ++ rest' = cc in
-    let same = one_stop h.good.0 h'.good.0 rest rest' h.steps h'.steps h.good.2 h'.good.2 steps stop stop' in
-    let len = ap length h.whole ∙ length-append h.front rest in
-    let len' = ap length h'.whole ∙ length-append h'.front rest' in
+-- two places with a fault are one
+same_place : (bytes : List ℕ) (version : Version) (items items' : List Item) (offset offset' : ℕ) (rest rest' : List ℕ) (f g : Fault) → StandsAt bytes version items offset rest → StandsAt bytes version items' offset' rest'
+    → Kinds version (length (expanded items)) offset rest f → Kinds version (length (expanded items')) offset' rest' g
+    → Compared item_spelling (IsItemOf version) items items' rest rest' → f ≡ g
+same_place bytes version items items' offset offset' rest rest' f g h h' k k' (inl (same, rests)) =
+    let len = ap length rests in
     let place = h.place in
     let place' = h'.place in
-    (omega (arith, ap length same), same)
+    let at : offset' ≡ offset = omega arith in
+    let taken = ap (λ (l : List Item). length (expanded l)) same in
+    one_kind version (length (expanded items)) offset rest f g k
+    (subst (λ (n : ℕ). Kinds version n offset rest g) (sym taken) (subst₂ (λ (n : ℕ) (l : List ℕ). Kinds version (length (expanded items')) n l g) at (sym rests) k'))
+same_place bytes version items items' offset offset' rest rest' f g h h' k k' (inr (inl (next, others, is, fits, rests))) =
+    absurd (item_or_kind version (length (expanded items)) offset rest f next _ k (fits, rests) (within_limit items others next items' is h'.few))
+same_place bytes version items items' offset offset' rest rest' f g h h' k k' (inr (inr (next, others, is, fits, rests))) =
+    absurd (item_or_kind version (length (expanded items')) offset' rest' g next _ k' (fits, rests) (within_limit items' others next items is h.few))
 
--- and so is its reason
-one_place : (bytes rest rest' : List ℕ) (at at' : ℕ) → SpellsUpTo bytes at rest → SpellsUpTo bytes at' rest' → StartsWithBadStep rest → StartsWithCutStep rest' → ⊥
-one_place bytes rest rest' at at' h h' none cut =
-    let same = one_offset bytes rest rest' at at' h h' (inl none) (inr cut) in
-    one_reason rest' (subst StartsWithBadStep same.1 none) cut
+-- the first fault of an item is one
+one_place : (bytes : List ℕ) (version version' : Version) (items items' : List Item) (offset offset' : ℕ) (rest rest' : List ℕ) (f g : Fault) → StandsAt bytes version items offset rest → StandsAt bytes version' items' offset' rest'
+    → Kinds version (length (expanded items)) offset rest f → Kinds version' (length (expanded items')) offset' rest' g → f ≡ g
+one_place bytes version version' items items' offset offset' rest rest' f g h h' k k' =
+    let both = one_header version version' (flat_map item_spelling items ++ rest) (flat_map item_spelling items' ++ rest') (sym h.whole ∙ h'.whole) in
+    let there : StandsAt bytes version items' offset' rest' = subst (λ (v : Version). StandsAt bytes v items' offset' rest') (sym both.0) h' in
+    let bad : Kinds version (length (expanded items')) offset' rest' g = subst (λ (v : Version). Kinds v (length (expanded items')) offset' rest' g) (sym both.0) k' in
+    same_place bytes version items items' offset offset' rest rest' f g h there k bad (compare item_spelling (IsItemOf version) (one_item version) items items' rest rest' h.fits there.fits both.1)
 
--- bytes that begin with the header have no other version
-one_version : (bytes x rest : List ℕ) (other : ℕ) → bytes ≡ header ++ x → bytes ≡ magic ++ other ∷ rest → other ≢ version → ⊥
-one_version bytes x rest other e front bad =
-    let both : header ++ x ≡ magic ++ other ∷ rest = sym e ∙ front in
-    let same : other ≡ version = cc in
-    bad same
+one_item_fault : (bytes : List ℕ) (f g : Fault) → HasItemFault bytes f → HasItemFault bytes g → f ≡ g
+one_item_fault bytes f g (script, offset, rest, up, bad) (script', offset', rest', up', bad') =
+    one_place bytes script.version script'.version script.items script'.items offset offset' rest rest' f g (stands_at bytes script offset rest up) (stands_at bytes script' offset' rest' up')
+    (kind script.version (length (expanded script.items)) offset rest f bad) (kind script'.version (length (expanded script'.items)) offset' rest' g bad')
 
--- and go on behind the letters
+-- bytes with a fault of an item begin with a header
+item_front : (bytes : List ℕ) (f : Fault) → HasItemFault bytes f → (version : Version) × (rest : List ℕ) × (bytes ≡ magic ++ version_byte version ∷ rest)
+item_front bytes f (script, offset, rest, up, bad) = (script.version, _, (stands_at bytes script offset rest up).whole)
+
+-- ---- the faults of bytes
+
+-- they are those of the header, or of an item
+abbrev Faults : List ℕ → Fault → Type 0
+Faults bytes f =
+    ((f ≡ fault.BadMagic) × ((rest : List ℕ) → bytes ≢ magic ++ rest))
+    ⊎ (((f ≡ fault.BadVersion) × ((other : ℕ) × (rest : List ℕ) × (bytes ≡ magic ++ other ∷ rest) × ((version : Version) → other ≢ version_byte version)))
+    ⊎ (((f ≡ fault.Truncated 4) × (bytes ≡ magic)) ⊎ HasItemFault bytes f))
+
+faults : (bytes : List ℕ) (f : Fault) → IsSpellingFault bytes f → Faults bytes f
+faults bytes fault.BadMagic h = inl (refl, h)
+faults bytes fault.BadVersion h = inr (inl (refl, h))
+faults bytes (fault.BadStep at) h = inr (inr (inr h))
+faults bytes (fault.Truncated at) (inl (short, place)) = inr (inr (inl (ap fault.Truncated place, short)))
+faults bytes (fault.Truncated at) (inr h) = inr (inr (inr h))
+faults bytes (fault.TooMany at) h = inr (inr (inr h))
+faults bytes _ h = absurd h
+
+-- a byte of no version is that of none
+no_version : (bytes rest more : List ℕ) (other : ℕ) (version : Version) → bytes ≡ magic ++ other ∷ rest → ((v : Version) → other ≢ version_byte v) → bytes ≡ magic ++ version_byte version ∷ more → ⊥
+no_version bytes rest more other version e none front =
+    let both : magic ++ other ∷ rest ≡ magic ++ version_byte version ∷ more = sym e ∙ front in
+    let same : other ≡ version_byte version = cc in
+    none version same
+
+-- bytes that go on behind the letters
 goes_on : (bytes x : List ℕ) (v : ℕ) → bytes ≡ magic ++ v ∷ x → bytes ≡ magic → ⊥
 goes_on bytes x v e short = let both : magic ++ v ∷ x ≡ magic = sym e ∙ short in absurd (cc)
 
 -- no bytes have two faults
-one_spelling_fault : (bytes : List ℕ) (f g : Fault) → IsSpellingFault bytes f → IsSpellingFault bytes g → f ≡ g
-one_spelling_fault bytes fault.BadMagic fault.BadMagic h k = refl
-one_spelling_fault bytes fault.BadMagic fault.BadVersion h (other, rest, front, bad) = absurd (h (other ∷ rest) front)
-one_spelling_fault bytes fault.BadMagic (fault.BadStep at) h (rest, u, none) = absurd (h (version ∷ (u.good.0 ++ rest)) (script_front bytes rest at u))
-one_spelling_fault bytes fault.BadMagic (fault.Truncated at) h (inl (short, place)) = absurd (h [] short)
-one_spelling_fault bytes fault.BadMagic (fault.Truncated at) h (inr (rest, u, cut)) = absurd (h (version ∷ (u.good.0 ++ rest)) (script_front bytes rest at u))
-one_spelling_fault bytes fault.BadMagic _ h k = absurd k
-one_spelling_fault bytes fault.BadVersion fault.BadMagic (other, rest, front, bad) k = absurd (k (other ∷ rest) front)
-one_spelling_fault bytes fault.BadVersion fault.BadVersion h k = refl
-one_spelling_fault bytes fault.BadVersion (fault.BadStep at) (other, rest, front, bad) (rest', u, none) = absurd (one_version bytes _ rest other (script_front bytes rest' at u) front bad)
-one_spelling_fault bytes fault.BadVersion (fault.Truncated at) (other, rest, front, bad) (inl (short, place)) = absurd (goes_on bytes rest other front short)
-one_spelling_fault bytes fault.BadVersion (fault.Truncated at) (other, rest, front, bad) (inr (rest', u, cut)) = absurd (one_version bytes _ rest other (script_front bytes rest' at u) front bad)
-one_spelling_fault bytes fault.BadVersion _ h k = absurd k
-one_spelling_fault bytes (fault.BadStep at) fault.BadMagic (rest, u, none) k = absurd (k (version ∷ (u.good.0 ++ rest)) (script_front bytes rest at u))
-one_spelling_fault bytes (fault.BadStep at) fault.BadVersion (rest', u, none) (other, rest, front, bad) = absurd (one_version bytes _ rest other (script_front bytes rest' at u) front bad)
-one_spelling_fault bytes (fault.BadStep at) (fault.BadStep at') (rest, u, none) (rest', u', none') = ap fault.BadStep (one_offset bytes rest rest' at at' u u' (inl none) (inl none')).0
-one_spelling_fault bytes (fault.BadStep at) (fault.Truncated at') (rest, u, none) (inl (short, place)) = absurd (goes_on bytes _ version (script_front bytes rest at u) short)
-one_spelling_fault bytes (fault.BadStep at) (fault.Truncated at') (rest, u, none) (inr (rest', u', cut)) = absurd (one_place bytes rest rest' at at' u u' none cut)
-one_spelling_fault bytes (fault.BadStep at) _ h k = absurd k
-one_spelling_fault bytes (fault.Truncated at) fault.BadMagic (inl (short, place)) k = absurd (k [] short)
-one_spelling_fault bytes (fault.Truncated at) fault.BadMagic (inr (rest, u, cut)) k = absurd (k (version ∷ (u.good.0 ++ rest)) (script_front bytes rest at u))
-one_spelling_fault bytes (fault.Truncated at) fault.BadVersion (inl (short, place)) (other, rest, front, bad) = absurd (goes_on bytes rest other front short)
-one_spelling_fault bytes (fault.Truncated at) fault.BadVersion (inr (rest', u, cut)) (other, rest, front, bad) = absurd (one_version bytes _ rest other (script_front bytes rest' at u) front bad)
-one_spelling_fault bytes (fault.Truncated at) (fault.BadStep at') (inl (short, place)) (rest, u, none) = absurd (goes_on bytes _ version (script_front bytes rest at' u) short)
-one_spelling_fault bytes (fault.Truncated at) (fault.BadStep at') (inr (rest, u, cut)) (rest', u', none) = absurd (one_place bytes rest' rest at' at u' u none cut)
-one_spelling_fault bytes (fault.Truncated at) (fault.Truncated at') (inl (short, place)) (inl (short', place')) = ap fault.Truncated (place ∙ sym place')
-one_spelling_fault bytes (fault.Truncated at) (fault.Truncated at') (inl (short, place)) (inr (rest, u, cut)) = absurd (goes_on bytes _ version (script_front bytes rest at' u) short)
-one_spelling_fault bytes (fault.Truncated at) (fault.Truncated at') (inr (rest, u, cut)) (inl (short, place)) = absurd (goes_on bytes _ version (script_front bytes rest at u) short)
-one_spelling_fault bytes (fault.Truncated at) (fault.Truncated at') (inr (rest, u, cut)) (inr (rest', u', cut')) = ap fault.Truncated (one_offset bytes rest rest' at at' u u' (inr cut) (inr cut')).0
-one_spelling_fault bytes (fault.Truncated at) _ h k = absurd k
-one_spelling_fault bytes _ g h k = absurd h
+one_of_faults : (bytes : List ℕ) (f g : Fault) → Faults bytes f → Faults bytes g → f ≡ g
+one_of_faults bytes f g (inl (is, none)) (inl (is', none')) = is ∙ sym is'
+one_of_faults bytes f g (inl (is, none)) (inr (inl (is', (other, rest, e, unknown)))) = absurd (none (other ∷ rest) e)
+one_of_faults bytes f g (inl (is, none)) (inr (inr (inl (is', short)))) = absurd (none [] short)
+one_of_faults bytes f g (inl (is, none)) (inr (inr (inr h))) = let front = item_front bytes g h in absurd (none _ front.2)
+one_of_faults bytes f g (inr (inl (is, (other, rest, e, unknown)))) (inl (is', none)) = absurd (none (other ∷ rest) e)
+one_of_faults bytes f g (inr (inl (is, bad))) (inr (inl (is', bad'))) = is ∙ sym is'
+one_of_faults bytes f g (inr (inl (is, (other, rest, e, unknown)))) (inr (inr (inl (is', short)))) = absurd (goes_on bytes rest other e short)
+one_of_faults bytes f g (inr (inl (is, (other, rest, e, unknown)))) (inr (inr (inr h))) = let front = item_front bytes g h in absurd (no_version bytes rest front.1 other front.0 e unknown front.2)
+one_of_faults bytes f g (inr (inr (inl (is, short)))) (inl (is', none)) = absurd (none [] short)
+one_of_faults bytes f g (inr (inr (inl (is, short)))) (inr (inl (is', (other, rest, e, unknown)))) = absurd (goes_on bytes rest other e short)
+one_of_faults bytes f g (inr (inr (inl (is, short)))) (inr (inr (inl (is', short')))) = is ∙ sym is'
+one_of_faults bytes f g (inr (inr (inl (is, short)))) (inr (inr (inr h))) = let front = item_front bytes g h in absurd (goes_on bytes front.1 (version_byte front.0) front.2 short)
+one_of_faults bytes f g (inr (inr (inr h))) (inl (is', none)) = let front = item_front bytes f h in absurd (none _ front.2)
+one_of_faults bytes f g (inr (inr (inr h))) (inr (inl (is', (other, rest, e, unknown)))) = let front = item_front bytes f h in absurd (no_version bytes rest front.1 other front.0 e unknown front.2)
+one_of_faults bytes f g (inr (inr (inr h))) (inr (inr (inl (is', short)))) = let front = item_front bytes f h in absurd (goes_on bytes front.1 (version_byte front.0) front.2 short)
+one_of_faults bytes f g (inr (inr (inr h))) (inr (inr (inr h'))) = one_item_fault bytes f g h h'
 
--- what follows a script at the front of a script spells steps, so a step starts there, if anything does
-script_goes_on : (bytes rest : List ℕ) (at : ℕ) (steps : List Step) → Spells bytes steps → SpellsUpTo bytes at rest → NoStepStarts rest → ⊥
-script_goes_on bytes rest at steps (r, w, m) h stop =
-    let e : header ++ r ≡ header ++ (h.good.0 ++ rest) = sym w ∙ script_front bytes rest at h in
-    let same : r ≡ h.good.0 ++ rest = cc in
-    let others = rest_spells h.good.0 rest r h.steps steps h.good.2 m same in
-    no_stop rest others.0 others.1 stop
+-- a script has no item with a fault
+no_item_fault : (bytes : List ℕ) (version version' : Version) (items items' : List Item) (offset : ℕ) (rest : List ℕ) (f : Fault) → StandsAt bytes version items (length bytes) [] → StandsAt bytes version' items' offset rest
+    → Kinds version' (length (expanded items')) offset rest f → ⊥
+no_item_fault bytes version version' items items' offset rest f h h' k' =
+    let both = one_header version version' (flat_map item_spelling items ++ []) (flat_map item_spelling items' ++ rest) (sym h.whole ∙ h'.whole) in
+    let there : StandsAt bytes version items' offset rest = subst (λ (v : Version). StandsAt bytes v items' offset rest) (sym both.0) h' in
+    let bad : Kinds version (length (expanded items')) offset rest f = subst (λ (v : Version). Kinds v (length (expanded items')) offset rest f) (sym both.0) k' in
+    nowhere bytes version items items' offset rest f h bad (compare item_spelling (IsItemOf version) (one_item version) items items' [] rest h.fits there.fits both.1)
   where
-    no_stop : (rest : List ℕ) (us : List Step) → SpellsSteps rest us → NoStepStarts rest → ⊥
-    no_stop rest [] p (inl (inr (plane, offset, count, more, ho, hn, front, bad))) = let none : [] ≡ spelling (Show (shown.Plane plane offset count)) ++ more = sym p ∙ front in absurd (cc)
-    no_stop rest [] p (inl (inl (opcode, more, front, none))) = let bad : [] ≡ opcode ∷ more = sym p ∙ front in absurd (cc)
-    no_stop rest [] p (inr (opcode, more, needed, front, is, short)) = let bad : [] ≡ opcode ∷ more = sym p ∙ front in absurd (cc)
-    no_stop rest (u ∷ us) (x, (fits, w), m) stop = step_starts u x rest fits w stop
+    nowhere : (bytes : List ℕ) (version : Version) (items items' : List Item) (offset : ℕ) (rest : List ℕ) (f : Fault) → StandsAt bytes version items (length bytes) [] → Kinds version (length (expanded items')) offset rest f
+        → Compared item_spelling (IsItemOf version) items items' [] rest → ⊥
+    nowhere bytes version items items' offset rest f h k (inl (same, rests)) = kind_at_end version (length (expanded items')) offset rest f (sym rests) k
+    nowhere bytes version items items' offset rest f h k (inr (inl (next, others, is, fits, rests))) = some_item_byte version next _ fits rests
+    nowhere bytes version items items' offset rest f h k (inr (inr (next, others, is, fits, rests))) =
+        item_or_kind version (length (expanded items')) offset rest f next _ k (fits, rests) (within_limit items' others next items is h.few)
 
--- no bytes that spell a script have a fault
-no_spelling_fault : (bytes : List ℕ) (steps : List Step) (f : Fault) → Spells bytes steps → IsSpellingFault bytes f → ⊥
-no_spelling_fault bytes steps fault.BadMagic (r, w, m) h = h (version ∷ r) w
-no_spelling_fault bytes steps fault.BadVersion (r, w, m) (other, rest, front, bad) = one_version bytes r rest other w front bad
-no_spelling_fault bytes steps (fault.BadStep at) good (rest, u, none) = script_goes_on bytes rest at steps good u (inl none)
-no_spelling_fault bytes steps (fault.Truncated at) (r, w, m) (inl (short, place)) = goes_on bytes r version w short
-no_spelling_fault bytes steps (fault.Truncated at) good (inr (rest, u, cut)) = script_goes_on bytes rest at steps good u (inr cut)
-no_spelling_fault bytes steps _ good h = h
+-- the whole of a script stands before its end
+stands_whole : (bytes : List ℕ) (script : Listing) → Spells bytes script → StandsAt bytes script.version script.items (length bytes) []
+stands_whole bytes script (rest, whole, good, few) = record {
+  whole = whole ∙ ap (λ (l : List ℕ). header script.version ++ l) (spelled_items script.version rest script.items good ∙ sym (append-nil (flat_map item_spelling script.items)));
+  fits = items_fit script.version rest script.items good;
+  few = few;
+  place = omega arith;
+}
+
+-- so no bytes that spell a script have a fault
+no_fault_of : (bytes : List ℕ) (script : Listing) (f : Fault) → Spells bytes script → Faults bytes f → ⊥
+no_fault_of bytes script f (r, w, m, few) (inl (is, none)) = none (version_byte script.version ∷ r) w
+no_fault_of bytes script f (r, w, m, few) (inr (inl (is, (other, rest, e, unknown)))) = no_version bytes rest r other script.version e unknown w
+no_fault_of bytes script f (r, w, m, few) (inr (inr (inl (is, short)))) = goes_on bytes r (version_byte script.version) w short
+no_fault_of bytes script f good (inr (inr (inr (script', offset, rest, up, bad)))) =
+    no_item_fault bytes script.version script'.version script.items script'.items offset rest f (stands_whole bytes script good) (stands_at bytes script' offset rest up)
+    (kind script'.version (length (expanded script'.items)) offset rest f bad)
 
 -- ---- with the bound on the length
 
@@ -201,20 +162,20 @@ pub one_fault_lem : (bytes : List ℕ) (f g : Fault) → IsFault bytes f → IsF
 one_fault_lem bytes f g (inl (is, long)) (inl (is', long')) = is ∙ sym is'
 one_fault_lem bytes f g (inl (is, long)) (inr (short, bad)) = absurd (omega arith)
 one_fault_lem bytes f g (inr (short, bad)) (inl (is, long)) = absurd (omega arith)
-one_fault_lem bytes f g (inr (short, bad)) (inr (short', bad')) = one_spelling_fault bytes f g bad bad'
+one_fault_lem bytes f g (inr (short, bad)) (inr (short', bad')) = one_of_faults bytes f g (faults bytes f bad) (faults bytes g bad')
 
 -- bytes that spell a script have no other fault than that they are too long
-pub no_other_fault : (bytes : List ℕ) (steps : List Step) (f : Fault) → Spells bytes steps → IsFault bytes f → f ≡ fault.TooLong
-no_other_fault bytes steps f good (inl (is, long)) = is
-no_other_fault bytes steps f good (inr (short, bad)) = absurd (no_spelling_fault bytes steps f good bad)
+pub no_other_fault : (bytes : List ℕ) (script : Listing) (f : Fault) → Spells bytes script → IsFault bytes f → f ≡ fault.TooLong
+no_other_fault bytes script f good (inl (is, long)) = is
+no_other_fault bytes script f good (inr (short, bad)) = absurd (no_fault_of bytes script f good (faults bytes f bad))
 
-no_fault : (bytes : List ℕ) (steps : List Step) (f : Fault) → length bytes ≤ script_limit → Spells bytes steps → IsFault bytes f → ⊥
-no_fault bytes steps f small good (inl (is, long)) = absurd (omega arith)
-no_fault bytes steps f small good (inr (short, bad)) = no_spelling_fault bytes steps f good bad
+no_fault : (bytes : List ℕ) (script : Listing) (f : Fault) → length bytes ≤ script_limit → Spells bytes script → IsFault bytes f → ⊥
+no_fault bytes script f small good (inl (is, long)) = absurd (omega arith)
+no_fault bytes script f small good (inr (short, bad)) = no_fault_of bytes script f good (faults bytes f bad)
 
 -- so a script of allowed length decodes, unless memory runs out
 pub decodes : {X : Type 0} (bytes : List ℕ) (r : Result X Fault) → IfErr r (λ e. (e ≡ fault.OutOfMemory) ⊎ IsFault bytes e)
-    → (steps : List Step) → length bytes ≤ script_limit → Spells bytes steps → IsOkUnless r fault.OutOfMemory
-decodes bytes (Ok x) h steps small good = tt
-decodes bytes (Err e) (inl memory) steps small good = memory
-decodes bytes (Err e) (inr bad) steps small good = absurd (no_fault bytes steps e small good bad)
+    → (script : Listing) → length bytes ≤ script_limit → Spells bytes script → IsOkUnless r fault.OutOfMemory
+decodes bytes (Ok x) h script small good = tt
+decodes bytes (Err e) (inl memory) script small good = memory
+decodes bytes (Err e) (inr bad) script small good = absurd (no_fault bytes script e small good bad)

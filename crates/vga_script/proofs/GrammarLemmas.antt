@@ -1,16 +1,21 @@
 -- No bytes spell two scripts, and no script has two spellings.
-use Rattle.std.proofs.Common.{◌≡◌, ℕ, ◌<◌, ◌^◌, arith, List, [], ◌∷◌, ◌++◌, length, Some, refl, sym, ap, ◌∙◌, subst, append_assoc}
+use Rattle.std.proofs.Common.{◌≡◌, ℕ, ◌<◌, ◌≤◌, ◌^◌, arith, List, [], ◌∷◌, ◌++◌, length, drop, Some, None, refl, sym, ap, ◌∙◌, subst₂, append_assoc, inl, inr}
 use Rattle.std.proofs.lemmas.List.{take_at, drop_at}
 use Rattle.std.specs.List.{flat_map}
 use Rattle.byteorder.specs.Endian.{little_bytes, little_number}
 use Rattle.vga_script.specs.declared.step.Step.{Step}
 use Rattle.vga_script.specs.declared.step.Step.TheVariants.{Out, OutWord, In, InWord, Put, PutWord, Get, GetWord, Int, Advance, Frame, Show}
 use Rattle.vga_script.specs.declared.shown.Shown.TheVariants as shown
-use Rattle.vga_script.specs.Front.{call_at, step_of}
+use Rattle.vga_script.specs.Item.{Item, Once, Repeated, Listing, expanded, step_limit, IsItemOf, AreItemsOf}
+use Rattle.vga_script.specs.declared.version.Version.{Version}
+use Rattle.vga_script.specs.Front.{call_at, step_with, step_of}
 use Rattle.vga_script.specs.Step.{IsInRange, AreInRange}
-use Rattle.vga_script.specs.Spelling.{header, spelling, encoding, SpellsSteps, Spells}
+use Rattle.vga_script.specs.Version.{version_byte}
+use Rattle.vga_script.specs.Spelling.{header, opcode_repeat, opcode_end, spelling, item_spelling, encoding, SpellsSteps, SpellsItems, Spells}
+use Rattle.vga_script.proofs.PrefixLemmas.{Compared, compare}
+use Rattle.vga_script.proofs.ItemLemmas.{one_version, one_listing}
 use Rattle.vga_script.proofs.FieldLemmas.{two_back, four_back}
-use Rattle.vga_script.proofs.OptionLemmas.{just, some_is}
+use Rattle.vga_script.proofs.OptionLemmas.{just, some_is, not_both}
 
 -- ---- the step at the front of some bytes
 
@@ -71,50 +76,95 @@ one_step s t x y fits fits' e =
 pub some_byte : (s : Step) (x : List ℕ) → IsInRange s → spelling s ++ x ≡ [] → ⊥
 some_byte s x fits e = no_step (s, x) (sym (ap step_of e) ∙ step_back s x fits)
 
--- what follows good steps in bytes that spell steps spells steps too
-pub rest_spells : (front rest bytes : List ℕ) (ss ts : List Step) → SpellsSteps front ss → SpellsSteps bytes ts → bytes ≡ front ++ rest → (us : List Step) × SpellsSteps rest us
-rest_spells front rest bytes [] ts p q e = (ts, subst (λ (l : List ℕ). SpellsSteps l ts) (e ∙ ap (λ (l : List ℕ). l ++ rest) p) q)
-rest_spells front rest bytes (s ∷ ss) [] (r, (fits, w), m) q e =
-    absurd (some_byte s (r ++ rest) fits (sym (append_assoc (spelling s) r rest) ∙ ap (λ (l : List ℕ). l ++ rest) (sym w) ∙ sym e ∙ q))
-rest_spells front rest bytes (s ∷ ss) (t ∷ ts) (r, (fits, w), m) (r', (fits', w'), m') e =
-    let one = one_step s t (r ++ rest) r' fits fits' (sym (append_assoc (spelling s) r rest) ∙ ap (λ (l : List ℕ). l ++ rest) (sym w) ∙ sym e ∙ w') in
-    rest_spells r rest r' ss ts m m' (sym one.1)
+-- no step begins with an opcode that is none
+pub no_step_of : (opcode : ℕ) (more : List ℕ) (s : Step) (x : List ℕ) → IsInRange s → step_with opcode more ≡ None → opcode ∷ more ≡ spelling s ++ x → ⊥
+no_step_of opcode more s x fits none e = not_both (step_of (spelling s ++ x)) (s, x) (step_back s x fits) (sym (ap step_of e) ∙ none)
 
--- no bytes spell two lists of steps
-one_list : (x y : List ℕ) (ss ts : List Step) → x ≡ y → SpellsSteps x ss → SpellsSteps y ts → ss ≡ ts
-one_list x y [] [] e p q = refl
-one_list x y [] (t ∷ ts) e p (r, (fits, w), m) = absurd (some_byte t r fits (sym w ∙ sym e ∙ p))
-one_list x y (s ∷ ss) [] e (r, (fits, w), m) q = absurd (some_byte s r fits (sym w ∙ e ∙ q))
-one_list x y (s ∷ ss) (t ∷ ts) e (r, (fits, w), m) (r', (fits', w'), m') =
-    let one = one_step s t r r' fits fits' (sym w ∙ e ∙ w') in
-    let others = one_list r r' ss ts one.1 m m' in
-    cc
+-- steps that bytes spell are in range, and the bytes are theirs
+pub steps_range : (bytes : List ℕ) (steps : List Step) → SpellsSteps bytes steps → AreInRange steps
+steps_range bytes [] e = tt
+steps_range bytes (s ∷ steps) (rest, (fits, whole), more) = (fits, steps_range rest steps more)
 
--- no bytes spell two scripts
-pub one_script_lem : (bytes : List ℕ) (ss ts : List Step) → Spells bytes ss → Spells bytes ts → ss ≡ ts
-one_script_lem bytes ss ts (r, w, m) (r', w', m') =
-    let e : header ++ r ≡ header ++ r' = sym w ∙ w' in
-    let same : r ≡ r' = cc in
-    one_list r r' ss ts same m m'
-
--- ---- one spelling
-
-spelled_steps : (bytes : List ℕ) (steps : List Step) → SpellsSteps bytes steps → bytes ≡ flat_map spelling steps
+pub spelled_steps : (bytes : List ℕ) (steps : List Step) → SpellsSteps bytes steps → bytes ≡ flat_map spelling steps
 spelled_steps bytes [] e = e
 spelled_steps bytes (s ∷ steps) (rest, (fits, whole), more) = whole ∙ ap (λ (l : List ℕ). spelling s ++ l) (spelled_steps rest steps more)
 
--- the bytes that spell a script are its encoding
-pub spelled : (bytes : List ℕ) (steps : List Step) → Spells bytes steps → bytes ≡ encoding steps
-spelled bytes steps (rest, whole, good) = whole ∙ ap (λ (l : List ℕ). header ++ l) (spelled_steps rest steps good)
-
--- so no script has two spellings
-pub one_spelling_lem : (x y : List ℕ) (steps : List Step) → Spells x steps → Spells y steps → x ≡ y
-one_spelling_lem x y steps p q = spelled x steps p ∙ sym (spelled y steps q)
-
-encoded_steps : (steps : List Step) → AreInRange steps → SpellsSteps (flat_map spelling steps) steps
+pub encoded_steps : (steps : List Step) → AreInRange steps → SpellsSteps (flat_map spelling steps) steps
 encoded_steps [] all = refl
 encoded_steps (s ∷ steps) (fits, others) = (flat_map spelling steps, (fits, refl), encoded_steps steps others)
 
+-- ---- the item at the front of some bytes
+
+-- the front of some bytes tells the item that it spells
+pub one_item : (version : Version) (a b : Item) (x y : List ℕ) → IsItemOf version a → IsItemOf version b → item_spelling a ++ x ≡ item_spelling b ++ y → (a ≡ b) × (x ≡ y)
+one_item version (Once s) (Once t) x y fits fits' e = let same = one_step s t x y fits fits' e in (ap Once same.0, same.1)
+one_item version (Once s) (Repeated m ts) x y fits fits' e = absurd (no_step_of opcode_repeat _ s x fits refl (sym e))
+one_item version (Repeated n ss) (Once t) x y fits fits' e = absurd (no_step_of opcode_repeat _ t y fits' refl e)
+one_item version (Repeated n ss) (Repeated m ts) x y (allowed, some, small, range) (allowed', some', small', range') e =
+    let count : n ≡ m =
+    sym (two_back n ((flat_map spelling ss ++ opcode_end ∷ []) ++ x) small) ∙ ap (λ (l : List ℕ). little_number 2 (drop 1 l)) e ∙ two_back m ((flat_map spelling ts ++ opcode_end ∷ []) ++ y) small' in
+    let bodies : flat_map spelling ss ++ opcode_end ∷ x ≡ flat_map spelling ts ++ opcode_end ∷ y =
+    sym (append_assoc (flat_map spelling ss) (opcode_end ∷ []) x) ∙ ap (drop 3) e ∙ append_assoc (flat_map spelling ts) (opcode_end ∷ []) y in
+    ended n m ss ts x y count (compare spelling IsInRange one_step ss ts (opcode_end ∷ x) (opcode_end ∷ y) range range' bodies)
+  where
+    ended : (n m : ℕ) (ss ts : List Step) (x y : List ℕ) → n ≡ m → Compared spelling IsInRange ss ts (opcode_end ∷ x) (opcode_end ∷ y) → (Repeated n ss ≡ Repeated m ts) × (x ≡ y)
+    ended n m ss ts x y count (inl (same, rests)) = (cc, cc)
+    ended n m ss ts x y count (inr (inl (next, others, is, fits, rests))) = absurd (no_step_of opcode_end x next _ fits refl rests)
+    ended n m ss ts x y count (inr (inr (next, others, is, fits, rests))) = absurd (no_step_of opcode_end y next _ fits refl rests)
+
+-- an item has at least one byte
+pub some_item_byte : (version : Version) (a : Item) (x : List ℕ) → IsItemOf version a → [] ≡ item_spelling a ++ x → ⊥
+some_item_byte version (Once s) x fits e = some_byte s x fits (sym e)
+some_item_byte version (Repeated n ss) x fits e = absurd (cc)
+
+-- items that bytes spell are those of a script, and the bytes are theirs
+pub items_fit : (version : Version) (bytes : List ℕ) (items : List Item) → SpellsItems version bytes items → AreItemsOf version items
+items_fit version bytes [] e = tt
+items_fit version bytes (i ∷ items) (rest, (fits, whole), more) = (fits, items_fit version rest items more)
+
+pub spelled_items : (version : Version) (bytes : List ℕ) (items : List Item) → SpellsItems version bytes items → bytes ≡ flat_map item_spelling items
+spelled_items version bytes [] e = e
+spelled_items version bytes (i ∷ items) (rest, (fits, whole), more) = whole ∙ ap (λ (l : List ℕ). item_spelling i ++ l) (spelled_items version rest items more)
+
+pub encoded_items : (version : Version) (items : List Item) → AreItemsOf version items → SpellsItems version (flat_map item_spelling items) items
+encoded_items version [] all = refl
+encoded_items version (i ∷ items) (fits, others) = (flat_map item_spelling items, (fits, refl), encoded_items version items others)
+
+-- no bytes spell two lists of items
+pub one_list : (version : Version) (bytes : List ℕ) (first second : List Item) → SpellsItems version bytes first → SpellsItems version bytes second → first ≡ second
+one_list version bytes first second p q =
+    let e : flat_map item_spelling first ++ [] ≡ flat_map item_spelling second ++ [] = ap (λ (l : List ℕ). l ++ []) (sym (spelled_items version bytes first p) ∙ spelled_items version bytes second q) in
+    all_read version first second (compare item_spelling (IsItemOf version) (one_item version) first second [] [] (items_fit version bytes first p) (items_fit version bytes second q) e)
+  where
+    all_read : (version : Version) (first second : List Item) → Compared item_spelling (IsItemOf version) first second [] [] → first ≡ second
+    all_read version first second (inl (same, rests)) = same
+    all_read version first second (inr (inl (next, others, is, fits, rests))) = absurd (some_item_byte version next _ fits rests)
+    all_read version first second (inr (inr (next, others, is, fits, rests))) = absurd (some_item_byte version next _ fits rests)
+
+-- no bytes begin with two headers
+pub one_header : (v w : Version) (x y : List ℕ) → header v ++ x ≡ header w ++ y → (v ≡ w) × (x ≡ y)
+one_header v w x y e =
+    let byte : version_byte v ≡ version_byte w = cc in
+    let rests : x ≡ y = cc in
+    (one_version v w byte, rests)
+
+-- no bytes spell two scripts
+pub one_script_lem : (bytes : List ℕ) (first second : Listing) → Spells bytes first → Spells bytes second → first ≡ second
+one_script_lem bytes first second (r, w, m, few) (r', w', m', few') =
+    let both = one_header first.version second.version r r' (sym w ∙ w') in
+    let same : SpellsItems first.version r second.items = subst₂ (λ (v : Version) (l : List ℕ). SpellsItems v l second.items) (sym both.0) (sym both.1) m' in
+    one_listing first second both.0 (one_list first.version r first.items second.items m same)
+
+-- ---- one spelling
+
+-- the bytes that spell a script are its encoding
+pub spelled : (bytes : List ℕ) (script : Listing) → Spells bytes script → bytes ≡ encoding script
+spelled bytes script (rest, whole, good, few) = whole ∙ ap (λ (l : List ℕ). header script.version ++ l) (spelled_items script.version rest script.items good)
+
+-- so no script has two spellings
+pub one_spelling_lem : (x y : List ℕ) (script : Listing) → Spells x script → Spells y script → x ≡ y
+one_spelling_lem x y script p q = spelled x script p ∙ sym (spelled y script q)
+
 -- and each has one
-pub encoding_spells : (steps : List Step) → AreInRange steps → Spells (encoding steps) steps
-encoding_spells steps all = (flat_map spelling steps, refl, encoded_steps steps all)
+pub encoding_spells : (script : Listing) → AreItemsOf script.version script.items → length (expanded script.items) ≤ step_limit → Spells (encoding script) script
+encoding_spells script all few = (flat_map item_spelling script.items, refl, encoded_items script.version script.items all, few)

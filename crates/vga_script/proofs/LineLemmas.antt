@@ -1,9 +1,9 @@
--- What the words of a line spell, and that no text spells two scripts.
+-- What the words of a line spell, and that no lines spell two lists of steps.
 use Rattle.std.proofs.Common.{◌≡◌, ◌≢◌, ℕ, List, [], ◌∷◌, ◌++◌, Some, None, refl, sym, ap, ◌∙◌, subst}
 use Rattle.vga_script.specs.declared.step.Step.{Step}
 use Rattle.vga_script.specs.declared.keyword.Keyword.{Keyword}
-use Rattle.vga_script.specs.Words.{lowered, words, lines}
-use Rattle.vga_script.specs.Text.{name_of, keyword_of, SpellsLine, SpellsLines, SpellsText}
+use Rattle.vga_script.specs.Words.{lowered, words}
+use Rattle.vga_script.specs.Text.{name_of, keyword_of, SpellsLine, SpellsLines}
 use Rattle.vga_script.specs.Reading.{read_step}
 use Rattle.vga_script.proofs.ReadingLemmas.{read_spells, spells_read, one_name}
 use Rattle.vga_script.proofs.OptionLemmas.{some_is}
@@ -32,20 +32,17 @@ line_unnamed ws w fields steps e none spelled =
     let h : SpellsLine (w ∷ fields) steps = subst (λ (l : List (List ℕ)). SpellsLine l steps) e spelled in
     none (keyword_of h.0) h.2
 
--- ---- no text spells two lists of steps
+-- ---- no lines spell two lists of steps
 
-one_line : (ws : List (List ℕ)) (a b : List Step) → SpellsLine ws a → SpellsLine ws b → a ≡ b
+pub one_line : (ws : List (List ℕ)) (a b : List Step) → SpellsLine ws a → SpellsLine ws b → a ≡ b
 one_line [] a b p q = p ∙ sym q
 one_line (w ∷ fields) a b (s, e, named, fits) (t, f, named', fits') =
     let same : keyword_of s ≡ keyword_of t = one_name (keyword_of s) (keyword_of t) (sym named ∙ named') in
     let both : Some s ≡ Some t = sym (spells_read fields s fits) ∙ ap (λ (k : Keyword). read_step k fields) same ∙ spells_read fields t fits' in
     e ∙ ap (λ (x : Step). x ∷ []) (some_is s t both) ∙ sym f
 
-one_lines : (ls : List (List ℕ)) (a b : List Step) → SpellsLines ls a → SpellsLines ls b → a ≡ b
+pub one_lines : (ls : List (List ℕ)) (a b : List Step) → SpellsLines ls a → SpellsLines ls b → a ≡ b
 one_lines [] a b p q = p ∙ sym q
 one_lines (l ∷ ls) a b (here, after, e, p, more) (here', after', f, q, more') =
     let h = one_line (words l) here here' p q in let t = one_lines ls after after' more more' in
     e ∙ ap (λ (x : List Step). x ++ after) h ∙ ap (λ (x : List Step). here' ++ x) t ∙ sym f
-
-pub one_text : (text : List ℕ) (a b : List Step) → SpellsText text a → SpellsText text b → a ≡ b
-one_text text a b p q = one_lines (lines text) a b p q

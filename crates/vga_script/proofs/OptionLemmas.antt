@@ -1,5 +1,5 @@
 -- Values that may not be there, and tests.
-use Rattle.std.proofs.Common.{◌≡◌, ℕ, ◌<◌, ◌≤◌, Bool, true, false, cond, ◌&&◌, nat_le, nat_lt, Option, Some, None, refl, arith}
+use Rattle.std.proofs.Common.{◌≡◌, ℕ, ◌<◌, ◌≤◌, Bool, true, false, cond, ◌&&◌, nat_le, nat_lt, Option, Some, None, refl, sym, ◌∙◌, arith}
 use Rattle.std.proofs.lemmas.Bool.Decides.{nat_tests}
 use Rattle.vga_script.specs.Reading.{◌>>=◌}
 
@@ -42,3 +42,7 @@ just x = Some x
 -- two values that are there and equal
 pub some_is : {A : Type 0} (x y : A) → just x ≡ just y → x ≡ y
 some_is x y e = cc
+
+-- a value is there or not
+pub not_both : {A : Type 0} (r : Option A) (x : A) → r ≡ just x → r ≡ None → ⊥
+not_both r x some none = let both : just x ≡ None = sym some ∙ none in absurd (cc)

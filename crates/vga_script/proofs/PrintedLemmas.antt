@@ -1,8 +1,8 @@
--- The printed text of steps spells them.
-use Rattle.std.proofs.Common.{◌≡◌, ℕ, zero, suc, ◌+◌, ◌*◌, ◌/◌, ◌%◌, ◌^◌, ◌<◌, ◌≤◌, Bool, true, false, not, ◌||◌, cond, nat_lt, List, [], ◌∷◌, ◌++◌, length, filter, refl, sym, ap, ◌∙◌, subst, arith, inl, inr, codes, decimal, slice_index, append_assoc, length-append}
+-- The printed text of a script spells it.
+use Rattle.std.proofs.Common.{◌≡◌, ℕ, zero, suc, ◌+◌, ◌*◌, ◌/◌, ◌%◌, ◌^◌, ◌<◌, ◌≤◌, Bool, true, false, not, ◌||◌, cond, nat_lt, List, [], ◌∷◌, ◌++◌, length, map, filter, refl, sym, ap, ◌∙◌, subst, arith, inl, inr, codes, decimal, slice_index, append_assoc, length-append}
 use Rattle.std.specs.Char.{digit_value}
 use Rattle.std.specs.Int.{IsInRange as IsWithin}
-use Rattle.std.specs.List.{slice_split, join_with_byte, before_first, position_or_len, AllByRecursion, list_all}
+use Rattle.std.specs.List.{slice_split, join_with_byte, before_first, position_or_len, flat_map, AllByRecursion, list_all}
 use Rattle.std.specs.Str.Parse.{AllDigits, digits_value}
 use Rattle.std.proofs.lemmas.Bool.Decides.{nat_tests}
 use Rattle.std.proofs.lemmas.Fmt.{decimal_is_IsNumeral, decimal_nonempty}
@@ -23,11 +23,14 @@ use Rattle.vga_script.specs.declared.step.Step.TheVariants.{Out, OutWord, In, In
 use Rattle.vga_script.specs.declared.shown.Shown.{Shown}
 use Rattle.vga_script.specs.declared.shown.Shown.TheVariants as shown
 use Rattle.vga_script.specs.Words.{is_blank, is_semicolon, is_newline, has_bytes, words_in, words, lines, lowered, IsNumeral, IsHex}
-use Rattle.vga_script.specs.Text.{name_of, keyword_of, shown_name, SpellsHex, SpellsTwoHex, SpellsRegister, SpellsBlock, SpellsShown, SpellsFields, SpellsLine, SpellsLines, SpellsText}
+use Rattle.vga_script.specs.Text.{name_of, keyword_of, shown_name, SpellsHex, SpellsTwoHex, SpellsRegister, SpellsBlock, SpellsShown, SpellsFields, SpellsLine, SpellsLines, SpellsRepeat, IsEnd, IsVersionTwo, Group, IsGroup, SpellsGroups, SpellsText}
+use Rattle.vga_script.specs.Item.{Item, Once, Repeated, Listing, listing, expanded, step_limit, IsItemOf, AreItemsOf}
+use Rattle.vga_script.specs.declared.version.Version.{Version}
+use Rattle.vga_script.specs.declared.version.Version.TheVariants.{One, Two}
 use Rattle.vga_script.specs.Shown.{IsShownInRange}
 use Rattle.vga_script.specs.Step.{IsBlock, IsInRange, AreInRange}
 use Rattle.vga_bits.specs.Hex.{hex, hex_digit}
-use Rattle.vga_script.specs.Printing.{port_text, address_text, block_words, shown_field_words, field_words, printed_words, line_of, printed}
+use Rattle.vga_script.specs.Printing.{port_text, address_text, block_words, shown_field_words, field_words, printed_words, line_of, printed_line, printed_steps, printed_item, version_line, printed}
 
 -- ---- digits
 
@@ -350,11 +353,124 @@ step_words s fits =
     let f = fields_print s fits in
     ((n.0, test_plain (name_of (keyword_of s)) n.1, f.0), (s, refl, n.2, f.1))
 
--- the printed text of steps spells them
-pub printed_spells : (steps : List Step) → AreInRange steps → SpellsText (printed steps) steps
+-- the line of some words is theirs, and ends at its newline
+words_line : (ws : List (List ℕ)) (rest : List ℕ) → AreWords ws → lines (line_of ws ++ rest) ≡ join_with_byte 32 ws ∷ lines rest
 unfolding line_of
-printed_spells [] all = ([], [], refl, refl, refl)
-printed_spells (s ∷ steps) (first, others) =
-    let w = step_words s first in
-    subst (λ (l : List (List ℕ)). SpellsLines l (s ∷ steps)) (sym (lines_join (printed_words s) (printed steps) w.0))
-    (s ∷ [], steps, refl, subst (λ (l : List (List ℕ)). SpellsLine l (s ∷ [])) (sym (words_join (printed_words s) w.0)) w.1, printed_spells steps others)
+words_line ws rest h = lines_join ws rest h
+
+-- the line of a step, before its newline
+abbrev line_text : Step → List ℕ
+line_text s = join_with_byte 32 (printed_words s)
+
+line_spells : (s : Step) → IsInRange s → SpellsLine (words (line_text s)) (s ∷ [])
+line_spells s fits =
+    let w = step_words s fits in subst (λ (l : List (List ℕ)). SpellsLine l (s ∷ [])) (sym (words_join (printed_words s) w.0)) w.1
+
+-- the lines of steps spell them
+steps_lines : (steps : List Step) (rest : List ℕ) → AreInRange steps → lines (printed_steps steps ++ rest) ≡ map line_text steps ++ lines rest
+steps_lines [] rest all = refl
+steps_lines (s ∷ steps) rest (first, others) =
+    ap lines (append_assoc (printed_line s) (printed_steps steps) rest) ∙ words_line (printed_words s) (printed_steps steps ++ rest) (step_words s first).0
+    ∙ ap (λ (l : List (List ℕ)). line_text s ∷ l) (steps_lines steps rest others)
+
+steps_spelled : (steps : List Step) → AreInRange steps → SpellsLines (map line_text steps) steps
+steps_spelled [] all = refl
+steps_spelled (s ∷ steps) (first, others) = (s ∷ [], steps, refl, line_spells s first, steps_spelled steps others)
+
+-- ---- blocks, and the line of a version
+
+-- the words of the beginning and of the end of a block
+abbrev repeat_words : ℕ → List (List ℕ)
+repeat_words count = codes "repeat" ∷ decimal count ∷ []
+
+abbrev end_words : List (List ℕ)
+end_words = codes "end" ∷ []
+
+repeat_prints : (count : ℕ) → 0 < count → count < 2 ^ 16 → AreWords (repeat_words count) × SpellsRepeat (repeat_words count) count
+repeat_prints count some small =
+    let d = spells_decimal_text count (omega arith) in (
+      (omega arith, test_plain (codes "repeat") refl, (d.0.0, d.1, tt)),
+      (codes "repeat", decimal count, refl, refl, d.0, some, small),
+    )
+
+end_prints : AreWords end_words × IsEnd end_words
+end_prints = ((omega arith, test_plain (codes "end") refl, tt), (codes "end", refl, refl))
+
+-- the lines of an item
+abbrev printed_group : Item → Group
+printed_group (Once s) = record { lines = line_text s ∷ []; items = Once s ∷ [] }
+printed_group (Repeated count steps) = record {
+  lines = join_with_byte 32 (repeat_words count) ∷ (map line_text steps ++ join_with_byte 32 end_words ∷ []);
+  items = Repeated count steps ∷ [];
+}
+
+-- are a group that spells it
+group_spells : (version : Version) (i : Item) → IsItemOf version i → IsGroup version (printed_group i)
+group_spells version (Once s) fits = inl (line_text s, s ∷ [], refl, refl, line_spells s fits)
+group_spells version (Repeated count steps) (allowed, some, small, range) =
+    let r = repeat_prints count some small in
+    inr (
+      allowed,
+      (
+        join_with_byte 32 (repeat_words count),
+        count,
+        map line_text steps,
+        steps,
+        join_with_byte 32 end_words,
+        refl,
+        refl,
+        subst (λ (l : List (List ℕ)). SpellsRepeat l count) (sym (words_join (repeat_words count) r.0)) r.1,
+        steps_spelled steps range,
+        subst IsEnd (sym (words_join end_words end_prints.0)) end_prints.1,
+      ),
+    )
+
+group_items : (i : Item) → (printed_group i).items ≡ i ∷ []
+group_items (Once s) = refl
+group_items (Repeated count steps) = refl
+
+item_lines : (version : Version) (i : Item) (rest : List ℕ) → IsItemOf version i → lines (printed_item i ++ rest) ≡ (printed_group i).lines ++ lines rest
+item_lines version (Once s) rest fits = words_line (printed_words s) rest (step_words s fits).0
+item_lines version (Repeated count steps) rest (allowed, some, small, range) =
+    let first = line_of (repeat_words count) in
+    let last = line_of end_words in
+    let body = printed_steps steps in
+    ap lines (append_assoc first (body ++ last) rest ∙ ap (λ (l : List ℕ). first ++ l) (append_assoc body last rest))
+    ∙ words_line (repeat_words count) (body ++ (last ++ rest)) (repeat_prints count some small).0
+    ∙ ap (λ (l : List (List ℕ)). join_with_byte 32 (repeat_words count) ∷ l)
+    (steps_lines steps (last ++ rest) range ∙ ap (λ (l : List (List ℕ)). map line_text steps ++ l) (words_line end_words rest end_prints.0) ∙ sym (append_assoc (map line_text steps) (join_with_byte 32 end_words ∷ []) (lines rest)))
+
+-- the printed text of items spells them
+printed_groups : (version : Version) (items : List Item) → AreItemsOf version items → SpellsGroups version (lines (flat_map printed_item items)) items
+printed_groups version [] all = (record { lines = [] ∷ []; items = [] } ∷ [], refl, refl, (inl ([], [], refl, refl, refl), tt))
+printed_groups version (i ∷ items) (first, others) =
+    let r = printed_groups version items others in (
+      printed_group i ∷ r.0,
+      item_lines version i (flat_map printed_item items) first ∙ ap (λ (l : List (List ℕ)). (printed_group i).lines ++ l) r.1,
+      ap (λ (l : List Item). i ∷ l) r.2 ∙ ap (λ (l : List Item). l ++ flat_map (λ (g : Group). g.items) r.0) (sym (group_items i)),
+      (group_spells version i first, r.3),
+    )
+
+-- and behind the line of its version a script
+version_prints : AreWords (codes "version" ∷ codes "2" ∷ []) × IsVersionTwo (codes "version" ∷ codes "2" ∷ [])
+version_prints = ((omega arith, test_plain (codes "version") refl, (omega arith, test_plain (codes "2") refl, tt)), (codes "version", refl, refl))
+
+printed_version : (version : Version) (items : List Item) → AreItemsOf version items → length (expanded items) ≤ step_limit → SpellsText (version_line version ++ flat_map printed_item items) (listing version items)
+printed_version One items all few = (1, lines (flat_map printed_item items), (refl, refl), printed_groups One items all, few)
+printed_version Two items all few = (
+  2,
+  lines (flat_map printed_item items),
+  record {
+    before = [];
+    line = join_with_byte 32 (codes "version" ∷ codes "2" ∷ []);
+    blank = tt;
+    version = subst IsVersionTwo (sym (words_join (codes "version" ∷ codes "2" ∷ []) version_prints.0)) version_prints.1;
+    whole = words_line (codes "version" ∷ codes "2" ∷ []) (flat_map printed_item items) version_prints.0;
+    number = refl;
+  },
+  printed_groups Two items all,
+  few,
+)
+
+pub printed_spells : (script : Listing) → AreItemsOf script.version script.items → length (expanded script.items) ≤ step_limit → SpellsText (printed script) script
+printed_spells script all few = printed_version script.version script.items all few

@@ -1,21 +1,25 @@
 -- Scripts are in range, and not too long.
-use Rattle.std.proofs.Common.{◌≡◌, ℕ, ◌+◌, ◌^◌, ◌<◌, ◌≤◌, List, [], ◌∷◌, ◌++◌, length, get_or, take, sym, subst, arith, inl, inr, codes}
-use Rattle.std.proofs.lemmas.List.Folds.{length-flat_map-take}
-use Rattle.std.specs.List.{flat_map}
+use Rattle.std.proofs.Common.{◌≡◌, ℕ, ◌^◌, ◌<◌, ◌≤◌, List, [], ◌∷◌, ◌++◌, length, map, sym, subst, arith, inl, inr, codes}
+use Rattle.std.specs.List.{flat_map, AllByRecursion}
 use Rattle.hex.proofs.HexLemmas.{decode_of-ok}
 use Rattle.vga_script.specs.declared.step.Step.{Step}
 use Rattle.vga_script.specs.declared.step.Step.TheVariants.{Out, OutWord, In, InWord, Put, PutWord, Get, GetWord, Int, Advance, Frame, Show}
 use Rattle.vga_script.specs.declared.shown.Shown.{Shown}
 use Rattle.vga_script.specs.declared.shown.Shown.TheVariants as shown
-use Rattle.vga_script.specs.Words.{words, lines}
-use Rattle.vga_script.specs.Text.{SpellsHex, SpellsTwoHex, SpellsRegister, SpellsBlock, SpellsShown, SpellsFields, SpellsLine, SpellsLines, SpellsText}
+use Rattle.vga_script.specs.Item.{Item, Once, Listing, AreItemsOf}
+use Rattle.vga_script.specs.declared.version.Version.{Version}
+use Rattle.vga_script.specs.Words.{words}
+use Rattle.vga_script.specs.Text.{SpellsHex, SpellsTwoHex, SpellsRegister, SpellsBlock, SpellsShown, SpellsFields, SpellsLine, SpellsLines, Group, IsGroup, SpellsText}
 use Rattle.vga_script.specs.Shown.{IsShownInRange}
 use Rattle.vga_script.specs.Step.{IsBlock, IsInRange, AreInRange}
-use Rattle.vga_script.specs.Spelling.{script_limit, spelling, SpellsSteps, Spells}
-use Rattle.vga_script.specs.Script.{IsScript, SpellsTooMany}
+use Rattle.vga_script.specs.Spelling.{script_limit, encoding, Spells}
+use Rattle.vga_script.specs.Script.{IsScript, SpellsTooLong}
 use Rattle.vga_script.proofs.NumberLemmas.{hex_below}
 use Rattle.vga_script.proofs.FieldLemmas.{all_bytes}
-use Rattle.vga_script.proofs.GrammarLemmas.{spelled}
+use Rattle.vga_script.proofs.ItemLemmas.{range-append}
+use Rattle.vga_script.proofs.GrammarLemmas.{encoding_spells}
+use Rattle.vga_script.specs.Front.{listing_of}
+use Rattle.vga_script.proofs.FrontLemmas.{listing_back, spells_itself}
 
 -- ---- what a text spells is in range
 
@@ -61,11 +65,6 @@ fields_range ws (Advance dots) (word, e, numeral, below) = below
 fields_range ws Frame none = tt
 fields_range ws (Show what) h = shown_range ws what h
 
--- steps one after the other
-range-append : (a b : List Step) → AreInRange a → AreInRange b → AreInRange (a ++ b)
-range-append [] b p q = q
-range-append (s ∷ a) b (p, ps) q = (p, range-append a b ps q)
-
 line_range : (ws : List (List ℕ)) (steps : List Step) → SpellsLine ws steps → AreInRange steps
 line_range [] steps e = subst AreInRange (sym e) tt
 line_range (w ∷ ws) steps (s, e, named, fields) = subst AreInRange (sym e) (fields_range ws s fields, tt)
@@ -74,31 +73,50 @@ lines_range : (ls : List (List ℕ)) (steps : List Step) → SpellsLines ls step
 lines_range [] steps e = subst AreInRange (sym e) tt
 lines_range (l ∷ ls) steps (here, after, e, line, more) = subst AreInRange (sym e) (range-append here after (line_range (words l) here line) (lines_range ls after more))
 
--- the steps that a text spells are in range
-pub text_is_in_range : (text : List ℕ) (steps : List Step) → SpellsText text steps → AreInRange steps
-text_is_in_range text steps h = lines_range (lines text) steps h
+-- steps as items
+steps_fit : (version : Version) (steps : List Step) → AreInRange steps → AreItemsOf version (map Once steps)
+steps_fit version [] all = tt
+steps_fit version (s ∷ steps) (fits, all) = (fits, steps_fit version steps all)
 
--- and a script, where they have no more bytes than one may have
-pub is_script : (steps : List Step) → AreInRange steps → length (flat_map spelling steps) ≤ 16777211 → IsScript steps
-is_script steps range short = record { range = range; short = omega arith }
+-- items one after the other
+items-append : (version : Version) (a b : List Item) → AreItemsOf version a → AreItemsOf version b → AreItemsOf version (a ++ b)
+items-append version [] b p q = q
+items-append version (i ∷ a) b (p, ps) q = (p, items-append version a b ps q)
 
--- a text whose steps have more
-pub too_many : (text : List ℕ) (steps : List Step) → SpellsText text steps → 16777211 < length (flat_map spelling steps) → SpellsTooMany text
-too_many text steps h long = (steps, h, omega arith)
+-- the items of a group, and of groups
+group_range : (version : Version) (group : Group) → IsGroup version group → AreItemsOf version group.items
+group_range version group (inl (line, steps, ls, is, good)) = subst (AreItemsOf version) (sym is) (steps_fit version steps (line_range (words line) steps good))
+group_range version group (inr (allowed, (first, count, body, steps, last, ls, is, (name, number, e, named, numeral, some, small), good, ends))) =
+    subst (AreItemsOf version) (sym is) ((allowed, some, small, lines_range body steps good), tt)
 
--- ---- what bytes spell
+groups_range : (version : Version) (groups : List Group) → AllByRecursion (IsGroup version) groups → AreItemsOf version (flat_map (λ (g : Group). g.items) groups)
+groups_range version [] all = tt
+groups_range version (g ∷ groups) (good, all) = items-append version g.items (flat_map (λ (h : Group). h.items) groups) (group_range version g good) (groups_range version groups all)
 
-spelled_range : (bytes : List ℕ) (steps : List Step) → SpellsSteps bytes steps → AreInRange steps
-spelled_range bytes [] e = tt
-spelled_range bytes (s ∷ steps) (rest, (fits, whole), more) = (fits, spelled_range rest steps more)
+-- the step of a line
+pub line_in_range : (ws : List (List ℕ)) (step : Step) → SpellsLine ws (step ∷ []) → IsInRange step
+line_in_range ws step h = (line_range ws (step ∷ []) h).0
 
--- bytes of allowed length spell a script
-pub decoded_is_script : (bytes : List ℕ) (steps : List Step) → Spells bytes steps → length bytes ≤ script_limit → IsScript steps
-decoded_is_script bytes steps h small =
-    record { range = spelled_range h.0 steps h.2; short = subst (λ (l : List ℕ). length l ≤ script_limit) (spelled bytes steps h) small }
+-- the items that a text spells are those of a script of its version
+text_range : (text : List ℕ) (script : Listing) → SpellsText text script → AreItemsOf script.version script.items
+text_range text script (n, rest, from, (groups, e, is, all), few) = subst (AreItemsOf script.version) (sym is) (groups_range script.version groups all)
 
--- ---- how many bytes steps have
+-- so their bytes spell the script
+pub text_bytes : (text bytes : List ℕ) (script : Listing) → SpellsText text script → bytes ≡ encoding script → Spells bytes script
+text_bytes text bytes script h e = subst (λ (l : List ℕ). Spells l script) (sym e) (encoding_spells script (text_range text script h) h.4)
 
--- steps have no less bytes than the first of them
-pub over : (steps : List Step) (i : ℕ) (d : Step) (len n most : ℕ) → i < length steps → len ≡ length (flat_map spelling (take i steps)) → n ≡ length (spelling (get_or steps i d)) → most < len + n → length (flat_map spelling steps) ≤ most → ⊥
-over steps i d len n most lt so_far one more fits = let h = length-flat_map-take spelling steps i d lt in absurd (omega arith)
+-- and are read as it
+pub text_is_script : (text bytes : List ℕ) → (script : Listing) × SpellsText text script × (bytes ≡ encoding script) → Spells bytes (listing_of bytes)
+text_is_script text bytes (script, h, e) = spells_itself bytes (script, text_bytes text bytes script h e)
+
+pub text_reads : (text bytes : List ℕ) → (script : Listing) × SpellsText text script × (bytes ≡ encoding script) → SpellsText text (listing_of bytes)
+text_reads text bytes (script, h, e) = subst (SpellsText text) (sym (listing_back bytes script (text_bytes text bytes script h e))) h
+
+-- which is no longer than a script may be
+pub text_fits : (text bytes : List ℕ) → (script : Listing) × SpellsText text script × (bytes ≡ encoding script) → length bytes ≤ script_limit → IsScript (listing_of bytes)
+text_fits text bytes (script, h, e) short =
+    subst IsScript (sym (listing_back bytes script (text_bytes text bytes script h e))) (record { range = text_range text script h; few = h.4; short = subst (λ (l : List ℕ). length l ≤ script_limit) e short })
+
+-- a text whose script has too many bytes
+pub too_long : (text bytes : List ℕ) → (script : Listing) × SpellsText text script × (bytes ≡ encoding script) → script_limit < length bytes → SpellsTooLong text
+too_long text bytes (script, h, e) long = (script, h, subst (λ (l : List ℕ). script_limit < length l) e long)

@@ -1,13 +1,16 @@
 -- The first fault of bytes that are too long, or spell no script.
 use Rattle.std.specs.Prelude.{ℕ, ◌≡◌, ◌≢◌, ◌<◌, ◌≤◌, ◌+◌, ◌==◌, ◌⊎◌, if◌then◌else◌, List, [], ◌∷◌, ◌++◌, length, ◌^◌, drop, Option, None, Some}
-use Rattle.byteorder.specs.Endian.{little_number}
+use Rattle.byteorder.specs.Endian.{little_bytes, little_number}
 use Rattle.vga_bits.specs.declared.fault.Fault.{Fault}
-use Rattle.vga_bits.specs.declared.fault.Fault.TheVariants.{BadMagic, BadVersion, BadStep, Truncated, TooLong}
+use Rattle.vga_bits.specs.declared.fault.Fault.TheVariants.{BadMagic, BadVersion, BadStep, Truncated, TooLong, TooMany}
 use Rattle.vga_script.specs.declared.step.Step.{Step}
 use Rattle.vga_script.specs.declared.step.Step.TheVariants.{Show}
 use Rattle.vga_script.specs.declared.shown.Shown.TheVariants as shown
+use Rattle.vga_script.specs.Item.{Item, Listing, expanded, step_limit, steps_of}
+use Rattle.vga_script.specs.declared.version.Version.{Version}
 use Rattle.vga_script.specs.Shown.{IsShownInRange, kind_registers, kind_dac, kind_beam, kind_latches, kind_plane, kind_bios_data, kind_cells}
-use Rattle.vga_script.specs.Spelling.{script_limit, magic, version, opcode_out, opcode_out_word, opcode_in, opcode_in_word, opcode_put, opcode_put_word, opcode_get, opcode_get_word, opcode_int, opcode_advance, opcode_frame, opcode_show, spelling, Spells}
+use Rattle.vga_script.specs.Version.{version_byte, AllowsBlocks}
+use Rattle.vga_script.specs.Spelling.{script_limit, magic, opcode_out, opcode_out_word, opcode_in, opcode_in_word, opcode_put, opcode_put_word, opcode_get, opcode_get_word, opcode_int, opcode_advance, opcode_frame, opcode_show, opcode_repeat, opcode_end, spelling, SpellsSteps, Spells, StartsWithItem}
 
 -- How many bytes say what is shown, of which these are the first: the kind, where it is one, and its fields. Where not
 -- even the kind is there, that one is missing.
@@ -61,21 +64,88 @@ abbrev pub StartsWithCutStep : List ℕ → Type 0
 StartsWithCutStep bytes =
     (opcode : ℕ) × (rest : List ℕ) × (needed : ℕ) × (bytes ≡ opcode ∷ rest) × (fields_len opcode rest ≡ Some needed) × (length rest < needed)
 
--- The bytes before this offset spell a script, and the rest stand from there on.
-pub record SpellsUpTo (bytes : List ℕ) (offset : ℕ) (rest : List ℕ) : Type 0 where
+-- the bytes begin with the opcode of a block, which a script of this version may have
+abbrev pub StartsWithBlock : Version → List ℕ → Type 0
+StartsWithBlock version bytes = AllowsBlocks version × ((rest : List ℕ) × (bytes ≡ opcode_repeat ∷ rest))
+
+-- the bytes begin with a block that counts 0
+abbrev pub StartsWithCountZero : Version → List ℕ → Type 0
+StartsWithCountZero version bytes = AllowsBlocks version × ((rest : List ℕ) × (bytes ≡ opcode_repeat ∷ (little_bytes 2 0 ++ rest)))
+
+-- the bytes begin with a block, and end before its count does
+abbrev pub StartsWithCutCount : Version → List ℕ → Type 0
+StartsWithCutCount version bytes = AllowsBlocks version × ((rest : List ℕ) × (bytes ≡ opcode_repeat ∷ rest) × (length rest < 2))
+
+-- The bytes begin with what is no item of a script of this version, however they go on: neither a step nor a block, or a
+-- block that counts 0.
+abbrev pub StartsWithBadItem : Version → List ℕ → Type 0
+StartsWithBadItem version bytes = (StartsWithBadStep bytes × (StartsWithBlock version bytes → ⊥)) ⊎ StartsWithCountZero version bytes
+
+-- the bytes begin with a step that is cut off, or with a block whose count is
+abbrev pub StartsWithCutItem : Version → List ℕ → Type 0
+StartsWithCutItem version bytes = StartsWithCutStep bytes ⊎ StartsWithCutCount version bytes
+
+-- the bytes begin with what may not stand in a block: neither a step nor the block's end
+abbrev pub StartsWithBadBody : List ℕ → Type 0
+StartsWithBadBody bytes = StartsWithBadStep bytes × ((rest : List ℕ) → bytes ≢ opcode_end ∷ rest)
+
+-- So many good steps stand in these bytes before the rest.
+pub record HasStepsBefore (bytes : List ℕ) (len : ℕ) (rest : List ℕ) : Type 0 where
   pub front : List ℕ
   pub steps : List Step
   pub whole : bytes ≡ front ++ rest
-  pub good : Spells front steps
+  pub good : SpellsSteps front steps
+  pub count : len ≡ length steps
+
+-- The bytes begin with a block, and the rest stand in it, so many bytes behind its opcode: between them are its count and
+-- good steps.
+pub record OpensBlock (version : Version) (bytes : List ℕ) (place : ℕ) (rest : List ℕ) : Type 0 where
+  pub count : ℕ
+  pub body : List ℕ
+  pub len : ℕ
+  pub allowed : AllowsBlocks version
+  pub some : 0 < count
+  pub small : count < 2 ^ 16
+  pub whole : bytes ≡ opcode_repeat ∷ (little_bytes 2 count ++ body)
+  pub good : HasStepsBefore body len rest
+  pub place_is : place + length rest ≡ length bytes
+
+-- The fault of bytes at this offset of a script of this version, behind items that mean so many steps: the item that
+-- begins there is bad or cut off, or in its block there is a bad step or one that is cut off; or the block has no end; or
+-- with the item there are more steps than a script may mean. A fault in a block stands where its step does, the others at
+-- the item.
+abbrev pub IsItemFault : Version → ℕ → ℕ → List ℕ → Fault → Type 0
+IsItemFault version taken offset bytes (BadStep at) =
+    ((at ≡ offset) × StartsWithBadItem version bytes)
+    ⊎ ((place : ℕ) × (rest : List ℕ) × (at ≡ offset + place) × OpensBlock version bytes place rest × StartsWithBadBody rest)
+IsItemFault version taken offset bytes (Truncated at) =
+    ((at ≡ offset) × (StartsWithCutItem version bytes ⊎ ((place : ℕ) × OpensBlock version bytes place [])))
+    ⊎ ((place : ℕ) × (rest : List ℕ) × (at ≡ offset + place) × OpensBlock version bytes place rest × StartsWithCutStep rest)
+IsItemFault version taken offset bytes (TooMany at) =
+    (at ≡ offset) × ((first : Item) × (rest : List ℕ) × StartsWithItem version bytes first rest × (step_limit < taken + length (steps_of first)))
+IsItemFault version taken offset bytes _ = ⊥
+
+-- The bytes before this offset spell a script, and the rest stand from there on.
+pub record SpellsUpTo (bytes : List ℕ) (script : Listing) (offset : ℕ) (rest : List ℕ) : Type 0 where
+  pub front : List ℕ
+  pub whole : bytes ≡ front ++ rest
+  pub good : Spells front script
   pub place : offset ≡ length front
 
+-- after good items the next has this fault
+abbrev pub HasItemFault : List ℕ → Fault → Type 0
+HasItemFault bytes fault =
+    (script : Listing) × (offset : ℕ) × (rest : List ℕ) × SpellsUpTo bytes script offset rest
+    × IsItemFault script.version (length (expanded script.items)) offset rest fault
+
 -- The first fault of bytes that spell no script, in the order of reading: they do not begin with the letters, nothing or
--- another version follows these, or after good steps there is a bad step or one that is cut off.
+-- no version follows these, or after good items the next has a fault.
 abbrev pub IsSpellingFault : List ℕ → Fault → Type 0
 IsSpellingFault bytes BadMagic = (rest : List ℕ) → bytes ≢ magic ++ rest
-IsSpellingFault bytes BadVersion = (other : ℕ) × (rest : List ℕ) × (bytes ≡ magic ++ other ∷ rest) × (other ≢ version)
-IsSpellingFault bytes (BadStep at) = (rest : List ℕ) × SpellsUpTo bytes at rest × StartsWithBadStep rest
-IsSpellingFault bytes (Truncated at) = ((bytes ≡ magic) × (at ≡ 4)) ⊎ ((rest : List ℕ) × SpellsUpTo bytes at rest × StartsWithCutStep rest)
+IsSpellingFault bytes BadVersion = (other : ℕ) × (rest : List ℕ) × (bytes ≡ magic ++ other ∷ rest) × ((version : Version) → other ≢ version_byte version)
+IsSpellingFault bytes (BadStep at) = HasItemFault bytes (BadStep at)
+IsSpellingFault bytes (Truncated at) = ((bytes ≡ magic) × (at ≡ 4)) ⊎ HasItemFault bytes (Truncated at)
+IsSpellingFault bytes (TooMany at) = HasItemFault bytes (TooMany at)
 IsSpellingFault bytes _ = ⊥
 
 -- the first fault of some bytes: they are too long, before all others, or they spell no script

@@ -1,12 +1,42 @@
 -- Scripts on which the definitions are shown right.
-use Rattle.std.specs.Prelude.{ℕ, List, [], ◌∷◌, ◌++◌, codes}
+use Rattle.std.specs.Prelude.{ℕ, List, [], ◌∷◌, ◌++◌, codes, replicate}
 use Rattle.vga_script.specs.declared.step.Step.{Step}
-use Rattle.vga_script.specs.declared.step.Step.TheVariants.{Out, Int}
+use Rattle.vga_script.specs.declared.step.Step.TheVariants.{Out, Int, Frame}
+use Rattle.vga_script.specs.Item.{Once, Repeated, Listing, listing}
+use Rattle.vga_script.specs.declared.version.Version.TheVariants.{One, Two}
+use Rattle.vga_script.specs.Spelling.{header}
 
 -- a write of the sequencer's index, and a mode set
-abbrev pub two_steps : List Step
-two_steps = Out 0x3C4 2 ∷ Int 0x13 0 0 0 [] ∷ []
+abbrev pub two_steps : Listing
+two_steps = listing One (Once (Out 0x3C4 2) ∷ Once (Int 0x13 0 0 0 []) ∷ [])
 
 -- its bytes
 abbrev pub two_steps_bytes : List ℕ
 two_steps_bytes = codes "VGAS" ++ 1 ∷ 1 ∷ 0xC4 ∷ 0x03 ∷ 0x02 ∷ 9 ∷ 0x13 ∷ 0 ∷ 0 ∷ 0 ∷ 0 ∷ 0 ∷ 0 ∷ 0 ∷ 0 ∷ 0 ∷ []
+
+-- the same write three times
+abbrev pub three_times : Listing
+three_times = listing Two (Repeated 3 (Out 0x3C4 2 ∷ []) ∷ [])
+
+-- its bytes
+abbrev pub three_times_bytes : List ℕ
+three_times_bytes = codes "VGAS" ++ 2 ∷ 0x0D ∷ 3 ∷ 0 ∷ 1 ∷ 0xC4 ∷ 0x03 ∷ 0x02 ∷ 0x0E ∷ []
+
+-- no steps, as often as a block counts
+abbrev pub nothing_repeated : Listing
+nothing_repeated = listing Two (Repeated 0xFFFF [] ∷ [])
+
+-- so many frames. It is opaque, as are their bytes, since they would be written out in every goal.
+unfoldable pub frames : ℕ → List Step
+frames n = replicate n Frame
+
+unfoldable pub frame_bytes : ℕ → List ℕ
+frame_bytes n = replicate n 0x0B
+
+-- a block of so many frames, as often as a block counts
+abbrev pub frames_repeated : ℕ → Listing
+frames_repeated n = listing Two (Repeated 0xFFFF (frames n) ∷ [])
+
+-- its bytes
+abbrev pub frames_repeated_bytes : ℕ → List ℕ
+frames_repeated_bytes n = header Two ++ 0x0D ∷ 0xFF ∷ 0xFF ∷ (frame_bytes n ++ 0x0E ∷ [])

@@ -1,11 +1,15 @@
--- The steps at the front of some bytes, read from their fields.
+-- The steps and the items at the front of some bytes, read from their fields.
 use Rattle.std.specs.Prelude.{ℕ, zero, suc, ◌==◌, if◌then◌else◌, List, [], ◌∷◌, length, take, drop, get_or, Option, None, Some}
 use Rattle.byteorder.specs.Endian.{little_number}
 use Rattle.vga_script.specs.declared.step.Step.{Step}
 use Rattle.vga_script.specs.declared.step.Step.TheVariants.{Out, OutWord, In, InWord, Put, PutWord, Get, GetWord, Int, Advance, Frame, Show}
+use Rattle.vga_script.specs.declared.version.Version.{Version}
+use Rattle.vga_script.specs.declared.version.Version.TheVariants.{One, Two}
+use Rattle.vga_script.specs.Version.{version_byte}
+use Rattle.vga_script.specs.Item.{Listing, listing, Item, Once, Repeated}
 use Rattle.vga_script.specs.declared.shown.Shown.TheVariants as shown
 use Rattle.vga_script.specs.Shown.{kind_registers, kind_dac, kind_beam, kind_latches, kind_plane, kind_bios_data, kind_cells}
-use Rattle.vga_script.specs.Spelling.{opcode_out, opcode_out_word, opcode_in, opcode_in_word, opcode_put, opcode_put_word, opcode_get, opcode_get_word, opcode_int, opcode_advance, opcode_frame, opcode_show}
+use Rattle.vga_script.specs.Spelling.{opcode_out, opcode_out_word, opcode_in, opcode_in_word, opcode_put, opcode_put_word, opcode_get, opcode_get_word, opcode_int, opcode_advance, opcode_frame, opcode_show, opcode_repeat}
 
 -- a call of the BIOS whose block has this length, and what follows its block
 abbrev pub call_at : ℕ → ℕ → ℕ → ℕ → ℕ → List ℕ → Option (Step × List ℕ)
@@ -58,3 +62,58 @@ steps_from (suc most) bytes = and_others (step_of bytes) (steps_from most)
 -- all steps at the front of some bytes
 unfoldable pub steps_in : List ℕ → List Step
 steps_in bytes = steps_from (length bytes) bytes
+
+-- what follows a step that was read and those behind it, if one was, and else the bytes
+abbrev pub behind_others : Option (Step × List ℕ) → (List ℕ → List ℕ) → List ℕ → List ℕ
+behind_others None behind bytes = bytes
+behind_others (Some read) behind bytes = behind read.1
+
+-- what follows the steps at the front of some bytes, so many at most
+abbrev pub behind_from : ℕ → List ℕ → List ℕ
+behind_from zero bytes = bytes
+behind_from (suc most) bytes = behind_others (step_of bytes) (behind_from most) bytes
+
+-- what follows all steps at the front of some bytes
+unfoldable pub behind_steps : List ℕ → List ℕ
+behind_steps bytes = behind_from (length bytes) bytes
+
+-- a step that was read, as an item
+abbrev pub step_item : Option (Step × List ℕ) → Option (Item × List ℕ)
+step_item None = None
+step_item (Some read) = Some (Once read.0, read.1)
+
+-- a block of this count, whose steps stand at the front of these bytes, and what follows its end
+abbrev pub block_item : ℕ → List ℕ → Option (Item × List ℕ)
+block_item count bytes = Some (Repeated count (steps_in bytes), drop 1 (behind_steps bytes))
+
+-- the item of an opcode and what follows that, and what follows the item
+abbrev pub item_with : ℕ → List ℕ → Option (Item × List ℕ)
+item_with opcode rest =
+    if opcode == opcode_repeat then block_item (little_number 2 rest) (drop 2 rest) else step_item (step_with opcode rest)
+
+-- the item at the front of some bytes, and what follows it
+abbrev pub item_of : List ℕ → Option (Item × List ℕ)
+item_of [] = None
+item_of (opcode ∷ rest) = item_with opcode rest
+
+-- an item that was read, if one was, and those that its rest gives
+abbrev pub and_items : Option (Item × List ℕ) → (List ℕ → List Item) → List Item
+and_items None others = []
+and_items (Some read) others = read.0 ∷ others read.1
+
+-- the items at the front of some bytes, so many at most
+abbrev pub items_from : ℕ → List ℕ → List Item
+items_from zero bytes = []
+items_from (suc most) bytes = and_items (item_of bytes) (items_from most)
+
+-- all items at the front of some bytes
+unfoldable pub items_in : List ℕ → List Item
+items_in bytes = items_from (length bytes) bytes
+
+-- the version of a byte that is the byte of one
+abbrev pub version_of : ℕ → Version
+version_of byte = if byte == version_byte Two then Two else One
+
+-- What the bytes of a script spell: the version behind the letters, and the items behind it.
+unfoldable pub listing_of : List ℕ → Listing
+listing_of bytes = listing (version_of (get_or bytes 4 0)) (items_in (drop 5 bytes))

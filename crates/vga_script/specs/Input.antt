@@ -4,6 +4,8 @@ use Rattle.std.specs.Prelude.{ℕ, ◌≡◌, ◌<◌, ◌≤◌, ◌⊎◌, Lis
 use Rattle.vga_bits.specs.declared.fault.Fault.{Fault}
 use Rattle.vga_bits.specs.declared.fault.Fault.TheVariants.{TooLong, ReadFault, OutOfMemory}
 use Rattle.vga_script.specs.declared.step.Step.{Step}
+use Rattle.vga_script.specs.Item.{Listing}
+use Rattle.vga_script.specs.Spelled.{SpellsExpanded}
 use Rattle.vga_script.specs.Decoding.{IsSpellingFault}
 use Rattle.vga_script.specs.Script.{IsScript}
 use Rattle.vga_script.specs.Spelling.{script_limit, Spells}
@@ -21,14 +23,18 @@ IsTooLong input = IfSome input (λ all. script_limit < length all)
 abbrev pub IsReadingFault : Option (List ℕ) → Fault → Type 0
 IsReadingFault input fault = (fault ≡ ReadFault) ⊎ (((fault ≡ TooLong) × IsTooLong input) ⊎ (fault ≡ OutOfMemory))
 
--- the input spells a script of these steps
-abbrev pub InputSpells : Option (List ℕ) → List Step → Type 0
-InputSpells input steps = (bytes : List ℕ) × IsInput input bytes × Spells bytes steps
+-- the input spells this script
+abbrev pub InputSpells : Option (List ℕ) → Listing → Type 0
+InputSpells input script = (bytes : List ℕ) × IsInput input bytes × Spells bytes script
+
+-- the input spells a script which means these steps
+abbrev pub InputMeans : Option (List ℕ) → List Step → Type 0
+InputMeans input steps = (bytes : List ℕ) × IsInput input bytes × SpellsExpanded bytes steps
 
 -- the input spells no script, and this is its first fault
 abbrev pub InputHasFault : Option (List ℕ) → Fault → Type 0
 InputHasFault input fault = (bytes : List ℕ) × IsInput input bytes × IsSpellingFault bytes fault
 
--- the input is a text that spells a script of these steps
-abbrev pub InputSpellsText : Option (List ℕ) → List Step → Type 0
-InputSpellsText input steps = (text : List ℕ) × IsInput input text × SpellsText text steps × IsScript steps
+-- the input is a text that spells this script
+abbrev pub InputSpellsText : Option (List ℕ) → Listing → Type 0
+InputSpellsText input script = (text : List ℕ) × IsInput input text × SpellsText text script × IsScript script

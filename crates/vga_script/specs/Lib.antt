@@ -1,11 +1,16 @@
 pub mod Shown
 pub mod Step
+pub mod Version
+pub mod Item
 pub mod Spelling
 pub mod Front
 pub mod Spelled
+pub mod Places
 pub mod Decoding
+pub mod Body
 pub mod Words
 pub mod Text
+pub mod Assembling
 pub mod Reading
 pub mod Printing
 pub mod Script

@@ -1,10 +1,13 @@
--- The printed text of a script: a line for each step.
+-- The printed text of a script: a line for each step, and for each beginning and end of a block.
 use Rattle.std.specs.Prelude.{ℕ, nat_lt, if◌then◌else◌, List, [], ◌∷◌, ◌++◌, codes, decimal}
 use Rattle.std.specs.List.{join_with_byte, flat_map}
 use Rattle.hex.specs.Hex.{encode_upper}
 use Rattle.vga_bits.specs.Hex.{hex}
 use Rattle.vga_script.specs.declared.step.Step.{Step}
 use Rattle.vga_script.specs.declared.step.Step.TheVariants.{Out, OutWord, In, InWord, Put, PutWord, Get, GetWord, Int, Advance, Frame, Show}
+use Rattle.vga_script.specs.Item.{Item, Once, Repeated, Listing}
+use Rattle.vga_script.specs.declared.version.Version.{Version}
+use Rattle.vga_script.specs.declared.version.Version.TheVariants.{One, Two}
 use Rattle.vga_script.specs.declared.shown.Shown.{Shown}
 use Rattle.vga_script.specs.declared.shown.Shown.TheVariants as shown
 use Rattle.vga_script.specs.Text.{name_of, keyword_of, shown_name}
@@ -65,5 +68,21 @@ abbrev pub printed_line : Step → List ℕ
 printed_line step = line_of (printed_words step)
 
 -- the printed text of these steps
-abbrev pub printed : List Step → List ℕ
-printed steps = flat_map printed_line steps
+abbrev pub printed_steps : List Step → List ℕ
+printed_steps steps = flat_map printed_line steps
+
+-- the printed text of an item: the line of a step; or that of the beginning of a block, those of its steps, and that of its
+-- end
+abbrev pub printed_item : Item → List ℕ
+printed_item (Once step) = printed_line step
+printed_item (Repeated count steps) =
+    line_of (codes "repeat" ∷ decimal count ∷ []) ++ (printed_steps steps ++ line_of (codes "end" ∷ []))
+
+-- the line that says the version of a script, where it is not 1
+abbrev pub version_line : Version → List ℕ
+version_line One = []
+version_line Two = line_of (codes "version" ∷ codes "2" ∷ [])
+
+-- the printed text of a script
+abbrev pub printed : Listing → List ℕ
+printed script = version_line script.version ++ flat_map printed_item script.items

@@ -1,16 +1,27 @@
--- Steps where they stand in the bytes of a script.
-use Rattle.std.specs.Prelude.{◌≡◌, List, [], ◌∷◌, Option, None, Some}
+-- What stands in the bytes of a script, and taking steps one after the other.
+use Rattle.std.specs.Prelude.{ℕ, ◌≡◌, ◌≤◌, List, [], ◌∷◌, Option, None, Some, length}
 use Rattle.vga_script.specs.declared.step.Step.{Step}
-use Rattle.vga_script.specs.declared.step.Step.TheVariants.{Int}
-use Rattle.vga_script.specs.declared.spelled_step.SpelledStep.{SpelledStep}
-use Rattle.vga_script.specs.declared.spelled_step.SpelledStep.TheVariants as spelled
+use Rattle.vga_script.specs.declared.spelled_item.SpelledItem.{SpelledItem}
+use Rattle.vga_script.specs.declared.spelled_item.SpelledItem.TheVariants as spelled
+use Rattle.vga_script.specs.Front.{steps_in}
+use Rattle.vga_script.specs.Item.{Item, Once, Repeated, Listing, expanded}
+use Rattle.vga_script.specs.Spelling.{script_limit, SpellsSteps, Spells}
 
--- the step that stands there
-abbrev pub spelled_step : SpelledStep → Step
-spelled_step (spelled.Int ax bx cx dx block) = Int ax bx cx dx block.now
-spelled_step (spelled.Other step) = step
+-- the item that stands there
+abbrev pub spelled_item : SpelledItem → Item
+spelled_item (spelled.Step step) = Once step
+spelled_item (spelled.Block count len steps) = Repeated count (steps_in steps.now)
+
+-- where it is a block, its bytes spell so many steps
+abbrev pub HasBody : SpelledItem → Type 0
+HasBody (spelled.Step step) = Unit {0}
+HasBody (spelled.Block count len steps) = SpellsSteps steps.now (steps_in steps.now) × (len ≡ length (steps_in steps.now)) × (len ≤ script_limit)
+
+-- bytes that spell a script which means these steps
+abbrev pub SpellsExpanded : List ℕ → List Step → Type 0
+SpellsExpanded bytes steps = (script : Listing) × Spells bytes script × (steps ≡ expanded script.items)
 
 -- of these steps the first is taken, if there is one, and those are left
-abbrev pub TakesFirst : List Step → List Step → Option SpelledStep → Type 0
+abbrev pub TakesFirst : List Step → List Step → Option Step → Type 0
 TakesFirst steps left None = (steps ≡ []) × (left ≡ [])
-TakesFirst steps left (Some step) = steps ≡ spelled_step step ∷ left
+TakesFirst steps left (Some step) = steps ≡ step ∷ left

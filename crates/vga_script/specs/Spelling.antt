@@ -1,11 +1,14 @@
--- What a script is in bytes: the letters VGAS, the version, and the steps one after the other.
-use Rattle.std.specs.Prelude.{ℕ, ◌≡◌, List, [], ◌∷◌, ◌++◌, length}
+-- What a script is in bytes: the letters VGAS, the version, and the items one after the other.
+use Rattle.std.specs.Prelude.{ℕ, ◌≡◌, ◌≤◌, List, [], ◌∷◌, ◌++◌, length}
 use Rattle.std.specs.List.{flat_map}
 use Rattle.byteorder.specs.Endian.{little_bytes}
 use Rattle.vga_script.specs.declared.step.Step.{Step}
 use Rattle.vga_script.specs.declared.step.Step.TheVariants.{Out, OutWord, In, InWord, Put, PutWord, Get, GetWord, Int, Advance, Frame, Show}
+use Rattle.vga_script.specs.Item.{Item, Once, Repeated, Listing, expanded, step_limit, IsItemOf}
+use Rattle.vga_script.specs.declared.version.Version.{Version}
 use Rattle.vga_script.specs.Shown.{shown_spelling}
 use Rattle.vga_script.specs.Step.{IsInRange}
+use Rattle.vga_script.specs.Version.{version_byte}
 
 -- how many bytes a script may have, and a text that spells one
 abbrev pub script_limit : ℕ
@@ -15,13 +18,9 @@ script_limit = 16777216
 abbrev pub magic : List ℕ
 magic = 0x56 ∷ 0x47 ∷ 0x41 ∷ 0x53 ∷ []
 
--- the one version
-abbrev pub version : ℕ
-version = 1
-
--- what stands before the steps: the letters and the version
-abbrev pub header : List ℕ
-header = magic ++ version ∷ []
+-- what stands before the items: the letters and the version
+abbrev pub header : Version → List ℕ
+header version = magic ++ version_byte version ∷ []
 
 -- the opcode of a write of a byte to a port
 abbrev pub opcode_out : ℕ
@@ -71,6 +70,14 @@ opcode_frame = 0x0B
 abbrev pub opcode_show : ℕ
 opcode_show = 0x0C
 
+-- the opcode that begins a block
+abbrev pub opcode_repeat : ℕ
+opcode_repeat = 0x0D
+
+-- the opcode that ends it
+abbrev pub opcode_end : ℕ
+opcode_end = 0x0E
+
 -- the bytes of a step: its opcode, and its fields, each with the low byte first; a block has its length before it
 abbrev pub spelling : Step → List ℕ
 spelling (Out port value) = opcode_out ∷ (little_bytes 2 port ++ value ∷ [])
@@ -87,9 +94,14 @@ spelling (Advance dots) = opcode_advance ∷ little_bytes 4 dots
 spelling Frame = opcode_frame ∷ []
 spelling (Show what) = opcode_show ∷ shown_spelling what
 
--- the bytes of a script of these steps
-abbrev pub encoding : List Step → List ℕ
-encoding steps = header ++ flat_map spelling steps
+-- the bytes of an item: those of a step; or the opcode of a block, its count, its steps, and the opcode of its end
+abbrev pub item_spelling : Item → List ℕ
+item_spelling (Once step) = spelling step
+item_spelling (Repeated count steps) = opcode_repeat ∷ (little_bytes 2 count ++ (flat_map spelling steps ++ opcode_end ∷ []))
+
+-- the bytes of a script
+abbrev pub encoding : Listing → List ℕ
+encoding script = header script.version ++ flat_map item_spelling script.items
 
 -- the bytes begin with this step, and go on with the rest
 abbrev pub StartsWithStep : List ℕ → Step → List ℕ → Type 0
@@ -100,6 +112,16 @@ abbrev pub SpellsSteps : List ℕ → List Step → Type 0
 SpellsSteps bytes [] = bytes ≡ []
 SpellsSteps bytes (step ∷ steps) = (rest : List ℕ) × StartsWithStep bytes step rest × SpellsSteps rest steps
 
--- bytes that spell a script of these steps
-abbrev pub Spells : List ℕ → List Step → Type 0
-Spells bytes steps = (rest : List ℕ) × (bytes ≡ header ++ rest) × SpellsSteps rest steps
+-- the bytes begin with this item, which a script of this version may have, and go on with the rest
+abbrev pub StartsWithItem : Version → List ℕ → Item → List ℕ → Type 0
+StartsWithItem version bytes first rest = IsItemOf version first × (bytes ≡ item_spelling first ++ rest)
+
+-- bytes that spell these items, one after the other, and nothing else
+abbrev pub SpellsItems : Version → List ℕ → List Item → Type 0
+SpellsItems version bytes [] = bytes ≡ []
+SpellsItems version bytes (first ∷ others) = (rest : List ℕ) × StartsWithItem version bytes first rest × SpellsItems version rest others
+
+-- bytes that spell a script, whose items mean no more steps than a script may
+abbrev pub Spells : List ℕ → Listing → Type 0
+Spells bytes script =
+    (rest : List ℕ) × (bytes ≡ header script.version ++ rest) × SpellsItems script.version rest script.items × (length (expanded script.items) ≤ step_limit)

@@ -1,14 +1,19 @@
--- What a script is in text: each line has the words of one step, or no word.
-use Rattle.std.specs.Prelude.{ℕ, ◌≡◌, ◌<◌, ◌+◌, ◌^◌, ◌⊎◌, List, [], ◌∷◌, ◌++◌, length, codes, Ok}
+-- What a script is in text: each line has the words of one step, or no word; or, in version 2, begins or ends a block.
+use Rattle.std.specs.Prelude.{ℕ, ◌≡◌, ◌<◌, ◌≤◌, ◌+◌, ◌^◌, ◌⊎◌, List, [], ◌∷◌, ◌++◌, length, map, codes, Ok}
+use Rattle.std.specs.List.{AllByRecursion, flat_map}
 use Rattle.hex.specs.Hex.{decode_of}
 use Rattle.vga_script.specs.declared.step.Step.{Step}
 use Rattle.vga_script.specs.declared.step.Step.TheVariants.{Out, OutWord, In, InWord, Put, PutWord, Get, GetWord, Int, Advance, Frame, Show}
+use Rattle.vga_script.specs.Item.{Item, Once, Repeated, Listing, expanded, step_limit}
+use Rattle.vga_script.specs.declared.version.Version.{Version}
+use Rattle.vga_script.specs.declared.version.Version.TheVariants.{One, Two}
 use Rattle.vga_script.specs.declared.shown.Shown.{Shown}
 use Rattle.vga_script.specs.declared.shown.Shown.TheVariants as shown
 use Rattle.vga_script.specs.declared.keyword.Keyword.{Keyword}
 use Rattle.vga_script.specs.declared.keyword.Keyword.TheVariants as keyword
 use Rattle.vga_bits.specs.declared.fault.Fault.{Fault}
 use Rattle.vga_bits.specs.declared.fault.Fault.TheVariants.{BadLine}
+use Rattle.vga_script.specs.Version.{AllowsBlocks}
 use Rattle.vga_script.specs.Shown.{IsShownInRange}
 use Rattle.vga_script.specs.Words.{lines, words, lowered, IsNumeral, IsHex}
 
@@ -126,15 +131,115 @@ SpellsLines [] steps = steps ≡ []
 SpellsLines (line ∷ others) steps =
     (here : List Step) × (after : List Step) × (steps ≡ here ++ after) × SpellsLine (words line) here × SpellsLines others after
 
--- a text that spells a script of these steps
-abbrev pub SpellsText : List ℕ → List Step → Type 0
-SpellsText text steps = SpellsLines (lines text) steps
+-- the words of a line that begins a block: `repeat`, and a count of 1 to 65,535 in decimal
+abbrev pub SpellsRepeat : List (List ℕ) → ℕ → Type 0
+SpellsRepeat fields count =
+    (first : List ℕ) × (number : List ℕ) × (fields ≡ first ∷ number ∷ []) × (lowered first ≡ codes "repeat")
+    × IsNumeral 10 number count × (0 < count) × (count < 2 ^ 16)
 
--- the line of this number, counted from 1, spells nothing, and all before it do
+-- the word of a line that ends it
+abbrev pub IsEnd : List (List ℕ) → Type 0
+IsEnd fields = (first : List ℕ) × (fields ≡ first ∷ []) × (lowered first ≡ codes "end")
+
+-- the words of the line that says version 2
+abbrev pub IsVersionTwo : List (List ℕ) → Type 0
+IsVersionTwo fields = (first : List ℕ) × (fields ≡ first ∷ codes "2" ∷ []) × (lowered first ≡ codes "version")
+
+-- Lines of a text, and the items that they spell together.
+pub record Group : Type 0 where
+  pub lines : List (List ℕ)
+  pub items : List Item
+
+-- one line, of a step or of no word
+abbrev pub IsLine : Group → Type 0
+IsLine group = (line : List ℕ) × (steps : List Step) × (group.lines ≡ line ∷ []) × (group.items ≡ map Once steps) × SpellsLine (words line) steps
+
+-- the lines of a block: that of its beginning, those of its steps, and that of its end
+abbrev pub IsBlockOfLines : Group → Type 0
+IsBlockOfLines group =
+    (first : List ℕ) × (count : ℕ) × (body : List (List ℕ)) × (steps : List Step) × (last : List ℕ)
+    × (group.lines ≡ first ∷ (body ++ last ∷ [])) × (group.items ≡ Repeated count steps ∷ [])
+    × SpellsRepeat (words first) count × SpellsLines body steps × IsEnd (words last)
+
+-- lines that together spell one item of a script of this version, or none
+abbrev pub IsGroup : Version → Group → Type 0
+IsGroup version group = IsLine group ⊎ (AllowsBlocks version × IsBlockOfLines group)
+
+-- lines that spell these items, group by group
+abbrev pub SpellsGroups : Version → List (List ℕ) → List Item → Type 0
+SpellsGroups version ls items =
+    (groups : List Group) × (ls ≡ flat_map (λ group. group.lines) groups) × (items ≡ flat_map (λ group. group.items) groups)
+    × AllByRecursion (IsGroup version) groups
+
+-- The first of these lines that has a word says version 2, and the rest stand behind it, the first of them with this number.
+pub record SaysVersionTwo (ls : List (List ℕ)) (n : ℕ) (rest : List (List ℕ)) : Type 0 where
+  pub before : List (List ℕ)
+  pub line : List ℕ
+  pub blank : AllByRecursion (λ other. words other ≡ []) before
+  pub version : IsVersionTwo (words line)
+  pub whole : ls ≡ before ++ line ∷ rest
+  pub number : n ≡ length before + 2
+
+-- where the lines of the items of a script of this version begin in a text, and with which number: those of version 1 are
+-- all its lines, those of version 2 stand behind the line that says so
+abbrev pub StandFrom : Version → List (List ℕ) → ℕ → List (List ℕ) → Type 0
+StandFrom One ls n rest = (n ≡ 1) × (rest ≡ ls)
+StandFrom Two ls n rest = SaysVersionTwo ls n rest
+
+-- a text that spells a script, whose items mean no more steps than a script may
+abbrev pub SpellsText : List ℕ → Listing → Type 0
+SpellsText text script =
+    (n : ℕ) × (rest : List (List ℕ)) × StandFrom script.version (lines text) n rest × SpellsGroups script.version rest script.items
+    × (length (expanded script.items) ≤ step_limit)
+
+-- a line outside blocks of a script of this version that spells neither a step nor the beginning of a block
+abbrev pub IsBadOutside : Version → List ℕ → Type 0
+IsBadOutside version line =
+    ((steps : List Step) → SpellsLine (words line) steps → ⊥) × (AllowsBlocks version → (count : ℕ) → SpellsRepeat (words line) count → ⊥)
+
+-- a line in a block that spells neither a step nor the block's end
+abbrev pub IsBadInside : List ℕ → Type 0
+IsBadInside line = ((steps : List Step) → SpellsLine (words line) steps → ⊥) × (IsEnd (words line) → ⊥)
+
+-- The lines begin with a block, and the rest stand in it, so many lines behind its first: between them are lines of steps.
+pub record OpensLines (version : Version) (ls : List (List ℕ)) (place : ℕ) (rest : List (List ℕ)) : Type 0 where
+  pub first : List ℕ
+  pub count : ℕ
+  pub body : List (List ℕ)
+  pub steps : List Step
+  pub allowed : AllowsBlocks version
+  pub begins : SpellsRepeat (words first) count
+  pub good : SpellsLines body steps
+  pub whole : ls ≡ first ∷ (body ++ rest)
+  pub place_is : place ≡ length body + 1
+
+-- Why the line of this number is bad, from which on these lines stand in a script of this version behind items that mean so
+-- many steps: it is bad outside blocks; or a later line is in its block, or the block has no end; or with the group that
+-- begins there are more steps than a script may mean.
+abbrev pub IsGroupFault : Version → ℕ → ℕ → List (List ℕ) → ℕ → Type 0
+IsGroupFault version taken n ls bad =
+    ((bad ≡ n) × ((line : List ℕ) × (others : List (List ℕ)) × (ls ≡ line ∷ others) × IsBadOutside version line))
+    ⊎ (((place : ℕ) × (line : List ℕ) × (others : List (List ℕ)) × (bad ≡ n + place) × OpensLines version ls place (line ∷ others) × IsBadInside line)
+    ⊎ (((bad ≡ n) × ((place : ℕ) × OpensLines version ls place []))
+    ⊎ ((bad ≡ n) × ((group : Group) × (others : List (List ℕ)) × (ls ≡ group.lines ++ others) × IsGroup version group × (step_limit < taken + length (expanded group.items))))))
+
+-- The lines of a text before that of this number, counted from 1, spell a script, and these lines are left. A text whose first
+-- line with a word does not say version 2 is read as one of version 1.
+pub record SpellsLinesUpTo (text : List ℕ) (script : Listing) (n : ℕ) (left : List (List ℕ)) : Type 0 where
+  pub start : ℕ
+  pub rest : List (List ℕ)
+  pub front : List (List ℕ)
+  pub from : StandFrom script.version (lines text) start rest
+  pub one : script.version ≡ One → (m : ℕ) (others : List (List ℕ)) → SaysVersionTwo (lines text) m others → ⊥
+  pub whole : rest ≡ front ++ left
+  pub good : SpellsGroups script.version front script.items
+  pub few : length (expanded script.items) ≤ step_limit
+  pub number : n ≡ start + length front
+
+-- the line of this number is the first bad line: after good groups it makes the next bad
 abbrev pub IsBadLine : List ℕ → ℕ → Type 0
-IsBadLine text n =
-    (before : List (List ℕ)) × (line : List ℕ) × (after : List (List ℕ)) × (lines text ≡ before ++ line ∷ after) × (n ≡ length before + 1)
-    × ((steps : List Step) × SpellsLines before steps) × ((steps : List Step) → SpellsLine (words line) steps → ⊥)
+IsBadLine text bad =
+    (script : Listing) × (n : ℕ) × (left : List (List ℕ)) × SpellsLinesUpTo text script n left × IsGroupFault script.version (length (expanded script.items)) n left bad
 
 -- the fault of a text whose first bad line has this number
 abbrev pub IsLineFault : List ℕ → Fault → Type 0

@@ -1,5 +1,5 @@
 -- Lines, words and numbers of a text.
-use Rattle.std.specs.Prelude.{ℕ, ◌≡◌, ◌<◌, ◌≤◌, ◌==◌, ◌||◌, Bool, true, false, List, [], ◌∷◌, length, filter, map, Option, Some, None}
+use Rattle.std.specs.Prelude.{ℕ, ◌≡◌, ◌<◌, ◌≤◌, ◌+◌, ◌==◌, ◌||◌, Bool, true, false, List, [], ◌∷◌, length, filter, map, Option, Some, None}
 use Rattle.std.specs.Char.{to_ascii_lowercase}
 use Rattle.std.specs.List.{slice_split, before_first}
 use Rattle.std.specs.Str.Parse.{AllDigits, digits_value}
@@ -51,6 +51,11 @@ IsHex most word n = (length word ≤ most) × IsNumeral 16 word n
 abbrev pub lines_left : Option (List ℕ) → List (List ℕ)
 lines_left None = []
 lines_left (Some text) = lines text
+
+-- how many bytes are left of a text, and one more for its end, where something is
+abbrev pub left_len : Option (List ℕ) → ℕ
+left_len None = 0
+left_len (Some text) = length text + 1
 
 -- which bytes end a piece of a text
 abbrev pub ends_at : End → ℕ → Bool

@@ -1,71 +1,192 @@
-//! From the text of a script to its steps.
-ghost use Rattle.std.specs.Prelude.{◌≡◌, ◌⊎◌, ◌≤◌, ◌++◌, List, length, option_to_list, IfOk, IfErr, IsOkUnless, OnOk};
-ghost use Rattle.vga_script.specs.Script.{IsTextFault};
+//! From the text of a script to its bytes.
+ghost use Rattle.std.specs.Prelude.{◌≡◌, ◌⊎◌, ◌<◌, ◌≤◌, ◌+◌, List, length, ℕ};
+ghost use Rattle.std.specs.Prelude.{IfOk, IfErr, IsOkUnless, Err};
+ghost use Rattle.std.specs.Option.{option_copied};
+ghost use Rattle.vga_script.specs.Assembling.{AppendsBlock, AppendsBody, AppendsGroup, AppendsLine, IsBodyFault, IsGroupFaultOf};
+ghost use Rattle.vga_script.specs.Item.{Listing};
+ghost use Rattle.vga_script.specs.Script.{IsScript, IsTextFault};
 ghost use Rattle.vga_script.specs.Spelling.{script_limit, encoding};
-ghost use Rattle.vga_script.specs.Text.{SpellsText, IsLineFault};
+ghost use Rattle.vga_script.specs.Text.{SaysVersionTwo, SpellsLine, SpellsText, StandFrom, IsLineFault};
+ghost use Rattle.vga_script.specs.Words.{left_len, lines, lines_left, words};
 ghost use Rattle.vga_script.specs.declared.step.Step.{Step};
 
-use super::encoding::steps_fit;
-use super::opcode::HEADER_LEN;
+use super::block_lines::{count_in, has_word, is_end, says_version_two};
+use super::opcode;
+use super::output::{append, append_u16};
 use super::reading::{Unread, step_of_line};
-use super::script::{SCRIPT_LIMIT, Script};
-use super::step::Step;
+use super::script::{SCRIPT_LIMIT, STEP_LIMIT, Script};
+use super::step_bytes::append_step;
+use super::version::Version;
 use super::words::first_line;
 use std::alloc::Global;
 use vga_bits::Fault;
 
-/// Puts a step at the end, where there is one. It fails with `OutOfMemory` alone.
-fn push_step(steps: &mut Vec<Step>, step: Option<Step>) -> Result<(), Fault>
-    ensures ok { OnOk result (steps.new.items ≡ steps.old.items ++ option_to_list step) }
-    ensures err { IsOkUnless result Fault.OutOfMemory }
+/// Puts the bytes of the step that a line spells at the end, where it has a word, and says how many steps it spells.
+#[tactic(auto, using(crate::proofs::ScriptLemmas::line_in_range))]
+fn append_line(alloc: Global, out: &mut Vec<u8>, line: &[u8]) -> Result<usize, Unread>
+    ensures found { IfOk result (λ len. AppendsLine line.now out.old.items out.new.items len) }
+    ensures bad { result ≡ Err Unread.Bad → (steps : List Step) → SpellsLine (words line.now) steps → ⊥ }
 {
-    let Some(step) = step else {
-        return Ok(());
+    let mut block = Vec::new(alloc);
+    let Some(step) = step_of_line(alloc, &mut block, line)? else {
+        return Ok(0);
     };
-    match steps.push(step) {
-        Ok(()) => Ok(()),
-        Err(_) => Err(Fault::OutOfMemory),
+    match append_step(out, &step) {
+        Ok(()) => Ok(1),
+        Err(_) => Err(Unread::OutOfMemory),
     }
 }
 
-/// The steps that a text spells, or its first bad line.
-#[tactic(auto, using(crate::proofs::AssembleLemmas::read_none, crate::proofs::AssembleLemmas::read_more, crate::proofs::AssembleLemmas::read_all, crate::proofs::AssembleLemmas::read_bad))]
-fn assemble_steps(alloc: Global, text: &[u8]) -> Result<Vec<Step>, Fault>
-    requires { length text.now ≤ script_limit }
-    ensures found { IfOk result (λ steps. SpellsText text.now steps.items) }
-    ensures fault { IfErr result (λ e. (e ≡ Fault.OutOfMemory) ⊎ IsLineFault text.now e) }
+/// Puts the bytes of the steps of a block at the end, of whose lines those behind the first are left; and how many steps
+/// there are, what follows the line of its end, and the number of the line behind that. The block's first line has the
+/// number `first`.
+#[tactic(auto, using(crate::proofs::AssembleLemmas::body_begins, crate::proofs::AssembleLemmas::body_more, crate::proofs::AssembleLemmas::body_ends, crate::proofs::AssembleLemmas::body_bad, crate::proofs::AssembleLemmas::body_open))]
+fn append_body<'a>(
+    alloc: Global,
+    out: &mut Vec<u8>,
+    left: Option<&'a [u8]>,
+    first: usize,
+) -> Result<(usize, Option<&'a [u8]>, usize), Fault>
+    requires { first + left_len (option_copied left) ≤ script_limit + 2 }
+    ensures found { IfOk result (λ x. AppendsBody (first + 1) (option_copied left.entry) out.old.items
+        out.new.items x.0 x.2 (option_copied x.1)) }
+    ensures fault { IfErr result (λ e. (e ≡ Fault.OutOfMemory)
+        ⊎ IsBodyFault first (option_copied left.entry) e) }
 {
-    let mut steps = Vec::new(alloc);
+    let mut len = 0;
+    let mut left = left;
+    let mut number = first + 1;
+    while let Some(rest) = left {
+        let (line, others) = first_line(rest);
+        if is_end(line) {
+            return Ok((len, others, number + 1));
+        }
+        match append_line(alloc, out, line) {
+            Ok(more) => len += more,
+            Err(Unread::Bad) => return Err(Fault::BadLine(number)),
+            Err(Unread::OutOfMemory) => return Err(Fault::OutOfMemory),
+        }
+        left = others;
+        number += 1;
+    }
+    Err(Fault::BadLine(first))
+}
+
+/// Puts the bytes of a block at the end that begins with a line of this number and counts so many; and how many steps it
+/// means, what follows its last line, and the number of the line behind that.
+fn append_block<'a>(
+    alloc: Global,
+    out: &mut Vec<u8>,
+    count: u16,
+    left: Option<&'a [u8]>,
+    number: usize,
+) -> Result<(usize, Option<&'a [u8]>, usize), Fault>
+    requires { number + left_len (option_copied left) ≤ script_limit + 2 }
+    ensures found { IfOk result (λ x. AppendsBlock (number + 1) (option_copied left.entry) count out.old.items
+        out.new.items x.0 x.2 (option_copied x.1)) }
+    ensures fault { IfErr result (λ e. (e ≡ Fault.OutOfMemory)
+        ⊎ IsBodyFault number (option_copied left.entry) e) }
+{
+    append(out, &[opcode::REPEAT])?;
+    append_u16(out, count)?;
+    let (len, left, next) = append_body(alloc, out, left, number)?;
+    append(out, &[opcode::END])?;
+    Ok((count as usize * len, left, next))
+}
+
+/// Puts the bytes of the item at the end that a line outside blocks spells or begins, where it has a word; and how many
+/// steps it means, what follows its last line, and the number of the line behind that. The line has this number, and others
+/// follow it.
+#[tactic(auto, using(crate::proofs::AssembleLemmas::group_of_block, crate::proofs::AssembleLemmas::group_bad))]
+fn append_group<'a>(
+    alloc: Global,
+    out: &mut Vec<u8>,
+    version: Version,
+    text: &'a [u8],
+    number: usize,
+) -> Result<(usize, Option<&'a [u8]>, usize), Fault>
+    requires { number + length text.now ≤ script_limit + 1 }
+    ensures found { IfOk result (λ x. AppendsGroup version number (lines text.now) out.old.items out.new.items x.0 x.2
+        (option_copied x.1)) }
+    ensures shorter { IfOk result (λ x. x.2 + left_len (option_copied x.1) ≤ number + (length text.now + 1)) }
+    ensures later { IfOk result (λ x. number < x.2) }
+    ensures fault { IfErr result (λ e. (e ≡ Fault.OutOfMemory) ⊎ IsGroupFaultOf version number (lines text.now) e) }
+{
+    let (line, others) = first_line(text);
+    if let Some(count) = count_in(line, version) {
+        return append_block(alloc, out, count, others, number);
+    }
+    match append_line(alloc, out, line) {
+        Ok(len) => Ok((len, others, number + 1)),
+        Err(Unread::Bad) => Err(Fault::BadLine(number)),
+        Err(Unread::OutOfMemory) => Err(Fault::OutOfMemory),
+    }
+}
+
+/// The version of the script that a text may spell, the lines of its items, and the number of the first of them.
+#[tactic(auto, using(crate::proofs::AssembleLemmas::blank_none, crate::proofs::AssembleLemmas::two_found))]
+fn items_of_text(text: &[u8]) -> (Version, Option<&[u8]>, usize)
+    requires { length text.now ≤ script_limit }
+    ensures from { StandFrom result.0 (lines text.now) result.2 (lines_left (option_copied result.1)) }
+    ensures one { result.0 ≡ Version.One → (n : ℕ) (others : List (List ℕ)) →
+        SaysVersionTwo (lines text.now) n others → ⊥ }
+    ensures short { result.2 + left_len (option_copied result.1) ≤ length text.now + 2 }
+{
     let mut left = Some(text);
     let mut number = 1usize;
     while let Some(rest) = left {
         let (line, others) = first_line(rest);
-        let step = match step_of_line(alloc, line) {
-            Ok(step) => step,
-            Err(Unread::Bad) => return Err(Fault::BadLine(number)),
-            Err(Unread::OutOfMemory) => return Err(Fault::OutOfMemory),
-        };
-        push_step(&mut steps, step)?;
-        left = others;
         number += 1;
+        if says_version_two(line) {
+            return (Version::Two, others, number);
+        }
+        if has_word(line) {
+            return (Version::One, Some(text), 1);
+        }
+        left = others;
     }
-    Ok(steps)
+    (Version::One, Some(text), 1)
+}
+
+/// The bytes of the items that lines spell which stand behind the front of a text, or its first bad line.
+#[tactic(auto, using(crate::proofs::AssembleLemmas::read_none, crate::proofs::AssembleLemmas::read_more, crate::proofs::AssembleLemmas::read_all))]
+fn assemble_items(alloc: Global, text: &[u8]) -> Result<Vec<u8>, Fault>
+    requires { length text.now ≤ script_limit }
+    ensures found { IfOk result (λ bytes. (script : Listing) × SpellsText text.now script × (bytes.items ≡ encoding script)) }
+    ensures fault { IfErr result (λ e. (e ≡ Fault.OutOfMemory) ⊎ IsLineFault text.now e) }
+{
+    let (version, mut left, mut number) = items_of_text(text);
+    let mut out = Vec::new(alloc);
+    append(&mut out, &opcode::MAGIC)?;
+    append(&mut out, &[version.byte()])?;
+    let mut taken = 0;
+    while let Some(rest) = left {
+        let (meant, behind, next) = append_group(alloc, &mut out, version, rest, number)?;
+        if meant > STEP_LIMIT - taken {
+            return Err(Fault::BadLine(number));
+        }
+        taken += meant;
+        left = behind;
+        number = next;
+    }
+    Ok(out)
 }
 
 /// The script that a text spells, or its first fault.
-#[tactic(auto, using(crate::proofs::ScriptLemmas::text_is_in_range, crate::proofs::ScriptLemmas::is_script, crate::proofs::ScriptLemmas::too_many))]
+#[tactic(auto, using(crate::proofs::ScriptLemmas::too_long))]
 fn assemble_script(alloc: Global, text: &[u8]) -> Result<Script, Fault>
     ensures found { IfOk result (λ script. (length text.now ≤ script_limit) × SpellsText text.now script) }
+    ensures script { IfOk result (λ script. IsScript script) }
     ensures fault { IfErr result (λ e. (e ≡ Fault.OutOfMemory) ⊎ IsTextFault text.now e) }
 {
     if text.len() > SCRIPT_LIMIT {
         return Err(Fault::TooLong);
     }
-    let steps = assemble_steps(alloc, text)?;
-    if !steps_fit(steps.as_slice(), SCRIPT_LIMIT - HEADER_LEN) {
+    let bytes = assemble_items(alloc, text)?;
+    if bytes.len() > SCRIPT_LIMIT {
         return Err(Fault::TooLong);
     }
-    Ok(Script::new(steps))
+    Ok(Script::of_bytes(bytes))
 }
 
 /// The script that a text spells.
@@ -73,15 +194,21 @@ fn assemble_script(alloc: Global, text: &[u8]) -> Result<Script, Fault>
 /// A text that spells none has a fault. Of several the first in this order is answered:
 ///
 /// - `TooLong`: the text has more than 16,777,216 bytes.
-/// - `BadLine`: the first line that has words, and not those of a step, has this number, counted from 1.
-/// - `TooLong`: the bytes of the steps are more than 16,777,216.
+/// - `BadLine`: the first bad line has this number, counted from 1.
+/// - `TooLong`: the bytes of the script are more than 16,777,216.
+///
+/// The first line with a word may be `version 2`; else the script is of version 1. A line with words is bad if they are not
+/// those of a step nor, in version 2, `repeat` with a count of 1 to 65,535 outside blocks or `end` in one. A line with
+/// `repeat` is bad too where its block has no end, which comes behind all bad lines in the block, or where with the block
+/// the script means more than 16,777,216 steps; so is a line of a step with which it does.
 ///
 /// `OutOfMemory` comes where a request for memory was refused.
 pub fn assemble(alloc: Global, text: &[u8]) -> Result<Script, Fault>
     ensures found { IfOk result (λ script. (length text.now ≤ script_limit) × SpellsText text.now script) }
+    ensures script { IfOk result (λ script. IsScript script) }
     ensures fault { IfErr result (λ e. (e ≡ Fault.OutOfMemory) ⊎ IsTextFault text.now e) }
-    ensures runs { (steps : List Step) → length text.now ≤ script_limit → SpellsText text.now steps →
-        length (encoding steps) ≤ script_limit → IsOkUnless result Fault.OutOfMemory }
+    ensures runs { (script : Listing) → length text.now ≤ script_limit → SpellsText text.now script →
+        length (encoding script) ≤ script_limit → IsOkUnless result Fault.OutOfMemory }
 {
     assemble_script(alloc, text)
 }

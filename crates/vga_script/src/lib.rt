@@ -1,38 +1,43 @@
-//! The script of a run, as bytes and as text: its steps, the grammar of both forms, and the ways between
-//! them.
+//! The script of a run, as bytes and as text: its items, the steps that they mean, the grammar of both forms, and the
+//! ways between them.
 #![tactic(auto)]
 
 mod assembling;
-mod decoding;
-mod encoding;
+mod block;
+mod block_lines;
 mod fields;
 mod input;
+mod items;
+mod judge;
 mod keyword;
 mod laws;
 mod line;
 mod numbers;
 mod opcode;
 mod output;
+mod place;
 mod printing;
 mod reading;
 mod script;
 mod shown;
-mod spelled;
-mod spelled_step;
+mod spelled_item;
 mod step;
+mod step_bytes;
+mod steps;
+mod version;
 mod words;
 mod worked_examples;
 
 pub use assembling::assemble;
-pub use decoding::decode;
-pub use encoding::encode;
+pub use block::Block;
 pub use input::read_script;
 pub use laws::{
-    one_fault, one_script, one_script_of_text, one_spelling, one_text_fault, printed_text_spells,
+    one_fault, one_list, one_script, one_script_of_text, one_spelling, one_text_fault,
+    printed_text_spells, steps_fit,
 };
 pub use printing::print;
-pub use script::Script;
+pub use script::{Script, decode, encode};
 pub use shown::Shown;
-pub use spelled::SpelledSteps;
-pub use spelled_step::SpelledStep;
 pub use step::Step;
+pub use steps::Steps;
+pub use version::Version;

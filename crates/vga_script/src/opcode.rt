@@ -1,40 +1,10 @@
-//! What a script and its steps begin with.
+//! What a script begins with, and the opcodes that are no plain step's.
 
 /// What a script begins with.
 pub(crate) const MAGIC: [u8; 4] = *b"VGAS";
 
-/// The one version of scripts.
-pub(crate) const VERSION: u8 = 1;
-
-/// The opcode of a write of a byte to a port.
-pub(crate) const OUT: u8 = 0x01;
-
-/// The opcode of a write of a word to a port.
-pub(crate) const OUT_WORD: u8 = 0x02;
-
-/// The opcode of a read of a byte from a port.
-pub(crate) const IN: u8 = 0x03;
-
-/// The opcode of a read of a word from a port.
-pub(crate) const IN_WORD: u8 = 0x04;
-
-/// The opcode of a write of a byte to an address.
-pub(crate) const PUT: u8 = 0x05;
-
-/// The opcode of a write of a word to an address.
-pub(crate) const PUT_WORD: u8 = 0x06;
-
-/// The opcode of a read of a byte from an address.
-pub(crate) const GET: u8 = 0x07;
-
-/// The opcode of a read of a word from an address.
-pub(crate) const GET_WORD: u8 = 0x08;
-
 /// The opcode of a call of the video BIOS.
 pub(crate) const INT: u8 = 0x09;
-
-/// The opcode of an advance of the clock.
-pub(crate) const ADVANCE: u8 = 0x0A;
 
 /// The opcode of a frame that is drawn.
 pub(crate) const FRAME: u8 = 0x0B;
@@ -42,7 +12,13 @@ pub(crate) const FRAME: u8 = 0x0B;
 /// The opcode of a look at the adapter.
 pub(crate) const SHOW: u8 = 0x0C;
 
-/// What follows that opcode where the registers are shown.
+/// The opcode that begins a block.
+pub(crate) const REPEAT: u8 = 0x0D;
+
+/// The opcode that ends it.
+pub(crate) const END: u8 = 0x0E;
+
+/// What follows the opcode of a look where the registers are shown.
 pub(crate) const SHOW_REGISTERS: u8 = 0x00;
 
 /// What follows it where an entry of the DAC is.
@@ -63,5 +39,5 @@ pub(crate) const SHOW_BIOS_DATA: u8 = 0x05;
 /// What follows it where the cells of the active page are.
 pub(crate) const SHOW_CELLS: u8 = 0x06;
 
-/// How many bytes stand before the steps: those of the magic and the version.
+/// How many bytes stand before the items: those of the magic and the version.
 pub(crate) const HEADER_LEN: usize = 5;

@@ -1,6 +1,8 @@
 //! Bytes that grow at their end.
 ghost use Rattle.std.specs.Prelude.{◌≡◌, ◌++◌, IsOkUnless, OnOk};
+ghost use Rattle.byteorder.specs.Endian.{little_bytes};
 
+use byteorder::{ByteOrder, LittleEndian};
 use vga_bits::Fault;
 
 /// Puts bytes at the end. It fails with `OutOfMemory` alone.
@@ -12,4 +14,24 @@ pub(crate) fn append(out: &mut Vec<u8>, bytes: &[u8]) -> Result<(), Fault>
         Ok(()) => Ok(()),
         Err(_) => Err(Fault::OutOfMemory),
     }
+}
+
+/// Puts a number of two bytes at the end. It fails with `OutOfMemory` alone.
+pub(crate) fn append_u16(out: &mut Vec<u8>, number: u16) -> Result<(), Fault>
+    ensures ok { OnOk result (out.new.items ≡ out.old.items ++ little_bytes 2 number) }
+    ensures err { IsOkUnless result Fault.OutOfMemory }
+{
+    let mut field = [0; 2];
+    LittleEndian::write_u16(&mut field, number);
+    append(out, &field)
+}
+
+/// Puts a number of four bytes at the end. It fails with `OutOfMemory` alone.
+pub(crate) fn append_u32(out: &mut Vec<u8>, number: u32) -> Result<(), Fault>
+    ensures ok { OnOk result (out.new.items ≡ out.old.items ++ little_bytes 4 number) }
+    ensures err { IsOkUnless result Fault.OutOfMemory }
+{
+    let mut field = [0; 4];
+    LittleEndian::write_u32(&mut field, number);
+    append(out, &field)
 }

@@ -1,15 +1,25 @@
-//! From steps to the printed text of a script.
+//! From the bytes of a script to its printed text.
 ghost use Rattle.std.specs.Prelude.{◌≡◌, ◌+◌, ◌≤◌, ◌<◌, ◌++◌, ◌∷◌, [], codes, decimal, length, IfOk, IsOkUnless, OnOk};
+ghost use Rattle.std.specs.List.{flat_map};
 ghost use Rattle.hex.specs.Hex.{encode_upper};
 ghost use Rattle.vga_bits.specs.Hex.{hex};
-ghost use Rattle.vga_script.specs.Printing.{address_text, line_of, port_text, printed, printed_line};
-ghost use Rattle.vga_script.specs.declared.step.Step.{Step};
+ghost use Rattle.vga_script.specs.Front.{items_in, steps_in};
+ghost use Rattle.vga_script.specs.Item.{expanded, step_limit};
+ghost use Rattle.vga_script.specs.Printing.{address_text, line_of, port_text, printed, printed_item};
+ghost use Rattle.vga_script.specs.Printing.{printed_line, printed_steps, version_line};
+ghost use Rattle.vga_script.specs.Spelled.{HasBody, spelled_item};
+ghost use Rattle.vga_script.specs.Spelling.{SpellsItems, SpellsSteps, script_limit};
 
+use super::items::item_at;
 use super::line::{Line, push_address, push_port};
+use super::opcode::HEADER_LEN;
 use super::output::append;
 use super::script::Script;
 use super::shown::Shown;
+use super::spelled_item::SpelledItem;
 use super::step::Step;
+use super::step_bytes::step_at;
+use super::version::Version;
 use std::alloc::Global;
 use vga_bits::Fault;
 
@@ -237,7 +247,7 @@ fn print_call(
 }
 
 /// Prints a step. It fails with `OutOfMemory` alone.
-fn print_step(alloc: Global, out: &mut Vec<u8>, step: &Step) -> Result<(), Fault>
+fn print_step(alloc: Global, out: &mut Vec<u8>, step: &Step<'_>) -> Result<(), Fault>
     ensures ok { OnOk result (out.new.items ≡ out.old.items ++ printed_line step.now) }
     ensures err { IsOkUnless result Fault.OutOfMemory }
 {
@@ -267,23 +277,112 @@ fn print_step(alloc: Global, out: &mut Vec<u8>, step: &Step) -> Result<(), Fault
     }
 }
 
-/// The printed text of steps.
-fn print_steps(alloc: Global, steps: &[Step]) -> Result<Vec<u8>, Fault>
-    ensures ok { IfOk result (λ text. text.items ≡ printed steps.now) }
+/// Prints the steps that some bytes spell. It fails with `OutOfMemory` alone.
+#[tactic(auto, using(crate::proofs::FrontLemmas::step_shorter, crate::proofs::WalkLemmas::steps_begin, crate::proofs::WalkLemmas::steps_go_on))]
+fn print_steps(alloc: Global, out: &mut Vec<u8>, bytes: &[u8]) -> Result<(), Fault>
+    requires { SpellsSteps bytes.now (steps_in bytes.now) }
+    ensures ok { OnOk result (out.new.items ≡ out.old.items ++ printed_steps (steps_in bytes.now)) }
     ensures err { IsOkUnless result Fault.OutOfMemory }
 {
-    let mut out = Vec::new(alloc);
-    for step in steps {
-        print_step(alloc, &mut out, step)?;
+    let mut rest = bytes;
+    while !rest.is_empty() {
+        match step_at(rest) {
+            Ok((step, others)) => {
+                print_step(alloc, out, &step)?;
+                rest = others;
+            }
+            Err(_) => return Ok(()), // The bytes spell steps.
+        }
     }
-    Ok(out)
+    Ok(())
 }
 
-/// The printed text of a script: a line for each step, with its name and values in full. It spells the
-/// script. It fails with `OutOfMemory` alone.
+/// Prints the beginning of a block. It fails with `OutOfMemory` alone.
+#[tactic(auto, unfolding(crate::specs::Printing::line_of))]
+fn print_repeat(out: &mut Vec<u8>, count: u16) -> Result<(), Fault>
+    ensures ok { OnOk result (out.new.items ≡ out.old.items ++ line_of (codes "repeat" ∷ decimal count ∷ [])) }
+    ensures err { IsOkUnless result Fault.OutOfMemory }
+{
+    let mut line = Line::new();
+    line.push(b"repeat ");
+    line.push_decimal(count as u32);
+    end_line(out, line)
+}
+
+/// Prints the end of a block. It fails with `OutOfMemory` alone.
+#[tactic(auto, unfolding(crate::specs::Printing::line_of))]
+fn print_end(out: &mut Vec<u8>) -> Result<(), Fault>
+    ensures ok { OnOk result (out.new.items ≡ out.old.items ++ line_of (codes "end" ∷ [])) }
+    ensures err { IsOkUnless result Fault.OutOfMemory }
+{
+    append(out, b"end\n")
+}
+
+/// Prints an item. It fails with `OutOfMemory` alone.
+fn print_item(alloc: Global, out: &mut Vec<u8>, item: &SpelledItem<'_>) -> Result<(), Fault>
+    requires { HasBody item.now }
+    ensures ok { OnOk result (out.new.items ≡ out.old.items ++ printed_item (spelled_item item.now)) }
+    ensures err { IsOkUnless result Fault.OutOfMemory }
+{
+    match item {
+        SpelledItem::Step { step } => print_step(alloc, out, step),
+        SpelledItem::Block { count, steps, .. } => {
+            print_repeat(out, *count)?;
+            print_steps(alloc, out, steps)?;
+            print_end(out)
+        }
+    }
+}
+
+/// The line that says the version of a script, where there is one.
+#[tactic(auto, unfolding(crate::specs::Printing::line_of))]
+fn version_text(version: Version) -> &'static [u8]
+    ensures { result.now ≡ version_line version }
+{
+    match version {
+        Version::One => &[],
+        Version::Two => b"version 2\n",
+    }
+}
+
+/// Prints the items that some bytes of a script of this version spell. It fails with `OutOfMemory` alone.
+#[tactic(auto, using(crate::proofs::FrontLemmas::item_shorter, crate::proofs::WalkLemmas::items_begin, crate::proofs::WalkLemmas::items_go_on))]
+fn print_items(
+    alloc: Global,
+    out: &mut Vec<u8>,
+    version: Version,
+    bytes: &[u8],
+) -> Result<(), Fault>
+    requires short { length bytes.now ≤ script_limit }
+    requires spelled { SpellsItems version bytes.now (items_in bytes.now) }
+    requires few { length (expanded (items_in bytes.now)) ≤ step_limit }
+    ensures ok { OnOk result (out.new.items ≡ out.old.items ++ flat_map printed_item (items_in bytes.now)) }
+    ensures err { IsOkUnless result Fault.OutOfMemory }
+{
+    let mut rest = bytes;
+    while !rest.is_empty() {
+        match item_at(rest, 0, version) {
+            Ok((item, others)) => {
+                print_item(alloc, out, &item)?;
+                rest = others;
+            }
+            Err(_) => return Ok(()), // The bytes spell items.
+        }
+    }
+    Ok(())
+}
+
+/// The printed text of a script: its version, where it is not 1, and a line for each step, with its name and values in
+/// full, and for each beginning and end of a block. It spells the script. It fails with `OutOfMemory` alone.
+#[tactic(auto, using(crate::proofs::StepsLemmas::behind_header, crate::proofs::StepsLemmas::items_spelled))]
 pub fn print(alloc: Global, script: &Script) -> Result<Vec<u8>, Fault>
     ensures ok { IfOk result (λ text. text.items ≡ printed script.now) }
     ensures err { IsOkUnless result Fault.OutOfMemory }
 {
-    print_steps(alloc, script.list())
+    let version = script.version();
+    let (_, items) = script.as_bytes().split_at(HEADER_LEN);
+    let mut out = Vec::new(alloc);
+    append(&mut out, version_text(version))?;
+    print_items(alloc, &mut out, version, items)?;
+    Ok(out)
 }

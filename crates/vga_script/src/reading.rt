@@ -7,6 +7,7 @@ ghost use Rattle.vga_script.specs.Text.{SpellsLine};
 ghost use Rattle.vga_script.specs.Words.{lowered, words, words_in};
 ghost use Rattle.vga_script.specs.declared.step.Step.{Step};
 
+use super::block::Block;
 use super::keyword::{Keyword, is_name};
 use super::numbers::number;
 use super::shown::{MOST_SHOWN, Shown};
@@ -14,7 +15,6 @@ use super::step::Step;
 use super::words::{before_comment, next_word};
 use hex::FromHexError;
 use std::alloc::Global;
-use vga_bits::Bytes;
 
 /// How many digits the longest block has.
 const MOST_DIGITS: usize = 131_070;
@@ -141,26 +141,16 @@ fn register_at<'a>(fields: &'a [u8], name: &[u8]) -> Result<(u16, &'a [u8]), Unr
     Ok((n, rest))
 }
 
-/// The bytes of a vector.
-fn kept(alloc: Global, items: Vec<u8>) -> Result<Bytes, Unread>
-    ensures { Gives (λ bytes. bytes) result (Some items.items) }
-{
-    match Bytes::from_vec(alloc, items) {
-        Ok(bytes) => Ok(bytes),
-        Err(_) => Err(Unread::OutOfMemory),
-    }
-}
-
 /// The bytes that the digits of a block spell.
 #[tactic(auto, unfolding(crate::specs::Reading::bytes_of))]
-fn bytes_of(alloc: Global, word: &[u8]) -> Result<Bytes, Unread>
-    ensures { Gives (λ bytes. bytes) result (bytes_of word.now) }
+fn bytes_of(alloc: Global, word: &[u8]) -> Result<Vec<u8>, Unread>
+    ensures { Gives (λ bytes. bytes.items) result (bytes_of word.now) }
 {
     if word.is_empty() || word.len() > MOST_DIGITS {
         return Err(Unread::Bad);
     }
     match hex::decode(alloc, word) {
-        Ok(bytes) => kept(alloc, bytes),
+        Ok(bytes) => Ok(bytes),
         Err(FromHexError::OutOfMemory) => Err(Unread::OutOfMemory),
         Err(_) => Err(Unread::Bad),
     }
@@ -168,8 +158,8 @@ fn bytes_of(alloc: Global, word: &[u8]) -> Result<Bytes, Unread>
 
 /// The bytes that the digits behind a block's name spell, and no other word.
 #[tactic(auto, unfolding(crate::specs::Reading::digits_at))]
-fn digits_at(alloc: Global, fields: &[u8]) -> Result<Bytes, Unread>
-    ensures { Gives (λ bytes. bytes) result (digits_at (words_in fields.now)) }
+fn digits_at(alloc: Global, fields: &[u8]) -> Result<Vec<u8>, Unread>
+    ensures { Gives (λ bytes. bytes.items) result (digits_at (words_in fields.now)) }
 {
     let Some((word, rest)) = next_word(fields) else {
         return Err(Unread::Bad);
@@ -181,11 +171,11 @@ fn digits_at(alloc: Global, fields: &[u8]) -> Result<Bytes, Unread>
 
 /// A block, or an empty one where there is none, and no other word.
 #[tactic(auto, unfolding(crate::specs::Reading::block_at))]
-fn block_at(alloc: Global, fields: &[u8]) -> Result<Bytes, Unread>
-    ensures { Gives (λ bytes. bytes) result (block_at (words_in fields.now)) }
+fn block_at(alloc: Global, fields: &[u8]) -> Result<Vec<u8>, Unread>
+    ensures { Gives (λ bytes. bytes.items) result (block_at (words_in fields.now)) }
 {
     let Some((word, rest)) = next_word(fields) else {
-        return kept(alloc, Vec::new(alloc));
+        return Ok(Vec::new(alloc));
     };
     if !is_name(word, b"block") {
         return Err(Unread::Bad);
@@ -193,16 +183,17 @@ fn block_at(alloc: Global, fields: &[u8]) -> Result<Bytes, Unread>
     digits_at(alloc, rest)
 }
 
-/// A call of the BIOS.
+/// A call of the BIOS, whose block is kept in `kept`.
 #[tactic(auto, unfolding(crate::specs::Reading::read_int))]
-fn read_int(alloc: Global, fields: &[u8]) -> Result<Step, Unread>
+fn read_int<'a>(alloc: Global, kept: &'a mut Vec<u8>, fields: &[u8]) -> Result<Step<'a>, Unread>
     ensures { Gives (λ step. step) result (read_int (words_in fields.now)) }
 {
     let (ax, rest) = register_at(fields, b"ax=")?;
     let (bx, rest) = register_at(rest, b"bx=")?;
     let (cx, rest) = register_at(rest, b"cx=")?;
     let (dx, rest) = register_at(rest, b"dx=")?;
-    let block = block_at(alloc, rest)?;
+    *kept = block_at(alloc, rest)?;
+    let block = Block::of(kept.as_slice());
     Ok(Step::Int {
         ax,
         bx,
@@ -214,7 +205,7 @@ fn read_int(alloc: Global, fields: &[u8]) -> Result<Step, Unread>
 
 /// A write of a byte to a port.
 #[tactic(auto, unfolding(crate::specs::Reading::read_step))]
-fn read_out(fields: &[u8]) -> Result<Step, Unread>
+fn read_out(fields: &[u8]) -> Result<Step<'static>, Unread>
     ensures { Gives (λ step. step) result (read_step Keyword.Out (words_in fields.now)) }
 {
     let (port, value) = two_hex(fields, 4, 0xFFFF, 2, 0xFF)?;
@@ -225,7 +216,7 @@ fn read_out(fields: &[u8]) -> Result<Step, Unread>
 
 /// A write of a word to a port.
 #[tactic(auto, unfolding(crate::specs::Reading::read_step))]
-fn read_out_word(fields: &[u8]) -> Result<Step, Unread>
+fn read_out_word(fields: &[u8]) -> Result<Step<'static>, Unread>
     ensures { Gives (λ step. step) result (read_step Keyword.OutWord (words_in fields.now)) }
 {
     let (port, value) = two_hex(fields, 4, 0xFFFF, 4, 0xFFFF)?;
@@ -236,7 +227,7 @@ fn read_out_word(fields: &[u8]) -> Result<Step, Unread>
 
 /// A read of a byte from a port.
 #[tactic(auto, unfolding(crate::specs::Reading::read_step))]
-fn read_in(fields: &[u8]) -> Result<Step, Unread>
+fn read_in(fields: &[u8]) -> Result<Step<'static>, Unread>
     ensures { Gives (λ step. step) result (read_step Keyword.In (words_in fields.now)) }
 {
     let port = one_hex(fields, 4, 0xFFFF)?;
@@ -246,7 +237,7 @@ fn read_in(fields: &[u8]) -> Result<Step, Unread>
 
 /// A read of a word from a port.
 #[tactic(auto, unfolding(crate::specs::Reading::read_step))]
-fn read_in_word(fields: &[u8]) -> Result<Step, Unread>
+fn read_in_word(fields: &[u8]) -> Result<Step<'static>, Unread>
     ensures { Gives (λ step. step) result (read_step Keyword.InWord (words_in fields.now)) }
 {
     let port = one_hex(fields, 4, 0xFFFF)?;
@@ -256,7 +247,7 @@ fn read_in_word(fields: &[u8]) -> Result<Step, Unread>
 
 /// A write of a byte to an address.
 #[tactic(auto, unfolding(crate::specs::Reading::read_step))]
-fn read_put(fields: &[u8]) -> Result<Step, Unread>
+fn read_put(fields: &[u8]) -> Result<Step<'static>, Unread>
     ensures { Gives (λ step. step) result (read_step Keyword.Put (words_in fields.now)) }
 {
     let (address, value) = two_hex(fields, 8, 0xFFFF_FFFF, 2, 0xFF)?;
@@ -266,7 +257,7 @@ fn read_put(fields: &[u8]) -> Result<Step, Unread>
 
 /// A write of a word to an address.
 #[tactic(auto, unfolding(crate::specs::Reading::read_step))]
-fn read_put_word(fields: &[u8]) -> Result<Step, Unread>
+fn read_put_word(fields: &[u8]) -> Result<Step<'static>, Unread>
     ensures { Gives (λ step. step) result (read_step Keyword.PutWord (words_in fields.now)) }
 {
     let (address, value) = two_hex(fields, 8, 0xFFFF_FFFF, 4, 0xFFFF)?;
@@ -276,7 +267,7 @@ fn read_put_word(fields: &[u8]) -> Result<Step, Unread>
 
 /// A read of a byte from an address.
 #[tactic(auto, unfolding(crate::specs::Reading::read_step))]
-fn read_get(fields: &[u8]) -> Result<Step, Unread>
+fn read_get(fields: &[u8]) -> Result<Step<'static>, Unread>
     ensures { Gives (λ step. step) result (read_step Keyword.Get (words_in fields.now)) }
 {
     let address = one_hex(fields, 8, 0xFFFF_FFFF)?;
@@ -285,7 +276,7 @@ fn read_get(fields: &[u8]) -> Result<Step, Unread>
 
 /// A read of a word from an address.
 #[tactic(auto, unfolding(crate::specs::Reading::read_step))]
-fn read_get_word(fields: &[u8]) -> Result<Step, Unread>
+fn read_get_word(fields: &[u8]) -> Result<Step<'static>, Unread>
     ensures { Gives (λ step. step) result (read_step Keyword.GetWord (words_in fields.now)) }
 {
     let address = one_hex(fields, 8, 0xFFFF_FFFF)?;
@@ -294,7 +285,7 @@ fn read_get_word(fields: &[u8]) -> Result<Step, Unread>
 
 /// An advance of the clock.
 #[tactic(auto, unfolding(crate::specs::Reading::read_step))]
-fn read_advance(fields: &[u8]) -> Result<Step, Unread>
+fn read_advance(fields: &[u8]) -> Result<Step<'static>, Unread>
     ensures { Gives (λ step. step) result (read_step Keyword.Advance (words_in fields.now)) }
 {
     let dots = one_decimal(fields, 0xFFFF_FFFF)?;
@@ -303,7 +294,7 @@ fn read_advance(fields: &[u8]) -> Result<Step, Unread>
 
 /// A frame that is drawn.
 #[tactic(auto, unfolding(crate::specs::Reading::read_step))]
-fn read_frame(fields: &[u8]) -> Result<Step, Unread>
+fn read_frame(fields: &[u8]) -> Result<Step<'static>, Unread>
     ensures { Gives (λ step. step) result (read_step Keyword.Frame (words_in fields.now)) }
 {
     ended(fields)?;
@@ -380,9 +371,14 @@ fn read_shown(fields: &[u8]) -> Result<Shown, Unread>
     Err(Unread::Bad)
 }
 
-/// The step of this name that the words behind it spell.
+/// The step of this name that the words behind it spell. A block is kept in `kept`.
 #[tactic(auto, unfolding(crate::specs::Reading::read_step))]
-fn read_step(alloc: Global, keyword: Keyword, fields: &[u8]) -> Result<Step, Unread>
+fn read_step<'a>(
+    alloc: Global,
+    kept: &'a mut Vec<u8>,
+    keyword: Keyword,
+    fields: &[u8],
+) -> Result<Step<'a>, Unread>
     ensures { Gives (λ step. step) result (read_step keyword (words_in fields.now)) }
 {
     match keyword {
@@ -394,7 +390,7 @@ fn read_step(alloc: Global, keyword: Keyword, fields: &[u8]) -> Result<Step, Unr
         Keyword::PutWord => read_put_word(fields),
         Keyword::Get => read_get(fields),
         Keyword::GetWord => read_get_word(fields),
-        Keyword::Int => read_int(alloc, fields),
+        Keyword::Int => read_int(alloc, kept, fields),
         Keyword::Advance => read_advance(fields),
         Keyword::Frame => read_frame(fields),
         Keyword::Show => {
@@ -404,9 +400,13 @@ fn read_step(alloc: Global, keyword: Keyword, fields: &[u8]) -> Result<Step, Unr
     }
 }
 
-/// The step that a line spells, where it has a word.
+/// The step that a line spells, where it has a word. A block is kept in `kept`.
 #[tactic(auto, using(crate::proofs::LineLemmas::line_none, crate::proofs::LineLemmas::line_named, crate::proofs::LineLemmas::line_bad, crate::proofs::LineLemmas::line_unnamed))]
-pub(crate) fn step_of_line(alloc: Global, line: &[u8]) -> Result<Option<Step>, Unread>
+pub(crate) fn step_of_line<'a>(
+    alloc: Global,
+    kept: &'a mut Vec<u8>,
+    line: &[u8],
+) -> Result<Option<Step<'a>>, Unread>
     ensures found { IfOk result (λ step. SpellsLine (words line.now) (option_to_list step)) }
     ensures bad { result ≡ Err Unread.Bad → (steps : List Step) → SpellsLine (words line.now) steps → ⊥ }
 {
@@ -416,6 +416,6 @@ pub(crate) fn step_of_line(alloc: Global, line: &[u8]) -> Result<Option<Step>, U
     let Some(keyword) = Keyword::of_word(name) else {
         return Err(Unread::Bad);
     };
-    let step = read_step(alloc, keyword, fields)?;
+    let step = read_step(alloc, kept, keyword, fields)?;
     Ok(Some(step))
 }

@@ -1,12 +1,12 @@
 //! One step of a script.
 
+use super::block::Block;
 use super::shown::Shown;
-use vga_bits::Bytes;
 
 /// One step of a script: a cycle of the processor, a call of the video BIOS, some dots of the clock,
-/// or a look at the adapter.
+/// or a look at the adapter. A call's block is left where it stands.
 #[derive(Drop)]
-pub enum Step {
+pub enum Step<'a> {
     /// A byte is written to a port.
     Out {
         /// The port.
@@ -66,7 +66,7 @@ pub enum Step {
         /// The register DX.
         dx: u16,
         /// The bytes that the function reads from memory, at most 65,535.
-        block: Bytes,
+        block: Block<'a>,
     },
     /// The clock runs for some dots.
     Advance {

@@ -1,15 +1,18 @@
 //! The definitions of the grammar, shown right on values worked out by hand. Each function has an empty
 //! body, and nothing runs.
-ghost use Rattle.std.specs.Prelude.{◌≡◌, List, [], ◌∷◌, ◌++◌, codes};
+ghost use Rattle.std.specs.Prelude.{◌≡◌, [], ◌∷◌, ◌++◌, codes};
 ghost use Rattle.vga_script.specs.Decoding.{IsFault};
-ghost use Rattle.vga_script.specs.Examples.{two_steps, two_steps_bytes};
+ghost use Rattle.vga_script.specs.Examples.{frames_repeated, frames_repeated_bytes, nothing_repeated};
+ghost use Rattle.vga_script.specs.Examples.{three_times, three_times_bytes, two_steps, two_steps_bytes};
+ghost use Rattle.vga_script.specs.Item.{expanded, listing};
 ghost use Rattle.vga_script.specs.Printing.{printed, printed_line};
 ghost use Rattle.vga_script.specs.Script.{IsTextFault};
-ghost use Rattle.vga_script.specs.Spelling.{encoding, header, spelling};
+ghost use Rattle.vga_script.specs.Spelling.{encoding, header, spelling, Spells};
 ghost use Rattle.vga_script.specs.Text.{SpellsText};
 
 use super::shown::Shown;
 use super::step::Step;
+use super::version::Version;
 use vga_bits::Fault;
 
 /// The bytes of each step: an opcode, and fields with the low byte first.
@@ -72,9 +75,46 @@ fn bytes_faulty()
     ensures magic { IsFault (codes "VGAX") Fault.BadMagic }
     ensures short { IsFault (codes "VGAS") (Fault.Truncated 4) }
     ensures version { IsFault (codes "VGAS" ++ 9 ∷ []) Fault.BadVersion }
-    ensures cut { IsFault (header ++ 1 ∷ 0xC4 ∷ 0x03 ∷ []) (Fault.Truncated 5) }
-    ensures unknown { IsFault (header ++ 0xFF ∷ []) (Fault.BadStep 5) }
-    ensures no_kind { IsFault (header ++ 0x0C ∷ []) (Fault.Truncated 5) }
-    ensures other_kind { IsFault (header ++ 0x0C ∷ 0x07 ∷ []) (Fault.BadStep 5) }
-    ensures past_the_end { IsFault (header ++ 0x0C ∷ 0x04 ∷ 0 ∷ 0xFF ∷ 0xFF ∷ 2 ∷ 0 ∷ []) (Fault.BadStep 5) }
+    ensures cut { IsFault (header Version.One ++ 1 ∷ 0xC4 ∷ 0x03 ∷ []) (Fault.Truncated 5) }
+    ensures unknown { IsFault (header Version.One ++ 0xFF ∷ []) (Fault.BadStep 5) }
+    ensures no_kind { IsFault (header Version.One ++ 0x0C ∷ []) (Fault.Truncated 5) }
+    ensures other_kind { IsFault (header Version.One ++ 0x0C ∷ 0x07 ∷ []) (Fault.BadStep 5) }
+    ensures past_the_end { IsFault (header Version.One ++ 0x0C ∷ 0x04 ∷ 0 ∷ 0xFF ∷ 0xFF ∷ 2 ∷ 0 ∷ [])
+        (Fault.BadStep 5) }
+    ensures no_block { IsFault (header Version.One ++ 0x0D ∷ 1 ∷ 0 ∷ 0x0E ∷ []) (Fault.BadStep 5) }
+{}
+
+/// Blocks in bytes and in print, and the steps that they mean.
+#[tactic(auto, unfolding(crate::specs::Item::repeated, crate::specs::Printing::line_of, vga_bits::specs::Hex::hex, crate::specs::Printing::port_text))]
+fn blocks()
+    ensures bytes { encoding three_times ≡ three_times_bytes }
+    ensures steps { expanded three_times.items ≡ Step.Out 0x3C4 2 ∷ Step.Out 0x3C4 2 ∷ Step.Out 0x3C4 2 ∷ [] }
+    ensures text { printed three_times ≡ codes "version 2\nrepeat 3\nout 3C4 02\nend\n" }
+{}
+
+/// Bytes that spell blocks.
+fn blocks_spelled()
+    ensures none { Spells (codes "VGAS" ++ 2 ∷ []) (listing Version.Two []) }
+    ensures empty { Spells (codes "VGAS" ++ 2 ∷ 0x0D ∷ 0xFF ∷ 0xFF ∷ 0x0E ∷ []) nothing_repeated }
+    ensures no_steps { expanded nothing_repeated.items ≡ [] }
+    ensures frames { Spells (frames_repeated_bytes 256) (frames_repeated 256) }
+{}
+
+/// Bytes with a fault in or at a block.
+fn blocks_faulty()
+    ensures open { IsFault (header Version.Two ++ 0x0D ∷ 3 ∷ 0 ∷ 1 ∷ 0xC4 ∷ 0x03 ∷ 0x02 ∷ []) (Fault.Truncated 5) }
+    ensures no_count { IsFault (header Version.Two ++ 0x0D ∷ 3 ∷ []) (Fault.Truncated 5) }
+    ensures zero { IsFault (header Version.Two ++ 0x0D ∷ 0 ∷ 0 ∷ 0x0E ∷ []) (Fault.BadStep 5) }
+    ensures end { IsFault (header Version.Two ++ 0x0E ∷ []) (Fault.BadStep 5) }
+    ensures inner { IsFault (header Version.Two ++ 0x0D ∷ 1 ∷ 0 ∷ 0x0D ∷ 1 ∷ 0 ∷ 0x0E ∷ 0x0E ∷ []) (Fault.BadStep 8) }
+    ensures inner_cut { IsFault (header Version.Two ++ 0x0D ∷ 1 ∷ 0 ∷ 3 ∷ 0xDA ∷ []) (Fault.Truncated 8) }
+    ensures many { IsFault (frames_repeated_bytes 257) (Fault.TooMany 5) }
+{}
+
+/// A text with a block, and texts of which a line in or at a block is bad.
+fn blocks_in_text()
+    ensures block { SpellsText (codes "Version 2\nrepeat 03 ; times\n\n out 3c4 2\nEND") three_times }
+    ensures no_end { IsTextFault (codes "version 2\nrepeat 3\nframe") (Fault.BadLine 2) }
+    ensures inner { IsTextFault (codes "version 2\nrepeat 3\nend 3") (Fault.BadLine 3) }
+    ensures no_version { IsTextFault (codes "repeat 3\nend") (Fault.BadLine 1) }
 {}

@@ -3,7 +3,8 @@ ghost use Rattle.std.specs.Prelude.{◌≡◌, List, IfOk};
 ghost use Rattle.bios_modes.specs.Fonts.{fonts_of};
 ghost use Rattle.vga_run.specs.Report.{report_of, steps_until};
 ghost use Rattle.vga_script.specs.declared.step.Step.{Step};
-ghost use Rattle.vga_script.specs.Spelling.{Spells};
+ghost use Rattle.vga_script.specs.Item.{Listing, expanded};
+ghost use Rattle.vga_script.specs.Spelled.{SpellsExpanded};
 ghost use Rattle.vga_script.specs.Text.{SpellsText};
 
 use std::alloc::{AllocError, Global};
@@ -18,7 +19,7 @@ pub fn run_bytes(
     fonts: &[u8],
     until: Option<u32>,
 ) -> Result<Vec<u8>, Fault>
-    ensures { IfOk result (λ report. (steps : List Step) × Spells bytes.now steps
+    ensures { IfOk result (λ report. (steps : List Step) × SpellsExpanded bytes.now steps
         × (report.items ≡ report_of (fonts_of fonts.now) (steps_until until steps))) }
 {
     let mut report = Tracked::new(Vec::new(alloc));
@@ -33,8 +34,8 @@ pub fn run_text(
     fonts: &[u8],
     until: Option<u32>,
 ) -> Result<Vec<u8>, Fault>
-    ensures { IfOk result (λ report. (steps : List Step) × SpellsText text.now steps
-        × (report.items ≡ report_of (fonts_of fonts.now) (steps_until until steps))) }
+    ensures { IfOk result (λ report. (script : Listing) × SpellsText text.now script
+        × (report.items ≡ report_of (fonts_of fonts.now) (steps_until until (expanded script.items)))) }
 {
     let script = assemble(alloc, text)?;
     let mut report = Tracked::new(Vec::new(alloc));

@@ -10,7 +10,7 @@ use vga_bits::{Bytes, Fault, Tracked};
 use vga_card::Card;
 use vga_planes::Planes;
 use vga_run::run;
-use vga_script::{Step, assemble, decode, encode, print};
+use vga_script::{Script, Step, assemble, decode, encode, print};
 
 /// A text of two steps.
 const TEXT: &[u8] = b"out 3c4 2 ; map mask\nINT ax=13";
@@ -119,18 +119,20 @@ fn are_fonts_read(alloc: Global) -> Result<bool, Fault> {
     Ok(fonts.f16().byte(255, 15) == 0)
 }
 
-/// Whether these are the steps of the first text.
-fn are_its_steps(steps: &[Step]) -> bool {
-    matches!(
-        steps,
-        [
-            Step::Out {
-                port: 0x3C4,
-                value: 0x02
-            },
-            Step::Int { ax: 0x0013, .. }
-        ]
-    )
+/// Whether the steps of a script are those of the first text.
+fn are_its_steps(script: &Script) -> bool {
+    let mut steps = script.steps();
+    let first = steps.next();
+    let second = steps.next();
+    let is_out = matches!(
+        &first,
+        Some(Step::Out {
+            port: 0x3C4,
+            value: 0x02,
+        })
+    );
+    let is_call = matches!(&second, Some(Step::Int { ax: 0x0013, .. }));
+    is_out && is_call && steps.next().is_none()
 }
 
 /// Whether the bytes of a script are those that were decoded.
@@ -191,9 +193,9 @@ impl Call {
             Call::CardNew => Card::new(alloc)?.latches().byte(3) == 0,
             Call::FontsFromBytes => are_fonts_read(alloc)?,
             Call::ScreenRead => is_screen_read(alloc)?,
-            Call::Decode => are_its_steps(decode(alloc, &BYTES)?.list()),
+            Call::Decode => are_its_steps(&decode(alloc, &BYTES)?),
             Call::Encode => are_bytes_encoded(alloc)?,
-            Call::Assemble => are_its_steps(assemble(alloc, TEXT)?.list()),
+            Call::Assemble => are_its_steps(&assemble(alloc, TEXT)?),
             Call::Print => is_script_printed(alloc)?,
             Call::Run => return ending_of_run(alloc),
         };

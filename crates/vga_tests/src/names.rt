@@ -21,7 +21,7 @@ const REFUSALS: [(Refusal, &str); 13] = [
     (Refusal::BadHeight, "E13 BadHeight"),
 ];
 
-const FAULTS: [(Fault, &str); 10] = [
+const FAULTS: [(Fault, &str); 11] = [
     (Fault::FontSize, "F1 FontSize"),
     (Fault::BadMagic, "F2 BadMagic"),
     (Fault::BadVersion, "F3 BadVersion"),
@@ -35,6 +35,7 @@ const FAULTS: [(Fault, &str); 10] = [
     (Fault::ReadFault, "F8 ReadFault"),
     (Fault::WriteFault, "F9 WriteFault"),
     (Fault::OutOfMemory, "F10 OutOfMemory"),
+    (Fault::TooMany(5), "F11 TooMany(5)"),
 ];
 
 /// Checks that refusals and faults have their numbers, names and places, and are printed so.

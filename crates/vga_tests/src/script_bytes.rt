@@ -4,7 +4,7 @@ use crate::checks::Checks;
 use anyhow::Result;
 use std::alloc::{AllocError, Global};
 use vga_bits::Fault;
-use vga_script::{decode, encode};
+use vga_script::{Script, decode, encode};
 
 /// How long the longest script is.
 const LIMIT: usize = 16_777_216;
@@ -35,6 +35,17 @@ const STEPS: [&[u8]; 19] = [
     b"\x0C\x05",
 ];
 
+/// How many steps a script means, or 1,000 where there are more.
+pub fn step_count(script: &Script) -> usize {
+    let mut steps = script.steps();
+    for count in 0..1000 {
+        if steps.next().is_none() {
+            return count;
+        }
+    }
+    1000
+}
+
 /// The fault of some bytes, where they have one.
 fn byte_fault(alloc: Global, bytes: &[u8]) -> Option<Fault> {
     decode(alloc, bytes).err()
@@ -44,7 +55,7 @@ fn byte_fault(alloc: Global, bytes: &[u8]) -> Option<Fault> {
 fn are_two_steps(alloc: Global, bytes: &[u8]) -> Result<bool, Fault> {
     let script = decode(alloc, bytes)?;
     let again = encode(alloc, &script)?;
-    Ok(script.list().len() == 2 && again.as_slice() == bytes)
+    Ok(step_count(&script) == 2 && again.as_slice() == bytes)
 }
 
 /// Whether a script of two steps that is cut off within the second has its fault there.

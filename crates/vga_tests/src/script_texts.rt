@@ -1,6 +1,7 @@
 //! Texts of scripts: their bytes and their printed text, worked out by hand, and texts with a fault.
 
 use crate::checks::Checks;
+use crate::script_bytes::step_count;
 use anyhow::Result;
 use std::alloc::{AllocError, Global};
 use vga_bits::Fault;
@@ -65,7 +66,7 @@ const BAD_PLANES: &[u8] =
 
 /// Lines with words that are no name.
 const BAD_NAMES: &[u8] =
-    b"outb 3C4 2\nversion 2\nrepeat 2\n\xC3\xB6ut 3C4 2\nin\x0C3DA\nin 3DA\x00\nin 3DA\x80";
+    b"outb 3C4 2\nversion 3\nrepeat 2\n\xC3\xB6ut 3C4 2\nin\x0C3DA\nin 3DA\x00\nin 3DA\x80";
 
 /// The bytes and the printed text of a text's script, after its bytes were decoded.
 fn there_and_back(alloc: Global, text: &[u8]) -> Result<(Vec<u8>, Vec<u8>), Fault> {
@@ -84,7 +85,8 @@ fn text_fault(alloc: Global, text: &[u8]) -> Option<Fault> {
 /// Whether a text that has a line of every step has their bytes, and is printed in full.
 fn is_every_step_spelled(alloc: Global, text: &[u8]) -> Result<bool, Fault> {
     let (bytes, printed) = there_and_back(alloc, text)?;
-    let count = assemble(alloc, text)?.list().len();
+    let script = assemble(alloc, text)?;
+    let count = step_count(&script);
     Ok(
         bytes.as_slice() == EVERY_STEP_BYTES
             && printed.as_slice() == EVERY_STEP_PRINTED

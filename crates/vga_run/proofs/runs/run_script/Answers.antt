@@ -1,6 +1,7 @@
 use Rattle.std.proofs.Common.{subst}
 use Rattle.vga_bits.specs.Tracked.{inner_of}
 use Rattle.vga_script.specs.Step.{AreInRange}
+use Rattle.vga_script.specs.Item.{expanded}
 use Rattle.vga_run.proofs.RunLemmas.{steps_answers}
 use Rattle.vga_run.proofs.DotRuns.{script_of_dots}
 use Rattle.vga_run.proofs.ScreenLemmas.{script_of_screens}
@@ -10,16 +11,22 @@ use Rattle.vga_run.proofs.runs.run_script.Goals as goal
 pub returns-clause-screens : goal.returns-clause-screens
 returns-clause-screens g c =
     let before = g.W.Write.contents (inner_of c.args.out.now) in
-    let after = g.W.Write.contents (inner_of c.run_over.new.out) in
-    let over = c.run_over in
-    script_of_screens c.reports_are_screens.ensures c.args.until c.args.fonts.now c.args.script.now before after over.result c.bytes_fit.ensures (subst AreInRange c.list.ensures.steps c.list.ensures.script.range)
-    (steps_answers c.args.until c.args.fonts.now c.in_ok-fonts.fonts c.args.script.now before after over.result c.in_ok-fonts.ensures.ok over.ensures.answer)
+    let after = g.W.Write.contents (inner_of c.run_steps_over.new.out) in
+    let over = c.run_steps_over in
+    let steps = expanded c.args.script.now.items in
+    let range = subst AreInRange c.steps-steps.ensures.steps c.steps-steps.ensures.range in
+    let answer = rw c.steps-steps.ensures.steps at over.ensures.answer in
+    script_of_screens c.reports_are_screens.ensures c.args.until c.args.fonts.now steps before after over.result c.bytes_fit.ensures range
+    (steps_answers c.args.until c.args.fonts.now c.in_ok-fonts.fonts steps before after over.result c.in_ok-fonts.ensures.ok answer)
 
 -- so it is dot by dot
 pub returns-clause-dots : goal.returns-clause-dots
 returns-clause-dots g c =
     let before = g.W.Write.contents (inner_of c.args.out.now) in
-    let after = g.W.Write.contents (inner_of c.run_over.new.out) in
-    let over = c.run_over in
-    script_of_dots c.reports_are_dots.ensures c.args.until c.args.fonts.now c.args.script.now before after over.result c.bytes_fit.ensures (subst AreInRange c.list.ensures.steps c.list.ensures.script.range)
-    (steps_answers c.args.until c.args.fonts.now c.in_ok-fonts.fonts c.args.script.now before after over.result c.in_ok-fonts.ensures.ok over.ensures.answer)
+    let after = g.W.Write.contents (inner_of c.run_steps_over.new.out) in
+    let over = c.run_steps_over in
+    let steps = expanded c.args.script.now.items in
+    let range = subst AreInRange c.steps-steps.ensures.steps c.steps-steps.ensures.range in
+    let answer = rw c.steps-steps.ensures.steps at over.ensures.answer in
+    script_of_dots c.reports_are_dots.ensures c.args.until c.args.fonts.now steps before after over.result c.bytes_fit.ensures range
+    (steps_answers c.args.until c.args.fonts.now c.in_ok-fonts.fonts steps before after over.result c.in_ok-fonts.ensures.ok answer)

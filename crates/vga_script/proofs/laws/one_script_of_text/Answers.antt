@@ -1,4 +1,4 @@
-use Rattle.vga_script.proofs.LineLemmas.{one_text}
+use Rattle.vga_script.proofs.TextLemmas.{one_text}
 use Rattle.vga_script.proofs.laws.one_script_of_text.Goals as goal
 
 pub returns : goal.returns

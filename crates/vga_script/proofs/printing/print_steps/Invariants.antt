@@ -1,7 +1,10 @@
-use Rattle.std.proofs.Common.{◌≡◌, take}
-use Rattle.vga_script.specs.Printing.{printed}
+use Rattle.std.proofs.Common.{length}
+use Rattle.vga_script.proofs.WalkLemmas.{HasPrintedSteps}
 use Rattle.vga_script.proofs.printing.print_steps.Given as goal
 
--- the text of the steps so far
-abbrev pub invariant-loop-step : goal.invariant-loop-step
-invariant-loop-step l = l.out.items ≡ printed (take l.step-index l.steps)
+-- the text so far and that of what is left
+abbrev pub invariant-loop-rest : goal.invariant-loop-rest
+invariant-loop-rest l = HasPrintedSteps l.initial.out.items l.out.items l.bytes l.rest
+
+abbrev pub decreases-loop-rest : goal.decreases-loop-rest
+decreases-loop-rest l = length l.rest

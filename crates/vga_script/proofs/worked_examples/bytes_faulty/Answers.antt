@@ -1,6 +1,20 @@
 use Rattle.std.proofs.Common.{◌≡◌, ℕ, List, [], ◌∷◌, get_or, refl, ap, arith, inl, inr}
-use Rattle.vga_script.specs.Spelling.{header}
+use Rattle.vga_script.specs.declared.version.Version.{Version}
+use Rattle.vga_script.specs.declared.version.Version.TheVariants.{One, Two}
+use Rattle.vga_script.specs.Version.{version_byte}
+use Rattle.vga_script.specs.Item.{listing}
+use Rattle.vga_script.specs.Decoding.{StartsWithBlock}
+use Rattle.vga_script.proofs.ExampleLemmas.{begins}
 use Rattle.vga_script.proofs.worked_examples.bytes_faulty.Goals as goal
+
+-- 9 is no version
+nine : (version : Version) → 9 ≡ version_byte version → ⊥
+nine One e = absurd (omega arith)
+nine Two e = absurd (omega arith)
+
+-- and version 1 has no blocks
+no_blocks : (bytes : List ℕ) → StartsWithBlock One bytes → ⊥
+no_blocks bytes (allowed, begun) = allowed
 
 pub returns-clause-magic : goal.returns-clause-magic
 returns-clause-magic c =
@@ -10,59 +24,37 @@ pub returns-clause-short : goal.returns-clause-short
 returns-clause-short c = inr (omega arith, inl (refl, refl))
 
 pub returns-clause-version : goal.returns-clause-version
-returns-clause-version c = inr (omega arith, (9, [], refl, λ e. absurd (cc)))
+returns-clause-version c = inr (omega arith, (9, [], refl, nine))
 
 pub returns-clause-cut : goal.returns-clause-cut
 returns-clause-cut c =
-    inr (
-      omega arith,
-      inr (
-        1 ∷ 0xC4 ∷ 0x03 ∷ [],
-        record { front = header; steps = []; whole = refl; good = ([], refl, refl); place = refl },
-        (1, 0xC4 ∷ 0x03 ∷ [], 3, refl, refl, omega arith),
-      ),
-    )
+    let rest : List ℕ = 1 ∷ 0xC4 ∷ 0x03 ∷ [] in
+    inr (omega arith, inr (listing One [], 5, rest, begins One rest, inl (refl, inl (inl (1, 0xC4 ∷ 0x03 ∷ [], 3, refl, refl, omega arith)))))
 
 pub returns-clause-unknown : goal.returns-clause-unknown
 returns-clause-unknown c =
-    inr (
-      omega arith,
-      (
-        0xFF ∷ [],
-        record { front = header; steps = []; whole = refl; good = ([], refl, refl); place = refl },
-        inl (0xFF, [], refl, refl),
-      ),
-    )
+    let rest : List ℕ = 0xFF ∷ [] in
+    inr (omega arith, (listing One [], 5, rest, begins One rest, inl (refl, inl (inl (0xFF, [], refl, refl), no_blocks rest))))
 
 pub returns-clause-no_kind : goal.returns-clause-no_kind
 returns-clause-no_kind c =
-    inr (
-      omega arith,
-      inr (
-        0x0C ∷ [],
-        record { front = header; steps = []; whole = refl; good = ([], refl, refl); place = refl },
-        (0x0C, [], 1, refl, refl, omega arith),
-      ),
-    )
+    let rest : List ℕ = 0x0C ∷ [] in
+    inr (omega arith, inr (listing One [], 5, rest, begins One rest, inl (refl, inl (inl (0x0C, [], 1, refl, refl, omega arith)))))
 
 pub returns-clause-other_kind : goal.returns-clause-other_kind
 returns-clause-other_kind c =
-    inr (
-      omega arith,
-      (
-        0x0C ∷ 0x07 ∷ [],
-        record { front = header; steps = []; whole = refl; good = ([], refl, refl); place = refl },
-        inl (0x0C, 0x07 ∷ [], refl, refl),
-      ),
-    )
+    let rest : List ℕ = 0x0C ∷ 0x07 ∷ [] in
+    inr (omega arith, (listing One [], 5, rest, begins One rest, inl (refl, inl (inl (0x0C, 0x07 ∷ [], refl, refl), no_blocks rest))))
 
 pub returns-clause-past_the_end : goal.returns-clause-past_the_end
 returns-clause-past_the_end c =
+    let rest : List ℕ = 0x0C ∷ 0x04 ∷ 0 ∷ 0xFF ∷ 0xFF ∷ 2 ∷ 0 ∷ [] in
     inr (
       omega arith,
-      (
-        0x0C ∷ 0x04 ∷ 0 ∷ 0xFF ∷ 0xFF ∷ 2 ∷ 0 ∷ [],
-        record { front = header; steps = []; whole = refl; good = ([], refl, refl); place = refl },
-        inr (0, 0xFFFF, 2, [], omega arith, omega arith, refl, λ h. let end = h.3 in absurd (omega arith)),
-      ),
+      (listing One [], 5, rest, begins One rest, inl (refl, inl (inr (0, 0xFFFF, 2, [], omega arith, omega arith, refl, λ h. let end = h.3 in absurd (omega arith)), no_blocks rest))),
     )
+
+pub returns-clause-no_block : goal.returns-clause-no_block
+returns-clause-no_block c =
+    let rest : List ℕ = 0x0D ∷ 1 ∷ 0 ∷ 0x0E ∷ [] in
+    inr (omega arith, (listing One [], 5, rest, begins One rest, inl (refl, inl (inl (0x0D, 1 ∷ 0 ∷ 0x0E ∷ [], refl, refl), no_blocks rest))))

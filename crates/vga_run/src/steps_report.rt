@@ -1,0 +1,108 @@
+//! The report of a script, whose steps are taken from its bytes.
+ghost use Rattle.std.specs.Prelude.{◌≡◌, ◌+◌, ◌<◌, ◌≤◌, ◌^◌, length, take, false, OnOk, Some};
+ghost use Rattle.vga_bits.specs.Tracked.{inner_of, has_failed};
+ghost use Rattle.bios_modes.specs.Valid.{IsValid};
+ghost use Rattle.vga_run.specs.Report.{steps_until};
+ghost use Rattle.vga_run.specs.Run.{WritesReport};
+ghost use Rattle.vga_run.specs.Step.{after_steps};
+ghost use Rattle.vga_script.specs.Spelling.{script_limit};
+
+use super::machine::Machine;
+use super::numbered_line::NumberedLine;
+use super::report::{write_last_looks, write_step};
+use std::alloc::Global;
+use std::io::Write;
+use vga_bits::{Fault, Tracked, flush};
+use vga_script::Steps;
+
+/// Takes so many of the first steps, all if there are fewer, and writes a line for each.
+fn write_first<W: Write>(
+    alloc: Global,
+    out: &mut Tracked<W>,
+    line: &mut NumberedLine,
+    machine: &mut Machine,
+    steps: Steps<'_>,
+    most: usize,
+) -> Result<(), Fault>
+    requires writer { has_failed out.old ≡ false }
+    requires numbers { line.old + length steps < 2 ^ 64 }
+    requires valid { IsValid machine.old.bda }
+    ensures text { WritesReport (W.contents (inner_of out.old)) (W.contents (inner_of out.new))
+        (has_failed out.new) result machine.old line.old (take most steps.entry) }
+    ensures number { OnOk result (line.new ≡ line.old + length (take most steps.entry)) }
+    ensures after { OnOk result (machine.new ≡ after_steps machine.old (take most steps.entry)) }
+    ensures valid { IsValid machine.new.bda }
+{
+    let mut left = steps;
+    'steps: for _ in 0..most {
+        let Some(step) = left.next() else {
+            return Ok(());
+        };
+        write_step(alloc, out, line, machine, &step)?;
+        line.count_up();
+    }
+    Ok(())
+}
+
+/// Takes so many of the first steps, all if there are fewer, and then the last looks.
+fn write_until<W: Write>(
+    alloc: Global,
+    out: &mut Tracked<W>,
+    machine: &mut Machine,
+    steps: Steps<'_>,
+    most: u32,
+) -> Result<(), Fault>
+    requires writer { has_failed out.old ≡ false }
+    requires few { length steps ≤ script_limit }
+    requires valid { IsValid machine.old.bda }
+    ensures { WritesReport (W.contents (inner_of out.old)) (W.contents (inner_of out.new))
+        (has_failed out.new) result machine.old 1 (steps_until (Some most) steps.entry) }
+{
+    let mut line = NumberedLine::of(1);
+    write_first(alloc, out, &mut line, machine, steps, most as usize)?;
+    write_last_looks(alloc, out, machine, line.number())
+}
+
+/// Takes the steps on this machine, all of them or so many of the first with the last looks.
+fn write_steps<W: Write>(
+    alloc: Global,
+    out: &mut Tracked<W>,
+    machine: &mut Machine,
+    steps: Steps<'_>,
+    until: Option<u32>,
+) -> Result<(), Fault>
+    requires writer { has_failed out.old ≡ false }
+    requires few { length steps ≤ script_limit }
+    requires valid { IsValid machine.old.bda }
+    ensures { WritesReport (W.contents (inner_of out.old)) (W.contents (inner_of out.new))
+        (has_failed out.new) result machine.old 1 (steps_until until steps.entry) }
+{
+    match until {
+        Some(most) => write_until(alloc, out, machine, steps, most),
+        None => {
+            let mut line = NumberedLine::of(1);
+            write_first(alloc, out, &mut line, machine, steps, usize::MAX)
+        }
+    }
+}
+
+/// Takes the steps on this machine, all of them or so many of the first with the last looks, writes what each
+/// answers, of which the first has the number 1, and flushes the writer. It fails with `WriteFault` where the
+/// writer does, which then has a front of the report, and with `OutOfMemory` before a step that takes memory.
+#[tactic(auto, using(crate::proofs::ReportLemmas::report_is_flushed))]
+pub(crate) fn write_report<W: Write>(
+    alloc: Global,
+    out: &mut Tracked<W>,
+    machine: &mut Machine,
+    steps: Steps<'_>,
+    until: Option<u32>,
+) -> Result<(), Fault>
+    requires writer { has_failed out.old ≡ false }
+    requires few { length steps ≤ script_limit }
+    requires valid { IsValid machine.old.bda }
+    ensures { WritesReport (W.contents (inner_of out.old)) (W.contents (inner_of out.new))
+        (has_failed out.new) result machine.old 1 (steps_until until steps.entry) }
+{
+    write_steps(alloc, out, machine, steps, until)?;
+    flush(out)
+}

@@ -1,0 +1,108 @@
+//! The lines of a text that say its version, and that begin and end a block.
+ghost use Rattle.std.specs.Prelude.{◌≡◌, ◌≢◌, ◌↔◌, ◌∷◌, [], ℕ, List, IfNone, IfSome, IsFalse, IsTrue};
+ghost use Rattle.vga_script.specs.Text.{IsEnd, IsVersionTwo, SpellsRepeat};
+ghost use Rattle.vga_script.specs.Version.{AllowsBlocks};
+ghost use Rattle.vga_script.specs.Words.{words};
+
+use super::keyword::is_name;
+use super::numbers::number;
+use super::version::Version;
+use super::words::{before_comment, next_word};
+
+/// The word of a line, where it has just one.
+#[tactic(auto, using(crate::proofs::BlockLineLemmas::not_one_of_none, crate::proofs::BlockLineLemmas::not_one_of_more, crate::proofs::BlockLineLemmas::one_alone))]
+fn one_word(line: &[u8]) -> Option<&[u8]>
+    ensures found { IfSome result (λ word. words line.now ≡ word.now ∷ []) }
+    ensures none { IfNone result ((word : List ℕ) → words line.now ≢ word ∷ []) }
+{
+    let Some((word, rest)) = next_word(before_comment(line)) else {
+        return None;
+    };
+    match next_word(rest) {
+        None => Some(word),
+        Some(_) => None,
+    }
+}
+
+/// The words of a line, where it has just two.
+#[tactic(auto, using(crate::proofs::BlockLineLemmas::not_two_of_none, crate::proofs::BlockLineLemmas::not_two_of_one, crate::proofs::BlockLineLemmas::not_two_of_more, crate::proofs::BlockLineLemmas::two_alone))]
+fn two_words(line: &[u8]) -> Option<(&[u8], &[u8])>
+    ensures found { IfSome result (λ x. words line.now ≡ x.0.now ∷ x.1.now ∷ []) }
+    ensures none { IfNone result ((word other : List ℕ) → words line.now ≢ word ∷ other ∷ []) }
+{
+    let Some((word, rest)) = next_word(before_comment(line)) else {
+        return None;
+    };
+    let Some((other, rest)) = next_word(rest) else {
+        return None;
+    };
+    match next_word(rest) {
+        None => Some((word, other)),
+        Some(_) => None,
+    }
+}
+
+/// Whether a line has a word.
+pub(crate) fn has_word(line: &[u8]) -> bool
+    ensures some { IsTrue result → words line.now ≢ [] }
+    ensures none { IsFalse result → words line.now ≡ [] }
+{
+    match next_word(before_comment(line)) {
+        Some(_) => true,
+        None => false,
+    }
+}
+
+/// Whether a line says version 2.
+#[tactic(auto, using(crate::proofs::NameLemmas::named, crate::proofs::NameLemmas::unnamed))]
+pub(crate) fn says_version_two(line: &[u8]) -> bool
+    ensures { IsTrue result ↔ IsVersionTwo (words line.now) }
+{
+    match two_words(line) {
+        Some((name, [b'2'])) => is_name(name, b"version"),
+        _ => false,
+    }
+}
+
+/// The count of the block that a line begins.
+#[tactic(auto, using(crate::proofs::BlockLineLemmas::not_repeat_name, crate::proofs::BlockLineLemmas::not_repeat_words))]
+fn count_of_line(line: &[u8]) -> Option<u16>
+    ensures found { IfSome result (λ count. SpellsRepeat (words line.now) count) }
+    ensures none { IfNone result ((count : ℕ) → SpellsRepeat (words line.now) count → ⊥) }
+{
+    let Some((name, word)) = two_words(line) else {
+        return None;
+    };
+    if !is_name(name, b"repeat") {
+        return None;
+    }
+    let Some(count) = number(word, 10, 0xFFFF) else {
+        return None;
+    };
+    if count == 0 {
+        return None;
+    }
+    Some(count as u16)
+}
+
+/// The same in a script of this version, which may have no blocks.
+pub(crate) fn count_in(line: &[u8], version: Version) -> Option<u16>
+    ensures found { IfSome result (λ count. AllowsBlocks version × SpellsRepeat (words line.now) count) }
+    ensures none { IfNone result (AllowsBlocks version → (count : ℕ) → SpellsRepeat (words line.now) count → ⊥) }
+{
+    match version {
+        Version::One => None,
+        Version::Two => count_of_line(line),
+    }
+}
+
+/// Whether a line ends a block.
+#[tactic(auto, using(crate::proofs::NameLemmas::named, crate::proofs::NameLemmas::unnamed))]
+pub(crate) fn is_end(line: &[u8]) -> bool
+    ensures { IsTrue result ↔ IsEnd (words line.now) }
+{
+    match one_word(line) {
+        Some(name) => is_name(name, b"end"),
+        None => false,
+    }
+}

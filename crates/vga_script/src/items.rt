@@ -1,0 +1,146 @@
+//! The item at the front of some bytes of a script.
+ghost use Rattle.std.specs.Prelude.{◌≡◌, ◌+◌, ◌<◌, ◌≤◌, ◌∷◌, ℕ, length, IfNone, IfOk, IfErr, IfSome};
+ghost use Rattle.vga_script.specs.Body.{StandsBehind};
+ghost use Rattle.vga_script.specs.Decoding.{HasStepsBefore, IsItemFault, StartsWithBlock};
+ghost use Rattle.vga_script.specs.Item.{step_limit, steps_of};
+ghost use Rattle.vga_script.specs.Spelled.{HasBody, spelled_item};
+ghost use Rattle.vga_script.specs.Spelling.{opcode_repeat, script_limit, StartsWithItem};
+ghost use Rattle.vga_script.specs.Version.{AllowsBlocks};
+
+use super::fields::{NoStep, u16_at};
+use super::opcode;
+use super::script::STEP_LIMIT;
+use super::spelled_item::SpelledItem;
+use super::step_bytes::step_at;
+use super::version::Version;
+use vga_bits::Fault;
+
+/// What stands behind the steps of a block.
+#[derive(Drop)]
+enum Behind<'a> {
+    /// The block's end, and these bytes.
+    End {
+        /// What follows the end.
+        rest: &'a [u8],
+    },
+    /// Nothing.
+    Nothing,
+    /// No step, nor the end.
+    Bad,
+    /// A step that is cut off.
+    Cut,
+}
+
+/// How many steps stand at the front of the bytes behind a block's count, and what follows them.
+#[tactic(auto, using(crate::proofs::FrontLemmas::step_shorter, crate::proofs::BodyLemmas::body_within, crate::proofs::BodyLemmas::body_begins, crate::proofs::BodyLemmas::body_goes_on))]
+fn behind_steps(bytes: &[u8]) -> (usize, &[u8], Behind<'_>)
+    requires { length bytes.now ≤ script_limit }
+    ensures good { HasStepsBefore bytes.now result.0 result.1.now }
+    ensures stop { StandsBehind result.2 result.1.now }
+{
+    let mut rest = bytes;
+    let mut len = 0;
+    while let [first, others @ ..] = rest {
+        if *first == opcode::END {
+            return (len, rest, Behind::End { rest: others });
+        }
+        match step_at(rest) {
+            Ok((_, behind)) => rest = behind,
+            Err(NoStep::Bad) => return (len, rest, Behind::Bad),
+            Err(NoStep::Cut) => return (len, rest, Behind::Cut),
+        }
+        len += 1;
+    }
+    (len, rest, Behind::Nothing)
+}
+
+/// What follows the opcode of a block, where one begins some bytes of a script of this version.
+fn behind_repeat(bytes: &[u8], version: Version) -> Option<&[u8]>
+    ensures found { IfSome result (λ fields. AllowsBlocks version × (bytes.now ≡ opcode_repeat ∷ fields.now)) }
+    ensures none { IfNone result (StartsWithBlock version bytes.now → ⊥) }
+{
+    match version {
+        Version::One => None,
+        Version::Two => bytes.strip_prefix(&[opcode::REPEAT]),
+    }
+}
+
+/// The block whose opcode stands at this offset of a script, from the bytes that begin with it, and what follows
+/// its end.
+#[tactic(auto, using(crate::proofs::BodyLemmas::block_open))]
+fn block_at<'a>(
+    bytes: &'a [u8],
+    fields: &'a [u8],
+    offset: usize,
+    version: Version,
+) -> Result<(SpelledItem<'a>, &'a [u8]), Fault>
+    requires allowed { AllowsBlocks version }
+    requires fields { bytes.now ≡ opcode_repeat ∷ fields.now }
+    requires place { offset + length bytes.now ≤ script_limit }
+    ensures found { IfOk result (λ x. StartsWithItem version bytes.now (spelled_item x.0) x.1.now) }
+    ensures body { IfOk result (λ x. HasBody x.0) }
+    ensures fault { IfErr result (λ e. (taken : ℕ) → IsItemFault version taken offset bytes.now e) }
+{
+    let Ok((count, body)) = u16_at(fields) else {
+        return Err(Fault::Truncated(offset));
+    };
+    if count == 0 {
+        return Err(Fault::BadStep(offset));
+    }
+    let (len, rest, behind) = behind_steps(body);
+    match behind {
+        Behind::End { rest: others } => {
+            let (steps, _) = body.split_at(body.len() - rest.len());
+            Ok((SpelledItem::Block { count, len, steps }, others))
+        }
+        Behind::Nothing => Err(Fault::Truncated(offset)),
+        Behind::Bad => Err(Fault::BadStep(offset + (bytes.len() - rest.len()))),
+        Behind::Cut => Err(Fault::Truncated(offset + (bytes.len() - rest.len()))),
+    }
+}
+
+/// The item that stands at this offset of a script, from the bytes that begin with it, and what follows it.
+pub(crate) fn item_at(
+    bytes: &[u8],
+    offset: usize,
+    version: Version,
+) -> Result<(SpelledItem<'_>, &[u8]), Fault>
+    requires some { 0 < length bytes.now }
+    requires place { offset + length bytes.now ≤ script_limit }
+    ensures found { IfOk result (λ x. StartsWithItem version bytes.now (spelled_item x.0) x.1.now) }
+    ensures body { IfOk result (λ x. HasBody x.0) }
+    ensures fault { IfErr result (λ e. (taken : ℕ) → IsItemFault version taken offset bytes.now e) }
+{
+    if let Some(fields) = behind_repeat(bytes, version) {
+        return block_at(bytes, fields, offset, version);
+    }
+    match step_at(bytes) {
+        Ok((step, rest)) => Ok((SpelledItem::Step { step }, rest)),
+        Err(NoStep::Bad) => Err(Fault::BadStep(offset)),
+        Err(NoStep::Cut) => Err(Fault::Truncated(offset)),
+    }
+}
+
+/// The same behind items that mean so many steps, and how many the items and it mean.
+pub(crate) fn item_within(
+    bytes: &[u8],
+    offset: usize,
+    version: Version,
+    taken: usize,
+) -> Result<(SpelledItem<'_>, &[u8], usize), Fault>
+    requires some { 0 < length bytes.now }
+    requires place { offset + length bytes.now ≤ script_limit }
+    requires few { taken ≤ step_limit }
+    ensures found { IfOk result (λ x. StartsWithItem version bytes.now (spelled_item x.0) x.1.now) }
+    ensures body { IfOk result (λ x. HasBody x.0) }
+    ensures taken { IfOk result (λ x. x.2 ≡ taken + length (steps_of (spelled_item x.0))) }
+    ensures within { IfOk result (λ x. x.2 ≤ step_limit) }
+    ensures fault { IfErr result (λ e. IsItemFault version taken offset bytes.now e) }
+{
+    let (item, rest) = item_at(bytes, offset, version)?;
+    let meant = item.meant();
+    if taken + meant > STEP_LIMIT {
+        return Err(Fault::TooMany(offset));
+    }
+    Ok((item, rest, taken + meant))
+}

@@ -1,0 +1,72 @@
+//! Whether bytes spell a script, and their first fault.
+ghost use Rattle.std.specs.Prelude.{◌≡◌, ◌≤◌, ◌++◌, ◌∷◌, length, List, IfOk, IfErr};
+ghost use Rattle.vga_script.specs.Decoding.{IsFault, IsSpellingFault};
+ghost use Rattle.vga_script.specs.Front.{listing_of};
+ghost use Rattle.vga_script.specs.Item.{Item, Listing, expanded, step_limit};
+ghost use Rattle.vga_script.specs.Spelling.{script_limit, header, Spells, SpellsItems};
+
+use super::items::item_within;
+use super::opcode;
+use super::script::{SCRIPT_LIMIT, STEP_LIMIT};
+use super::step_bytes::step_at;
+use super::version::Version;
+use vga_bits::Fault;
+
+/// Passes over the items that stand behind the header of a script's bytes.
+#[tactic(auto, using(crate::proofs::FrontLemmas::item_shorter, crate::proofs::DecodeLemmas::decoded_none, crate::proofs::DecodeLemmas::passed_all))]
+fn pass_items(bytes: &[u8], spelled: &[u8], version: Version) -> Result<(), Fault>
+    requires short { length bytes.now ≤ script_limit }
+    requires front { bytes.now ≡ header version ++ spelled.now }
+    ensures found { IfOk result (λ _. (script : Listing) × Spells bytes.now script) }
+    ensures fault { IfErr result (λ e. IsSpellingFault bytes.now e) }
+{
+    let mut rest = spelled;
+    let mut taken = 0;
+    while !rest.is_empty() {
+        let offset = bytes.len() - rest.len();
+        // Most items are steps, which are passed over here for speed.
+        if let Ok((_, others)) = step_at(rest) {
+            if taken == STEP_LIMIT {
+                return Err(Fault::TooMany(offset));
+            }
+            taken += 1;
+            rest = others;
+        } else {
+            let (_, others, more) = item_within(rest, offset, version, taken)?;
+            taken = more;
+            rest = others;
+        }
+    }
+    Ok(())
+}
+
+/// Judges bytes of allowed length.
+fn judge_short(bytes: &[u8]) -> Result<(), Fault>
+    requires { length bytes.now ≤ script_limit }
+    ensures found { IfOk result (λ _. (script : Listing) × Spells bytes.now script) }
+    ensures fault { IfErr result (λ e. IsSpellingFault bytes.now e) }
+{
+    let Some(versioned) = bytes.strip_prefix(&opcode::MAGIC) else {
+        return Err(Fault::BadMagic);
+    };
+    let [byte, spelled @ ..] = versioned else {
+        return Err(Fault::Truncated(opcode::MAGIC.len()));
+    };
+    match Version::of_byte(*byte) {
+        Some(version) => pass_items(bytes, spelled, version),
+        None => Err(Fault::BadVersion),
+    }
+}
+
+/// That bytes spell a script, or their first fault.
+#[tactic(auto, using(crate::proofs::FrontLemmas::spells_itself))]
+pub(crate) fn judge(bytes: &[u8]) -> Result<(), Fault>
+    ensures short { IfOk result (λ _. length bytes.now ≤ script_limit) }
+    ensures found { IfOk result (λ _. Spells bytes.now (listing_of bytes.now)) }
+    ensures fault { IfErr result (λ e. IsFault bytes.now e) }
+{
+    if bytes.len() > SCRIPT_LIMIT {
+        return Err(Fault::TooLong);
+    }
+    judge_short(bytes)
+}

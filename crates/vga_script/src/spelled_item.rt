@@ -1,0 +1,40 @@
+//! An item where it stands in the bytes of a script.
+ghost use Rattle.std.specs.Prelude.{◌≡◌, ◌<◌, ◌^◌, length};
+ghost use Rattle.vga_script.specs.Item.{steps_of};
+ghost use Rattle.vga_script.specs.Spelled.{HasBody, spelled_item};
+
+use super::step::Step;
+
+/// An item where it stands in the bytes of a script, so that it takes no memory.
+#[derive(Drop)]
+pub(crate) enum SpelledItem<'a> {
+    /// A step.
+    Step {
+        /// The step.
+        step: Step<'a>,
+    },
+    /// A block of steps.
+    Block {
+        /// How many times they are taken.
+        count: u16,
+        /// How many steps there are.
+        len: usize,
+        /// Their bytes.
+        steps: &'a [u8],
+    },
+}
+
+impl<'a> SpelledItem<'a> {
+    /// How many steps the item means.
+    #[tactic(auto, using(crate::proofs::ItemLemmas::steps_of_block))]
+    pub(crate) fn meant(&self) -> usize
+        requires { HasBody self.now }
+        ensures value { result ≡ length (steps_of (spelled_item self.now)) }
+        ensures bound { result < 2 ^ 41 }
+    {
+        match self {
+            SpelledItem::Step { .. } => 1,
+            SpelledItem::Block { count, len, .. } => *count as usize * *len,
+        }
+    }
+}

@@ -1,0 +1,246 @@
+//! A step in bytes, read and written: an opcode, and fields.
+ghost use Rattle.std.specs.Prelude.{◌≡◌, ◌<◌, ◌++◌, ◌∷◌, length, IfOk, IfErr, IsOkUnless, OnOk, Err};
+ghost use Rattle.byteorder.specs.Endian.{little_bytes};
+ghost use Rattle.vga_script.specs.Decoding.{StartsOutOfRange, StartsWithBadStep, StartsWithCutStep};
+ghost use Rattle.vga_script.specs.Shown.{kind_dac, kind_plane, shown_spelling};
+ghost use Rattle.vga_script.specs.Spelling.{StartsWithStep, opcode_int, opcode_show, spelling};
+ghost use Rattle.vga_script.specs.Step.{IsInRange};
+
+use super::block::Block;
+use super::fields::{NoStep, block_at, u8_at, u16_at, u32_at};
+use super::opcode;
+use super::output::{append, append_u16, append_u32};
+use super::shown::Shown;
+use super::step::Step;
+use vga_bits::Fault;
+
+/// The table of plain steps: a row each, with its opcode, and its fields, of so many bytes, in order.
+macro_rules! plain_steps {
+    ($then:ident, $first:ident, $second:ident) => {
+        $then! {
+            $first, $second,
+            0x01 => Out { port: two, value: one },
+            0x02 => OutWord { port: two, value: two },
+            0x03 => In { port: two },
+            0x04 => InWord { port: two },
+            0x05 => Put { address: four, value: one },
+            0x06 => PutWord { address: four, value: two },
+            0x07 => Get { address: four },
+            0x08 => GetWord { address: four },
+            0x0A => Advance { dots: four },
+        }
+    };
+}
+
+/// A field that is read.
+macro_rules! read_field {
+    (one, $rest:ident) => {
+        u8_at($rest)?
+    };
+    (two, $rest:ident) => {
+        u16_at($rest)?
+    };
+    (four, $rest:ident) => {
+        u32_at($rest)?
+    };
+}
+
+/// The step of an opcode, whose fields are read in turn.
+macro_rules! read_steps {
+    ($opcode:ident, $bytes:ident, $($number:literal => $step:ident { $($field:ident: $kind:ident),* },)*) => {
+        match $opcode {
+            $($number => {
+                let rest = $bytes;
+                $(let ($field, rest) = read_field!($kind, rest);)*
+                Ok((Step::$step { $($field),* }, rest))
+            })*
+            opcode::INT => int_at($bytes),
+            opcode::FRAME => Ok((Step::Frame, $bytes)),
+            opcode::SHOW => shown_at($bytes),
+            _ => Err(NoStep::Bad),
+        }
+    };
+}
+
+/// A field that is written.
+macro_rules! write_field {
+    (one, $out:ident, $value:ident) => {
+        append(&mut *$out, &[*$value])?
+    };
+    (two, $out:ident, $value:ident) => {
+        append_u16(&mut *$out, *$value)?
+    };
+    (four, $out:ident, $value:ident) => {
+        append_u32(&mut *$out, *$value)?
+    };
+}
+
+/// A step whose fields are written in turn.
+macro_rules! write_steps {
+    ($out:ident, $from:ident, $($number:literal => $step:ident { $($field:ident: $kind:ident),* },)*) => {
+        match $from {
+            $(Step::$step { $($field),* } => {
+                append(&mut *$out, &[$number])?;
+                $(write_field!($kind, $out, $field);)*
+                Ok(())
+            })*
+            Step::Int { ax, bx, cx, dx, block } => {
+                let block = block.as_slice();
+                append_call(&mut *$out, *ax, *bx, *cx, *dx, block.len() as u16)?;
+                append($out, block)
+            }
+            Step::Frame => append($out, &[opcode::FRAME]),
+            Step::Show { shown } => append_shown($out, *shown),
+        }
+    };
+}
+
+/// The fields of a call of the BIOS, whose block is left where it stands, and what follows them.
+#[tactic(auto, using(crate::proofs::DecodeLemmas::cut_int))]
+fn int_at(fields: &[u8]) -> Result<(Step<'_>, &[u8]), NoStep>
+    ensures found { IfOk result (λ x. StartsWithStep (opcode_int ∷ fields.now) x.0 x.1.now) }
+    ensures cut { IfErr result (λ e. (e ≡ NoStep.Cut) × StartsWithCutStep (opcode_int ∷ fields.now)) }
+{
+    let (ax, rest) = u16_at(fields)?;
+    let (bx, rest) = u16_at(rest)?;
+    let (cx, rest) = u16_at(rest)?;
+    let (dx, rest) = u16_at(rest)?;
+    let (len, rest) = u16_at(rest)?;
+    let (block, rest) = block_at(rest, len)?;
+    let block = Block::of(block);
+    Ok((
+        Step::Int {
+            ax,
+            bx,
+            cx,
+            dx,
+            block,
+        },
+        rest,
+    ))
+}
+
+/// The index of the DAC's entry that is shown, and what follows it.
+#[tactic(auto, using(crate::proofs::DecodeLemmas::cut_dac))]
+fn dac_at(fields: &[u8]) -> Result<(Step<'_>, &[u8]), NoStep>
+    ensures found { IfOk result (λ x. StartsWithStep (opcode_show ∷ kind_dac ∷ fields.now) x.0 x.1.now) }
+    ensures cut { IfErr result (λ e. (e ≡ NoStep.Cut)
+        × StartsWithCutStep (opcode_show ∷ kind_dac ∷ fields.now)) }
+{
+    let (index, rest) = u8_at(fields)?;
+    let shown = Shown::Dac { index };
+    Ok((Step::Show { shown }, rest))
+}
+
+/// Which bytes of a plane are shown, and what follows.
+#[tactic(auto, using(crate::proofs::DecodeLemmas::cut_plane, crate::proofs::DecodeLemmas::out_of_range))]
+fn plane_at(fields: &[u8]) -> Result<(Step<'_>, &[u8]), NoStep>
+    ensures found { IfOk result (λ x. StartsWithStep (opcode_show ∷ kind_plane ∷ fields.now) x.0 x.1.now) }
+    ensures bad { result ≡ Err NoStep.Bad → StartsOutOfRange (opcode_show ∷ kind_plane ∷ fields.now) }
+    ensures cut { result ≡ Err NoStep.Cut → StartsWithCutStep (opcode_show ∷ kind_plane ∷ fields.now) }
+{
+    let (plane, rest) = u8_at(fields)?;
+    let (offset, rest) = u16_at(rest)?;
+    let (count, rest) = u16_at(rest)?;
+    let shown = Shown::Plane {
+        plane,
+        offset,
+        count,
+    };
+    if !shown.is_in_range() {
+        return Err(NoStep::Bad);
+    }
+    Ok((Step::Show { shown }, rest))
+}
+
+/// What is shown, by its kind, and what follows it.
+#[tactic(auto, using(crate::proofs::DecodeLemmas::cut_kind, crate::proofs::DecodeLemmas::no_kind, crate::proofs::DecodeLemmas::bad_range))]
+fn shown_at(fields: &[u8]) -> Result<(Step<'_>, &[u8]), NoStep>
+    ensures found { IfOk result (λ x. StartsWithStep (opcode_show ∷ fields.now) x.0 x.1.now) }
+    ensures bad { result ≡ Err NoStep.Bad → StartsWithBadStep (opcode_show ∷ fields.now) }
+    ensures cut { result ≡ Err NoStep.Cut → StartsWithCutStep (opcode_show ∷ fields.now) }
+{
+    let (kind, rest) = u8_at(fields)?;
+    let shown = match kind {
+        opcode::SHOW_REGISTERS => Shown::Registers,
+        opcode::SHOW_DAC => return dac_at(rest),
+        opcode::SHOW_BEAM => Shown::Beam,
+        opcode::SHOW_LATCHES => Shown::Latches,
+        opcode::SHOW_PLANE => return plane_at(rest),
+        opcode::SHOW_BIOS_DATA => Shown::BiosData,
+        opcode::SHOW_CELLS => Shown::Cells,
+        _ => return Err(NoStep::Bad),
+    };
+    Ok((Step::Show { shown }, rest))
+}
+
+/// The step of an opcode and of its fields, and what follows them.
+#[tactic(auto, using(crate::proofs::DecodeLemmas::no_opcode, crate::proofs::DecodeLemmas::cut_out, crate::proofs::DecodeLemmas::cut_out_word, crate::proofs::DecodeLemmas::cut_in, crate::proofs::DecodeLemmas::cut_in_word, crate::proofs::DecodeLemmas::cut_put, crate::proofs::DecodeLemmas::cut_put_word, crate::proofs::DecodeLemmas::cut_get, crate::proofs::DecodeLemmas::cut_get_word, crate::proofs::DecodeLemmas::cut_advance))]
+#[inline(always)]
+fn step_with(opcode: u8, fields: &[u8]) -> Result<(Step<'_>, &[u8]), NoStep>
+    ensures found { IfOk result (λ x. StartsWithStep (opcode ∷ fields.now) x.0 x.1.now) }
+    ensures bad { result ≡ Err NoStep.Bad → StartsWithBadStep (opcode ∷ fields.now) }
+    ensures cut { result ≡ Err NoStep.Cut → StartsWithCutStep (opcode ∷ fields.now) }
+{
+    plain_steps!(read_steps, opcode, fields)
+}
+
+/// The step at the front of some bytes, and what follows it.
+#[inline(always)]
+pub(crate) fn step_at(bytes: &[u8]) -> Result<(Step<'_>, &[u8]), NoStep>
+    requires { 0 < length bytes.now }
+    ensures found { IfOk result (λ x. StartsWithStep bytes.now x.0 x.1.now) }
+    ensures bad { result ≡ Err NoStep.Bad → StartsWithBadStep bytes.now }
+    ensures cut { result ≡ Err NoStep.Cut → StartsWithCutStep bytes.now }
+{
+    let (opcode, fields) = u8_at(bytes)?;
+    step_with(opcode, fields)
+}
+
+/// Puts a call of the BIOS, but for its block, at the end: the opcode, the registers, and the block's
+/// length. It fails with `OutOfMemory` alone.
+fn append_call(out: &mut Vec<u8>, ax: u16, bx: u16, cx: u16, dx: u16, len: u16) -> Result<(), Fault>
+    ensures ok { OnOk result (out.new.items ≡ out.old.items ++ (opcode_int ∷ (little_bytes 2 ax
+        ++ (little_bytes 2 bx ++ (little_bytes 2 cx ++ (little_bytes 2 dx ++ little_bytes 2 len)))))) }
+    ensures err { IsOkUnless result Fault.OutOfMemory }
+{
+    append(out, &[opcode::INT])?;
+    append_u16(out, ax)?;
+    append_u16(out, bx)?;
+    append_u16(out, cx)?;
+    append_u16(out, dx)?;
+    append_u16(out, len)
+}
+
+/// Puts the bytes of a look at the adapter at the end. It fails with `OutOfMemory` alone.
+fn append_shown(out: &mut Vec<u8>, shown: Shown) -> Result<(), Fault>
+    ensures ok { OnOk result (out.new.items ≡ out.old.items ++ (opcode_show ∷ shown_spelling shown)) }
+    ensures err { IsOkUnless result Fault.OutOfMemory }
+{
+    match shown {
+        Shown::Registers => append(out, &[opcode::SHOW, opcode::SHOW_REGISTERS]),
+        Shown::Dac { index } => append(out, &[opcode::SHOW, opcode::SHOW_DAC, index]),
+        Shown::Beam => append(out, &[opcode::SHOW, opcode::SHOW_BEAM]),
+        Shown::Latches => append(out, &[opcode::SHOW, opcode::SHOW_LATCHES]),
+        Shown::Plane {
+            plane,
+            offset,
+            count,
+        } => {
+            append(out, &[opcode::SHOW, opcode::SHOW_PLANE, plane])?;
+            append_u16(out, offset)?;
+            append_u16(out, count)
+        }
+        Shown::BiosData => append(out, &[opcode::SHOW, opcode::SHOW_BIOS_DATA]),
+        Shown::Cells => append(out, &[opcode::SHOW, opcode::SHOW_CELLS]),
+    }
+}
+
+/// Puts the bytes of a step at the end. It fails with `OutOfMemory` alone.
+pub(crate) fn append_step(out: &mut Vec<u8>, step: &Step<'_>) -> Result<(), Fault>
+    requires { IsInRange step.now }
+    ensures ok { OnOk result (out.new.items ≡ out.old.items ++ spelling step.now) }
+    ensures err { IsOkUnless result Fault.OutOfMemory }
+{
+    plain_steps!(write_steps, out, step)
+}
