@@ -14,7 +14,7 @@ from random import Random
 from vga_fuzz import command
 from vga_fuzz.feeding import Fed, Program
 from vga_fuzz.judging import trouble_of
-from vga_fuzz.making import HEADER, Input, make
+from vga_fuzz.making import MAGIC, Input, make
 from vga_fuzz.running import Limits, Outcome
 from vga_fuzz.steps import step
 
@@ -116,7 +116,7 @@ class Judging(Files):
 
 class Making(unittest.TestCase):
     def test_an_input_is_made_again_from_its_seed(self) -> None:
-        texts, scripts = [b"in 3DA ; status\nframe\n"], [HEADER + b"\x0b"]
+        texts, scripts = [b"in 3DA ; status\nframe\n"], [MAGIC + b"\x01\x0b"]
         made = [make(Random(f"7:{number}"), texts, scripts) for number in range(300)]
         self.assertEqual(made, [make(Random(f"7:{number}"), texts, scripts) for number in range(300)])
         self.assertEqual(len({given.made for given in made}), 8)

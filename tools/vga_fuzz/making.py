@@ -5,19 +5,19 @@ from __future__ import annotations
 from random import Random
 from typing import Callable, NamedTuple, Sequence
 
-from .steps import step
+from .steps import block, step
 
-HEADER = b"VGAS\x01"
+MAGIC = b"VGAS"
 # So many steps has a new script at most, and so many changes are made to one that is at hand.
 MOST_STEPS = 60
 MOST_CHANGES = 8
 # A longer input is cut: a script that is at hand may be long, and a change may double a part of it.
 MOST_BYTES = 1 << 16
 # Words and bytes that a text or a script may get in the place of others.
-HOSTILE_BYTES = (0x00, 0xFF, 0x0A, 0x0D, 0x20, 0x3B, 0x7F, 0x80, 0x09, 0x0C)
+HOSTILE_BYTES = (0x00, 0xFF, 0x0A, 0x0D, 0x20, 0x3B, 0x7F, 0x80, 0x09, 0x0C, 0x0E, 0x02)
 HOSTILE_WORDS = (
     *(b"0", b"00", b"FF", b"100", b"FFFF", b"10000", b"FFFFFFFF", b"100000000", b"4294967296", b"99999999999999999999"),
-    *(b"ax=", b"=", b"block", b"frame", b"show", b"int", b"-1", b"0x3C4", b";", b"\r", b"\x00", b"version 2"),
+    *(b"ax=", b"=", b"block", b"frame", b"show", b"int", b"-1", b"0x3C4", b";", b"\r", b"\x00", b"version 2", b"repeat", b"repeat 2", b"end", b"65536"),
 )
 
 
@@ -91,11 +91,16 @@ def _changed(random: Random, data: bytes, others: Sequence[bytes], changes: Sequ
 
 
 def _new(random: Random, is_text: bool) -> bytes:
-    """Steps at random."""
-    steps = [step(random) for _ in range(random.randint(1, MOST_STEPS))]
+    """A script of either version: steps at random, and in version 2 blocks of them."""
+    version = random.choice((1, 2))
+    items = [
+        block(random) if version == 2 and random.random() < 0.2 else step(random)
+        for _ in range(random.randint(1, MOST_STEPS))
+    ]
     if is_text:
-        return "".join(line + "\n" for _, line in steps).encode("ascii")
-    return HEADER + b"".join(data for data, _ in steps)
+        first = "version 2\n" if version == 2 else ""
+        return (first + "".join(lines + "\n" for _, lines in items)).encode("ascii")
+    return MAGIC + bytes([version]) + b"".join(data for data, _ in items)
 
 
 def make(random: Random, texts: Sequence[bytes], scripts: Sequence[bytes]) -> Input:

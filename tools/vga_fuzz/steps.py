@@ -17,6 +17,9 @@ CYCLES = (
     ("getw", 0x08, "I"),
 )
 INT, ADVANCE, FRAME, SHOW = 0x09, 0x0A, 0x0B, 0x0C
+# What a block of steps begins and ends with, and how often one that has steps is taken.
+REPEAT, END = 0x0D, 0x0E
+COUNTS = (1, 2, 3, 7)
 # What `show` may be followed by: its kind, and the fields that stand behind it.
 LOOKS = (("regs", ""), ("dac", "B"), ("beam", ""), ("latches", ""), ("plane", "BHH"), ("bda", ""))
 
@@ -100,3 +103,11 @@ def step(random: Random) -> tuple[bytes, str]:
     look, name, numbers = _look(random)
     texts = [f"{number}" if place == 2 else f"{number:X}" for place, number in enumerate(numbers)]
     return struct.pack("<BB" + LOOKS[look][1], SHOW, look, *numbers), " ".join(["show", name, *texts])
+
+
+def block(random: Random) -> tuple[bytes, str]:
+    """A block of a few steps that is taken a few times, or of none that is taken often, as bytes and as lines."""
+    steps = [step(random) for _ in range(random.randrange(5))]
+    count = random.choice(COUNTS) if steps else random.randint(1, 0xFFFF)
+    data = struct.pack("<BH", REPEAT, count) + b"".join(data for data, _ in steps) + bytes([END])
+    return data, "\n".join([f"repeat {count}", *(line for _, line in steps), "end"])
