@@ -247,7 +247,7 @@ class Closed(Files):
         self.assertEqual(self.shell(">&-", "text", self.report("r", "ok")), (2, b"", message))
 
     def test_the_other_tools_tell_it_too(self) -> None:
-        for name in ("vga-fuzz", "vga-memory"):
+        for name in ("vga-fuzz", "vga-memory", "vga-trace"):
             line = shlex.join([sys.executable, str(PROGRAM.parent / name)]) + " >&-"
             done = subprocess.run(line, shell=True, capture_output=True)
             message = f"{name}: standard output: it is closed\n"
@@ -342,8 +342,8 @@ class Suite(Files):
             "rules": [{
                 "rule": "Memory.", "folder": "a", "answer": "differs",
                 "cases": [{
-                    "name": "a/one", "answer": "differs", "steps": 1, "skipped": 0, "step": 1, "answered": "FF",
-                    "expected": "55", "reason": "step 1: FF, not 55 (`get A0000`, a/one.vga:2)",
+                    "name": "a/one", "answer": "differs", "steps": 1, "skipped": 0, "answers": 1,
+                    "differing": 1, "step": 1, "answered": "FF", "expected": "55", "reason": "step 1: FF, not 55 (`get A0000`, a/one.vga:2)",
                 }],
             }],
         })
@@ -359,6 +359,41 @@ class Suite(Files):
         output = self.run_suite("--no-refusals")[1]
         self.assertIn("a/one: 1 of 2 steps are skipped, the others agree\n", output)
         self.assertIn("a/two: step 2: FF, not 55 (`get A0000`, a/two.vga:2)\n", output)
+
+    def test_a_machine_is_compared_up_to_a_refusal(self) -> None:
+        self.case("a/one", "get A0000\nget A0000\nget A0000\n", "1 FF\n2 E1 NotDecoded\n3 55\n")
+        self.case("a/two", "get A0000\nget A0000\n", "1 55\n2 E1 NotDecoded\n")
+        self.case("a/three", "crash\n", "F7 BadLine(1)\n")
+        self.case("a/four", "crash\nget A0000\n", "1 E1 NotDecoded\n2 55\n")
+        output = self.run_suite("--machine")[1]
+        self.assertIn("a/one: 2 of 3 steps are skipped, the others agree\n", output)
+        self.assertIn("a/two: step 1: FF, not 55 (`get A0000`, a/two.vga:1)\n", output)
+        self.assertIn("a/three: all that it asks is a picture, a dump, a refusal or a fault of the script\n", output)
+        self.assertIn("a/four: all that it asks is a picture, a dump, a refusal or a fault of the script\n", output)
+        self.assertEqual(output.splitlines()[-1], "4 cases: 3 skipped, 1 differ")
+
+    def test_a_machine_gets_no_step_that_is_to_be_refused(self) -> None:
+        self.case("a/one", "get A0000\nout 3C2 01\ncrash\nget A0000\n", "1 FF\n2 ok\n3 E1 NotDecoded\n4 55\n")
+        self.case("a/two", "version 2\nrepeat 2\nget A0000\nend\ncrash\n", "1 FF\n2 FF\n3 E4 BadFunction\n")
+        self.case("a/three", "frame\n", "1 ragged\n")
+        output = self.run_suite("--machine")[1]
+        self.assertIn("a/one: 2 of 4 steps are skipped, the others agree\n", output)
+        self.assertIn("a/two: 1 of 3 steps are skipped, the others agree\n", output)
+        scripts = self.folder / "scripts"
+        done = run("scripts", scripts, "--list", self.folder / "list.txt", "--machine")
+        self.assertEqual((done[0], done[2]), (0, ""))
+        self.assertEqual((scripts / "a" / "one.vga").read_text(), "get A0000\nout 3C2 01\n")
+        self.assertEqual((scripts / "a" / "two.vga").read_text(), "get A0000\nget A0000\n")
+        self.assertFalse((scripts / "a" / "three.vga").exists())
+
+    def test_answers_that_are_compared_are_counted(self) -> None:
+        self.case("a/one", "out 3C2 01\nget A0000\nframe\nget A0000\nget A0000\n", "1 ok\n2 55\n3 ragged\n4 FF\n5 55\n")
+        case = json.loads(self.run_suite("--json")[1])["rules"][0]["cases"][0]
+        self.assertEqual((case["steps"], case["skipped"], case["answers"], case["differing"], case["step"]), (5, 1, 3, 2, 2))
+
+    def test_a_damage_behind_a_difference_hides_none(self) -> None:
+        self.case("a/one", "get A0000\ncut\n", "1 55\n2 ok\n")
+        self.assertIn("a/one: step 1: FF, not 55 (`get A0000`, a/one.vga:1)\n", self.run_suite()[1])
 
     def test_scripts_as_they_are_handed_over(self) -> None:
         self.write("front", "out 3C2 01\n")

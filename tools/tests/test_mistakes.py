@@ -13,7 +13,8 @@ from .test_cases import Folder
 LONG = "0" * 131_072
 # A bad line, the part of it that is marked (nothing: the place behind it), and what is said, or the end of that.
 LINES = (
-    ("move 3C4 02", "move", "there is no step 'move'; the steps are out, outw, in, inw, put, putw, get, getw, advance, frame, int, show"),
+    ("move 3C4 02", "move", "there is no step 'move'; the steps are out, outw, in, inw, put, putw, get, getw, advance, frame, int, show, "
+     "version, repeat, end"),
     ("outb 3C4 02", "outb", "did you mean out?"),
     ("fram", "fram", "did you mean frame?"),
     ("FRAMES", "FRAMES", "did you mean frame?"),
@@ -74,6 +75,14 @@ LINES = (
     ("int block 01 ax=3", "ax=3", "the block stands last, behind the registers"),
     ("int block 0x01", "0x01", "a block is hexadecimal digits alone, two for each byte: write 01"),
     ("int block " + LONG, LONG, "a block has at most 65535 bytes"),
+    ("version 1", "1", "there is no such version: write version 2, or nothing for version 1"),
+    ("version 02", "02", "there is no such version: write version 2, or nothing for version 1"),
+    ("version", "version", "there is no such version: write version 2, or nothing for version 1"),
+    ("repeat 0", "0", "N is from 1 to 65535"),
+    ("repeat 65536", "65536", "N is from 1 to 65535"),
+    ("repeat 1F", "1F", "N is decimal, and not hexadecimal: write 31"),
+    ("repeat", "", "N is lacking: repeat N"),
+    ("end 3", "3", "a word too many: end"),
     ("show", "", "what is to be shown is lacking: regs, dac, beam, latches, plane, bda, cells"),
     ("show cell", "cell", "nothing of the state has the name 'cell'; did you mean cells?"),
     ("show cells 0", "0", "a word too many: show cells"),
@@ -152,6 +161,20 @@ class Faults(Folder):
         reason = "numbers are hexadecimal digits alone: write 3C4\n  out 0x3C4 02\n      ^^^^^"
         self.assert_told("F7 BadLine(2)", "s:2", reason, b"frame\nout 0x3C4 02\n")
 
+    def test_blocks(self) -> None:
+        for text, number, reason in (
+            ("repeat 2\nframe\nend", 1, "blocks are of version 2: write version 2 before every other line"),
+            ("version 2\nend", 2, "no block is open here"),
+            ("version 2\nrepeat 1\nend\nend", 4, "no block is open here"),
+            ("version 2\nrepeat 2\nrepeat 3\nend", 3, "a block has no other block, and the one of line 2 is open here"),
+            ("version 2\nrepeat 2\nframe", 2, "the block has no end"),
+            ("frame\nversion 2", 2, "version 2 stands once, before every other line"),
+            ("version 2\nrepeat 2\nframe\nend", 2, "with this block the script means more than 16,777,216 steps"),
+        ):
+            with self.subTest(text):
+                line = text.split("\n")[number - 1]
+                self.assert_told(f"F7 BadLine({number})", f"s:{number}", f"{reason}\n  {line}", text.encode())
+
     def test_what_is_not_known(self) -> None:
         reason = "refused, and I can't say why\n  frame"
         self.assert_told("F7 BadLine(1)", "s:1", reason, b"frame\n")
@@ -181,12 +204,15 @@ class Faults(Folder):
             ("F2 BadMagic", b"frame\n", "a script of bytes begins with 56 47 41 53, VGAS, and not with 66 72 61 6D: "
              "this looks like a text, which `vga go` runs"),
             ("F2 BadMagic", b"", "a script of bytes begins with 56 47 41 53, VGAS, and not with nothing: this is no script"),
-            ("F3 BadVersion", b"VGAS\x09", "the version, byte 4, is 09, and 01 is the one that there is"),
+            ("F3 BadVersion", b"VGAS\x09", "the version, byte 4, is 09, and there are 01 and 02"),
             ("F5 Truncated(4)", b"VGAS", "nothing stands behind the magic: the version is lacking"),
             ("F5 Truncated(5)", b"VGAS\x01\x01\xc4", "the step out at offset 5 is cut off: the file ends after 2 of its bytes"),
             ("F4 BadStep(5)", b"VGAS\x01\xff", "at offset 5 stands FF, which is no opcode: 01 to 0C are; "
              "the bytes before it may be at fault"),
             ("F4 BadStep(5)", b"VGAS\x01\x0c\x07", "at offset 5 stands a show of kind 07, and the kinds are 00 to 06"),
+            ("F4 BadStep(5)", b"VGAS\x02\x0d\0\0", "the repeat of a block at offset 5 counts 0 or stands in another block"),
+            ("F4 BadStep(5)", b"VGAS\x02\x0e", "the end of a block at offset 5 stands outside a block"),
+            ("F11 TooMany(5)", b"VGAS\x02", "with the block or step at 5 the script means more than 16,777,216 steps"),
             ("F6 TooLong", bytes(16_777_217), "the file has more bytes, and 16,777,216 bytes are the most"),
             ("F6 TooLong", b"int\n", "the steps of the text have more bytes, and 16,777,216 bytes are the most"),
         ):

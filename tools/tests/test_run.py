@@ -107,7 +107,7 @@ class Listings(Fake):
 
     def test_a_fault_with_its_reason(self) -> None:
         path = self.write("bad.vga", "frame\nmove 1\n")
-        names = "out, outw, in, inw, put, putw, get, getw, advance, frame, int, show"
+        names = "out, outw, in, inw, put, putw, get, getw, advance, frame, int, show, version, repeat, end"
         message = f"{path}:2: F7 BadLine(2): there is no step 'move'; the steps are {names}\n  move 1\n  ^^^^\n"
         self.assertEqual(self.run_script(path=path), (2, "", "vga-report: " + message))
         status, _, said = self.run_script(path="-", given=b"move\n")
@@ -183,6 +183,17 @@ class Expectations(unittest.TestCase):
                 self.assertEqual(expected_in(comment), expected)
         self.assertEqual([line.number for line in steps_of(b"; a\n\nframe ; =\n \t\r\nframe")], [3, 5])
         self.assertEqual(blessed_line("frame", "ok"), "frame ; = ok")
+
+    def test_blocks(self) -> None:
+        def steps(text: str) -> list[tuple[int, str]]:
+            return [(line.number, line.words) for line in steps_of(text.encode())]
+
+        text = "; x\nVersion  2\nint\nrepeat 2 ; twice\nframe ; = *\nin 3DA\nEND\nrepeat 3\nend\nframe\n"
+        twice = [(5, "frame"), (6, "in 3DA")] * 2
+        self.assertEqual(steps(text), [(3, "int"), *twice, (10, "frame")])
+        self.assertEqual(steps("version 2\nrepeat 65535\nframe\n"), [(3, "frame")])
+        self.assertEqual(len(steps("version 2\nrepeat 65535\n" + "frame\n" * 300 + "end")), 16_777_200)
+        self.assertEqual(steps("frame\nrepeat 2\nend"), [(1, "frame"), (2, "repeat 2"), (3, "end")])
 
     def test_what_is_worth_telling(self) -> None:
         self.assertEqual(handed_in("int ax=3 dx=12"), "ax=0003 bx=0000 cx=0000 dx=0012")

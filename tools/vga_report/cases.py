@@ -4,10 +4,12 @@ from __future__ import annotations
 
 import re
 from dataclasses import dataclass
+from itertools import chain, islice, repeat, takewhile
 from pathlib import Path
-from typing import Iterator, Optional, Sequence
+from typing import Iterable, Iterator, Optional, Sequence
 
-from .report import FAULT
+from .expected import Expected
+from .report import FAULT, REFUSAL, VALUE, Step
 from .script import steps_of
 from .streams import STANDARD, reading, shown_name
 from .trouble import Trouble
@@ -17,6 +19,8 @@ HEX = re.compile(r"([0-9A-Fa-f]{2})(\*([1-9][0-9]{0,7}))?")
 # So much of a step is shown.
 MOST_WORDS = 60
 # What a run that stops after so many steps shows, as if these steps stood next.
+# How the registers of a call begin in its answer.
+CALLED = "ax="
 LOOKS = b"show regs\nshow beam\nshow latches\nshow bda\n"
 
 
@@ -80,14 +84,40 @@ class Case:
             behind -= len(steps)
         return ""
 
+    def expects_fault(self) -> bool:
+        """Whether the script has a mistake, or another fault ends the run before its first step."""
+        return FAULT.match(self.expected.read_text("ascii", "replace")) is not None
+
     def stopped_script(self) -> bytes:
         """The script that does the same where none can stop it: its first steps, and a look at the state.
 
         One with a mistake stays whole, since all of it is judged before the first step.
         """
-        if self.until is None or FAULT.match(self.expected.read_text("ascii", "replace")):
+        if self.until is None or self.expects_fault():
             return self.script()
         return _front_of(self.script(), self.until) + LOOKS
+
+
+    def has_answers_of_machine(self) -> bool:
+        """Whether a step before the first that is to be refused has an answer that a machine can give."""
+        return not self.expects_fault() and any(
+            step.kind == VALUE or step.answer.startswith(CALLED) for step in takewhile(_is_taken, self._expected_steps())
+        )
+
+    def machine_script(self) -> bytes:
+        """Its script for a machine: text ends before the first step that is to be refused, and bytes are whole."""
+        taken = sum(1 for _ in takewhile(_is_taken, self._expected_steps()))
+        return self.script() if self.is_bytes else _front_of(self.stopped_script(), taken)
+
+    def _expected_steps(self) -> Iterator[Step]:
+        """The steps of the report that is expected."""
+        with open(self.expected, "rb") as stream:
+            yield from Expected(stream, str(self.expected)).steps()
+
+
+def _is_taken(step: Step) -> bool:
+    """Whether a step is not to be refused."""
+    return step.kind != REFUSAL
 
 
 def printable(text: str) -> str:
@@ -107,9 +137,34 @@ def _bytes_of(source: bytes, path: Path) -> bytes:
     return b"".join(parts)
 
 
+def _words(line: bytes) -> list[bytes]:
+    """The words of a line, in lower case."""
+    return line.partition(b";")[0].lower().split()
+
+
+def _steps(lines: Iterable[bytes]) -> Iterator[bytes]:
+    """The lines of the steps that a script of version 2 means: those of a block so many times as it counts."""
+    count, block = 0, None
+    for line in lines:
+        words = _words(line)
+        if not words or words[0] == b"version":
+            continue
+        if words[0] == b"repeat":
+            count, block = int(words[1]), []
+        elif words[0] == b"end":
+            yield from chain.from_iterable(repeat(block or [], count))
+            block = None
+        elif block is None:
+            yield line
+        else:
+            block.append(line)
+
+
 def _front_of(text: bytes, steps: int) -> bytes:
-    """The lines of a script up to so many steps, whole lines each."""
+    """The lines of a script up to so many steps, whole lines each; those of version 2 without blocks."""
     lines = text.split(b"\n")
+    if next(filter(None, map(_words, lines)), [])[:1] == [b"version"]:
+        return b"".join(line + b"\n" for line in islice(_steps(lines), steps))
     is_step = [bool(line.partition(b";")[0].strip(b" \t\r")) for line in lines]
     places = [at for at, is_one in enumerate(is_step) if is_one]
     if steps >= len(places):

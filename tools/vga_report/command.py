@@ -49,7 +49,7 @@ def _drop_output() -> None:
     os.dup2(os.open(os.devnull, os.O_WRONLY), sys.stdout.fileno())
 
 
-def _open_closed_streams() -> bool:
+def open_closed_streams() -> bool:
     """Sees to it that no file gets the number of a standard stream that is closed; whether there is an output."""
     is_written = sys.stdout is not None
     while os.open(os.devnull, os.O_RDWR) <= 2:
@@ -72,7 +72,7 @@ def _end_at_signals() -> None:
 
 def main(words: Optional[Sequence[str]] = None) -> int:
     """Runs a command line, and answers its exit status."""
-    if not _open_closed_streams():
+    if not open_closed_streams():
         say("standard output: it is closed")
         return TROUBLE
     _end_at_signals()

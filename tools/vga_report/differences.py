@@ -9,6 +9,7 @@ from .picture import Picture, different_dots
 from .report import REFUSAL, SKIPPED, Step
 
 END = "the end"
+DONE = "ok"
 
 
 class Told(NamedTuple):
@@ -103,30 +104,53 @@ class Comparison:
     """Walks through two reports side by side, and counts what it has seen.
 
     Without refusals, the first report is that of a bus that refuses nothing: where the other has a refusal, any
-    answer counts as skipped.
+    answer counts as skipped. Of a machine, which would go on from a state of its own there, all behind it does too,
+    whether its report has it or not.
     """
 
-    def __init__(self, has_refusals: bool = True) -> None:
+    def __init__(self, has_refusals: bool = True, is_machine: bool = False) -> None:
         self._has_refusals = has_refusals
+        self._is_machine = is_machine
         self.steps = 0
         self.pictures = 0
         self.skipped = 0
+        # The answers that were compared, but for `ok`, and the steps that differ.
+        self.answers = 0
+        self.differing = 0
 
     def differences(self, steps: Iterator[Step], others: Iterator[Step]) -> Iterator[Difference]:
         """The steps that differ, up to the end of the shorter report. A step that was left out differs from none."""
+        is_left = False
         for step, other in zip_longest(steps, others):
+            is_left = is_left or (self._is_machine and other is not None and other.kind == REFUSAL)
+            if is_left and step is None:
+                # A machine gets no step from there on.
+                self.steps += 1
+                self.skipped += 1
+                continue
             if step is None or other is None:
+                self.differing += 1
                 yield Difference(step, other)
                 return
             self.steps += 1
             self.pictures += step.picture is not None
-            if step.answer == SKIPPED or other.answer == SKIPPED:
+            is_alike = _are_alike(step, other)
+            if is_left or self._is_left_out(step, other) or not (is_alike or self._must_agree(other)):
                 self.skipped += 1
-            elif not _are_alike(step, other):
-                if self._has_refusals or other.kind != REFUSAL:
-                    yield Difference(step, other)
-                else:
-                    self.skipped += 1
+                continue
+            self.answers += other.answer != DONE
+            if not is_alike:
+                self.differing += 1
+                yield Difference(step, other)
+
+    @staticmethod
+    def _is_left_out(step: Step, other: Step) -> bool:
+        """Whether one of two reports has no answer of a step."""
+        return SKIPPED in (step.answer, other.answer)
+
+    def _must_agree(self, other: Step) -> bool:
+        """Whether not just any answer will do in the place of the other's."""
+        return self._has_refusals or other.kind != REFUSAL
 
     def text(self) -> str:
         """What was seen."""

@@ -6,16 +6,16 @@ import re
 from pathlib import Path
 from typing import NamedTuple, Optional
 
-from .mistakes import Mistake, marked_lines, mistake_in
-from .script import MAGIC, text_of
+from .mistakes import Mistake, marked_lines, mistake_among_lines, mistake_in
+from .script import MAGIC, MOST_STEPS, text_of
 
 FAULT = re.compile(r"F([1-9][0-9]?) ([A-Za-z]+)(?:\(([0-9]+)\))?")
 FONT_BYTES = 9_728
 MOST_BYTES = 16_777_216
-VERSION = 1
+VERSIONS = (1, 2)
 OPCODES = {
     1: "out", 2: "outw", 3: "in", 4: "inw", 5: "put", 6: "putw", 7: "get", 8: "getw", 9: "int", 10: "advance",
-    11: "frame", 12: "show",
+    11: "frame", 12: "show", 13: "repeat", 14: "end",
 }
 UNKNOWN = "refused, and I can't say why"
 WITHOUT_MARK = "save the text as UTF-8 without it"
@@ -117,6 +117,8 @@ def _bad_line(path: str, number: int) -> Optional[Told]:
     mistake = mistake_in(line)
     shown = list(marked_lines(line, mistake or Mistake(0, 0, "")))
     reason, lines_shown = (UNKNOWN, shown[:1]) if mistake is None else (mistake.reason, shown)
+    if mistake is None:
+        reason = mistake_among_lines(data, number) or reason
     return place, "\n  ".join([reason, *lines_shown])
 
 
@@ -143,7 +145,10 @@ def _fault_of_script(name: str, place: Optional[int], path: str) -> Optional[Tol
         begins = " ".join(f"{byte:02X}" for byte in data[:4]) or "nothing"
         return path, f"a script of bytes begins with 56 47 41 53, VGAS, and not with {begins}: {looks}"
     if name == "BadVersion":
-        return path, f"the version, byte 4, is {data[4]:02X}, and {VERSION:02X} is the one that there is"
+        return path, f"the version, byte 4, is {data[4]:02X}, and there are {' and '.join(f'{version:02X}' for version in VERSIONS)}"
+    if name == "TooMany":
+        at = "" if place is None else f" at {place}"
+        return path, f"with the block or step{at} the script means more than {MOST_STEPS:,} steps"
     if name in ("BadStep", "Truncated") and place is not None:
         return path, _bad_step(data, place) if name == "BadStep" else _truncated(data, place)
     return None
@@ -164,7 +169,10 @@ def _bad_step(data: bytes, place: int) -> str:
     if place >= len(data):
         return UNKNOWN
     opcode = data[place]
-    if opcode not in OPCODES:
+    if opcode in (13, 14) and data[4:5] == b"\2":
+        wrong = "counts 0 or stands in another block" if opcode == 13 else "stands outside a block"
+        return f"the {OPCODES[opcode]} of a block at offset {place} {wrong}"
+    if opcode not in OPCODES or opcode in (13, 14):
         behind = "the bytes before it may be at fault"
         return f"at offset {place} stands {opcode:02X}, which is no opcode: 01 to 0C are; {behind}"
     if opcode == 12 and data[place + 1:place + 2] and data[place + 1] > 6:

@@ -51,6 +51,13 @@ SHAPES: dict[str, tuple[Number, ...]] = {
     "advance": (DecimalNumber("DOTS", 4_294_967_295),),
     "frame": (),
 }
+# The lines of version 2: what it begins with, and the ends of a block.
+VERSION_TWO, REPEAT, END = "version 2", "repeat", "end"
+BLOCK_LINES: dict[str, tuple[Number, ...]] = {
+    "version": (DecimalNumber("2", 2, 2),),
+    REPEAT: (DecimalNumber("N", 65_535, 1),),
+    END: (),
+}
 # What `show` shows.
 SHOWN: dict[str, tuple[Number, ...]] = {
     "regs": (),

@@ -81,7 +81,7 @@ def _ppm(data: bytes, name: str) -> Image:
         raise Trouble("the header of the PPM is damaged", name)
     width, height, most = (int(number) for number in found.groups())
     if most not in (63, 255):
-        raise Trouble(f"the components go to {most}; 63 and 255 can be compared", name)
+        raise Trouble(f"the components go to {most}; 63 and 255 can be read", name)
     dots = data[found.end():found.end() + 3 * width * height]
     if not width or not height or len(dots) < 3 * width * height or max(dots) > most:
         raise Trouble(f"the PPM of {width}x{height} dots is damaged", name)

@@ -81,7 +81,8 @@ class Script:
         self.path = Path(path)
         self.shown = shown
         self.is_bytes = is_bytes(data)
-        self.understood = program.understood(self.path, self.is_bytes)
+        printed = "\n".join(program.understood(self.path, self.is_bytes))
+        self.understood = [line.words for line in steps_of(printed.encode("ascii", "replace"))]
         self.lines: Sequence[Line] = () if self.is_bytes else steps_of(data)
         if self.lines and len(self.lines) != len(self.understood):
             # Without a line for each step there is no telling which is which; the words are then those of the text.

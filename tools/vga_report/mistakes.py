@@ -10,7 +10,10 @@ import difflib
 import re
 from typing import Iterator, NamedTuple, Optional, Sequence
 
-from .grammar import BLOCK, REGISTERS, SHAPES, SHOWN, DecimalNumber, Digits, Number
+from .grammar import (
+    BLOCK, BLOCK_LINES, END, REGISTERS, REPEAT, SHAPES, SHOWN, VERSION_TWO, DecimalNumber, Digits, Number,
+)
+from .script import MOST_STEPS, Line, has_blocks, lines_of
 
 WORD = re.compile(r"[^ \t\r]+")
 HEX = re.compile(r"[0-9A-Fa-f]+")
@@ -55,6 +58,33 @@ def mistake_in(line: str) -> Optional[Mistake]:
     return odd or _in_step(words, len(step.rstrip(" \t\r")))
 
 
+def mistake_among_lines(data: bytes, number: int) -> Optional[str]:
+    """Why a good line is bad where it stands in a text, as the end of a block that none has begun."""
+    lines = lines_of(data)
+    line = next((line for line in lines if line.number == number), None)
+    if line is None:
+        return None
+    if line.name == "version":
+        return f"{VERSION_TWO} stands once, before every other line" if line is not lines[0] else None
+    if line.name in BLOCK_LINES and not has_blocks(lines):
+        return f"blocks are of version 2: write {VERSION_TWO} before every other line"
+    opened = None
+    for other in lines[:lines.index(line)]:
+        opened = other if other.name == REPEAT else None if other.name == END else opened
+    if line.name == END and opened is None:
+        return "no block is open here"
+    if line.name == REPEAT and opened is not None:
+        return f"a block has no other block, and the one of line {opened.number} is open here"
+    return _end_of_block(lines[lines.index(line):]) if line.name == REPEAT else None
+
+
+def _end_of_block(lines: Sequence[Line]) -> str:
+    """Why the block is bad that begins with the first of these lines."""
+    if any(line.name == END for line in lines):
+        return f"with this block the script means more than {MOST_STEPS:,} steps"
+    return "the block has no end"
+
+
 def _odd_byte(word: Word) -> Optional[Mistake]:
     """A character that stands in no step, as a blank that looks like one."""
     for at, character in enumerate(word.text):
@@ -72,6 +102,10 @@ def _in_step(words: Sequence[Word], end: int) -> Optional[Mistake]:
         return _in_call(words[1:])
     if name == "show":
         return _in_show(words, end)
+    if name == "version" and [word.text for word in words[1:]] != ["2"]:
+        return _wrong(words[-1], f"there is no such version: write {VERSION_TWO}, or nothing for version 1")
+    if name in BLOCK_LINES:
+        return _in_numbers(name, BLOCK_LINES[name], words[1:], end)
     if name not in SHAPES:
         return _unknown_step(words[0])
     return _in_numbers(name, SHAPES[name], words[1:], end)
@@ -81,7 +115,7 @@ def _unknown_step(word: Word) -> Mistake:
     text = word.text.lower()
     if text.startswith(COMMENT_SIGNS) or text in COMMENT_WORDS:
         return _wrong(word, "comments begin with ;")
-    names = [*SHAPES, "int", "show"]
+    names = [*SHAPES, "int", "show", *BLOCK_LINES]
     if text.rstrip(PUNCTUATION) in names:
         return _wrong(word, f"nothing stands behind the name of a step but blanks: write {text.rstrip(PUNCTUATION)}")
     longest = sorted((name for name, numbers in SHAPES.items() if numbers), key=len, reverse=True)
@@ -110,7 +144,7 @@ def _in_numbers(form: str, numbers: Sequence[Number], words: Sequence[Word], end
 def _word_too_many(word: Word, usage: str) -> Mistake:
     if word.text.startswith(COMMENT_SIGNS):
         return _wrong(word, "comments begin with ;")
-    if word.text.lower() in (*SHAPES, "int", "show"):
+    if word.text.lower() in (*SHAPES, "int", "show", *BLOCK_LINES):
         return _wrong(word, "a word too many: one step stands on a line")
     return _wrong(word, f"a word too many: {usage}")
 

@@ -9,7 +9,7 @@ import tempfile
 from dataclasses import dataclass
 from pathlib import Path
 from threading import Event
-from typing import Optional
+from typing import NamedTuple, Optional
 
 from .cases import Case, printable
 from .differences import Comparison, Told
@@ -24,6 +24,7 @@ AGREES, SKIPPED, DIFFERS, FAILED = "agrees", "skipped", "differs", "failed"
 REPORT_NAME = "its report"
 PLACE = re.compile(r"\{(script|fonts|name)\}")
 UNTIL = "{until}"
+NO_ANSWERS = "all that it asks is a picture, a dump, a refusal or a fault of the script"
 # So many of the first lines that a command says are shown, and of the last.
 SHOWN_LINES = 10
 
@@ -47,10 +48,17 @@ class Result:
         return self.difference.text + (f" ({place})" if place else "")
 
 
+class Kind(NamedTuple):
+    """What a command can't do: refuse a step; or, as a machine's, judge a script too."""
+
+    has_refusals: bool = True
+    is_machine: bool = False
+
+
 class Command:
     """A command with places for a case's files."""
 
-    def __init__(self, text: str, limits: Limits, has_refusals: bool, is_ended: Event) -> None:
+    def __init__(self, text: str, limits: Limits, kind: Kind, is_ended: Event) -> None:
         try:
             self._words = shlex.split(text)
         except ValueError as error:
@@ -59,7 +67,7 @@ class Command:
             raise Trouble("the command is empty")
         if not any("{script}" in word or "{name}" in word for word in self._words):
             raise Trouble(f"the command '{text}' has neither {{script}} nor {{name}}")
-        self.has_refusals = has_refusals
+        self.kind = kind
         self.can_stop = UNTIL in self._words
         self._limits = limits
         self._is_ended = is_ended
@@ -85,12 +93,14 @@ def run_case(case: Case, command: Optional[Command], keep: Optional[Path] = None
         return Result(case, rule, SKIPPED, Comparison(), reason="the script is bytes, and --bytes has no command")
     if case.is_bytes and case.until is not None and not command.can_stop:
         return Result(case, rule, SKIPPED, Comparison(), reason=f"the command of --bytes has no {UNTIL}")
+    if command.kind.is_machine and not case.has_answers_of_machine():
+        return Result(case, rule, SKIPPED, Comparison(), reason=NO_ANSWERS)
     with tempfile.TemporaryDirectory(prefix="vga-report-") as name:
         folder = Path(name)
         script, report, messages = folder / f"script{case.suffix}", folder / "report", folder / "messages"
-        script.write_bytes(case.script() if command.can_stop else case.stopped_script())
+        script.write_bytes(_script_for(case, command))
         outcome = command.run(case, script, report, messages)
-        comparison = Comparison(command.has_refusals)
+        comparison = Comparison(*command.kind)
         if outcome.status is None:
             reason = outcome.reason + said_text(messages)
             result = Result(case, rule, FAILED, Comparison(), reason=reason)
@@ -99,6 +109,13 @@ def run_case(case: Case, command: Optional[Command], keep: Optional[Path] = None
         if keep is not None and result.answer in (DIFFERS, FAILED):
             keep_case(keep, case, script, report, messages)
     return result
+
+
+def _script_for(case: Case, command: Command) -> bytes:
+    """The script that a command gets."""
+    if command.kind.is_machine:
+        return case.machine_script()
+    return case.script() if command.can_stop else case.stopped_script()
 
 
 def _judged(case: Case, rule: str, comparison: Comparison, status: int, report: Path, messages: Path) -> Result:
@@ -122,14 +139,19 @@ def _compared(case: Case, rule: str, comparison: Comparison, report: io.Buffered
     with open(case.expected, "rb") as expected:
         steps = Report(report, REPORT_NAME).steps()
         others = Expected(expected, str(case.expected)).steps()
+        differences = comparison.differences(steps, others)
+        told = None
         try:
-            difference = next(comparison.differences(steps, others), None)
+            for difference in differences:
+                # The first is told, and the others are counted.
+                told = told or difference.told()
         except Trouble as trouble:
             if trouble.name != REPORT_NAME:
                 raise
-            return Result(case, rule, FAILED, comparison, reason=str(trouble))
-    if difference is not None:
-        return Result(case, rule, DIFFERS, comparison, difference=difference.told())
+            if told is None:
+                return Result(case, rule, FAILED, comparison, reason=str(trouble))
+    if told is not None:
+        return Result(case, rule, DIFFERS, comparison, difference=told)
     if comparison.skipped:
         reason = f"{comparison.skipped} of {comparison.steps} steps are skipped, the others agree"
         return Result(case, rule, SKIPPED, comparison, reason=reason)

@@ -85,7 +85,9 @@ def run(words: argparse.Namespace, progress: Progress) -> int:
                 write(heading(script.width) + "\n")
             tally.count(row)
             if words.bless and row.line is not None and _is_blessed(row):
-                blessed[row.line] = "*" if row.expected == "*" else answer_of(row.step)
+                # A step of a block may answer otherwise each time.
+                answer = "*" if row.expected == "*" else answer_of(row.step)
+                blessed[row.line] = answer if blessed.get(row.line, answer) == answer else "*"
             if not words.bless and choice.has(row):
                 if words.html:
                     page.add_row(row)

@@ -3,8 +3,12 @@
 from __future__ import annotations
 
 import re
-from typing import NamedTuple, Optional
+from typing import NamedTuple, Optional, Sequence
 
+from .grammar import END, REPEAT, VERSION_TWO
+
+# A script means at most so many steps.
+MOST_STEPS = 16_777_216
 MAGIC = b"VGAS"
 # What a comment begins with that tells the answer which is expected.
 MARK = "="
@@ -37,15 +41,42 @@ def expected_in(comment: str) -> Optional[str]:
     return " ".join(text[len(MARK):].partition(";")[0].split())
 
 
-def steps_of(data: bytes) -> list[Line]:
-    """The steps of a text, in their order: each line that has a word before its comment."""
-    steps = []
+def lines_of(data: bytes) -> list[Line]:
+    """The lines of a text that have a word before their comment."""
+    lines = []
     for number, line in enumerate(data.split(b"\n"), 1):
         step, _, comment = text_of(line).partition(";")
         words = WORDS.findall(step)
         if words:
-            steps.append(Line(number, " ".join(words), expected_in(comment)))
-    return steps
+            lines.append(Line(number, " ".join(words), expected_in(comment)))
+    return lines
+
+
+def has_blocks(lines: Sequence[Line]) -> bool:
+    """Whether a text with these lines is one of version 2, which may have blocks."""
+    return bool(lines) and lines[0].words.lower() == VERSION_TWO
+
+
+def steps_of(data: bytes) -> list[Line]:
+    """The steps that a text means, in their order: those of a block so many times as it counts."""
+    lines = lines_of(data)
+    return _unrolled(lines[1:]) if has_blocks(lines) else lines
+
+
+def _unrolled(lines: Sequence[Line]) -> list[Line]:
+    """The steps that lines of version 2 mean, as far as they are good ones."""
+    steps: list[Line] = []
+    block, count = steps, 1
+    for line in lines:
+        if line.name == REPEAT:
+            number = line.words.partition(" ")[2]
+            block, count = [], int(number) if number.isdigit() else 1
+        elif line.name == END and block is not steps:
+            steps.extend(block * min(count, (MOST_STEPS - len(steps)) // max(1, len(block))))
+            block = steps
+        else:
+            block.append(line)
+    return steps if block is steps else steps + block
 
 
 def is_bytes(data: bytes) -> bool:

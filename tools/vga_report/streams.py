@@ -44,15 +44,15 @@ def refuse_input(path: str) -> None:
 
 
 @contextmanager
-def reading(path: str) -> Iterator[io.BufferedReader]:
-    """A file that is read, as bytes. Standard input is read to its end, so that its writer doesn't fail."""
+def reading(path: str, is_drained: bool = True) -> Iterator[io.BufferedReader]:
+    """A file that is read, as bytes. Standard input is drained, so that its writer doesn't fail, unless it may be endless."""
     if path == STANDARD:
         if sys.stdin is None:
             raise Trouble("it is closed", "standard input")
         stream = cast(io.BufferedReader, sys.stdin.buffer)
         _were_read[sys.stdin.fileno()] = "standard input"
         yield stream
-        while not sys.stdin.isatty() and stream.read(DRAINED):
+        while is_drained and not sys.stdin.isatty() and stream.read(DRAINED):
             pass
     elif not path:
         raise Trouble("the name of a file is empty")

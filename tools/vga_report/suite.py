@@ -15,7 +15,7 @@ from .picture import Picture
 from .png import Shape, write_png
 from .processes import MEBIBYTE, Limits
 from .progress import Progress
-from .running import AGREES, DIFFERS, FAILED, Command, Result, run_case
+from .running import AGREES, DIFFERS, FAILED, Command, Kind, Result, run_case
 from .streams import STANDARD, write_file, writing
 from .table import counts_of, json_text, table_lines
 from .trouble import Trouble
@@ -69,7 +69,7 @@ def _results(words: argparse.Namespace, cases: list[Case], progress: Progress) -
     is_ended = Event()
     limits = Limits(words.timeout, words.output * MEBIBYTE)
     commands = [
-        None if given is None else Command(given, limits, words.refusals, is_ended)
+        None if given is None else Command(given, limits, Kind(words.refusals, words.machine), is_ended)
         for given in (words.command, words.bytes)
     ]
     keep = None if words.keep is None else Path(words.keep)
@@ -111,14 +111,23 @@ def scripts(words: argparse.Namespace, progress: Progress) -> int:
     fonts: dict[Path, str] = {}
     lines = []
     for case in cases:
+        if words.machine and not case.has_answers_of_machine():
+            continue
         path = folder / (case.name + case.suffix)
         path.parent.mkdir(parents=True, exist_ok=True)
-        write_file(str(path), case.script() if case.is_bytes else case.stopped_script())
+        write_file(str(path), _script_of(case, words.machine))
         write_name(path)
         lines.append(f"{case.name}{case.suffix} {_copied_font(case.fonts, folder, fonts)}\n")
     write_file(str(folder / LIST), "".join(lines).encode("utf-8", "surrogateescape"))
     write_name(folder / LIST)
     return AGREED
+
+
+def _script_of(case: Case, is_for_machine: bool) -> bytes:
+    """The script of a case, which nothing but its end stops."""
+    if is_for_machine:
+        return case.machine_script()
+    return case.script() if case.is_bytes else case.stopped_script()
 
 
 def _copied_font(font: Optional[Path], folder: Path, fonts: dict[Path, str]) -> str:

@@ -68,6 +68,8 @@ def _case_of(result: Result) -> dict[str, object]:
         "answer": result.answer,
         "steps": result.comparison.steps,
         "skipped": result.comparison.skipped,
+        "answers": result.comparison.answers,
+        "differing": result.comparison.differing,
     }
     if result.difference is not None:
         number, answered, expected, _ = result.difference

@@ -59,11 +59,19 @@ def _add_cases(parser: argparse.ArgumentParser) -> None:
     )
 
 
+def _add_machine(parser: argparse.ArgumentParser) -> None:
+    parser.add_argument(
+        "--machine", action="store_true",
+        help="for a machine, which refuses nothing: cases that it can answer, each up to a step that is to be refused",
+    )
+
+
 def _add_suite(parser: argparse.ArgumentParser) -> None:
     parser.add_argument("folder", nargs="?", metavar="FOLDER", help="where expected pictures go, behind `pictures`")
     parser.add_argument("--keep", metavar="FOLDER", help="keeps reports and pictures of cases that don't agree")
     parser.add_argument("--bytes", metavar="COMMAND", help="runs scripts of bytes; without it they are left out")
     _add_cases(parser)
+    _add_machine(parser)
     parser.add_argument(
         "--no-refusals", dest="refusals", action="store_false", help="steps that are to be refused count as skipped"
     )
@@ -137,5 +145,7 @@ def parser() -> argparse.ArgumentParser:
     _add_shape(adding)
     add(check, "report", "expected")
     _add_suite(add(suite, "command"))
-    _add_cases(add(scripts, "folder"))
+    adding = add(scripts, "folder")
+    _add_cases(adding)
+    _add_machine(adding)
     return made
