@@ -7,6 +7,8 @@ import gzip
 import hashlib
 import io
 import os
+import resource
+import signal
 import subprocess
 import sys
 import unittest
@@ -21,7 +23,7 @@ from vga_trace.converting import Listing, Wanted
 from vga_trace.cycle import MEMORY, PORT, VBE, Cycle
 from vga_trace.kinds import count
 from vga_trace.passing import Flips, Pauses, with_frames_every
-from vga_trace.step import ADVANCE, FRAME, GET, IN, NAMES, OUT, OUTW, PUT, PUTW, Step, steps_of, without_polls
+from vga_trace.step import ADVANCE, FRAME, IN, NAMES, OUT, OUTW, PUT, Step, steps_of, without_polls
 from vga_trace.trace import Trace
 
 from .making import ppm, report
@@ -366,14 +368,16 @@ class Converting(Folder):
         self.assertEqual(run("kinds", none), (2, b"", f"vga-trace: {none}: No such file or directory\n"))
 
     def test_too_long_is_told_with_a_number_of_cycles_that_fit(self) -> None:
-        path, script = self.trace(BEGIN + 50 * b"- w p 3C4 1 1\n"), str(self.folder / "script")
-        with mock.patch.object(converting, "MOST_BYTES", 200), contextlib.redirect_stderr(io.StringIO()) as said:
+        steps = b"".join(b"- w p 3C4 %X 1\n" % at for at in range(50))
+        path, script = self.trace(BEGIN + steps), str(self.folder / "script")
+        with mock.patch.multiple(converting, MOST_BYTES=200, FOR_THE_END=64), contextlib.redirect_stderr(io.StringIO()) as said:
             self.assertEqual(main(["convert", path, script]), 2)
-            told = "the script has more than 200 bytes at cycle 33; `--to 31` ends before it"
-            self.assertEqual(said.getvalue(), f"vga-trace: {path}:33: {told}\n")
+            most = "more than 200 bytes, or means more than 16,777,216 steps"
+            told = f"{most}; `--to 32` ends before that, and `--from 33` goes on behind it"
+            self.assertEqual(said.getvalue(), f"vga-trace: {path}: the script has {told}\n")
             self.assertFalse(os.path.exists(script))
             with contextlib.redirect_stdout(io.StringIO()):
-                self.assertEqual(main(["convert", path, script, "--to", "31"]), 0)
+                self.assertEqual(main(["convert", path, script, "--to", "32"]), 0)
 
     def test_words_that_mean_nothing(self) -> None:
         for words in ((), ("convert", "a"), ("convert", "a", "b", "--frames", "0"), ("kinds", "a", "--to", "0")):
@@ -387,6 +391,89 @@ class Converting(Folder):
         self.assertIn(b"\n7 ok\n8 1F41\n9 picture 37\n", ran.report)
 
 
+class Endings(Folder):
+    """Work that is ended from outside, traces without an end, and disks without room."""
+
+    def begun(self, *words: str | Path, **options: object) -> subprocess.Popen[bytes]:
+        """The command, to which a trace is given bit by bit."""
+        pipe = subprocess.PIPE
+        command: subprocess.Popen[bytes] = subprocess.Popen(
+            [sys.executable, PROGRAM, *words], stdin=pipe, stdout=pipe, stderr=pipe, **options  # type: ignore[call-overload]
+        )
+        self.addCleanup(command.communicate)
+        self.addCleanup(command.kill)
+        return command
+
+    def feed(self, command: subprocess.Popen[bytes], data: bytes) -> int:
+        """Gives the command these bytes again and again until it has ended; its exit status."""
+        assert command.stdin is not None
+        with contextlib.suppress(BrokenPipeError):
+            while True:
+                command.stdin.write(data)
+        return command.wait(60)
+
+    def test_a_trace_without_an_end(self) -> None:
+        script = self.folder / "script"
+        command = self.begun("convert", "-", script, "--to", "3")
+        self.assertEqual(self.feed(command, BEGIN), 0)
+        self.assertEqual(script.read_bytes(), b"VGAS\x01" + 3 * b"\x01\xc2\x03\x67" + b"\x0b")
+
+    def test_a_line_without_an_end(self) -> None:
+        command = self.begun("kinds", "-")
+        self.assertEqual(self.feed(command, BEGIN + b"0 w p 3C2" + bytes(1 << 17)), 2)
+        assert command.stderr is not None
+        self.assertIn(b"standard input:2: it is no cycle", command.stderr.read())
+
+    def test_a_compressed_trace_that_is_cut_off(self) -> None:
+        path = self.folder / "trace"
+        for cut in (1, 5, 12, 20):
+            path.write_bytes(gzip.compress(BEGIN)[:-cut])
+            status, out, said = run("kinds", path)
+            self.assertEqual((status, out), (2, b""))
+            self.assertTrue(said.startswith(f"vga-trace: {path}"), said)
+            self.assertEqual(said.count("\n"), 1)
+
+    def test_signals_lose_nothing(self) -> None:
+        script = self.folder / "script"
+        script.write_bytes(b"old")
+        for number, status in ((signal.SIGTERM, 143), (signal.SIGINT, 130)):
+            with self.subTest(number):
+                # What runs in the background ignores what the user types.
+                command = self.begun("convert", "-", script, preexec_fn=lambda: signal.signal(signal.SIGINT, signal.SIG_DFL))
+                assert command.stdin is not None
+                command.stdin.write(BEGIN * 5000)
+                command.stdin.flush()
+                while len(list(self.folder.iterdir())) < 2:
+                    self.assertIsNone(command.poll())
+                command.send_signal(number)
+                self.assertEqual(command.wait(60), status)
+                self.assertEqual([file.name for file in self.folder.iterdir()], ["script"])
+                self.assertEqual(script.read_bytes(), b"old")
+
+    def test_a_reader_that_has_gone(self) -> None:
+        for words in (("kinds", "-"), ("convert", "-", "-", "--text")):
+            command = self.begun(*words)
+            assert command.stdin is not None and command.stdout is not None and command.stderr is not None
+            command.stdout.close()
+            command.stdin.write(BEGIN)
+            command.stdin.close()
+            self.assertEqual((command.wait(60), [line for line in command.stderr if b"Traceback" in line]), (141, []))
+            command.stdin = command.stdout = None
+
+    def test_a_disk_that_is_full(self) -> None:
+        path, script = self.folder / "trace", self.folder / "script"
+        path.write_bytes(BEGIN + b"".join(b"- w m A%04X 1 1\n" % at for at in range(0, 30000, 3)))
+        script.write_bytes(b"old")
+        limits = (4096, resource.RLIM_INFINITY)
+        command = self.begun("convert", path, script, preexec_fn=lambda: resource.setrlimit(resource.RLIMIT_FSIZE, limits))
+        _, said = command.communicate(timeout=60)
+        self.assertEqual((command.returncode, said.decode()), (2, f"vga-trace: {script}: File too large\n"))
+        self.assertEqual((script.read_bytes(), len(list(self.folder.iterdir()))), (b"old", 2))
+        with open("/dev/full", "wb") as full:
+            done = subprocess.run([sys.executable, PROGRAM, "kinds", path], stdout=full, stderr=subprocess.PIPE)
+        self.assertEqual((done.returncode, done.stderr), (2, b"vga-trace: standard output: No space left on device\n"))
+
+
 class Kinds(unittest.TestCase):
     def test_cycles_are_counted_as_they_are(self) -> None:
         lines = qemu("write 3c4 2 1") + 2 * qemu("read 3c4 2 2") + qemu("write 1ce 4 2", "vbe")
@@ -396,6 +483,12 @@ class Kinds(unittest.TestCase):
             "write port 3C4 size 1": 1, "read port 3C4 size 2": 2, "write vbe 1CE size 2": 1, "write memory A0000 size 1": 2,
             "write memory B0000 size 1": 1, "write memory B8000 size 1": 1, "write memory elsewhere size 1": 1,
         })
+
+
+    def test_the_cycles_between_two(self) -> None:
+        data = BEGIN + b"- w p 3C4 1 1\n- w p 3C5 1 1\n- w p 3CE 1 1\n"
+        counted = b"           1 write port 3C4 size 1\n           1 write port 3C5 size 1\n"
+        self.assertEqual(run("kinds", "-", "--from", "2", "--to", "3", given=data)[1], counted)
 
 
 class Checking(Folder):
@@ -504,6 +597,27 @@ class Example(Folder):
         status, out, said = run("check", self.PATH, path)
         self.assertEqual((status, out.split(b"\n")[0], said), (0, b"586 steps, 0 refused, 187 reads answered, 0 differ", ""))
 
+    def test_its_report_is_the_same_without_blocks(self) -> None:
+        texts = {option: run("convert", self.PATH, "-", "--text", *option.split())[1] for option in ("", "--no-repeat")}
+        self.assertTrue(texts[""].startswith(b"version 2\n"))
+        self.assertNotIn(b"repeat", texts["--no-repeat"])
+        runs = run_texts(texts)
+        self.assertEqual(runs[""], runs["--no-repeat"])
+
+    def test_its_picture_and_its_reads_from_the_middle(self) -> None:
+        cuts = ("2", "300", "586")
+        runs = run_texts({cut: run("convert", self.PATH, "-", "--text", "--from", cut)[1] for cut in cuts})
+        for cut, ran in runs.items():
+            with self.subTest(cut):
+                picture = ran.report[ran.report.index(b"P6"):-1]
+                self.assertEqual(hashlib.md5(picture).hexdigest(), "c568c179decaec703a3333f9afda3326")
+                path = self.folder / "report"
+                path.write_bytes(ran.report)
+                status, out, said = run("check", self.PATH, path, "--from", cut)
+                self.assertEqual((status, said), (0, ""))
+                self.assertIn(b" steps, 0 refused, ", out)
+                self.assertEqual(run("check", self.PATH, path)[0], 2)
+
     def test_what_it_becomes(self) -> None:
-        told = b"586 cycles, 586 steps, 2,834 bytes: 186 in, 184 putw, 121 outw, 93 out, 1 getw, 1 frame\n"
+        told = b"586 cycles, 586 steps, 2,810 bytes, 2 blocks: 186 in, 184 putw, 121 outw, 93 out, 1 getw, 1 frame\n"
         self.assertEqual(run("convert", self.PATH, self.folder / "script"), (0, told, ""))

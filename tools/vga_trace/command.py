@@ -5,7 +5,8 @@ from __future__ import annotations
 import argparse
 import os
 import sys
-from typing import Optional, Sequence, TextIO
+from itertools import islice
+from typing import ContextManager, Optional, Sequence, TextIO
 
 from vga_report.output import AGREED, DIFFERED, TROUBLE, name_of, refuse_twice
 from vga_report.report import Report
@@ -14,9 +15,9 @@ from vga_report.trouble import Trouble
 from vga_report.words import number_to, seconds
 
 from .checking import check
-from .converting import END, FLIP, Frames, Listing, Wanted, convert
+from .converting import END, FLIP, Form, Frames, Listing, Wanted, convert
 from .kinds import count
-from .trace import opened
+from .trace import Trace, opened
 
 KEEP, FIRST = "keep", "first"
 # What a shell says of programs that a closed pipe or the user has ended.
@@ -33,6 +34,9 @@ def _add_trace(parser: argparse.ArgumentParser) -> None:
     parser.add_argument("trace", metavar="TRACE", help="qemu's log or lines of the plain form, by gzip too; - is standard input")
     parser.add_argument(
         "--to", type=number_to(MOST_CYCLES), metavar="N", help="the first N cycles alone (default: all)"
+    )
+    parser.add_argument(
+        "--from", dest="from_", type=number_to(MOST_CYCLES), default=1, metavar="N", help="from the Nth cycle on (default: 1)"
     )
 
 
@@ -57,6 +61,10 @@ def _parser() -> argparse.ArgumentParser:
     _add_trace(command)
     command.add_argument("script", metavar="SCRIPT", help="the script; - is standard output")
     command.add_argument("--text", action="store_true", help="a script as text, with the trace's reads as expected answers")
+    command.add_argument(
+        "--no-repeat", dest="repeat", action="store_false",
+        help="each step alone, in version 1 of scripts (default: rows of equal steps are blocks of version 2)",
+    )
     _add_listing(command)
     command.set_defaults(job=_convert)
     command = commands.add_parser("check", help="holds a script's report against the trace; with the options of convert")
@@ -74,7 +82,12 @@ def _parser() -> argparse.ArgumentParser:
 
 
 def _wanted(words: argparse.Namespace) -> Wanted:
-    return Wanted(words.polls == KEEP, words.time, words.frames, words.to)
+    return Wanted(words.polls == KEEP, words.time, words.frames, words.to, words.from_)
+
+
+def _opened(words: argparse.Namespace) -> ContextManager[Trace]:
+    """The trace, of which the first cycles may be wanted alone."""
+    return opened(words.trace, is_whole=words.to is None)
 
 
 def _say(text: str, stream: Optional[TextIO] = None) -> None:
@@ -88,11 +101,11 @@ def _warn(lines: Sequence[str], name: str) -> None:
 
 def _convert(words: argparse.Namespace) -> int:
     """Makes a script, and says what it has and what the trace lacks."""
-    with opened(words.trace) as trace, writing(words.script) as stream:
+    with _opened(words) as trace, writing(words.script) as stream:
         listing = Listing(trace, _wanted(words))
-        written = convert(listing, trace, stream, words.text)
+        written = convert(listing, trace, stream, Form(words.text, words.repeat))
     _warn(listing.warnings(), name_of(words.trace))
-    _say(written.line(listing.count, words.text), sys.stderr if words.script == STANDARD else sys.stdout)
+    _say(written.line(listing), sys.stderr if words.script == STANDARD else sys.stdout)
     return AGREED
 
 
@@ -100,7 +113,7 @@ def _check(words: argparse.Namespace) -> int:
     """Holds a report against a trace."""
     refuse_twice(words.trace, words.report)
     name = name_of(words.report)
-    with opened(words.trace) as trace, reading(words.report) as stream:
+    with _opened(words) as trace, reading(words.report) as stream:
         listing = Listing(trace, _wanted(words))
         checked = check(listing.steps(), Report(stream, name).steps(), name)
     _warn(listing.warnings(), name_of(words.trace))
@@ -110,9 +123,9 @@ def _check(words: argparse.Namespace) -> int:
 
 def _kinds(words: argparse.Namespace) -> int:
     """Counts cycles."""
-    with opened(words.trace) as trace:
+    with _opened(words) as trace:
         listing = Listing(trace, Wanted(most=words.to))
-        found = count(listing.cycles())
+        found = count(islice(listing.cycles(), words.from_ - 1, None))
     _warn(listing.warnings(), name_of(words.trace))
     print("\n".join(f"{number:12,} {kind}" for kind, number in found.most_common()))
     return AGREED

@@ -4,29 +4,47 @@ from __future__ import annotations
 
 from collections import Counter
 from dataclasses import dataclass, field
-from typing import BinaryIO, Iterator, Optional, Union
+from typing import BinaryIO, Iterable, Iterator, Optional, Union
+
+from vga_report.trouble import Trouble
 
 from .cycle import Cycle
+from .folding import Coded, Row, alone, folded
 from .passing import Flips, Pauses, with_frames_every
-from .step import FRAME, HEADER, MOST_BYTES, NAMES, Step, steps_of, without_polls
+from .rebuilding import rebuilt
+from .state import State
+from .step import FRAME, HEADER, HEADER_2, MOST_BYTES, MOST_STEPS, NAMES, TEXT_HEADER_2, Step, steps_of, without_polls
 from .trace import Trace
 from .watch import Watch
 
 # When a script has a frame: at its end alone, before each page flip, or every so many seconds.
 END, FLIP = "end", "flip"
 Frames = Union[str, float]
-# Bytes that are kept free for the steps at the end, as text.
-FOR_THE_END = 64
+# Bytes that are kept free, as text: for the steps at the end, and for a row that is no block once it is cut there.
+FOR_THE_END = 1024
 
 
 @dataclass(frozen=True)
 class Wanted:
-    """How cycles become steps: whether all polls stay, whether time passes, when a frame stands, and how many cycles count."""
+    """How cycles become steps: whether all polls stay, whether time passes, when a frame stands.
+
+    `most` is how many cycles count. The script begins with the cycle of the number `first`, and with steps that rebuild what
+    those before it have done.
+    """
 
     keeps_polls: bool = True
     has_time: bool = False
     frames: Frames = END
     most: Optional[int] = None
+    first: int = 1
+
+
+@dataclass(frozen=True)
+class Form:
+    """What is written: a text or bytes, and whether rows of equal steps become blocks, which version 2 has."""
+
+    is_text: bool = False
+    has_blocks: bool = True
 
 
 class Listing:
@@ -37,6 +55,7 @@ class Listing:
         self._wanted = wanted
         self._watch = Watch(trace, wanted.most)
         self._pauses = Pauses()
+        self.rebuilding = 0
 
     @property
     def count(self) -> int:
@@ -59,7 +78,7 @@ class Listing:
             steps = with_frames_every(wanted.frames, self._timed(steps))
         if wanted.has_time:
             steps = self._pauses.steps(self._timed(steps))
-        yield from steps
+        yield from steps if wanted.first == 1 else self._from_the_middle(steps)
         yield from [Step(FRAME)] * (2 if wanted.has_time else 1)
 
     def warnings(self) -> list[str]:
@@ -72,6 +91,21 @@ class Listing:
             told.append(f"{self._watch.untimed:,} cycles have no time, and come without a pause")
         return told
 
+    def _from_the_middle(self, steps: Iterator[Step]) -> Iterator[Step]:
+        """The steps from the first cycle that is wanted on, behind those that rebuild what was done before."""
+        state = State()
+        for step in steps:
+            if step.cycle >= self._wanted.first:
+                break
+            state.take(step)
+        else:
+            raise Trouble(f"it has {self.count:,} cycles, and none from {self._wanted.first:,} on becomes a step", self._trace.name)
+        for rebuilding in rebuilt(state):
+            self.rebuilding += 1
+            yield rebuilding
+        yield step
+        yield from steps
+
     def _timed(self, steps: Iterator[Step]) -> Iterator[Step]:
         """The steps, of which the first must have a time."""
         for number, step in enumerate(steps):
@@ -82,36 +116,67 @@ class Listing:
 
 @dataclass
 class Written:
-    """How many steps of each kind were written, and their bytes."""
+    """How many steps of each kind and how many blocks a script has, and its bytes and those of its text."""
 
+    form: Form
     kinds: Counter[str] = field(default_factory=Counter)
-    script_bytes: int = 0
+    steps: int = 0
+    blocks: int = 0
+    script_bytes: int = len(HEADER)
     text_bytes: int = 0
+    last_cycle: int = 0
 
-    def line(self, cycles: int, is_text: bool) -> str:
+    def coded(self, steps: Iterable[Step]) -> Iterator[Coded]:
+        """Steps with their bytes and lines, counted by kind."""
+        for step in steps:
+            self.kinds[NAMES[step.opcode]] += 1
+            yield Coded(step, step.data(), step.text() if self.form.is_text else b"")
+
+    def takes(self, row: Row) -> bool:
+        """Counts a row, and tells whether a script may still have it."""
+        self.steps += row.steps
+        self.blocks += row.is_block
+        self.script_bytes += len(row.data)
+        self.text_bytes += len(row.text)
+        fits = max(self.script_bytes, self.text_bytes) <= MOST_BYTES - FOR_THE_END and self.steps <= MOST_STEPS - FOR_THE_END
+        self.last_cycle = row.cycle or self.last_cycle if fits else self.last_cycle
+        return fits
+
+    def header(self) -> bytes:
+        """What stands before the rows: version 2 alone has blocks."""
+        if self.form.is_text:
+            return TEXT_HEADER_2 if self.blocks else b""
+        return HEADER_2 if self.blocks else HEADER
+
+    def line(self, listing: Listing) -> str:
         """The figures."""
-        length = self.text_bytes if is_text else self.script_bytes
+        length = self.text_bytes + len(self.header()) if self.form.is_text else self.script_bytes
         kinds = ", ".join(f"{count:,} {kind}" for kind, count in self.kinds.most_common())
-        return f"{cycles:,} cycles, {sum(self.kinds.values()):,} steps, {length:,} bytes: {kinds}"
+        parts = [f"{listing.count:,} cycles", f"{self.steps:,} steps", f"{length:,} bytes"]
+        if self.blocks:
+            parts.append(f"{self.blocks:,} blocks")
+        if listing.rebuilding:
+            parts.append(f"{listing.rebuilding:,} steps rebuild the state")
+        return f"{', '.join(parts)}: {kinds}"
 
 
-def convert(listing: Listing, trace: Trace, stream: BinaryIO, is_text: bool) -> Written:
-    """Writes a script; a Trouble where it has more bytes than a script may have."""
-    written = Written(script_bytes=len(HEADER))
-    if not is_text:
-        stream.write(HEADER)
-    for step in listing.steps():
-        data = step.data()
-        text = step.text() if is_text else b""
-        written.kinds[NAMES[step.opcode]] += 1
-        written.script_bytes += len(data)
-        written.text_bytes += len(text)
-        if max(written.script_bytes, written.text_bytes) > MOST_BYTES - FOR_THE_END:
-            raise trace.trouble(_too_long(listing.count))
-        stream.write(text if is_text else data)
+def convert(listing: Listing, trace: Trace, stream: BinaryIO, form: Form) -> Written:
+    """Writes a script; a Trouble where it has more bytes, or means more steps, than a script may."""
+    written = Written(form)
+    body = bytearray()
+    coded = written.coded(listing.steps())
+    for row in folded(coded) if form.has_blocks else alone(coded):
+        if not written.takes(row):
+            raise Trouble(_too_long(written.last_cycle), trace.name)
+        body += row.text if form.is_text else row.data
+    stream.write(written.header())
+    stream.write(body)
     return written
 
 
-def _too_long(count: int) -> str:
-    """What is said of a script that is too long."""
-    return f"the script has more than {MOST_BYTES:,} bytes at cycle {count:,}; `--to {max(count - 2, 1)}` ends before it"
+def _too_long(last: int) -> str:
+    """What is said of a script that is too long behind a cycle."""
+    most = f"more than {MOST_BYTES:,} bytes, or means more than {MOST_STEPS:,} steps"
+    if last == 0:
+        return f"the script has {most}, and no cycle fits"
+    return f"the script has {most}; `--to {last}` ends before that, and `--from {last + 1}` goes on behind it"

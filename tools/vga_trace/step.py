@@ -7,9 +7,10 @@ from typing import Iterable, Iterator, NamedTuple, Optional
 
 from .cycle import PORT, VBE, Cycle
 
-HEADER = b"VGAS\x01"
-# The most bytes that a script may have, and a text too.
-MOST_BYTES = 1 << 24
+# What a script of version 1 begins with, and one of version 2, which may have blocks; as bytes and as text.
+HEADER, HEADER_2, TEXT_HEADER_2 = b"VGAS\x01", b"VGAS\x02", b"version 2\n"
+# The most bytes that a script may have, and a text too; and the most steps that a script may mean.
+MOST_BYTES = MOST_STEPS = 1 << 24
 OUT, OUTW, IN, INW, PUT, PUTW, GET, GETW = range(1, 9)
 ADVANCE, FRAME = 0x0A, 0x0B
 NAMES = {
@@ -29,12 +30,16 @@ FORMS = {
 
 
 class Step(NamedTuple):
-    """A step. `address` has the dots of `advance`; `value` is what was written or, in the trace, read."""
+    """A step. `address` has the dots of `advance`; `value` is what was written or, in the trace, read.
+
+    `cycle` is the number of its last cycle, from 1, and 0 of a step that is no cycle's.
+    """
 
     opcode: int
     address: int = 0
     value: int = 0
     time: Optional[int] = None
+    cycle: int = 0
 
     @property
     def is_port(self) -> bool:
@@ -81,22 +86,23 @@ class Step(NamedTuple):
         return f"{name} {place} {value}".rstrip().encode() + b"\n"
 
 
-def _narrowed(cycle: Cycle) -> Iterator[Step]:
+def _narrowed(number: int, cycle: Cycle) -> Iterator[Step]:
     """The steps of a cycle: one of four or eight bytes becomes words, the lowest first."""
     opcode = (OUT if cycle.space == PORT else PUT) + (0 if cycle.is_write else 2)
     if cycle.size == 1:
-        yield Step(opcode, cycle.address, cycle.value, cycle.time)
+        yield Step(opcode, cycle.address, cycle.value, cycle.time, number)
         return
     for at in range(0, cycle.size, 2):
-        yield Step(opcode + 1, cycle.address + at, cycle.value >> 8 * at & 0xFFFF, cycle.time)
+        yield Step(opcode + 1, cycle.address + at, cycle.value >> 8 * at & 0xFFFF, cycle.time, number)
 
 
 def steps_of(cycles: Iterable[Cycle]) -> Iterator[Step]:
     """The steps of cycles. A byte of memory at an even address and the next one become a word, as software meant them."""
     held: Optional[Step] = None
-    for step in (step for cycle in cycles if cycle.space != VBE for step in _narrowed(cycle)):
+    numbered = ((number, cycle) for number, cycle in enumerate(cycles, 1) if cycle.space != VBE)
+    for step in (step for number, cycle in numbered for step in _narrowed(number, cycle)):
         if held is not None and step.opcode == held.opcode and step.address == held.address + 1:
-            yield Step(held.opcode + 1, held.address, held.value | step.value << 8, held.time)
+            yield Step(held.opcode + 1, held.address, held.value | step.value << 8, held.time, step.cycle)
             held = None
             continue
         if held is not None:

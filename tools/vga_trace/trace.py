@@ -42,7 +42,7 @@ class Trace:
 
     def __init__(self, stream: BinaryIO, name: str) -> None:
         self._stream = stream
-        self._name = name
+        self.name = name
         self._is_plain: Optional[bool] = None
         self._first_other = 0
         self.line = 0
@@ -57,11 +57,11 @@ class Trace:
             if cycle is not None:
                 yield cycle
         if self._is_plain is None:
-            raise Trouble("it has no cycle, neither of qemu's log nor of the plain form", self._name)
+            raise Trouble("it has no cycle, neither of qemu's log nor of the plain form", self.name)
 
     def trouble(self, reason: str) -> Trouble:
         """What ends the work at the line that was read last."""
-        return Trouble(reason, self._name, self.line)
+        return Trouble(reason, self.name, self.line)
 
     def _lines(self) -> Iterator[bytes]:
         try:
@@ -88,7 +88,7 @@ class Trace:
                 self._first_other = self.line
             return None
         if self._first_other:
-            raise Trouble("a line before the first cycle is neither a cycle nor a comment", self._name, self._first_other)
+            raise Trouble("a line before the first cycle is neither a cycle nor a comment", self.name, self._first_other)
         return True
 
     def _qemu(self, line: bytes) -> Optional[Cycle]:
@@ -128,9 +128,9 @@ class Trace:
 
 
 @contextmanager
-def opened(path: str) -> Iterator[Trace]:
-    """The trace of a file or of standard input, compressed by gzip or not."""
-    with reading(path) as stream:
+def opened(path: str, is_whole: bool = True) -> Iterator[Trace]:
+    """The trace of a file or of standard input, compressed by gzip or not. One that isn't read whole may be endless."""
+    with reading(path, is_drained=is_whole) as stream:
         if stream.peek(2)[:2] == GZIP:
             with gzip.open(stream) as unpacked:
                 yield Trace(io.BufferedReader(unpacked), name_of(path))  # type: ignore[arg-type]

@@ -1,0 +1,222 @@
+"""The state that cycles leave: registers, the DAC, memory and the beam, also as the built program has them."""
+
+from __future__ import annotations
+
+import io
+import unittest
+from typing import Iterable, Iterator, Mapping, Optional
+
+from vga_report.report import Report
+from vga_trace.beam import Beam, Shape
+from vga_trace.converting import Listing, Wanted
+from vga_trace.state import State
+from vga_trace.step import ADVANCE, FRAME, GET, GETW, IN, INW, OUT, OUTW, PUT, PUTW, READS, WORDS, Step
+from vga_trace.trace import Trace
+
+from .making import stream
+from .noise import noise
+from .program import run_texts
+
+# Steps that enable memory, in planar order with all planes open and no bits masked.
+PLANAR = [Step(OUT, 0x3C2, 0x03), Step(OUTW, 0x3C4, 0x0604), Step(OUTW, 0x3C4, 0x0F02), Step(OUTW, 0x3CE, 0xFF08)]
+# What a script shows of its whole state.
+REGISTERS = ("show regs", "show latches", "show beam", *(f"show dac {entry:02X}" for entry in range(256)))
+MEMORY = tuple(f"show plane {plane} {offset:04X} 256" for plane in range(4) for offset in range(0, 1 << 16, 256))
+SEEDS = range(4)
+
+
+def state_of(steps: Iterable[Step]) -> State:
+    """The state that steps leave."""
+    state = State()
+    for step in steps:
+        state.take(step)
+    return state
+
+
+def listed(data: bytes, **wanted: object) -> list[Step]:
+    """The steps of a trace."""
+    return list(Listing(Trace(io.BytesIO(data), "trace"), Wanted(**wanted)).steps())  # type: ignore[arg-type]
+
+
+def answers(steps: Iterable[Step]) -> list[Optional[int]]:
+    """What steps read from power-on."""
+    state = State()
+    return [state.take(step) for step in steps]
+
+
+def run_whole(texts: Mapping[str, Iterable[Step]]) -> dict[str, list[tuple[object, ...]]]:
+    """What the program answers to these steps and to dumps of all that there is: lines, and a picture's digest."""
+    dumps = "".join(f"{line}\n" for line in (*REGISTERS, *MEMORY)).encode()
+    ran = run_texts({name: b"".join(step.text() for step in steps) + dumps for name, steps in texts.items()})
+    assert {run.status for run in ran.values()} == {0}
+    return {
+        name: [(step.lines, step.picture and step.picture.sum) for step in Report(stream(run.report), name).steps()]
+        for name, run in ran.items()
+    }
+
+
+class Memory(unittest.TestCase):
+    def planes(self, *steps: Step, at: int = 0) -> str:
+        """The bytes of the four planes at an offset, behind the steps that set planar memory up and these."""
+        return state_of([*PLANAR, *steps]).memory.words[at].to_bytes(4, "little").hex(" ").upper()
+
+    def modes(self, mode: int) -> str:
+        """A byte 81 with latches 0F, 33, 55, FF, set/reset 05, enable 03, rotation by 3 with XOR, and bit mask F0."""
+        loaded = [
+            step for plane, byte in enumerate((0x0F, 0x33, 0x55, 0xFF))
+            for step in (Step(OUTW, 0x3C4, 0x100 << plane | 2), Step(PUT, 0xA0000, byte))
+        ]
+        chosen = [Step(OUTW, 0x3CE, value) for value in (0x0500, 0x0301, 0x1B03, 0xF008, mode << 8 | 5)]
+        return self.planes(*loaded, Step(GET, 0xA0000), Step(OUTW, 0x3C4, 0x0F02), *chosen, Step(PUT, 0xA0001, 0x81), at=1)
+
+    def test_write_modes(self) -> None:
+        self.assertEqual([self.modes(mode) for mode in range(4)], ["FF 33 65 CF", "0F 33 55 FF", "FF 33 55 FF", "3F 33 65 FF"])
+
+    def test_write_mode_3_narrows_the_bit_mask(self) -> None:
+        chosen = [Step(OUTW, 0x3CE, value) for value in (0x0F00, 0x0303, 0x0F08, 0x0305)]
+        # Rotated by 3, 91 is 32, of which the bit mask leaves 02.
+        self.assertEqual(self.planes(*chosen, Step(PUT, 0xA0000, 0x91)), "02 02 02 02")
+
+    def test_functions(self) -> None:
+        for function, byte in ((0x00, "C3"), (0x08, "41"), (0x10, "D7"), (0x18, "96")):
+            steps = [Step(PUT, 0xA0000, 0x55), Step(GET, 0xA0000), Step(OUTW, 0x3CE, function << 8 | 3), Step(PUT, 0xA0000, 0xC3)]
+            self.assertEqual(self.planes(*steps), " ".join([byte] * 4))
+
+    def test_chain_4_and_odd_even(self) -> None:
+        chained = [Step(OUTW, 0x3C4, 0x0E04), Step(PUTW, 0xA0004, 0x2211), Step(PUTW, 0xA0006, 0x4433)]
+        self.assertEqual(self.planes(*chained, at=4), "11 22 33 44")
+        text = [Step(OUTW, 0x3C4, 0x0204), Step(OUTW, 0x3CE, 0x0E06), Step(OUTW, 0x3C4, 0x0302), Step(PUTW, 0xB8002, 0x1F41)]
+        self.assertEqual(self.planes(*text, at=2), "41 1F 00 00")
+
+    def test_reads(self) -> None:
+        state = state_of([*PLANAR, Step(OUTW, 0x3C4, 0x0A02), Step(PUT, 0xA0000, 0x0F)])
+        read = [state.take(Step(GET, 0xA0000))]
+        for value in (0x0104, 0x0805, 0x0202, 0x0F07, 0x0007, 0x0707):
+            state.take(Step(OUTW, 0x3CE, value))
+            read.append(state.take(Step(GET, 0xA0000)))
+        self.assertEqual(read, [0x00, 0x0F, 0xFF, 0xFF, 0x00, 0xFF, 0x0F])
+        self.assertEqual(state.memory.latches, 0x0F000F00)
+
+    def test_odd_and_even_reads(self) -> None:
+        state = state_of([*PLANAR, Step(OUTW, 0x3C4, 0x0402), Step(PUTW, 0xA0000, 0x2211), Step(OUTW, 0x3C4, 0x0802)])
+        for step in (Step(PUTW, 0xA0000, 0x4433), Step(OUTW, 0x3CE, 0x1005), Step(OUTW, 0x3CE, 0x0204)):
+            state.take(step)
+        self.assertEqual(state.take(Step(GETW, 0xA0000)), 0x4411)
+        state.take(Step(OUTW, 0x3CE, 0x0206))
+        self.assertEqual(state.take(Step(GETW, 0xA0000)), 0x3311)
+
+    def test_windows(self) -> None:
+        state = state_of(PLANAR)
+        for window, first, last in ((0, 0xA0000, 0xBFFFF), (1, 0xA0000, 0xAFFFF), (2, 0xB0000, 0xB7FFF), (3, 0xB8000, 0xBFFFF)):
+            state.take(Step(OUTW, 0x3CE, window << 10 | 6))
+            with self.subTest(window):
+                decoded = [state.take(Step(GET, address)) is not None for address in (first - 1, first, last, last + 1)]
+                self.assertEqual(decoded, [False, True, True, False])
+                self.assertIsNone(state.take(Step(GETW, last)))
+        state.take(Step(OUT, 0x3C2, 0x01))
+        self.assertIsNone(state.take(Step(GET, 0xB8000)))
+
+
+class Registers(unittest.TestCase):
+    def read(self, *steps: Step) -> list[Optional[int]]:
+        """What the reads among steps answer."""
+        return [answer for step, answer in zip(steps, answers(steps)) if step.opcode in READS]
+
+    def test_kept_bits_and_refused_values(self) -> None:
+        for port, index, value, kept in (
+            (0x3C4, 1, 0xFF, 0x3D), (0x3CE, 3, 0xFF, 0x1F), (0x3CE, 5, 0x5B, 0x5B), (0x3CE, 5, 0x20, 0), (0x3B4, 0x14, 0x5F, 0x5F),
+            (0x3B4, 0x14, 0x20, 0), (0x3B4, 0x17, 0xE3, 0xE3), (0x3B4, 0x17, 0xA2, 3), (0x3B4, 0x17, 0xA7, 3), (0x3C4, 5, 1, None),
+        ):
+            with self.subTest(port=port, index=index, value=value):
+                steps = [Step(OUTW, port, value << 8 | index), Step(OUT, port, index), Step(IN, port + 1)]
+                self.assertEqual(self.read(*steps), [kept])
+
+    def test_a_refused_word_leaves_its_index(self) -> None:
+        self.assertEqual(self.read(Step(OUT, 0x3CE, 8), Step(OUTW, 0x3CE, 0x2005), Step(INW, 0x3CE)), [8])
+        self.assertEqual(self.read(Step(OUTW, 0x3C8, 0x1102), Step(OUTW, 0x3C9, 0x11), Step(IN, 0x3C8)), [2])
+        self.assertEqual(self.read(Step(OUTW, 0x3C2, 0x67), Step(IN, 0x3CC)), [0])
+
+    def test_protected_registers(self) -> None:
+        written = [Step(OUTW, 0x3B4, value) for value in (0x8011, 0xFF00, 0xFF07)]
+        self.assertEqual(self.read(*written, Step(INW, 0x3B4), Step(OUT, 0x3B4, 0), Step(IN, 0x3B5)), [0x1007, 0])
+
+    def test_where_the_controller_is(self) -> None:
+        steps = [Step(IN, 0x3D4), Step(IN, 0x3B4), Step(OUT, 0x3C2, 1), Step(IN, 0x3D4), Step(IN, 0x3BA)]
+        self.assertEqual(self.read(*steps), [None, 0, 0, None])
+
+    def test_attributes(self) -> None:
+        def out(*values: int) -> list[Step]:
+            return [Step(OUT, 0x3C0, value) for value in values]
+
+        status = Step(IN, 0x3BA)
+        self.assertEqual(self.read(*out(1, 0x2A, 0x21), status, Step(INW, 0x3C0)), [0, 0x2A21])
+        self.assertEqual(self.read(*out(0x21, 0x2A), Step(IN, 0x3C1)), [0])
+        self.assertEqual(self.read(*out(0x31, 0x2A), Step(IN, 0x3C1)), [0x2A])
+        self.assertEqual(self.read(*out(0x15, 0x2A), status, Step(IN, 0x3C1), Step(IN, 0x3C0)), [0, None, 0x15])
+        self.assertEqual(self.read(*out(0x15, 0x2A, 0x2B), status, *out(0x11), Step(IN, 0x3C1)), [0, 0])
+
+    def test_dac(self) -> None:
+        data = Step(IN, 0x3C9)
+        written = [Step(OUT, 0x3C8, 0xFF), *(Step(OUT, 0x3C9, value) for value in (1, 2, 0xC3, 4, 5, 6))]
+        self.assertEqual(self.read(*written, Step(OUT, 0x3C7, 0xFF), *[data] * 6, Step(IN, 0x3C8)), [1, 2, 3, 4, 5, 6, 1])
+        # What waits for blue stays where components are read.
+        mixed = [Step(OUT, 0x3C7, 9), data, data, Step(OUT, 0x3C9, 7), Step(OUT, 0x3C7, 9), data, data, data]
+        self.assertEqual(self.read(*written, *mixed), [0, 0, 4, 5, 7])
+        self.assertEqual(self.read(Step(OUT, 0x3C6, 0x1F), Step(INW, 0x3C5), Step(IN, 0x3C6)), [0x1F00, 0x1F])
+
+
+class Beams(unittest.TestCase):
+    def slow(self, place: list[int], dots: int, shape: Shape) -> None:
+        """Moves a place dot by dot."""
+        for _ in range(dots):
+            place[3] += 1
+            for at, most in ((3, shape.dots), (2, shape.characters), (1, shape.lines)):
+                if place[at] >= most:
+                    place[at] = 0
+                    place[at - 1] += 1
+                else:
+                    break
+
+    def test_as_dot_by_dot(self) -> None:
+        shapes = [Shape(9, 5, 2), Shape(8, 6, 3), Shape(8, 5, 5), Shape(9, 9, 4)]
+        beam, place = Beam(), [0, 0, 0, 0]
+        for number in range(3000):
+            shape, dots = shapes[number * number % 7 % 4], (0, 1, 7, 3, 45, 90, 333, 8)[number * 5 % 8]
+            beam.advance(dots, shape, [0] * 25)
+            self.slow(place, dots, shape)
+            self.assertEqual([beam.frame, beam.line, beam.character, beam.dot], [place[0] % 32, *place[1:]])
+
+    def test_what_a_frame_takes_at_its_first_dot(self) -> None:
+        state = state_of([Step(OUTW, 0x3B4, 0x120C), Step(ADVANCE, 1), Step(OUTW, 0x3B4, 0x340C)])
+        self.assertEqual(state.beam.taken[0x0C], 0x12)
+        state.take(Step(ADVANCE, 89))
+        self.assertEqual((state.beam.is_at_begin, state.beam.frame, state.beam.taken[0x0C]), (True, 1, 0x12))
+        state.take(Step(ADVANCE, 91))
+        self.assertEqual((state.beam.frame, state.beam.taken[0x0C]), (2, 0x34))
+        state.take(Step(FRAME))
+        self.assertEqual((state.beam.frame, state.beam.is_at_begin), (3, True))
+
+
+class Program(unittest.TestCase):
+    def test_reads_and_memory_are_those_of_the_state(self) -> None:
+        texts = {str(seed): listed(noise(seed, 1500), has_time=True) for seed in SEEDS}
+        for name, run in run_whole(texts).items():
+            state, steps = State(), texts[name]
+            for step, ((line, *_), _) in zip(steps, run):
+                read = state.take(step)
+                if step.opcode in READS and not step.is_status:
+                    digits = 4 if step.opcode in WORDS else 2
+                    answered = line if len(line) == digits else None
+                    self.assertEqual(answered, None if read is None else f"{read:0{digits}X}")
+            self.assertEqual([lines[0] for lines, _ in run[-len(MEMORY):]], list(self.memory(state)))
+
+    def memory(self, state: State) -> Iterator[str]:
+        """The dumps of the planes."""
+        for plane in range(4):
+            for offset in range(0, 1 << 16, 256):
+                row = bytes(word >> 8 * plane & 0xFF for word in state.memory.words[offset:offset + 256])
+                yield f"plane {plane} {offset:04X}: {row.hex(' ').upper()}"
+
+
+if __name__ == "__main__":
+    unittest.main()
