@@ -1,0 +1,243 @@
+"""A small adapter for tests: runs scripts that draw, from power-on, with none of the tools' own code.
+
+It knows mode sets, map mask, bytes and words of memory, and of the video services those that draw: 06, 07, 01, 10 with AL
+03 and 12, 13 with AL 02. A step of any other kind is an error. It goes by docs/SERVICES.md and docs/MODES.md.
+"""
+
+from __future__ import annotations
+
+from functools import lru_cache
+from typing import Iterator, NamedTuple
+
+from .making import ppm
+
+LARGE, SMALL = [0, 1, 2, 3, 4, 5, 0x14, 7, *range(0x38, 0x40)], [*range(8), *range(0x10, 0x18)]
+
+
+class Shape(NamedTuple):
+    """A mode: columns of characters, rows, lines of a character, dots of a pixel, and the palette."""
+
+    columns: int
+    rows: int
+    lines: int
+    across: int
+    down: int
+    palette: list[int]
+
+
+SHAPES = {
+    0x03: Shape(80, 25, 16, 1, 1, LARGE),
+    0x0D: Shape(40, 25, 8, 1, 2, SMALL),
+    0x10: Shape(80, 25, 14, 1, 1, LARGE),
+    0x12: Shape(80, 30, 16, 1, 1, LARGE),
+    0x13: Shape(40, 25, 8, 2, 2, []),
+}
+
+
+def lines_of(text: bytes) -> Iterator[list[str]]:
+    """The steps of a script's text as words, those of blocks as often as they are taken."""
+    block: list[list[str]] = []
+    count = 0
+    for line in text.decode().splitlines():
+        words = line.partition(";")[0].split()
+        if not words or words == ["version", "2"]:
+            continue
+        if words[0] == "repeat":
+            assert not count, "a block in a block"
+            block, count = [], int(words[1])
+        elif words == ["end"]:
+            yield from block * count
+            count = 0
+        elif count:
+            block.append(words)
+        else:
+            yield words
+    assert not count, "a block without an end"
+
+
+@lru_cache(maxsize=None)
+def eight_pixels(*planes: int) -> list[int]:
+    """The pixels of a byte of each plane."""
+    return [sum((byte >> bit & 1) << plane for plane, byte in enumerate(planes)) for bit in range(7, -1, -1)]
+
+
+class Screen:
+    """The adapter: its planes, the map mask, the DAC, and the BIOS' mode."""
+
+    def __init__(self, font: bytes) -> None:
+        self.font = font[256 * (8 + 14):]
+        self.mode = 0
+        self.planes = [bytearray(65536) for _ in range(4)]
+        self.mask = 0
+        self.dac = [(0, 0, 0)] * 256
+        self.has_blink = self.has_cursor = True
+        self.frames: list[bytes] = []
+        # Steps by their first word, and cycles of ports and memory that are steps of their own.
+        self.steps: dict[str, int] = {}
+        self.written: list[int] = []
+
+    @property
+    def shape(self) -> Shape:
+        return SHAPES[self.mode]
+
+    def run(self, text: bytes) -> list[bytes]:
+        """Takes the steps of a script; the pictures of its frames."""
+        for words in lines_of(text):
+            self.steps[words[0]] = self.steps.get(words[0], 0) + 1
+            getattr(self, f"do_{words[0]}")(*words[1:])
+        return self.frames
+
+    def do_outw(self, port: str, value: str) -> None:
+        assert port == "3C4" and value.endswith("02"), (port, value)
+        self.mask = int(value, 16) >> 8
+        assert self.mask < 16
+
+    def do_put(self, address: str, value: str) -> None:
+        self.put(int(address, 16), int(value, 16))
+
+    def do_putw(self, address: str, value: str) -> None:
+        self.put(int(address, 16), int(value, 16) & 0xFF)
+        self.put(int(address, 16) + 1, int(value, 16) >> 8)
+
+    def do_frame(self) -> None:
+        shape = self.shape
+        rows = self.text_rows() if self.mode == 3 else self.pixel_rows()
+        lines = [b"".join(bytes(self.dac[entry]) * shape.across for entry in row) * shape.down for row in rows]
+        width = len(rows[0]) * shape.across
+        self.frames.append(ppm(width, len(rows) * shape.down, b"".join(lines)))
+
+    def do_int(self, *words: str) -> None:
+        values = dict(word.split("=") for word in words if "=" in word)
+        block = bytes.fromhex(words[words.index("block") + 1]) if "block" in words else b""
+        ax, bx, cx, dx = (int(values.get(name, "0"), 16) for name in ("ax", "bx", "cx", "dx"))
+        if ax >> 8 == 0:
+            self.set_mode(ax)
+        elif ax in (0x1012, 0x1003, 0x1302) or ax >> 8 in (1, 6, 7):
+            getattr(self, f"service_{ax >> 8:02X}")(ax & 0xFF, bx, cx, dx, block)
+        else:
+            raise AssertionError(words)
+
+    def set_mode(self, mode: int) -> None:
+        self.mode, self.mask, self.has_blink, self.has_cursor = mode, 0x03 if mode == 3 else 0x0F, True, True
+        if mode == 3:
+            for at in range(0, 0x8000, 2):
+                self.planes[0][at], self.planes[1][at] = 0x20, 0x07
+        else:
+            for plane in self.planes:
+                plane[:] = bytes(65536)
+
+    def put(self, address: int, value: int) -> None:
+        """A byte of the host, in the mode that was set."""
+        base, size = (0xB8000, 0x8000) if self.mode == 3 else (0xA0000, 0x10000)
+        at = address - base
+        assert 0 <= at < size, hex(address)
+        self.written.append(address)
+        for plane in range(4):
+            if not self.mask >> plane & 1:
+                continue
+            if self.mode == 3 and plane & 1 == at & 1:
+                self.planes[plane][at & ~1] = value
+            elif self.mode == 0x13 and plane == at & 3:
+                self.planes[plane][at & ~3] = value
+            elif self.mode not in (3, 0x13):
+                self.planes[plane][at] = value
+
+    def service_10(self, part: int, bx: int, cx: int, dx: int, block: bytes) -> None:
+        if part == 3:
+            self.has_blink = bx & 1 == 1
+            return
+        assert len(block) == 3 * cx and bx + cx <= 256 and max(block) <= 63
+        for at in range(cx):
+            self.dac[bx + at] = (block[3 * at], block[3 * at + 1], block[3 * at + 2])
+
+    def service_01(self, _: int, bx: int, cx: int, dx: int, block: bytes) -> None:
+        self.has_cursor = not cx >> 13 & 1
+
+    def service_06(self, lines: int, bx: int, cx: int, dx: int, block: bytes) -> None:
+        assert lines == 0
+        self.scroll(lines, bx >> 8, cx, dx)
+
+    def service_07(self, lines: int, bx: int, cx: int, dx: int, block: bytes) -> None:
+        self.scroll(lines, bx >> 8, cx, dx)
+
+    def scroll(self, lines: int, fill: int, cx: int, dx: int) -> None:
+        """Scrolls a window down, and blanks the rows that become free."""
+        top, left, bottom, right = cx >> 8, cx & 0xFF, dx >> 8, dx & 0xFF
+        assert self.mode != 3 and top <= bottom < self.shape.rows and left <= right < self.shape.columns
+        lines = lines if 0 < lines <= bottom - top + 1 else bottom - top + 1
+        for row in range(bottom, top + lines - 1, -1):
+            for target in self.lines(row, left, right):
+                self.copy(target, lines * self.shape.lines * self.shape.columns * self.times)
+        free = [at for row in range(top, top + lines) for line in self.lines(row, left, right) for at in line]
+        self.blank(free, fill)
+
+    @property
+    def times(self) -> int:
+        """Addresses for a column of characters."""
+        return 8 if self.mode == 0x13 else 1
+
+    def lines(self, row: int, left: int, right: int) -> Iterator[range]:
+        """The offsets of a row of cells, between two columns, line by line."""
+        for line in range(self.shape.lines):
+            start = (row * self.shape.lines + line) * self.shape.columns * self.times
+            yield range(start + left * self.times, start + (right + 1) * self.times)
+
+    def copy(self, target: range, back: int) -> None:
+        """What stands so far before some offsets is copied to them: in sixteen colours to the planes of the map mask."""
+        for plane in range(4):
+            if self.mask >> plane & 1:
+                source = self.planes[plane][target.start - back:target.stop - back]
+                self.planes[plane][target.start:target.stop] = source
+
+    def blank(self, offsets: list[int], fill: int) -> None:
+        passes = [(self.mask, fill)] if self.mode == 0x13 else [(self.mask, 0), (fill & 0x0F, 0xFF)]
+        before = len(self.written)
+        for mask, value in passes:
+            self.mask = mask
+            for at in offsets:
+                self.put(0xA0000 + at, value)
+        self.mask = 0x0F
+        del self.written[before:]
+
+    def service_13(self, part: int, bx: int, cx: int, dx: int, block: bytes) -> None:
+        at = (dx >> 8) * 80 + (dx & 0xFF)
+        assert self.mode == 3 and bx == 0 and len(block) == 2 * cx and at + cx < 2000, "it would scroll"
+        for place in range(cx):
+            assert block[2 * place] not in (7, 8, 10, 13), "a control character"
+            self.planes[0][2 * (at + place)], self.planes[1][2 * (at + place)] = block[2 * place], block[2 * place + 1]
+
+    def pixel_rows(self) -> list[list[int]]:
+        """The rows of pixels, as entries of the DAC."""
+        shape, width = self.shape, 8 * self.shape.columns
+        rows = []
+        for y in range(shape.rows * shape.lines):
+            if self.mode == 0x13:
+                offsets = range(320 * y, 320 * y + 320)
+                rows.append([self.planes[at & 3][at & ~3] for at in offsets])
+                continue
+            row = []
+            for at in range(width * y // 8, width * (y + 1) // 8):
+                row += eight_pixels(*(plane[at] for plane in self.planes))
+            rows.append([shape.palette[pixel] for pixel in row])
+        return rows
+
+    def text_rows(self) -> list[list[int]]:
+        """The rows of dots of the first page, as entries of the DAC, in frame 0."""
+        rows = []
+        for y in range(400):
+            row: list[int] = []
+            for column in range(80):
+                row += self.cell_line(y // 16 * 80 + column, y % 16)
+            rows.append(row)
+        return rows
+
+    def cell_line(self, cell: int, line: int) -> list[int]:
+        """The nine dots of a line of a cell."""
+        character, attribute = self.planes[0][2 * cell], self.planes[1][2 * cell]
+        byte = self.font[16 * character + line]
+        bits = [byte >> 7 - x & 1 for x in range(8)]
+        bits.append(bits[7] if 0xC0 <= character <= 0xDF else 0)
+        if self.has_cursor and cell == 0 and line in (13, 14):
+            bits = [1] * 9
+        back = attribute >> 4 & (7 if self.has_blink else 15)
+        return [LARGE[attribute & 15 if bit else back] for bit in bits]

@@ -1,0 +1,637 @@
+"""Images into scripts: what scripts draw, in how few cycles, in which colours, and what is refused."""
+
+from __future__ import annotations
+
+import contextlib
+import io
+import os
+import random
+import signal
+import subprocess
+import sys
+import tempfile
+import unittest
+from collections import Counter
+from functools import lru_cache
+from itertools import chain, product
+from pathlib import Path
+
+from vga_picture.cells import Chooser, Chosen
+from vga_picture.colours import Fewer, chosen_colours, indexed
+from vga_picture.command import main
+from vga_picture.mode import MODES
+from vga_picture.planes import best_numbers, planes_of, put_steps
+from vga_picture.word import MASKS, Bytes, Word, Write, least_writes
+from vga_report.picture import Picture
+from vga_report.png import Shape, write_png
+from vga_report.program import FONTS
+
+from .making import png_rows, ppm
+from .program import run_texts
+from .screen import Screen
+from .test_cases import Folder
+from .test_images import png
+
+PROGRAM = Path(__file__).resolve().parents[1] / "vga-picture"
+EXAMPLES = Path(__file__).resolve().parents[2] / "examples"
+sys.path.insert(0, str(EXAMPLES))
+
+import test_card  # noqa: E402
+
+FONT = FONTS.read_bytes()
+Dots = list[list[tuple[int, int, int]]]
+
+
+def run(*words: str | Path, given: bytes = b"") -> tuple[int, bytes, str]:
+    """Exit status, standard output and standard error of the command."""
+    done = subprocess.run([sys.executable, PROGRAM, *words], input=given, capture_output=True, timeout=200)
+    return done.returncode, done.stdout, done.stderr.decode()
+
+
+def ppm_of(dots: Dots) -> bytes:
+    """The PPM of dots of six bits a component."""
+    rows = {id(row): bytes(chain.from_iterable(row)) for row in dots}
+    return ppm(len(dots[0]), len(dots), b"".join(rows[id(row)] for row in dots))
+
+
+def png_of(dots: Dots) -> bytes:
+    """The PNG of dots of six bits a component."""
+    stream = io.BytesIO()
+    write_png(stream, Picture.of_ppm(ppm_of(dots)), Shape())
+    return stream.getvalue()
+
+
+def shown(dots: Dots, across: int, down: int) -> bytes:
+    """The picture of a frame whose pixels are these."""
+    wide = ([dot for dot in row for _ in range(across)] if across > 1 else row for row in dots)
+    return ppm_of([row for row in wide for _ in range(down)])
+
+
+def some_dots(width: int, height: int, colours: int, seed: int = 1) -> Dots:
+    """Boxes, lines and single dots in so many colours, each of which is there."""
+    chance = random.Random(seed)
+    every = [(at & 63, at * 7 & 63, at // 4) for at in range(colours)]
+    dots = [[every[0]] * width for _ in range(height)]
+    for number in range(4 * colours):
+        left, top = chance.randrange(width), chance.randrange(height)
+        right, bottom = left + chance.choice([1, 8, 40, 64]), top + chance.choice([1, 16, 33])
+        for row in dots[top:bottom]:
+            row[left:right] = [every[number % colours]] * len(row[left:right])
+    for number, colour in enumerate(every):
+        dots[0][number] = colour
+    return dots
+
+
+def drawn(text: bytes) -> tuple[bytes, Screen]:
+    """The picture of a script's only frame, by the small adapter."""
+    screen = Screen(FONT)
+    (picture,) = screen.run(text)
+    return picture, screen
+
+
+def made_of(image: bytes, *words: str) -> tuple[str, bytes]:
+    """What is told of a script of an image, and the script."""
+    told = io.StringIO()
+    with tempfile.TemporaryDirectory() as folder, contextlib.redirect_stdout(told), contextlib.redirect_stderr(told):
+        paths = Path(folder) / "image", Path(folder) / "script"
+        paths[0].write_bytes(image)
+        if main(["script", *map(str, paths), *words]):
+            raise AssertionError(told.getvalue())
+        return told.getvalue(), paths[1].read_bytes()
+
+
+def script(image: bytes, *words: str) -> bytes:
+    """The script that is made of an image."""
+    return made_of(image, *words)[1]
+
+
+SIZES = {"0D": (320, 200, 16, 1, 2), "10": (640, 350, 16, 1, 1), "12": (640, 480, 16, 1, 1), "13": (320, 200, 200, 2, 2)}
+
+
+def text_dots(seed: int = 3) -> Dots:
+    """A page of cells at random, in sixteen colours, a third of it blank; as the font of sixteen lines shows them."""
+    chance = random.Random(seed)
+    colours = [(at * 4, 63 - at * 4, at * 9 & 63) for at in range(16)]
+    dots: Dots = [[] for _ in range(400)]
+    for row, column in product(range(25), range(80)):
+        character, front, back = chance.choice([0x20, 0x41, chance.randrange(256)]), chance.randrange(16), chance.randrange(16)
+        if chance.random() < 0.3:
+            character, back = 0x20, 5
+        if (row, column) == (24, 79):
+            # Behind the last cell a string would scroll.
+            character, front, back = 0x41, 1, 2
+        for y in range(16):
+            byte = FONT[256 * 22 + 16 * character + y]
+            bits = [byte >> 7 - x & 1 for x in range(8)]
+            bits.append(bits[7] if 0xC0 <= character < 0xE0 else 0)
+            dots[16 * row + y] += [colours[front if bit else back] for bit in bits]
+    return dots
+
+
+card_of = lru_cache(maxsize=None)(test_card.drawn)
+
+
+@lru_cache(maxsize=None)
+def all_scripts() -> dict[str, tuple[bytes, bytes]]:
+    """A script of each mode, without services and short, and the picture that it is to show."""
+    made = {}
+    for option in ([], ["--short"]):
+        for mode, (width, height, colours, across, down) in SIZES.items():
+            dots = some_dots(width, height, colours)
+            made[f"{mode} {option}"] = script(ppm_of(dots), "--mode", mode, *option), shown(dots, across, down)
+        made[f"3 {option}"] = script(ppm_of(text_dots()), "--mode", "3", *option), ppm_of(text_dots())
+    return made
+
+
+class Drawing(Folder):
+    """Each mode's script draws the image, dot for dot."""
+
+    def test_all_modes(self) -> None:
+        for name, (text, picture) in all_scripts().items():
+            with self.subTest(name):
+                self.assertTrue(drawn(text)[0] == picture, "another picture")
+
+    def test_all_modes_by_the_program(self) -> None:
+        made = all_scripts()
+        for name, ran in run_texts({name: text for name, (text, _) in made.items()}).items():
+            with self.subTest(name):
+                self.assertEqual((ran.status, ran.said), (0, ""))
+                self.assertTrue(ran.report.endswith(made[name][1] + b"\n"), "another picture")
+                self.assertNotIn(b" E", ran.report[:ran.report.index(b"P6")])
+
+    def test_the_answer_that_the_frame_expects(self) -> None:
+        dots = some_dots(320, 200, 5)
+        text = script(ppm_of(dots), "--mode", "13")
+        picture = Picture.of_ppm(shown(dots, 2, 2))
+        self.assertTrue(text.endswith(f"\nframe ; = picture 640x400 {picture.sum}\n".encode()))
+
+    def test_bytes_are_the_same_script(self) -> None:
+        image = png_of(some_dots(320, 200, 16))
+        for words in (["--mode", "0D", "--short"], ["--mode", "13"]):
+            with self.subTest(words):
+                text, data = script(image, *words), script(image, *words, "--bytes")
+                self.assertEqual(data[:5], b"VGAS\x02" if b"\nversion 2\n" in text else b"VGAS\x01")
+                self.assertEqual(data, assembled(text))
+
+    def test_six_of_eight_bits_count(self) -> None:
+        row = b"\0" + bytes(range(256)) + bytes(64 * 3 + 704)
+        lines = row[:1 + 3 * 320] + (b"\0" + bytes(960)) * 199
+        picture, _ = drawn(script(png(320, 200, lines), "--mode", "13"))
+        start = picture.index(b"\n63\n") + 4
+        self.assertEqual(picture[start:start + 6 * 85:6], bytes(value >> 2 for value in range(0, 255, 3)))
+
+    def test_an_image_of_one_colour_is_a_mode_set_and_its_colour(self) -> None:
+        text = script(png_of([[(7, 8, 9)] * 320] * 200), "--mode", "0D")
+        _, screen = drawn(text)
+        self.assertEqual(screen.steps, {"int": 2, "frame": 1})
+        self.assertIn(b"\nint ax=1012 cx=1 block 070809\n", text)
+
+    def test_as_many_colours_as_there_are(self) -> None:
+        dots = [[(x % 16, y % 16, 7) for x in range(320)] for y in range(200)]
+        text = script(png_of(dots), "--mode", "13")
+        self.assertIn(b"int ax=1012 cx=100 block ", text)
+        self.assertTrue(drawn(text)[0] == shown(dots, 2, 2), "another picture")
+        dots[0][0] = (63, 63, 63)
+        with self.assertRaisesRegex(AssertionError, "it has 257 colours of six bits a component, and the mode 256: "):
+            script(png_of(dots), "--mode", "13")
+
+    def test_the_picture_as_a_file(self) -> None:
+        dots, path = some_dots(320, 200, 16), self.folder / "p.png"
+        script(png_of(dots), "--mode", "0D", "--picture", str(path))
+        width, height, rows = png_rows(path.read_bytes())
+        self.assertEqual((width, height), (320, 400))
+        self.assertEqual(rows[:2], [png_rows(png_of(dots))[2][0]] * 2)
+
+
+def assembled(text: bytes) -> bytes:
+    """The bytes of a script's text, by docs/SCRIPT.md."""
+    made = bytearray(b"VGAS\x01")
+    for line in text.decode().splitlines():
+        words = line.partition(";")[0].split()
+        if not words:
+            continue
+        name, numbers = words[0], words[1:]
+        if name == "version":
+            made[4] = 2
+        elif name in ("repeat", "end"):
+            made += b"\x0d" + int(numbers[0]).to_bytes(2, "little") if numbers else b"\x0e"
+        elif name == "frame":
+            made += b"\x0b"
+        elif name == "int":
+            values = dict(word.split("=") for word in numbers if "=" in word)
+            block = bytes.fromhex(numbers[-1]) if "block" in numbers else b""
+            registers = [int(values.get(register, "0"), 16) for register in ("ax", "bx", "cx", "dx")]
+            made += b"\x09" + b"".join(number.to_bytes(2, "little") for number in [*registers, len(block)]) + block
+        else:
+            opcode, place, size = {"outw": (2, 2, 2), "put": (5, 4, 1), "putw": (6, 4, 2)}[name]
+            made += bytes([opcode]) + int(numbers[0], 16).to_bytes(place, "little") + int(numbers[1], 16).to_bytes(size, "little")
+    return bytes(made)
+
+
+def can_be_made(have: Word, want: Word, most: int) -> bool:
+    """Whether so many writes at most make a word, in the order of masks: all words that they can make are looked at."""
+    counts = {have: 0}
+    lows, highs = [None, *set(want.low)], [None, *set(want.high)]
+    for mask in MASKS:
+        for word, count in list(counts.items()):
+            for low, high in product(lows, highs) if count < most else []:
+                made = Word(stored(word.low, mask, low), stored(word.high, mask, high))
+                counts[made] = min(counts.get(made, most), count + 1)
+    return want in counts
+
+
+def stored(planes: Bytes, mask: int, value: int | None) -> Bytes:
+    """Bytes of four planes after a write."""
+    return tuple(  # type: ignore[return-value]
+        value if value is not None and mask >> plane & 1 else byte for plane, byte in enumerate(planes)
+    )
+
+
+def made_by(have: Word, writes: list[Write]) -> Word:
+    """A word after writes, in the order of masks."""
+    for write in sorted(writes, key=lambda write: MASKS.index(write.mask)):
+        have = Word(stored(have.low, write.mask, write.low), stored(have.high, write.mask, write.high))
+    return have
+
+
+class Words(unittest.TestCase):
+    def test_least_writes(self) -> None:
+        for have, want, count in [
+            (((0, 0, 0, 0), (0, 0, 0, 0)), ((0, 0, 0, 0), (0, 0, 0, 0)), 0),
+            (((0, 0, 0, 0), (0, 0, 0, 0)), ((9, 9, 9, 9), (8, 8, 8, 8)), 1),
+            (((0, 0, 0, 0), (0, 0, 0, 0)), ((9, 0, 9, 0), (0, 0, 0, 0)), 1),
+            (((0, 0, 0, 0), (0, 0, 0, 0)), ((1, 2, 3, 4), (1, 2, 3, 4)), 4),
+            # The low byte and the high one are each alike in two planes: a byte to two planes each.
+            (((0, 0, 0, 0), (0, 0, 0, 0)), ((5, 0, 5, 0), (0, 6, 6, 0)), 2),
+            # A word to all four planes, and then a byte to two of them, twice.
+            (((0, 0, 0, 0), (0, 0, 0, 0)), ((1, 1, 2, 2), (3, 4, 3, 4)), 3),
+            (((1, 2, 3, 4), (1, 2, 3, 4)), ((1, 2, 3, 4), (1, 2, 3, 5)), 1),
+        ]:
+            with self.subTest(want):
+                writes = least_writes(Word(*have), Word(*want))
+                self.assertEqual((len(writes), made_by(Word(*have), writes)), (count, Word(*want)))
+
+    def test_no_fewer_would_do(self) -> None:
+        chance = random.Random(2)
+
+        def some(most: int) -> Bytes:
+            return tuple(chance.randrange(most) for _ in range(4))  # type: ignore[return-value]
+
+        for _ in range(12):
+            have, want = Word((0,) * 4, (0,) * 4), Word(some(3), some(3))  # type: ignore[arg-type]
+            with self.subTest((have, want)):
+                writes = least_writes(have, want)
+                self.assertEqual(made_by(have, writes), want)
+                self.assertFalse(writes and can_be_made(have, want, len(writes) - 1))
+
+    def test_bytes_side_by_side_are_words(self) -> None:
+        steps = [step.text() for step in put_steps(0xA0000, {1: 0x11, 2: 0x22, 3: 0x33, 6: 0x44, 0xFFFF: 0x55})]
+        self.assertEqual(steps, [b"putw A0001 2211\n", b"put A0003 33\n", b"put A0006 44\n", b"put AFFFF 55\n"])
+
+    def test_planes(self) -> None:
+        row = bytes([0, 1, 2, 3, 4, 8, 12, 15])
+        self.assertEqual(planes_of([row, bytes(8)]), (b"\x51\0", b"\x31\0", b"\x0b\0", b"\x07\0"))
+
+    def test_numbers_of_colours_that_stand_side_by_side(self) -> None:
+        # Two colours in each word: their numbers share no bit, or one has all bits of the other; else a word takes three.
+        rows = [bytes([1, 2] * 160), bytes([1, 0] * 160), bytes([2, 0] * 160)]
+        numbers = best_numbers(rows, 3)
+        self.assertEqual(len(set(numbers)), 3)
+        rows = [row.translate(bytes(numbers) + bytes(253)) for row in rows]
+        planes = planes_of(rows)
+        words = [{plane[at:at + 2] for plane in planes} - {b"\0\0"} for at in range(0, 120, 2)]
+        self.assertEqual(Counter(map(len, words)), {2: 20, 1: 40})
+
+
+class Cycles(unittest.TestCase):
+    """Scripts of few cycles."""
+
+    def test_no_byte_of_mode_13_is_written_twice_or_in_vain(self) -> None:
+        dots = some_dots(320, 200, 200)
+        _, screen = drawn(script(png_of(dots), "--mode", "13"))
+        most = Counter(dot for row in dots for dot in row).most_common(1)[0][1]
+        self.assertEqual((len(screen.written), len(set(screen.written))), (64000 - most, 64000 - most))
+
+    def test_no_more_cycles_than_plane_after_plane(self) -> None:
+        """Sixteen colours of the test card: 20,000 words of planes are not 0, and half as many cycles do."""
+        card = card_of(640, 480)
+        screen = drawn(script(ppm_of(card.rows), "--mode", "12"))[1]
+        words = sum(plane[at:at + 2] != b"\0\0" for plane in screen.planes for at in range(0, 38400, 2))
+        self.assertLess(2 * (screen.steps["putw"] + screen.steps["put"]), words)
+
+    def test_each_map_mask_once(self) -> None:
+        text = all_scripts()["12 []"][0]
+        masks = [line for line in text.splitlines() if line.startswith(b"outw 3C4")]
+        self.assertEqual(len(masks), len(set(masks)))
+        self.assertNotIn(b"outw 3C4 0F02", masks)
+
+    def test_blank_cells_are_not_written(self) -> None:
+        text, picture = all_scripts()["3 []"]
+        screen = drawn(text)[1]
+        self.assertEqual(len(screen.written), len(set(screen.written)))
+        self.assertLess(screen.steps["putw"], 1500)
+        self.assertEqual(len(screen.written), 2 * screen.steps["putw"])
+
+    def test_a_short_script_is_shorter(self) -> None:
+        for mode in ("0D", "10", "12", "13", "3"):
+            with self.subTest(mode):
+                made = all_scripts()
+                self.assertLess(len(assembled(made[f"{mode} ['--short']"][0])), len(assembled(made[f"{mode} []"][0])))
+
+    def test_rows_of_cells_that_are_alike_are_repeated(self) -> None:
+        dots = [[(63, 0, 0) if x % 9 == 4 else (0, 0, 0) for x in range(640)] for _ in range(480)]
+        text = script(png_of(dots), "--mode", "12", "--short")
+        self.assertTrue(drawn(text)[0] == shown(dots, 1, 1), "another picture")
+        lines = text.splitlines()
+        self.assertEqual(sum(line == b"repeat 30" for line in lines), 1)
+        # Of thirty rows of cells one is written, each line the same: nine of its bytes are blank, and 71 are not.
+        self.assertEqual([sum(line.startswith(word) for line in lines) for word in (b"putw ", b"put ")], [16 * 35, 16])
+
+
+class Colours(unittest.TestCase):
+    def test_own_colours_in_the_order_of_their_dots(self) -> None:
+        red, green, blue = (63, 0, 0), (0, 63, 0), (0, 0, 63)
+        image, count = indexed([[red, green, green], [blue, green, blue]], 3, Fewer.REFUSED, "i")
+        self.assertEqual((image.colours, image.rows, count), ((green, blue, red), (b"\2\0\0", b"\1\0\1"), 3))
+
+    def test_colours_that_stand_for_more(self) -> None:
+        counts = Counter({(0, 0, 0): 90, (1, 1, 1): 10, (60, 60, 60): 10, (63, 63, 63): 30, (63, 0, 0): 1, (62, 0, 0): 1})
+        self.assertEqual(chosen_colours(counts, 2), [(0, 0, 0), (63, 63, 63)])
+        self.assertEqual(chosen_colours(counts, 6), sorted(counts))
+        self.assertEqual(len(chosen_colours(counts, 4)), 4)
+
+    def means(self, rows: list[bytes], colours: tuple[tuple[int, int, int], ...]) -> list[float]:
+        """The mean red of each block of eight by eight dots."""
+        return [
+            sum(colours[rows[y + dy][x + dx]][0] for dy in range(8) for dx in range(8)) / 64
+            for y in range(0, len(rows), 8) for x in range(0, len(rows[0]), 8)
+        ]
+
+    def test_dithers_keep_how_bright_an_area_is(self) -> None:
+        dots = [[(x // 2, x // 2, x // 2) for x in range(128)] for _ in range(16)]
+        own = [x // 8 * 4 + 1.5 for x in range(0, 128, 8)] * 2
+        errors = {}
+        for fewer in (Fewer.NEAREST, Fewer.FLOYD, Fewer.ORDERED):
+            image, count = indexed(dots, 4, fewer, "i")
+            self.assertEqual((len(image.colours), count), (4, 64))
+            means = self.means(list(image.rows), image.colours)
+            errors[fewer] = sum(abs(mean - right) for mean, right in zip(means, own)) / len(own)
+        self.assertGreater(errors[Fewer.NEAREST], 3)
+        self.assertLess(errors[Fewer.FLOYD], 1.5)
+        self.assertLess(errors[Fewer.ORDERED], 1.5)
+
+    def test_many_colours_are_refused_or_made_fewer(self) -> None:
+        dots = [[(x // 20 * 4, y // 20 * 5, (x + y) // 64) for x in range(320)] for y in range(200)]
+        image, count = png_of(dots), len({dot for row in dots for dot in row})
+        status, text, said = run("script", "-", "-", "--mode", "0D", given=image)
+        told = f"it has {count:,} colours of six bits a component, and the mode 16"
+        self.assertEqual((status, text), (2, b""))
+        self.assertEqual(said, f"vga-picture: standard input: {told}: --nearest takes the nearest of 16, --dither mixes them\n")
+        for words, way in (
+            (["--nearest"], "the nearest"), (["--dither", "ordered"], "an ordered dither"),
+            (["--dither", "floyd"], "the dither of Floyd and Steinberg"),
+        ):
+            with self.subTest(words):
+                said, text = made_of(image, "--mode", "0D", *words)
+                self.assertTrue(said.startswith(f"mode 0D: 320x200, 16 colours for {count:,}, by {way}; "), said)
+                picture = drawn(text)[0]
+                dots_of = picture[picture.index(b"\n63\n") + 4:]
+                self.assertEqual(len({dots_of[at:at + 3] for at in range(0, len(dots_of), 3)}), 16)
+
+
+class Text(unittest.TestCase):
+    def chooser(self, *colours: tuple[int, int, int]) -> Chooser:
+        return Chooser(FONT[256 * 22:], MODES["3"], colours)
+
+    def cell(self, character: int, front: int, back: int) -> bytes:
+        """The dots of a cell, in eight columns and the ninth as a letter has it."""
+        glyph = FONT[256 * 22 + 16 * character:][:16]
+        return b"".join(bytes(front if byte >> 7 - x & 1 else back for x in range(8)) + bytes([back]) for byte in glyph)
+
+    def test_a_letter_is_found(self) -> None:
+        chooser = self.chooser((0, 0, 0), (63, 63, 63), (0, 0, 63))
+        self.assertEqual(chooser.chosen(self.cell(0x41, 1, 2)), Chosen(0, 0x41, 0x21))
+        self.assertEqual(chooser.chosen(bytes(144)), Chosen(0, 0x20, 0x07))
+        self.assertEqual(chooser.chosen(bytes([2] * 144)), Chosen(0, 0x20, 0x20))
+
+    def test_a_letter_with_a_dot_too_many_is_found_with_its_error(self) -> None:
+        cell = bytearray(self.cell(0x41, 1, 0))
+        self.assertEqual(cell[8], 0)
+        cell[8] = 1
+        self.assertEqual(self.chooser((0, 0, 0), (10, 0, 0)).chosen(bytes(cell)), Chosen(300, 0x41, 0x01))
+
+    def test_no_other_cell_is_nearer(self) -> None:
+        chance, colours = random.Random(4), [(0, 0, 0), (20, 5, 30), (50, 60, 10), (63, 63, 63)]
+        cell = bytes(chance.randrange(4) for _ in range(144))
+        found = self.chooser(*colours).chosen(cell)
+
+        def error(character: int, front: int, back: int) -> int:
+            glyph = [FONT[256 * 22 + 16 * character + y] for y in range(16)]
+            bits = [[byte >> 7 - x & 1 for x in (*range(8), 7)] for byte in glyph]
+            if not 0xC0 <= character < 0xE0:
+                bits = [[*line[:8], 0] for line in bits]
+            shown_numbers = [front if bit else back for line in bits for bit in line]
+            return sum(
+                3 * (r - p) ** 2 + 6 * (g - q) ** 2 + (b - s) ** 2
+                for (r, g, b), (p, q, s) in ((colours[one], colours[other]) for one, other in zip(shown_numbers, cell))
+            )
+
+        least = min(error(character, front, back) for character in range(256) for front in range(4) for back in range(4))
+        self.assertEqual((found.error, error(found.character, found.attribute & 15, found.attribute >> 4)), (least, least))
+
+    def test_how_many_cells_are_as_in_the_image(self) -> None:
+        dots = text_dots()
+        dots[0][0] = next(colour for colour in dots[5] if colour != dots[0][0])
+        dots[0][1] = next(colour for colour in dots[5] if colour not in (dots[0][0], dots[0][1]))
+        said = made_of(png_of(dots), "--mode", "3")[0]
+        self.assertRegex(said, r"^mode 3: 720x400, 16 colours, 1,999 of 2,000 cells fit; ")
+
+
+class Sizes(unittest.TestCase):
+    RED, BLUE = (63, 0, 0), (0, 0, 63)
+
+    def test_another_size_is_refused(self) -> None:
+        status, text, said = run("script", "-", "-", "--mode", "12", given=png_of([[self.RED] * 3] * 2))
+        told = "the image has 3x2 dots, and mode 12 has 640x480: --scale stretches it, --fit keeps its shape"
+        self.assertEqual((status, text, said), (2, b"", f"vga-picture: standard input: {told}\n"))
+
+    def test_stretched(self) -> None:
+        said, text = made_of(png_of([[self.RED, self.BLUE]]), "--mode", "0D", "--scale")
+        self.assertEqual(drawn(text)[0], shown([[self.RED] * 160 + [self.BLUE] * 160] * 200, 1, 2))
+        self.assertIn("mode 0D: 2x1 stretched to 320x200, 2 colours; ", said)
+
+    def test_between_bars(self) -> None:
+        for dots, told, rows in (
+            ([[self.RED, self.BLUE]], "2x1 stretched to 320x160, with bars of 3F0000 to 320x200",
+             [[self.RED] * 320] * 20 + [[self.RED] * 160 + [self.BLUE] * 160] * 160 + [[self.RED] * 320] * 20),
+            ([[self.RED], [self.BLUE]], "1x2 stretched to 100x200, with bars of 3F0000 to 320x200",
+             [[self.RED] * 320] * 100 + [[self.RED] * 110 + [self.BLUE] * 100 + [self.RED] * 110] * 100),
+        ):
+            with self.subTest(told):
+                said, text = made_of(png_of(dots), "--mode", "13", "--fit")
+                self.assertIn(f"mode 13: {told}, 2 colours; ", said)
+                self.assertEqual(drawn(text)[0], shown(rows, 2, 2))
+
+    def test_a_dot_is_the_one_under_its_middle(self) -> None:
+        few = [[(at // 60, 0, 0) for at in range(960)]] * 2
+        self.assertEqual(drawn(script(png_of(few), "--mode", "13", "--scale"))[0], shown([few[0][1::3]] * 200, 2, 2))
+
+
+class Refusals(Folder):
+    GOOD = png_of([[(1, 2, 3)] * 320] * 200)
+
+    def refused(self, told: str, given: bytes, *words: str) -> None:
+        """A refusal in one line, and nothing written."""
+        script = self.folder / "s.vga"
+        script.write_bytes(b"old")
+        with self.subTest(told):
+            image, said = self.folder / "image", io.StringIO()
+            image.write_bytes(given)
+            with contextlib.redirect_stderr(said), contextlib.redirect_stdout(io.StringIO()) as out:
+                status = main(["script", str(image), str(script), *(words or ("--mode", "13"))])
+            self.assertEqual((status, out.getvalue(), said.getvalue()), (2, "", f"vga-picture: {image}: {told}\n"))
+            self.assertEqual({path.name for path in self.folder.iterdir()}, {"image", "s.vga"})
+            self.assertEqual(script.read_bytes(), b"old")
+
+    def test_what_is_no_image(self) -> None:
+        good = self.GOOD
+        for told, given in (
+            ("this is neither a PNG nor a PPM of the kind P6", b""),
+            ("this is neither a PNG nor a PPM of the kind P6", b"GIF89a"),
+            ("the PNG is damaged", good[:-1]), ("the PNG is damaged", good[:20]),
+            ("the PNG is damaged", good.replace(b"IDAT", b"IDAX")),
+            ("the header of the PPM is damaged", b"P6\n320 200\n"),
+            ("the PPM of 320x200 dots is damaged", ppm(320, 200, bytes(100))),
+            ("the components go to 1000; 63 and 255 can be read", b"P6\n1 1\n1000\n123456"),
+            ("an interlaced PNG can't be read: save it without interlace", png(1, 1, b"\0" + bytes(3), interlace=1)),
+            ("the image has 5000x5000 dots, and 16,777,216 are the most", png(5000, 5000, b"")),
+            ("the image has 9999999x2 dots, and 16,777,216 are the most", b"P6 9999999 2 255\n"),
+        ):
+            self.refused(told, given)
+
+    def test_depths_of_png(self) -> None:
+        line = b"\0" + b"\x80\x7f" * (3 * 320)
+        picture, _ = drawn(script(png(320, 200, line * 200, depth=16), "--mode", "13"))
+        self.assertEqual(picture, shown([[(32, 32, 32)] * 320] * 200, 2, 2))
+
+    def test_fonts(self) -> None:
+        fonts = self.folder / "fonts"
+        fonts.write_bytes(bytes(9))
+        status, _, said = run("script", "-", "-", "--mode", "3", "--fonts", fonts, given=self.GOOD)
+        self.assertEqual((status, said), (2, f"vga-picture: {fonts}: a font file has 9,728 bytes, and this has 9\n"))
+
+    def test_standard_input_twice(self) -> None:
+        done = run("script", "-", "-", "--mode", "3", "--fonts", "-", given=self.GOOD)
+        self.assertEqual(done, (2, b"", "vga-picture: standard input can be read once\n"))
+
+    def test_words(self) -> None:
+        for words in (
+            (), ("--mode", "7"), ("--mode", "13", "--scale", "--fit"), ("--mode", "13", "--nearest", "--dither", "floyd"),
+            ("--mode", "13", "--dither", "none"), ("--mode", "13", "--dither", "refused"),
+        ):
+            with self.subTest(words):
+                said = io.StringIO()
+                with contextlib.redirect_stderr(said), self.assertRaises(SystemExit) as ended:
+                    main(["script", "-", "-", *words])
+                self.assertEqual((ended.exception.code, said.getvalue()[:6]), (2, "usage:"))
+
+    def test_an_input_is_never_an_output(self) -> None:
+        image = self.folder / "i.png"
+        image.write_bytes(self.GOOD)
+        os.link(image, self.folder / "link")
+        for name in ("i.png", "link"):
+            said = f"vga-picture: {self.folder / name}: it is read as {image}, so it isn't written\n"
+            self.assertEqual(run("script", image, self.folder / name, "--mode", "13"), (2, b"", said))
+            done = run("script", image, "-", "--mode", "13", "--picture", self.folder / name)
+            self.assertEqual(done, (2, b"", said))
+        self.assertEqual(image.read_bytes(), self.GOOD)
+        twice = self.folder / "s"
+        said = f"vga-picture: {twice}: the script and its picture are to be two files\n"
+        self.assertEqual(run("script", image, twice, "--mode", "13", "--picture", twice), (2, b"", said))
+        self.assertFalse(twice.exists())
+
+    def test_a_file_that_is_not_there(self) -> None:
+        path = self.folder / "none"
+        self.assertEqual(run("script", path, "-", "--mode", "13")[2], f"vga-picture: {path}: No such file or directory\n")
+
+    @unittest.skipUnless(os.path.exists("/dev/full"), "this system has no full device")
+    def test_a_full_disk(self) -> None:
+        image = self.folder / "i.png"
+        image.write_bytes(self.GOOD)
+        said = "vga-picture: /dev/full: No space left on device\n"
+        self.assertEqual(run("script", image, "/dev/full", "--mode", "13"), (2, b"", said))
+        for words in (["-"], [str(self.folder / "s")]):
+            with open("/dev/full", "wb") as full:
+                done = subprocess.run(
+                    [sys.executable, PROGRAM, "script", image, *words, "--mode", "13"], stdout=full, stderr=subprocess.PIPE
+                )
+            self.assertEqual((done.returncode, done.stderr), (2, b"vga-picture: standard output: No space left on device\n"))
+
+    @unittest.skipIf(sys.platform == "win32", "a shell of POSIX closes the output")
+    def test_closed_streams(self) -> None:
+        image, script_path = self.folder / "i.png", self.folder / "s"
+        image.write_bytes(self.GOOD)
+        for path in ("-", str(script_path)):
+            words = ["sh", "-c", 'exec "$@" >&-', "sh", sys.executable, str(PROGRAM), "script", str(image), path, "--mode", "13"]
+            done = subprocess.run(words, stderr=subprocess.PIPE)
+            self.assertEqual((done.returncode, done.stderr), (2, b"vga-picture: standard output: it is closed\n"))
+        self.assertFalse(script_path.exists())
+        words = ["sh", "-c", 'exec "$@" 2>&-', "sh", sys.executable, str(PROGRAM), "script", str(image), "-", "--mode", "13"]
+        self.assertEqual(subprocess.run(words, stdout=subprocess.PIPE).stdout, script(self.GOOD, "--mode", "13"))
+
+    def test_a_signal_and_a_closed_pipe(self) -> None:
+        script_path = self.folder / "s.vga"
+        script_path.write_bytes(b"old")
+        for number, status in ((signal.SIGTERM, 143), (signal.SIGINT, 130)):
+            process = subprocess.Popen(
+                [sys.executable, PROGRAM, "script", "-", script_path, "--mode", "13"],
+                stdin=subprocess.PIPE, stdout=subprocess.PIPE, stderr=subprocess.PIPE,
+                # A shell's background job ignores it.
+                preexec_fn=lambda: signal.signal(signal.SIGINT, signal.SIG_DFL),
+            )
+            assert process.stdin is not None
+            # More than a pipe holds: once it is written, the tool reads.
+            process.stdin.write(self.GOOD[:40] + bytes(200_000))
+            process.stdin.flush()
+            process.send_signal(number)
+            out, said = process.communicate()
+            self.assertEqual((process.returncode, out, said), (status, b"", b""))
+        self.assertEqual([path.name for path in self.folder.iterdir()], ["s.vga"])
+        self.assertEqual(script_path.read_bytes(), b"old")
+        image = self.folder / "i.png"
+        image.write_bytes(png_of(some_dots(320, 200, 200)))
+        process = subprocess.Popen(
+            [sys.executable, PROGRAM, "script", image, "-", "--mode", "13"], stdout=subprocess.PIPE, stderr=subprocess.PIPE
+        )
+        assert process.stdout is not None and process.stderr is not None
+        with process, process.stdout, process.stderr:
+            process.stdout.readline()
+            process.stdout.close()
+            self.assertEqual(process.stderr.read(), b"")
+        self.assertEqual(process.returncode, 141)
+
+
+class Examples(unittest.TestCase):
+    """The examples are what the tool makes of the test card."""
+
+    def test_each_card(self) -> None:
+        for size, mode, across, down in (("640-by-480", "12", 1, 1), ("320-by-200", "13", 2, 2)):
+            with self.subTest(size):
+                card = card_of(*map(int, size.split("-by-")))
+                text = (EXAMPLES / f"test-card-{size}.vga").read_bytes()
+                self.assertTrue(text == script(ppm_of(card.rows), "--mode", mode, "--short"), "another script")
+                self.assertTrue(drawn(text)[0] == shown(card.rows, across, down), "another picture")
+
+    def test_what_the_page_shows(self) -> None:
+        page = (EXAMPLES.parent / "docs" / "PICTURES.md").read_text()
+        for size, words in (
+            ("640x480", "--mode 12 --short"), ("640x480", "--mode 3 --scale --short"), ("320x200", "--mode 12 --fit --nearest"),
+        ):
+            with self.subTest(words):
+                card = card_of(*map(int, size.split("x")))
+                told = made_of(ppm_of(card.rows), *words.split())[0]
+                self.assertIn(f"card.png card.vga {words}\n    {told}", page)
+
+
+if __name__ == "__main__":
+    unittest.main()

@@ -1,0 +1,200 @@
+"""Text: the characters and attributes that come nearest to an image, and the steps that write them."""
+
+from __future__ import annotations
+
+import struct
+from dataclasses import dataclass
+from typing import Callable, Iterator, Sequence
+
+from vga_report.trouble import Trouble
+from vga_trace.step import PUTW, Step
+
+from .colours import Colour, Indexed, distance
+from .mode import Mode
+from .steps import Item, Service
+
+WINDOW = 0xB8000
+GLYPHS, GLYPH_HEIGHT = 256, 16
+# The font file: glyphs of 8 lines, of 14 and of 16.
+FONTS_LENGTH, FONT_16 = 9728, 256 * (8 + 14)
+# Characters whose ninth dot is the eighth once more.
+LINE_CHARACTERS = range(0xC0, 0xE0)
+BLANK, BLANK_ATTRIBUTE = 0x20, 0x07
+# Characters that a string obeys, and does not write.
+CONTROLS = (0x07, 0x08, 0x0A, 0x0D)
+# So many cells that need no writing are written all the same, where a string goes on behind them.
+GAP = 5
+
+# A bit for each dot of a cell, the first of the first line lowest.
+Dots = int
+Cell = tuple[int, int]
+
+
+@dataclass(frozen=True)
+class Chosen:
+    """A character and its attribute, and how far the cell is from the image's."""
+
+    error: int
+    character: int
+    attribute: int
+
+
+def font_of(data: bytes, name: str) -> bytes:
+    """The glyphs of 16 lines of a font file."""
+    if len(data) != FONTS_LENGTH:
+        raise Trouble(f"a font file has {FONTS_LENGTH:,} bytes, and this has {len(data):,}", name)
+    return data[FONT_16:]
+
+
+def glyph_dots(font: bytes, character: int, width: int) -> Dots:
+    """The dots of a character that have the colour of the character."""
+    dots = 0
+    for y, byte in enumerate(font[GLYPH_HEIGHT * character:GLYPH_HEIGHT * (character + 1)]):
+        line = int(f"{byte:08b}"[::-1], 2)
+        if width == 9 and character in LINE_CHARACTERS:
+            line |= (line >> 7 & 1) << 8
+        dots |= line << width * y
+    return dots
+
+
+class Chooser:
+    """Chooses for a cell of an image the character and the attribute of the least error."""
+
+    def __init__(self, font: bytes, mode: Mode, colours: Sequence[Colour]) -> None:
+        self._mode = mode
+        # How far each colour is from all of them, as one number with 32 bits for each: so sums of all are one addition.
+        self._lanes = struct.Struct(f"<{len(colours)}I")
+        self._far = [
+            sum(distance(one, other) << 32 * number for number, other in enumerate(colours)) for one in colours
+        ]
+        # Of characters that look alike the first; but a blank before 00.
+        self._glyphs: dict[Dots, int] = {}
+        for character in (BLANK, *range(GLYPHS)):
+            self._glyphs.setdefault(glyph_dots(font, character, mode.cell_width), character)
+        self._known: dict[bytes, Chosen] = {}
+
+    def chosen(self, cell: bytes) -> Chosen:
+        """The choice for a cell, whose dots are numbers of colours, line by line."""
+        found = self._known.get(cell)
+        if found is None:
+            found = self._known[cell] = self._best(cell)
+        return found
+
+    def _best(self, cell: bytes) -> Chosen:
+        """A character that shows the cell as it is, or else the nearest; of those with the same error the first."""
+        colours = sorted(set(cell))
+        if len(colours) == 1 and 0 in self._glyphs:
+            return Chosen(0, self._glyphs[0], colours[0] << 4 | (BLANK_ATTRIBUTE if colours[0] == 0 else 0))
+        masks = [_dots_of(cell, colour) for colour in colours]
+        if len(colours) == 2:
+            for front, back in ((0, 1), (1, 0)):
+                if masks[front] in self._glyphs:
+                    return Chosen(0, self._glyphs[masks[front]], colours[back] << 4 | colours[front])
+        return self._nearest(colours, masks)
+
+    def _nearest(self, colours: Sequence[int], masks: Sequence[Dots]) -> Chosen:
+        """The choice for a cell of these colours, each with its dots, that no character shows."""
+        far = [self._far[colour] for colour in colours]
+        total = sum(_count(mask) * row for mask, row in zip(masks, far))
+        best = Chosen(1 << 62, 0, 0)
+        for dots, character in self._glyphs.items():
+            ink = sum(_count(mask & dots) * row for mask, row in zip(masks, far))
+            fronts = self._lanes.unpack(ink.to_bytes(self._lanes.size, "little"))
+            front = min(fronts)
+            if front < best.error:
+                backs = self._lanes.unpack((total - ink).to_bytes(self._lanes.size, "little"))
+                back = min(backs)
+                if front + back < best.error:
+                    best = Chosen(front + back, character, backs.index(back) << 4 | fronts.index(front))
+        return best
+
+
+def _count(dots: Dots) -> int:
+    """How many dots there are."""
+    return bin(dots).count("1")
+
+
+# Python 3.10 and later count by themselves.
+_count = getattr(int, "bit_count", _count)
+
+
+def _dots_of(cell: bytes, colour: int) -> Dots:
+    """The dots of a cell that have a colour."""
+    table = bytes(49 if value == colour else 48 for value in range(256))
+    return int(cell.translate(table)[::-1], 2)
+
+
+def cells_of(image: Indexed, mode: Mode, font: bytes, tell: Callable[[int], None]) -> list[Chosen]:
+    """The choices for all cells of an image, row by row; how many are done is told."""
+    chooser = Chooser(font, mode, image.colours)
+    made = []
+    for at in range(mode.columns * mode.rows):
+        top, left = at // mode.columns * mode.cell_height, at % mode.columns * mode.cell_width
+        lines = image.rows[top:top + mode.cell_height]
+        made.append(chooser.chosen(b"".join(line[left:left + mode.cell_width] for line in lines)))
+        tell(at + 1)
+    return made
+
+
+def rows_of(cells: Sequence[Chosen], mode: Mode, font: bytes) -> list[bytes]:
+    """The rows of dots that cells show, as numbers of colours."""
+    rows = [bytearray(mode.width) for _ in range(mode.height)]
+    known: dict[int, Dots] = {}
+    for at, cell in enumerate(cells):
+        top, left = at // mode.columns * mode.cell_height, at % mode.columns * mode.cell_width
+        if cell.character not in known:
+            known[cell.character] = glyph_dots(font, cell.character, mode.cell_width)
+        dots, front, back = known[cell.character], cell.attribute & 0x0F, cell.attribute >> 4
+        for y in range(mode.cell_height):
+            line = dots >> mode.cell_width * y
+            rows[top + y][left:left + mode.cell_width] = bytes(
+                front if line >> x & 1 else back for x in range(mode.cell_width)
+            )
+    return [bytes(row) for row in rows]
+
+
+def _is_blank(cell: Chosen) -> bool:
+    return (cell.character, cell.attribute) == (BLANK, BLANK_ATTRIBUTE)
+
+
+def _put(at: int, cell: Chosen) -> Step:
+    """A word for a cell: the character low, at the even address, and the attribute high."""
+    return Step(PUTW, WINDOW + 2 * at, cell.attribute << 8 | cell.character)
+
+
+def put_cells(cells: Sequence[Chosen]) -> list[Step]:
+    """A word for each cell that a mode set has not made."""
+    return [_put(at, cell) for at, cell in enumerate(cells) if not _is_blank(cell)]
+
+
+def typed_cells(cells: Sequence[Chosen], columns: int) -> list[Item]:
+    """Strings of function 13 with an attribute for each character; a word for a cell that no string can write."""
+    items: list[Item] = []
+    for start, end in _strings(cells):
+        block = b"".join(bytes([cell.character, cell.attribute]) for cell in cells[start:end])
+        # Character and attribute are a cycle each, and no cursor is shown.
+        typed = Service(len(block), 0x1302, 0, end - start, start // columns << 8 | start % columns, block)
+        steps = [_put(start + at, cell) for at, cell in enumerate(cells[start:end])]
+        items += [typed] if len(typed.data()) < sum(len(step.data()) for step in steps) else steps
+    alone = [at for at, cell in enumerate(cells) if not _can_be_typed(at, cells) and not _is_blank(cell)]
+    return items + [_put(at, cells[at]) for at in alone]
+
+
+def _can_be_typed(at: int, cells: Sequence[Chosen]) -> bool:
+    """Whether a string can write a cell: no control character, and not the last cell, behind which the page scrolls."""
+    return cells[at].character not in CONTROLS and at != len(cells) - 1
+
+
+def _strings(cells: Sequence[Chosen]) -> Iterator[tuple[int, int]]:
+    """Where strings begin and end: they have the cells that need writing, and short gaps between these."""
+    start = end = -1
+    for at, cell in enumerate(cells):
+        if not _can_be_typed(at, cells) or start >= 0 and at - end >= GAP:
+            if start >= 0:
+                yield start, end
+            start = -1
+        if _can_be_typed(at, cells) and not _is_blank(cell):
+            start = at if start < 0 else start
+            end = at + 1
+    if start >= 0:
+        yield start, end

@@ -1,0 +1,140 @@
+"""The words of the command line, what the command does, and how it ends."""
+
+from __future__ import annotations
+
+import argparse
+import os
+import sys
+from typing import Optional, Sequence
+
+from vga_report.output import AGREED, TROUBLE, name_of, refuse_twice
+from vga_report.png import Shape, write_png
+from vga_report.program import FONTS
+from vga_report.progress import Progress
+from vga_report.streams import STANDARD, reading, refuse_input, writing
+from vga_report.trouble import Trouble
+
+from .cells import font_of
+from .colours import Fewer, indexed, six_bits
+from .drawing import Drawn, draw_pixels, draw_text
+from .fitting import Fit, fitted, read_image
+from .mode import MODES, Kind
+from .steps import write_script
+
+# What a shell says of programs that a closed pipe or the user has ended.
+PIPE_CLOSED, INTERRUPTED = 141, 130
+WAYS = {
+    Fewer.NEAREST: "the nearest", Fewer.FLOYD: "the dither of Floyd and Steinberg", Fewer.ORDERED: "an ordered dither",
+}
+
+
+def _parser() -> argparse.ArgumentParser:
+    parser = argparse.ArgumentParser(
+        prog="vga-picture", description="Makes scripts that draw an image. `-` is standard input, or standard output."
+    )
+    commands = parser.add_subparsers(required=True, metavar="COMMAND")
+    command = commands.add_parser("script", help="makes a script that draws an image")
+    command.add_argument("image", metavar="IMAGE", help="a PNG, or a PPM of the kind P6")
+    command.add_argument("script", metavar="SCRIPT", help="the script")
+    command.add_argument("--mode", required=True, type=str.upper, choices=list(MODES), help="the mode; 3 is text")
+    command.add_argument("--bytes", action="store_true", help="the script as bytes; else as text")
+    command.add_argument("--short", action="store_true", help="a shorter script of more cycles, by the video BIOS")
+    sizes = command.add_mutually_exclusive_group()
+    sizes.add_argument(
+        "--scale", dest="fit", action="store_const", const=Fit.SCALE, help="stretches an image of another size"
+    )
+    sizes.add_argument(
+        "--fit", dest="fit", action="store_const", const=Fit.FIT, help="the same, but it keeps its shape, between bars"
+    )
+    colours = command.add_mutually_exclusive_group()
+    colours.add_argument(
+        "--nearest", dest="fewer", action="store_const", const=Fewer.NEAREST,
+        help="where there are more colours than the mode has: the nearest of those that are chosen",
+    )
+    colours.add_argument(
+        "--dither", dest="fewer", choices=[Fewer.FLOYD, Fewer.ORDERED], type=Fewer, metavar="floyd|ordered",
+        help="the same, but they are mixed: by Floyd and Steinberg, or by a pattern of four by four dots",
+    )
+    command.add_argument("--fonts", default=str(FONTS), metavar="FILE", help="the font file of text; else the project's")
+    command.add_argument("--picture", metavar="FILE", help="the picture that the script is to show, as PNG")
+    command.set_defaults(job=_script, fit=Fit.EXACT, fewer=Fewer.REFUSED)
+    return parser
+
+
+def _drawn(words: argparse.Namespace, progress: Progress) -> tuple[Drawn, str]:
+    """The parts of the script, and what was done to the image."""
+    mode, name = MODES[words.mode], name_of(words.image)
+    font = b""
+    if mode.kind is Kind.CELLS:
+        refuse_twice(words.image, words.fonts)
+        with reading(words.fonts) as stream:
+            font = font_of(stream.read(), name_of(words.fonts))
+    with reading(words.image) as stream:
+        image = read_image(stream.read(), name)
+    image, size = fitted(image, mode, words.fit, name)
+    made, count = indexed(six_bits(image), len(mode.entries), words.fewer, name)
+    told = f"{size}, {len(made.colours)} colour{'s' * (len(made.colours) != 1)}"
+    if count > len(mode.entries):
+        told += f" for {count:,}, by {WAYS[words.fewer]}"
+    if mode.kind is not Kind.CELLS:
+        return draw_pixels(made, mode, words.short), told
+
+    def tell(done: int) -> None:
+        if progress.is_due():
+            progress.tell(f"{done:,} of {mode.columns * mode.rows:,} cells")
+
+    return draw_text(made, mode, font, words.short, tell), told
+
+
+def _script(words: argparse.Namespace, progress: Progress) -> int:
+    """Makes a script, and says what it has."""
+    if words.picture is not None and os.path.realpath(words.script) == os.path.realpath(words.picture):
+        raise Trouble("the script and its picture are to be two files", words.script)
+    drawn, told = _drawn(words, progress)
+    progress.clear()
+    if words.picture is not None:
+        # Told before the script is written.
+        refuse_input(words.picture)
+    with writing(words.script) as stream:
+        figures = write_script(stream, drawn.parts, drawn.answer, not words.bytes)
+    if words.picture is not None:
+        with writing(words.picture) as stream:
+            write_png(stream, drawn.picture, Shape())
+    line = f"mode {words.mode}: {told}{drawn.told}; {figures.line()}"
+    print(line, file=sys.stderr if STANDARD in (words.script, words.picture) else sys.stdout)
+    return AGREED
+
+
+def _end(words: argparse.Namespace) -> int:
+    """Does the command's work; what ends it is told on standard error."""
+    progress = Progress()
+    try:
+        status: int = words.job(words, progress)
+        sys.stdout.flush()
+        return status
+    except BrokenPipeError:
+        raise
+    except Trouble as trouble:
+        reason = str(trouble)
+    except OSError as error:
+        reason = f"{'standard output' if error.filename is None else error.filename}: {error.strerror}"
+    progress.clear()
+    print(f"vga-picture: {reason}", file=sys.stderr)
+    return TROUBLE
+
+
+def main(words: Optional[Sequence[str]] = None) -> int:
+    """Runs a command line, and answers its exit status."""
+    # What is said where nobody can hear it would else go to standard output.
+    sys.stderr = sys.stderr or open(os.devnull, "w", encoding="ascii")
+    if sys.stdout is None:
+        print("vga-picture: standard output: it is closed", file=sys.stderr)
+        return TROUBLE
+    try:
+        return _end(_parser().parse_args(words))
+    except BrokenPipeError:
+        # What can't be written would fail once more when Python ends.
+        os.dup2(os.open(os.devnull, os.O_WRONLY), sys.stdout.fileno())
+        return PIPE_CLOSED
+    except KeyboardInterrupt:
+        return INTERRUPTED

@@ -1,0 +1,96 @@
+"""A script that draws an image: its parts, and the picture that its frame is to show."""
+
+from __future__ import annotations
+
+from dataclasses import dataclass
+from typing import Callable, Iterator, Sequence
+
+from vga_report.picture import Picture
+from vga_trace.step import FRAME, Step
+
+from .areas import Areas
+from .cells import cells_of, put_cells, rows_of, typed_cells
+from .colours import Colour, Indexed
+from .mode import Kind, Mode
+from .screen import screen_of
+from .steps import Part, Service
+
+# Cycles of a mode set: of registers and palette, of the glyphs of text, of memory that is cleared.
+SET_CYCLES, GLYPH_CYCLES, TEXT_CYCLES, GRAPHICS_CYCLES = 896, 4112, 32768, 65536
+NO_CURSOR = 0x2000
+
+
+@dataclass(frozen=True)
+class Drawn:
+    """The parts of a script, the picture that its frame shows, and what else is told of it."""
+
+    parts: list[Part]
+    picture: Picture
+    told: str = ""
+
+    @property
+    def answer(self) -> str:
+        """What the frame is expected to answer."""
+        return f"picture {self.picture.size} {self.picture.sum}"
+
+
+def _mode_set(mode: Mode) -> Service:
+    cycles = GLYPH_CYCLES + TEXT_CYCLES if mode.kind is Kind.CELLS else GRAPHICS_CYCLES
+    return Service(SET_CYCLES + cycles, mode.number)
+
+
+def _colours(colours: Sequence[Colour], mode: Mode) -> Iterator[Service]:
+    """The entries of the DAC that the palette names for these colours, as many at a time as stand side by side."""
+    first = 0
+    for number in range(1, len(colours) + 1):
+        if number == len(colours) or mode.entries[number] != mode.entries[number - 1] + 1:
+            block = bytes(part for colour in colours[first:number] for part in colour)
+            yield Service(1 + len(block), 0x1012, mode.entries[first], number - first, 0, block)
+            first = number
+
+
+def _picture(rows: Sequence[bytes], colours: Sequence[Colour], mode: Mode) -> Picture:
+    """The picture of a frame: each pixel as many dots wide and high as the mode shows it."""
+    dots = [bytes(colour) * mode.across for colour in colours]
+    lines = (b"".join(map(dots.__getitem__, row)) for row in rows)
+    return Picture.of_dots(mode.width * mode.across, mode.height * mode.down, b"".join(line * mode.down for line in lines))
+
+
+def _begin(mode: Mode, colours: Sequence[Colour], count: int) -> list[Part]:
+    """The mode and the colours."""
+    note = f"A picture of {mode.width} by {mode.height} pixels and {count} colours, in mode {mode.name}, made by vga-picture."
+    return [
+        Part(f"{note} Numbers are hexadecimal, but the count of `repeat`.", [_mode_set(mode)]),
+        Part("Its colours, six bits a component", list(_colours(colours, mode))),
+    ]
+
+
+def draw_pixels(image: Indexed, mode: Mode, is_short: bool) -> Drawn:
+    """A script for a graphics mode. A short one has areas by the video BIOS first."""
+    screen = screen_of(mode)
+    count = len(image.colours)
+    image = screen.numbered(image)
+    parts = _begin(mode, image.colours, count)
+    areas = Areas(screen, image.rows) if is_short else None
+    parts += areas.parts() if areas else []
+    have = [bytes(row) for row in areas.have] if areas else [bytes(mode.width)] * mode.height
+    steps = screen.drawn(have, image.rows)
+    if steps:
+        parts.append(Part(f"{len(steps)} cycles for {'the rest' if areas else 'the pixels'}", steps))
+    parts.append(Part("The picture", [Step(FRAME)]))
+    return Drawn(parts, _picture(image.rows, image.colours, mode))
+
+
+def draw_text(image: Indexed, mode: Mode, font: bytes, is_short: bool, tell: Callable[[int], None]) -> Drawn:
+    """A script for text: bright backgrounds in the place of blinking, no cursor, and the cells."""
+    cells = cells_of(image, mode, font, tell)
+    parts = _begin(mode, image.colours, len(image.colours))
+    # In frames 16 to 31 of 32 a blinking character is away, and its background has three bits.
+    parts.append(Part("No blinking, but bright backgrounds; no cursor", [Service(6, 0x1003), Service(4, 0x0100, 0, NO_CURSOR)]))
+    steps = typed_cells(cells, mode.columns) if is_short else put_cells(cells)
+    if steps:
+        parts.append(Part("The cells: a character and its attribute", steps))
+    parts.append(Part("The picture", [Step(FRAME)]))
+    exact = sum(cell.error == 0 for cell in cells)
+    picture = _picture(rows_of(cells, mode, font), image.colours, mode)
+    return Drawn(parts, picture, f", {exact:,} of {len(cells):,} cells fit")

@@ -1,0 +1,75 @@
+"""An image of another size than the mode's."""
+
+from __future__ import annotations
+
+import re
+import struct
+from enum import Enum
+
+from vga_report.images import Image, image_of
+from vga_report.png import SIGNATURE
+from vga_report.trouble import Trouble
+
+from .mode import Mode
+
+# An image that is read has so many dots at most.
+MOST_DOTS = 1 << 24
+PNG_SIZE = struct.Struct(">8x4x4sII")
+PPM_SIZE = re.compile(rb"P6(?:\s|#[^\n]*\n)+(\d+)(?:\s|#[^\n]*\n)+(\d+)")
+
+
+class Fit(Enum):
+    """What is done to an image of another size: nothing, it is stretched, or it keeps its shape between bars."""
+
+    EXACT = "exact"
+    SCALE = "scale"
+    FIT = "fit"
+
+
+def read_image(data: bytes, name: str) -> Image:
+    """The image that a file holds. One that is too large is told before it is unpacked."""
+    width = height = 0
+    if data.startswith(SIGNATURE) and len(data) >= PNG_SIZE.size:
+        _, width, height = PNG_SIZE.unpack_from(data)
+    elif found := PPM_SIZE.match(data):
+        width, height = int(found[1]), int(found[2])
+    if width * height > MOST_DOTS:
+        raise Trouble(f"the image has {width}x{height} dots, and {MOST_DOTS:,} are the most", name)
+    return image_of(data, name)
+
+
+def _stretched(image: Image, width: int, height: int) -> list[bytes]:
+    """The rows of an image in another size: each dot is the one of the image that its middle falls on."""
+    columns = [(2 * x + 1) * image.width // (2 * width) for x in range(width)]
+    lines = [(2 * y + 1) * image.height // (2 * height) for y in range(height)]
+    known: dict[int, bytes] = {}
+    for line in lines:
+        if line not in known:
+            row = image.rows[line]
+            known[line] = b"".join([row[3 * x:3 * x + 3] for x in columns])
+    return [known[line] for line in lines]
+
+
+def fitted(image: Image, mode: Mode, fit: Fit, name: str) -> tuple[Image, str]:
+    """An image of the mode's size, and what was done for that; a Trouble where nothing may be done."""
+    given = f"{image.width}x{image.height}"
+    if (image.width, image.height) == (mode.width, mode.height):
+        return image, given
+    if fit is Fit.EXACT:
+        ways = "--scale stretches it, --fit keeps its shape"
+        raise Trouble(f"the image has {given} dots, and mode {mode.name} has {mode.size}: {ways}", name)
+    width, height = mode.width, mode.height
+    if fit is Fit.FIT and image.width * height > width * image.height:
+        height = max(1, image.height * width // image.width)
+    elif fit is Fit.FIT:
+        width = max(1, image.width * height // image.height)
+    rows = _stretched(image, width, height)
+    bar = image.rows[0][:3]
+    left, above = (mode.width - width) // 2, (mode.height - height) // 2
+    beside = [bar * left + row + bar * (mode.width - width - left) for row in rows]
+    rows = [bar * mode.width] * above + beside + [bar * mode.width] * (mode.height - height - above)
+    told = f"{given} stretched to {width}x{height}"
+    if (width, height) != (mode.width, mode.height):
+        six = bytes(value if image.most == 63 else value >> 2 for value in bar)
+        told += f", with bars of {six.hex().upper()} to {mode.size}"
+    return Image(mode.width, mode.height, tuple(rows), image.most), told
