@@ -1,0 +1,1 @@
+"""Tests with emulators: what needs packages that the gate doesn't."""

@@ -1,0 +1,150 @@
+"""Records on qemu what software does to a VGA: its trace, and its screen at the end."""
+
+from __future__ import annotations
+
+import gzip
+import json
+import os
+import shutil
+import socket
+import subprocess
+import tempfile
+import time
+from dataclasses import dataclass
+from pathlib import Path
+from typing import Callable, Sequence
+
+from vga_report.streams import writing
+
+QEMU = "qemu-system-x86_64"
+EVENTS = "memory_region_ops_read\nmemory_region_ops_write\n"
+# The regions of the log that are the VGA's.
+KEPT = ("'vga", "'vbe'", "'cirrus-io'", "'cirrus-low-memory'")
+# Seconds between two looks, until the monitor listens, and that the cursor's phase lasts about half of.
+LOOK, LISTENING, PHASE = 0.1, 10, 0.12
+# Screens are taken again and again, since qemu blinks by a clock of its own.
+SCREENS = 6
+
+
+@dataclass(frozen=True)
+class Machine:
+    """What a machine is made of, and how long its software is waited for.
+
+    `quiet` is how many seconds without a cycle mean that the software waits; `most` is how many seconds are waited at
+    all, for this and behind each key. Keys are named as qemu names them: `down`, `c`, `ret`.
+    """
+
+    words: Sequence[str]
+    quiet: float = 3
+    most: float = 60
+    keys: Sequence[str] = ()
+
+
+class Monitor:
+    """qemu's monitor, which takes commands as JSON on a socket."""
+
+    def __init__(self, path: Path) -> None:
+        self._socket = socket.socket(socket.AF_UNIX)
+        until = time.monotonic() + LISTENING
+        while self._socket.connect_ex(str(path)):
+            if time.monotonic() > until:
+                raise RuntimeError("qemu's monitor doesn't listen")
+            time.sleep(LOOK)
+        self._lines = self._socket.makefile("rw")
+        self._lines.readline()
+        self.do("qmp_capabilities")
+
+    def do(self, name: str, **arguments: object) -> None:
+        """Does a command, and waits for its answer."""
+        self._lines.write(json.dumps({"execute": name, "arguments": arguments}) + "\n")
+        self._lines.flush()
+        for line in self._lines:
+            answer = json.loads(line)
+            if "error" in answer:
+                raise RuntimeError(answer["error"]["desc"])
+            if "return" in answer:
+                return
+        raise RuntimeError("qemu has ended")
+
+    def close(self) -> None:
+        """Hangs up."""
+        self._lines.close()
+        self._socket.close()
+
+
+def wait_for_quiet(path: Path, machine: Machine) -> bool:
+    """Waits until a file no longer grows; whether it ever came to that."""
+    began = last = time.monotonic()
+    size = 0
+    while time.monotonic() - began < machine.most:
+        now = path.stat().st_size
+        if now != size:
+            size, last = now, time.monotonic()
+        elif size and time.monotonic() - last > machine.quiet:
+            return True
+        time.sleep(LOOK)
+    return False
+
+
+def _qemu(machine: Machine, folder: Path) -> list[str]:
+    """The command: one processor, no devices but those that are wanted, and the log into a pipe."""
+    (folder / "events").write_text(EVENTS, encoding="ascii")
+    return [
+        "nice", "-n", "10", QEMU, "-accel", "tcg", "-machine", "pc,smm=off", "-nodefaults", "-m", "128", "-no-reboot",
+        "-display", "none", "-msg", "timestamp=on", "-trace", f"events={folder}/events", "-D", f"{folder}/log",
+        "-qmp", f"unix:{folder}/monitor,server=on,wait=off", *machine.words,
+    ]
+
+
+def _take_screens(monitor: Monitor, base: Path) -> None:
+    """Takes the screen of a machine that is stopped, at several phases of the cursor."""
+    for number in range(SCREENS):
+        monitor.do("cont")
+        time.sleep(PHASE)
+        monitor.do("stop")
+        path = base.with_name(f"{base.name}.{number}.ppm")
+        monitor.do("screendump", filename=str(path.resolve()))
+
+
+def _use(monitor: Monitor, machine: Machine, kept: Path, base: Path, say: Callable[[str], None]) -> None:
+    """Waits for the software, presses its keys, and takes the screen once it is quiet."""
+    is_quiet = wait_for_quiet(kept, machine)
+    for key in machine.keys:
+        monitor.do("send-key", keys=[{"type": "qcode", "data": part} for part in key.split("-")])
+        is_quiet = wait_for_quiet(kept, machine)
+    if not is_quiet:
+        say(f"{base.name}: the software was still busy when its screen was taken")
+    monitor.do("stop")
+    before = kept.stat().st_size
+    _take_screens(monitor, base)
+    time.sleep(LOOK)
+    if kept.stat().st_size != before:
+        say(f"{base.name}: the software drew while its screen was taken")
+
+
+def record(machine: Machine, base: Path, say: Callable[[str], None]) -> Path:
+    """Leaves BASE.trace.gz and BASE.0.ppm and more beside it; answers the trace. `say` tells what may spoil it."""
+    folder = Path(tempfile.mkdtemp(prefix="vga-recording-"))
+    kept, log = folder / "kept", folder / "log"
+    os.mkfifo(log)
+    words = [word for name in KEPT for word in ("-e", name)]
+    with kept.open("wb") as stream:
+        keeper = subprocess.Popen(["grep", "--line-buffered", "-F", *words, str(log)], stdout=stream)
+    qemu = subprocess.Popen(_qemu(machine, folder), stdin=subprocess.DEVNULL)
+    try:
+        monitor = Monitor(folder / "monitor")
+        _use(monitor, machine, kept, base, say)
+        monitor.do("quit")
+        monitor.close()
+        qemu.wait(LISTENING)
+        keeper.wait(LISTENING)
+        trace = base.with_name(base.name + ".trace.gz")
+        with kept.open("rb") as source, writing(str(trace)) as stream, gzip.open(stream, "wb", 6) as target:
+            shutil.copyfileobj(source, target)
+        return trace
+    finally:
+        for process in (qemu, keeper):
+            if process.poll() is None:
+                process.kill()
+                process.wait()
+        shutil.rmtree(folder)

@@ -1,0 +1,145 @@
+#!/usr/bin/env python3
+"""Records software on qemu, replays it here, and holds what it read and its picture against qemu's.
+
+    python3 tools/emulator_tests/traces.py FOLDER [NAME...]
+
+Without names it takes all the software that `--help` lists. Traces, screens, scripts and reports stay in FOLDER, and what
+was recorded there before is replayed alone. It prints a row of a table for each, and ends with status 1 where anything is
+otherwise than known. It needs the built program and, of Debian 12, qemu-system-x86, seabios, vgabios, grub-common,
+grub-pc-bin, xorriso, mtools, and gcc for mode 13. Software of packages that are unpacked with `dpkg -x` is taken from
+the folder of `--unpacked`: the newest linux-image, busybox-static, console-setup-linux, memtest86+.
+"""
+
+from __future__ import annotations
+
+import argparse
+import re
+import signal
+import subprocess
+import sys
+from pathlib import Path
+from typing import NamedTuple, Optional, Sequence
+
+sys.path.insert(0, str(Path(__file__).resolve().parents[1]))
+
+# The tools beside this folder, and the recording here, are found by the line above.
+from emulator_tests.recording import SCREENS, record
+from emulator_tests.software import SOFTWARE, Software
+from vga_report.program import FONTS, PROGRAM
+
+TOOLS = Path(__file__).resolve().parents[1]
+TRACE, REPORT = TOOLS / "vga-trace", TOOLS / "vga-report"
+CONVERTED = re.compile(r"([\d,]+) cycles, ([\d,]+) steps, ([\d,]+) bytes")
+CHECKED = re.compile(r"([\d,]+) steps, ([\d,]+) refused, ([\d,]+) reads answered, ([\d,]+) differ")
+DIFFERING = re.compile(r"(\d+) of \d+ dots differ")
+HEADER = (
+    "| Software | Cycles | Steps | Bytes | without blocks | Reads | differing | Refused | Picture |\n"
+    "|---|---|---|---|---|---|---|---|---|"
+)
+
+
+class Replayed(NamedTuple):
+    """What a replay gave. Of the dots of the picture so many differ from qemu's; None where the sizes differ."""
+
+    cycles: int
+    steps: int
+    bytes: int
+    bytes_without_blocks: int
+    reads: int
+    differing: int
+    refused: int
+    dots: Optional[int]
+
+    def row(self, name: str) -> str:
+        """The row of the table."""
+        picture = "another size" if self.dots is None else f"{self.dots:,} dots differ" if self.dots else "the same"
+        figures = " | ".join(f"{figure:,}" for figure in self[:-1])
+        return f"| {name} | {figures} | {picture} |"
+
+    def is_as_known(self, software: Software) -> bool:
+        """Whether reads, refusals and dots are what is known of this software."""
+        return (self.differing, self.refused, self.dots) == (0, software.refused, software.dots)
+
+
+def _out(*words: str | Path) -> tuple[int, str]:
+    """Status and standard output of a command; its warnings pass."""
+    done = subprocess.run([sys.executable, *words], stdout=subprocess.PIPE, text=True, check=False)
+    return done.returncode, done.stdout
+
+
+def _figures(pattern: re.Pattern[str], text: str) -> list[int]:
+    """The numbers of a line of the tools."""
+    found = pattern.search(text)
+    if found is None:
+        raise SystemExit(f"this is no line of figures: {text[:200]!r}")
+    return [int(number.replace(",", "")) for number in found.groups()]
+
+
+def _differing_dots(report: Path, step: int, screens: Sequence[Path]) -> Optional[int]:
+    """The dots of the last picture that differ from the screen that is nearest to it."""
+    counts = []
+    for screen in screens:
+        status, said = _out(REPORT, "compare-picture", report, str(step), screen)
+        found = DIFFERING.search(said)
+        if status == 0:
+            return 0
+        if found is not None:
+            counts.append(int(found[1]))
+    return min(counts, default=None)
+
+
+def replay(base: Path) -> Replayed:
+    """Makes a script of BASE.trace.gz, runs it, and holds its report against the trace and BASE.0.ppm and so on."""
+    trace, script, report = (base.with_name(base.name + end) for end in (".trace.gz", ".bin", ".report"))
+    *_, plain = _figures(CONVERTED, _out(TRACE, "convert", trace, script, "--no-repeat")[1])
+    cycles, steps, length = _figures(CONVERTED, _out(TRACE, "convert", trace, script)[1])
+    with report.open("wb") as stream:
+        subprocess.run([PROGRAM, "run", script, "--fonts", FONTS], stdout=stream, check=True)
+    _, refused, reads, differing = _figures(CHECKED, _out(TRACE, "check", trace, report)[1])
+    screens = [base.with_name(f"{base.name}.{number}.ppm") for number in range(SCREENS)]
+    return Replayed(cycles, steps, length, plain, reads, differing, refused, _differing_dots(report, steps, screens))
+
+
+def _say(text: str) -> None:
+    print(text, file=sys.stderr, flush=True)
+
+
+def main() -> int:
+    """Runs a command line, and answers its exit status."""
+    parser = argparse.ArgumentParser(description="Software: " + ", ".join(SOFTWARE))
+    parser.add_argument("folder", type=Path, metavar="FOLDER")
+    parser.add_argument("names", nargs="*", metavar="NAME")
+    parser.add_argument("--unpacked", type=Path, metavar="FOLDER", help="packages of Debian, unpacked")
+    words = parser.parse_args()
+    unknown = set(words.names) - set(SOFTWARE)
+    if unknown:
+        parser.error(f"there is no software {', '.join(sorted(unknown))}")
+    try:
+        words.folder.mkdir(parents=True, exist_ok=True)
+        return 0 if _all_known(words) else 1
+    except (OSError, RuntimeError, subprocess.CalledProcessError) as error:
+        _say(f"traces.py: {error}")
+        return 2
+
+
+def _all_known(words: argparse.Namespace) -> bool:
+    """Records and replays what is wanted, and tells whether all was as known."""
+    is_known = True
+    print(HEADER, flush=True)
+    for name in words.names or SOFTWARE:
+        software, base = SOFTWARE[name], words.folder / name
+        if software.is_unpacked and words.unpacked is None:
+            _say(f"{name}: left out, since --unpacked names no folder")
+            continue
+        if not base.with_name(name + ".trace.gz").exists():
+            record(software.machine(words.folder, words.unpacked), base, _say)
+        replayed = replay(base)
+        is_known &= replayed.is_as_known(software)
+        print(replayed.row(name), flush=True)
+    return is_known
+
+
+if __name__ == "__main__":
+    # So that the machine that is recorded goes too.
+    signal.signal(signal.SIGTERM, lambda number, _: sys.exit(128 + number))
+    sys.exit(main())

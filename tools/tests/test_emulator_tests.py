@@ -1,0 +1,91 @@
+"""What the tests with emulators are made of, as far as no emulator is needed."""
+
+from __future__ import annotations
+
+import struct
+import subprocess
+import sys
+import unittest
+from pathlib import Path
+
+from emulator_tests.calling import MOST_SECTORS, NO_CALL, SECTOR, Call, caller, screen
+from emulator_tests.recording import Machine, wait_for_quiet
+from emulator_tests.software import SOFTWARE, archive_file
+from emulator_tests.traces import Replayed
+
+from .test_cases import Folder
+
+PROGRAM = Path(__file__).resolve().parents[1] / "emulator_tests" / "traces.py"
+MODES = (3, 7, 0x0D, 0x10, 0x12, 0x13)
+
+
+class Discs(Folder):
+    def calls(self, disc: Path) -> list[Call]:
+        """The calls of a disc's table, behind its boot sector."""
+        rows = struct.iter_unpack("<4H", disc.read_bytes()[SECTOR:SECTOR * (1 + MOST_SECTORS)])
+        read = [Call(ax, bx, cx, dx) for bx, cx, dx, ax in rows]
+        return read[:[call.ax for call in read].index(NO_CALL)]
+
+    def test_a_disc_has_a_boot_sector_that_reads_its_table(self) -> None:
+        calls = [Call(0x0013), Call(0x0C0F, 0, 3, 4), Call(0x0E41, 7)]
+        disc = caller(iter(calls), self.folder / "disc")
+        data = disc.read_bytes()
+        self.assertEqual((data[510:512], len(data)), (b"\x55\xAA", 1 << 20))
+        # The packet of interrupt 13: one sector to 7E00, from sector 1 on, where SI points to.
+        at = data.index(struct.pack("<BBHHHQ", 16, 0, 1, 0x7E00, 0, 1))
+        self.assertIn(b"\xBE" + struct.pack("<H", 0x7C00 + at) + b"\xB4\x42\xCD\x13", data[:at])
+        self.assertEqual(self.calls(disc), calls)
+
+    def test_each_mode_has_a_screen_that_fits(self) -> None:
+        for mode in MODES:
+            with self.subTest(mode):
+                calls = self.calls(caller(screen(mode), self.folder / "disc"))
+                self.assertEqual(calls[0], Call(mode))
+                self.assertGreater(len(calls), 700)
+
+    def test_too_many_calls(self) -> None:
+        with self.assertRaisesRegex(ValueError, "^5,001 calls are too many"):
+            caller(iter([Call(3)] * 5000), self.folder / "disc")
+
+    def test_a_file_of_an_archive(self) -> None:
+        packed = archive_file("init", 0o100755, b"#!x")
+        self.assertEqual((packed[:6], len(packed) % 4), (b"070701", 0))
+        fields = [int(packed[at:at + 8], 16) for at in range(6, 110, 8)]
+        self.assertEqual((fields[1], fields[6], fields[11]), (0o100755, 3, 5))
+        self.assertEqual(packed[110:115] + packed[116:119], b"init\0#!x")
+
+
+class Recording(Folder):
+    def test_a_file_that_no_longer_grows_is_quiet(self) -> None:
+        path = self.folder / "log"
+        path.write_bytes(b"cycle")
+        self.assertTrue(wait_for_quiet(path, Machine([], quiet=0.01, most=10)))
+        path.write_bytes(b"")
+        self.assertFalse(wait_for_quiet(path, Machine([], quiet=0.01, most=0.3)))
+
+
+class Traces(unittest.TestCase):
+    REPLAYED = Replayed(1_000, 900, 800, 850, 70, 0, 0, 0)
+
+    def test_rows_of_the_table(self) -> None:
+        row = "| name | 1,000 | 900 | 800 | 850 | 70 | 0 | 0 |"
+        for dots, picture in ((0, "the same"), (8, "8 dots differ"), (None, "another size")):
+            self.assertEqual(self.REPLAYED._replace(dots=dots).row("name"), f"{row} {picture} |")
+
+    def test_what_is_otherwise_than_known(self) -> None:
+        software = SOFTWARE["grub-text"]
+        self.assertTrue(self.REPLAYED.is_as_known(software))
+        for changed in ({"differing": 1}, {"refused": 1}, {"dots": 8}, {"dots": None}):
+            self.assertFalse(self.REPLAYED._replace(**changed).is_as_known(software))
+
+    def test_the_command_tells_its_software(self) -> None:
+        told = subprocess.run([sys.executable, PROGRAM, "--help"], capture_output=True, text=True)
+        self.assertEqual(told.returncode, 0)
+        self.assertIn("grub-planar", told.stdout)
+        told = subprocess.run([sys.executable, PROGRAM, "folder", "none"], capture_output=True, text=True)
+        self.assertEqual(told.returncode, 2)
+        self.assertIn("there is no software none", told.stderr)
+
+
+if __name__ == "__main__":
+    unittest.main()

@@ -1,0 +1,621 @@
+"""Floppies: scripts that are read whole, the table and its interpreter, images, records, reports, and runs."""
+
+from __future__ import annotations
+
+import contextlib
+import io
+import json
+import os
+import re
+import shutil
+import signal
+import subprocess
+import sys
+import time
+import unittest
+from pathlib import Path
+
+from vga_floppy import image as images
+from vga_floppy.answers import report_lines
+from vga_floppy.command import main
+from vga_floppy.image import CODE, Run, image_for, read_image
+from vga_floppy.machines import DOSBOX, MACHINES
+from vga_floppy.script import Block, Step, read_script
+from vga_floppy.serial import read_record
+from vga_floppy.table import reset_steps, table_for
+from vga_floppy.table_page import FIRST_MARK, LAST_MARK
+from vga_report.cases import read_cases
+from vga_report.trouble import Trouble
+from vga_report.words import SUITE
+
+from .floppy import ANSWERS, MARK, Adapter, Machine
+from .test_cases import Folder
+from .test_processes import is_running
+
+PROGRAM = Path(__file__).resolve().parents[1] / "vga-floppy"
+FLOPPY = Path(__file__).with_name("floppy.py")
+FAULT = re.compile(r"F[0-9]+ [A-Za-z]+(\([0-9]+\))?")
+SCRIPT = b"""version 2
+outw 3C4 0F02
+in 3CC
+put A0000 5A
+getw AFFFF ; the last address of a segment
+repeat 3
+inw 3CE
+frame
+end
+in 3DA
+int ax=0300 bx=0102
+int ax=1017 bx=00FE cx=2 dx=77
+int ax=1302 bx=F cx=3 dx=101 block 414243
+out 3C3 00
+out 60 FE
+put 9FFFF 00
+show regs
+advance 7
+get A0000
+"""
+REPORT = b"""1 ok
+2 CC
+3 ok
+4 FF00
+5 CFCE
+6 skipped
+7 CFCE
+8 skipped
+9 CFCE
+10 skipped
+11 skipped
+12 ax=0300 bx=0102 cx=1234 dx=1234
+13 ax=1017 bx=00FE cx=0002 dx=0077 block 000102030405
+14 ax=1302 bx=000F cx=0003 dx=0101
+15 skipped
+16 skipped
+17 skipped
+18 skipped
+19 skipped
+20 5A
+"""
+
+
+def run(*words: str | Path, given: bytes = b"", path: str | None = None) -> tuple[int, bytes, str]:
+    """Exit status, standard output and standard error of the command."""
+    environment = {**os.environ, **({"PATH": path} if path else {})}
+    done = subprocess.run(
+        [sys.executable, PROGRAM, *words], input=given, capture_output=True, timeout=200, env=environment
+    )
+    return done.returncode, done.stdout, done.stderr.decode()
+
+
+def machine(script: bytes) -> tuple[Machine, Adapter]:
+    """A machine with the image of a script, and its adapter."""
+    adapter = Adapter()
+    return Machine(image_for({"": read_script(script, "script")}, "script"), adapter), adapter
+
+
+def cycles(script: bytes) -> list[tuple[object, ...]]:
+    """The cycles of a script's own steps."""
+    booted, adapter = machine(script)
+    booted.run()
+    return adapter.cycles[adapter.cycles.index(("begin",)) + 1:]
+
+
+class Scripts(unittest.TestCase):
+    def fault(self, data: bytes) -> str:
+        """The fault of a script."""
+        with self.assertRaises(Trouble) as caught:
+            read_script(data, "it")
+        return str(caught.exception)
+
+    def test_a_text_and_its_bytes_are_one_script(self) -> None:
+        text = b"version 2\nOUT 3c4 2 ; a comment\r\n\nrepeat 03\nputw A0000 1234\n\tshow plane 1 FFFF 1\nend\n" \
+            b"int bx=0001 dx=ffff block 0aFf\nadvance 0000000004294967295\n"
+        data = b"VGAS\2\1\xc4\3\2\x0d\3\0\6\0\0\x0a\0\x34\x12\x0c\4\1\xff\xff\1\0\x0e" \
+            b"\x09\0\0\1\0\0\0\xff\xff\2\0\x0a\xff\x0a\xff\xff\xff\xff"
+        items = [
+            Step("out", (0x3C4, 2)), Block(3, (Step("putw", (0xA0000, 0x1234)), Step("show", (4,)))),
+            Step("int", (0, 1, 0, 0xFFFF), b"\x0a\xff"), Step("advance", (0xFFFFFFFF,)),
+        ]
+        self.assertEqual(read_script(text, "text"), items)
+        self.assertEqual(read_script(data, "data"), items)
+        self.assertEqual(read_script(b"", "nothing"), [])
+
+    def test_each_case_of_the_suite_has_its_fault_or_none(self) -> None:
+        seen = 0
+        for case in read_cases(str(SUITE)):
+            expected = FAULT.match(case.expected.read_text("ascii", "replace"))
+            # A font file is none of a script's, a file that doesn't begin as bytes do is a text, and one case is long.
+            if case.expected.stat().st_size > 100_000 or expected and expected[0] in ("F1 FontSize", "F2 BadMagic"):
+                continue
+            if case.source.stat().st_size < 1000 and "*65" in case.source.read_text("utf-8", "replace"):
+                continue
+            with self.subTest(case.name):
+                found = None
+                try:
+                    read_script(case.script(), case.name)
+                except Trouble as trouble:
+                    found = FAULT.search(str(trouble))
+                self.assertEqual(found and found[0], expected and expected[0])
+                seen += expected is not None
+        self.assertGreater(seen, 100)
+
+    def test_why_a_line_is_bad(self) -> None:
+        self.assertTrue(self.fault(b"frame\nmove 3C4\n").startswith("it:2: F7 BadLine(2): there is no step 'move'"))
+        self.assertEqual(self.fault(b"version 2\nend\n"), "it:2: F7 BadLine(2): no block is open here")
+        self.assertEqual(self.fault(b"VGAS\1\1"), "it: F5 Truncated(5): what begins there is cut off")
+
+
+class Interpreting(unittest.TestCase):
+    def test_a_script_step_by_step(self) -> None:
+        booted, _ = machine(SCRIPT)
+        left = booted.run()
+        self.assertEqual(b"".join(report_lines(read_image(left, "image"), "image")), REPORT)
+        record = b"noise\r\n" + b"".join(booted.record)
+        self.assertEqual(b"".join(report_lines(read_record(record, "record"), "record")), REPORT)
+
+    def test_the_bytes_of_the_table(self) -> None:
+        steps = table_for({"ab": read_script(SCRIPT, "script")})[16:].partition(reset_steps())[2]
+        self.assertEqual(
+            steps.hex(" "),
+            "0f 03 02 61 62 02 c4 03 02 0f 03 cc 03 05 00 a0 00 00 5a 08 ff af 0f 00 0d 03 00 04 ce 03 0a 01 00 0e 0b da 03 00 "
+            "09 00 03 02 01 00 00 00 00 00 00 00 00 00 09 17 10 fe 00 02 00 77 00 04 06 00 00 00 "
+            "09 02 13 0f 00 03 00 01 01 02 00 00 03 00 41 42 43 0a 01 00 0a 01 00 0a 01 00 0a 01 00 0a 01 00 "
+            "07 00 a0 00 00 00",
+        )
+
+    def test_what_the_adapter_sees(self) -> None:
+        self.assertEqual(cycles(SCRIPT), [
+            ("out", 0x3C4, 0x02), ("out", 0x3C5, 0x0F), ("in", 0x3CC), ("put", 0xA0000, 0x5A),
+            ("get", 0xAFFFF), ("get", 0xB0000), *(3 * [("in", 0x3CE), ("in", 0x3CF)]), ("in", 0x3DA),
+            ("int", 0x0300, 0x0102, 0, 0, "", b""), ("int", 0x1017, 0xFE, 2, 0x77, "table", b""),
+            ("int", 0x1302, 0x0F, 3, 0x101, "bp", b"ABC"), ("get", 0xA0000),
+        ])
+
+    def test_nothing_but_the_adapter_is_touched(self) -> None:
+        harmful = b"out 3BF 1\nout 3BC 1\noutw 3BB 1\noutw 3C2 1\noutw 3DF 1\nin 3BC\nout 3F2 0\nout CF9 6\noutw FFFF 1\n" \
+            b"putw 9FFFF 1\nputw BFFFF 1\nput C0000 1\nput 7C00 1\nget FFFFFFFF\nint ax=1017 bx=1 cx=100\nint ax=1017 cx=FFFF\n"
+        self.assertEqual(cycles(harmful), [])
+        self.assertEqual(cycles(b"out 3B0 1\nout 3BB 1\nout 3C0 1\nout 3DF 1\nput BFFFF 1\nget A0000\n")[-1], ("get", 0xA0000))
+
+    def test_what_is_before_the_first_step(self) -> None:
+        for script, last in ((b"frame\n", 0x00), (b"int ax=3\n", 0x03), (b"version 2\nrepeat 2\nint ax=3\nend\n", 0x03)):
+            booted, adapter = machine(script)
+            booted.run()
+            before = adapter.cycles[:adapter.cycles.index(("begin",))]
+            written = {address for kind, address, *_ in before if kind == "put"}
+            self.assertEqual(written, set(range(0xA0000, 0xB0000)))
+            self.assertEqual(before[0], ("int", 3, 0, 0, 0, "", b""))
+            self.assertEqual(before[-1], ("out", 0x3C2, last))
+            self.assertEqual(len(booted.answers), 8 * (script.count(b"int") + script.count(b"repeat")))
+            self.assertEqual(before.count(("out", 0x3C9, 0)), 768)
+            self.assertEqual(self.registers(before), {
+                "misc": last, "seq": [3, 0, 0, 0, 0], "gfx": [0] * 9, "crtc": [3 if at == 0x17 else 0 for at in range(25)],
+                "attr": [0] * 21, "mask": 0xFF,
+            })
+
+    def registers(self, before: list[tuple[object, ...]]) -> dict[str, object]:
+        """What cycles leave in an adapter's registers."""
+        files: dict[int, list[object]] = {0x3C4: [None] * 5, 0x3CE: [None] * 9, 0x3D4: [None] * 25}
+        indexes, attributes, is_data = {port: 0 for port in files}, [None] * 21, False
+        found: dict[str, object] = {}
+        for kind, port, *value in before[1:]:
+            if kind == "in" and port == 0x3DA:
+                is_data = False
+            elif kind == "out" and port == 0x3C0:
+                if is_data:
+                    attributes[indexes[0x3C0]] = value[0]  # type: ignore[call-overload]
+                else:
+                    indexes[0x3C0] = value[0]  # type: ignore[assignment]
+                is_data = not is_data
+            elif kind == "out" and port in files:
+                indexes[port] = value[0]  # type: ignore[index, assignment]
+            elif kind == "out" and port - 1 in files:  # type: ignore[operator]
+                files[port - 1][indexes[port - 1]] = value[0]  # type: ignore[operator, index]
+            elif kind == "out":
+                found[{0x3C2: "misc", 0x3C6: "mask"}.get(port, "other")] = value[0]  # type: ignore[call-overload]
+        self.assertFalse(is_data)
+        self.assertEqual(set(indexes.values()), {0})
+        found.pop("other")
+        return {**found, "seq": files[0x3C4], "gfx": files[0x3CE], "crtc": files[0x3D4], "attr": attributes}
+
+    def test_progress_goes_out_with_the_answers(self) -> None:
+        booted, _ = machine(b"version 2\nrepeat 5000\nin 3CC\nend\n")
+        booted.run()
+        self.assertEqual(sum(line.startswith(b"P ") for line in booted.record), 2)
+        self.assertIn(b"P 001000 10\r\n", booted.record)
+        self.assertIn(b"P 002000 20\r\n", booted.record)
+
+    def test_blocks_are_interpreted_and_not_unrolled(self) -> None:
+        long, short = (table_for({"": read_script(b"version 2\nrepeat %d\nout 3C4 2\nend\n" % count, "it")}) for count in (65535, 1))
+        self.assertEqual(len(long), len(short))
+
+    @unittest.skipUnless(shutil.which("nasm"), "nasm isn't installed")
+    def test_the_bytes_kept_are_those_of_the_source(self) -> None:
+        made = subprocess.run(
+            ["nasm", "-f", "bin", str(CODE.with_suffix(".asm")), "-o", "/dev/stdout"], capture_output=True, check=True
+        )
+        self.assertEqual(made.stdout, CODE.read_bytes())
+
+    def test_the_layout_is_that_of_the_source(self) -> None:
+        source = CODE.with_suffix(".asm").read_text("ascii")
+        for name, value in (
+            ("MARK_SECTOR", images.MARK_AT // 512), ("ANSWER_SECTOR", images.ANSWERS_AT // 512), ("WAIT_FOR_KEY", 0),
+            ("LEAVE_EMULATOR", 1), ("STAND_STILL", 2), ("INTERPRETER_SIZE", 2048), ("HEADER_SIZE", 16),
+        ):
+            self.assertRegex(source, rf"(?m)^{name} +equ {value}\b")
+        self.assertEqual(len(CODE.read_bytes()), images.CODE_SIZE)
+
+
+class Several(Folder):
+    """Scripts that run one after the other."""
+
+    def folder_of_scripts(self, **scripts: str) -> Path:
+        for name, text in scripts.items():
+            self.write(f"scripts/{name}.vga", text)
+        self.write("scripts/list.txt", "".join(f"{name}.vga fonts/zero.fnt\n" for name in scripts))
+        return self.folder / "scripts"
+
+    def test_each_has_a_report(self) -> None:
+        folder, image = self.folder_of_scripts(one="in 3CC\nframe\n", two="int ax=300\n", three="put A0000 1\n"), self.folder / "image"
+        self.assertEqual(run("make", folder, image), (0, b"", ""))
+        adapter = Adapter()
+        booted = Machine(image.read_bytes(), adapter)
+        image.write_bytes(booted.run())
+        self.assertEqual(adapter.cycles.count(("begin",)), 3)
+        outputs = [cycle[2] for cycle, after in zip(adapter.cycles, adapter.cycles[1:]) if after == ("begin",)]
+        self.assertEqual(outputs, [0, 3, 0])
+        reports, texts = self.folder / "reports", {
+            "one.report": b"1 CC\n2 skipped\n", "two.report": b"1 ax=0300 bx=0000 cx=1234 dx=1234\n", "three.report": b"1 ok\n",
+        }
+        self.assertEqual(run("read", image, reports), (0, b"", ""))
+        self.assertEqual({path.name: path.read_bytes() for path in reports.iterdir()}, texts)
+        message = f"vga-floppy: {image}: it has the answers of 3 scripts: name a folder for their reports\n"
+        self.assertEqual(run("read", image), (2, b"", message))
+        message = f"vga-floppy: {reports}: the folder has files, and none of them is to be lost: give one that is new or empty\n"
+        self.assertEqual(run("read", image, reports), (2, b"", message))
+        record = self.folder / "record"
+        record.write_bytes(b"".join(booted.record[:-2]))
+        self.assertEqual(run("read", "--serial", "--part", record, self.folder / "part"), (0, b"", ""))
+        self.assertEqual((self.folder / "part" / "one.report").read_bytes(), b"")
+
+    def test_a_bad_one_is_named(self) -> None:
+        folder = self.folder_of_scripts(one="frame\n", two="move\n")
+        status, _, said = run("make", folder, self.folder / "image")
+        self.assertEqual(status, 2)
+        self.assertTrue(said.startswith(f"vga-floppy: {folder}/two.vga:1: F7 BadLine(1): "))
+        self.assertEqual(run("make", self.folder, "-")[2], f"vga-floppy: {self.folder}: Is a directory\n")
+
+    def test_a_name_of_a_file_elsewhere(self) -> None:
+        for name in ("../one", "/tmp/one"):
+            image = image_for({name: [], "two": []}, "it")
+            path = self.folder / "image"
+            path.write_bytes(Machine(image, Adapter()).run())
+            status, _, said = run("read", path, self.folder / "reports")
+            self.assertEqual((status, said), (2, f"vga-floppy: {path}: a script has the name of a file outside of a folder: '{name}'\n"))
+            self.assertEqual(list((self.folder / "reports").iterdir()), [])
+
+
+class Left(Folder):
+    """What a run has left, and what isn't whole of it."""
+
+    def setUp(self) -> None:
+        super().setUp()
+        self.machine, _ = machine(SCRIPT)
+        self.image = self.machine.run()
+        self.record = b"".join(self.machine.record)
+
+    def image_trouble(self, image: bytes) -> str:
+        with self.assertRaises(Trouble) as caught:
+            list(report_lines(read_image(image, "it"), "it"))
+        return str(caught.exception)
+
+    def record_trouble(self, record: bytes) -> str:
+        with self.assertRaises(Trouble) as caught:
+            list(report_lines(read_record(record, "it"), "it"))
+        return str(caught.exception)
+
+    def changed(self, at: int, byte: int) -> bytes:
+        return self.image[:at] + bytes([byte]) + self.image[at + 1:]
+
+    def test_images_that_are_damaged(self) -> None:
+        for image, message in (
+            (b"", "it: it is no image of vga-floppy"),
+            (bytes(len(self.image)), "it: it is no image of vga-floppy"),
+            (self.image[:ANSWERS], "it: its answers are damaged"),
+            (self.image[:ANSWERS - 1], f"it: the image is cut off: it has {ANSWERS - 1:,} bytes of 1,474,560"),
+            (image_for({"": read_script(SCRIPT, "script")}, "script"), "it: no run has ended: the machine has not written its mark"),
+            (self.changed(MARK, 0), "it: no run has ended: the machine has not written its mark"),
+            (self.changed(MARK + 12, self.image[MARK + 12] ^ 1), "it: its answers are those of another script"),
+            (self.changed(ANSWERS + 3, self.image[ANSWERS + 3] ^ 1), "it: its answers are damaged"),
+            (self.changed(MARK + 8, 39), "it: its answers are damaged"),
+            (self.changed(MARK + 9, 0x80), "it: it has 32,808 bytes of answers, and its steps have 40"),
+            (self.changed(512 * 5, 0), "it: it holds no table of steps of vga-floppy"),
+            (self.changed(512 * 5 + 4, 2), "it: its table is of version 2, and this tool reads version 1"),
+            (self.changed(512 * 5 + 20, 0x77), "it: its table of steps is damaged"),
+            (self.changed(512 * 5 + 11, 0x77), "it: its table of steps is damaged"),
+        ):
+            with self.subTest(message):
+                self.assertEqual(self.image_trouble(image), message)
+
+    def test_answers_of_another_number_than_steps(self) -> None:
+        table = read_image(self.image, "it").table
+        for answers, message in ((b"\1", "it: it has no answer for step 4"), (bytes(99), "it: it has 99 bytes of answers, and its steps have 40")):
+            with self.subTest(len(answers)), self.assertRaises(Trouble) as caught:
+                list(report_lines(Run(table, answers), "it"))
+            self.assertEqual(str(caught.exception), message)
+
+    def test_records_that_are_damaged(self) -> None:
+        lines = self.record.split(b"\r\n")
+        at = next(at for at, line in enumerate(lines) if line.startswith(b"A"))
+        for record, message in (
+            (b"nothing\n", "it: it holds no record of vga-floppy"),
+            (self.record.replace(b"\r\nA 000000 CC", b"\r\nA 000000 CD"), f"it:{at + 1}: the line's sum is wrong: bytes were lost on their way"),
+            (b"\r\n".join(lines[:at] + lines[at + 1:]), f"it:{at + 1}: bytes from 0 on are to come, and not from 16 on"),
+            (b"\r\n".join(lines[:at] + [b"A 0000"] + lines[at + 1:]), f"it:{at + 1}: no line of a record: 'A 0000'"),
+            (b"\r\n".join(lines[:6]), "it: its table of steps is damaged"),
+            (b"\r\n".join(lines[:at + 2] + lines[at + 3:]), "it: the end of the record tells of other answers"),
+        ):
+            with self.subTest(message):
+                self.assertEqual(self.record_trouble(record), message)
+
+    def test_the_last_of_two_records_counts(self) -> None:
+        other, _ = machine(b"in 3CC\n")
+        other.run()
+        record = b"".join(other.record)[:-40] + self.record
+        self.assertEqual(b"".join(report_lines(read_record(record, "it"), "it")), REPORT)
+
+    def test_a_record_that_ends_too_early(self) -> None:
+        stopped, _ = machine(b"in 3CC\n" * 40)
+        stopped.run(cycles=20)
+        path = self.folder / "record"
+        path.write_bytes(b"".join(stopped.record))
+        status, output, said = run("read", "--serial", path)
+        message = f"vga-floppy: {path}: the record ends before the run did: 16 of 40 bytes of answers came; --part gives the report so far\n"
+        self.assertEqual((status, output, said), (2, b"", message))
+        status, output, said = run("read", "--serial", "--part", path)
+        self.assertEqual((status, said), (0, ""))
+        self.assertEqual(output, b"".join(b"%d CC\n" % number for number in range(1, 17)))
+
+    def test_registers_in_which_nothing_is_answered(self) -> None:
+        run_left = read_image(self.image, "it")
+        with_all = b"".join(report_lines(run_left, "it", True)).splitlines()
+        self.assertEqual(with_all[11], b"12 ax=DEAD bx=1234 cx=1234 dx=1234")
+        self.assertEqual(with_all[12], b"13 ax=DEAD bx=1234 cx=1234 dx=1234 block 000102030405")
+
+
+class Commands(Folder):
+    def test_an_image_is_made_and_read(self) -> None:
+        script, image = self.write("script.vga", SCRIPT.decode()), self.folder / "image"
+        self.assertEqual(run("make", script, image), (0, b"", ""))
+        self.assertEqual(run("make", "-", "-", given=SCRIPT)[1], image.read_bytes())
+        self.assertEqual(image.read_bytes()[64], 0)
+        image.write_bytes(Machine(image.read_bytes(), Adapter()).run())
+        self.assertEqual(run("read", image), (0, REPORT, ""))
+        self.assertEqual(run("read", "-", self.folder / "report", given=image.read_bytes()), (0, b"", ""))
+        self.assertEqual((self.folder / "report").read_bytes(), REPORT)
+
+    def test_files_that_are_wrong(self) -> None:
+        script = self.write("script.vga", "frame\nmove\n")
+        text = self.write("text", "no image")
+        image = self.folder / "image"
+        for words, message in (
+            (("make", script, image), f"{script}:2: F7 BadLine(2): there is no step 'move'; "),
+            (("make", self.folder / "none", image), f"{self.folder}/none: No such file or directory\n"),
+            (("make", self.folder, image), f"{self.folder}: Is a directory\n"),
+            (("make", script, self.folder / "no" / "image"), f"{script}:2: "),
+            (("read", text), f"{text}: it is no image of vga-floppy\n"),
+            (("read", "--serial", text), f"{text}: it holds no record of vga-floppy\n"),
+            (("run", "--on", "dosbox", script), f"{script}:2: F7 BadLine(2): "),
+        ):
+            status, output, said = run(*words)
+            self.assertEqual((status, output), (2, b""))
+            self.assertTrue(said.startswith("vga-floppy: " + message), said)
+            self.assertEqual(len(said.splitlines()), 1)
+        self.assertFalse(image.exists())
+
+    def test_an_input_is_never_an_output(self) -> None:
+        script = self.write("script.vga", "frame\n")
+        self.assertEqual(run("make", script, script)[0], 2)
+        self.assertEqual(Path(script).read_text(), "frame\n")
+
+    def test_a_script_that_is_too_long_for_a_machine(self) -> None:
+        for script, message in (
+            (b"out 3C4 02\n" * 110_000, f"standard input: its steps take {440_004 + len(reset_steps()):,} bytes, and a machine has room for 423,920\n"),
+            (b"version 2\nrepeat 65535\nin 3CC\nend\nin 3CC\n", "standard input: its answers take 65,536 bytes, and a machine has room for 65,535\n"),
+        ):
+            self.assertEqual(run("make", "-", self.folder / "image", given=script), (2, b"", "vga-floppy: " + message))
+        self.assertEqual(list(self.folder.iterdir()), [])
+
+    @unittest.skipUnless(Path("/dev/full").exists(), "there is no /dev/full")
+    def test_a_full_disk(self) -> None:
+        script = self.write("script.vga", "frame\n")
+        message = "vga-floppy: /dev/full: No space left on device\n"
+        self.assertEqual(run("make", script, "/dev/full"), (2, b"", message))
+        booted, _ = machine(b"in 3CC\n")
+        (self.folder / "image").write_bytes(booted.run())
+        self.assertEqual(run("read", self.folder / "image", "/dev/full"), (2, b"", message))
+
+    def test_a_closed_output_is_told(self) -> None:
+        words = ["sh", "-c", 'exec "$@" >&-', "sh", sys.executable, str(PROGRAM), "make", "-", "-"]
+        done = subprocess.run(words, input=b"frame\n", stderr=subprocess.PIPE, timeout=60)
+        self.assertEqual((done.returncode, done.stderr), (2, b"vga-floppy: standard output: it is closed\n"))
+
+    def test_a_closed_pipe_ends_it_silently(self) -> None:
+        process = subprocess.Popen([sys.executable, PROGRAM, "make", "-", "-"], stdin=subprocess.PIPE,
+                                   stdout=subprocess.PIPE, stderr=subprocess.PIPE)
+        assert process.stdin and process.stdout and process.stderr
+        with process, process.stdin, process.stdout, process.stderr:
+            process.stdout.close()
+            process.stdin.write(b"frame\n")
+            process.stdin.close()
+            self.assertEqual((process.stderr.read(), process.wait()), (b"", 141))
+
+
+@unittest.skipUnless(Path("/proc/self/stat").exists(), "processes are looked at as Linux shows them")
+class Runs(Folder):
+    """Runs on an emulator that is a program of these tests."""
+
+    def path_with(self, *words: str | Path) -> str:
+        """A path of programs in which dosbox is the machine of these tests, with such words."""
+        program = self.folder / "bin" / "dosbox"
+        program.parent.mkdir(exist_ok=True)
+        program.write_text("#!/bin/sh\nexec " + " ".join(f"'{word}'" for word in (sys.executable, FLOPPY, *words)) + "\n")
+        program.chmod(0o755)
+        return f"{program.parent}:{os.environ['PATH']}"
+
+    def run_on(self, *words: str, path: str, script: str = SCRIPT.decode()) -> tuple[int, bytes, str]:
+        scratch = self.folder / "scratch"
+        scratch.mkdir(exist_ok=True)
+        os.environ["TMPDIR"] = str(scratch)
+        try:
+            done = run("run", "--on", "dosbox", self.write("script.vga", script), *words, path=path)
+        finally:
+            del os.environ["TMPDIR"]
+        self.assertEqual(list(scratch.iterdir()), [], "a folder of a run is left")
+        return done
+
+    def test_a_report_comes_back(self) -> None:
+        self.assertEqual(self.run_on(path=self.path_with()), (0, REPORT, ""))
+
+    def test_a_full_disk_beneath_the_run(self) -> None:
+        words = ["sh", "-c", 'ulimit -f 100 && exec "$@"', "sh", sys.executable, str(PROGRAM), "run", "--on", "dosbox", "-"]
+        done = subprocess.run(
+            words, input=b"frame\n", capture_output=True, timeout=60,
+            env={**os.environ, "PATH": self.path_with(), "TMPDIR": str(self.folder)},
+        )
+        self.assertEqual((done.returncode, done.stdout), (2, b""))
+        self.assertRegex(done.stderr, rb"^vga-floppy: .*/script.img: File too large\n$")
+        self.assertEqual([path.name for path in self.folder.iterdir()], ["bin"])
+
+    def test_an_emulator_that_ends_too_early(self) -> None:
+        message = "vga-floppy: dosbox: it ended before the script did: no such part\n"
+        self.assertEqual(self.run_on(path=self.path_with("crash")), (2, b"", message))
+
+    def test_an_emulator_that_is_not_there(self) -> None:
+        message = "vga-floppy: there is no dosbox: Debian's package dosbox has it\n"
+        self.assertEqual(self.run_on(path=str(self.folder)), (2, b"", message))
+
+    def test_a_bios_that_an_emulator_does_not_take(self) -> None:
+        message = "vga-floppy: dosbox has a video BIOS of its own\n"
+        self.assertEqual(self.run_on("--bios", "lgpl", path=self.path_with()), (2, b"", message))
+
+    def test_the_limit_ends_all_that_was_started(self) -> None:
+        told = self.folder / "child"
+        began = time.monotonic()
+        done = self.run_on("--seconds", "2", path=self.path_with("wait", told))
+        self.assertEqual(done, (2, b"", "vga-floppy: dosbox: the script has not ended within 2 seconds\n"))
+        self.assertLess(time.monotonic() - began, 30)
+        self.assert_ended(int(told.read_text().split()[0]))
+
+    def test_signals_end_all_that_was_started(self) -> None:
+        for number, status in ((signal.SIGTERM, 143), (signal.SIGINT, 130)):
+            with self.subTest(number):
+                told = self.folder / f"child-{number}"
+                environment = {**os.environ, "PATH": self.path_with("wait", told)}
+                words = [sys.executable, PROGRAM, "run", "--on", "dosbox", self.write("script.vga", "frame\n"), self.folder / "report"]
+                with subprocess.Popen(
+                    words, env=environment, stdout=subprocess.PIPE, stderr=subprocess.PIPE,
+                    # A shell's background job ignores it.
+                    preexec_fn=lambda: signal.signal(signal.SIGINT, signal.SIG_DFL),
+                ) as process:
+                    self.wait_for(told, process)
+                    process.send_signal(number)
+                    self.assertEqual((process.communicate(timeout=20), process.returncode), ((b"", b""), status))
+                child, folder = told.read_text().split()
+                self.assert_ended(int(child))
+                self.assertFalse(Path(folder).exists())
+                self.assertFalse((self.folder / "report").exists())
+
+    @unittest.skipUnless(sys.platform.startswith("linux"), "Linux alone ends a process with its parent")
+    def test_an_emulator_ends_with_a_command_that_is_killed(self) -> None:
+        told = self.folder / "child"
+        environment = {**os.environ, "PATH": self.path_with("wait", told)}
+        words = [sys.executable, PROGRAM, "run", "--on", "dosbox", self.write("script.vga", "frame\n")]
+        with subprocess.Popen(words, env=environment, stdout=subprocess.DEVNULL) as process:
+            self.wait_for(told, process)
+            emulators = subprocess.run(["ps", "-o", "pid=", "--ppid", str(process.pid)], capture_output=True).stdout.split()
+            process.kill()
+        child, folder = told.read_text().split()
+        shutil.rmtree(folder)
+        self.assertEqual(len(emulators), 1)
+        self.assert_ended(int(emulators[0]))
+        # What the emulator itself has started no signal reaches then.
+        os.kill(int(child), signal.SIGKILL)
+
+    def wait_for(self, path: Path, process: subprocess.Popen[bytes]) -> None:
+        """Waits until a file has something, as long as a process runs."""
+        while not path.exists() or not path.read_text():
+            self.assertIsNone(process.poll())
+            time.sleep(0.01)
+
+    def assert_ended(self, number: int) -> None:
+        until = time.monotonic() + 10
+        while is_running(number) and time.monotonic() < until:
+            time.sleep(0.01)
+        self.assertFalse(is_running(number))
+
+
+class Pages(Folder):
+    """Tables of the suite's results, and the cases that a page names."""
+
+    def test_cases_that_a_machine_is_asked_have_answers_of_one(self) -> None:
+        page = (PROGRAM.parents[1] / "docs" / "REAL-MACHINES.md").read_text("utf-8")
+        named = set(re.findall(r"`((?:host|words|ports|crtc|attribute|dac|services|heights|graphics)/[a-z0-9-]+)`", page))
+        self.assertGreater(len(named), 30)
+        answered = {case.name for case in read_cases(str(SUITE)) if case.has_answers_of_machine()}
+        self.assertEqual(named - answered, set())
+
+    def test_all_that_a_machine_is_asked_fits_an_image(self) -> None:
+        cases = [case for case in read_cases(str(SUITE)) if case.has_answers_of_machine()]
+        scripts = {case.name: read_script(case.machine_script(), case.name) for case in cases}
+        self.assertIn(f" {len(cases)} of them", (PROGRAM.parents[1] / "docs" / "REAL-MACHINES.md").read_text("utf-8"))
+        self.assertEqual(len(image_for(scripts, "all")), images.IMAGE_SIZE)
+
+    def results(self, name: str, **cases: tuple[str, int, int, str, str]) -> str:
+        rules = [
+            {
+                "rule": f"The {at} | rule.", "folder": "host",
+                "cases": [{"name": f"host/{at}", "answer": answer, "answers": answers, "differing": differing,
+                           "answered": answered, "expected": expected}],
+            }
+            for at, (answer, answers, differing, answered, expected) in cases.items()
+        ]
+        return self.write(name + ".json", json.dumps({"command": f"tools/vga-floppy run --on {name} {{script}}", "rules": rules}))
+
+    def write_page(self, *results: str) -> tuple[int, str, str]:
+        page = Path(self.write("page.md", f"Before.\n{FIRST_MARK}\nold\n{LAST_MARK}\nAfter.\n"))
+        said = io.StringIO()
+        with contextlib.redirect_stderr(said):
+            status = main(["table", str(page), *results])
+        return status, page.read_text(), said.getvalue()
+
+    def test_tables_between_the_marks(self) -> None:
+        versions = {name: vars(machine)["version"] for name, machine in MACHINES.items()}
+        self.assertEqual(set(versions), {"qemu", "bochs", "dosbox"})
+        dosbox = MACHINES[DOSBOX]
+        MACHINES[DOSBOX] = type(dosbox)(dosbox.name, dosbox.program, dosbox.package, dosbox.words, lambda: "0.1")
+        self.addCleanup(MACHINES.__setitem__, DOSBOX, dosbox)
+        first = self.results("dosbox", one=("differs", 5, 2, "ax=0001 bx=0002", "ax=0001 bx=0003"), two=("agrees", 2000, 0, "", ""))
+        status, page, said = self.write_page(first)
+        self.assertEqual((status, said), (0, ""))
+        self.assertEqual(page, "\n".join((
+            "Before.", FIRST_MARK, "", "Compared were dosbox 0.1.", "", "|  | dosbox |", "|---|---|", "| cases that agree | 1 |",
+            "| cases of which a part or all was skipped, and the rest agrees | 0 |", "| cases that differ | 1 |",
+            "| cases whose run failed | 0 |", "| bytes, words and registers compared | 2,005 |", "| of these as expected | 2,003 |",
+            "", "| Folder: cases that agree, are skipped, differ | dosbox |", "|---|---|", "| `host/` | 1, 0, 1 |", "",
+            "| Rule of the suite | Case | dosbox |", "|---|---|---|",
+            "| The one \\| rule. | `host/one` | bx=0002, not bx=0003 |", "", LAST_MARK, "After.", "",
+        )))
+
+    def test_files_that_are_wrong(self) -> None:
+        for name, text in (("none", "{"), ("list", "[]"), ("lacking", '{"command": "x", "rules": [{"cases": [{}]}]}')):
+            path = self.write(name, text)
+            status, page, said = self.write_page(path)
+            self.assertEqual((status, said), (2, f"vga-floppy: {path}: it isn't what `vga-report suite --json` prints\n"))
+            self.assertIn("\nold\n", page)
+        path = self.write("other", '{"command": "my-harness {script}", "rules": []}')
+        self.assertEqual(self.write_page(path)[2], f"vga-floppy: {path}: its command is no `vga-floppy run --on` of an emulator\n")
+        page = self.write("unmarked.md", "Text.\n")
+        status, output, said = run("table", page, path)
+        self.assertEqual((status, output), (2, b""))
+        self.assertTrue(said.startswith(f"vga-floppy: {page}: it lacks the marks: "))

@@ -1,0 +1,194 @@
+"""The words of the command line, what each command does, and how it ends."""
+
+from __future__ import annotations
+
+import argparse
+import os
+import sys
+from typing import Optional, Sequence
+
+from vga_report.command import open_closed_streams
+from vga_report.images import Image
+from vga_report.output import AGREED, TROUBLE, name_of, refuse_twice
+from vga_report.png import Shape, write_png
+from vga_report.streams import STANDARD, reading, write_file, writing
+from vga_report.suite import LIST, empty_folder
+from vga_report.trouble import Trouble
+from vga_report.words import seconds
+
+from .answers import Reports, report_lines
+from .image import IMAGE_SIZE, Run, image_for, read_image
+from .machines import LGPL, MACHINES, SEABIOS
+from .running import Wanted, run_on
+from .script import MOST_BYTES, Item, read_script
+from .serial import read_record
+from .table_page import write_tables
+
+# What a shell says of programs that a closed pipe or the user has ended.
+PIPE_CLOSED, INTERRUPTED = 141, 130
+# A longer file is no image and no record.
+MOST_READ = 1 << 26
+
+
+def _add_script(parser: argparse.ArgumentParser) -> None:
+    parser.add_argument(
+        "script", metavar="SCRIPT", help="the script, as text or bytes, or a folder of `vga-report scripts`; - is standard input"
+    )
+
+
+def _add_report(parser: argparse.ArgumentParser) -> None:
+    parser.add_argument(
+        "report", nargs="?", default=STANDARD, metavar="REPORT",
+        help="the report, or of several scripts a folder for their reports; else standard output",
+    )
+    parser.add_argument(
+        "--all-registers", action="store_true",
+        help="of a call all registers as the machine has left them, and not those alone in which the service answers",
+    )
+
+
+def _parser() -> argparse.ArgumentParser:
+    parser = argparse.ArgumentParser(
+        prog="vga-floppy",
+        description="Runs scripts on machines: by a floppy on a PC, or on an emulator. docs/REAL-MACHINES.md tells how.",
+    )
+    commands = parser.add_subparsers(required=True, metavar="COMMAND")
+    command = commands.add_parser("make", help="makes a floppy's image that runs a script, or many")
+    _add_script(command)
+    command.add_argument("image", metavar="IMAGE", help="the image, of 1,474,560 bytes; - is standard output")
+    command.set_defaults(job=_make)
+    command = commands.add_parser("read", help="gives the report of what a run has left")
+    command.add_argument("file", metavar="FILE", help="the image, or with --serial the record; - is standard input")
+    command.add_argument("--serial", action="store_true", help="FILE is what came over the serial port")
+    command.add_argument("--part", action="store_true", help="the front of the report, of a record that ends too early")
+    _add_report(command)
+    command.set_defaults(job=_read)
+    command = commands.add_parser("run", help="runs a script on an emulator, and gives the report")
+    command.add_argument("--on", required=True, choices=list(MACHINES), help="the emulator")
+    command.add_argument("--bios", choices=[SEABIOS, LGPL], help="the video BIOS of qemu (else sea) or bochs (else lgpl)")
+    command.add_argument("--seconds", type=seconds, default=30, metavar="N", help="how long it may take; else 30")
+    command.add_argument("--picture", metavar="FILE", help="writes what it shows at last, as PNG")
+    _add_script(command)
+    _add_report(command)
+    command.set_defaults(job=_run)
+    command = commands.add_parser("table", help="writes the suite's results into a page")
+    command.add_argument("page", metavar="PAGE", help="the page, with the marks between which they stand")
+    command.add_argument("results", nargs="+", metavar="RESULTS", help="what `vga-report suite --json` printed of `run`")
+    command.set_defaults(job=_table)
+    return parser
+
+
+def _say(text: str) -> None:
+    print(f"vga-floppy: {text}", file=sys.stderr)
+
+
+def _items(path: str) -> list[Item]:
+    """The script of a file."""
+    with reading(path) as stream:
+        return read_script(stream.read(MOST_BYTES + 1), name_of(path))
+
+
+def _scripts(path: str) -> dict[str, list[Item]]:
+    """The script of a file; or those of a folder, by the names that its list has."""
+    if not os.path.isdir(path) or not os.path.exists(os.path.join(path, LIST)):
+        return {"": _items(path)}
+    with reading(os.path.join(path, LIST)) as stream:
+        names = [os.fsdecode(line.split(b" ")[0]) for line in stream]
+    # The names in the list have the ends that tell text from bytes, and those of reports have none.
+    return {os.path.splitext(name)[0]: _items(os.path.join(path, name)) for name in names}
+
+
+def _write_report(words: argparse.Namespace, run: Run, name: str) -> None:
+    """Writes the report of a run, or those of its scripts into a folder."""
+    scripts = run.table.scripts()
+    if len(scripts) == 1:
+        with writing(words.report) as stream:
+            stream.writelines(report_lines(run, name, words.all_registers))
+        return
+    if words.report == STANDARD:
+        raise Trouble(f"it has the answers of {len(scripts)} scripts: name a folder for their reports", name)
+    folder, reports = empty_folder(words.report), Reports(run, name, words.all_registers)
+    for script in scripts:
+        path = folder / f"{script.name}.report"
+        if ".." in path.parts or folder not in path.parents:
+            raise Trouble(f"a script has the name of a file outside of a folder: '{script.name[:40]}'", name)
+        path.parent.mkdir(parents=True, exist_ok=True)
+        with writing(str(path)) as stream:
+            stream.writelines(reports.lines(script))
+        if reports.has_ended:
+            break
+    reports.check_end()
+
+
+def _make(words: argparse.Namespace) -> int:
+    """Makes an image."""
+    write_file(words.image, image_for(_scripts(words.script), name_of(words.script)))
+    return AGREED
+
+
+def _read(words: argparse.Namespace) -> int:
+    """Gives the report of an image or a record."""
+    name = name_of(words.file)
+    with reading(words.file) as stream:
+        data = stream.read(MOST_READ if words.serial else IMAGE_SIZE)
+    run = read_record(data, name) if words.serial else read_image(data, name)
+    if not run.is_whole and not words.part:
+        length = run.table.answer_length()
+        came = f"{len(run.answers):,} of {length:,} bytes of answers came"
+        raise Trouble(f"the record ends before the run did: {came}; --part gives the report so far", name)
+    _write_report(words, run, name)
+    return AGREED
+
+
+def _run(words: argparse.Namespace) -> int:
+    """Runs a script on an emulator."""
+    wanted = Wanted(words.bios, words.seconds, words.picture is not None)
+    ran = run_on(MACHINES[words.on], _scripts(words.script), name_of(words.script), wanted)
+    if ran.picture is not None:
+        _write_picture(words.picture, ran.picture)
+    _write_report(words, ran.run, words.on)
+    return AGREED
+
+
+def _write_picture(path: str, image: Image) -> None:
+    """Writes what an emulator shows, in the six bits of a component that the DAC has."""
+    with writing(path) as stream:
+        write_png(stream, image.picture(2 if image.most == 255 else 0), Shape())
+
+
+def _table(words: argparse.Namespace) -> int:
+    """Writes tables of results into a page."""
+    refuse_twice(words.page, *words.results)
+    write_tables(words.page, words.results)
+    return AGREED
+
+
+def _end(words: argparse.Namespace) -> int:
+    """Does a command's work; what ends it is told on standard error."""
+    try:
+        status: int = words.job(words)
+        sys.stdout.flush()
+        return status
+    except BrokenPipeError:
+        raise
+    except Trouble as trouble:
+        reason = str(trouble)
+    except OSError as error:
+        reason = f"{'standard output' if error.filename is None else error.filename}: {error.strerror}"
+    _say(reason)
+    return TROUBLE
+
+
+def main(words: Optional[Sequence[str]] = None) -> int:
+    """Runs a command line, and answers its exit status."""
+    if not open_closed_streams():
+        _say("standard output: it is closed")
+        return TROUBLE
+    try:
+        return _end(_parser().parse_args(words))
+    except BrokenPipeError:
+        # What can't be written would fail once more when Python ends.
+        os.dup2(os.open(os.devnull, os.O_WRONLY), sys.stdout.fileno())
+        return PIPE_CLOSED
+    except KeyboardInterrupt:
+        return INTERRUPTED

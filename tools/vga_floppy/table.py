@@ -1,0 +1,249 @@
+"""The table of steps that the floppy's interpreter reads: what a machine is to do, and which answers come of it.
+
+Each step is an opcode and its fields, low bytes first. The same table tells what to make of the answers, so that an
+image, or what came over the serial port, stands alone.
+"""
+
+from __future__ import annotations
+
+import struct
+import zlib
+from itertools import takewhile
+from typing import Iterable, Iterator, Mapping, NamedTuple, Optional, Sequence, Union
+
+from vga_report.trouble import Trouble
+
+from .script import Block, Item, Step
+
+# The opcodes; those of a script's steps have its numbers.
+FINISH, OUT, OUTW, IN, INW, PUT, PUTW, GET, GETW, INT = range(10)
+PASS_OVER, LOOK_AWAY, FILL, REPEAT, END, SCRIPT, END_OF_RESET = range(10, 17)
+STEPS = {"out": OUT, "outw": OUTW, "in": IN, "inw": INW, "put": PUT, "putw": PUTW, "get": GET, "getw": GETW}
+READS = (IN, INW, GET, GETW)
+FORMS = {
+    OUT: struct.Struct("<HB"), OUTW: struct.Struct("<HH"), IN: struct.Struct("<H"), INW: struct.Struct("<H"),
+    PUT: struct.Struct("<HHB"), PUTW: struct.Struct("<HHH"), GET: struct.Struct("<HH"), GETW: struct.Struct("<HH"),
+    # ax, bx, cx, dx; where it looks for its block or table; the table's length, and the block's.
+    INT: struct.Struct("<4HBHH"),
+    PASS_OVER: struct.Struct("<H"), LOOK_AWAY: struct.Struct("<HB"), FILL: struct.Struct("<HB"),
+    REPEAT: struct.Struct("<H"), FINISH: struct.Struct(""), END: struct.Struct(""),
+    # The last value of miscellaneous output before the script, and the length of the script's name.
+    SCRIPT: struct.Struct("<BB"), END_OF_RESET: struct.Struct(""),
+}
+# Bytes of such a number stand behind the fields, the last of which is the number.
+BEHIND = (INT, SCRIPT)
+# The header before the steps: a name, the version of the forms, where the first script stands, behind the steps that
+# reset the adapter; the length of all steps, and their check.
+HEADER = struct.Struct("<4sHHII")
+NAME, VERSION = b"VGAT", 1
+
+# Ports that a machine may be asked for: those of the adapter, without the printer's between them (3BC to 3BF), and
+# without 3C3, by which a machine turns the adapter off.
+PORTS = frozenset([*range(0x3B0, 0x3BC), *range(0x3C0, 0x3E0)]) - {0x3C3}
+STATUS_PORTS = frozenset([0x3BA, 0x3DA])
+MEMORY = range(0xA0000, 0xC0000)
+# Longer blocks don't fit a segment wherever they begin.
+MOST_BLOCK = 0xFFF0
+MOST_NAME = 0xFF
+
+# Where a service looks for its block, or writes its table.
+AT_DX, AT_BP, TABLE_AT_DX = 1, 2, 4
+PLACES = {0x1002: AT_DX, 0x1012: AT_DX, 0x1100: AT_BP, 0x1110: AT_BP, 0x1009: TABLE_AT_DX, 0x1017: TABLE_AT_DX}
+STRING = 0x13
+PALETTE_LENGTH, DAC_ENTRIES = 17, 256
+
+
+# What the steps of a report answer.
+DONE, SKIPPED, BYTE, WORD, CALL = "ok", "skipped", "byte", "word", "call"
+ANSWER_LENGTHS = {DONE: 0, SKIPPED: 0, BYTE: 1, WORD: 2, CALL: 8}
+
+
+class Answer(NamedTuple):
+    """What a row of steps answers, each of them alike; of a call, the registers that it got and its table's length."""
+
+    kind: str
+    count: int = 1
+    registers: tuple[int, ...] = ()
+    table_length: int = 0
+
+    @property
+    def length(self) -> int:
+        """How many bytes of answers one of the steps has."""
+        return ANSWER_LENGTHS[self.kind] + self.table_length
+
+
+class Rounds(NamedTuple):
+    """Answers of a block, which come so many times."""
+
+    count: int
+    answers: tuple[Answer, ...]
+
+
+def is_for_machine(step: Step) -> bool:
+    """Whether a machine can do a step, and may: one that names the adapter's ports or its memory, or a call."""
+    if step.name == "int":
+        return len(step.block) <= MOST_BLOCK and _table_length(step.numbers) is not None
+    if step.name not in STEPS:
+        return False
+    place, last = step.numbers[0], step.numbers[0] + step.name.endswith("w")
+    decoded = PORTS if step.name.startswith(("in", "out")) else MEMORY
+    return place in decoded and last in decoded
+
+
+def steps_for(items: Iterable[Item]) -> bytes:
+    """A script's steps and blocks as the interpreter's."""
+    parts = []
+    for item in items:
+        if isinstance(item, Block):
+            inner = b"".join(map(_step_for, item.steps))
+            parts.append(_packed(REPEAT, item.count) + inner + _packed(END))
+        else:
+            parts.append(_step_for(item))
+    return b"".join(parts)
+
+
+def _packed(opcode: int, *fields: int) -> bytes:
+    return bytes([opcode]) + FORMS[opcode].pack(*fields)
+
+
+def _step_for(step: Step) -> bytes:
+    """A step as the interpreter's: one of a machine, or one that it passes over."""
+    if not is_for_machine(step):
+        return _packed(PASS_OVER, 1)
+    if step.name == "int":
+        ax = step.numbers[0]
+        place = AT_BP if ax >> 8 == STRING else PLACES.get(ax, 0)
+        return _packed(INT, *step.numbers, place, _table_length(step.numbers) or 0, len(step.block)) + step.block
+    opcode, (place, *value) = STEPS[step.name], step.numbers
+    if opcode in (IN, INW) and STATUS_PORTS & {place, place + (opcode == INW)}:
+        return _packed(LOOK_AWAY, place, opcode == INW)
+    if opcode in (OUT, OUTW, IN, INW):
+        return _packed(opcode, place, *value)
+    return _packed(opcode, place >> 4, place & 15, *value)
+
+
+def _table_length(registers: tuple[int, ...]) -> Optional[int]:
+    """How many bytes a call answers behind its registers; None where they would go past the adapter's entries."""
+    ax, bx, cx, _ = registers
+    if ax == 0x1009:
+        return PALETTE_LENGTH
+    if ax == 0x1017:
+        return 3 * cx if bx + cx <= DAC_ENTRIES else None
+    return 0
+
+
+def reset_steps() -> bytes:
+    """The steps that bring the adapter into its state at power-on, after a machine's BIOS or a script has used it.
+
+    Two registers have another value then. The sequencer's reset register keeps 03: a real adapter whose sequencer
+    stands still answers no cycle of memory. Miscellaneous output gets the value that stands with the script.
+    """
+    def registers(port: int, values: Iterable[tuple[int, int]]) -> bytes:
+        return b"".join(_packed(OUTW, port, value << 8 | index) for index, value in values)
+
+    attributes = b"".join(_packed(OUT, 0x3C0, index) + _packed(OUT, 0x3C0, 0) for index in range(0x15))
+    indexes = b"".join(_packed(OUT, port, 0) for port in (0x3C4, 0x3C8, 0x3CE, 0x3D4))
+    return b"".join([
+        _packed(INT, 0x0003, 0, 0, 0, 0, 0, 0), _packed(OUT, 0x3C2, 0x03), registers(0x3D4, [(0x11, 0)]),
+        registers(0x3C4, [(0, 3), (4, 6), (2, 0x0F)]), registers(0x3CE, [*((index, 0) for index in range(8)), (8, 0xFF)]),
+        # Emulators have another memory of text: planes are reached in graphics alone.
+        registers(0x3CE, [(6, 5)]), _packed(LOOK_AWAY, 0x3DA, 0), _packed(OUT, 0x3C0, 0x10), _packed(OUT, 0x3C0, 1),
+        _packed(FILL, 0xA000, 0), _packed(GET, 0xA000, 0),
+        _packed(OUT, 0x3C6, 0xFF), _packed(OUT, 0x3C8, 0),
+        _packed(REPEAT, 768), _packed(OUT, 0x3C9, 0), _packed(END),
+        _packed(LOOK_AWAY, 0x3DA, 0), attributes, _packed(OUT, 0x3C0, 0), _packed(LOOK_AWAY, 0x3DA, 0),
+        registers(0x3D4, ((index, 3 if index == 0x17 else 0) for index in range(0x19))),
+        registers(0x3C4, ((index, 0) for index in range(1, 5))), registers(0x3CE, ((index, 0) for index in range(9))),
+        indexes, _packed(END_OF_RESET),
+    ])
+
+
+def _has_call(item: Item) -> bool:
+    """Whether a step, or one of a block, calls a service."""
+    return any(map(_has_call, item.steps)) if isinstance(item, Block) else item.name == "int"
+
+
+def table_for(scripts: Mapping[str, Sequence[Item]]) -> bytes:
+    """The whole table of scripts by their names, with its header.
+
+    A script that calls services finds 03 in miscellaneous output, any other 00: a BIOS may write the CRT controller
+    at 3D4 before it says that it is there.
+    """
+    parts = [reset_steps()]
+    for name, items in scripts.items():
+        named = name.encode("utf-8", "surrogateescape")
+        if len(named) > MOST_NAME:
+            raise Trouble(f"the name of a script has at most {MOST_NAME} bytes", name)
+        parts += [_packed(SCRIPT, 3 if any(map(_has_call, items)) else 0, len(named)), named, steps_for(items)]
+    steps = b"".join(parts) + _packed(FINISH)
+    return HEADER.pack(NAME, VERSION, len(parts[0]), len(steps), zlib.crc32(steps)) + steps
+
+
+class Script(NamedTuple):
+    """A script of a table: its name, and what its steps answer, in their order."""
+
+    name: str
+    answers: list[Union[Answer, Rounds]]
+
+
+class Table:
+    """A table that was read, from an image or from a record."""
+
+    def __init__(self, data: bytes, name: str) -> None:
+        if len(data) < HEADER.size or data[:4] != NAME:
+            raise Trouble("it holds no table of steps of vga-floppy", name)
+        _, version, self._first, length, self.check = HEADER.unpack_from(data)
+        if version != VERSION:
+            raise Trouble(f"its table is of version {version}, and this tool reads version {VERSION}", name)
+        self._steps = data[HEADER.size:HEADER.size + length]
+        if len(self._steps) < length or zlib.crc32(self._steps) != self.check:
+            raise Trouble("its table of steps is damaged", name)
+
+    def scripts(self) -> list[Script]:
+        """Its scripts in their order."""
+        scripts: list[Script] = []
+        steps = self._decoded()
+        for opcode, fields, behind in steps:
+            if opcode == SCRIPT:
+                scripts.append(Script(behind.decode("utf-8", "surrogateescape"), []))
+            elif opcode == REPEAT:
+                inner = takewhile(lambda step: step[0] != END, steps)
+                scripts[-1].answers.append(Rounds(fields[0], tuple(_answer(*step[:2]) for step in inner)))
+            elif opcode != FINISH:
+                scripts[-1].answers.append(_answer(opcode, fields))
+        return scripts
+
+    def answer_length(self) -> int:
+        """How many bytes of answers the scripts have."""
+        return sum(_length_of(answer) for script in self.scripts() for answer in script.answers)
+
+    def _decoded(self) -> Iterator[tuple[int, tuple[int, ...], bytes]]:
+        """The opcodes of the scripts, with their fields and the bytes behind these."""
+        at = self._first
+        while at < len(self._steps):
+            opcode = self._steps[at]
+            fields = FORMS[opcode].unpack_from(self._steps, at + 1)
+            at += 1 + FORMS[opcode].size
+            length = fields[-1] if opcode in BEHIND else 0
+            yield opcode, fields, self._steps[at:at + length]
+            at += length
+
+
+def _answer(opcode: int, fields: tuple[int, ...]) -> Answer:
+    """What a step of the table answers."""
+    if opcode == INT:
+        return Answer(CALL, 1, fields[:4], fields[5])
+    if opcode == PASS_OVER:
+        return Answer(SKIPPED, fields[0])
+    if opcode == LOOK_AWAY:
+        return Answer(SKIPPED)
+    if opcode in READS:
+        return Answer(BYTE if opcode in (IN, GET) else WORD)
+    return Answer(DONE)
+
+
+def _length_of(answer: Union[Answer, Rounds]) -> int:
+    """How many bytes an answer has, or all those of a block."""
+    if isinstance(answer, Rounds):
+        return answer.count * sum(map(_length_of, answer.answers))
+    return answer.count * answer.length

@@ -1,0 +1,164 @@
+"""The suite's results on emulators as tables of a page, between two marks; what people wrote stays around them."""
+
+from __future__ import annotations
+
+import json
+import re
+from dataclasses import dataclass
+from typing import Any, Iterator, Sequence
+
+from vga_report.output import name_of
+from vga_report.running import AGREES, DIFFERS, FAILED, SKIPPED
+from vga_report.streams import STANDARD, reading, write_over
+from vga_report.trouble import Trouble
+
+from .machines import MACHINES
+
+FIRST_MARK = "<!-- What stands from here to the next mark is made by `tools/vga-floppy table`. -->"
+LAST_MARK = "<!-- The end of what `tools/vga-floppy table` makes. -->"
+ON, BIOS = re.compile(r"--on[ =](\w+)"), re.compile(r"--bios[ =](\w+)")
+# Longer answers are cut.
+MOST_ANSWER = 24
+# What a rule's cell says where no case of it differs.
+SAME, NOTHING, WORD_FAILED = "same", "not compared", "fails"
+
+
+@dataclass(frozen=True)
+class Results:
+    """What `vga-report suite --json` printed of `vga-floppy run` on one emulator."""
+
+    name: str
+    version: str
+    rules: Sequence[dict[str, Any]]
+
+    def cases(self, folder: str | None = None) -> list[dict[str, Any]]:
+        """All cases, or those of a folder."""
+        return [case for rule in self.rules if folder in (None, rule["folder"]) for case in rule["cases"]]
+
+    def rule(self, text: str, folder: str) -> list[dict[str, Any]]:
+        """The cases of a rule."""
+        return [
+            case for rule in self.rules if (rule["rule"], rule["folder"]) == (text, folder) for case in rule["cases"]
+        ]
+
+
+def _read(path: str) -> Results:
+    """The results of a file."""
+    name = name_of(path)
+    with reading(path) as stream:
+        data = stream.read()
+    try:
+        found = json.loads(data)
+        command, rules = found["command"], found["rules"]
+        _check(rules)
+    except (ValueError, KeyError, TypeError) as error:
+        raise Trouble("it isn't what `vga-report suite --json` prints", name) from error
+    on, bios = ON.search(command), BIOS.search(command)
+    if on is None or on[1] not in MACHINES:
+        raise Trouble("its command is no `vga-floppy run --on` of an emulator", name)
+    return Results(on[1], MACHINES[on[1]].full_version(bios[1] if bios else None), rules)
+
+
+def _check(rules: Any) -> None:
+    """Has an error raised where results lack a part."""
+    for rule in rules:
+        for case in rule["cases"]:
+            int(case["answers"]) + int(case["differing"])
+            str.format("{}{}{}", rule["rule"], rule["folder"], case["answer"])
+
+
+def write_tables(page: str, paths: Sequence[str]) -> None:
+    """Writes the tables of results into a page."""
+    if page == STANDARD:
+        raise Trouble("a page is read and written again, so it is a file", "standard input")
+    with reading(page) as stream:
+        text = stream.read().decode("utf-8", "surrogateescape")
+    before, first, rest = text.partition(FIRST_MARK)
+    _, last, after = rest.partition(LAST_MARK)
+    if not first or not last:
+        raise Trouble(f"it lacks the marks: {FIRST_MARK} and {LAST_MARK}", page)
+    results = [_read(path) for path in paths]
+    made = "\n".join(_lines(results))
+    write_over(page, f"{before}{first}\n\n{made}\n\n{last}{after}".encode("utf-8", "surrogateescape"))
+
+
+def _lines(results: Sequence[Results]) -> Iterator[str]:
+    """The tables, as lines of Markdown."""
+    yield "Compared were " + ", ".join(result.version for result in results) + "."
+    yield ""
+    yield from _counts(results)
+    yield ""
+    yield from _folders(results)
+    yield ""
+    yield from _rules(results)
+
+
+def _row(*cells: str) -> str:
+    return "| " + " | ".join(cell.replace("|", "\\|") for cell in cells) + " |"
+
+
+def _heading(results: Sequence[Results], *cells: str) -> Iterator[str]:
+    """A table's first two lines."""
+    names = [*cells, *(result.name for result in results)]
+    yield _row(*names)
+    yield "|" + "---|" * len(names)
+
+
+def _counts(results: Sequence[Results]) -> Iterator[str]:
+    """How many cases and answers agree."""
+    told = {
+        AGREES: "cases that agree", SKIPPED: "cases of which a part or all was skipped, and the rest agrees",
+        DIFFERS: "cases that differ", FAILED: "cases whose run failed",
+    }
+    yield from _heading(results, "")
+    for answer, text in told.items():
+        yield _row(text, *(f"{sum(case['answer'] == answer for case in result.cases()):,}" for result in results))
+    compared = [sum(case["answers"] for case in result.cases()) for result in results]
+    differing = [sum(case["differing"] for case in result.cases()) for result in results]
+    yield _row("bytes, words and registers compared", *(f"{count:,}" for count in compared))
+    yield _row("of these as expected", *(f"{count - wrong:,}" for count, wrong in zip(compared, differing)))
+
+
+def _folders(results: Sequence[Results]) -> Iterator[str]:
+    """How many cases of each folder agree, are skipped, and differ or fail."""
+    yield from _heading(results, "Folder: cases that agree, are skipped, differ")
+    for folder in dict.fromkeys(rule["folder"] for result in results for rule in result.rules):
+        yield _row(f"`{folder}/`", *(_folder_cell(result.cases(folder)) for result in results))
+
+
+def _folder_cell(cases: Sequence[dict[str, Any]]) -> str:
+    kinds = ((AGREES,), (SKIPPED,), (DIFFERS, FAILED))
+    return ", ".join(str(sum(case["answer"] in kind for case in cases)) for kind in kinds)
+
+
+def _rules(results: Sequence[Results]) -> Iterator[str]:
+    """The rules that one of the emulators doesn't follow, each with what it answers first."""
+    yield from _heading(results, "Rule of the suite", "Case")
+    rules = dict.fromkeys((rule["rule"], rule["folder"]) for result in results for rule in result.rules)
+    for text, folder in rules:
+        found = [result.rule(text, folder) for result in results]
+        wrong = [case for cases in found for case in cases if case["answer"] in (DIFFERS, FAILED)]
+        if wrong:
+            yield _row(text, f"`{wrong[0]['name']}`", *map(_rule_cell, found))
+
+
+def _rule_cell(cases: Sequence[dict[str, Any]]) -> str:
+    """What an emulator makes of a rule: the first difference of its cases, if there is one."""
+    for case in cases:
+        if case["answer"] == DIFFERS:
+            return _difference(str(case.get("answered", "")), str(case.get("expected", "")))
+        if case["answer"] == FAILED:
+            return WORD_FAILED
+    return SAME if any(case["answers"] for case in cases) else NOTHING
+
+
+def _difference(answered: str, expected: str) -> str:
+    """Two answers, of registers and tables the first that differs."""
+    words, others = answered.split(), expected.split()
+    if len(words) == len(others) > 1:
+        answered, expected = next(((one, other) for one, other in zip(words, others) if one != other), ("", ""))
+    return f"{_cut(answered)}, not {_cut(expected)}"
+
+
+def _cut(text: str) -> str:
+    return text if len(text) <= MOST_ANSWER else text[:MOST_ANSWER] + ".."
