@@ -9,6 +9,8 @@
 
 mod cells;
 mod checks;
+mod counted_card;
+mod cycle_counts;
 mod dots;
 mod dumps;
 mod host_path;
@@ -31,6 +33,7 @@ mod tracking;
 use anyhow::Result;
 use cells::check_cells;
 use checks::Checks;
+use cycle_counts::check_cycle_counts;
 use dots::compare_dots;
 use dumps::check_dumps;
 use host_path::compare_host_path;
@@ -96,6 +99,7 @@ fn check_crates<R: Print + AllocGlobal>(rt: &R, tally: &mut Tally) -> Result<()>
     tell(rt, tally, "pictures", check_pictures(alloc))?;
     tell(rt, tally, "runs", check_runs(alloc)?)?;
     tell(rt, tally, "screens", check_screens(alloc)?)?;
+    tell(rt, tally, "cycles of services", check_cycle_counts(alloc)?)?;
     tell(rt, tally, "memory", check_memory(alloc))
 }
 
