@@ -10,6 +10,7 @@ pub mod Kept
 pub mod Setting
 pub mod Bands
 pub mod TypedPlaces
+pub mod Reasons
 pub mod DotLists
 pub mod CellPlaces
 pub mod Shifts

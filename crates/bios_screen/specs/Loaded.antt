@@ -7,6 +7,7 @@ use Rattle.bios_modes.specs.declared.heights.TextRow.{TextRow}
 use Rattle.bios_modes.specs.Heights.{text_row}
 use Rattle.bios_modes.specs.Fonts.{FontSet}
 use Rattle.bios_services.specs.declared.glyph_load.GlyphLoad.{GlyphLoad}
+use Rattle.bios_services.specs.Reasons.{◌or◌}
 use Rattle.bios_services.specs.GlyphLoads.{load_refusal, loaded_line}
 use Rattle.bios_screen.specs.Listing.{listing}
 use Rattle.bios_screen.specs.Screen.{Layout, Screen}
@@ -16,14 +17,9 @@ abbrev pub height_refusal_on : Option TextRow → Option Refusal
 height_refusal_on None = Some BadHeight
 height_refusal_on (Some text) = None
 
--- one reason, or else another
-abbrev pub or_else : Option Refusal → Option Refusal → Option Refusal
-or_else None other = other
-or_else (Some why) other = Some why
-
 -- why a load of glyphs is refused on a screen, with a block of this length
 abbrev pub load_refusal_on : Screen → GlyphLoad → ℕ → Option Refusal
-load_refusal_on s load len = or_else (load_refusal load s.mode len) (height_refusal_on (text_row s.mode load.height))
+load_refusal_on s load len = load_refusal load s.mode len or height_refusal_on (text_row s.mode load.height)
 
 -- byte i of the glyphs, of which a character has sixteen: of a character that is loaded the first lines are new, and all else stays
 abbrev pub load_byte : FontSet → GlyphLoad → List ℕ → (ℕ → ℕ) → ℕ → ℕ

@@ -1,9 +1,8 @@
 -- What a service does to a plain screen, what it answers, and why it is refused.
 -- From the IBM PS/2 and PC BIOS Interface Technical Reference, "Interrupt 10H - Video".
-use Rattle.std.specs.Prelude.{ℕ, zero, suc, ◌+◌, ◌-◌, ◌*◌, ◌/◌, ◌%◌, ◌==◌, ◌&&◌, ◌||◌, nat_lt, nat_le, Bool, not, if◌then◌else◌, List, [], length, get_or, set, slice_index, slice_set, bit_xor, min, Option, Some, None}
+use Rattle.std.specs.Prelude.{ℕ, zero, suc, ◌+◌, ◌-◌, ◌*◌, ◌/◌, ◌%◌, ◌==◌, ◌&&◌, ◌||◌, nat_lt, nat_le, Bool, not, if◌then◌else◌, List, [], length, get_or, set, slice_index, slice_set, bit_xor, min, Option, None}
 use Rattle.vga_bits.specs.Bits.{is_set, byte_of}
 use Rattle.vga_bits.specs.declared.refusal.Refusal.{Refusal}
-use Rattle.vga_bits.specs.declared.refusal.Refusal.TheVariants.{WrongKind, BadPage, Outside, CountPast}
 use Rattle.bios_modes.specs.Fonts.{FontSet}
 use Rattle.bios_services.specs.declared.regs.Regs.{Regs}
 use Rattle.bios_services.specs.declared.ink.Ink.{Ink}
@@ -12,11 +11,12 @@ use Rattle.bios_services.specs.declared.cell_run.CellRun.{CellRun}
 use Rattle.bios_services.specs.declared.strings.StringCall.{StringCall}
 use Rattle.bios_services.specs.declared.call.Service.{Service}
 use Rattle.bios_services.specs.declared.call.Service.TheVariants.{SetCursorType, SetCursor, ReadCursor, SelectPage, ScrollUp, ScrollDown, ReadCell, WriteCells, WritePixel, ReadPixel, Teletype, ReadMode, Colours, ReadAdapter, WriteString, ReadDisplay}
-use Rattle.bios_services.specs.ModeSet.{is_text}
 use Rattle.bios_services.specs.Registers.{low, with_low}
 use Rattle.bios_services.specs.Teletype.{line_start, dots_in}
 use Rattle.bios_services.specs.Strings.{string_len, character_at, ink_at}
-use Rattle.bios_services.specs.Colours.{block_refusal, colour_refusal}
+use Rattle.bios_services.specs.Colours.{colour_refusal}
+use Rattle.bios_services.specs.Reasons.{◌or◌, no_pixels, no_page, outside_cells, outside_page, outside_pixels, past_cells, wrong_block}
+use Rattle.bios_services.specs.Refusals.{page_among}
 use Rattle.bios_services.specs.Cursor.{row_of, column_of}
 use Rattle.bios_services.specs.Glyphs.{glyph_line, first_character}
 use Rattle.bios_screen.specs.Listing.{listing}
@@ -25,65 +25,45 @@ use Rattle.bios_screen.specs.Screen.{Cell, Contents, Cells, Pixels, Screen, cell
 
 -- ---- why a service is refused
 
--- the page that a call names; where there is one page, that is meant whatever is named
+-- the page that a call names
 abbrev pub page_meant : Screen → ℕ → ℕ
-page_meant s page = if s.layout.pages == 1 then 0 else page
+page_meant s page = page_among s.layout.pages page
 
--- a page that there is not
-abbrev pub page_refusal_on : Screen → ℕ → Option Refusal
-page_refusal_on s page = if nat_lt page s.layout.pages then None else Some BadPage
+-- the number of the cell at the cursor of a page, counted along the rows of that page
+abbrev pub cursor_number : Screen → ℕ → ℕ
+cursor_number s page = place_number s (cursor_place s page)
 
--- a page that there is not, or a cursor outside its page
-abbrev pub cursor_refusal_on : Screen → ℕ → Option Refusal
-cursor_refusal_on s page =
-    if nat_lt page s.layout.pages
-    then (if nat_lt (place_number s (cursor_place s page)) (page_cells s) then None else Some Outside)
-    else Some BadPage
-
--- and more cells from the cursor on than the page has
-abbrev pub count_refusal_on : Screen → ℕ → ℕ → Option Refusal
-count_refusal_on s page count =
-    if nat_lt page s.layout.pages
-    then (if nat_lt (place_number s (cursor_place s page)) (page_cells s)
-    then (if nat_le (place_number s (cursor_place s page) + count) (page_cells s) then None else Some CountPast)
-    else Some Outside)
-    else Some BadPage
-
--- a place whose row or column there is not
-abbrev pub place_refusal_on : Screen → ℕ → Option Refusal
-place_refusal_on s place = if nat_lt (row_of place) s.layout.rows && nat_lt (column_of place) s.layout.columns then None else Some Outside
-
--- a page that there is not, a place outside it, or a block of another length than the string has
-abbrev pub string_refusal_on : Screen → StringCall → ℕ → Option Refusal
-string_refusal_on s call len =
-    if nat_lt (page_meant s call.page) s.layout.pages
-    then (if nat_lt (row_of call.place) s.layout.rows && nat_lt (column_of call.place) s.layout.columns then block_refusal len (string_len call) else Some Outside)
-    else Some BadPage
-
--- a dot of text, one of a page that there is not, or one outside it
-abbrev pub pixel_refusal_on : Screen → ℕ → ℕ → ℕ → Option Refusal
-pixel_refusal_on s page x y =
-    if is_text s.mode then Some WrongKind
-    else if nat_lt page s.layout.pages then (if nat_lt x (8 * s.layout.columns) && nat_lt y (s.layout.height * s.layout.rows) then None else Some Outside)
-    else Some BadPage
-
--- why a service is refused on a screen, with a block of this length
+-- why a service is refused on a screen, with a block of this length: of its reasons the first
 unfoldable pub refusal_on : Screen → Service → ℕ → Option Refusal
 refusal_on s (SetCursorType cursor_type) len = None
-refusal_on s (SetCursor page place) len = page_refusal_on s (page_meant s page)
-refusal_on s (ReadCursor page) len = page_refusal_on s (page_meant s page)
-refusal_on s (SelectPage page) len = page_refusal_on s page
+refusal_on s (SetCursor page place) len = no_page s.layout.pages (page_meant s page)
+refusal_on s (ReadCursor page) len = no_page s.layout.pages (page_meant s page)
+refusal_on s (SelectPage page) len = no_page s.layout.pages page
 refusal_on s (ScrollUp window) len = None
 refusal_on s (ScrollDown window) len = None
-refusal_on s (ReadCell page) len = cursor_refusal_on s (page_meant s page)
-refusal_on s (WriteCells cells) len = count_refusal_on s (page_meant s cells.page) cells.count
-refusal_on s (WritePixel page x y colour) len = pixel_refusal_on s (page_meant s page) x y
-refusal_on s (ReadPixel page x y) len = pixel_refusal_on s (page_meant s page) x y
-refusal_on s (Teletype character colour) len = place_refusal_on s (cursor_place s s.page)
+refusal_on s (ReadCell page) len =
+    no_page s.layout.pages (page_meant s page)
+    or outside_cells (page_cells s) (cursor_number s (page_meant s page))
+refusal_on s (WriteCells cells) len =
+    no_page s.layout.pages (page_meant s cells.page)
+    or outside_cells (page_cells s) (cursor_number s (page_meant s cells.page))
+    or past_cells (page_cells s) (cursor_number s (page_meant s cells.page)) cells.count
+refusal_on s (WritePixel page x y colour) len =
+    no_pixels s.mode
+    or no_page s.layout.pages (page_meant s page)
+    or outside_pixels (8 * s.layout.columns) (s.layout.height * s.layout.rows) x y
+refusal_on s (ReadPixel page x y) len =
+    no_pixels s.mode
+    or no_page s.layout.pages (page_meant s page)
+    or outside_pixels (8 * s.layout.columns) (s.layout.height * s.layout.rows) x y
+refusal_on s (Teletype character colour) len = outside_page s.layout.rows s.layout.columns (cursor_place s s.page)
 refusal_on s ReadMode len = None
 refusal_on s (Colours service) len = colour_refusal service len
 refusal_on s ReadAdapter len = None
-refusal_on s (WriteString call) len = string_refusal_on s call len
+refusal_on s (WriteString call) len =
+    no_page s.layout.pages (page_meant s call.page)
+    or outside_page s.layout.rows s.layout.columns call.place
+    or wrong_block (string_len call) len
 refusal_on s ReadDisplay len = None
 
 -- ---- what it does to the cells
@@ -215,7 +195,7 @@ put_characters fonts s page first count character ink =
 
 -- it is written from the cursor of a page on
 abbrev pub write_at_cursor : FontSet → Screen → ℕ → CellRun → Screen
-write_at_cursor fonts s page cells = put_characters fonts s page (place_number s (cursor_place s page)) cells.count cells.character cells.ink
+write_at_cursor fonts s page cells = put_characters fonts s page (cursor_number s page) cells.count cells.character cells.ink
 
 -- whether pixel k of a page is in a window
 abbrev pub has_pixel : Screen → Scroll → ℕ → Bool
@@ -341,7 +321,7 @@ cell_line s page q r =
 
 -- the first character whose glyph the pixels at the cursor of a page are, those that are not 0 as its dots, else 0
 abbrev pub character_at_cursor : FontSet → Screen → ℕ → ℕ
-character_at_cursor fonts s page = first_character fonts s.layout.height (listing (cell_line s page (place_number s (cursor_place s page))) 0 s.layout.height) 256
+character_at_cursor fonts s page = first_character fonts s.layout.height (listing (cell_line s page (cursor_number s page)) 0 s.layout.height) 256
 
 -- a cell of text is answered in AX, and a character of pixels in AL
 abbrev pub cell_answer : Contents → FontSet → Screen → ℕ → Regs → Regs

@@ -7,15 +7,15 @@ use Rattle.bios_modes.specs.Modes.{mode_row, colour_text, monochrome_text, plane
 use Rattle.bios_modes.specs.Bda.{BiosData}
 use Rattle.bios_modes.specs.Begin.{data_of_mode}
 use Rattle.bios_modes.specs.Valid.{IsOf, Fits, IsValid}
-use Rattle.std.specs.Prelude.{◌+◌, ◌||◌, nat_le}
+use Rattle.std.specs.Prelude.{◌+◌, nat_le}
 use Rattle.std.proofs.lemmas.Bool.Decides.{nat_tests}
-use Rattle.vga_bits.specs.declared.refusal.Refusal.{Refusal}
-use Rattle.vga_bits.specs.declared.refusal.Refusal.TheVariants.{WrongKind, CountPast}
+use Rattle.vga_bits.specs.declared.refusal.Refusal.TheVariants.{WrongKind, CountPast, BadBlock}
 use Rattle.bios_services.specs.declared.glyph_load.GlyphLoad.{GlyphLoad}
 use Rattle.bios_services.specs.ModeSet.{is_text}
-use Rattle.bios_services.specs.Colours.{block_refusal}
+use Rattle.bios_services.specs.Reasons.{refuse_unless, wrong_block}
 use Rattle.bios_services.specs.GlyphLoads.{AreThere, glyphs_len, load_refusal}
 use Rattle.bios_services.specs.Bounds.{IsSet, StaysInMode, pages_in}
+use Rattle.bios_services.proofs.ReasonLemmas.{neither, holds}
 
 -- what holds of either branch holds of a choice
 on_either : {A : Type 0} (P : A → Type 0) (b : Bool) {x y : A} → P x → P y → P (if b then x else y)
@@ -206,14 +206,19 @@ text_height mode height row text e = grind (arith, nat_tests)
 
 -- glyphs that are not refused, and whose height there is, are there
 pub there_of : (load : GlyphLoad) (mode len : ℕ) (row : ModeRow) → load_refusal load mode len ≡ None → row_at mode load.height ≡ Some row → AreThere load len
-there_of load mode len row allowed e = by_tests (is_text mode) (nat_le (load.first + load.count) 256) load.is_block refl refl refl allowed
+there_of load mode len row allowed e =
+    let text = neither (refuse_unless (is_text mode) WrongKind) _ allowed in
+    let last = neither (refuse_unless (nat_le (load.first + load.count) 256) CountPast) _ text.1 in
+    let fits = holds (nat_le (load.first + load.count) 256) CountPast last.0 in
+    record {
+      height = text_height mode load.height row (holds (is_text mode) WrongKind text.0) e;
+      last = grind (arith, nat_tests);
+      whole = whole_block load.is_block last.1;
+    }
   where
-    by_tests : (a b k : Bool) → is_text mode ≡ a → nat_le (load.first + load.count) 256 ≡ b → load.is_block ≡ k
-        → (let x : Option Refusal = (if a then (if b then (if k then block_refusal len (glyphs_len load) else None) else Some CountPast) else Some WrongKind) in x) ≡ None → AreThere load len
-    by_tests true true true ea eb ek h = record { height = text_height mode load.height row ea e; last = grind (arith, nat_tests); whole = λ z. grind (arith, nat_tests) }
-    by_tests true true false ea eb ek h = record { height = text_height mode load.height row ea e; last = grind (arith, nat_tests); whole = λ z. absurd (cc) }
-    by_tests true false k ea eb ek h = absurd (cc)
-    by_tests false b k ea eb ek h = absurd (cc)
+    whole_block : (k : Bool) → (if k then wrong_block (glyphs_len load) len else None) ≡ None → k ≡ true → len ≡ glyphs_len load
+    whole_block true h z = let same = holds (len == glyphs_len load) BadBlock h in grind (arith, nat_tests)
+    whole_block false h z = absurd (cc)
 
 -- the port of a row is small
 pub port_small : (mode height : ℕ) (row : ModeRow) → row_at mode height ≡ Some row → row.crtc_address < 1000

@@ -38,12 +38,14 @@ use Rattle.bios_services.specs.Pixels.{write_pixel_plan}
 use Rattle.bios_services.specs.Teletype.{line_start, dots_in, line_feed_fill, line_feed_plan, cursor_advance_plan, show_plan, type_plan, teletype_plan}
 use Rattle.bios_services.specs.Strings.{string_len, character_at, ink_at, type_string_plan, string_plan}
 use Rattle.bios_services.specs.ModeSet.{mode_set_plan}
-use Rattle.bios_services.specs.Colours.{colour_service_of, block_refusal, colours_plan}
+use Rattle.bios_services.specs.Reasons.{no_page, outside_page, wrong_block}
+use Rattle.bios_services.specs.Colours.{colour_service_of, colours_plan}
 use Rattle.bios_services.specs.Tables.{table_refusal, table_plan}
 use Rattle.bios_services.specs.GlyphLoads.{glyph_load_of, load_refusal, load_plan}
-use Rattle.bios_services.specs.Refusals.{page_named, string_refusal, refusal_in_mode}
+use Rattle.bios_services.specs.Refusals.{page_named, refusal_in_mode}
 use Rattle.bios_services.specs.Calls.{as_colours, service_of, in_mode, call_of, table_or, glyphs_or}
 use Rattle.bios_services.specs.Service.{Outcome, Answered, answer_of, answer_with, call_plan, in_mode_plan, load_at, load_unless, load_in_mode_plan, plan_of, read_cell_service, read_pixel_service, service, set_mode_plan, table_in_mode_plan, table_unless, unless}
+use Rattle.bios_services.proofs.ReasonLemmas.{neither, holds}
 use Rattle.bios_services.proofs.BoundLemmas.{set_of_valid, stays_valid, begins_valid, begins_valid_at}
 
 -- ---- the adapter
@@ -225,30 +227,22 @@ module _ (d : BiosData) (a : AreData d) (is : IsSet d) (unset : d.mode ≢ 0) wh
 
 -- ---- services that are not refused
 
-page_allowed : (page pages : ℕ) → (let x : Option Refusal = (if nat_lt page pages then None else Some BadPage) in x) ≡ None → page < pages
-page_allowed page pages h = by_test (nat_lt page pages) refl h
-  where
-    by_test : (b : Bool) → nat_lt page pages ≡ b → (let x : Option Refusal = (if b then None else Some BadPage) in x) ≡ None → page < pages
-    by_test true e i = lt_is page pages e
-    by_test false e i = absurd (cc)
+page_allowed : (pages page : ℕ) → no_page pages page ≡ None → page < pages
+page_allowed pages page h = lt_is page pages (holds (nat_lt page pages) BadPage h)
 
 -- a place of a page is in the first fifty rows
-inside_near : (place last columns : ℕ) (other : Option Refusal) → last < 50 → (let x : Option Refusal = (if nat_le (row_of place) last && nat_lt (column_of place) columns then other else Some Outside) in x) ≡ None → IsNear place
-inside_near place last columns other few h = by_tests (nat_le (row_of place) last) (nat_lt (column_of place) columns) refl h
-  where
-    by_tests : (a b : Bool) → nat_le (row_of place) last ≡ a → (let x : Option Refusal = (if a && b then other else Some Outside) in x) ≡ None → IsNear place
-    by_tests true b e i = let l : row_of place ≤ last = grind (arith, nat_tests) in omega arith
-    by_tests false b e i = absurd (cc)
+inside_near : (d : BiosData) (place : ℕ) → d.last_row < 50 → outside_page (d.last_row + 1) d.columns place ≡ None → IsNear place
+inside_near d place few h =
+    let inside = holds (nat_lt (row_of place) (d.last_row + 1) && nat_lt (column_of place) d.columns) Outside h in
+    let l : row_of place < d.last_row + 1 = grind (arith, nat_tests) in
+    omega arith
 
-string_near : (d : BiosData) (s : StringCall) (len : ℕ) → d.last_row < 50 → string_refusal d s len ≡ None → IsNear s.place
-string_near d s len few h = by_test (nat_lt (page_named d s.page) (pages_of d)) h
-  where
-    wrong : Option Refusal
-    wrong = block_refusal len (string_len s)
-
-    by_test : (b : Bool) → (let x : Option Refusal = (if b then (if nat_le (row_of s.place) d.last_row && nat_lt (column_of s.place) d.columns then wrong else Some Outside) else Some BadPage) in x) ≡ None → IsNear s.place
-    by_test true i = inside_near s.place d.last_row d.columns wrong few i
-    by_test false i = absurd (cc)
+-- a string that is not refused begins at one
+string_near : (d : BiosData) (s : StringCall) (len : ℕ) → d.last_row < 50 → refusal_in_mode (WriteString s) d len ≡ None → IsNear s.place
+unfolding refusal_in_mode
+string_near d s len few h =
+    let page = neither (no_page (pages_of d) (page_named d s.page)) _ h in
+    inside_near d s.place few (neither (outside_page (d.last_row + 1) d.columns s.place) (wrong_block (string_len s) len) page.1).0
 
 -- the place that a service names is a word
 abbrev FitsWords : Service → Type 0
@@ -268,7 +262,7 @@ service_keeps (SetCursor page place) fonts d r block fits a is unset h =
     behind_such AreData OutcomeKept (move_cursor_plan d (page_named d page) place) (λ after. Done (r, after)) (moved d a is unset (page_named d page) place fits) (λ after k. k)
 service_keeps (ReadCursor page) fonts d r block fits a is unset h = a
 service_keeps (SelectPage page) fonts d r block fits a is unset h =
-    behind_such AreData OutcomeKept (page_plan d page) (λ after. Done (r, after)) (paged d a is unset page (page_allowed page (pages_of d) h)) (λ after k. k)
+    behind_such AreData OutcomeKept (page_plan d page) (λ after. Done (r, after)) (paged d a is unset page (page_allowed (pages_of d) page h)) (λ after k. k)
 service_keeps (ScrollUp scroll) fonts d r block fits a is unset h = behind OutcomeKept (scroll_up_plan d scroll) (λ _. Done (r, d)) (λ _. a)
 service_keeps (ScrollDown scroll) fonts d r block fits a is unset h = behind OutcomeKept (scroll_down_plan d scroll) (λ _. Done (r, d)) (λ _. a)
 service_keeps (ReadCell page) fonts d r block fits a is unset h = behind OutcomeKept (read_cell_service fonts (page_named d page) d r) (λ after. Done (after, d)) (λ _. a)
@@ -276,7 +270,7 @@ service_keeps (WriteCells cells) fonts d r block fits a is unset h = behind Outc
 service_keeps (WritePixel page x y colour) fonts d r block fits a is unset h = behind OutcomeKept (write_pixel_plan d (page_named d page) x y colour) (λ _. Done (r, d)) (λ _. a)
 service_keeps (ReadPixel page x y) fonts d r block fits a is unset h = behind OutcomeKept (read_pixel_service (page_named d page) x y d r) (λ after. Done (after, d)) (λ _. a)
 service_keeps (Teletype character colour) fonts d r block fits a is unset h =
-    behind_such AreData OutcomeKept (teletype_plan fonts d character colour) (λ after. Done (r, after)) (typed d a is unset fonts character colour (inside_near (place_of d d.page) d.last_row d.columns None is.rows h)) (λ after k. k)
+    behind_such AreData OutcomeKept (teletype_plan fonts d character colour) (λ after. Done (r, after)) (typed d a is unset fonts character colour (inside_near d (place_of d d.page) is.rows h)) (λ after k. k)
 service_keeps ReadMode fonts d r block fits a is unset h = a
 service_keeps (Colours asked_for) fonts d r block fits a is unset h = behind OutcomeKept (colours_plan asked_for d.crtc_address r block) (λ after. Done (after, d)) (λ _. a)
 service_keeps ReadAdapter fonts d r block fits a is unset h = a

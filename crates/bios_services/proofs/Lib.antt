@@ -1,5 +1,6 @@
 pub mod RunLemmas
 pub mod GlyphLemmas
+pub mod ReasonLemmas
 pub mod BoundLemmas
 pub mod RefusedLemmas
 pub mod KeptLemmas

@@ -3,7 +3,7 @@
 -- choice.
 use Rattle.std.specs.Prelude.{ℕ, Bool, ◌+◌, ◌*◌, ◌==◌, ◌&&◌, nat_lt, nat_le, if◌then◌else◌, Option, Some, None, List}
 use Rattle.vga_bits.specs.declared.refusal.Refusal.{Refusal}
-use Rattle.vga_bits.specs.declared.refusal.Refusal.TheVariants.{BadRegister, BadBlock}
+use Rattle.vga_bits.specs.declared.refusal.Refusal.TheVariants.{BadRegister}
 use Rattle.bios_services.specs.declared.regs.Regs.{Regs}
 use Rattle.bios_services.specs.declared.colours.ColourService.{ColourService}
 use Rattle.bios_services.specs.declared.colours.ColourService.TheVariants.{SetRegister, SetOverscan, SetPalette, SetBlinking, ReadRegister, ReadOverscan, SetEntry, SetEntries, ReadEntry, SetMask, ReadMask}
@@ -11,6 +11,7 @@ use Rattle.bios_services.specs.Plan.{Plan, Done, ◌>>=◌, ◌>>◌, out, inp}
 use Rattle.bios_services.specs.Registers.{high, low, with_high, with_low}
 use Rattle.bios_services.specs.Palette.{set_register_plan, set_palette_plan, set_blinking_plan, read_register_plan}
 use Rattle.bios_services.specs.Dac.{set_entry_plan, set_entries_plan}
+use Rattle.bios_services.specs.Reasons.{◌or◌, refuse_unless, wrong_block}
 use Rattle.bios_services.specs.VideoRegisters.{dac_mask, dac_read_index, dac_data}
 
 -- the subfunction of AL, with its arguments
@@ -33,32 +34,31 @@ colour_service_of r =
     else None
 
 -- there are 16 palette registers
-abbrev pub register_refusal : ℕ → Option Refusal
-register_refusal register = if nat_lt register 0x10 then None else Some BadRegister
+abbrev pub no_register : ℕ → Option Refusal
+no_register register = refuse_unless (nat_lt register 0x10) BadRegister
 
 -- there are 256 entries of the DAC
-abbrev pub entry_refusal : ℕ → Option Refusal
-entry_refusal entry = if nat_lt entry 0x100 then None else Some BadRegister
+abbrev pub no_entry : ℕ → Option Refusal
+no_entry entry = refuse_unless (nat_lt entry 0x100) BadRegister
 
 -- whether there are so many from one on
 abbrev pub has_entries : ℕ → ℕ → Bool
 has_entries first count = nat_lt first 0x100 && nat_le (first + count) 0x100
 
--- a block has as many bytes as are taken
-abbrev pub block_refusal : ℕ → ℕ → Option Refusal
-block_refusal len taken = if len == taken then None else Some BadBlock
+abbrev pub no_entries : ℕ → ℕ → Option Refusal
+no_entries first count = refuse_unless (has_entries first count) BadRegister
 
 -- why a subfunction is refused, with a block of this length
 unfoldable pub colour_refusal : ColourService → ℕ → Option Refusal
-colour_refusal (SetRegister register value) len = register_refusal register
+colour_refusal (SetRegister register value) len = no_register register
 colour_refusal (SetOverscan value) len = None
-colour_refusal SetPalette len = block_refusal len 17
-colour_refusal (SetBlinking blinking) len = if nat_le blinking 1 then None else Some BadRegister
-colour_refusal (ReadRegister register) len = register_refusal register
+colour_refusal SetPalette len = wrong_block 17 len
+colour_refusal (SetBlinking blinking) len = refuse_unless (nat_le blinking 1) BadRegister
+colour_refusal (ReadRegister register) len = no_register register
 colour_refusal ReadOverscan len = None
-colour_refusal (SetEntry entry red green blue) len = entry_refusal entry
-colour_refusal (SetEntries first count) len = if has_entries first count then block_refusal len (3 * count) else Some BadRegister
-colour_refusal (ReadEntry entry) len = entry_refusal entry
+colour_refusal (SetEntry entry red green blue) len = no_entry entry
+colour_refusal (SetEntries first count) len = no_entries first count or wrong_block (3 * count) len
+colour_refusal (ReadEntry entry) len = no_entry entry
 colour_refusal (SetMask mask) len = None
 colour_refusal ReadMask len = None
 

@@ -14,7 +14,7 @@ use Rattle.bios_services.specs.Cycles.{crtc}
 use Rattle.bios_services.specs.ModeSet.{is_text, font_plan}
 use Rattle.bios_services.specs.Cursor.{word_plan}
 use Rattle.bios_services.specs.Glyphs.{glyph_line}
-use Rattle.bios_services.specs.Colours.{block_refusal}
+use Rattle.bios_services.specs.Reasons.{◌or◌, refuse_unless, wrong_block}
 use Rattle.bios_services.specs.VideoRegisters.{miscellaneous, maximum_scan_line, cursor_start, vertical_display_end, underline_location, start_address_high, cursor_address_high}
 
 -- all characters of the font of this height
@@ -48,9 +48,9 @@ pub record AreThere (load : GlyphLoad) (len : ℕ) : Type 0 where
 -- pixels have no glyphs; there are characters up to FF; and a block has as many bytes as its glyphs
 abbrev pub load_refusal : GlyphLoad → ℕ → ℕ → Option Refusal
 load_refusal load mode len =
-    if is_text mode
-    then (if nat_le (load.first + load.count) 256 then (if load.is_block then block_refusal len (glyphs_len load) else None) else Some CountPast)
-    else Some WrongKind
+    refuse_unless (is_text mode) WrongKind
+    or refuse_unless (nat_le (load.first + load.count) 256) CountPast
+    or (if load.is_block then wrong_block (glyphs_len load) len else None)
 
 -- scan line r of character c: a byte of the block, or of the font
 abbrev pub loaded_line : FontSet → GlyphLoad → List ℕ → ℕ → ℕ → ℕ

@@ -19,6 +19,7 @@ pub mod Strings
 pub mod Pixels
 pub mod Palette
 pub mod Dac
+pub mod Reasons
 pub mod Colours
 pub mod Tables
 pub mod GlyphLoads

@@ -3,7 +3,6 @@
 -- refusals are this adapter's choice.
 use Rattle.std.specs.Prelude.{ℕ, Bool, false, ◌*◌, ◌==◌, if◌then◌else◌, Option, Some, None, List, []}
 use Rattle.vga_bits.specs.declared.refusal.Refusal.{Refusal}
-use Rattle.vga_bits.specs.declared.refusal.Refusal.TheVariants.{BadRegister}
 use Rattle.bios_services.specs.declared.regs.Regs.{Regs}
 use Rattle.bios_services.specs.declared.reply.Table.{Table}
 use Rattle.bios_services.specs.declared.reply.Table.TheVariants.{Empty, Palette, Dac}
@@ -12,7 +11,7 @@ use Rattle.bios_services.specs.declared.tables.TableService.TheVariants.{ReadPal
 use Rattle.bios_services.specs.Plan.{Plan, Done, ◌>>=◌, ◌>>◌, out, inp, gather}
 use Rattle.bios_services.specs.Cycles.{expect_index}
 use Rattle.bios_services.specs.Palette.{register_plan}
-use Rattle.bios_services.specs.Colours.{has_entries}
+use Rattle.bios_services.specs.Colours.{has_entries, no_entries}
 use Rattle.bios_services.specs.VideoRegisters.{dac_read_index, dac_data}
 
 -- the subfunction that answers a table, with its arguments
@@ -25,7 +24,7 @@ table_service_of r =
 -- why it is refused
 abbrev pub table_refusal : TableService → Option Refusal
 table_refusal ReadPalette = None
-table_refusal (ReadEntries first count) = if has_entries first count then None else Some BadRegister
+table_refusal (ReadEntries first count) = no_entries first count
 
 -- whether it takes memory: entries of the DAC do that are not refused
 abbrev pub table_takes_memory : TableService → Bool

@@ -1,11 +1,13 @@
 //! Function 10, by its subfunction.
 ghost use Rattle.std.specs.Prelude.{◌≡◌, ◌<◌, None, length};
 ghost use Rattle.bios_services.specs.Plan.{run};
-ghost use Rattle.bios_services.specs.Colours.{colour_service_of as colour_service_of_regs, register_refusal as register_refusal_of, entry_refusal as entry_refusal_of, has_entries as has_entries_of, block_refusal as block_refusal_of, colour_refusal as colour_refusal_of, read_entry_plan, read_register_in_bh, read_mask_in_bl, colours_plan};
+ghost use Rattle.bios_services.specs.Reasons.{reason_of};
+ghost use Rattle.bios_services.specs.Colours.{colour_service_of as colour_service_of_regs, no_register as no_register_of, no_entry as no_entry_of, no_entries as no_entries_of, colour_refusal as colour_refusal_of, read_entry_plan, read_register_in_bh, read_mask_in_bl, colours_plan};
 
 use crate::cycles::{inp, out};
 use crate::dac::{set_entries, set_entry};
 use crate::palette::{read_register, set_blinking, set_palette, set_register};
+use crate::reasons::{refuse_unless, wrong_block};
 use crate::regs::{Regs, high, low, with_high, with_low};
 use crate::video_registers::{DAC_DATA, DAC_MASK, DAC_READ_INDEX, OVERSCAN};
 use vga_bits::Refusal;
@@ -98,77 +100,54 @@ pub(crate) fn colour_service_of(regs: Regs) -> Option<ColourService>
     }
 }
 
-/// Why a palette register is refused.
-fn register_refusal(register: u8) -> Option<Refusal>
-    ensures { result ≡ register_refusal_of register }
+/// Refuses what is no palette register.
+fn no_register(register: u8) -> Result<(), Refusal>
+    ensures { reason_of result ≡ no_register_of register }
 {
-    if register < 0x10 {
-        None
-    } else {
-        Some(Refusal::BadRegister)
-    }
+    refuse_unless(register < 0x10, Refusal::BadRegister)
 }
 
-/// Why an entry of the DAC is refused.
-fn entry_refusal(entry: u16) -> Option<Refusal>
-    ensures { result ≡ entry_refusal_of entry }
+/// Refuses what is no entry of the DAC.
+fn no_entry(entry: u16) -> Result<(), Refusal>
+    ensures { reason_of result ≡ no_entry_of entry }
 {
-    if entry < 0x100 {
-        None
-    } else {
-        Some(Refusal::BadRegister)
-    }
+    refuse_unless(entry < 0x100, Refusal::BadRegister)
 }
 
-/// Whether the DAC has so many entries from one on.
-pub(crate) fn has_entries(first: u16, count: u16) -> bool
-    ensures { result ≡ has_entries_of first count }
+/// Refuses entries of which the DAC has not so many from one on.
+pub(crate) fn no_entries(first: u16, count: u16) -> Result<(), Refusal>
+    ensures { reason_of result ≡ no_entries_of first count }
 {
-    first < 0x100 && first as u32 + count as u32 <= 0x100
+    refuse_unless(
+        first < 0x100 && first as u32 + count as u32 <= 0x100,
+        Refusal::BadRegister,
+    )
 }
 
-/// Why a block is refused whose length is not the one that is taken.
-pub(crate) fn block_refusal(len: usize, taken: usize) -> Option<Refusal>
-    ensures { result ≡ block_refusal_of len taken }
-{
-    if len == taken {
-        None
-    } else {
-        Some(Refusal::BadBlock)
-    }
-}
-
-/// Why a subfunction is refused, with a block of this length.
+/// Refuses a subfunction, with a block of this length, for the first reason that there is.
 #[tactic(auto, unfolding(crate::specs::Colours::colour_refusal))]
-pub(crate) fn colour_refusal(service: ColourService, len: usize) -> Option<Refusal>
-    ensures { result ≡ colour_refusal_of service len }
+pub(crate) fn colour_refusal(service: ColourService, len: usize) -> Result<(), Refusal>
+    ensures { reason_of result ≡ colour_refusal_of service len }
 {
     match service {
         ColourService::SetRegister { register, .. } | ColourService::ReadRegister { register } => {
-            register_refusal(register)
+            no_register(register)
         }
-        ColourService::SetPalette => block_refusal(len, 17),
+        ColourService::SetPalette => wrong_block(17, len),
         ColourService::SetBlinking { blinking } => {
-            if blinking <= 1 {
-                None
-            } else {
-                Some(Refusal::BadRegister)
-            }
+            refuse_unless(blinking <= 1, Refusal::BadRegister)
         }
         ColourService::SetEntry { entry, .. } | ColourService::ReadEntry { entry } => {
-            entry_refusal(entry)
+            no_entry(entry)
         }
         ColourService::SetEntries { first, count } => {
-            if has_entries(first, count) {
-                block_refusal(len, 3 * count as usize)
-            } else {
-                Some(Refusal::BadRegister)
-            }
+            no_entries(first, count)?;
+            wrong_block(3 * count as usize, len)
         }
         ColourService::SetOverscan { .. }
         | ColourService::ReadOverscan
         | ColourService::SetMask { .. }
-        | ColourService::ReadMask => None,
+        | ColourService::ReadMask => Ok(()),
     }
 }
 

@@ -3,14 +3,15 @@ ghost use Rattle.std.specs.Prelude.{◌≡◌, ◌<◌, ◌≤◌, ◌+◌, leng
 ghost use Rattle.bios_modes.specs.Fonts.{glyph_row};
 ghost use Rattle.bios_services.specs.Plan.{run};
 ghost use Rattle.bios_services.specs.ModeSet.{font_plan, glyph_plan, glyphs_plan};
+ghost use Rattle.bios_services.specs.Reasons.{reason_of};
 ghost use Rattle.bios_services.specs.GlyphLoads.{AreThere, whole_font, glyph_load_of, glyphs_len, load_refusal, loaded_line, load_plan};
 
 use crate::cells::GRAPHICS_BASE;
-use crate::colours::block_refusal;
 use crate::cursor::write_word;
 use crate::cycles::{graphics, indexed, put, sequencer};
 use crate::glyphs::glyph_line;
 use crate::mode_set::is_text;
+use crate::reasons::{refuse_unless, wrong_block};
 use crate::regs::{Regs, high, low};
 use crate::video_registers::{
     ALL_ADDRESSES, CURSOR_ADDRESS, CURSOR_START, GLYPH_PLANE, GRAPHICS_MODE, MAP_MASK,
@@ -76,20 +77,17 @@ impl GlyphLoad {
         self.height as usize * self.count as usize
     }
 
-    /// Why the glyphs are refused in a mode, with a block of this length.
-    pub(crate) fn refusal(self, mode: u8, len: usize) -> Option<Refusal>
-        ensures { result ≡ load_refusal self mode len }
+    /// Refuses the glyphs in a mode, with a block of this length, for the first reason that there is.
+    pub(crate) fn refusal(self, mode: u8, len: usize) -> Result<(), Refusal>
+        ensures { reason_of result ≡ load_refusal self mode len }
     {
-        if !is_text(mode) {
-            return Some(Refusal::WrongKind);
-        }
-        if self.first as u32 + self.count as u32 > 256 {
-            return Some(Refusal::CountPast);
-        }
+        refuse_unless(is_text(mode), Refusal::WrongKind)?;
+        let end = self.first as u32 + self.count as u32;
+        refuse_unless(end <= 256, Refusal::CountPast)?;
         if self.is_block {
-            return block_refusal(len, self.block_len());
+            wrong_block(self.block_len(), len)?;
         }
-        None
+        Ok(())
     }
 
     /// Scan line r of character c.

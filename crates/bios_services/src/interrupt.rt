@@ -238,9 +238,7 @@ fn load_in_mode<B: Bus>(
     if bda.mode() == 0 {
         return Err(Refusal::NoMode);
     }
-    if let Some(why) = load.refusal(bda.mode(), block.len()) {
-        return Err(why);
-    }
+    load.refusal(bda.mode(), block.len())?;
     load_allowed(bus, bda, fonts, load, regs, block)
 }
 
@@ -261,9 +259,7 @@ fn in_mode<B: Bus>(
     if bda.mode() == 0 {
         return Err(Refusal::NoMode);
     }
-    if let Some(why) = refusal_in_mode(service, bda, block.len()) {
-        return Err(why);
-    }
+    refusal_in_mode(service, bda, block.len())?;
     answer_of(perform_allowed(bus, bda, fonts, service, regs, block))
 }
 
@@ -283,7 +279,7 @@ fn table_in_mode<B: Bus>(
     if bda.mode() == 0 {
         return Err(ServiceError::Refused(Refusal::NoMode));
     }
-    if let Some(why) = table_refusal(service) {
+    if let Err(why) = table_refusal(service) {
         return Err(ServiceError::Refused(why));
     }
     match read_table(alloc, bus, bda.crtc_address(), service) {

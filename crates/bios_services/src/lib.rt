@@ -21,6 +21,7 @@ mod paint;
 mod palette;
 mod pixels;
 mod reading;
+mod reasons;
 mod refusals;
 mod regs;
 mod reply;

@@ -1,9 +1,10 @@
 //! Tables that function 10 answers in the caller's memory: subfunctions 09 and 17.
 ghost use Rattle.std.specs.Prelude.{◌≡◌, ◌<◌, IfOk, OnErr, None, length, true};
 ghost use Rattle.bios_services.specs.Plan.{run};
+ghost use Rattle.bios_services.specs.Reasons.{reason_of};
 ghost use Rattle.bios_services.specs.Tables.{table_service_of as table_service_of_regs, table_refusal as table_refusal_of, palette_register as palette_register_of, registers_plan, read_palette_plan, read_components_plan, read_entries_plan, table_plan, table_takes_memory};
 
-use crate::colours::has_entries;
+use crate::colours::no_entries;
 use crate::cycles::{expect_index, inp, out};
 use crate::palette::register;
 use crate::regs::Regs;
@@ -41,19 +42,13 @@ pub(crate) fn table_service_of(regs: Regs) -> Option<TableService>
     }
 }
 
-/// Why such a subfunction is refused.
-pub(crate) fn table_refusal(service: TableService) -> Option<Refusal>
-    ensures { result ≡ table_refusal_of service }
+/// Refuses such a subfunction, where there is a reason.
+pub(crate) fn table_refusal(service: TableService) -> Result<(), Refusal>
+    ensures { reason_of result ≡ table_refusal_of service }
 {
     match service {
-        TableService::ReadPalette => None,
-        TableService::ReadEntries { first, count } => {
-            if has_entries(first, count) {
-                None
-            } else {
-                Some(Refusal::BadRegister)
-            }
-        }
+        TableService::ReadPalette => Ok(()),
+        TableService::ReadEntries { first, count } => no_entries(first, count),
     }
 }
 

@@ -72,7 +72,7 @@ module _ (c : CardState) (d : BiosData) (t : IsPacked c d) (e : row_at d.mode d.
       ∙ ap (λ v. if k == n then colour_over d.mode colour v else v) (sym (screens.pixel_is c d t e z k lk)))
 
   pub write_pixel : (page x y colour : ℕ) (fonts : FontSet) (r : Regs) (block : List ℕ) → colour < 256 → IsServed (WritePixel page x y colour) fonts r block c d s
-  write_pixel page x y colour fonts r block lc = services.write_pixel bytes_320_by_200 c d e (screens.text c d t e z) page x y colour fonts r block (λ p h.
+  write_pixel page x y colour fonts r block lc = services.write_pixel bytes_320_by_200 c d e page x y colour fonts r block (λ p h.
       let lp = h.page in
       let first : 0 ≡ p = omega arith in
       let h0 : There bytes_320_by_200 d 0 x y = subst (λ i. There bytes_320_by_200 d i x y) (sym first) h in
@@ -90,7 +90,7 @@ module _ (c : CardState) (d : BiosData) (t : IsPacked c d) (e : row_at d.mode d.
       ap (λ m. let p : Plan ℕ = (if m == 0x13 then get (pixel_address d 0 x y) else read_dot_plan (pixel_address d 0 x y) x) in p) t.number
       ∙ ap get (address_is x y)
 
-  read_at_0 : (x y : ℕ) → There bytes_320_by_200 d 0 x y → IsRead bytes_320_by_200 c d e (screens.text c d t e z) 0 x y
+  read_at_0 : (x y : ℕ) → There bytes_320_by_200 d 0 x y → IsRead bytes_320_by_200 c d e 0 x y
   read_at_0 x y h =
       let n = number x y in
       let l = number_small x y h in
@@ -104,7 +104,7 @@ module _ (c : CardState) (d : BiosData) (t : IsPacked c d) (e : row_at d.mode d.
       }
 
   pub read_pixel : (page x y : ℕ) (fonts : FontSet) (r : Regs) (block : List ℕ) → IsServed (ReadPixel page x y) fonts r block c d s
-  read_pixel page x y fonts r block = services.read_pixel bytes_320_by_200 c d e (screens.text c d t e z) page x y fonts r block (λ p h.
+  read_pixel page x y fonts r block = services.read_pixel bytes_320_by_200 c d e page x y fonts r block (λ p h.
       let lp = h.page in
       let first : 0 ≡ p = omega arith in
-      subst (λ i. IsRead bytes_320_by_200 c d e (screens.text c d t e z) i x y) first (read_at_0 x y (subst (λ i. There bytes_320_by_200 d i x y) (sym first) h)))
+      subst (λ i. IsRead bytes_320_by_200 c d e i x y) first (read_at_0 x y (subst (λ i. There bytes_320_by_200 d i x y) (sym first) h)))

@@ -1,8 +1,6 @@
 -- The cursor's place and type, and the active page, in graphics, where no cursor is shown.
-use Rattle.std.proofs.Common.{◌≡◌, ℕ, ◌+◌, ◌*◌, ◌/◌, ◌%◌, ◌<◌, refl, sym, ap, ◌∙◌, subst, arith, List, Option, Some, None}
-use Rattle.std.specs.Prelude.{slice_index, ◌==◌, nat_lt, if◌then◌else◌}
-use Rattle.vga_bits.specs.declared.refusal.Refusal.{Refusal}
-use Rattle.vga_bits.specs.declared.refusal.Refusal.TheVariants.{BadPage}
+use Rattle.std.proofs.Common.{◌≡◌, ℕ, ◌+◌, ◌*◌, ◌/◌, ◌%◌, ◌<◌, refl, sym, ap, ◌∙◌, subst, arith, List, Some}
+use Rattle.std.specs.Prelude.{slice_index, ◌==◌, if◌then◌else◌}
 use Rattle.vga_card.specs.Card.{CardState}
 use Rattle.vga_card.specs.Bus.{card_meaning}
 use Rattle.bios_modes.specs.declared.modes.ModeRow.{ModeRow}
@@ -10,21 +8,22 @@ use Rattle.bios_modes.specs.Bda.{BiosData}
 use Rattle.bios_modes.specs.Fonts.{FontSet}
 use Rattle.bios_services.specs.declared.regs.Regs.{Regs}
 use Rattle.bios_services.specs.declared.call.Service.TheVariants.{SetCursorType, SetCursor, SelectPage}
-use Rattle.bios_services.specs.Bounds.{pages_in}
 use Rattle.bios_services.specs.Plan.{Plan, run, Done, ◌>>=◌, ◌>>◌}
 use Rattle.bios_services.specs.ModeSet.{is_text}
 use Rattle.bios_services.specs.Registers.{high, low}
 use Rattle.bios_services.specs.Cycles.{crtc}
 use Rattle.bios_services.specs.Cursor.{word_plan, cursor_plan, page_plan, cursor_address, start_address, with_place, with_page, move_cursor_plan, cursor_type_plan}
-use Rattle.bios_services.specs.Refusals.{page_named, page_refusal, refusal_in_mode}
+use Rattle.bios_services.specs.Reasons.{no_page}
+use Rattle.bios_services.specs.Refusals.{page_among, page_named, refusal_in_mode}
 use Rattle.bios_services.specs.Service.{plan_of}
 use Rattle.bios_screen.specs.Shown.{crtc_registers, location_shown, crtc_shown, shown}
-use Rattle.bios_screen.specs.Step.{page_meant, page_refusal_on, refusal_on, next, answer_on, with_place as placed_on}
+use Rattle.bios_screen.specs.Step.{page_meant, refusal_on, next, answer_on, with_place as placed_on}
 use Rattle.bios_screen.specs.Served.{IsServed}
 use Rattle.bios_screen.proofs.Base.Plans.{run_bind}
 use Rattle.bios_screen.proofs.Base.Kept.{plan_beam}
-use Rattle.bios_screen.proofs.Shows.Screens.{named_page}
-use Rattle.bios_screen.proofs.Services.Cursors.{with_crtc, type_set, start_set, page_allowed, page_data, then_data, data_runs}
+use Rattle.bios_screen.proofs.Base.Reasons.{page_allowed}
+use Rattle.bios_screen.proofs.Shows.Screens.{pages_are, named_page}
+use Rattle.bios_screen.proofs.Services.Cursors.{with_crtc, type_set, start_set, page_data, then_data, data_runs}
 use Rattle.bios_screen.proofs.Modes.PixelModes.{Graphics, row_in, start_small}
 use Rattle.bios_screen.proofs.Modes.PixelModes.Graphics.{Sixteen, Many}
 use Rattle.bios_screen.proofs.Modes.AnyModes.Tabled.{OfPixels}
@@ -32,14 +31,9 @@ use Rattle.bios_screen.proofs.Shows.Any.{HasSetting, pixel_setting}
 use Rattle.bios_screen.proofs.Shows.Pixels.{IsPixels, pixels_shown, pixels_shown_of}
 
 module _ (c : CardState) (d : BiosData) (h : IsPixels c d) where
-  -- the page that is meant, and why it is refused
+  -- the page that is meant
   meant_is : (page : ℕ) → page_named d page ≡ page_meant (pixels_shown c d h) page
   meant_is page = named_page h.row d h.mode page
-
-  named_refusal_is : (page : ℕ) → page_refusal d (page_named d page) ≡ page_refusal_on (pixels_shown c d h) (page_meant (pixels_shown c d h) page)
-  named_refusal_is page =
-      ap (page_refusal d) (meant_is page)
-      ∙ ap (λ (x : Option ModeRow). let y : Option Refusal = (if nat_lt (page_meant (pixels_shown c d h) page) (pages_in x) then None else Some BadPage) in y) h.mode
 
   -- another place of a cursor is no matter of registers
   place_shown : (p place : ℕ) → shown c (with_place d p place) ≡ Some (placed_on (pixels_shown c d h) p place)
@@ -71,7 +65,7 @@ module _ (c : CardState) (d : BiosData) (h : IsPixels c d) where
       let plan = move_cursor_plan d p place in
       let runs = data_runs plan r c in
       record {
-        refusal = named_refusal_is page;
+        refusal = ap (λ n. no_page n (page_among n page)) (pages_are h.row d h.mode);
         answer = λ _. ap (λ x. x.1.0) runs;
         shows = λ _. ap (λ x. shown x.0 x.1.1) runs ∙ moved_shown p place ∙ ap (λ n. Some (placed_on (pixels_shown c d h) n place)) (meant_is page);
         beam = plan_beam (then_data plan r) c;
@@ -151,8 +145,8 @@ module _ (c : CardState) (d : BiosData) (h : IsPixels c d) where
       let plan = page_plan d page in
       let runs = data_runs plan r c in
       record {
-        refusal = ap (λ (x : Option ModeRow). let y : Option Refusal = (if nat_lt page (pages_in x) then None else Some BadPage) in y) h.mode;
+        refusal = ap (λ n. no_page n page) (pages_are h.row d h.mode);
         answer = λ _. ap (λ x. x.1.0) runs;
-        shows = λ allowed. ap (λ x. shown x.0 x.1.1) runs ∙ page_shown page (page_allowed page h.row.pages allowed);
+        shows = λ allowed. ap (λ x. shown x.0 x.1.1) runs ∙ page_shown page (page_allowed h.row.pages page allowed);
         beam = plan_beam (then_data plan r) c;
       }

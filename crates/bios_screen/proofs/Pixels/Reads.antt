@@ -1,8 +1,6 @@
 -- Function 08 in graphics: the service around the lines of the cell at the cursor.
-use Rattle.std.proofs.Common.{◌≡◌, ℕ, ◌<◌, ap, ◌∙◌, List, Option, Some, None, false}
-use Rattle.std.specs.Prelude.{nat_lt, if◌then◌else◌}
-use Rattle.vga_bits.specs.declared.refusal.Refusal.{Refusal}
-use Rattle.vga_bits.specs.declared.refusal.Refusal.TheVariants.{BadPage, Outside}
+use Rattle.std.proofs.Common.{◌≡◌, ℕ, ◌<◌, ap, ◌∙◌, List, Some, false}
+use Rattle.std.specs.Prelude.{if◌then◌else◌}
 use Rattle.vga_card.specs.Bus.{card_meaning}
 use Rattle.vga_card.specs.Card.{CardState}
 use Rattle.bios_modes.specs.declared.modes.ModeRow.{ModeRow}
@@ -11,7 +9,6 @@ use Rattle.bios_modes.specs.Bda.{BiosData}
 use Rattle.bios_modes.specs.Fonts.{FontSet}
 use Rattle.bios_services.specs.declared.regs.Regs.{Regs}
 use Rattle.bios_services.specs.declared.call.Service.TheVariants.{ReadCell}
-use Rattle.bios_services.specs.Bounds.{pages_in}
 use Rattle.bios_services.specs.Cells.{cells_of, cell_address, read_cell_plan}
 use Rattle.bios_services.specs.Cursor.{cell_number, place_of, cursor_cell}
 use Rattle.bios_services.specs.Drawing.{cell_band, cell_row}
@@ -19,27 +16,23 @@ use Rattle.bios_services.specs.Glyphs.{first_character}
 use Rattle.bios_services.specs.ModeSet.{is_text}
 use Rattle.bios_services.specs.Plan.{Plan, run, Done, ◌>>=◌}
 use Rattle.bios_services.specs.Reading.{read_character_plan}
-use Rattle.bios_services.specs.Refusals.{page_named, cursor_refusal, refusal_in_mode}
+use Rattle.bios_services.specs.Reasons.{◌or◌, no_page, outside_cells}
+use Rattle.bios_services.specs.Refusals.{page_among, page_named, refusal_in_mode}
 use Rattle.bios_services.specs.Registers.{with_low}
 use Rattle.bios_services.specs.Service.{plan_of, read_cell_service, Outcome}
 use Rattle.bios_screen.specs.Listing.{listing}
 use Rattle.bios_screen.specs.Screen.{Screen}
 use Rattle.bios_screen.specs.Shown.{pixel_screen, shown}
-use Rattle.bios_screen.specs.Step.{page_meant, cursor_refusal_on, cell_line, refusal_on, next, answer_on}
+use Rattle.bios_screen.specs.Step.{page_meant, cell_line, refusal_on, next, answer_on}
 use Rattle.bios_screen.specs.Served.{IsServed}
 use Rattle.bios_screen.proofs.Base.Plans.{run_bind}
 use Rattle.bios_screen.proofs.Base.Kept.{plan_beam}
-use Rattle.bios_screen.proofs.Shows.Screens.{named_page}
+use Rattle.bios_screen.proofs.Shows.Screens.{pages_are, named_page}
 use Rattle.bios_screen.proofs.Text.Writes.{cursor_allowed}
 
 module _ (row : ModeRow) (c : CardState) (d : BiosData) (e : row_at d.mode d.height ≡ Some row) (text : is_text d.mode ≡ false) where
   abbrev s : Screen
   s = pixel_screen row c d
-
-  refusal_is : (page : ℕ) → cursor_refusal d (page_named d page) ≡ cursor_refusal_on s (page_meant s page)
-  refusal_is page =
-      ap (cursor_refusal d) (named_page row d e page)
-      ∙ ap (λ (x : Option ModeRow). let y : Option Refusal = (if nat_lt (page_meant s page) (pages_in x) then (if nat_lt (cell_number d (place_of d (page_meant s page))) (cells_of d) then None else Some Outside) else Some BadPage) in y) e
 
   abbrev reading : FontSet → ℕ → Plan ℕ
   reading fonts p = read_character_plan (cell_band d p (cursor_cell d p)) (cell_row d (cursor_cell d p)) fonts
@@ -71,7 +64,7 @@ module _ (row : ModeRow) (c : CardState) (d : BiosData) (e : row_at d.mode d.hei
       ∙ ap (λ i. let x = run card_meaning i c in let y : CardState × Outcome = (x.0, (x.1, d)) in y) (service_is fonts r p)
       ∙ ap (λ (x : CardState × Regs). let y : CardState × Outcome = (x.0, (x.1, d)) in y) (run_bind card_meaning (reading fonts p) put_in c) in
       record {
-        refusal = refusal_is page;
+        refusal = ap (λ n. no_page n (page_among n page) or outside_cells (cells_of d) (cursor_cell d (page_among n page))) (pages_are row d e);
         answer = λ allowed.
             let h = cursor_allowed row.pages p (cell_number d (place_of d p)) (cells_of d) allowed in
             ap (λ q. q.1.0) runs ∙ ap (λ n. let x : Regs = record r { ax = with_low r.ax n } in x) (seen p (cursor_cell d p) h.page h.within).answer;

@@ -1,8 +1,5 @@
 -- Functions 09 and 0A in graphics: what a loop of characters leaves is the next screen.
-use Rattle.std.proofs.Common.{◌≡◌, ℕ, ◌+◌, ◌<◌, ◌≤◌, sym, ap, ◌∙◌, arith, List, Option, Some, None}
-use Rattle.std.specs.Prelude.{nat_lt, nat_le, if◌then◌else◌}
-use Rattle.vga_bits.specs.declared.refusal.Refusal.{Refusal}
-use Rattle.vga_bits.specs.declared.refusal.Refusal.TheVariants.{BadPage, Outside, CountPast}
+use Rattle.std.proofs.Common.{◌≡◌, ℕ, ◌+◌, ◌<◌, ◌≤◌, sym, ap, ◌∙◌, arith, List, Some}
 use Rattle.vga_card.specs.Bus.{card_meaning}
 use Rattle.vga_card.specs.Card.{CardState}
 use Rattle.bios_modes.specs.declared.modes.ModeRow.{ModeRow}
@@ -13,22 +10,22 @@ use Rattle.bios_services.specs.declared.regs.Regs.{Regs}
 use Rattle.bios_services.specs.declared.cell_run.CellRun.{CellRun}
 use Rattle.bios_services.specs.declared.ink.Ink.{Ink}
 use Rattle.bios_services.specs.declared.call.Service.TheVariants.{WriteCells}
-use Rattle.bios_services.specs.Bounds.{pages_in}
 use Rattle.bios_services.specs.Cells.{cells_of}
 use Rattle.bios_services.specs.CellRuns.{cell_run_plan}
-use Rattle.bios_services.specs.Cursor.{row_of, column_of, cell_number, place_of}
+use Rattle.bios_services.specs.Cursor.{row_of, column_of, cell_number, cursor_cell, place_of}
 use Rattle.bios_services.specs.Drawing.{character_plan, characters_plan}
 use Rattle.bios_services.specs.Plan.{Plan, run, Done, ◌>>◌}
-use Rattle.bios_services.specs.Refusals.{page_named, count_refusal, refusal_in_mode}
+use Rattle.bios_services.specs.Reasons.{◌or◌, no_page, outside_cells, past_cells}
+use Rattle.bios_services.specs.Refusals.{page_among, page_named, refusal_in_mode}
 use Rattle.bios_services.specs.Service.{plan_of, Outcome}
 use Rattle.bios_screen.specs.Screen.{Screen}
 use Rattle.bios_screen.specs.Shown.{pixel_screen, shown}
-use Rattle.bios_screen.specs.Step.{page_meant, count_refusal_on, refusal_on, next, answer_on, with_pixels, draw_characters}
+use Rattle.bios_screen.specs.Step.{page_meant, refusal_on, next, answer_on, with_pixels, draw_characters}
 use Rattle.bios_screen.specs.Served.{IsServed}
 use Rattle.bios_screen.proofs.Base.Plans.{run_bind, then_runs}
 use Rattle.bios_screen.proofs.Base.Places.{ends_before}
 use Rattle.bios_screen.proofs.Base.Kept.{plan_beam}
-use Rattle.bios_screen.proofs.Shows.Screens.{named_page}
+use Rattle.bios_screen.proofs.Shows.Screens.{pages_are, named_page}
 use Rattle.bios_screen.proofs.Text.Writes.{count_allowed}
 
 -- a character is a run of one
@@ -46,11 +43,6 @@ module _ (row : ModeRow) (c : CardState) (d : BiosData) (e : row_at d.mode d.hei
   abbrev s : Screen
   s = pixel_screen row c d
 
-  refusal_is : (page count : ℕ) → count_refusal d (page_named d page) count ≡ count_refusal_on s (page_meant s page) count
-  refusal_is page count =
-      ap (λ p. count_refusal d p count) (named_page row d e page)
-      ∙ ap (λ (x : Option ModeRow). let y : Option Refusal = (if nat_lt (page_meant s page) (pages_in x) then (if nat_lt (cell_number d (place_of d (page_meant s page))) (cells_of d) then (if nat_le (cell_number d (place_of d (page_meant s page)) + count) (cells_of d) then None else Some CountPast) else Some Outside) else Some BadPage) in y) e
-
   pub write_cells : (cells : CellRun) (fonts : FontSet) (r : Regs) (block : List ℕ)
       → ((p q : ℕ) → p < row.pages → q + cells.count ≤ cells_of d → shown (run card_meaning (characters_plan fonts d p q cells.character cells.ink cells.count) c).0 d ≡ Some (with_pixels s p (draw_characters fonts s q cells.count cells.character cells.ink.colour)))
       → IsServed (WriteCells cells) fonts r block c d s
@@ -61,7 +53,8 @@ module _ (row : ModeRow) (c : CardState) (d : BiosData) (e : row_at d.mode d.hei
       let done : Plan Outcome = Done (r, d) in
       let runs = run_bind card_meaning plan (λ _. done) c in
       record {
-        refusal = refusal_is cells.page cells.count;
+        refusal = ap (λ n. let at : ℕ = cursor_cell d (page_among n cells.page) in no_page n (page_among n cells.page) or outside_cells (cells_of d) at or past_cells (cells_of d) at cells.count)
+            (pages_are row d e);
         answer = λ _. ap (λ q. q.1.0) runs;
         shows = λ allowed.
             let h = count_allowed row.pages p (cell_number d (place_of d p)) cells.count (cells_of d) allowed in

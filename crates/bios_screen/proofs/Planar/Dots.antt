@@ -155,7 +155,7 @@ module _ (law : KeepsBounds) (m : Planes) (c : CardState) (d : BiosData) (t : Is
   ink_is v = sym (ap (λ i o. let x : ℕ = if i then v else ink (is_set v 7) v o in x) (ap (λ i. i == 0x13) t.number ∙ packed_by m))
 
   pub write_pixel : (page x y v : ℕ) (fonts : FontSet) (r : Regs) (block : List ℕ) → IsServed (WritePixel page x y v) fonts r block c d s
-  write_pixel page x y v fonts r block = services.write_pixel (row_of m) c d e (screens.text m c d t e z) page x y v fonts r block (λ p h.
+  write_pixel page x y v fonts r block = services.write_pixel (row_of m) c d e page x y v fonts r block (λ p h.
       let n = pixel_number s x y in
       let misc = (row_of m).misc in
       let clocking = slice_index (row_of m).sequencer 1 in

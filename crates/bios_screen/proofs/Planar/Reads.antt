@@ -174,7 +174,7 @@ module _ (m : Planes) (c : CardState) (d : BiosData) (t : IsPlanar m c d) (e : r
       ∙ ap (λ (x : CardState). Some (screen_by (row_of m) c d 0 (Pixels (pixel_pages d.mode x.host.memory d.size (page_pixels d) (row_of m).pages)) [])) h.others
 
   pub read_pixel : (page x y : ℕ) (fonts : FontSet) (r : Regs) (block : List ℕ) → IsServed (ReadPixel page x y) fonts r block c d s
-  read_pixel page x y fonts r block = services.read_pixel (row_of m) c d e (screens.text m c d t e z) page x y fonts r block (λ p h. record {
+  read_pixel page x y fonts r block = services.read_pixel (row_of m) c d e page x y fonts r block (λ p h. record {
     answer = ap (λ i. (run card_meaning i c).1) (read_is p x y) ∙ pixel_is p x y h;
     shows = ap (λ i. shown (run card_meaning i c).0 d) (read_is p x y) ∙ stays (run card_meaning (read_dot_plan (0xA0000 + offset p x y) x) c).0 (dot p x y h).still;
   })

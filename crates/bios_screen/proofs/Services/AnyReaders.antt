@@ -1,35 +1,27 @@
 -- Services that answer, and do nothing, in text and in graphics.
-use Rattle.std.proofs.Common.{◌≡◌, ℕ, refl, ap, ◌∙◌, List, Option, Some, None}
-use Rattle.std.specs.Prelude.{nat_lt, if◌then◌else◌, slice_index}
-use Rattle.vga_bits.specs.declared.refusal.Refusal.{Refusal}
-use Rattle.vga_bits.specs.declared.refusal.Refusal.TheVariants.{BadPage}
+use Rattle.std.proofs.Common.{◌≡◌, ℕ, refl, ap, List}
+use Rattle.std.specs.Prelude.{slice_index}
 use Rattle.vga_card.specs.Card.{CardState}
-use Rattle.bios_modes.specs.declared.modes.ModeRow.{ModeRow}
 use Rattle.bios_modes.specs.Bda.{BiosData}
 use Rattle.bios_modes.specs.Fonts.{FontSet}
 use Rattle.bios_services.specs.declared.regs.Regs.{Regs}
 use Rattle.bios_services.specs.declared.call.Service.TheVariants.{ReadCursor, ReadMode, ReadAdapter, ReadDisplay}
-use Rattle.bios_services.specs.Bounds.{pages_in}
-use Rattle.bios_services.specs.Refusals.{page_named, page_refusal, refusal_in_mode}
+use Rattle.bios_services.specs.Reasons.{no_page}
+use Rattle.bios_services.specs.Refusals.{page_among, page_named, refusal_in_mode}
 use Rattle.bios_services.specs.Service.{plan_of}
-use Rattle.bios_screen.specs.Step.{page_meant, page_refusal_on, refusal_on, next, answer_on}
+use Rattle.bios_screen.specs.Step.{page_meant, refusal_on, next, answer_on}
 use Rattle.bios_screen.specs.Served.{IsServed}
-use Rattle.bios_screen.proofs.Shows.Screens.{named_page}
+use Rattle.bios_screen.proofs.Shows.Screens.{pages_are, named_page}
 use Rattle.bios_screen.proofs.Shows.Any.{IsAny, any_screen, still_any}
 
--- the page that is meant, and why it is refused
+-- the page that is meant
 pub any_meant : (c : CardState) (d : BiosData) (h : IsAny c d) (page : ℕ) → page_named d page ≡ page_meant (any_screen c d h c) page
 any_meant c d h page = named_page h.row d h.mode page
-
-any_refusal : (c : CardState) (d : BiosData) (h : IsAny c d) (page : ℕ) → page_refusal d (page_named d page) ≡ page_refusal_on (any_screen c d h c) (page_meant (any_screen c d h c) page)
-any_refusal c d h page =
-    ap (page_refusal d) (any_meant c d h page)
-    ∙ ap (λ (x : Option ModeRow). let y : Option Refusal = (if nat_lt (page_meant (any_screen c d h c) page) (pages_in x) then None else Some BadPage) in y) h.mode
 
 pub read_cursor : (page : ℕ) (fonts : FontSet) (r : Regs) (block : List ℕ) (c : CardState) (d : BiosData) (h : IsAny c d) → IsServed (ReadCursor page) fonts r block c d (any_screen c d h c)
 unfolding plan_of refusal_in_mode refusal_on next answer_on
 read_cursor page fonts r block c d h = record {
-  refusal = any_refusal c d h page;
+  refusal = ap (λ n. no_page n (page_among n page)) (pages_are h.row d h.mode);
   answer = λ _. ap (λ p. let x : Regs = record r { cx = d.cursor_type; dx = slice_index d.cursor_places p } in x) (any_meant c d h page);
   shows = λ _. still_any c d h;
   beam = refl;

@@ -1,12 +1,10 @@
 -- Services that change registers of the CRT controller: the cursor's type and place, and the active page.
-use Rattle.std.proofs.Common.{◌≡◌, ◌≢◌, ℕ, ◌+◌, ◌*◌, ◌/◌, ◌%◌, ◌<◌, ◌≤◌, ⊎_elim, refl, sym, ap, ◌∙◌, arith, List, Option, Some, None, Bool, true, false}
+use Rattle.std.proofs.Common.{◌≡◌, ◌≢◌, ℕ, ◌+◌, ◌*◌, ◌/◌, ◌%◌, ◌<◌, ◌≤◌, ⊎_elim, refl, sym, ap, ◌∙◌, arith, List, Some, Bool, true, false}
 use Rattle.std.specs.Prelude.{slice_set, ◌==◌, ◌&&◌, nat_lt, if◌then◌else◌, bit_and}
 use Rattle.std.specs.Str.{bytes_eq}
 use Rattle.std.proofs.lemmas.Bool.{cases_eq, agree_below_at}
 use Rattle.std.proofs.lemmas.Bool.Decides.{nat_tests}
 use Rattle.std.proofs.lemmas.List.{get_or-set_same, get_or-set_other}
-use Rattle.vga_bits.specs.declared.refusal.Refusal.{Refusal}
-use Rattle.vga_bits.specs.declared.refusal.Refusal.TheVariants.{BadPage}
 use Rattle.vga_crtc.specs.Ports.{after_out as after_crtc}
 use Rattle.vga_card.specs.Card.{CardState}
 use Rattle.vga_card.specs.Port.{port_of as reached_by, crtc_port_of}
@@ -24,7 +22,8 @@ use Rattle.bios_services.specs.Registers.{high, low}
 use Rattle.bios_services.specs.Cycles.{crtc}
 use Rattle.bios_services.specs.ModeSet.{is_text}
 use Rattle.bios_services.specs.Cursor.{word_plan, cursor_plan, page_plan, cursor_address, start_address, place_of, with_place, with_page, move_cursor_plan, cursor_type_plan}
-use Rattle.bios_services.specs.Refusals.{page_named, refusal_in_mode}
+use Rattle.bios_services.specs.Reasons.{no_page}
+use Rattle.bios_services.specs.Refusals.{page_among, page_named, refusal_in_mode}
 use Rattle.bios_services.specs.Service.{plan_of, Outcome}
 use Rattle.bios_screen.specs.Shown.{crtc_registers, shows_attribute, shows_data, text_screen, shown}
 use Rattle.bios_screen.specs.Step.{page_meant, refusal_on, next, answer_on, with_place as placed_on}
@@ -38,9 +37,10 @@ use Rattle.bios_screen.proofs.Modes.PixelModes.Planes.{Low, Middle, High}
 use Rattle.bios_screen.proofs.Modes.PixelModes.Graphics.{Sixteen, Many}
 use Rattle.bios_screen.proofs.Modes.AnyModes.{Tabled, setting_of, port_of}
 use Rattle.bios_screen.proofs.Modes.AnyModes.Tabled.{OfText, OfPixels}
-use Rattle.bios_screen.proofs.Base.Tests.{both_true, both_are, lt_is, lt_test}
-use Rattle.bios_screen.proofs.Shows.Screens.{HasData, data_is, text_crtc, IsShown, screen_shown, shown_of}
-use Rattle.bios_screen.proofs.Services.TextReaders.{meant_is, page_refusal_is, named_refusal_is}
+use Rattle.bios_screen.proofs.Base.Tests.{both_true, both_are, lt_test}
+use Rattle.bios_screen.proofs.Base.Reasons.{page_allowed}
+use Rattle.bios_screen.proofs.Shows.Screens.{pages_are, HasData, data_is, text_crtc, IsShown, screen_shown, shown_of}
+use Rattle.bios_screen.proofs.Services.TextReaders.{meant_is}
 use Rattle.bios_screen.proofs.Modes.TextModes.Display.{Colour, Monochrome}
 
 pub and_255 : (v : ℕ) → v < 256 → bit_and v 0xFF ≡ v
@@ -180,14 +180,6 @@ placed_shown c d h p place bda lp l =
     ∙ other_data c c d e h refl refl t.attribute t.data_test (t.crtc ∙ same_list))
     (cases_eq p d.page)
 
--- a page that is not refused is one
-pub page_allowed : (n pages : ℕ) → (let x : Option Refusal = (if nat_lt n pages then None else Some BadPage) in x) ≡ None → n < pages
-page_allowed n pages h = by_test (nat_lt n pages) refl h
-  where
-    by_test : (b : Bool) → nat_lt n pages ≡ b → (let x : Option Refusal = (if b then None else Some BadPage) in x) ≡ None → n < pages
-    by_test true e g = lt_is n pages e
-    by_test false e g = absurd (cc)
-
 -- ---- functions 01, 02 and 05
 
 -- a plan that leaves BIOS data, and after it the same registers
@@ -232,10 +224,10 @@ set_cursor page place fonts r block c d h l bda =
     let plan = move_cursor_plan d p place in
     let runs = data_runs plan r c in
     record {
-      refusal = named_refusal_is c d h page;
+      refusal = ap (λ n. no_page n (page_among n page)) (pages_are h.row d h.mode);
       answer = λ _. ap (λ x. x.1.0) runs;
       shows = λ allowed.
-          let lp : p < h.row.pages = let w = page_allowed q h.row.pages allowed in omega arith in
+          let lp : p < h.row.pages = let w = page_allowed h.row.pages q allowed in omega arith in
           ap (λ x. shown x.0 x.1.1) runs
           ∙ moved_shown c d h p place bda lp l
           ∙ ap (λ n. Some (placed_on s n place)) named;
@@ -288,8 +280,8 @@ select_page page fonts r block c d h bda =
     let plan = page_plan d page in
     let runs = data_runs plan r c in
     record {
-      refusal = page_refusal_is c d h page;
+      refusal = ap (λ n. no_page n page) (pages_are h.row d h.mode);
       answer = λ _. ap (λ x. x.1.0) runs;
-      shows = λ allowed. ap (λ x. shown x.0 x.1.1) runs ∙ page_shown c d h page bda (page_allowed page h.row.pages allowed);
+      shows = λ allowed. ap (λ x. shown x.0 x.1.1) runs ∙ page_shown c d h page bda (page_allowed h.row.pages page allowed);
       beam = plan_beam (then_data plan r) c;
     }

@@ -20,7 +20,7 @@ use Rattle.bios_services.specs.declared.call.Call.{Call}
 use Rattle.bios_services.specs.declared.call.Call.TheVariants.{LoadGlyphs}
 use Rattle.bios_services.specs.Plan.{Plan, Done, run, ◌>>◌}
 use Rattle.bios_services.specs.ModeSet.{is_text}
-use Rattle.bios_services.specs.Colours.{block_refusal}
+use Rattle.bios_services.specs.Reasons.{◌or◌, refuse_unless, wrong_block}
 use Rattle.bios_services.specs.GlyphLoads.{AreThere, glyphs_len, load_refusal, load_plan}
 use Rattle.bios_services.specs.Calls.{call_of}
 use Rattle.bios_services.specs.Service.{Answered, answer_of, call_plan, refuse, load_at, load_unless, load_in_mode_plan}
@@ -28,7 +28,9 @@ use Rattle.bios_screen.specs.Screen.{Screen}
 use Rattle.bios_screen.specs.Shown.{shown}
 use Rattle.bios_screen.specs.Served.{after_call}
 use Rattle.bios_screen.specs.Called.{reply_unless, screen_unless, IsLoaded}
-use Rattle.bios_screen.specs.Loaded.{height_refusal_on, or_else, load_at_height, load_glyphs}
+use Rattle.bios_screen.specs.Loaded.{height_refusal_on, load_at_height, load_glyphs}
+use Rattle.bios_screen.proofs.Base.Tests.{le_is}
+use Rattle.bios_screen.proofs.Base.Reasons.{neither, holds, block_allowed}
 use Rattle.bios_screen.proofs.Base.Plans.{then_runs, then_answers}
 use Rattle.bios_screen.proofs.Base.Kept.{KeepsBounds, plan_beam}
 use Rattle.bios_screen.proofs.Modes.TextModes.{Display, Height, row_of, row_with, lines_of, number_of}
@@ -75,18 +77,19 @@ record IsAllowed (load : GlyphLoad) (mode len : ℕ) : Type 0 where
   last : load.first + load.count ≤ 256
   whole : load.is_block ≡ true → len ≡ glyphs_len load
 
-block_whole : (len taken : ℕ) → block_refusal len taken ≡ None → len ≡ taken
-block_whole len taken e = grind (arith, nat_tests)
-
 allowed_of : (load : GlyphLoad) (mode len : ℕ) → load_refusal load mode len ≡ None → IsAllowed load mode len
-allowed_of load mode len e = by_tests (is_text mode) (nat_le (load.first + load.count) 256) load.is_block refl refl refl e
+allowed_of load mode len e =
+    let text = neither (refuse_unless (is_text mode) WrongKind) _ e in
+    let last = neither (refuse_unless (nat_le (load.first + load.count) 256) CountPast) _ text.1 in
+    record {
+      text = holds (is_text mode) WrongKind text.0;
+      last = le_is (load.first + load.count) 256 (holds _ CountPast last.0);
+      whole = by_block load.is_block last.1;
+    }
   where
-    by_tests : (a b k : Bool) → is_text mode ≡ a → nat_le (load.first + load.count) 256 ≡ b → load.is_block ≡ k
-        → (let x : Option Refusal = (if a then (if b then (if k then block_refusal len (glyphs_len load) else None) else Some CountPast) else Some WrongKind) in x) ≡ None → IsAllowed load mode len
-    by_tests true true true ea eb ek h = record { text = ea; last = grind (arith, nat_tests); whole = λ z. block_whole len (glyphs_len load) h }
-    by_tests true true false ea eb ek h = record { text = ea; last = grind (arith, nat_tests); whole = λ z. absurd (cc) }
-    by_tests true false k ea eb ek h = absurd (cc)
-    by_tests false b k ea eb ek h = absurd (cc)
+    by_block : (k : Bool) → (if k then wrong_block (glyphs_len load) len else None) ≡ None → k ≡ true → len ≡ glyphs_len load
+    by_block true h z = block_allowed (glyphs_len load) len h
+    by_block false h z = absurd (cc)
 
 -- ---- the call
 
@@ -138,7 +141,7 @@ module _ (law : KeepsBounds) (fonts : FontSet) (load : GlyphLoad) (r : Regs) (bl
       let runs = ap (λ (q : Option ModeRow). run card_meaning (load_at q load fonts d r block) c) at in
       record { reply = ap (λ y. y.1.0) runs; shows = ap (λ y. shown y.0 y.1.1) runs ∙ old }
 
-  unless_leads : (why : Option Refusal) → load_refusal load d.mode (length block) ≡ why → Leads (or_else why (height_refusal_on (text_row d.mode load.height))) r s (load_at_height (text_row d.mode load.height) fonts s load block) (run card_meaning (load_unless why load fonts d r block) c)
+  unless_leads : (why : Option Refusal) → load_refusal load d.mode (length block) ≡ why → Leads (why or height_refusal_on (text_row d.mode load.height)) r s (load_at_height (text_row d.mode load.height) fonts s load block) (run card_meaning (load_unless why load fonts d r block) c)
   unfolding load_unless
   unless_leads (Some why) e = refused_leads why r s _ c d old
   unless_leads None e = height_leads (allowed_of load d.mode (length block) e) (text_row d.mode load.height) refl
@@ -155,7 +158,7 @@ module _ (law : KeepsBounds) (fonts : FontSet) (load : GlyphLoad) (r : Regs) (bl
       let t = unless_leads why refl in
       let same = sym mode.is in
       record {
-        reply = ap (λ y. y.1.0) runs ∙ t.reply ∙ ap (λ m. reply_unless (or_else (load_refusal load m (length block)) (height_refusal_on (text_row m load.height))) r) same;
-        shows = ap (λ y. shown y.0 y.1.1) runs ∙ t.shows ∙ ap (λ m. Some (screen_unless (or_else (load_refusal load m (length block)) (height_refusal_on (text_row m load.height))) s (load_at_height (text_row m load.height) fonts s load block))) same;
+        reply = ap (λ y. y.1.0) runs ∙ t.reply ∙ ap (λ m. reply_unless (load_refusal load m (length block) or height_refusal_on (text_row m load.height)) r) same;
+        shows = ap (λ y. shown y.0 y.1.1) runs ∙ t.shows ∙ ap (λ m. Some (screen_unless (load_refusal load m (length block) or height_refusal_on (text_row m load.height)) s (load_at_height (text_row m load.height) fonts s load block))) same;
         beam = ap (λ y. y.0.crtc.beam) runs ∙ plan_beam plan c;
       }

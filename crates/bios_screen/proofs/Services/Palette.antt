@@ -1,13 +1,12 @@
 -- Function 10: from a state that shows a screen to one that shows the next.
-use Rattle.std.proofs.Common.{◌≡◌, ℕ, zero, suc, ◌+◌, ◌*◌, ◌%◌, ◌<◌, ◌≤◌, refl, sym, ap, ◌∙◌, arith, List, [], ◌∷◌, length, Option, Some, None, Bool, true, false}
-use Rattle.std.specs.Prelude.{◌==◌, ◌&&◌, nat_lt, nat_le, if◌then◌else◌, slice_index, slice_set, take, drop, bit_and, bit_or}
+use Rattle.std.proofs.Common.{◌≡◌, ℕ, zero, suc, ◌+◌, ◌*◌, ◌%◌, ◌<◌, ◌≤◌, refl, sym, ap, ◌∙◌, arith, List, [], ◌∷◌, length, Some, None, Bool, true, false}
+use Rattle.std.specs.Prelude.{◌==◌, ◌&&◌, nat_lt, nat_le, slice_index, slice_set, take, drop, bit_and, bit_or}
 use Rattle.std.specs.Str.{bytes_eq}
 use Rattle.std.proofs.lemmas.Bool.{agree_below_at}
 use Rattle.std.proofs.lemmas.List.{get_or-set_same, get_or-set_other, get_or-take, length-take-le, take-set-le, drop-set-lt}
 use Rattle.std.proofs.Math.Seq.{take-set-lt}
 use Rattle.vga_bits.specs.Bits.{is_set}
-use Rattle.vga_bits.specs.declared.refusal.Refusal.{Refusal}
-use Rattle.vga_bits.specs.declared.refusal.Refusal.TheVariants.{BadRegister, BadBlock}
+use Rattle.vga_bits.specs.declared.refusal.Refusal.TheVariants.{BadRegister}
 use Rattle.vga_attr.specs.Attr.{attr_masks}
 use Rattle.vga_attr.specs.Fields.{is_palette_shown}
 use Rattle.vga_dac.specs.declared.component.Component.TheVariants.{Red}
@@ -28,13 +27,15 @@ use Rattle.bios_services.specs.Registers.{with_high, with_low}
 use Rattle.bios_services.specs.Plan.{Plan, run, Done, out, ◌>>=◌, ◌>>◌}
 use Rattle.bios_services.specs.Palette.{set_register_plan, set_palette_plan, set_blinking_plan, read_register_plan}
 use Rattle.bios_services.specs.Dac.{set_entry_plan, set_entries_plan}
-use Rattle.bios_services.specs.Colours.{colour_refusal, has_entries, read_register_in_bh, read_mask_in_bl, colours_plan}
+use Rattle.bios_services.specs.Reasons.{◌or◌, refuse_unless, wrong_block}
+use Rattle.bios_services.specs.Colours.{colour_refusal, has_entries, no_register, no_entry, no_entries, read_register_in_bh, read_mask_in_bl, colours_plan}
 use Rattle.bios_services.specs.Refusals.{refusal_in_mode}
 use Rattle.bios_services.specs.Service.{plan_of, Outcome}
 use Rattle.bios_screen.specs.Listing.{listing}
 use Rattle.bios_screen.specs.Screen.{Screen}
 use Rattle.bios_screen.specs.Shown.{shows_attribute, shown}
 use Rattle.bios_screen.specs.Colours.{six_bits, with_value, with_block, with_entries, with_colours, colours_answer}
+use Rattle.bios_screen.proofs.Base.Reasons.{neither, holds, block_allowed}
 use Rattle.bios_screen.specs.Step.{refusal_on, next, answer_on}
 use Rattle.bios_screen.specs.Served.{FitsBytes, IsServed}
 use Rattle.bios_screen.proofs.Base.Plans.{run_bind, then_runs, then_answers}
@@ -197,46 +198,25 @@ module _ (c : CardState) (d : BiosData) (h : IsAny c d) where
 
   -- ---- what is known where they are not refused
 
-  register_allowed : (i : ℕ) → (let x : Option Refusal = (if nat_lt i 0x10 then None else Some BadRegister) in x) ≡ None → i < 16
-  register_allowed i e = by_test (nat_lt i 0x10) refl e
-    where
-      by_test : (b : Bool) → nat_lt i 0x10 ≡ b → (let x : Option Refusal = (if b then None else Some BadRegister) in x) ≡ None → i < 16
-      by_test true t e = lt_is i 0x10 t
-      by_test false t e = absurd (cc)
+  register_allowed : (i : ℕ) → no_register i ≡ None → i < 16
+  register_allowed i e = lt_is i 0x10 (holds (nat_lt i 0x10) BadRegister e)
 
-  entry_allowed : (i : ℕ) → (let x : Option Refusal = (if nat_lt i 0x100 then None else Some BadRegister) in x) ≡ None → i < 256
-  entry_allowed i e = by_test (nat_lt i 0x100) refl e
-    where
-      by_test : (b : Bool) → nat_lt i 0x100 ≡ b → (let x : Option Refusal = (if b then None else Some BadRegister) in x) ≡ None → i < 256
-      by_test true t e = lt_is i 0x100 t
-      by_test false t e = absurd (cc)
+  entry_allowed : (i : ℕ) → no_entry i ≡ None → i < 256
+  entry_allowed i e = lt_is i 0x100 (holds (nat_lt i 0x100) BadRegister e)
 
-  blink_allowed : (b : ℕ) → (let x : Option Refusal = (if nat_le b 1 then None else Some BadRegister) in x) ≡ None → b < 2
-  blink_allowed b e = by_test (nat_le b 1) refl e
-    where
-      by_test : (t : Bool) → nat_le b 1 ≡ t → (let x : Option Refusal = (if t then None else Some BadRegister) in x) ≡ None → b < 2
-      by_test true t e = let z = le_is b 1 t in omega arith
-      by_test false t e = absurd (cc)
-
-  block_allowed : (n taken : ℕ) → (let x : Option Refusal = (if n == taken then None else Some BadBlock) in x) ≡ None → n ≡ taken
-  block_allowed n taken e = by_test (n == taken) refl e
-    where
-      by_test : (b : Bool) → (n == taken) ≡ b → (let x : Option Refusal = (if b then None else Some BadBlock) in x) ≡ None → n ≡ taken
-      by_test true t e = same t
-      by_test false t e = absurd (cc)
+  blink_allowed : (b : ℕ) → refuse_unless (nat_le b 1) BadRegister ≡ None → b < 2
+  blink_allowed b e = let z = le_is b 1 (holds (nat_le b 1) BadRegister e) in omega arith
 
   record EntriesAllowed (first count len : ℕ) : Type 0 where
     begin : first < 256
     all : first + count ≤ 256
     whole : len ≡ 3 * count
 
-  entries_allowed : (first count len : ℕ) → (let x : Option Refusal = (if has_entries first count then (if len == 3 * count then None else Some BadBlock) else Some BadRegister) in x) ≡ None → EntriesAllowed first count len
-  entries_allowed first count len e = by_tests (has_entries first count) (len == 3 * count) refl refl e
-    where
-      by_tests : (a b : Bool) → has_entries first count ≡ a → (len == 3 * count) ≡ b → (let x : Option Refusal = (if a then (if b then None else Some BadBlock) else Some BadRegister) in x) ≡ None → EntriesAllowed first count len
-      by_tests true true t u e = let both = both_true (nat_lt first 0x100) (nat_le (first + count) 0x100) t in record { begin = lt_is first 0x100 both.0; all = le_is (first + count) 0x100 both.1; whole = same u }
-      by_tests true false t u e = absurd (cc)
-      by_tests false b t u e = absurd (cc)
+  entries_allowed : (first count len : ℕ) → (no_entries first count or wrong_block (3 * count) len) ≡ None → EntriesAllowed first count len
+  entries_allowed first count len e =
+      let there = neither (no_entries first count) (wrong_block (3 * count) len) e in
+      let both = both_true (nat_lt first 0x100) (nat_le (first + count) 0x100) (holds (has_entries first count) BadRegister there.0) in
+      record { begin = lt_is first 0x100 both.0; all = le_is (first + count) 0x100 both.1; whole = block_allowed (3 * count) len there.1 }
 
   -- ---- each subfunction
 
@@ -244,7 +224,7 @@ module _ (c : CardState) (d : BiosData) (h : IsAny c d) where
   unfolding colour_refusal colours_plan with_colours colours_answer
   is_coloured (SetRegister i v) r block fits bytes z e = setting_served (SetRegister i v) r block (λ p. set_register_plan p i v) refl refl (value_shown i v (register_allowed i e))
   is_coloured (SetOverscan v) r block fits bytes z e = setting_served (SetOverscan v) r block (λ p. set_register_plan p 0x11 v) refl refl (overscan_shown v fits z)
-  is_coloured SetPalette r block fits bytes z e = setting_served SetPalette r block (λ p. set_palette_plan p block) refl refl (palette_shown block bytes z (block_allowed (length block) 17 e))
+  is_coloured SetPalette r block fits bytes z e = setting_served SetPalette r block (λ p. set_palette_plan p block) refl refl (palette_shown block bytes z (block_allowed 17 (length block) e))
   is_coloured (SetBlinking b) r block fits bytes z e = setting_served (SetBlinking b) r block (λ p. set_blinking_plan p b) refl refl (blink_shown b (blink_allowed b e) z)
   is_coloured (ReadRegister i) r block fits bytes z e =
       let l = register_allowed i e in

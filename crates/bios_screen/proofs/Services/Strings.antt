@@ -1,40 +1,38 @@
 -- Typing a string: from a state that shows a screen to one that shows the next.
 use Rattle.std.proofs.Common.{◌≡◌, ℕ, zero, suc, ◌+◌, ◌*◌, ◌<◌, refl, ap, ◌∙◌, List, length, Option, Some, None, Bool, true, false}
-use Rattle.std.specs.Prelude.{◌&&◌, nat_lt, if◌then◌else◌, slice_index}
+use Rattle.std.specs.Prelude.{if◌then◌else◌, slice_index}
 use Rattle.vga_bits.specs.declared.refusal.Refusal.{Refusal}
-use Rattle.vga_bits.specs.declared.refusal.Refusal.TheVariants.{BadPage, Outside}
 use Rattle.vga_card.specs.Bounds.{IsCard}
 use Rattle.vga_card.specs.Bus.{card_meaning}
 use Rattle.vga_card.specs.Card.{CardState}
-use Rattle.bios_modes.specs.declared.modes.ModeRow.{ModeRow}
 use Rattle.bios_modes.specs.Bda.{BiosData}
 use Rattle.bios_modes.specs.Bounds.{IsBda, AreBytes}
 use Rattle.bios_modes.specs.Fonts.{FontSet}
-use Rattle.bios_modes.specs.Heights.{row_at}
 use Rattle.bios_services.specs.declared.regs.Regs.{Regs}
 use Rattle.bios_services.specs.declared.strings.StringCall.{StringCall}
 use Rattle.bios_services.specs.declared.call.Service.TheVariants.{WriteString}
 use Rattle.bios_services.specs.Plan.{Plan, run, Done, fold}
-use Rattle.bios_services.specs.Bounds.{pages_in, pages_of}
-use Rattle.bios_services.specs.Colours.{block_refusal}
-use Rattle.bios_services.specs.Cursor.{row_of, column_of, move_cursor_plan}
+use Rattle.bios_services.specs.Bounds.{pages_of}
+use Rattle.bios_services.specs.Cursor.{move_cursor_plan}
 use Rattle.bios_services.specs.Teletype.{type_plan}
 use Rattle.bios_services.specs.Strings.{string_len, character_at, ink_at, type_string_plan, string_plan}
-use Rattle.bios_services.specs.Refusals.{page_named, string_refusal, refusal_in_mode, is_inside as is_on_page}
+use Rattle.bios_services.specs.Reasons.{◌or◌, no_page, outside_page, wrong_block}
+use Rattle.bios_services.specs.Refusals.{page_among, page_named, refusal_in_mode}
 use Rattle.bios_services.specs.Service.{plan_of}
 use Rattle.bios_screen.specs.Screen.{Screen}
 use Rattle.bios_screen.specs.Shown.{shown}
-use Rattle.bios_screen.specs.Step.{page_meant, string_refusal_on, refusal_on, next, answer_on, type_character, type_characters, type_string, with_place as placed_on}
+use Rattle.bios_screen.specs.Step.{page_meant, refusal_on, next, answer_on, type_character, type_characters, type_string, with_place as placed_on}
 use Rattle.bios_screen.specs.Served.{IsServed}
 use Rattle.bios_screen.proofs.Base.Plans.{run_bind}
 use Rattle.bios_screen.proofs.Base.Kept.{KeepsBounds, plan_bounds, plan_beam}
-use Rattle.bios_screen.proofs.Base.Tests.{lt_is}
+use Rattle.bios_screen.proofs.Base.Reasons.{neither, page_allowed, place_allowed}
+use Rattle.bios_screen.proofs.Shows.Screens.{pages_are}
 use Rattle.bios_screen.proofs.Shows.Any.{IsAny, any_screen, still_any}
 use Rattle.bios_screen.proofs.Services.AnyReaders.{any_meant}
 use Rattle.bios_screen.proofs.Services.Cursors.{then_data, data_runs}
 use Rattle.bios_screen.proofs.Base.TypedPlaces.{Inside}
 use Rattle.bios_screen.proofs.Services.Typing.{page_of, LeadsInside, leads_on, is_typed}
-use Rattle.bios_screen.proofs.Services.Teletypes.{le_lt, can_type, moved}
+use Rattle.bios_screen.proofs.Services.Teletypes.{can_type, moved}
 
 -- ---- characters one after another
 
@@ -86,25 +84,15 @@ module _ (law : KeepsBounds) (fonts : FontSet) (d : BiosData) (p : ℕ) (lp : p 
 
 -- ---- function 13
 
-string_refusal_is : (c : CardState) (d : BiosData) (h : IsAny c d) (call : StringCall) (len : ℕ) → string_refusal d call len ≡ string_refusal_on (any_screen c d h c) call len
-string_refusal_is c d h call len =
-    let wrong = block_refusal len (string_len call) in
-    ap (λ p. let y : Option Refusal = (if nat_lt p (pages_in (row_at d.mode d.height)) then (if is_on_page d call.place then wrong else Some Outside) else Some BadPage) in y) (any_meant c d h call.page)
-    ∙ ap (λ (x : Option ModeRow). let y : Option Refusal = (if nat_lt (page_meant (any_screen c d h c) call.page) (pages_in x) then (if is_on_page d call.place then wrong else Some Outside) else Some BadPage) in y) h.mode
-    ∙ ap (λ b. let y : Option Refusal = (if nat_lt (page_meant (any_screen c d h c) call.page) h.row.pages then (if b && nat_lt (column_of call.place) d.columns then wrong else Some Outside) else Some BadPage) in y) (le_lt (row_of call.place) d.last_row)
-
 record StringAllowed (pages p rows columns place : ℕ) : Type 0 where
   page : p < pages
   inside : Inside rows columns place
 
-string_allowed : (pages p rows columns place : ℕ) (wrong : Option Refusal) → (let x : Option Refusal = (if nat_lt p pages then (if nat_lt (row_of place) rows && nat_lt (column_of place) columns then wrong else Some Outside) else Some BadPage) in x) ≡ None → StringAllowed pages p rows columns place
-string_allowed pages p rows columns place wrong h = by_tests (nat_lt p pages) (nat_lt (row_of place) rows) (nat_lt (column_of place) columns) refl refl refl h
-  where
-    by_tests : (a b e : Bool) → nat_lt p pages ≡ a → nat_lt (row_of place) rows ≡ b → nat_lt (column_of place) columns ≡ e → (let x : Option Refusal = (if a then (if b && e then wrong else Some Outside) else Some BadPage) in x) ≡ None → StringAllowed pages p rows columns place
-    by_tests true true true q f g i = record { page = lt_is p pages q; inside = record { row = lt_is (row_of place) rows f; column = lt_is (column_of place) columns g } }
-    by_tests true true false q f g i = absurd (cc)
-    by_tests true false e q f g i = absurd (cc)
-    by_tests false b e q f g i = absurd (cc)
+string_allowed : (pages p rows columns place : ℕ) (wrong : Option Refusal) → (no_page pages p or outside_page rows columns place or wrong) ≡ None → StringAllowed pages p rows columns place
+string_allowed pages p rows columns place wrong e =
+    let page = neither (no_page pages p) (outside_page rows columns place or wrong) e in
+    let inside = neither (outside_page rows columns place) wrong page.1 in
+    record { page = page_allowed pages p page.0; inside = place_allowed rows columns place inside.0 }
 
 pub write_string : (law : KeepsBounds) (call : StringCall) (fonts : FontSet) (r : Regs) (block : List ℕ) (c : CardState) (d : BiosData) (h : IsAny c d) → AreBytes block → call.colour < 256 → IsCard c → IsBda d → IsServed (WriteString call) fonts r block c d (any_screen c d h c)
 unfolding plan_of refusal_in_mode refusal_on next answer_on
@@ -114,10 +102,11 @@ write_string law call fonts r block c d h bytes colour z bda =
     let q = page_meant s call.page in
     let runs = data_runs (string_plan fonts d p call block) r c in
     record {
-      refusal = string_refusal_is c d h call (length block);
+      refusal = ap (λ n. no_page n (page_among n call.page) or outside_page (d.last_row + 1) d.columns call.place or wrong_block (string_len call) (length block))
+          (pages_are h.row d h.mode);
       answer = λ _. ap (λ x. x.1.0) runs;
       shows = λ allowed.
-          let a = string_allowed h.row.pages q (d.last_row + 1) d.columns call.place (block_refusal (length block) (string_len call)) allowed in
+          let a = string_allowed h.row.pages q (d.last_row + 1) d.columns call.place (wrong_block (string_len call) (length block)) allowed in
           ap (λ x. shown x.0 x.1.1) runs
           ∙ ap (λ n. let x = run card_meaning (string_plan fonts d n call block) c in shown x.0 x.1) (any_meant c d h call.page)
           ∙ string_shown law fonts d q (page_of d h.row q h.mode a.page) call block bytes colour c s (still_any c d h) z bda a.inside;

@@ -1,5 +1,5 @@
 -- Calls for tables: from a state that shows a screen, its palette or some of its entries are replied, and it stays.
-use Rattle.std.proofs.Common.{◌≡◌, ℕ, zero, suc, ◌+◌, ◌*◌, ◌%◌, ◌<◌, ◌≤◌, refl, sym, ap, ◌∙◌, subst, arith, List, [], ◌∷◌, ◌++◌, Option, Some, None, Bool, true, false, Err}
+use Rattle.std.proofs.Common.{◌≡◌, ℕ, zero, suc, ◌+◌, ◌*◌, ◌%◌, ◌<◌, ◌≤◌, refl, sym, ap, ◌∙◌, subst, arith, List, [], ◌∷◌, ◌++◌, Option, Some, None, false, Err}
 use Rattle.std.specs.Prelude.{nat_lt, nat_le, if◌then◌else◌, slice_index, take}
 use Rattle.vga_bits.specs.declared.refusal.Refusal.{Refusal}
 use Rattle.vga_bits.specs.declared.refusal.Refusal.TheVariants.{NoMode, BadRegister}
@@ -21,7 +21,8 @@ use Rattle.bios_services.specs.declared.call.Call.TheVariants.{ReadTable}
 use Rattle.bios_services.specs.Plan.{Plan, run, Done, out, inp, gather, ◌>>=◌}
 use Rattle.bios_services.specs.Palette.{register_plan}
 use Rattle.bios_services.specs.Tables.{table_refusal, registers_plan, read_palette_plan, read_components_plan, read_entries_plan, table_plan}
-use Rattle.bios_services.specs.Colours.{has_entries}
+use Rattle.bios_services.specs.Colours.{has_entries, no_entries}
+use Rattle.bios_screen.proofs.Base.Reasons.{holds}
 use Rattle.bios_services.specs.Calls.{call_of}
 use Rattle.bios_services.specs.Service.{Answered, answer_with, refuse, table_unless, table_in_mode_plan, call_plan}
 use Rattle.bios_screen.specs.Listing.{listing}
@@ -130,12 +131,10 @@ record EntriesAllowed (first count : ℕ) : Type 0 where
   begin : first < 256
   all : first + count ≤ 256
 
-entries_allowed : (first count : ℕ) → (let x : Option Refusal = (if has_entries first count then None else Some BadRegister) in x) ≡ None → EntriesAllowed first count
-entries_allowed first count e = by_test (has_entries first count) refl e
-  where
-    by_test : (b : Bool) → has_entries first count ≡ b → (let x : Option Refusal = (if b then None else Some BadRegister) in x) ≡ None → EntriesAllowed first count
-    by_test true t e = let both = both_true (nat_lt first 0x100) (nat_le (first + count) 0x100) t in record { begin = lt_is first 0x100 both.0; all = le_is (first + count) 0x100 both.1 }
-    by_test false t e = absurd (cc)
+entries_allowed : (first count : ℕ) → no_entries first count ≡ None → EntriesAllowed first count
+entries_allowed first count e =
+    let both = both_true (nat_lt first 0x100) (nat_le (first + count) 0x100) (holds (has_entries first count) BadRegister e) in
+    record { begin = lt_is first 0x100 both.0; all = le_is (first + count) 0x100 both.1 }
 
 record IsTable (service : TableService) (c : CardState) (d : BiosData) (s : Screen) : Type 0 where
   answer : (run card_meaning (table_plan service d.crtc_address) c).1 ≡ table_answer s service

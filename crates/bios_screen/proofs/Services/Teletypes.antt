@@ -1,9 +1,6 @@
 -- Typing at the cursor of the active page: from a state that shows a screen to one that shows the next.
-use Rattle.std.proofs.Common.{◌≡◌, ℕ, ◌+◌, ◌<◌, refl, ap, ◌∙◌, arith, List, Option, Some, None, Bool, true, false}
-use Rattle.std.specs.Prelude.{◌==◌, ◌&&◌, nat_lt, nat_le, if◌then◌else◌}
-use Rattle.std.proofs.lemmas.Bool.Decides.{nat_tests}
-use Rattle.vga_bits.specs.declared.refusal.Refusal.{Refusal}
-use Rattle.vga_bits.specs.declared.refusal.Refusal.TheVariants.{Outside}
+use Rattle.std.proofs.Common.{◌≡◌, ℕ, ◌+◌, ◌<◌, refl, ap, ◌∙◌, List, Some, Bool, true, false}
+use Rattle.std.specs.Prelude.{◌==◌, if◌then◌else◌}
 use Rattle.vga_card.specs.Bounds.{IsCard}
 use Rattle.vga_card.specs.Bus.{card_meaning}
 use Rattle.vga_card.specs.Card.{CardState}
@@ -15,7 +12,7 @@ use Rattle.bios_services.specs.declared.call.Service.TheVariants.{Teletype}
 use Rattle.bios_services.specs.Bounds.{pages_of}
 use Rattle.bios_services.specs.ModeSet.{is_text}
 use Rattle.bios_services.specs.Plan.{Plan, run, Done, ◌>>=◌}
-use Rattle.bios_services.specs.Cursor.{row_of, column_of, place_of, move_cursor_plan}
+use Rattle.bios_services.specs.Cursor.{place_of, move_cursor_plan}
 use Rattle.bios_services.specs.Teletype.{dots_in, type_plan, teletype_plan}
 use Rattle.bios_services.specs.Refusals.{refusal_in_mode}
 use Rattle.bios_services.specs.Service.{plan_of}
@@ -25,7 +22,7 @@ use Rattle.bios_screen.specs.Step.{refusal_on, next, answer_on, type_character, 
 use Rattle.bios_screen.specs.Served.{IsServed}
 use Rattle.bios_screen.proofs.Base.Plans.{run_bind}
 use Rattle.bios_screen.proofs.Base.Kept.{KeepsBounds, plan_beam}
-use Rattle.bios_screen.proofs.Base.Tests.{lt_is}
+use Rattle.bios_screen.proofs.Base.Reasons.{place_allowed}
 use Rattle.bios_screen.proofs.Shows.Screens.{shown_is}
 use Rattle.bios_screen.proofs.Shows.Pixels.{pixels_of_shown}
 use Rattle.bios_screen.proofs.Shows.Any.{IsAny, any_screen, still_any}
@@ -35,17 +32,6 @@ use Rattle.bios_screen.proofs.Base.TypedPlaces.{Inside, inside_word}
 use Rattle.bios_screen.proofs.Services.Typing.{page_in, cut_is, CanType, is_typed}
 use Rattle.bios_screen.proofs.Text.Typing.{can_type as can_type_text}
 use Rattle.bios_screen.proofs.Pixels.Typing.{can_type as can_type_pixels}
-
-place_allowed : (rows columns place : ℕ) → (let x : Option Refusal = (if nat_lt (row_of place) rows && nat_lt (column_of place) columns then None else Some Outside) in x) ≡ None → Inside rows columns place
-place_allowed rows columns place h = by_tests (nat_lt (row_of place) rows) (nat_lt (column_of place) columns) refl refl h
-  where
-    by_tests : (a b : Bool) → nat_lt (row_of place) rows ≡ a → nat_lt (column_of place) columns ≡ b → (let x : Option Refusal = (if a && b then None else Some Outside) in x) ≡ None → Inside rows columns place
-    by_tests true true e f g = record { row = lt_is (row_of place) rows e; column = lt_is (column_of place) columns f }
-    by_tests true false e f g = absurd (cc)
-    by_tests false b e f g = absurd (cc)
-
-pub le_lt : (row last : ℕ) → nat_le row last ≡ nat_lt row (last + 1)
-le_lt row last = grind (arith, nat_tests)
 
 -- ---- what typing stands on, in every mode
 
@@ -104,7 +90,7 @@ module _ (law : KeepsBounds) (v colour : ℕ) (lv : v < 256) (la : colour < 256)
       let plan = teletype_plan fonts d v colour in
       let runs = data_runs plan r c in
       record {
-        refusal = ap (λ b. let x : Option Refusal = (if b && nat_lt (column_of at) d.columns then None else Some Outside) in x) (le_lt (row_of at) d.last_row);
+        refusal = refl;
         answer = λ _. ap (λ x. x.1.0) runs;
         shows = λ allowed. ap (λ x. shown x.0 x.1.1) runs ∙ typed_at (cut_is c d s (still_any c d h)).active (place_allowed (d.last_row + 1) d.columns at allowed);
         beam = plan_beam (then_data plan r) c;

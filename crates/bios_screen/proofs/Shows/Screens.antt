@@ -11,8 +11,8 @@ use Rattle.bios_modes.specs.Heights.{row_at}
 use Rattle.bios_modes.specs.Bda.{BiosData}
 use Rattle.bios_services.specs.declared.kind.Kind.{Kind}
 use Rattle.bios_services.specs.declared.kind.Kind.TheVariants.{Text, Planar, Packed}
-use Rattle.bios_services.specs.Bounds.{pages_in}
-use Rattle.bios_services.specs.Refusals.{page_named}
+use Rattle.bios_services.specs.Bounds.{pages_in, pages_of}
+use Rattle.bios_services.specs.Refusals.{page_among, page_named}
 use Rattle.bios_services.specs.ModeSet.{is_text}
 use Rattle.bios_services.specs.Kinds.{kind_of}
 use Rattle.bios_services.specs.Cursor.{cursor_address, start_address}
@@ -32,9 +32,12 @@ pub record HasData (row : ModeRow) (d : BiosData) : Type 0 where
   pub start : d.start ≡ d.size * d.page
   pub page : d.page < row.pages
 
--- the page that a call names, in a mode with this row
-pub named_page : (row : ModeRow) (d : BiosData) → row_at d.mode d.height ≡ Some row → (page : ℕ) → page_named d page ≡ (if row.pages == 1 then 0 else page)
-named_page row d e page = ap (λ (x : Option ModeRow). if pages_in x == 1 then 0 else page) e
+-- how many pages a mode has with this row, and the page that a call names there
+pub pages_are : (row : ModeRow) (d : BiosData) → row_at d.mode d.height ≡ Some row → pages_of d ≡ row.pages
+pages_are row d e = ap pages_in e
+
+pub named_page : (row : ModeRow) (d : BiosData) → row_at d.mode d.height ≡ Some row → (page : ℕ) → page_named d page ≡ page_among row.pages page
+named_page row d e page = ap (λ n. page_among n page) (pages_are row d e)
 
 pub data_is : (row : ModeRow) (d : BiosData) → shows_data row d ≡ true → HasData row d
 data_is row d h =

@@ -1,14 +1,12 @@
 -- Reading the cell at the cursor, and writing cells from it on.
-use Rattle.std.proofs.Common.{◌≡◌, ◌≢◌, ℕ, ◌+◌, ◌-◌, ◌*◌, ◌/◌, ◌<◌, ◌≤◌, ⊎_elim, refl, sym, ap, ◌∙◌, arith, List, Option, Some, None, Bool, true, false}
+use Rattle.std.proofs.Common.{◌≡◌, ◌≢◌, ℕ, ◌+◌, ◌-◌, ◌*◌, ◌/◌, ◌<◌, ◌≤◌, ⊎_elim, refl, sym, ap, ◌∙◌, arith, List, Some, None, true, false}
 use Rattle.std.specs.Prelude.{◌&&◌, nat_lt, nat_le, if◌then◌else◌}
 use Rattle.std.proofs.lemmas.Bool.{cases_lt}
 use Rattle.std.proofs.lemmas.Bool.Decides.{nat_tests}
-use Rattle.vga_bits.specs.declared.refusal.Refusal.{Refusal}
-use Rattle.vga_bits.specs.declared.refusal.Refusal.TheVariants.{BadPage, Outside, CountPast}
+use Rattle.vga_bits.specs.declared.refusal.Refusal.TheVariants.{Outside, CountPast}
 use Rattle.vga_card.specs.Bounds.{IsCard}
 use Rattle.vga_card.specs.Bus.{card_meaning}
 use Rattle.vga_card.specs.Card.{CardState}
-use Rattle.bios_modes.specs.declared.modes.ModeRow.{ModeRow}
 use Rattle.bios_modes.specs.Bda.{BiosData}
 use Rattle.bios_modes.specs.Fonts.{FontSet}
 use Rattle.bios_services.specs.declared.regs.Regs.{Regs}
@@ -16,18 +14,18 @@ use Rattle.bios_services.specs.declared.call.Service.TheVariants.{ReadCell, Writ
 use Rattle.bios_services.specs.declared.ink.Ink.{Ink}
 use Rattle.bios_services.specs.declared.cell_run.CellRun.{CellRun}
 use Rattle.bios_services.specs.Plan.{Plan, run, Done, get, each, ◌>>=◌, ◌>>◌}
-use Rattle.bios_services.specs.Bounds.{pages_in}
 use Rattle.bios_services.specs.Cells.{page_base, cell_address, cells_of, read_cell_plan, write_cell_plan}
 use Rattle.bios_services.specs.Cursor.{cell_number, place_of, cursor_cell as cell_at_cursor}
 use Rattle.bios_services.specs.Drawing.{cell_band, cell_row, character_by, characters_plan}
 use Rattle.bios_services.specs.CellRuns.{cell_run_plan}
 use Rattle.bios_services.specs.Reading.{read_character_plan}
 use Rattle.bios_services.specs.Registers.{with_low}
-use Rattle.bios_services.specs.Refusals.{page_named, cursor_refusal, count_refusal, refusal_in_mode}
+use Rattle.bios_services.specs.Reasons.{◌or◌, no_page, outside_cells, past_cells}
+use Rattle.bios_services.specs.Refusals.{page_among, page_named, refusal_in_mode}
 use Rattle.bios_services.specs.Service.{plan_of, read_cell_service, Outcome}
 use Rattle.bios_screen.specs.Screen.{Cell, cursor_cell}
 use Rattle.bios_screen.specs.Shown.{cell_in, all_cells, shown}
-use Rattle.bios_screen.specs.Step.{page_meant, cursor_refusal_on, count_refusal_on, refusal_on, next, answer_on, character_over, cell_on, cell_word, write_characters, with_cells}
+use Rattle.bios_screen.specs.Step.{page_meant, refusal_on, next, answer_on, character_over, cell_on, cell_word, write_characters, with_cells}
 use Rattle.bios_screen.specs.Served.{IsServed}
 use Rattle.bios_screen.proofs.Base.Flat.{Edited, Turn, Leaves, set_cell}
 use Rattle.bios_screen.proofs.Base.Plans.{run_bind, then_runs, then_answers}
@@ -38,7 +36,8 @@ use Rattle.bios_screen.proofs.Modes.TextModes.{Display, base_of}
 use Rattle.bios_screen.proofs.Text.Memory.{without_text}
 use Rattle.bios_screen.proofs.Text.Cells.{IsCells, has_cells, cell_written, character_get, attribute_get}
 use Rattle.bios_screen.proofs.Base.Tests.{lt_is, le_is}
-use Rattle.bios_screen.proofs.Shows.Screens.{IsShown, screen_shown, kind_is}
+use Rattle.bios_screen.proofs.Base.Reasons.{neither, holds, page_allowed}
+use Rattle.bios_screen.proofs.Shows.Screens.{pages_are, IsShown, screen_shown, kind_is}
 use Rattle.bios_screen.proofs.Text.NewCells.{cells_at, renewed_shown, same_shown}
 use Rattle.bios_screen.proofs.Services.TextReaders.{meant_is}
 
@@ -128,37 +127,25 @@ written_is first n v ink f g old edited k same = ⊎_elim
 
 -- ---- refusals
 
-cursor_refusal_is : (c : CardState) (d : BiosData) (h : IsShown c d) (p : ℕ) → cursor_refusal d p ≡ cursor_refusal_on (screen_shown c d h) p
-cursor_refusal_is c d h p = ap (λ (x : Option ModeRow). let y : Option Refusal = (if nat_lt p (pages_in x) then (if nat_lt (cell_number d (place_of d p)) (cells_of d) then None else Some Outside) else Some BadPage) in y) h.mode
-
-count_refusal_is : (c : CardState) (d : BiosData) (h : IsShown c d) (p count : ℕ) → count_refusal d p count ≡ count_refusal_on (screen_shown c d h) p count
-count_refusal_is c d h p count = ap (λ (x : Option ModeRow). let y : Option Refusal = (if nat_lt p (pages_in x) then (if nat_lt (cell_number d (place_of d p)) (cells_of d) then (if nat_le (cell_number d (place_of d p) + count) (cells_of d) then None else Some CountPast) else Some Outside) else Some BadPage) in y) h.mode
-
 -- what is known where they are not refused
 pub record CursorAllowed (pages p place cells : ℕ) : Type 0 where
   pub page : p < pages
   pub within : place < cells
 
-pub cursor_allowed : (pages p place cells : ℕ) → (let x : Option Refusal = (if nat_lt p pages then (if nat_lt place cells then None else Some Outside) else Some BadPage) in x) ≡ None → CursorAllowed pages p place cells
-cursor_allowed pages p place cells h = by_tests (nat_lt p pages) (nat_lt place cells) refl refl h
-  where
-    by_tests : (a b : Bool) → nat_lt p pages ≡ a → nat_lt place cells ≡ b → (let x : Option Refusal = (if a then (if b then None else Some Outside) else Some BadPage) in x) ≡ None → CursorAllowed pages p place cells
-    by_tests true true e f g = record { page = lt_is p pages e; within = lt_is place cells f }
-    by_tests true false e f g = absurd (cc)
-    by_tests false b e f g = absurd (cc)
+pub cursor_allowed : (pages p place cells : ℕ) → (no_page pages p or outside_cells cells place) ≡ None → CursorAllowed pages p place cells
+cursor_allowed pages p place cells e =
+    let page = neither (no_page pages p) (outside_cells cells place) e in
+    record { page = page_allowed pages p page.0; within = lt_is place cells (holds (nat_lt place cells) Outside page.1) }
 
 pub record CountAllowed (pages p place count cells : ℕ) : Type 0 where
   pub page : p < pages
   pub within : place + count ≤ cells
 
-pub count_allowed : (pages p place count cells : ℕ) → (let x : Option Refusal = (if nat_lt p pages then (if nat_lt place cells then (if nat_le (place + count) cells then None else Some CountPast) else Some Outside) else Some BadPage) in x) ≡ None → CountAllowed pages p place count cells
-count_allowed pages p place count cells h = by_tests (nat_lt p pages) (nat_lt place cells) (nat_le (place + count) cells) refl refl h
-  where
-    by_tests : (a b e : Bool) → nat_lt p pages ≡ a → nat_le (place + count) cells ≡ e → (let x : Option Refusal = (if a then (if b then (if e then None else Some CountPast) else Some Outside) else Some BadPage) in x) ≡ None → CountAllowed pages p place count cells
-    by_tests true true true e f g = record { page = lt_is p pages e; within = le_is (place + count) cells f }
-    by_tests true true false e f g = absurd (cc)
-    by_tests true false b e f g = absurd (cc)
-    by_tests false a b e f g = absurd (cc)
+pub count_allowed : (pages p place count cells : ℕ) → (no_page pages p or outside_cells cells place or past_cells cells place count) ≡ None → CountAllowed pages p place count cells
+count_allowed pages p place count cells e =
+    let page = neither (no_page pages p) (outside_cells cells place or past_cells cells place count) e in
+    let past = neither (outside_cells cells place) (past_cells cells place count) page.1 in
+    record { page = page_allowed pages p page.0; within = le_is (place + count) cells (holds (nat_le (place + count) cells) CountPast past.1) }
 
 -- the cell at the cursor is one of text memory
 abbrev first_cell : BiosData → ℕ → ℕ
@@ -191,7 +178,8 @@ write_cells cells fonts r block c d h z lv la =
     let plan = cell_run_plan fonts d p cells in
     let done : Plan Outcome = Done (r, d) in
     record {
-      refusal = ap (λ n. count_refusal d n cells.count) named ∙ count_refusal_is c d h q cells.count;
+      refusal = ap (λ n. let at : ℕ = cell_at_cursor d (page_among n cells.page) in no_page n (page_among n cells.page) or outside_cells (cells_of d) at or past_cells (cells_of d) at cells.count)
+          (pages_are h.row d h.mode);
       answer = λ _. ap (λ (x : Outcome). x.0) (then_answers plan done c);
       shows = λ allowed.
           ap (λ x. shown x (run card_meaning (plan >> done) c).1.1) (then_runs plan done c)
@@ -252,7 +240,7 @@ read_cell page fonts r block c d h z =
     ∙ ap (λ n. let x = run card_meaning (read_cell_service fonts n d r) c in let y : CardState × Outcome = (x.0, (x.1, d)) in y) named
     ∙ ap (λ w. let x = run card_meaning w c in let y : CardState × Outcome = (x.0, (x.1, d)) in y) (read_is fonts r c d h q) in
     record {
-      refusal = ap (cursor_refusal d) named ∙ cursor_refusal_is c d h q;
+      refusal = ap (λ n. no_page n (page_among n page) or outside_cells (cells_of d) (cell_at_cursor d (page_among n page))) (pages_are h.row d h.mode);
       answer = λ allowed. ap (λ x. x.1.0) runs ∙ (read_back r c d h q z (cursor_allowed h.row.pages q (cell_number d (place_of d q)) (cells_of d) allowed)).answer;
       shows = λ allowed. ap (λ x. shown x.0 x.1.1) runs
           ∙ (read_back r c d h q z (cursor_allowed h.row.pages q (cell_number d (place_of d q)) (cells_of d) allowed)).shows;

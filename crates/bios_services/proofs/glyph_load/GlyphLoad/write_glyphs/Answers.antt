@@ -1,5 +1,4 @@
-use Rattle.std.proofs.Common.{ap, arith, ◌≡◌, ◌+◌, ◌-◌}
-use Rattle.bios_services.specs.Plan.{run, each}
+use Rattle.std.proofs.Common.{arith, ◌+◌}
 use Rattle.bios_services.specs.ModeSet.{glyph_plan}
 use Rattle.bios_services.specs.GlyphLoads.{loaded_line}
 use Rattle.bios_services.proofs.RunLemmas.{next_turn}

@@ -1,0 +1,31 @@
+-- What is known where there is no reason to refuse.
+use Rattle.std.proofs.Common.{◌≡◌, ℕ, ◌<◌, refl, Bool, true, false, Option, Some, None}
+use Rattle.std.specs.Prelude.{◌==◌, nat_lt}
+use Rattle.vga_bits.specs.declared.refusal.Refusal.{Refusal}
+use Rattle.vga_bits.specs.declared.refusal.Refusal.TheVariants.{BadPage, Outside, BadBlock}
+use Rattle.bios_services.specs.Cursor.{row_of, column_of}
+use Rattle.bios_services.specs.Reasons.{◌or◌, refuse_unless, no_page, outside_page, wrong_block}
+use Rattle.bios_screen.proofs.Base.Tests.{both_true, lt_is, same}
+use Rattle.bios_screen.proofs.Base.TypedPlaces.{Inside}
+
+-- neither of two reasons is there
+pub neither : (x y : Option Refusal) → (x or y) ≡ None → (x ≡ None) × (y ≡ None)
+neither None y e = (refl, e)
+neither (Some why) y e = absurd (cc)
+
+-- the test holds
+pub holds : (b : Bool) (why : Refusal) → refuse_unless b why ≡ None → b ≡ true
+holds true why e = refl
+holds false why e = absurd (cc)
+
+-- the page is one, the place is within it, and the block is whole
+pub page_allowed : (pages page : ℕ) → no_page pages page ≡ None → page < pages
+page_allowed pages page e = lt_is page pages (holds (nat_lt page pages) BadPage e)
+
+pub place_allowed : (rows columns place : ℕ) → outside_page rows columns place ≡ None → Inside rows columns place
+place_allowed rows columns place e =
+    let both = both_true (nat_lt (row_of place) rows) (nat_lt (column_of place) columns) (holds _ Outside e) in
+    record { row = lt_is (row_of place) rows both.0; column = lt_is (column_of place) columns both.1 }
+
+pub block_allowed : (taken len : ℕ) → wrong_block taken len ≡ None → len ≡ taken
+block_allowed taken len e = same (holds (len == taken) BadBlock e)
