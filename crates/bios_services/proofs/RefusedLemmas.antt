@@ -24,7 +24,7 @@ use Rattle.bios_services.specs.ModeSet.{mode_set_plan}
 use Rattle.bios_services.specs.GlyphLoads.{load_refusal, load_plan}
 use Rattle.bios_services.specs.Refusals.{refusal_in_mode, unknown_refusal}
 use Rattle.bios_services.specs.Tables.{table_plan, table_refusal}
-use Rattle.bios_services.specs.Service.{Answered, answer_with, call_plan, in_mode_plan, load_at, load_unless, load_in_mode_plan, plan_of, refuse, service, set_mode_plan, table_in_mode_plan, table_unless, unless}
+use Rattle.bios_services.specs.Service.{RefusedDoNothing, Answered, answer_with, call_plan, in_mode_plan, load_at, load_unless, load_in_mode_plan, plan_of, refuse, service, set_mode_plan, table_in_mode_plan, table_unless, unless}
 use Rattle.bios_services.proofs.RunLemmas.{run_bind}
 
 -- what a plan does where its answer is a refusal: nothing
@@ -98,6 +98,5 @@ asked_does_nothing m (Some (LoadGlyphs load)) fonts d r block = load_in_mode_doe
 asked_does_nothing m (Some (InMode asked_for)) fonts d r block = in_mode_does_nothing m asked_for fonts d r block
 
 -- so a refused service leaves bus and BIOS data
-pub refused_service : {S : Type 0} (m : Meaning S) (fonts : FontSet) (d : BiosData) (r : Regs) (block : List ℕ) (s : S) (e : Refusal)
-    → (run m (service fonts d r block) s).1.0 ≡ Err e → run m (service fonts d r block) s ≡ (s, (Err e, d))
+pub refused_service : {S : Type 0} (m : Meaning S) → RefusedDoNothing m
 refused_service m fonts d r block = asked_does_nothing m (call_of r) fonts d r block

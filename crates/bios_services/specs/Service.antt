@@ -184,3 +184,8 @@ abbrev pub Serves : {S : Type 0} → Meaning S → Plan Answered → S → BiosD
 Serves m plan s d (Ok reply) t after = (t, (Ok reply, after)) ≡ run m plan s
 Serves m plan s d (Err (Refused why)) t after = (t, (Err why, after)) ≡ run m plan s
 Serves m plan s d (Err OutOfMemory) t after = (t ≡ s) × (after ≡ d)
+
+-- on this bus a service that is refused leaves bus and BIOS data
+abbrev pub RefusedDoNothing : {S : Type 0} → Meaning S → Type 0
+RefusedDoNothing {S} m = (fonts : FontSet) (d : BiosData) (r : Regs) (block : List ℕ) (s : S) (e : Refusal)
+    → (run m (service fonts d r block) s).1.0 ≡ Err e → run m (service fonts d r block) s ≡ (s, (Err e, d))

@@ -1,7 +1,7 @@
 -- Tables that function 10 answers in the caller's memory: subfunctions 09 and 17.
 -- From the IBM PS/2 and PC BIOS Interface Technical Reference, "Interrupt 10H - Video", (AH) = 10H; the order of the cycles and the
 -- refusals are this adapter's choice.
-use Rattle.std.specs.Prelude.{ℕ, Bool, false, ◌*◌, ◌==◌, if◌then◌else◌, Option, Some, None, List, []}
+use Rattle.std.specs.Prelude.{ℕ, Bool, false, ◌*◌, ◌==◌, ◌&&◌, nat_lt, if◌then◌else◌, Option, Some, None, List, []}
 use Rattle.vga_bits.specs.declared.refusal.Refusal.{Refusal}
 use Rattle.bios_services.specs.declared.regs.Regs.{Regs}
 use Rattle.bios_services.specs.declared.reply.Table.{Table}
@@ -26,10 +26,10 @@ abbrev pub table_refusal : TableService → Option Refusal
 table_refusal ReadPalette = None
 table_refusal (ReadEntries first count) = no_entries first count
 
--- whether it takes memory: entries of the DAC do that are not refused
+-- whether it takes memory: entries of the DAC do that are not refused, where there are some
 abbrev pub table_takes_memory : TableService → Bool
 table_takes_memory ReadPalette = false
-table_takes_memory (ReadEntries first count) = has_entries first count
+table_takes_memory (ReadEntries first count) = has_entries first count && nat_lt 0 count
 
 -- the register whose value is byte i of the palette: the 16 palette registers, and then the overscan colour
 abbrev pub palette_register : ℕ → ℕ

@@ -305,8 +305,8 @@ fn outcome_of(outcome: Result<Reply, Refusal>) -> Result<Reply, ServiceError>
 /// `WrongKind`, `BadPage`, `Outside`, `CountPast`, `BadRegister`, `BadBlock` or `BadHeight`; of several the first is answered. Within a service a cycle that the
 /// bus refuses does nothing, or gives FF (hexadecimal). The BIOS data must be valid, and are so afterwards.
 ///
-/// Function 10 with AL = 17 alone, which answers entries of the DAC as a table, takes memory, before its first
-/// cycle. Where that is refused, the answer is `OutOfMemory`, and nothing has changed.
+/// Function 10 with AL = 17 alone, which answers CX entries of the DAC as a table, takes memory, before its first
+/// cycle; where CX is 0 it takes none. Where memory is refused, the answer is `OutOfMemory`, and nothing has changed.
 pub fn int10<B: Bus>(
     alloc: Global,
     bus: &mut B,
@@ -318,7 +318,7 @@ pub fn int10<B: Bus>(
     requires { IsValid bda.old }
     // The cycles of the service in order, its answer, and the BIOS data afterwards; or no memory, and nothing.
     ensures answer { Serves B.meaning (service fonts.now bda.old regs block.now) bus.old bda.old result bus.new bda.new }
-    // Entries of the DAC as a table alone take memory.
+    // Some entries of the DAC as a table alone take memory.
     ensures memory { result ≡ Err OutOfMemory → takes_memory (call_of regs) bda.old ≡ true }
     ensures valid { IsValid bda.new }
 {

@@ -97,7 +97,7 @@ fn read_components<B: Bus>(bus: &mut B, values: &mut Bytes)
 }
 
 /// 17: reads red, green and blue of some entries from one on. The memory for them is taken before the
-/// first cycle.
+/// first cycle; none is for no entries.
 #[tactic(auto, using(crate::proofs::RunLemmas::run_bind), unfolding(crate::specs::Tables::read_entries_plan, vga_bits::specs::Bytes::zeros))]
 fn read_entries<B: Bus>(
     alloc: Global,
@@ -106,7 +106,7 @@ fn read_entries<B: Bus>(
     count: u16,
 ) -> Result<Bytes, AllocError>
     ensures ok { IfOk result (λ values. (bus.new, values) ≡ run B.meaning (read_entries_plan first count) bus.old) }
-    ensures err { OnErr result (bus.new ≡ bus.old) }
+    ensures err { OnErr result ((bus.new ≡ bus.old) × (0 < count)) }
 {
     let Ok(mut values) = Bytes::zeros(alloc, 3 * count as usize) else {
         return Err(AllocError);
@@ -116,7 +116,7 @@ fn read_entries<B: Bus>(
     Ok(values)
 }
 
-/// Does what a subfunction does that is not refused. Memory is taken for entries of the DAC alone.
+/// Does what a subfunction does that is not refused. Memory is taken for some entries of the DAC alone.
 #[tactic(auto, using(crate::proofs::RunLemmas::run_bind), unfolding(crate::specs::Tables::table_plan))]
 pub(crate) fn read_table<B: Bus>(
     alloc: Global,

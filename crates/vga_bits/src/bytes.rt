@@ -1,5 +1,5 @@
 //! Bytes that contracts see as a list.
-ghost use Rattle.std.specs.Prelude.{◌≡◌, ◌<◌, IfOk, IsOkUnless, length, slice_set};
+ghost use Rattle.std.specs.Prelude.{◌≡◌, ◌<◌, IfOk, IsOkUnless, OnErr, length, slice_set};
 ghost use Rattle.vga_bits.specs.Bytes.{zeros as zeros_of};
 
 use super::fault::Fault;
@@ -48,12 +48,16 @@ impl Bytes {
         }
     }
 
-    /// So many bytes, each 0. It fails with `OutOfMemory` alone.
+    /// So many bytes, each 0. It fails with `OutOfMemory` alone, and never for no bytes.
     #[tactic(auto, unfolding(crate::specs::Bytes::zeros))]
     pub fn zeros(alloc: Global, len: usize) -> Result<Bytes, Fault>
         ensures zeros { IfOk result (λ bytes. bytes ≡ zeros_of len) }
         ensures err { IsOkUnless result Fault.OutOfMemory }
+        ensures some { OnErr result (0 < len) }
     {
+        if len == 0 {
+            return Ok(Bytes { items: None });
+        }
         match vec![in alloc; 0; len] {
             Ok(items) => Bytes::from_vec(alloc, items),
             Err(_) => Err(Fault::OutOfMemory),

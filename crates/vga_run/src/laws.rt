@@ -8,6 +8,7 @@ ghost use Rattle.vga_script.specs.declared.step.Step.{Step};
 
 use super::answer::Answer;
 use bios_services::laws::refused_services_do_nothing;
+use vga_card::Card;
 use vga_card::laws::refused_cycles_change_nothing;
 
 /// A step that is refused leaves the whole machine, adapter and BIOS data, whether it is a cycle, an advance or a call of the
@@ -17,5 +18,5 @@ pub fn refused_steps_change_nothing()
         answer_to machine step ≡ Plain (Answer.Refused refusal) → after_step machine step ≡ machine }
 {
     refused_cycles_change_nothing();
-    refused_services_do_nothing();
+    refused_services_do_nothing::<Card>();
 }
