@@ -14,7 +14,7 @@ use Rattle.bios_services.specs.declared.glyph_load.GlyphLoad.{GlyphLoad}
 use Rattle.bios_services.specs.ModeSet.{is_text}
 use Rattle.bios_services.specs.Reasons.{refuse_unless, wrong_block}
 use Rattle.bios_services.specs.GlyphLoads.{AreThere, glyphs_len, load_refusal}
-use Rattle.bios_services.specs.Bounds.{IsSet, StaysInMode, pages_in}
+use Rattle.bios_services.specs.Bounds.{IsSet, StaysInMode, pages_in, ports_end}
 use Rattle.bios_services.proofs.ReasonLemmas.{neither, holds}
 
 -- what holds of either branch holds of a choice
@@ -53,7 +53,7 @@ record Small (row : ModeRow) : Type 0 where
   pub columns : row.columns ≤ 80
   pub rows : row.last_row < 50
   pub height : row.height ≤ 16
-  pub port : row.crtc_address < 1000
+  pub port : row.crtc_address < ports_end
   pub pages : row.pages ≤ 8
   pub memory : row.size * row.pages ≤ 65536
 
@@ -63,7 +63,7 @@ record Bounds (row : Option ModeRow) (d : BiosData) : Type 0 where
   pub columns : d.columns ≤ 80
   pub rows : d.last_row < 50
   pub height : d.height ≤ 16
-  pub port : d.crtc_address < 1000
+  pub port : d.crtc_address < ports_end
   pub pages : pages_in row ≤ 8
   pub page : d.page < pages_in row
   pub start : d.start ≡ d.size * d.page
@@ -221,5 +221,5 @@ there_of load mode len row allowed e =
     whole_block false h z = absurd (cc)
 
 -- the port of a row is small
-pub port_small : (mode height : ℕ) (row : ModeRow) → row_at mode height ≡ Some row → row.crtc_address < 1000
-port_small mode height row e = subst (λ x. IfSome x (λ r. r.crtc_address < 1000)) e (on_small (λ x. IfSome x (λ r. r.crtc_address < 1000)) mode height (λ r small. small.port) tt)
+pub port_small : (mode height : ℕ) (row : ModeRow) → row_at mode height ≡ Some row → row.crtc_address < ports_end
+port_small mode height row e = subst (λ x. IfSome x (λ r. r.crtc_address < ports_end)) e (on_small (λ x. IfSome x (λ r. r.crtc_address < ports_end)) mode height (λ r small. small.port) tt)

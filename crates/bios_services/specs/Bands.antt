@@ -16,13 +16,13 @@ use Rattle.bios_services.specs.VideoRegisters.{map_mask, all_planes, graphics_mo
 abbrev pub address_in : Band → ℕ → ℕ → ℕ → ℕ
 address_in band row line byte = band.start + band.pitch * (band.lines * row + line) + band.left + byte
 
--- a band whose bytes the adapter may have
+-- a band whose bytes the adapter may have: a column of dots has eight, there are 80 columns, and a corner is a byte
 pub record IsBand (band : Band) : Type 0 where
   pub start : band.start < 2 ^ 20
-  pub pitch : band.pitch ≤ 640
+  pub pitch : band.pitch ≤ 8 * 80
   pub lines : band.lines ≤ 16
-  pub left : band.left ≤ 2040
-  pub width : band.width ≤ 640
+  pub left : band.left ≤ 8 * 255
+  pub width : band.width ≤ 8 * 80
 
 -- the columns `left` to `right` of a page, as many as there are
 abbrev pub band_of : BiosData → ℕ → ℕ → ℕ → Band

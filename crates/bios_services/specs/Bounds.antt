@@ -1,8 +1,24 @@
--- How large the numbers are that the BIOS data of a mode hold.
-use Rattle.std.specs.Prelude.{ℕ, ◌≡◌, ◌*◌, ◌<◌, ◌≤◌, Option, None, Some}
+-- How large the numbers are that the BIOS data of a mode hold, and those that calls name.
+use Rattle.std.specs.Prelude.{ℕ, ◌≡◌, ◌+◌, ◌*◌, ◌<◌, ◌≤◌, Option, None, Some}
 use Rattle.bios_modes.specs.declared.modes.ModeRow.{ModeRow}
 use Rattle.bios_modes.specs.Heights.{row_at}
 use Rattle.bios_modes.specs.Bda.{BiosData}
+
+-- the number of the cell at row 255, column 255, in rows of 80 cells: no place names a further one
+abbrev pub furthest_cell : ℕ
+furthest_cell = 80 * 255 + 255
+
+-- more cells than calls reach: from any place on as many as a word counts, however few a page has
+abbrev pub reached_cells : ℕ
+reached_cells = 80 * 255 + 255 + 65536
+
+-- more rows than windows reach, whose corners are bytes
+abbrev pub reached_rows : ℕ
+reached_rows = 256
+
+-- the adapter's ports end below this one
+abbrev pub ports_end : ℕ
+ports_end = 0x3E0
 
 abbrev pub pages_in : Option ModeRow → ℕ
 pages_in None = 0
@@ -18,7 +34,7 @@ pub record IsSet (d : BiosData) : Type 0 where
   pub columns : d.columns ≤ 80
   pub rows : d.last_row < 50
   pub height : d.height ≤ 16
-  pub port : d.crtc_address < 1000
+  pub port : d.crtc_address < ports_end
   pub pages : pages_of d ≤ 8
   pub page : d.page < pages_of d
   pub start : d.start ≡ d.size * d.page

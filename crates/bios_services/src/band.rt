@@ -1,7 +1,7 @@
 //! Some columns of a page, as bytes of its lines.
 ghost use Rattle.std.specs.Prelude.{◌≡◌, ◌<◌, ◌≤◌, ◌+◌, ◌-◌, ◌*◌, ◌^◌};
 ghost use Rattle.bios_services.specs.Plan.{run};
-ghost use Rattle.bios_services.specs.Bounds.{IsSet, pages_of};
+ghost use Rattle.bios_services.specs.Bounds.{IsSet, pages_of, reached_cells, reached_rows};
 ghost use Rattle.bios_services.specs.Bands.{IsBand, address_in, band_of, copy_line as copy_line_plan, copy_row as copy_row_plan, raise_rows as raise_rows_plan, lower_rows as lower_rows_plan, paint_line as paint_line_plan, paint_row as paint_row_plan, paint_rows as paint_rows_plan, access_plan, fill_plan, up_plan, down_plan};
 
 use crate::cells::page_address;
@@ -62,9 +62,9 @@ impl Band {
     /// The address of a byte of a line of a row of characters.
     pub(crate) fn address(self, row: u32, line: u32, byte: u32) -> u32
         requires band { IsBand self }
-        requires row { row < 200000 }
+        requires row { row < reached_cells }
         requires line { line ≤ 16 }
-        requires byte { byte ≤ 640 }
+        requires byte { byte ≤ 8 * 80 }
         ensures value { result ≡ address_in self row line byte }
         ensures small { result < 2 ^ 31 }
     {
@@ -75,8 +75,8 @@ impl Band {
     #[tactic(auto, using(crate::proofs::RunLemmas::run_bind), unfolding(crate::specs::Bands::copy_line))]
     fn copy_line<B: Bus>(self, bus: &mut B, from: u32, to: u32, line: u32)
         requires band { IsBand self }
-        requires from { from < 400 }
-        requires to { to < 400 }
+        requires from { from < reached_rows }
+        requires to { to < reached_rows }
         requires line { line ≤ 16 }
         ensures { bus.new ≡ (run B.meaning (copy_line_plan self from to line) bus.old).0 }
     {
@@ -91,8 +91,8 @@ impl Band {
     #[tactic(auto, using(crate::proofs::RunLemmas::run_bind), unfolding(crate::specs::Bands::copy_row))]
     fn copy_row<B: Bus>(self, bus: &mut B, from: u32, to: u32)
         requires band { IsBand self }
-        requires from { from < 400 }
-        requires to { to < 400 }
+        requires from { from < reached_rows }
+        requires to { to < reached_rows }
         ensures { bus.new ≡ (run B.meaning (copy_row_plan self from to) bus.old).0 }
     {
         for line in 0..self.lines {
@@ -104,7 +104,7 @@ impl Band {
     #[tactic(auto, using(crate::proofs::RunLemmas::run_bind), unfolding(crate::specs::Bands::raise_rows))]
     fn raise_rows<B: Bus>(self, bus: &mut B, n: u32, top: u32, end: u32)
         requires band { IsBand self }
-        requires end { end + n ≤ 400 }
+        requires end { end + n ≤ reached_rows }
         ensures { bus.new ≡ (run B.meaning (raise_rows_plan self n top (end - top)) bus.old).0 }
     {
         for row in top..end {
@@ -116,7 +116,7 @@ impl Band {
     #[tactic(auto, using(crate::proofs::RunLemmas::run_bind), unfolding(crate::specs::Bands::lower_rows))]
     fn lower_rows<B: Bus>(self, bus: &mut B, n: u32, top: u32, end: u32)
         requires band { IsBand self }
-        requires end { end + n ≤ 400 }
+        requires end { end + n ≤ reached_rows }
         requires order { top ≤ end }
         ensures { bus.new ≡ (run B.meaning (lower_rows_plan self n top (end - top)) bus.old).0 }
     {
@@ -129,7 +129,7 @@ impl Band {
     #[tactic(auto, using(crate::proofs::RunLemmas::run_bind), unfolding(crate::specs::Bands::paint_line))]
     fn paint_line<B: Bus>(self, bus: &mut B, paint: Paint, row: u32, line: u32)
         requires band { IsBand self }
-        requires row { row < 200000 }
+        requires row { row < reached_cells }
         requires line { line ≤ 16 }
         ensures { bus.new ≡ (run B.meaning (paint_line_plan self paint row line) bus.old).0 }
     {
@@ -142,7 +142,7 @@ impl Band {
     #[tactic(auto, using(crate::proofs::RunLemmas::run_bind), unfolding(crate::specs::Bands::paint_row))]
     pub(crate) fn paint_row<B: Bus>(self, bus: &mut B, paint: Paint, row: u32)
         requires band { IsBand self }
-        requires row { row < 200000 }
+        requires row { row < reached_cells }
         ensures { bus.new ≡ (run B.meaning (paint_row_plan self paint row) bus.old).0 }
     {
         for line in 0..self.lines {
@@ -154,7 +154,7 @@ impl Band {
     #[tactic(auto, using(crate::proofs::RunLemmas::run_bind), unfolding(crate::specs::Bands::paint_rows))]
     fn paint_rows<B: Bus>(self, bus: &mut B, paint: Paint, top: u32, end: u32)
         requires band { IsBand self }
-        requires end { end ≤ 400 }
+        requires end { end ≤ reached_rows }
         ensures { bus.new ≡ (run B.meaning (paint_rows_plan self paint top (end - top)) bus.old).0 }
     {
         for row in top..end {
@@ -166,7 +166,7 @@ impl Band {
     #[tactic(auto, using(crate::proofs::RunLemmas::run_bind), unfolding(crate::specs::Bands::fill_plan))]
     fn fill<B: Bus>(self, bus: &mut B, colour: u8, top: u32, end: u32)
         requires band { IsBand self }
-        requires end { end ≤ 400 }
+        requires end { end ≤ reached_rows }
         ensures { bus.new ≡ (run B.meaning (fill_plan self.kind self colour top (end - top)) bus.old).0 }
     {
         by_kind!(
@@ -186,7 +186,7 @@ impl Band {
     #[tactic(auto, using(crate::proofs::RunLemmas::run_bind), unfolding(crate::specs::Bands::up_plan))]
     pub(crate) fn up<B: Bus>(self, bus: &mut B, top: u32, height: u32, n: u32, colour: u8)
         requires band { IsBand self }
-        requires rows { top + height ≤ 400 }
+        requires rows { top + height ≤ reached_rows }
         requires few { n ≤ height }
         ensures { bus.new ≡ (run B.meaning (up_plan self top height n colour) bus.old).0 }
     {
@@ -201,7 +201,7 @@ impl Band {
     #[tactic(auto, using(crate::proofs::RunLemmas::run_bind), unfolding(crate::specs::Bands::down_plan))]
     pub(crate) fn down<B: Bus>(self, bus: &mut B, top: u32, height: u32, n: u32, colour: u8)
         requires band { IsBand self }
-        requires rows { top + height ≤ 400 }
+        requires rows { top + height ≤ reached_rows }
         requires few { n ≤ height }
         ensures { bus.new ≡ (run B.meaning (down_plan self top height n colour) bus.old).0 }
     {

@@ -1,7 +1,7 @@
 //! Cells of characters, and how text is read and written.
 ghost use Rattle.std.specs.Prelude.{◌≡◌, ◌<◌, ◌≤◌, ◌+◌, ◌*◌, ◌^◌};
 ghost use Rattle.bios_services.specs.Plan.{run};
-ghost use Rattle.bios_services.specs.Bounds.{IsSet, pages_of};
+ghost use Rattle.bios_services.specs.Bounds.{IsSet, pages_of, reached_cells};
 ghost use Rattle.bios_services.specs.Cells.{page_base as page_base_of, page_address as page_address_of, cell_address as cell_address_of, cells_of, read_cell_plan, ink_plan, write_cell_plan};
 
 use crate::cycles::{get, put};
@@ -43,7 +43,7 @@ pub(crate) fn page_address(bda: &Bda, page: u8) -> u32
 pub(crate) fn cell_address(bda: &Bda, page: u8, q: u32) -> u32
     requires data { IsSet bda.now }
     requires page { page < pages_of bda.now }
-    requires cell { q < 200000 }
+    requires cell { q < reached_cells }
     ensures value { result ≡ cell_address_of bda.now page q }
     ensures small { result < 2 ^ 21 }
 {

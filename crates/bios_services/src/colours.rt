@@ -1,5 +1,6 @@
 //! Function 10, by its subfunction.
 ghost use Rattle.std.specs.Prelude.{◌≡◌, ◌<◌, None, length};
+ghost use Rattle.bios_services.specs.Bounds.{ports_end};
 ghost use Rattle.bios_services.specs.Plan.{run};
 ghost use Rattle.bios_services.specs.Reasons.{reason_of};
 ghost use Rattle.bios_services.specs.Colours.{colour_service_of as colour_service_of_regs, no_register as no_register_of, no_entry as no_entry_of, no_entries as no_entries_of, colour_refusal as colour_refusal_of, read_entry_plan, read_register_in_bh, read_mask_in_bl, colours_plan};
@@ -167,7 +168,7 @@ fn read_entry<B: Bus>(bus: &mut B, entry: u8, regs: &mut Regs)
 /// 07 and 08: answers a register of the attribute controller.
 #[tactic(auto, using(crate::proofs::RunLemmas::run_bind), unfolding(crate::specs::Colours::read_register_in_bh))]
 fn answer_register<B: Bus>(bus: &mut B, port: u16, register: u8, regs: &mut Regs)
-    requires port { port < 1000 }
+    requires port { port < ports_end }
     requires register { register < 32 }
     ensures { (bus.new, regs.new) ≡ run B.meaning (read_register_in_bh port register regs.old) bus.old }
 {
@@ -193,7 +194,7 @@ pub(crate) fn perform_colours<B: Bus>(
     regs: &mut Regs,
     block: &[u8],
 )
-    requires port { port < 1000 }
+    requires port { port < ports_end }
     requires allowed { colour_refusal_of service (length block.now) ≡ None }
     ensures { (bus.new, regs.new) ≡ run B.meaning (colours_plan service port regs.old block.now) bus.old }
 {

@@ -1,7 +1,7 @@
 //! The cursor and the pages.
 ghost use Rattle.std.specs.Prelude.{◌≡◌, ◌<◌, ◌≤◌, ◌+◌, ◌*◌, ◌/◌};
 ghost use Rattle.bios_services.specs.Plan.{run};
-ghost use Rattle.bios_services.specs.Bounds.{IsSet, StaysInMode, pages_of};
+ghost use Rattle.bios_services.specs.Bounds.{IsSet, StaysInMode, pages_of, furthest_cell, ports_end};
 ghost use Rattle.bios_services.specs.Cursor.{cell_number as cell_number_of, cursor_cell as cursor_cell_of, word_plan, cursor_address as cursor_address_of, cursor_plan, move_cursor_plan, cursor_type_plan, page_plan};
 
 use crate::cycles::indexed;
@@ -14,7 +14,7 @@ use vga_card::Bus;
 pub(crate) fn cell_number(bda: &Bda, place: u16) -> u32
     requires { IsSet bda.now }
     ensures value { result ≡ cell_number_of bda.now place }
-    ensures small { result ≤ 20655 }
+    ensures small { result ≤ furthest_cell }
 {
     bda.columns() as u32 * (place / 256) as u32 + (place % 256) as u32
 }
@@ -24,7 +24,7 @@ pub(crate) fn cursor_cell(bda: &Bda, page: u8) -> u32
     requires data { IsSet bda.now }
     requires page { page < pages_of bda.now }
     ensures value { result ≡ cursor_cell_of bda.now page }
-    ensures small { result ≤ 20655 }
+    ensures small { result ≤ furthest_cell }
 {
     cell_number(bda, bda.cursor_place(page as usize))
 }
@@ -32,7 +32,7 @@ pub(crate) fn cursor_cell(bda: &Bda, page: u8) -> u32
 /// Writes a word to two registers of the CRT controller, the high byte to the first.
 #[tactic(auto, using(crate::proofs::RunLemmas::run_bind), unfolding(crate::specs::Cursor::word_plan))]
 pub(crate) fn write_word<B: Bus>(bus: &mut B, port: u16, i: u8, n: u16)
-    requires port { port < 1000 }
+    requires port { port < ports_end }
     requires register { i < 255 }
     ensures { bus.new ≡ (run B.meaning (word_plan port i n) bus.old).0 }
 {

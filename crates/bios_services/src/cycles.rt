@@ -1,5 +1,6 @@
 //! The cycles that services are made of. A refused write does nothing, and a refused read gives FF.
 ghost use Rattle.std.specs.Prelude.{◌≡◌, ◌<◌, ◌≤◌, length};
+ghost use Rattle.bios_services.specs.Bounds.{ports_end};
 ghost use Rattle.bios_services.specs.Plan.{run, out as out_plan, put as put_plan, inp as inp_plan, get as get_plan, move as move_plan};
 ghost use Rattle.bios_services.specs.Cycles.{indexed as indexed_plan, sequencer as sequencer_plan, graphics as graphics_plan, attribute as attribute_plan, group as group_plan, attribute_group as attribute_group_plan, expect_index as expect_index_plan, show_palette as show_palette_plan};
 
@@ -53,7 +54,7 @@ pub(crate) fn move_byte<B: Bus>(bus: &mut B, from: u32, to: u32)
 
 /// Writes register i behind an index port, whose data port is the next.
 pub(crate) fn indexed<B: Bus>(bus: &mut B, port: u16, i: u8, value: u8)
-    requires { port < 1000 }
+    requires { port < ports_end }
     ensures { bus.new ≡ (run B.meaning (indexed_plan port i value) bus.old).0 }
 {
     out(bus, port, i);
@@ -85,7 +86,7 @@ pub(crate) fn attribute<B: Bus>(bus: &mut B, i: u8, value: u8)
 /// Writes registers 0, 1, .. behind an index port.
 #[tactic(auto, using(crate::proofs::RunLemmas::run_bind), unfolding(crate::specs::Cycles::group))]
 pub(crate) fn group<B: Bus>(bus: &mut B, port: u16, values: &[u8])
-    requires port { port < 1000 }
+    requires port { port < ports_end }
     requires few { length values.now ≤ 32 }
     ensures { bus.new ≡ (run B.meaning (group_plan port values.now) bus.old).0 }
 {
@@ -107,7 +108,7 @@ pub(crate) fn attribute_group<B: Bus>(bus: &mut B, values: &[u8])
 
 /// Makes the next write to the attribute controller an index, by a read of input status 1.
 pub(crate) fn expect_index<B: Bus>(bus: &mut B, crtc_address: u16)
-    requires { crtc_address < 1000 }
+    requires { crtc_address < ports_end }
     ensures { bus.new ≡ (run B.meaning (expect_index_plan crtc_address) bus.old).0 }
 {
     inp(bus, crtc_address + 6);
@@ -115,7 +116,7 @@ pub(crate) fn expect_index<B: Bus>(bus: &mut B, crtc_address: u16)
 
 /// Shows the palette again.
 pub(crate) fn show_palette<B: Bus>(bus: &mut B, crtc_address: u16)
-    requires { crtc_address < 1000 }
+    requires { crtc_address < ports_end }
     ensures { bus.new ≡ (run B.meaning (show_palette_plan crtc_address) bus.old).0 }
 {
     out(bus, ATTRIBUTE, PALETTE_SHOWN);

@@ -1,7 +1,7 @@
 //! Characters at cells of a page in any mode.
 ghost use Rattle.std.specs.Prelude.{◌≡◌, ◌<◌, ◌≤◌, ◌+◌};
 ghost use Rattle.bios_services.specs.Plan.{run};
-ghost use Rattle.bios_services.specs.Bounds.{IsSet, pages_of};
+ghost use Rattle.bios_services.specs.Bounds.{IsSet, pages_of, reached_cells};
 ghost use Rattle.bios_services.specs.Bands.{IsBand};
 ghost use Rattle.bios_services.specs.Drawing.{cell_band as cell_band_of, put_glyph as put_glyph_plan, put_over as put_over_plan, put_glyph_over as put_glyph_over_plan, plain_plan, xor_plan, planar_plan, dot_of, put_dots as put_dots_plan, packed_plan, character_plan, characters_plan};
 
@@ -32,7 +32,7 @@ pub(crate) fn cell_band(bda: &Bda, page: u8, q: u32) -> Band
 #[tactic(auto, using(crate::proofs::RunLemmas::run_bind), unfolding(crate::specs::Drawing::put_glyph))]
 fn put_glyph<B: Bus>(bus: &mut B, cell: Band, row: u32, fonts: &Fonts, character: u8)
     requires cell { IsBand cell }
-    requires row { row < 200000 }
+    requires row { row < reached_cells }
     ensures { bus.new ≡ (run B.meaning (put_glyph_plan cell row fonts.now character) bus.old).0 }
 {
     for r in 0..cell.lines {
@@ -53,7 +53,7 @@ fn put_over<B: Bus>(bus: &mut B, address: u32, dots: u8)
 #[tactic(auto, using(crate::proofs::RunLemmas::run_bind), unfolding(crate::specs::Drawing::put_glyph_over))]
 fn put_glyph_over<B: Bus>(bus: &mut B, cell: Band, row: u32, fonts: &Fonts, character: u8)
     requires cell { IsBand cell }
-    requires row { row < 200000 }
+    requires row { row < reached_cells }
     ensures { bus.new ≡ (run B.meaning (put_glyph_over_plan cell row fonts.now character) bus.old).0 }
 {
     for r in 0..cell.lines {
@@ -66,7 +66,7 @@ fn put_glyph_over<B: Bus>(bus: &mut B, cell: Band, row: u32, fonts: &Fonts, char
 #[tactic(auto, using(crate::proofs::RunLemmas::run_bind), unfolding(crate::specs::Drawing::plain_plan))]
 fn draw_plain<B: Bus>(bus: &mut B, cell: Band, row: u32, fonts: &Fonts, character: u8, colour: u8)
     requires cell { IsBand cell }
-    requires row { row < 200000 }
+    requires row { row < reached_cells }
     ensures { bus.new ≡ (run B.meaning (plain_plan cell row fonts.now character colour) bus.old).0 }
 {
     cell.paint_row(bus, Paint::plain(0x00), row);
@@ -79,7 +79,7 @@ fn draw_plain<B: Bus>(bus: &mut B, cell: Band, row: u32, fonts: &Fonts, characte
 #[tactic(auto, using(crate::proofs::RunLemmas::run_bind), unfolding(crate::specs::Drawing::xor_plan))]
 fn draw_by_xor<B: Bus>(bus: &mut B, cell: Band, row: u32, fonts: &Fonts, character: u8, colour: u8)
     requires cell { IsBand cell }
-    requires row { row < 200000 }
+    requires row { row < reached_cells }
     ensures { bus.new ≡ (run B.meaning (xor_plan cell row fonts.now character colour) bus.old).0 }
 {
     graphics(bus, DATA_ROTATE, XOR);
@@ -93,7 +93,7 @@ fn draw_by_xor<B: Bus>(bus: &mut B, cell: Band, row: u32, fonts: &Fonts, charact
 #[tactic(auto, unfolding(crate::specs::Drawing::planar_plan))]
 fn draw_planar<B: Bus>(bus: &mut B, cell: Band, row: u32, fonts: &Fonts, character: u8, colour: u8)
     requires cell { IsBand cell }
-    requires row { row < 200000 }
+    requires row { row < reached_cells }
     ensures { bus.new ≡ (run B.meaning (planar_plan cell row fonts.now character colour) bus.old).0 }
 {
     if is_set(colour, 7) {
@@ -115,7 +115,7 @@ fn dot(dots: u8, colour: u8, i: u32) -> u8
 #[tactic(auto, using(crate::proofs::RunLemmas::run_bind), unfolding(crate::specs::Drawing::put_dots))]
 fn put_dots<B: Bus>(bus: &mut B, cell: Band, row: u32, line: u32, dots: u8, colour: u8)
     requires cell { IsBand cell }
-    requires row { row < 200000 }
+    requires row { row < reached_cells }
     requires line { line ≤ 16 }
     ensures { bus.new ≡ (run B.meaning (put_dots_plan cell row line dots colour) bus.old).0 }
 {
@@ -128,7 +128,7 @@ fn put_dots<B: Bus>(bus: &mut B, cell: Band, row: u32, line: u32, dots: u8, colo
 #[tactic(auto, using(crate::proofs::RunLemmas::run_bind), unfolding(crate::specs::Drawing::packed_plan))]
 fn draw_packed<B: Bus>(bus: &mut B, cell: Band, row: u32, fonts: &Fonts, character: u8, colour: u8)
     requires cell { IsBand cell }
-    requires row { row < 200000 }
+    requires row { row < reached_cells }
     ensures { bus.new ≡ (run B.meaning (packed_plan cell row fonts.now character colour) bus.old).0 }
 {
     for r in 0..cell.lines {
@@ -150,7 +150,7 @@ pub(crate) fn write_character<B: Bus>(
 )
     requires data { IsSet bda.now }
     requires page { page < pages_of bda.now }
-    requires cell { q < 200000 }
+    requires cell { q < reached_cells }
     ensures { bus.new ≡ (run B.meaning (character_plan fonts.now bda.now page q character ink) bus.old).0 }
 {
     let row = q / bda.columns() as u32;
@@ -177,8 +177,7 @@ pub(crate) fn write_characters<B: Bus>(
 )
     requires data { IsSet bda.now }
     requires page { page < pages_of bda.now }
-    requires cell { q < 100000 }
-    requires few { n ≤ 65535 }
+    requires cells { q + n ≤ reached_cells }
     ensures { bus.new ≡ (run B.meaning (characters_plan fonts.now bda.now page q character ink n) bus.old).0 }
 {
     for i in 0..n {

@@ -1,6 +1,7 @@
 //! Function 11: loading glyphs of text, with which the height of characters changes.
 ghost use Rattle.std.specs.Prelude.{◌≡◌, ◌<◌, ◌≤◌, ◌+◌, length};
 ghost use Rattle.bios_modes.specs.Fonts.{glyph_row};
+ghost use Rattle.bios_services.specs.Bounds.{ports_end};
 ghost use Rattle.bios_services.specs.Plan.{run};
 ghost use Rattle.bios_services.specs.ModeSet.{font_plan, glyph_plan, glyphs_plan};
 ghost use Rattle.bios_services.specs.Reasons.{reason_of};
@@ -160,7 +161,7 @@ impl GlyphLoad {
     #[tactic(auto, using(crate::proofs::RunLemmas::run_bind), unfolding(crate::specs::GlyphLoads::load_plan))]
     pub(crate) fn write<B: Bus>(self, bus: &mut B, fonts: &Fonts, block: &[u8], row: &ModeRow)
         requires there { AreThere self (length block.now) }
-        requires port { row.now.crtc_address < 1000 }
+        requires port { row.now.crtc_address < ports_end }
         ensures { bus.new ≡ (run B.meaning (load_plan fonts.now self block.now row.now) bus.old).0 }
     {
         let port = row.crtc_address;

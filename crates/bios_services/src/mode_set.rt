@@ -1,6 +1,7 @@
 //! Setting a mode: every register, the palette, the font of a text mode, and the memory.
 ghost use Rattle.std.specs.Prelude.{◌≡◌, ◌<◌, ◌≤◌, ◌+◌, ◌*◌, ◌^◌, IsTrue, if◌then◌else◌};
 ghost use Rattle.bios_modes.specs.Palette.{is_mode};
+ghost use Rattle.bios_services.specs.Bounds.{ports_end};
 ghost use Rattle.bios_services.specs.Plan.{run};
 ghost use Rattle.bios_services.specs.ModeSet.{is_text as is_text_mode, registers_plan, colour_plan, palette_plan, blank_byte as blank_byte_of, blank_plan, clear_plan, text_plan, memory_plan, mode_set_plan};
 
@@ -29,7 +30,7 @@ pub(crate) fn is_text(mode: u8) -> bool
 /// Writes all registers.
 #[tactic(auto, using(crate::proofs::RunLemmas::run_bind), unfolding(crate::specs::ModeSet::registers_plan))]
 fn write_registers<B: Bus>(bus: &mut B, row: &ModeRow)
-    requires { row.now.crtc_address < 1000 }
+    requires { row.now.crtc_address < ports_end }
     ensures { bus.new ≡ (run B.meaning (registers_plan row.now) bus.old).0 }
 {
     out(bus, MISCELLANEOUS_OUTPUT, row.misc);
@@ -125,7 +126,7 @@ fn write_memory<B: Bus>(bus: &mut B, mode: u8, row: &ModeRow, keeps: bool, fonts
 #[tactic(auto, using(crate::proofs::RunLemmas::run_bind), unfolding(crate::specs::ModeSet::mode_set_plan))]
 pub(crate) fn set_mode<B: Bus>(bus: &mut B, mode: u8, row: &ModeRow, keeps: bool, fonts: &Fonts)
     requires mode { IsTrue (is_mode mode) }
-    requires port { row.now.crtc_address < 1000 }
+    requires port { row.now.crtc_address < ports_end }
     requires base { row.now.base < 2 ^ 20 }
     ensures { bus.new ≡ (run B.meaning (mode_set_plan mode row.now keeps fonts.now) bus.old).0 }
 {

@@ -1,5 +1,6 @@
 //! The palette registers, the overscan colour and blinking: function 10, subfunctions 00 to 08.
 ghost use Rattle.std.specs.Prelude.{◌≡◌, ◌<◌, ◌≤◌, length};
+ghost use Rattle.bios_services.specs.Bounds.{ports_end};
 ghost use Rattle.bios_services.specs.Plan.{run};
 ghost use Rattle.bios_services.specs.Palette.{set_register_plan, set_palette_plan, set_blinking_plan, register_plan, read_register_plan};
 
@@ -15,7 +16,7 @@ const PALETTE_LEN: usize = 16;
 /// 00 and 01: writes a register of the attribute controller.
 #[tactic(auto, using(crate::proofs::RunLemmas::run_bind), unfolding(crate::specs::Palette::set_register_plan))]
 pub(crate) fn set_register<B: Bus>(bus: &mut B, port: u16, i: u8, value: u8)
-    requires { port < 1000 }
+    requires { port < ports_end }
     ensures { bus.new ≡ (run B.meaning (set_register_plan port i value) bus.old).0 }
 {
     expect_index(bus, port);
@@ -26,7 +27,7 @@ pub(crate) fn set_register<B: Bus>(bus: &mut B, port: u16, i: u8, value: u8)
 /// 02: writes the palette registers and the overscan colour, of 17 bytes.
 #[tactic(auto, using(crate::proofs::RunLemmas::run_bind), unfolding(crate::specs::Palette::set_palette_plan))]
 pub(crate) fn set_palette<B: Bus>(bus: &mut B, port: u16, block: &[u8])
-    requires port { port < 1000 }
+    requires port { port < ports_end }
     requires whole { length block.now ≡ 17 }
     ensures { bus.new ≡ (run B.meaning (set_palette_plan port block.now) bus.old).0 }
 {
@@ -40,7 +41,7 @@ pub(crate) fn set_palette<B: Bus>(bus: &mut B, port: u16, block: &[u8])
 /// 03: makes bit 7 of attributes blink, or bright.
 #[tactic(auto, using(crate::proofs::RunLemmas::run_bind), unfolding(crate::specs::Palette::set_blinking_plan))]
 pub(crate) fn set_blinking<B: Bus>(bus: &mut B, port: u16, blinking: u8)
-    requires port { port < 1000 }
+    requires port { port < ports_end }
     requires blinking { blinking ≤ 1 }
     ensures { bus.new ≡ (run B.meaning (set_blinking_plan port blinking) bus.old).0 }
 {
@@ -54,7 +55,7 @@ pub(crate) fn set_blinking<B: Bus>(bus: &mut B, port: u16, blinking: u8)
 /// Reads a register of the attribute controller, where its next write is an index.
 #[tactic(auto, using(crate::proofs::RunLemmas::run_bind), unfolding(crate::specs::Palette::register_plan))]
 pub(crate) fn register<B: Bus>(bus: &mut B, port: u16, i: u8) -> u8
-    requires port { port < 1000 }
+    requires port { port < ports_end }
     requires register { i < 32 }
     ensures { (bus.new, result) ≡ run B.meaning (register_plan port i) bus.old }
 {
@@ -67,7 +68,7 @@ pub(crate) fn register<B: Bus>(bus: &mut B, port: u16, i: u8) -> u8
 /// 07 and 08: reads a register of the attribute controller.
 #[tactic(auto, using(crate::proofs::RunLemmas::run_bind), unfolding(crate::specs::Palette::read_register_plan))]
 pub(crate) fn read_register<B: Bus>(bus: &mut B, port: u16, i: u8) -> u8
-    requires port { port < 1000 }
+    requires port { port < ports_end }
     requires register { i < 32 }
     ensures { (bus.new, result) ≡ run B.meaning (read_register_plan port i) bus.old }
 {

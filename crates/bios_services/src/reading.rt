@@ -1,5 +1,6 @@
 //! The character that stands at a cell of dots.
 ghost use Rattle.std.specs.Prelude.{◌≡◌, ◌<◌, ◌+◌, ◌^◌, length};
+ghost use Rattle.bios_services.specs.Bounds.{reached_cells};
 ghost use Rattle.bios_services.specs.Plan.{run};
 ghost use Rattle.bios_services.specs.Bands.{IsBand};
 ghost use Rattle.bios_services.specs.Reading.{shift_dot as shift_dot_plan, packed_line as packed_line_plan, line_plan, lines_plan, read_character_plan};
@@ -58,7 +59,7 @@ fn read_line<B: Bus>(bus: &mut B, kind: Kind, address: u32) -> u8
 #[tactic(auto, using(crate::proofs::RunLemmas::run_bind), unfolding(crate::specs::Reading::lines_plan))]
 fn read_lines<B: Bus>(bus: &mut B, cell: Band, row: u32, lines: &mut [u8])
     requires cell { IsBand cell }
-    requires row { row < 100000 }
+    requires row { row < reached_cells }
     requires count { length lines.old ≡ cell.lines }
     ensures lines { (bus.new, lines.new) ≡ run B.meaning (lines_plan cell row) bus.old }
     ensures count { length lines.new ≡ cell.lines }
@@ -72,7 +73,7 @@ fn read_lines<B: Bus>(bus: &mut B, cell: Band, row: u32, lines: &mut [u8])
 #[tactic(auto, using(crate::proofs::RunLemmas::run_bind), unfolding(crate::specs::Reading::read_character_plan))]
 pub(crate) fn read_character<B: Bus>(bus: &mut B, cell: Band, row: u32, fonts: &Fonts) -> u8
     requires cell { IsBand cell }
-    requires row { row < 100000 }
+    requires row { row < reached_cells }
     ensures { (bus.new, result) ≡ run B.meaning (read_character_plan cell row fonts.now) bus.old }
 {
     let mut room = [0u8; MOST_LINES];

@@ -1,5 +1,6 @@
 //! Tables that function 10 answers in the caller's memory: subfunctions 09 and 17.
 ghost use Rattle.std.specs.Prelude.{◌≡◌, ◌<◌, IfOk, OnErr, None, length, true};
+ghost use Rattle.bios_services.specs.Bounds.{ports_end};
 ghost use Rattle.bios_services.specs.Plan.{run};
 ghost use Rattle.bios_services.specs.Reasons.{reason_of};
 ghost use Rattle.bios_services.specs.Tables.{table_service_of as table_service_of_regs, table_refusal as table_refusal_of, palette_register as palette_register_of, registers_plan, read_palette_plan, read_components_plan, read_entries_plan, table_plan, table_takes_memory};
@@ -64,7 +65,7 @@ fn palette_register(i: usize) -> u8
 /// Reads the palette registers and the overscan colour, where the attribute controller's next write is an index.
 #[tactic(auto, using(crate::proofs::RunLemmas::run_bind), unfolding(crate::specs::Tables::registers_plan))]
 fn read_registers<B: Bus>(bus: &mut B, port: u16, values: &mut [u8])
-    requires port { port < 1000 }
+    requires port { port < ports_end }
     requires whole { length values.old ≡ 17 }
     ensures { (bus.new, values.new) ≡ run B.meaning (registers_plan port) bus.old }
 {
@@ -76,7 +77,7 @@ fn read_registers<B: Bus>(bus: &mut B, port: u16, values: &mut [u8])
 /// 09: reads the palette registers and the overscan colour.
 #[tactic(auto, using(crate::proofs::RunLemmas::run_bind), unfolding(crate::specs::Tables::read_palette_plan))]
 fn read_palette<B: Bus>(bus: &mut B, port: u16) -> [u8; PALETTE_BYTES]
-    requires { port < 1000 }
+    requires { port < ports_end }
     ensures { (bus.new, result) ≡ run B.meaning (read_palette_plan port) bus.old }
 {
     let mut values = [0u8; PALETTE_BYTES];
@@ -124,7 +125,7 @@ pub(crate) fn read_table<B: Bus>(
     port: u16,
     service: TableService,
 ) -> Result<Table, AllocError>
-    requires port { port < 1000 }
+    requires port { port < ports_end }
     requires allowed { table_refusal_of service ≡ None }
     ensures ok { IfOk result (λ table. (bus.new, table) ≡ run B.meaning (table_plan service port) bus.old) }
     ensures err { OnErr result ((bus.new ≡ bus.old) × (table_takes_memory service ≡ true)) }
