@@ -47,10 +47,7 @@ pub(crate) fn outside_page(rows: u16, columns: u16, place: u16) -> Result<(), Re
 pub(crate) fn outside_pixels(width: u32, height: u32, x: u16, y: u16) -> Result<(), Refusal>
     ensures { reason_of result ≡ outside_pixels_of width height x y }
 {
-    refuse_unless(
-        (x as u32) < width && (y as u32) < height,
-        Refusal::Outside,
-    )
+    refuse_unless((x as u32) < width && (y as u32) < height, Refusal::Outside)
 }
 
 /// Refuses cells that go past the page's last.
