@@ -1,6 +1,6 @@
 -- What every call keeps: the adapter's bounds, and that BIOS data are valid and their places words.
-use Rattle.std.proofs.Common.{◌≡◌, ◌≢◌, ℕ, zero, suc, ◌+◌, ◌-◌, ◌%◌, ◌<◌, ◌≤◌, inl, refl, ◌∙◌, arith, List, [], ◌∷◌, length, get_or, set, replicate, Option, Some, None, IfSome, Bool, true, false}
-use Rattle.std.specs.Prelude.{◌==◌, ◌&&◌, nat_lt, nat_le, if◌then◌else◌}
+use Rattle.std.proofs.Common.{◌≡◌, ◌≢◌, ℕ, zero, suc, ◌+◌, ◌-◌, ◌<◌, ◌≤◌, inl, refl, ◌∙◌, arith, List, [], ◌∷◌, length, get_or, set, replicate, Option, Some, None, IfSome, Bool, true, false}
+use Rattle.std.specs.Prelude.{◌==◌, ◌&&◌, nat_lt, if◌then◌else◌}
 use Rattle.std.proofs.lemmas.Bool.Decides.{nat_tests}
 use Rattle.std.proofs.lemmas.List.{length-set}
 use Rattle.vga_bits.specs.declared.refusal.Refusal.{Refusal}
@@ -18,7 +18,6 @@ use Rattle.bios_modes.specs.Fonts.{FontSet}
 use Rattle.bios_services.specs.declared.regs.Regs.{Regs}
 use Rattle.bios_services.specs.declared.ink.Ink.{Ink}
 use Rattle.bios_services.specs.declared.strings.StringCall.{StringCall}
-use Rattle.bios_services.specs.declared.colours.ColourService.{ColourService}
 use Rattle.bios_services.specs.declared.tables.TableService.{TableService}
 use Rattle.bios_services.specs.declared.glyph_load.GlyphLoad.{GlyphLoad}
 use Rattle.bios_services.specs.declared.call.Call.{Call}
@@ -39,11 +38,12 @@ use Rattle.bios_services.specs.Teletype.{line_start, dots_in, line_feed_fill, li
 use Rattle.bios_services.specs.Strings.{string_len, character_at, ink_at, type_string_plan, string_plan}
 use Rattle.bios_services.specs.ModeSet.{mode_set_plan}
 use Rattle.bios_services.specs.Reasons.{no_page, outside_page, wrong_block}
-use Rattle.bios_services.specs.Colours.{colour_service_of, colours_plan}
+use Rattle.bios_services.specs.Colours.{colours_plan}
 use Rattle.bios_services.specs.Tables.{table_refusal, table_plan}
 use Rattle.bios_services.specs.GlyphLoads.{glyph_load_of, load_refusal, load_plan}
 use Rattle.bios_services.specs.Refusals.{page_named, refusal_in_mode}
-use Rattle.bios_services.specs.Calls.{as_colours, service_of, in_mode, call_of, table_or, glyphs_or}
+use Rattle.bios_services.specs.declared.colours.ColourService.TheVariants.{ReadMask}
+use Rattle.bios_services.specs.Calls.{colours, colour_call_of, service_of, in_mode, call_of, glyphs_or}
 use Rattle.bios_services.specs.Service.{Outcome, Answered, answer_of, answer_with, call_plan, in_mode_plan, load_at, load_unless, load_in_mode_plan, plan_of, read_cell_service, read_pixel_service, service, set_mode_plan, table_in_mode_plan, table_unless, unless}
 use Rattle.bios_services.proofs.ReasonLemmas.{neither, holds}
 use Rattle.bios_services.proofs.BoundLemmas.{set_of_valid, stays_valid, begins_valid, begins_valid_at}
@@ -344,10 +344,6 @@ choose : (b : Bool) (x y : Option Service) → IfSome x FitsWords → IfSome y F
 choose true x y f g = f
 choose false x y f g = g
 
-colours_fit : (x : Option ColourService) → IfSome (as_colours x) FitsWords
-colours_fit None = tt
-colours_fit (Some asked_for) = tt
-
 service_fits : (r : Regs) → r.dx < 65536 → IfSome (service_of r) FitsWords
 service_fits r l =
     choose (high r.ax == 0x01) _ _ tt
@@ -363,13 +359,36 @@ service_fits r l =
     (choose (high r.ax == 0x0D) _ _ tt
     (choose (high r.ax == 0x0E) _ _ tt
     (choose (high r.ax == 0x0F) _ _ tt
-    (choose (high r.ax == 0x10) _ _ (colours_fit (colour_service_of r))
     (choose ((high r.ax == 0x12) && (low r.bx == 0x10)) _ _ tt
     (choose ((high r.ax == 0x13) && nat_lt (low r.ax) 4) _ _ tt
-    (choose ((high r.ax == 0x1A) && (low r.ax == 0x00)) (Some ReadDisplay) None tt tt))))))))))))))))
+    (choose ((high r.ax == 0x1A) && (low r.ax == 0x00)) (Some ReadDisplay) None tt tt)))))))))))))))
+
+choose_call : (b : Bool) (x y : Option Call) → CallFits x → CallFits y → CallFits (if b then x else y)
+choose_call true x y f g = f
+choose_call false x y f g = g
+
+colours_fit : (r : Regs) → CallFits (colour_call_of r)
+colours_fit r =
+    let al = low r.ax in
+    choose_call (al == 0x00) _ _ tt
+    (choose_call (al == 0x01) _ _ tt
+    (choose_call (al == 0x02) _ _ tt
+    (choose_call (al == 0x03) _ _ tt
+    (choose_call (al == 0x07) _ _ tt
+    (choose_call (al == 0x08) _ _ tt
+    (choose_call (al == 0x09) _ _ tt
+    (choose_call (al == 0x10) _ _ tt
+    (choose_call (al == 0x12) _ _ tt
+    (choose_call (al == 0x15) _ _ tt
+    (choose_call (al == 0x17) _ _ tt
+    (choose_call (al == 0x18) _ _ tt
+    (choose_call (al == 0x19) (colours ReadMask) None tt tt))))))))))))
 
 call_fits : (r : Regs) → r.dx < 65536 → CallFits (call_of r)
-call_fits r l = by_test (high r.ax == 0x00) _ (table_or_fits _ _ (glyphs_or_fits (glyph_load_of r) _ (in_mode_fits (service_of r) (service_fits r l))))
+call_fits r l =
+    choose_call (high r.ax == 0x00) _ _ tt
+    (choose_call (high r.ax == 0x10) _ _ (colours_fit r)
+    (glyphs_or_fits (glyph_load_of r) _ (in_mode_fits (service_of r) (service_fits r l))))
   where
     in_mode_fits : (x : Option Service) → IfSome x FitsWords → CallFits (in_mode x)
     in_mode_fits None f = tt
@@ -378,14 +397,6 @@ call_fits r l = by_test (high r.ax == 0x00) _ (table_or_fits _ _ (glyphs_or_fits
     glyphs_or_fits : (g : Option GlyphLoad) (x : Option Call) → CallFits x → CallFits (glyphs_or g x)
     glyphs_or_fits None x f = f
     glyphs_or_fits (Some load) x f = tt
-
-    table_or_fits : (t : Option TableService) (x : Option Call) → CallFits x → CallFits (table_or t x)
-    table_or_fits None x f = f
-    table_or_fits (Some asked_for) x f = tt
-
-    by_test : (b : Bool) (x : Option Call) → CallFits x → CallFits (if b then Some (SetMode (low r.ax % 128) (nat_le 128 (low r.ax))) else x)
-    by_test true x f = tt
-    by_test false x f = f
 
 -- so a call keeps BIOS data valid, and their places words
 pub data_stay : (fonts : FontSet) (d : BiosData) (r : Regs) (block : List ℕ) (c : CardState) → r.dx < 65536 → AreData d → AreData (run card_meaning (service fonts d r block) c).1.1

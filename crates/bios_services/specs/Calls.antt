@@ -4,27 +4,21 @@ use Rattle.std.specs.Prelude.{true, false, ◌%◌, ◌==◌, ◌&&◌, nat_lt, 
 use Rattle.bios_services.specs.declared.regs.Regs.{Regs}
 use Rattle.bios_services.specs.declared.scroll.Scroll.{Scroll}
 use Rattle.bios_services.specs.declared.colours.ColourService.{ColourService}
-use Rattle.bios_services.specs.declared.tables.TableService.{TableService}
+use Rattle.bios_services.specs.declared.colours.ColourService.TheVariants.{SetRegister, SetOverscan, SetPalette, SetBlinking, ReadRegister, ReadOverscan, SetEntry, SetEntries, ReadEntry, SetMask, ReadMask}
+use Rattle.bios_services.specs.declared.tables.TableService.TheVariants.{ReadPalette, ReadEntries}
 use Rattle.bios_services.specs.declared.glyph_load.GlyphLoad.{GlyphLoad}
 use Rattle.bios_services.specs.declared.call.Call.{Call}
 use Rattle.bios_services.specs.declared.call.Call.TheVariants.{SetMode, ReadTable, LoadGlyphs, InMode}
 use Rattle.bios_services.specs.declared.call.Service.{Service}
 use Rattle.bios_services.specs.declared.call.Service.TheVariants.{SetCursorType, SetCursor, ReadCursor, SelectPage, ScrollUp, ScrollDown, ReadCell, WriteCells, WritePixel, ReadPixel, Teletype, ReadMode, Colours, ReadAdapter, WriteString, ReadDisplay}
 use Rattle.bios_services.specs.Registers.{high, low}
-use Rattle.bios_services.specs.Colours.{colour_service_of}
 use Rattle.bios_services.specs.CellRuns.{cell_run_of}
 use Rattle.bios_services.specs.Strings.{string_of}
-use Rattle.bios_services.specs.Tables.{table_service_of}
 use Rattle.bios_services.specs.GlyphLoads.{glyph_load_of}
 
 -- the window of functions 06 and 07: AL rows, BH the attribute or colour of new rows, CX the upper left corner, DX the lower right one
 abbrev pub scroll_of : Regs → Scroll
 scroll_of r = record { lines = low r.ax; fill = high r.bx; top = high r.cx; left = low r.cx; bottom = high r.dx; right = low r.dx }
-
--- a subfunction of function 10, if there is one
-abbrev pub as_colours : Option ColourService → Option Service
-as_colours None = None
-as_colours (Some service) = Some (Colours service)
 
 -- the service that needs a mode, by its function
 abbrev pub service_of : Regs → Option Service
@@ -46,7 +40,6 @@ service_of r =
     else if function == 0x0D then Some (ReadPixel bh r.cx r.dx)
     else if function == 0x0E then Some (Teletype al bl)
     else if function == 0x0F then Some ReadMode
-    else if function == 0x10 then as_colours (colour_service_of r)
     else if (function == 0x12) && (bl == 0x10) then Some ReadAdapter
     else if (function == 0x13) && nat_lt al 4 then Some (WriteString (string_of r))
     else if (function == 0x1A) && (al == 0x00) then Some ReadDisplay
@@ -56,10 +49,29 @@ abbrev pub in_mode : Option Service → Option Call
 in_mode None = None
 in_mode (Some service) = Some (InMode service)
 
--- a table, or else a service that answers in registers
-abbrev pub table_or : Option TableService → Option Call → Option Call
-table_or None call = call
-table_or (Some service) call = Some (ReadTable service)
+-- function 10: its subfunction, by AL; 09 and 17 answer a table
+abbrev pub colours : ColourService → Option Call
+colours service = Some (InMode (Colours service))
+
+abbrev pub colour_call_of : Regs → Option Call
+colour_call_of r =
+    let al = low r.ax in
+    let bh = high r.bx in
+    let bl = low r.bx in
+    if al == 0x00 then colours (SetRegister bl bh)
+    else if al == 0x01 then colours (SetOverscan bh)
+    else if al == 0x02 then colours SetPalette
+    else if al == 0x03 then colours (SetBlinking bl)
+    else if al == 0x07 then colours (ReadRegister bl)
+    else if al == 0x08 then colours ReadOverscan
+    else if al == 0x09 then Some (ReadTable ReadPalette)
+    else if al == 0x10 then colours (SetEntry r.bx (high r.dx) (high r.cx) (low r.cx))
+    else if al == 0x12 then colours (SetEntries r.bx r.cx)
+    else if al == 0x15 then colours (ReadEntry r.bx)
+    else if al == 0x17 then Some (ReadTable (ReadEntries r.bx r.cx))
+    else if al == 0x18 then colours (SetMask bl)
+    else if al == 0x19 then colours ReadMask
+    else None
 
 -- glyphs, or else another service
 abbrev pub glyphs_or : Option GlyphLoad → Option Call → Option Call
@@ -70,4 +82,5 @@ glyphs_or (Some load) call = Some (LoadGlyphs load)
 abbrev pub call_of : Regs → Option Call
 call_of r =
     if high r.ax == 0x00 then Some (SetMode (low r.ax % 128) (nat_le 128 (low r.ax)))
-    else table_or (table_service_of r) (glyphs_or (glyph_load_of r) (in_mode (service_of r)))
+    else if high r.ax == 0x10 then colour_call_of r
+    else glyphs_or (glyph_load_of r) (in_mode (service_of r))

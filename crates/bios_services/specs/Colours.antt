@@ -1,37 +1,18 @@
--- Function 10: which subfunction is asked for, why it is refused, and what it does and answers in registers.
+-- Function 10: why a subfunction is refused, and what it does and answers in registers.
 -- From the IBM PS/2 and PC BIOS Interface Technical Reference, "Interrupt 10H - Video", (AH) = 10H; the refusals are this adapter's
 -- choice.
-use Rattle.std.specs.Prelude.{ℕ, Bool, ◌+◌, ◌*◌, ◌==◌, ◌&&◌, nat_lt, nat_le, if◌then◌else◌, Option, Some, None, List}
+use Rattle.std.specs.Prelude.{ℕ, Bool, ◌+◌, ◌*◌, ◌&&◌, nat_lt, nat_le, Option, None, List}
 use Rattle.vga_bits.specs.declared.refusal.Refusal.{Refusal}
 use Rattle.vga_bits.specs.declared.refusal.Refusal.TheVariants.{BadRegister}
 use Rattle.bios_services.specs.declared.regs.Regs.{Regs}
 use Rattle.bios_services.specs.declared.colours.ColourService.{ColourService}
 use Rattle.bios_services.specs.declared.colours.ColourService.TheVariants.{SetRegister, SetOverscan, SetPalette, SetBlinking, ReadRegister, ReadOverscan, SetEntry, SetEntries, ReadEntry, SetMask, ReadMask}
 use Rattle.bios_services.specs.Plan.{Plan, Done, ◌>>=◌, ◌>>◌, out, inp}
-use Rattle.bios_services.specs.Registers.{high, low, with_high, with_low}
+use Rattle.bios_services.specs.Registers.{with_high, with_low}
 use Rattle.bios_services.specs.Palette.{set_register_plan, set_palette_plan, set_blinking_plan, read_register_plan}
 use Rattle.bios_services.specs.Dac.{set_entry_plan, set_entries_plan}
 use Rattle.bios_services.specs.Reasons.{◌or◌, refuse_unless, wrong_block}
 use Rattle.bios_services.specs.VideoRegisters.{dac_mask, dac_read_index, dac_data}
-
--- the subfunction of AL, with its arguments
-abbrev pub colour_service_of : Regs → Option ColourService
-colour_service_of r =
-    let al = low r.ax in
-    let bl = low r.bx in
-    let bh = high r.bx in
-    if al == 0x00 then Some (SetRegister bl bh)
-    else if al == 0x01 then Some (SetOverscan bh)
-    else if al == 0x02 then Some SetPalette
-    else if al == 0x03 then Some (SetBlinking bl)
-    else if al == 0x07 then Some (ReadRegister bl)
-    else if al == 0x08 then Some ReadOverscan
-    else if al == 0x10 then Some (SetEntry r.bx (high r.dx) (high r.cx) (low r.cx))
-    else if al == 0x12 then Some (SetEntries r.bx r.cx)
-    else if al == 0x15 then Some (ReadEntry r.bx)
-    else if al == 0x18 then Some (SetMask bl)
-    else if al == 0x19 then Some ReadMask
-    else None
 
 -- there are 16 palette registers
 abbrev pub no_register : ℕ → Option Refusal

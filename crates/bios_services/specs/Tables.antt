@@ -1,9 +1,8 @@
 -- Tables that function 10 answers in the caller's memory: subfunctions 09 and 17.
 -- From the IBM PS/2 and PC BIOS Interface Technical Reference, "Interrupt 10H - Video", (AH) = 10H; the order of the cycles and the
 -- refusals are this adapter's choice.
-use Rattle.std.specs.Prelude.{ℕ, Bool, false, ◌*◌, ◌==◌, ◌&&◌, nat_lt, if◌then◌else◌, Option, Some, None, List, []}
+use Rattle.std.specs.Prelude.{ℕ, Bool, false, ◌*◌, ◌==◌, ◌&&◌, nat_lt, if◌then◌else◌, Option, None, List, []}
 use Rattle.vga_bits.specs.declared.refusal.Refusal.{Refusal}
-use Rattle.bios_services.specs.declared.regs.Regs.{Regs}
 use Rattle.bios_services.specs.declared.reply.Table.{Table}
 use Rattle.bios_services.specs.declared.reply.Table.TheVariants.{Empty, Palette, Dac}
 use Rattle.bios_services.specs.declared.tables.TableService.{TableService}
@@ -14,14 +13,7 @@ use Rattle.bios_services.specs.Palette.{register_plan}
 use Rattle.bios_services.specs.Colours.{has_entries, no_entries}
 use Rattle.bios_services.specs.VideoRegisters.{dac_read_index, dac_data}
 
--- the subfunction that answers a table, with its arguments
-abbrev pub table_service_of : Regs → Option TableService
-table_service_of r =
-    if r.ax == 0x1009 then Some ReadPalette
-    else if r.ax == 0x1017 then Some (ReadEntries r.bx r.cx)
-    else None
-
--- why it is refused
+-- why a subfunction is refused that answers a table
 abbrev pub table_refusal : TableService → Option Refusal
 table_refusal ReadPalette = None
 table_refusal (ReadEntries first count) = no_entries first count

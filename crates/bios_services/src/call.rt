@@ -1,15 +1,14 @@
 //! Which service the registers ask for.
 ghost use Rattle.std.specs.Prelude.{◌≡◌};
-ghost use Rattle.bios_services.specs.Colours.{colour_service_of as colour_service_of_regs};
-ghost use Rattle.bios_services.specs.Calls.{scroll_of as scroll_of_regs, as_colours, service_of as service_of_regs, call_of};
+ghost use Rattle.bios_services.specs.Calls.{scroll_of as scroll_of_regs, colour_call_of as colour_call_of_regs, service_of as service_of_regs, call_of};
 
 use crate::cell_run::CellRun;
-use crate::colours::{ColourService, colour_service_of};
+use crate::colours::ColourService;
 use crate::glyph_load::GlyphLoad;
 use crate::regs::{Regs, high, low};
 use crate::scroll::Scroll;
 use crate::strings::StringCall;
-use crate::tables::{TableService, table_service_of};
+use crate::tables::TableService;
 
 /// What a call asks for.
 #[derive(Clone, Copy)]
@@ -103,13 +102,35 @@ fn scroll_of(regs: Regs) -> Scroll
 }
 
 /// The subfunction of function 10 that the registers ask for, if there is one.
-fn colours_of(regs: Regs) -> Option<Service>
-    ensures { result ≡ as_colours (colour_service_of_regs regs) }
+fn colour_call_of(regs: Regs) -> Option<Call>
+    ensures { result ≡ colour_call_of_regs regs }
 {
-    match colour_service_of(regs) {
-        Some(service) => Some(Service::Colours(service)),
-        None => None,
-    }
+    let register = low(regs.bx);
+    let value = high(regs.bx);
+    let first = regs.bx;
+    let count = regs.cx;
+    let service = match low(regs.ax) {
+        0x00 => ColourService::SetRegister { register, value },
+        0x01 => ColourService::SetOverscan { value },
+        0x02 => ColourService::SetPalette,
+        0x03 => ColourService::SetBlinking { blinking: register },
+        0x07 => ColourService::ReadRegister { register },
+        0x08 => ColourService::ReadOverscan,
+        0x09 => return Some(Call::ReadTable(TableService::ReadPalette)),
+        0x10 => ColourService::SetEntry {
+            entry: regs.bx,
+            red: high(regs.dx),
+            green: high(regs.cx),
+            blue: low(regs.cx),
+        },
+        0x12 => ColourService::SetEntries { first, count },
+        0x15 => ColourService::ReadEntry { entry: regs.bx },
+        0x17 => return Some(Call::ReadTable(TableService::ReadEntries { first, count })),
+        0x18 => ColourService::SetMask { mask: low(regs.bx) },
+        0x19 => ColourService::ReadMask,
+        _ => return None,
+    };
+    Some(Call::InMode(Service::Colours(service)))
 }
 
 /// Which service that needs a mode the registers ask for, if there is one.
@@ -146,7 +167,6 @@ fn service_of(regs: Regs) -> Option<Service>
             colour: low(regs.bx),
         }),
         0x0F => Some(Service::ReadMode),
-        0x10 => colours_of(regs),
         0x12 if low(regs.bx) == 0x10 => Some(Service::ReadAdapter),
         0x13 if al < 4 => Some(Service::WriteString(StringCall::of(regs))),
         0x1A if al == 0x00 => Some(Service::ReadDisplay),
@@ -165,8 +185,8 @@ pub(crate) fn decode(regs: Regs) -> Option<Call>
             keeps: al >= 128,
         });
     }
-    if let Some(service) = table_service_of(regs) {
-        return Some(Call::ReadTable(service));
+    if high(regs.ax) == 0x10 {
+        return colour_call_of(regs);
     }
     if let Some(load) = GlyphLoad::of(regs) {
         return Some(Call::LoadGlyphs(load));

@@ -3,13 +3,13 @@ ghost use Rattle.std.specs.Prelude.{◌≡◌, ◌<◌, None, length};
 ghost use Rattle.bios_services.specs.Bounds.{ports_end};
 ghost use Rattle.bios_services.specs.Plan.{run};
 ghost use Rattle.bios_services.specs.Reasons.{reason_of};
-ghost use Rattle.bios_services.specs.Colours.{colour_service_of as colour_service_of_regs, no_register as no_register_of, no_entry as no_entry_of, no_entries as no_entries_of, colour_refusal as colour_refusal_of, read_entry_plan, read_register_in_bh, read_mask_in_bl, colours_plan};
+ghost use Rattle.bios_services.specs.Colours.{no_register as no_register_of, no_entry as no_entry_of, no_entries as no_entries_of, colour_refusal as colour_refusal_of, read_entry_plan, read_register_in_bh, read_mask_in_bl, colours_plan};
 
 use crate::cycles::{inp, out};
 use crate::dac::{set_entries, set_entry};
 use crate::palette::{read_register, set_blinking, set_palette, set_register};
 use crate::reasons::{refuse_unless, wrong_block};
-use crate::regs::{Regs, high, low, with_high, with_low};
+use crate::regs::{Regs, with_high, with_low};
 use crate::video_registers::{DAC_DATA, DAC_MASK, DAC_READ_INDEX, OVERSCAN};
 use vga_bits::Refusal;
 use vga_card::Bus;
@@ -60,45 +60,6 @@ pub enum ColourService {
     },
     /// 19: answers the DAC's mask.
     ReadMask,
-}
-
-/// Which subfunction the registers ask for, if there is one that answers in registers.
-pub(crate) fn colour_service_of(regs: Regs) -> Option<ColourService>
-    ensures { result ≡ colour_service_of_regs regs }
-{
-    let bl = low(regs.bx);
-    let bh = high(regs.bx);
-    match low(regs.ax) {
-        0x00 => {
-            Some(ColourService::SetRegister {
-                register: bl,
-                value: bh,
-            })
-        }
-        0x01 => Some(ColourService::SetOverscan { value: bh }),
-        0x02 => Some(ColourService::SetPalette),
-        0x03 => Some(ColourService::SetBlinking { blinking: bl }),
-        0x07 => Some(ColourService::ReadRegister { register: bl }),
-        0x08 => Some(ColourService::ReadOverscan),
-        0x10 => {
-            Some(ColourService::SetEntry {
-                entry: regs.bx,
-                red: high(regs.dx),
-                green: high(regs.cx),
-                blue: low(regs.cx),
-            })
-        }
-        0x12 => {
-            Some(ColourService::SetEntries {
-                first: regs.bx,
-                count: regs.cx,
-            })
-        }
-        0x15 => Some(ColourService::ReadEntry { entry: regs.bx }),
-        0x18 => Some(ColourService::SetMask { mask: bl }),
-        0x19 => Some(ColourService::ReadMask),
-        _ => None,
-    }
 }
 
 /// Refuses what is no palette register.

@@ -3,12 +3,11 @@ ghost use Rattle.std.specs.Prelude.{◌≡◌, ◌<◌, IfOk, OnErr, None, lengt
 ghost use Rattle.bios_services.specs.Bounds.{ports_end};
 ghost use Rattle.bios_services.specs.Plan.{run};
 ghost use Rattle.bios_services.specs.Reasons.{reason_of};
-ghost use Rattle.bios_services.specs.Tables.{table_service_of as table_service_of_regs, table_refusal as table_refusal_of, palette_register as palette_register_of, registers_plan, read_palette_plan, read_components_plan, read_entries_plan, table_plan, table_takes_memory};
+ghost use Rattle.bios_services.specs.Tables.{table_refusal as table_refusal_of, palette_register as palette_register_of, registers_plan, read_palette_plan, read_components_plan, read_entries_plan, table_plan, table_takes_memory};
 
 use crate::colours::no_entries;
 use crate::cycles::{expect_index, inp, out};
 use crate::palette::register;
-use crate::regs::Regs;
 use crate::reply::Table;
 use crate::video_registers::{DAC_DATA, DAC_READ_INDEX, OVERSCAN};
 use std::alloc::{AllocError, Global};
@@ -27,23 +26,7 @@ pub enum TableService {
     ReadEntries { first: u16, count: u16 },
 }
 
-/// Which subfunction that answers a table the registers ask for, if they do.
-pub(crate) fn table_service_of(regs: Regs) -> Option<TableService>
-    ensures { result ≡ table_service_of_regs regs }
-{
-    match regs.ax {
-        0x1009 => Some(TableService::ReadPalette),
-        0x1017 => {
-            Some(TableService::ReadEntries {
-                first: regs.bx,
-                count: regs.cx,
-            })
-        }
-        _ => None,
-    }
-}
-
-/// Refuses such a subfunction, where there is a reason.
+/// Refuses a subfunction that answers a table, where there is a reason.
 pub(crate) fn table_refusal(service: TableService) -> Result<(), Refusal>
     ensures { reason_of result ≡ table_refusal_of service }
 {

@@ -1,6 +1,6 @@
 -- Calls: the service that the registers ask for, whole.
-use Rattle.std.proofs.Common.{◌≡◌, ℕ, ◌%◌, ◌<◌, refl, sym, ap, ◌∙◌, subst, arith, List, length, Option, Some, None, Bool, true, false, Err}
-use Rattle.std.specs.Prelude.{◌==◌, ◌&&◌, nat_lt, nat_le, if◌then◌else◌, IfSome}
+use Rattle.std.proofs.Common.{◌≡◌, ℕ, ◌<◌, refl, sym, ap, ◌∙◌, subst, arith, List, length, Option, Some, None, Bool, true, false, Err}
+use Rattle.std.specs.Prelude.{◌==◌, ◌&&◌, nat_lt, if◌then◌else◌, IfSome}
 use Rattle.vga_bits.specs.declared.refusal.Refusal.{Refusal}
 use Rattle.vga_bits.specs.declared.refusal.Refusal.TheVariants.{NoMode, BadFunction, BadMode}
 use Rattle.vga_card.specs.Bounds.{IsCard}
@@ -15,24 +15,20 @@ use Rattle.bios_services.specs.declared.call.Call.TheVariants.{SetMode, InMode}
 use Rattle.bios_services.specs.declared.call.Service.{Service}
 use Rattle.bios_services.specs.declared.call.Service.TheVariants.{ReadDisplay}
 use Rattle.bios_services.specs.Plan.{Plan, run, Done, ◌>>=◌}
-use Rattle.bios_services.specs.declared.colours.ColourService.{ColourService}
-use Rattle.bios_services.specs.declared.colours.ColourService.TheVariants.{ReadMask}
+use Rattle.bios_services.specs.declared.colours.ColourService.TheVariants.{SetRegister, SetOverscan, SetPalette, SetBlinking, ReadRegister, ReadOverscan, SetEntry, SetEntries, ReadEntry, SetMask, ReadMask}
 use Rattle.bios_services.specs.Registers.{high, low}
-use Rattle.bios_services.specs.Colours.{colour_service_of}
 use Rattle.bios_services.specs.CellRuns.{cell_run_of}
 use Rattle.bios_services.specs.Strings.{string_of}
-use Rattle.bios_services.specs.declared.tables.TableService.{TableService}
-use Rattle.bios_services.specs.Tables.{table_service_of}
 use Rattle.bios_services.specs.declared.glyph_load.GlyphLoad.{GlyphLoad}
 use Rattle.bios_services.specs.GlyphLoads.{glyph_load_of}
-use Rattle.bios_services.specs.Calls.{scroll_of, as_colours, service_of, in_mode, call_of, table_or, glyphs_or}
+use Rattle.bios_services.specs.Calls.{scroll_of, colours, colour_call_of, service_of, in_mode, call_of, glyphs_or}
 use Rattle.bios_services.specs.Refusals.{refusal_in_mode}
 use Rattle.bios_services.specs.Service.{plan_of, set_mode_plan, Outcome, Answered, answer_of, refuse, unless, in_mode_plan, call_plan}
 use Rattle.bios_modes.specs.Bounds.{IsBda}
 use Rattle.bios_screen.specs.Screen.{Screen}
 use Rattle.bios_screen.specs.Shown.{shown}
 use Rattle.bios_screen.specs.Step.{refusal_on, next, answer_on}
-use Rattle.bios_screen.specs.Served.{FitsBytes, IsServed, Serves, after_call}
+use Rattle.bios_screen.specs.Served.{IsServed, Serves, after_call}
 use Rattle.bios_modes.specs.Bounds.{AreBytes}
 use Rattle.bios_screen.specs.Called.{AreWords, reply_unless, screen_unless, IsCalled}
 use Rattle.bios_screen.proofs.Base.Plans.{run_bind}
@@ -52,33 +48,6 @@ high_small n l = omega arith
 low_small : (n : ℕ) → low n < 256
 low_small n = omega arith
 
--- the subfunctions of function 10, whose overscan is a byte
-choose_colours : (b : Bool) (x y : Option ColourService) → IfSome x FitsBytes → IfSome y FitsBytes → IfSome (if b then x else y) FitsBytes
-choose_colours true x y f g = f
-choose_colours false x y f g = g
-
-colours_fit : (r : Regs) → AreWords r → IfSome (colour_service_of r) FitsBytes
-colours_fit r w =
-    let al = low r.ax in
-    choose_colours (al == 0x00) _ _ tt
-    (choose_colours (al == 0x01) _ _ (high_small r.bx w.bx)
-    (choose_colours (al == 0x02) _ _ tt
-    (choose_colours (al == 0x03) _ _ tt
-    (choose_colours (al == 0x07) _ _ tt
-    (choose_colours (al == 0x08) _ _ tt
-    (choose_colours (al == 0x10) _ _ tt
-    (choose_colours (al == 0x12) _ _ tt
-    (choose_colours (al == 0x15) _ _ tt
-    (choose_colours (al == 0x18) _ _ tt
-    (choose_colours (al == 0x19) (Some ReadMask) None tt tt))))))))))
-
-colours_are_served : (r : Regs) → AreWords r → IfSome (as_colours (colour_service_of r)) Serves
-colours_are_served r w = by_service (colour_service_of r) (colours_fit r w)
-  where
-    by_service : (x : Option ColourService) → IfSome x FitsBytes → IfSome (as_colours x) Serves
-    by_service None f = tt
-    by_service (Some service) f = served.set_colours service f
-
 asked_is_served : KeepsBounds → (r : Regs) → AreWords r → IfSome (service_of r) Serves
 asked_is_served law r w =
     choose (high r.ax == 0x01) _ _ (served.set_cursor_type r.cx)
@@ -94,10 +63,50 @@ asked_is_served law r w =
     (choose (high r.ax == 0x0D) _ _ (served.read_pixel (high r.bx) r.cx r.dx)
     (choose (high r.ax == 0x0E) _ _ (served.teletype law (low r.ax) (low r.bx) (low_small r.ax) (low_small r.bx))
     (choose (high r.ax == 0x0F) _ _ (served.read_mode)
-    (choose (high r.ax == 0x10) _ _ (colours_are_served r w)
     (choose ((high r.ax == 0x12) && (low r.bx == 0x10)) _ _ (served.read_adapter)
     (choose ((high r.ax == 0x13) && nat_lt (low r.ax) 4) _ _ (served.write_string law (string_of r) (low_small r.bx))
-    (choose ((high r.ax == 0x1A) && (low r.ax == 0x00)) (Some ReadDisplay) None (served.read_display) tt))))))))))))))))
+    (choose ((high r.ax == 0x1A) && (low r.ax == 0x00)) (Some ReadDisplay) None (served.read_display) tt)))))))))))))))
+
+-- what is said of a call: the service that it asks for, if it does, is served
+abbrev IsServedCall : Option Call → Type 0
+IsServedCall (Some (InMode service)) = Serves service
+IsServedCall call = Unit {0}
+
+choose_call : (b : Bool) (x y : Option Call) → IsServedCall x → IsServedCall y → IsServedCall (if b then x else y)
+choose_call true x y f g = f
+choose_call false x y f g = g
+
+-- the subfunctions of function 10, whose overscan is a byte
+colours_are_served : (r : Regs) → AreWords r → IsServedCall (colour_call_of r)
+colours_are_served r w =
+    let al = low r.ax in
+    choose_call (al == 0x00) _ _ (served.set_colours (SetRegister (low r.bx) (high r.bx)) tt)
+    (choose_call (al == 0x01) _ _ (served.set_colours (SetOverscan (high r.bx)) (high_small r.bx w.bx))
+    (choose_call (al == 0x02) _ _ (served.set_colours SetPalette tt)
+    (choose_call (al == 0x03) _ _ (served.set_colours (SetBlinking (low r.bx)) tt)
+    (choose_call (al == 0x07) _ _ (served.set_colours (ReadRegister (low r.bx)) tt)
+    (choose_call (al == 0x08) _ _ (served.set_colours ReadOverscan tt)
+    (choose_call (al == 0x09) _ _ tt
+    (choose_call (al == 0x10) _ _ (served.set_colours (SetEntry r.bx (high r.dx) (high r.cx) (low r.cx)) tt)
+    (choose_call (al == 0x12) _ _ (served.set_colours (SetEntries r.bx r.cx) tt)
+    (choose_call (al == 0x15) _ _ (served.set_colours (ReadEntry r.bx) tt)
+    (choose_call (al == 0x17) _ _ tt
+    (choose_call (al == 0x18) _ _ (served.set_colours (SetMask (low r.bx)) tt)
+    (choose_call (al == 0x19) (colours ReadMask) None (served.set_colours ReadMask tt) tt))))))))))))
+
+call_is_served : KeepsBounds → (r : Regs) → AreWords r → IsServedCall (call_of r)
+call_is_served law r w =
+    choose_call (high r.ax == 0x00) _ _ tt
+    (choose_call (high r.ax == 0x10) _ _ (colours_are_served r w)
+    (or_glyphs (glyph_load_of r) _ (by_service (service_of r) (asked_is_served law r w))))
+  where
+    by_service : (x : Option Service) → IfSome x Serves → IsServedCall (in_mode x)
+    by_service None f = tt
+    by_service (Some service) f = f
+
+    or_glyphs : (g : Option GlyphLoad) (x : Option Call) → IsServedCall x → IsServedCall (glyphs_or g x)
+    or_glyphs None x f = f
+    or_glyphs (Some load) x f = tt
 
 -- ---- the call around a service
 
@@ -143,23 +152,12 @@ call_done service fonts r block c d s e old i =
       beam = ap (λ y. y.0.crtc.beam) runs ∙ plan_beam plan c;
     }
 
--- the service of a call
-service_is : (r : Regs) (service : Service) → call_of r ≡ Some (InMode service) → service_of r ≡ Some service
-service_is r service e = by_test (high r.ax == 0x00) (table_service_of r) (glyph_load_of r) (service_of r) e
-  where
-    by_test : (b : Bool) (t : Option TableService) (g : Option GlyphLoad) (x : Option Service) → (let y : Option Call = (if b then Some (SetMode (low r.ax % 128) (nat_le 128 (low r.ax))) else table_or t (glyphs_or g (in_mode x))) in y) ≡ Some (InMode service) → x ≡ Some service
-    by_test true t g x h = absurd (cc)
-    by_test false (Some t) g x h = absurd (cc)
-    by_test false None (Some load) x h = absurd (cc)
-    by_test false None None None h = absurd (cc)
-    by_test false None None (Some t) h = cc
-
-served_if : (x : Option Service) (service : Service) → x ≡ Some service → IfSome x Serves → Serves service
-served_if x service e f = subst (λ y. IfSome y Serves) e f
+served_if : (x : Option Call) (service : Service) → x ≡ Some (InMode service) → IsServedCall x → Serves service
+served_if x service e f = subst IsServedCall e f
 
 pub calls_lead : KeepsBounds → (service : Service) (fonts : FontSet) (r : Regs) (block : List ℕ) (c : CardState) (d : BiosData) (s : Screen) → IsCard c → IsBda d → AreWords r → AreBytes block → shown c d ≡ Some s → call_of r ≡ Some (InMode service) → IsCalled service fonts r block c d s
 calls_lead law service fonts r block c d s z bda w bytes old e =
-    let serves = served_if (service_of r) service (service_is r service e) (asked_is_served law r w) in
+    let serves = served_if (call_of r) service e (call_is_served law r w) in
     call_done service fonts r block c d s e old (serves fonts r block c d s bytes z bda old)
 
 -- a call for no service is refused
