@@ -168,11 +168,6 @@ call_plan (Some (InMode service)) fonts d r block = in_mode_plan service fonts d
 abbrev pub service : FontSet → BiosData → Regs → List ℕ → Plan Answered
 service fonts d r block = call_plan (call_of r) fonts d r block
 
--- a refusal, as one of the reasons why a service answers nothing
-abbrev pub outcome_of : Result Reply Refusal → Result Reply ServiceError
-outcome_of (Ok reply) = Ok reply
-outcome_of (Err why) = Err (Refused why)
-
 -- whether a call takes memory, which it does before its first cycle: one for a table that takes some, in any mode
 abbrev pub takes_memory : Option Call → BiosData → Bool
 takes_memory (Some (ReadTable service)) d = nat_lt 0 d.mode && table_takes_memory service

@@ -11,7 +11,7 @@ ghost use Rattle.bios_services.specs.GlyphLoads.{load_refusal};
 ghost use Rattle.bios_services.specs.declared.reply.Table.TheVariants.{Empty};
 ghost use Rattle.bios_services.specs.declared.reply.ServiceError.TheVariants.{OutOfMemory};
 ghost use Rattle.bios_services.specs.declared.call.Call.TheVariants.{ReadTable};
-ghost use Rattle.bios_services.specs.Service.{set_mode_plan, load_at, load_in_mode_plan, in_mode_plan, read_cursor_of, read_mode_of, read_adapter_of, read_display_of, read_cell_service, read_pixel_service, plan_of, table_in_mode_plan, service, outcome_of as outcome_of_result, takes_memory, Serves};
+ghost use Rattle.bios_services.specs.Service.{set_mode_plan, load_at, load_in_mode_plan, in_mode_plan, read_cursor_of, read_mode_of, read_adapter_of, read_display_of, read_cell_service, read_pixel_service, plan_of, table_in_mode_plan, service, takes_memory, Serves};
 
 use crate::call::{Call, Service, decode};
 use crate::cells::{cell_address, read_cell};
@@ -288,16 +288,6 @@ fn table_in_mode<B: Bus>(
     }
 }
 
-/// An answer, or a refusal as one of the reasons why there is none.
-fn outcome_of(outcome: Result<Reply, Refusal>) -> Result<Reply, ServiceError>
-    ensures { result ≡ outcome_of_result outcome }
-{
-    match outcome {
-        Ok(reply) => Ok(reply),
-        Err(refusal) => Err(ServiceError::Refused(refusal)),
-    }
-}
-
 /// Does the service that the registers ask for, as cycles over a bus.
 ///
 /// Registers that a service does not answer stay as they are handed in. A service is refused by name, and
@@ -322,15 +312,12 @@ pub fn int10<B: Bus>(
     ensures memory { result ≡ Err OutOfMemory → takes_memory (call_of regs) bda.old ≡ true }
     ensures valid { IsValid bda.new }
 {
-    match decode(regs) {
-        None => Err(ServiceError::Refused(unknown_refusal(bda))),
-        Some(Call::SetMode { mode, keeps }) => outcome_of(set_mode(
-            bus, bda, fonts, mode, keeps, regs,
-        )),
-        Some(Call::ReadTable(service)) => table_in_mode(alloc, bus, bda, service, regs),
-        Some(Call::LoadGlyphs(load)) => outcome_of(load_in_mode(
-            bus, bda, fonts, load, regs, block,
-        )),
-        Some(Call::InMode(service)) => outcome_of(in_mode(bus, bda, fonts, service, regs, block)),
-    }
+    let outcome = match decode(regs) {
+        None => Err(unknown_refusal(bda)),
+        Some(Call::SetMode { mode, keeps }) => set_mode(bus, bda, fonts, mode, keeps, regs),
+        Some(Call::ReadTable(service)) => return table_in_mode(alloc, bus, bda, service, regs),
+        Some(Call::LoadGlyphs(load)) => load_in_mode(bus, bda, fonts, load, regs, block),
+        Some(Call::InMode(service)) => in_mode(bus, bda, fonts, service, regs, block),
+    };
+    outcome.map_err(ServiceError::Refused)
 }
