@@ -4,10 +4,7 @@ use Rattle.std.specs.Prelude.{slice_set}
 use Rattle.std.proofs.lemmas.Bool.{cases_eq}
 use Rattle.std.proofs.lemmas.List.{length-set, get_or-set_same, get_or-set_other, append-nil, length-replicate, replicate-append-replicate, take-append-le, take-take, drop-append-le, take_all, length-drop}
 use Rattle.vga_bits.specs.Bytes.{zeros}
-use Rattle.vga_host.specs.Host.{HostState}
-use Rattle.vga_crtc.specs.Crtc.{CrtcState}
-use Rattle.vga_attr.specs.Attr.{AttrState}
-use Rattle.vga_dac.specs.Dac.{DacState}
+use Rattle.vga_dots.specs.Display.{DisplayState}
 use Rattle.vga_dots.specs.Line.{shown_characters, IsLineDrawn}
 use Rattle.vga_card.specs.Line.{IsLineAppended}
 use Rattle.vga_bits.proofs.ByteLemmas.{zeros_at}
@@ -194,10 +191,10 @@ roomier capacity more buffer ws line l is = record {
 }
 
 -- a line that was drawn behind the bytes that a longer buffer has in use
-pub line_appended : (cw : ℕ) (h : HostState) (c : CrtcState) (a : AttrState) (d : DacState) (old mid new : List ℕ) (used len : ℕ) → used ≤ length old → len ≡ 3 * (shown_characters c.registers * cw)
-    → take (length old) mid ≡ old → used + len ≤ length new → take used new ≡ take used mid → IsLineDrawn cw (shown_characters c.registers) h c a d (drop used mid) (drop used new)
-    → IsLineAppended cw h c a d (take used old) (take (used + len) new)
-line_appended cw h c a d old mid new used len within count longer room front drawn =
+pub line_appended : (cw : ℕ) (d : DisplayState) (old mid new : List ℕ) (used len : ℕ) → used ≤ length old → len ≡ 3 * (shown_characters d.crtc.registers * cw)
+    → take (length old) mid ≡ old → used + len ≤ length new → take used new ≡ take used mid → IsLineDrawn cw (shown_characters d.crtc.registers) d (drop used mid) (drop used new)
+    → IsLineAppended cw d (take used old) (take (used + len) new)
+line_appended cw d old mid new used len within count longer room front drawn =
     let kept : take used new ≡ take used old = front ∙ sym (take-take used (length old) mid within) ∙ ap (take used) longer in
     record {
       blank = drop used mid;

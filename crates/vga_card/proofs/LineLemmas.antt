@@ -11,7 +11,7 @@ use Rattle.vga_card.specs.Picture.{Dot}
 use Rattle.vga_card.specs.Card.{CardState}
 use Rattle.vga_card.specs.Dots.{character_width, fresh, display_dot, dot, dots}
 use Rattle.vga_card.specs.Frames.{frame_count, collect, display_dot_at}
-use Rattle.vga_card.specs.Line.{line_dots, line_count}
+use Rattle.vga_card.specs.Line.{line_dots, started_display, line_count}
 use Rattle.vga_card.specs.Valid.{fresh_count, IsDrawnTo}
 use Rattle.vga_card.proofs.DotLemmas.{dots_split, dots_more, dots_none}
 use Rattle.vga_card.proofs.FrameLemmas.{FramesEnd, dots_are_places, dots_host, dots_keep, wide}
@@ -45,7 +45,7 @@ few_dots c = (omega arith, omega arith)
 
 module _ (stays : StartStays) (begin : DotsBegin) (places : BeamInLine) (counts : LineCounts) (frames : FramesEnd) where
   -- the display dots of a line, one place after another
-  line_places : (c : CardState) → IsLineStart c.crtc.beam → collect (display_dot_at c) (line_count c) ≡ line_dots c.host (after_start c.crtc) c.attr c.dac
+  line_places : (c : CardState) → IsLineStart c.crtc.beam → collect (display_dot_at c) (line_count c) ≡ line_dots (started_display c)
   unfolding line_dots after_start after_dots
   line_places c start =
       let w = character_width c in
@@ -67,7 +67,7 @@ module _ (stays : StartStays) (begin : DotsBegin) (places : BeamInLine) (counts 
       line.taken ∙ ap (λ m. record c { beam = beam_dots cw r m s }) e ∙ ap (λ (b : Beam). record c { beam = b }) (sym (begin cw r n c.beam more))
 
   -- a whole line, from the parts that it changes
-  pub line_is : (c : CardState) (crtc : CrtcState) (drawn : List Dot) → IsLineStart c.crtc.beam → IsLineTaken (character_width c) (after_start c.crtc) crtc → drawn ≡ fresh c ++ line_dots c.host (after_start c.crtc) c.attr c.dac
+  pub line_is : (c : CardState) (crtc : CrtcState) (drawn : List Dot) → IsLineStart c.crtc.beam → IsLineTaken (character_width c) (after_start c.crtc) crtc → drawn ≡ fresh c ++ line_dots (started_display c)
       → record c { crtc = crtc; drawn = drawn } ≡ dots (line_count c) c
   line_is c crtc drawn start moves draws =
       let n = line_count c in

@@ -14,6 +14,7 @@ use Rattle.vga_crtc.specs.Fields.{horizontal_display_end, vertical_display_end}
 use Rattle.vga_attr.specs.Attr.{AttrState}
 use Rattle.vga_dac.specs.Dac.{DacState}
 use Rattle.vga_dots.specs.Colour.{dot_colour, colour_number}
+use Rattle.vga_dots.specs.Display.{DisplayState}
 use Rattle.vga_dots.specs.Line.{placed, shown_characters, IsLineDrawn}
 use Rattle.vga_crtc.specs.declared.beam.Beam.{Beam}
 use Rattle.vga_crtc.specs.Beam.{characters}
@@ -80,30 +81,30 @@ three_are n bs c l three h =
 
 -- ---- the dots of a displayed line
 
-shown_dot : (h : HostState) (c : CrtcState) (a : AttrState) (d : DacState) (x k : ℕ) → x ≤ horizontal_display_end c.registers → c.beam.line ≤ vertical_display_end c.registers
-    → display_dot h (placed c x k) a d ≡ record { line = c.beam.line; colour = dot_colour h (placed c x k) a d } ∷ []
+shown_dot : (d : DisplayState) (x k : ℕ) → x ≤ horizontal_display_end d.crtc.registers → d.crtc.beam.line ≤ vertical_display_end d.crtc.registers
+    → display_dot d.host (placed d.crtc x k) d.attr d.dac ≡ record { line = d.crtc.beam.line; colour = dot_colour d.host (placed d.crtc x k) d.attr d.dac } ∷ []
 unfolding display_dot
-shown_dot h c a d x k in_line in_frame =
-    let dots : List Dot = record { line = c.beam.line; colour = dot_colour h (placed c x k) a d } ∷ [] in
-    ap (λ v. if v && nat_le c.beam.line (vertical_display_end c.registers) then dots else []) (le-leb x (horizontal_display_end c.registers) in_line)
-    ∙ ap (λ v. if v then dots else []) (le-leb c.beam.line (vertical_display_end c.registers) in_frame)
+shown_dot d x k in_line in_frame =
+    let dots : List Dot = record { line = d.crtc.beam.line; colour = dot_colour d.host (placed d.crtc x k) d.attr d.dac } ∷ [] in
+    ap (λ v. if v && nat_le d.crtc.beam.line (vertical_display_end d.crtc.registers) then dots else []) (le-leb x (horizontal_display_end d.crtc.registers) in_line)
+    ∙ ap (λ v. if v then dots else []) (le-leb d.crtc.beam.line (vertical_display_end d.crtc.registers) in_frame)
 
-hidden_dot : (h : HostState) (c : CrtcState) (a : AttrState) (d : DacState) (x k : ℕ) → horizontal_display_end c.registers < x → display_dot h (placed c x k) a d ≡ []
+hidden_dot : (d : DisplayState) (x k : ℕ) → horizontal_display_end d.crtc.registers < x → display_dot d.host (placed d.crtc x k) d.attr d.dac ≡ []
 unfolding display_dot
-hidden_dot h c a d x k past =
-    let dots : List Dot = record { line = c.beam.line; colour = dot_colour h (placed c x k) a d } ∷ [] in
-    ap (λ v. if v && nat_le c.beam.line (vertical_display_end c.registers) then dots else []) (lt-leb x (horizontal_display_end c.registers) past)
+hidden_dot d x k past =
+    let dots : List Dot = record { line = d.crtc.beam.line; colour = dot_colour d.host (placed d.crtc x k) d.attr d.dac } ∷ [] in
+    ap (λ v. if v && nat_le d.crtc.beam.line (vertical_display_end d.crtc.registers) then dots else []) (lt-leb x (horizontal_display_end d.crtc.registers) past)
 
 and_false : (v : Bool) (dots : List Dot) → (if v && false then dots else []) ≡ []
 and_false true dots = refl
 and_false false dots = refl
 
-hidden_line_dot : (h : HostState) (c : CrtcState) (a : AttrState) (d : DacState) (x k : ℕ) → vertical_display_end c.registers < c.beam.line → display_dot h (placed c x k) a d ≡ []
+hidden_line_dot : (d : DisplayState) (x k : ℕ) → vertical_display_end d.crtc.registers < d.crtc.beam.line → display_dot d.host (placed d.crtc x k) d.attr d.dac ≡ []
 unfolding display_dot
-hidden_line_dot h c a d x k past =
-    let dots : List Dot = record { line = c.beam.line; colour = dot_colour h (placed c x k) a d } ∷ [] in
-    ap (λ v. if nat_le x (horizontal_display_end c.registers) && v then dots else []) (lt-leb c.beam.line (vertical_display_end c.registers) past)
-    ∙ and_false (nat_le x (horizontal_display_end c.registers)) dots
+hidden_line_dot d x k past =
+    let dots : List Dot = record { line = d.crtc.beam.line; colour = dot_colour d.host (placed d.crtc x k) d.attr d.dac } ∷ [] in
+    ap (λ v. if nat_le x (horizontal_display_end d.crtc.registers) && v then dots else []) (lt-leb d.crtc.beam.line (vertical_display_end d.crtc.registers) past)
+    ∙ and_false (nat_le x (horizontal_display_end d.crtc.registers)) dots
 
 three_of : (v : Bool) (x y z : ℕ) → (if v then 0 ∷ 0 ∷ 0 ∷ [] else x ∷ y ∷ z ∷ []) ≡ slice_index (if v then 0 ∷ 0 ∷ 0 ∷ [] else x ∷ y ∷ z ∷ []) 0 ∷ slice_index (if v then 0 ∷ 0 ∷ 0 ∷ [] else x ∷ y ∷ z ∷ []) 1 ∷ slice_index (if v then 0 ∷ 0 ∷ 0 ∷ [] else x ∷ y ∷ z ∷ []) 2 ∷ []
 three_of true x y z = refl
@@ -115,26 +116,26 @@ three_bytes h c a d =
     let n = bit_and (colour_number h c a) d.mask in
     three_of (is_screen_off h) (slice_index d.reds n) (slice_index d.greens n) (slice_index d.blues n)
 
-module _ (h : HostState) (c : CrtcState) (a : AttrState) (d : DacState) (cw : ℕ) (wide : cw ≡ host_width h) (some : 0 < cw) where
+module _ (d : DisplayState) (cw : ℕ) (wide : cw ≡ host_width d.host) (some : 0 < cw) where
   abbrev place_dot : ℕ → List Dot
-  place_dot i = display_dot h (placed c (i / cw) (i % cw)) a d
+  place_dot i = display_dot d.host (placed d.crtc (i / cw) (i % cw)) d.attr d.dac
 
-  by_width : line_dots h c a d ≡ collect place_dot (characters c.registers * cw)
+  by_width : line_dots d ≡ collect place_dot (characters d.crtc.registers * cw)
   unfolding line_dots
-  by_width = ap (λ w. collect (λ i. display_dot h (placed c (i / w) (i % w)) a d) (characters c.registers * w)) (sym wide)
+  by_width = ap (λ w. collect (λ i. display_dot d.host (placed d.crtc (i / w) (i % w)) d.attr d.dac) (characters d.crtc.registers * w)) (sym wide)
 
   none : (n : ℕ) → ((i : ℕ) → i < n → place_dot i ≡ []) → collect place_dot n ≡ []
   none n f = let z : 0 + n ≡ n = omega arith in ap (collect place_dot) (sym z) ∙ collect_none place_dot 0 n (λ i lo hi. f i (omega arith))
 
   -- a line that is not displayed has no display dot
-  pub hidden_line : vertical_display_end c.registers < c.beam.line → line_dots h c a d ≡ []
-  hidden_line past = by_width ∙ none (characters c.registers * cw) (λ i l. hidden_line_dot h c a d (i / cw) (i % cw) past)
+  pub hidden_line : vertical_display_end d.crtc.registers < d.crtc.beam.line → line_dots d ≡ []
+  hidden_line past = by_width ∙ none (characters d.crtc.registers * cw) (λ i l. hidden_line_dot d (i / cw) (i % cw) past)
 
   -- a line that is displayed has those that are drawn
-  pub shown_line : (row old : List ℕ) → c.beam.line ≤ vertical_display_end c.registers → IsLineDrawn cw (shown_characters c.registers) h c a d old row → 3 * (shown_characters c.registers * cw) ≤ length row
-      → line_dots h c a d ≡ dots_from (replicate (shown_characters c.registers * cw) c.beam.line) (take (3 * (shown_characters c.registers * cw)) row)
+  pub shown_line : (row old : List ℕ) → d.crtc.beam.line ≤ vertical_display_end d.crtc.registers → IsLineDrawn cw (shown_characters d.crtc.registers) d old row → 3 * (shown_characters d.crtc.registers * cw) ≤ length row
+      → line_dots d ≡ dots_from (replicate (shown_characters d.crtc.registers * cw) d.crtc.beam.line) (take (3 * (shown_characters d.crtc.registers * cw)) row)
   shown_line row old in_frame drawn room =
-      let r = c.registers in
+      let r = d.crtc.registers in
       let n = shown_characters r in
       let m = n * cw in
       let bytes = take (3 * m) row in
@@ -148,25 +149,25 @@ module _ (h : HostState) (c : CrtcState) (a : AttrState) (d : DacState) (cw : �
       let x = div_below i cw (characters r) some below in
       ⊎_elim
       (λ (l : i / cw < n). absurd (omega (arith, lo, at i, mod_below i cw some, mul-le (i / cw + 1) cw n cw (omega arith) (le_refl cw))))
-      (λ (l : n ≤ i / cw). hidden_dot h c a d (i / cw) (i % cw) (omega (arith, x, l)))
+      (λ (l : n ≤ i / cw). hidden_dot d (i / cw) (i % cw) (omega (arith, x, l)))
       (cases_lt (i / cw) n))
-      ∙ collect_same place_dot (row_dot c.beam.line bytes) m (λ i l.
+      ∙ collect_same place_dot (row_dot d.crtc.beam.line bytes) m (λ i l.
       let x = div_below i cw n some l in
       let k = mod_below i cw some in
-      let colour = dot_colour h (placed c (i / cw) (i % cw)) a d in
-      shown_dot h c a d (i / cw) (i % cw) (omega (arith, x)) in_frame
-      ∙ ap (λ (q : List ℕ). (record { line = c.beam.line; colour = q }) ∷ []) (sym (three_are (3 * i) bytes colour (omega (arith, long)) (three_bytes h (placed c (i / cw) (i % cw)) a d)
+      let colour = dot_colour d.host (placed d.crtc (i / cw) (i % cw)) d.attr d.dac in
+      shown_dot d (i / cw) (i % cw) (omega (arith, x)) in_frame
+      ∙ ap (λ (q : List ℕ). (record { line = d.crtc.beam.line; colour = q }) ∷ []) (sym (three_are (3 * i) bytes colour (omega (arith, long)) (three_bytes d.host (placed d.crtc (i / cw) (i % cw)) d.attr d.dac)
       (λ j lj. get_or-take (3 * m) row (3 * i + j) 0 (omega arith) ∙ ap (λ q. slice_index row (3 * q + j)) (sym (at i)) ∙ drawn.inside (i / cw) (i % cw) j x k lj))))
-      ∙ collect_row c.beam.line bytes m
+      ∙ collect_row d.crtc.beam.line bytes m
 
 -- so its dots are those of n dots of line v in that row
-pub appended_line : (h : HostState) (c : CrtcState) (a : AttrState) (d : DacState) (cw n v : ℕ) (row old : List ℕ) → cw ≡ host_width h → 0 < cw → c.beam.line ≤ vertical_display_end c.registers
-    → n ≡ shown_characters c.registers * cw → v ≡ c.beam.line → IsLineDrawn cw (shown_characters c.registers) h c a d old row → 3 * (shown_characters c.registers * cw) ≤ length row
-    → dots_from (replicate n v) (take (3 * (shown_characters c.registers * cw)) row) ≡ line_dots h c a d
-appended_line h c a d cw n v row old wide some in_frame count line drawn long =
-    let m = shown_characters c.registers * cw in
+pub appended_line : (d : DisplayState) (cw n v : ℕ) (row old : List ℕ) → cw ≡ host_width d.host → 0 < cw → d.crtc.beam.line ≤ vertical_display_end d.crtc.registers
+    → n ≡ shown_characters d.crtc.registers * cw → v ≡ d.crtc.beam.line → IsLineDrawn cw (shown_characters d.crtc.registers) d old row → 3 * (shown_characters d.crtc.registers * cw) ≤ length row
+    → dots_from (replicate n v) (take (3 * (shown_characters d.crtc.registers * cw)) row) ≡ line_dots d
+appended_line d cw n v row old wide some in_frame count line drawn long =
+    let m = shown_characters d.crtc.registers * cw in
     ap (λ (k : ℕ). dots_from (replicate k v) (take (3 * m) row)) count ∙ ap (λ (k : ℕ). dots_from (replicate m k) (take (3 * m) row)) line
-    ∙ sym (shown_line h c a d cw wide some row old in_frame drawn long)
+    ∙ sym (shown_line d cw wide some row old in_frame drawn long)
 
 pub is_shown : (r : List ℕ) (b : Beam) → is_display r b ≡ true → b.line ≤ vertical_display_end r
 is_shown r b h = grind (arith, nat_tests)

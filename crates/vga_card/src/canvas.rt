@@ -14,12 +14,8 @@ use crate::drawn::Drawn;
 use crate::shape::{Shape, count_rows};
 use std::alloc::Global;
 use std::marker::Model;
-use vga_attr::Attr;
 use vga_bits::Fault;
-use vga_crtc::Crtc;
-use vga_dac::Dac;
-use vga_dots::draw_line;
-use vga_host::Host;
+use vga_dots::{Display, draw_line};
 
 /// How many dots a line can have: 256 characters of 9 dots.
 const WIDEST: usize = 2_304;
@@ -114,43 +110,28 @@ fn lengthen(buffer: &mut Vec<u8>, len: usize)
 }
 
 /// Writes the displayed dots of the beam's line, three bytes each, over those bytes that stand from `at` on.
-fn draw_at<const CW: usize>(
-    host: &Host,
-    crtc: &Crtc,
-    attr: &Attr,
-    dac: &Dac,
-    bytes: &mut [u8],
-    at: usize,
-)
-    requires width { CW ≡ character_width host.now }
-    requires room { at + 3 * (shown_characters crtc.now.registers * CW) ≤ length bytes.old }
+fn draw_at<const CW: usize>(display: &Display<'_>, bytes: &mut [u8], at: usize)
+    requires width { CW ≡ character_width display.now.host }
+    requires room { at + 3 * (shown_characters display.now.crtc.registers * CW) ≤ length bytes.old }
     ensures front { take at bytes.new ≡ take at bytes.old }
-    ensures drawn { IsLineDrawn CW (shown_characters crtc.now.registers) host.now crtc.now attr.now dac.now (drop at bytes.old) (drop at bytes.new) }
+    ensures drawn { IsLineDrawn CW (shown_characters display.now.crtc.registers) display.now (drop at bytes.old) (drop at bytes.new) }
 {
-    draw_line::<CW>(host, crtc, attr, dac, &mut bytes[at..]);
+    draw_line::<CW>(display, &mut bytes[at..]);
 }
 
 /// Puts the displayed dots of the beam's line, three bytes each, behind the first `used` bytes of a buffer, which has
 /// memory for them. They are drawn where they stay: a row that is copied takes as long again.
-fn put_line<const CW: usize>(
-    host: &Host,
-    crtc: &Crtc,
-    attr: &Attr,
-    dac: &Dac,
-    buffer: &mut Vec<u8>,
-    used: usize,
-    len: usize,
-)
-    requires width { CW ≡ character_width host.now }
-    requires len { len ≡ 3 * (shown_characters crtc.now.registers * CW) }
+fn put_line<const CW: usize>(display: &Display<'_>, buffer: &mut Vec<u8>, used: usize, len: usize)
+    requires width { CW ≡ character_width display.now.host }
+    requires len { len ≡ 3 * (shown_characters display.now.crtc.registers * CW) }
     requires used { used ≤ length buffer.old.items }
     requires room { used + len ≤ vec_capacity buffer.old }
-    ensures line { IsLineAppended CW host.now crtc.now attr.now dac.now (take used buffer.old.items) (take (used + len) buffer.new.items) }
+    ensures line { IsLineAppended CW display.now (take used buffer.old.items) (take (used + len) buffer.new.items) }
     ensures len { used + len ≤ length buffer.new.items }
     ensures capacity { vec_capacity buffer.old ≤ vec_capacity buffer.new }
 {
     lengthen(buffer, used + len);
-    draw_at::<CW>(host, crtc, attr, dac, buffer.as_mut_slice(), used);
+    draw_at::<CW>(display, buffer.as_mut_slice(), used);
 }
 
 impl Canvas {
@@ -190,27 +171,20 @@ impl Canvas {
 
     /// Adds the displayed dots of the beam's line, `count` characters of `CW` dots each, to the last line or to one
     /// after it. A line is below 1,024 and has at most 2,304 dots.
-    pub(crate) fn add_line<const CW: usize>(
-        &mut self,
-        host: &Host,
-        crtc: &Crtc,
-        attr: &Attr,
-        dac: &Dac,
-        count: usize,
-    )
-        requires width { CW ≡ character_width host.now }
-        requires count { count ≡ shown_characters crtc.now.registers }
-        requires shown { crtc.now.beam.line ≤ vertical_display_end crtc.now.registers }
-        requires lines { crtc.now.beam.line < highest }
-        requires after { self.old.line ≤ crtc.now.beam.line }
+    pub(crate) fn add_line<const CW: usize>(&mut self, display: &Display<'_>, count: usize)
+        requires width { CW ≡ character_width display.now.host }
+        requires count { count ≡ shown_characters display.now.crtc.registers }
+        requires shown { display.now.crtc.beam.line ≤ vertical_display_end display.now.crtc.registers }
+        requires lines { display.now.crtc.beam.line < highest }
+        requires after { self.old.line ≤ display.now.crtc.beam.line }
         requires few { count * CW ≤ widest }
-        requires room { crtc.now.beam.line ≡ self.old.line → self.old.width + count * CW ≤ widest }
-        ensures dots { self.new.dots ≡ self.old.dots ++ line_dots host.now crtc.now attr.now dac.now }
-        ensures line { self.new.line ≡ crtc.now.beam.line }
+        requires room { display.now.crtc.beam.line ≡ self.old.line → self.old.width + count * CW ≤ widest }
+        ensures dots { self.new.dots ≡ self.old.dots ++ line_dots display.now }
+        ensures line { self.new.line ≡ display.now.crtc.beam.line }
     {
-        let line = crtc.beam().line;
+        let line = display.beam().line;
         let dots = count * CW;
-        put_line::<CW>(host, crtc, attr, dac, &mut self.buffer, self.used, 3 * dots);
+        put_line::<CW>(display, &mut self.buffer, self.used, 3 * dots);
         self.used += 3 * dots;
         let width = &mut self.widths[line as usize];
         *width += dots as u32;

@@ -21,6 +21,7 @@ use Rattle.vga_dots.specs.SourceDot.{fetch_address}
 use Rattle.vga_dots.specs.Text.{text_nibble, cell_at, background, is_foreground, is_underlined, is_blinked_away, is_cursor_at, is_glyph_dot, glyph_row}
 use Rattle.vga_dots.specs.Graphics.{plane_bits, planar_nibble, packed_byte}
 use Rattle.vga_dots.specs.Row.{nibble_of}
+use Rattle.vga_dots.specs.Display.{DisplayState, ShowsText, ShowsPlanes, ShowsBytes}
 use Rattle.vga_dots.specs.Line.{masked, shade, shades_of, dot_of, source_colour}
 
 pub shades_at : (a : AttrState) (d : DacState) (n : ℕ) → n < 16 → slice_index_or (shades_of a d) n [] ≡ shade a d n
@@ -120,100 +121,100 @@ no_dots v i e = ap (λ b. b == 1) (bit_at-zero (8 - i)) ∙ sym e
 abbrev pick : Bool → Bool → Bool → Bool → List ℕ → List ℕ → List ℕ → List ℕ → List ℕ → List ℕ
 pick off shown packed graphics x1 x2 x3 x4 x5 = if off then x1 else if not shown then x2 else if packed then x3 else if graphics then x4 else x5
 
-module _ (h : HostState) (c : CrtcState) (a : AttrState) (d : DacState) (s : SourceDot) where
+module _ (d : DisplayState) (s : SourceDot) where
   abbrev shown_by : Bool → Bool → List ℕ
-  shown_by off shown = pick off shown (is_256_colours h) (is_graphics h) (0 ∷ 0 ∷ 0 ∷ []) (masked d (overscan a)) (masked d (packed_byte h c s)) (shade a d (planar_nibble h c s)) (shade a d (text_nibble h c a s))
+  shown_by off shown = pick off shown (is_256_colours d.host) (is_graphics d.host) (0 ∷ 0 ∷ 0 ∷ []) (masked d.dac (overscan d.attr)) (masked d.dac (packed_byte d.host d.crtc s)) (shade d.attr d.dac (planar_nibble d.host d.crtc s)) (shade d.attr d.dac (text_nibble d.host d.crtc d.attr s))
 
-  pub off_colour : is_screen_off h ≡ true → 0 ∷ 0 ∷ 0 ∷ [] ≡ source_colour h c a d s
+  pub off_colour : is_screen_off d.host ≡ true → 0 ∷ 0 ∷ 0 ∷ [] ≡ source_colour d s
   unfolding source_colour
-  off_colour off = sym (ap (λ v. shown_by v (is_palette_shown a)) off)
+  off_colour off = sym (ap (λ v. shown_by v (is_palette_shown d.attr)) off)
 
-  pub hidden_colour : is_screen_off h ≡ false → is_palette_shown a ≡ false → masked d (overscan a) ≡ source_colour h c a d s
+  pub hidden_colour : is_screen_off d.host ≡ false → is_palette_shown d.attr ≡ false → masked d.dac (overscan d.attr) ≡ source_colour d s
   unfolding source_colour
-  hidden_colour off shown = sym (ap (λ v. shown_by v (is_palette_shown a)) off ∙ ap (shown_by false) shown)
+  hidden_colour off shown = sym (ap (λ v. shown_by v (is_palette_shown d.attr)) off ∙ ap (shown_by false) shown)
 
-module _ (h : HostState) (c : CrtcState) (a : AttrState) (d : DacState) (counter : ℕ) where
+module _ (d : DisplayState) (counter : ℕ) where
   abbrev place : ℕ
-  place = fetch_address c.registers counter
+  place = fetch_address d.crtc.registers counter
 
   abbrev overscanned : List ℕ
-  overscanned = masked d (overscan a)
+  overscanned = masked d.dac (overscan d.attr)
 
   abbrev packed_colour : ℕ → List ℕ
-  packed_colour i = masked d (packed_byte h c (dot_of counter i))
+  packed_colour i = masked d.dac (packed_byte d.host d.crtc (dot_of counter i))
 
   abbrev planar_colour : ℕ → List ℕ
-  planar_colour i = shade a d (planar_nibble h c (dot_of counter i))
+  planar_colour i = shade d.attr d.dac (planar_nibble d.host d.crtc (dot_of counter i))
 
   abbrev text_colour : ℕ → List ℕ
-  text_colour i = shade a d (text_nibble h c a (dot_of counter i))
+  text_colour i = shade d.attr d.dac (text_nibble d.host d.crtc d.attr (dot_of counter i))
 
   abbrev colour_by : ℕ → Bool → Bool → Bool → Bool → List ℕ
   colour_by i off shown packed graphics = pick off shown packed graphics (0 ∷ 0 ∷ 0 ∷ []) overscanned (packed_colour i) (planar_colour i) (text_colour i)
 
-  packed_shown : (i : ℕ) → is_screen_off h ≡ false → is_palette_shown a ≡ true → is_256_colours h ≡ true → packed_colour i ≡ source_colour h c a d (dot_of counter i)
+  packed_shown : (i : ℕ) → ShowsBytes d → packed_colour i ≡ source_colour d (dot_of counter i)
   unfolding source_colour
-  packed_shown i off shown packed = sym (ap (λ v. colour_by i v (is_palette_shown a) (is_256_colours h) (is_graphics h)) off
-      ∙ ap (λ v. colour_by i false v (is_256_colours h) (is_graphics h)) shown
-      ∙ ap (λ v. colour_by i false true v (is_graphics h)) packed)
+  packed_shown i shows = sym (ap (λ v. colour_by i v (is_palette_shown d.attr) (is_256_colours d.host) (is_graphics d.host)) shows.memory.on
+      ∙ ap (λ v. colour_by i false v (is_256_colours d.host) (is_graphics d.host)) shows.memory.shown
+      ∙ ap (λ v. colour_by i false true v (is_graphics d.host)) shows.many)
 
-  planar_shown : (i : ℕ) → is_screen_off h ≡ false → is_palette_shown a ≡ true → is_256_colours h ≡ false → is_graphics h ≡ true → planar_colour i ≡ source_colour h c a d (dot_of counter i)
+  planar_shown : (i : ℕ) → ShowsPlanes d → planar_colour i ≡ source_colour d (dot_of counter i)
   unfolding source_colour
-  planar_shown i off shown packed graphics = sym (ap (λ v. colour_by i v (is_palette_shown a) (is_256_colours h) (is_graphics h)) off
-      ∙ ap (λ v. colour_by i false v (is_256_colours h) (is_graphics h)) shown
-      ∙ ap (λ v. colour_by i false true v (is_graphics h)) packed
-      ∙ ap (λ v. colour_by i false true false v) graphics)
+  planar_shown i shows = sym (ap (λ v. colour_by i v (is_palette_shown d.attr) (is_256_colours d.host) (is_graphics d.host)) shows.memory.on
+      ∙ ap (λ v. colour_by i false v (is_256_colours d.host) (is_graphics d.host)) shows.memory.shown
+      ∙ ap (λ v. colour_by i false true v (is_graphics d.host)) shows.few
+      ∙ ap (λ v. colour_by i false true false v) shows.graphics)
 
-  text_shown : (i : ℕ) → is_screen_off h ≡ false → is_palette_shown a ≡ true → is_256_colours h ≡ false → is_graphics h ≡ false → text_colour i ≡ source_colour h c a d (dot_of counter i)
+  text_shown : (i : ℕ) → ShowsText d → text_colour i ≡ source_colour d (dot_of counter i)
   unfolding source_colour
-  text_shown i off shown packed graphics = sym (ap (λ v. colour_by i v (is_palette_shown a) (is_256_colours h) (is_graphics h)) off
-      ∙ ap (λ v. colour_by i false v (is_256_colours h) (is_graphics h)) shown
-      ∙ ap (λ v. colour_by i false true v (is_graphics h)) packed
-      ∙ ap (λ v. colour_by i false true false v) graphics)
+  text_shown i shows = sym (ap (λ v. colour_by i v (is_palette_shown d.attr) (is_256_colours d.host) (is_graphics d.host)) shows.memory.on
+      ∙ ap (λ v. colour_by i false v (is_256_colours d.host) (is_graphics d.host)) shows.memory.shown
+      ∙ ap (λ v. colour_by i false true v (is_graphics d.host)) shows.few
+      ∙ ap (λ v. colour_by i false true false v) shows.text)
 
   -- ---- 256 colours
 
   -- each of the five colours of a character is at its dots
-  pub packed_dot : (p0 p1 p2 p3 p4 : List ℕ) (i : ℕ) → i < 9 → is_screen_off h ≡ false → is_palette_shown a ≡ true → is_256_colours h ≡ true
-      → p0 ≡ masked d (byte_at h.memory 0 place) → p1 ≡ masked d (byte_at h.memory 1 place) → p2 ≡ masked d (byte_at h.memory 2 place) → p3 ≡ masked d (byte_at h.memory 3 place) → p4 ≡ masked d 0
-      → slice_index_or (p0 ∷ p1 ∷ p2 ∷ p3 ∷ p4 ∷ []) (i / 2) [] ≡ source_colour h c a d (dot_of counter i)
+  pub packed_dot : (p0 p1 p2 p3 p4 : List ℕ) (i : ℕ) → i < 9 → ShowsBytes d
+      → p0 ≡ masked d.dac (byte_at d.host.memory 0 place) → p1 ≡ masked d.dac (byte_at d.host.memory 1 place) → p2 ≡ masked d.dac (byte_at d.host.memory 2 place) → p3 ≡ masked d.dac (byte_at d.host.memory 3 place) → p4 ≡ masked d.dac 0
+      → slice_index_or (p0 ∷ p1 ∷ p2 ∷ p3 ∷ p4 ∷ []) (i / 2) [] ≡ source_colour d (dot_of counter i)
   unfolding packed_byte
-  packed_dot p0 p1 p2 p3 p4 i within off shown packed e0 e1 e2 e3 e4 =
-      by_nine (λ n. slice_index_or (p0 ∷ p1 ∷ p2 ∷ p3 ∷ p4 ∷ []) (n / 2) [] ≡ packed_colour n) e0 e0 e1 e1 e2 e2 e3 e3 e4 i within ∙ packed_shown i off shown packed
+  packed_dot p0 p1 p2 p3 p4 i within shows e0 e1 e2 e3 e4 =
+      by_nine (λ n. slice_index_or (p0 ∷ p1 ∷ p2 ∷ p3 ∷ p4 ∷ []) (n / 2) [] ≡ packed_colour n) e0 e0 e1 e1 e2 e2 e3 e3 e4 i within ∙ packed_shown i shows
 
   -- ---- 16 colours
 
   -- the bits of a word are those of the planes, looked up in the table
-  pub planar_dot : (table : List (List ℕ)) (word i : ℕ) → table ≡ shades_of a d → is_screen_off h ≡ false → is_palette_shown a ≡ true → is_256_colours h ≡ false → is_graphics h ≡ true
-      → bytes_of word ≡ bytes_at h.memory place
-      → slice_index_or table (if nat_lt i 8 then nibble_of word (7 - i) else 0) [] ≡ source_colour h c a d (dot_of counter i)
+  pub planar_dot : (table : List (List ℕ)) (word i : ℕ) → table ≡ shades_of d.attr d.dac → ShowsPlanes d
+      → bytes_of word ≡ bytes_at d.host.memory place
+      → slice_index_or table (if nat_lt i 8 then nibble_of word (7 - i) else 0) [] ≡ source_colour d (dot_of counter i)
   unfolding planar_nibble
-  planar_dot table word i is off shown packed graphics e =
-      let n = planar_nibble h c (dot_of counter i) in
+  planar_dot table word i is shows e =
+      let n = planar_nibble d.host d.crtc (dot_of counter i) in
       ap (λ t. slice_index_or t (if nat_lt i 8 then nibble_of word (7 - i) else 0) []) is
-      ∙ ap (λ m. slice_index_or (shades_of a d) (if nat_lt i 8 then m else 0) []) (bits_are h place (7 - i) word (omega arith) e)
-      ∙ shades_at a d n (small_if (nat_lt i 8) _ (bits_small h place (7 - i))) ∙ planar_shown i off shown packed graphics
+      ∙ ap (λ m. slice_index_or (shades_of d.attr d.dac) (if nat_lt i 8 then m else 0) []) (bits_are d.host place (7 - i) word (omega arith) e)
+      ∙ shades_at d.attr d.dac n (small_if (nat_lt i 8) _ (bits_small d.host place (7 - i))) ∙ planar_shown i shows
 
   -- ---- text
 
   abbrev pub cell : Cell
-  cell = cell_at h place
+  cell = cell_at d.host place
 
-  shade_if : (v : Bool) (n m : ℕ) → (if v then shade a d n else shade a d m) ≡ shade a d (if v then n else m)
+  shade_if : (v : Bool) (n m : ℕ) → (if v then shade d.attr d.dac n else shade d.attr d.dac m) ≡ shade d.attr d.dac (if v then n else m)
   shade_if true n m = refl
   shade_if false n m = refl
 
   -- a dot has the foreground or the background of its cell
-  pub text_dot : (fore back : List ℕ) (lit : Bool) (i : ℕ) → is_screen_off h ≡ false → is_palette_shown a ≡ true → is_256_colours h ≡ false → is_graphics h ≡ false
-      → fore ≡ shade a d (field cell.attribute 3 0) → back ≡ shade a d (background a cell) → lit ≡ is_foreground h c a (dot_of counter i) cell
-      → (if lit then fore else back) ≡ source_colour h c a d (dot_of counter i)
+  pub text_dot : (fore back : List ℕ) (lit : Bool) (i : ℕ) → ShowsText d
+      → fore ≡ shade d.attr d.dac (field cell.attribute 3 0) → back ≡ shade d.attr d.dac (background d.attr cell) → lit ≡ is_foreground d.host d.crtc d.attr (dot_of counter i) cell
+      → (if lit then fore else back) ≡ source_colour d (dot_of counter i)
   unfolding text_nibble
-  text_dot fore back lit i off shown packed graphics is_fore is_back is_lit =
+  text_dot fore back lit i shows is_fore is_back is_lit =
       ap (λ v. if v then fore else back) is_lit
-      ∙ ap (λ x. if is_foreground h c a (dot_of counter i) cell then x else back) is_fore
-      ∙ ap (λ x. if is_foreground h c a (dot_of counter i) cell then shade a d (field cell.attribute 3 0) else x) is_back
-      ∙ shade_if (is_foreground h c a (dot_of counter i) cell) (field cell.attribute 3 0) (background a cell)
-      ∙ text_shown i off shown packed graphics
+      ∙ ap (λ x. if is_foreground d.host d.crtc d.attr (dot_of counter i) cell then x else back) is_fore
+      ∙ ap (λ x. if is_foreground d.host d.crtc d.attr (dot_of counter i) cell then shade d.attr d.dac (field cell.attribute 3 0) else x) is_back
+      ∙ shade_if (is_foreground d.host d.crtc d.attr (dot_of counter i) cell) (field cell.attribute 3 0) (background d.attr cell)
+      ∙ text_shown i shows
 
 -- ---- what decides whether a dot has its cell's foreground
 

@@ -5,7 +5,6 @@ use Rattle.std.proofs.lemmas.Bool.{cases_lt, lt-ltb, le-ltb}
 use Rattle.std.proofs.lemmas.Nat.{row_fits}
 use Rattle.vga_host.specs.Host.{HostState}
 use Rattle.vga_host.specs.Fields.{character_width, is_eight_dots, is_screen_off, is_graphics, is_256_colours}
-use Rattle.vga_crtc.specs.Crtc.{CrtcState}
 use Rattle.vga_attr.specs.Attr.{AttrState}
 use Rattle.vga_attr.specs.Fields.{is_palette_shown, overscan}
 use Rattle.vga_attr.specs.Colour.{colour_index}
@@ -16,6 +15,7 @@ use Rattle.vga_dots.specs.Text.{text_nibble, is_foreground, is_underlined, is_bl
 use Rattle.vga_dots.specs.Graphics.{planar_nibble, packed_byte}
 use Rattle.vga_dots.specs.Colour.{dot_colour, colour_number, nibble}
 use Rattle.vga_dots.specs.Row.{dot_in, AreDotsPut, AreCharactersPut}
+use Rattle.vga_dots.specs.Display.{DisplayState}
 use Rattle.vga_dots.specs.Line.{placed, masked, shade, dot_of, source_colour, unpanned_colour, IsLineDrawn}
 use Rattle.vga_dots.proofs.RowLemmas.{dot_byte}
 
@@ -31,62 +31,62 @@ distribute false false false true a d n1 n2 n3 n4 = refl
 distribute false false false false a d n1 n2 n3 n4 = refl
 
 -- the colour of a dot of the line, by where it comes from
-line_source : (h : HostState) (c : CrtcState) (a : AttrState) (d : DacState) (x k : ℕ) → dot_colour h (placed c x k) a d ≡ source_colour h c a d (source_at (placed c x k) (character_width h) (k + panned h c a))
+line_source : (d : DisplayState) (x k : ℕ) → dot_colour d.host (placed d.crtc x k) d.attr d.dac ≡ source_colour d (source_at (placed d.crtc x k) (character_width d.host) (k + panned d.host d.crtc d.attr))
 unfolding dot_colour colour_number nibble source_dot panned source_colour text_nibble is_foreground is_underlined is_blinked_away is_cursor_at planar_nibble packed_byte
-line_source h c a d x k =
-    let s : SourceDot = source_at (placed c x k) (character_width h) (k + panned h c a) in
-    distribute (is_screen_off h) (not (is_palette_shown a)) (is_256_colours h) (is_graphics h) a d (overscan a) (packed_byte h c s) (planar_nibble h c s) (text_nibble h c a s)
+line_source d x k =
+    let s : SourceDot = source_at (placed d.crtc x k) (character_width d.host) (k + panned d.host d.crtc d.attr) in
+    distribute (is_screen_off d.host) (not (is_palette_shown d.attr)) (is_256_colours d.host) (is_graphics d.host) d.attr d.dac (overscan d.attr) (packed_byte d.host d.crtc s) (planar_nibble d.host d.crtc s) (text_nibble d.host d.crtc d.attr s)
 
-module _ (cw : ℕ) (h : HostState) (c : CrtcState) (a : AttrState) (d : DacState) (wide : cw ≡ character_width h) where
+module _ (cw : ℕ) (d : DisplayState) (wide : cw ≡ character_width d.host) where
   abbrev chosen : ℕ → ℕ → Bool → List ℕ
-  chosen x i v = source_colour h c a d (if v then dot_of (counter_of c x) i else dot_of (counter_of c (x + 1)) (i - character_width h))
+  chosen x i v = source_colour d (if v then dot_of (counter_of d.crtc x) i else dot_of (counter_of d.crtc (x + 1)) (i - character_width d.host))
 
   -- a dot that panning leaves in its character
-  dot_here : (x k : ℕ) → k + panned h c a < cw → unpanned_colour h c a d x (k + panned h c a) ≡ dot_colour h (placed c x k) a d
+  dot_here : (x k : ℕ) → k + panned d.host d.crtc d.attr < cw → unpanned_colour d x (k + panned d.host d.crtc d.attr) ≡ dot_colour d.host (placed d.crtc x k) d.attr d.dac
   dot_here x k l =
-      let i = k + panned h c a in
-      sym (line_source h c a d x k ∙ ap (chosen x i) (ap (nat_lt i) (sym wide) ∙ lt-ltb i cw l))
+      let i = k + panned d.host d.crtc d.attr in
+      sym (line_source d x k ∙ ap (chosen x i) (ap (nat_lt i) (sym wide) ∙ lt-ltb i cw l))
 
   -- a dot that it takes from the next one
-  dot_next : (x k : ℕ) → cw ≤ k + panned h c a → unpanned_colour h c a d (x + 1) (k + panned h c a - cw) ≡ dot_colour h (placed c x k) a d
+  dot_next : (x k : ℕ) → cw ≤ k + panned d.host d.crtc d.attr → unpanned_colour d (x + 1) (k + panned d.host d.crtc d.attr - cw) ≡ dot_colour d.host (placed d.crtc x k) d.attr d.dac
   dot_next x k l =
-      let i = k + panned h c a in
-      ap (λ w. unpanned_colour h c a d (x + 1) (i - w)) wide ∙ sym (line_source h c a d x k ∙ ap (chosen x i) (ap (nat_lt i) (sym wide) ∙ le-ltb i cw l))
+      let i = k + panned d.host d.crtc d.attr in
+      ap (λ w. unpanned_colour d (x + 1) (i - w)) wide ∙ sym (line_source d x k ∙ ap (chosen x i) (ap (nat_lt i) (sym wide) ∙ le-ltb i cw l))
 
   -- a line of one colour, which is that of each dot wherever it comes from
-  pub line_filled : (n : ℕ) (colour row0 row1 : List ℕ) → AreCharactersPut cw n (λ x i. colour) row0 row1 → ((s : SourceDot) → colour ≡ source_colour h c a d s) → IsLineDrawn cw n h c a d row0 row1
+  pub line_filled : (n : ℕ) (colour row0 row1 : List ℕ) → AreCharactersPut cw n (λ x i. colour) row0 row1 → ((s : SourceDot) → colour ≡ source_colour d s) → IsLineDrawn cw n d row0 row1
   line_filled n colour row0 row1 put same = record {
-    inside = λ x k j lx lk lj. put.inside x k j lx lk lj ∙ ap (λ q. slice_index q j) (same _ ∙ sym (line_source h c a d x k));
+    inside = λ x k j lx lk lj. put.inside x k j lx lk lj ∙ ap (λ q. slice_index q j) (same _ ∙ sym (line_source d x k));
     outside = put.outside;
   }
 
   -- characters as they are, where there is no panning
-  pub line_unpanned : (n : ℕ) (row0 row1 : List ℕ) → panned h c a ≡ 0 → AreCharactersPut cw n (unpanned_colour h c a d) row0 row1 → IsLineDrawn cw n h c a d row0 row1
+  pub line_unpanned : (n : ℕ) (row0 row1 : List ℕ) → panned d.host d.crtc d.attr ≡ 0 → AreCharactersPut cw n (unpanned_colour d) row0 row1 → IsLineDrawn cw n d row0 row1
   line_unpanned n row0 row1 none put = record {
     inside = λ x k j lx lk lj.
-        let z : k ≡ k + panned h c a = omega (arith, none) in
-        put.inside x k j lx lk lj ∙ ap (λ q. slice_index q j) (ap (unpanned_colour h c a d x) z ∙ dot_here x k (omega arith));
+        let z : k ≡ k + panned d.host d.crtc d.attr = omega (arith, none) in
+        put.inside x k j lx lk lj ∙ ap (λ q. slice_index q j) (ap (unpanned_colour d x) z ∙ dot_here x k (omega arith));
     outside = put.outside;
   }
 
   -- one character more than the line has, from the first dot that is shown on
-  pub line_panned : (n p : ℕ) (blank drawn row0 row1 : List ℕ) → p ≡ panned h c a → p ≤ cw → AreCharactersPut cw (n + 1) (unpanned_colour h c a d) blank drawn
-      → AreDotsPut (n * cw) 0 (λ i. dot_in drawn (p + i)) row0 row1 → IsLineDrawn cw n h c a d row0 row1
+  pub line_panned : (n p : ℕ) (blank drawn row0 row1 : List ℕ) → p ≡ panned d.host d.crtc d.attr → p ≤ cw → AreCharactersPut cw (n + 1) (unpanned_colour d) blank drawn
+      → AreDotsPut (n * cw) 0 (λ i. dot_in drawn (p + i)) row0 row1 → IsLineDrawn cw n d row0 row1
   line_panned n p blank drawn row0 row1 by few put copied = record {
     inside = λ x k j lx lk lj.
         let fits = row_fits x cw n cw lx (omega arith) in
         let z : x * cw + k ≡ 0 + (x * cw + k) = omega arith in
-        let shown : k + p ≡ k + panned h c a = ap (λ q. k + q) by in
+        let shown : k + p ≡ k + panned d.host d.crtc d.attr = ap (λ q. k + q) by in
         ap (λ q. slice_index row1 (3 * q + j)) z ∙ copied.inside (x * cw + k) j (omega arith) lj ∙ dot_byte drawn (p + (x * cw + k)) j lj
         ∙ ⊎_elim
         (λ (l : k + p < cw).
         let m : p + (x * cw + k) ≡ x * cw + (k + p) = omega arith in
         ap (λ q. slice_index drawn (3 * q + j)) m ∙ put.inside x (k + p) j (omega arith) l lj
-        ∙ ap (λ q. slice_index q j) (ap (unpanned_colour h c a d x) shown ∙ dot_here x k (omega (arith, l, by))))
+        ∙ ap (λ q. slice_index q j) (ap (unpanned_colour d x) shown ∙ dot_here x k (omega (arith, l, by))))
         (λ (l : cw ≤ k + p).
         let m : p + (x * cw + k) ≡ (x + 1) * cw + (k + p - cw) = omega arith in
         ap (λ q. slice_index drawn (3 * q + j)) m ∙ put.inside (x + 1) (k + p - cw) j (omega arith) (omega arith) lj
-        ∙ ap (λ q. slice_index q j) (ap (λ q. unpanned_colour h c a d (x + 1) (q - cw)) shown ∙ dot_next x k (omega (arith, l, by))))
+        ∙ ap (λ q. slice_index q j) (ap (λ q. unpanned_colour d (x + 1) (q - cw)) shown ∙ dot_next x k (omega (arith, l, by))))
         (cases_lt (k + p) cw);
     outside = λ i o. copied.outside i (inr (omega arith));
   }

@@ -1,7 +1,7 @@
 -- What the beam's line decides for all characters of text alike.
 -- From the IBM PS/2 Hardware Interface Technical Reference, Video Subsystems, "Cursor Start Register", "Attribute Mode
 -- Control Register", "Underline Location Register" and "Character Map Select Register".
-use Rattle.std.specs.Prelude.{◌+◌, ◌%◌, ◌==◌, ◌&&◌, not, nat_lt, nat_le}
+use Rattle.std.specs.Prelude.{◌≤◌, ◌+◌, ◌%◌, ◌==◌, ◌&&◌, not, nat_lt, nat_le}
 use Rattle.vga_host.specs.Host.{HostState}
 use Rattle.vga_host.specs.Fields.{character_map_a, character_map_b}
 use Rattle.vga_crtc.specs.Crtc.{CrtcState}
@@ -26,3 +26,8 @@ text_line h c a = record {
   is_line_graphics = is_line_graphics a;
   is_blink = is_blink a;
 }
+
+-- the rows of all glyphs of a line are in their plane, in either map
+pub record HasGlyphs (line : TextLine) : Type 0 where
+  pub map_a : line.map_a ≤ 57375
+  pub map_b : line.map_b ≤ 57375

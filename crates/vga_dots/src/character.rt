@@ -1,21 +1,19 @@
-//! The dots of a character: what is fetched is fetched once.
-ghost use Rattle.std.specs.Prelude.{◌≡◌, ℕ, ◌+◌, ◌-◌, ◌*◌, ◌<◌, ◌≤◌, false, true, length};
+//! The characters of a line, each in the way of what is shown: what is fetched is fetched once.
+ghost use Rattle.std.specs.Prelude.{◌≡◌, ℕ, ◌+◌, ◌-◌, ◌*◌, ◌<◌, ◌≤◌, [], length, slice_index_or};
 ghost use Rattle.vga_bits.specs.Bits.{is_set};
-ghost use Rattle.vga_host.specs.Fields.{is_screen_off, is_graphics, is_256_colours};
-ghost use Rattle.vga_attr.specs.Fields.{is_palette_shown, is_line_graphics};
+ghost use Rattle.vga_attr.specs.Fields.{is_line_graphics};
 ghost use Rattle.vga_dots.specs.Text.{is_glyph_dot as is_dot_of_glyph, is_foreground};
-ghost use Rattle.vga_dots.specs.TextLine.{text_line};
+ghost use Rattle.vga_dots.specs.TextLine.{text_line, HasGlyphs};
 ghost use Rattle.vga_dots.specs.Row.{AreDotsPut};
-ghost use Rattle.vga_dots.specs.Line.{masked as colour_masked, shade as shade_of, shades_of, dot_of, source_colour};
+ghost use Rattle.vga_dots.specs.Line.{masked as colour_masked, shades_of, dot_of, source_colour};
+ghost use Rattle.vga_dots.specs.Display.{ShowsText, ShowsPlanes};
 
+use crate::display::Display;
 use crate::row::{Shades, put_glyph, put_pixels, put_planes};
-use crate::source_dot::fetch_address;
 use crate::text::{Cell, GLYPHS, cell_at};
 use crate::text_line::TextLine;
 use vga_attr::Attr;
-use vga_crtc::Crtc;
 use vga_dac::Dac;
-use vga_host::Host;
 
 /// All nine dots of a line of a glyph.
 const ALL_DOTS: u16 = 0x1FF;
@@ -28,7 +26,7 @@ pub(crate) fn masked(dac: &Dac, n: u8) -> [u8; 3]
 }
 
 /// The colours of the 16 numbers that four bits have.
-pub(crate) fn shades(attr: &Attr, dac: &Dac) -> Shades
+fn shades(attr: &Attr, dac: &Dac) -> Shades
     ensures { result ≡ shades_of attr.now dac.now }
 {
     let numbers = attr.table();
@@ -53,10 +51,9 @@ pub(crate) fn shades(attr: &Attr, dac: &Dac) -> Shades
 }
 
 /// The colour of four bits, looked up.
-fn shade_in(attr: &Attr, dac: &Dac, table: &Shades, n: u8) -> [u8; 3]
-    requires table { table.now ≡ shades_of attr.now dac.now }
-    requires small { n < 16 }
-    ensures { result ≡ shade_of attr.now dac.now n }
+fn shade_in(table: &Shades, n: u8) -> [u8; 3]
+    requires { n < 16 }
+    ensures { result ≡ slice_index_or table.now n [] }
 {
     table[n as usize]
 }
@@ -77,11 +74,10 @@ fn glyph_dots(attr: &Attr, line: &TextLine, character: u8, row: u8) -> u16
 
 /// The dots of a counter's cell that have its foreground, of which bit 8 is the leftmost.
 #[inline(always)]
-fn lit_dots(host: &Host, crtc: &Crtc, attr: &Attr, line: &TextLine, counter: u16, cell: Cell) -> u16
-    requires line { line.now ≡ text_line host.now crtc.now attr.now }
-    requires few_a { line.now.map_a ≤ 57375 }
-    requires few_b { line.now.map_b ≤ 57375 }
-    ensures dots { (i : ℕ) → i < 9 → is_set result (8 - i) ≡ is_foreground host.now crtc.now attr.now (dot_of counter i) cell }
+fn lit_dots(display: &Display<'_>, line: &TextLine, counter: u16, cell: Cell) -> u16
+    requires line { line.now ≡ text_line display.now.host display.now.crtc display.now.attr }
+    requires glyphs { HasGlyphs line.now }
+    ensures dots { (i : ℕ) → i < 9 → is_set result (8 - i) ≡ is_foreground display.now.host display.now.crtc display.now.attr (dot_of counter i) cell }
     ensures nine { result < 512 }
 {
     if line.has_cursor_at(counter) {
@@ -91,94 +87,115 @@ fn lit_dots(host: &Host, crtc: &Crtc, attr: &Attr, line: &TextLine, counter: u16
     } else if line.underlines(cell) {
         ALL_DOTS
     } else {
-        let row = host.planes().byte(GLYPHS, line.glyph_place(cell));
-        glyph_dots(attr, line, cell.character, row)
+        let row = display.planes().byte(GLYPHS, line.glyph_place(cell));
+        glyph_dots(display.attr(), line, cell.character, row)
     }
 }
 
-/// Writes the dots of a character of text.
-#[inline(always)]
-pub(crate) fn put_text<const CW: usize>(
-    host: &Host,
-    crtc: &Crtc,
-    attr: &Attr,
-    dac: &Dac,
-    table: &Shades,
-    line: &TextLine,
-    counter: u16,
-    row: &mut [u8],
-    at: usize,
-)
-    requires table { table.now ≡ shades_of attr.now dac.now }
-    requires line { line.now ≡ text_line host.now crtc.now attr.now }
-    requires few_a { line.now.map_a ≤ 57375 }
-    requires few_b { line.now.map_b ≤ 57375 }
-    requires on { is_screen_off host.now ≡ false }
-    requires shown { is_palette_shown attr.now ≡ true }
-    requires few { is_256_colours host.now ≡ false }
-    requires text { is_graphics host.now ≡ false }
-    requires room { 3 * (at + CW) ≤ length row.old }
-    requires width { CW < 10 }
-    ensures { AreDotsPut CW at (λ i. source_colour host.now crtc.now attr.now dac.now (dot_of counter i)) row.old row.new }
-{
-    let cell = cell_at(host, fetch_address(crtc.fields(), counter));
-    let fore = shade_in(attr, dac, table, cell.attribute % 16);
-    let back = shade_in(attr, dac, table, line.background(cell));
-    let lit = lit_dots(host, crtc, attr, line, counter, cell);
-    put_glyph::<CW>(row, at, lit, fore, back);
+/// A way to draw the characters of a line, which are `CW` dots wide.
+pub(crate) trait Characters<const CW: usize> {
+    ghost use Rattle.vga_dots.specs.Display.{DisplayState};
+
+    ghost draws: { Self → DisplayState → Type 0 };
+
+    /// Writes the dots of a counter's character.
+    fn put(&self, display: &Display<'_>, counter: u16, row: &mut [u8], at: usize)
+        requires draws { draws self.now display.now }
+        requires room { 3 * (at + CW) ≤ length row.old }
+        requires width { CW < 10 }
+        ensures { AreDotsPut CW at (λ i. source_colour display.now (dot_of counter i)) row.old row.new };
 }
 
-/// Writes the dots of a character in 16 colours.
-#[inline(always)]
-pub(crate) fn put_planar<const CW: usize>(
-    host: &Host,
-    crtc: &Crtc,
-    attr: &Attr,
-    dac: &Dac,
-    table: &Shades,
-    counter: u16,
-    row: &mut [u8],
-    at: usize,
-)
-    requires table { table.now ≡ shades_of attr.now dac.now }
-    requires on { is_screen_off host.now ≡ false }
-    requires shown { is_palette_shown attr.now ≡ true }
-    requires few { is_256_colours host.now ≡ false }
-    requires graphics { is_graphics host.now ≡ true }
-    requires room { 3 * (at + CW) ≤ length row.old }
-    requires width { CW < 10 }
-    ensures { AreDotsPut CW at (λ i. source_colour host.now crtc.now attr.now dac.now (dot_of counter i)) row.old row.new }
-{
-    let address = fetch_address(crtc.fields(), counter);
-    put_planes::<CW>(row, at, host.planes().word(address), table);
+/// Characters of text, with what is looked up once for a line.
+#[derive(Drop)]
+pub(crate) struct TextCharacters {
+    table: Shades,
+    line: TextLine,
 }
 
-/// Writes the dots of a character in 256 colours.
-#[inline(always)]
-pub(crate) fn put_packed<const CW: usize>(
-    host: &Host,
-    crtc: &Crtc,
-    attr: &Attr,
-    dac: &Dac,
-    counter: u16,
-    row: &mut [u8],
-    at: usize,
-)
-    requires on { is_screen_off host.now ≡ false }
-    requires shown { is_palette_shown attr.now ≡ true }
-    requires many { is_256_colours host.now ≡ true }
-    requires room { 3 * (at + CW) ≤ length row.old }
-    requires width { CW < 10 }
-    ensures { AreDotsPut CW at (λ i. source_colour host.now crtc.now attr.now dac.now (dot_of counter i)) row.old row.new }
-{
-    let address = fetch_address(crtc.fields(), counter);
-    let fetched = host.planes().load(address);
-    let pixels = [
-        masked(dac, fetched.byte(0)),
-        masked(dac, fetched.byte(1)),
-        masked(dac, fetched.byte(2)),
-        masked(dac, fetched.byte(3)),
-        masked(dac, 0),
-    ];
-    put_pixels::<CW>(row, at, &pixels);
+impl TextCharacters {
+    ghost use Rattle.vga_dots.specs.Character.{DrawsText};
+
+    /// Those of the beam's line.
+    pub(crate) fn at_beam(display: &Display<'_>) -> TextCharacters
+        requires { ShowsText display.now }
+        ensures { DrawsText result display.now }
+    {
+        TextCharacters {
+            table: shades(display.attr(), display.dac()),
+            line: TextLine::at_beam(display),
+        }
+    }
+}
+
+impl<const CW: usize> Characters<CW> for TextCharacters {
+    ghost use Rattle.vga_dots.specs.Character.{DrawsText};
+
+    ghost draws = { DrawsText };
+
+    #[inline(always)]
+    fn put(&self, display: &Display<'_>, counter: u16, row: &mut [u8], at: usize) {
+        let cell = cell_at(display.host(), display.fetch_address(counter));
+        let fore = shade_in(&self.table, cell.attribute % 16);
+        let back = shade_in(&self.table, self.line.background(cell));
+        let lit = lit_dots(display, &self.line, counter, cell);
+        put_glyph::<CW>(row, at, lit, fore, back);
+    }
+}
+
+/// Characters in 16 colours, with the colours looked up once.
+#[derive(Drop)]
+pub(crate) struct PlanarCharacters {
+    table: Shades,
+}
+
+impl PlanarCharacters {
+    ghost use Rattle.vga_dots.specs.Character.{DrawsPlanes};
+
+    /// Those of any line.
+    pub(crate) fn new(display: &Display<'_>) -> PlanarCharacters
+        requires { ShowsPlanes display.now }
+        ensures { DrawsPlanes result display.now }
+    {
+        PlanarCharacters {
+            table: shades(display.attr(), display.dac()),
+        }
+    }
+}
+
+impl<const CW: usize> Characters<CW> for PlanarCharacters {
+    ghost use Rattle.vga_dots.specs.Character.{DrawsPlanes};
+
+    ghost draws = { DrawsPlanes };
+
+    #[inline(always)]
+    fn put(&self, display: &Display<'_>, counter: u16, row: &mut [u8], at: usize) {
+        let address = display.fetch_address(counter);
+        put_planes::<CW>(row, at, display.planes().word(address), &self.table);
+    }
+}
+
+/// Characters in 256 colours.
+#[derive(Drop)]
+pub(crate) struct PackedCharacters;
+
+impl<const CW: usize> Characters<CW> for PackedCharacters {
+    ghost use Rattle.vga_dots.specs.Display.{ShowsBytes};
+
+    ghost draws = { λ _ d. ShowsBytes d };
+
+    #[inline(always)]
+    fn put(&self, display: &Display<'_>, counter: u16, row: &mut [u8], at: usize) {
+        let address = display.fetch_address(counter);
+        let fetched = display.planes().load(address);
+        let dac = display.dac();
+        let pixels = [
+            masked(dac, fetched.byte(0)),
+            masked(dac, fetched.byte(1)),
+            masked(dac, fetched.byte(2)),
+            masked(dac, fetched.byte(3)),
+            masked(dac, 0),
+        ];
+        put_pixels::<CW>(row, at, &pixels);
+    }
 }

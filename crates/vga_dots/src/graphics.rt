@@ -3,8 +3,8 @@ ghost use Rattle.std.specs.Prelude.{◌≡◌, ◌<◌};
 ghost use Rattle.std.specs.Int.{bit_at};
 ghost use Rattle.vga_dots.specs.Graphics.{plane_bits as bits_of_planes, planar_nibble as nibble_of_planes, packed_byte as byte_of_planes};
 
-use crate::source_dot::{SourceDot, fetch_address};
-use vga_crtc::Crtc;
+use crate::display::Display;
+use crate::source_dot::SourceDot;
 use vga_host::Host;
 
 /// Bit `i`, 0 to 7, of a byte, as 0 or 1.
@@ -31,12 +31,12 @@ fn plane_bits(host: &Host, address: u16, i: u8) -> u8
 
 /// The four bits of a dot in 16 colours.
 #[tactic(auto, unfolding(crate::specs::Graphics::planar_nibble))]
-pub(crate) fn planar_nibble(host: &Host, crtc: &Crtc, source: SourceDot) -> u8
-    ensures { result ≡ nibble_of_planes host.now crtc.now source }
+pub(crate) fn planar_nibble(display: &Display<'_>, source: SourceDot) -> u8
+    ensures { result ≡ nibble_of_planes display.now.host display.now.crtc source }
 {
     if source.dot < 8 {
-        let address = fetch_address(crtc.fields(), source.counter);
-        plane_bits(host, address, 7 - source.dot)
+        let address = display.fetch_address(source.counter);
+        plane_bits(display.host(), address, 7 - source.dot)
     } else {
         0
     }
@@ -44,12 +44,12 @@ pub(crate) fn planar_nibble(host: &Host, crtc: &Crtc, source: SourceDot) -> u8
 
 /// The byte of a dot in 256 colours.
 #[tactic(auto, unfolding(crate::specs::Graphics::packed_byte))]
-pub(crate) fn packed_byte(host: &Host, crtc: &Crtc, source: SourceDot) -> u8
-    ensures { result ≡ byte_of_planes host.now crtc.now source }
+pub(crate) fn packed_byte(display: &Display<'_>, source: SourceDot) -> u8
+    ensures { result ≡ byte_of_planes display.now.host display.now.crtc source }
 {
     if source.dot < 8 {
-        let address = fetch_address(crtc.fields(), source.counter);
-        host.planes().byte((source.dot / 2) as usize, address)
+        let address = display.fetch_address(source.counter);
+        display.planes().byte((source.dot / 2) as usize, address)
     } else {
         0
     }

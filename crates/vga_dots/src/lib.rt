@@ -3,6 +3,7 @@
 
 mod character;
 pub mod colour;
+pub mod display;
 mod graphics;
 pub mod line;
 mod row;
@@ -11,4 +12,5 @@ mod text;
 mod text_line;
 
 pub use colour::dot_colour;
+pub use display::Display;
 pub use line::{draw_line, shown_characters};

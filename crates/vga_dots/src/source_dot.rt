@@ -2,9 +2,8 @@
 ghost use Rattle.std.specs.Prelude.{◌≡◌, ◌<◌};
 ghost use Rattle.vga_dots.specs.SourceDot.{panned as panned_dots, source_dot, fetch_address as fetch_address_of};
 
-use vga_attr::Attr;
-use vga_crtc::{Crtc, Registers};
-use vga_host::Host;
+use crate::display::Display;
+use vga_crtc::Registers;
 
 /// A dot of a character: the character's counter, and the dot's number, 0 to 8.
 #[derive(Clone, Copy)]
@@ -15,12 +14,14 @@ pub struct SourceDot {
 
 /// By how many dots, 0 to 8, the picture is panned to the left.
 #[tactic(auto, unfolding(crate::specs::SourceDot::panned))]
-pub(crate) fn panned(host: &Host, crtc: &Crtc, attr: &Attr) -> u8
-    ensures value { result ≡ panned_dots host.now crtc.now attr.now }
+pub(crate) fn panned(display: &Display<'_>) -> u8
+    ensures value { result ≡ panned_dots display.now.host display.now.crtc display.now.attr }
     ensures few { result < 9 }
 {
+    let attr = display.attr();
+    let host = display.host();
     let panning = attr.panning();
-    if crtc.beam().split && attr.is_panning_reset() {
+    if display.beam().split && attr.is_panning_reset() {
         0
     } else if host.is_256_colours() {
         panning & 6
@@ -36,12 +37,12 @@ pub(crate) fn panned(host: &Host, crtc: &Crtc, attr: &Attr) -> u8
 impl SourceDot {
     /// Where the dot at the beam comes from: the beam's character, or the next one.
     #[tactic(auto, unfolding(crate::specs::SourceDot::source_dot))]
-    pub(crate) fn at_beam(host: &Host, crtc: &Crtc, attr: &Attr) -> SourceDot
-        ensures { result ≡ source_dot host.now crtc.now attr.now }
+    pub(crate) fn at_beam(display: &Display<'_>) -> SourceDot
+        ensures { result ≡ source_dot display.now.host display.now.crtc display.now.attr }
     {
-        let beam = crtc.beam();
-        let width = host.character_width();
-        let dot = beam.dot + panned(host, crtc, attr);
+        let beam = display.beam();
+        let width = display.host().character_width();
+        let dot = beam.dot + panned(display);
         if dot < width {
             SourceDot {
                 counter: beam.base.wrapping_add(beam.character),

@@ -8,7 +8,8 @@ ghost use Rattle.vga_dots.specs.Text.{is_blinked_away as is_blinked_cell, is_cur
 ghost use Rattle.vga_dots.specs.Text.{is_foreground as is_foreground_dot, background as background_of};
 ghost use Rattle.vga_dots.specs.Text.{cell_nibble as nibble_of_cell, text_nibble as nibble_of_text};
 
-use crate::source_dot::{SourceDot, fetch_address};
+use crate::display::Display;
+use crate::source_dot::SourceDot;
 use vga_attr::Attr;
 use vga_bits::is_set;
 use vga_crtc::Crtc;
@@ -91,20 +92,20 @@ pub(crate) fn is_glyph_dot(attr: &Attr, character: u8, row: u8, i: u8) -> bool
 
 /// Whether a cell is underlined at the beam's scan line.
 #[tactic(auto, unfolding(crate::specs::Text::is_underlined))]
-pub(crate) fn is_underlined(crtc: &Crtc, attr: &Attr, cell: Cell) -> bool
-    ensures { result ≡ is_underlined_cell crtc.now attr.now cell }
+pub(crate) fn is_underlined(display: &Display<'_>, cell: Cell) -> bool
+    ensures { result ≡ is_underlined_cell display.now.crtc display.now.attr cell }
 {
-    attr.is_monochrome()
+    display.attr().is_monochrome()
         && cell.attribute & UNDERLINE_BITS == 1
-        && crtc.beam().scan == crtc.fields().underline_location()
+        && display.beam().scan == display.crtc().fields().underline_location()
 }
 
 /// Whether a cell is blinked away in the beam's frame.
 #[tactic(auto, unfolding(crate::specs::Text::is_blinked_away))]
-pub(crate) fn is_blinked_away(crtc: &Crtc, attr: &Attr, cell: Cell) -> bool
-    ensures { result ≡ is_blinked_cell crtc.now attr.now cell }
+pub(crate) fn is_blinked_away(display: &Display<'_>, cell: Cell) -> bool
+    ensures { result ≡ is_blinked_cell display.now.crtc display.now.attr cell }
 {
-    attr.is_blink() && is_set(cell.attribute, 7) && 16 <= crtc.beam().frame
+    display.attr().is_blink() && is_set(cell.attribute, 7) && 16 <= display.beam().frame
 }
 
 /// Whether the cursor is shown at a counter.
@@ -123,18 +124,18 @@ pub(crate) fn is_cursor_at(crtc: &Crtc, counter: u16) -> bool
 
 /// Whether a dot has its cell's foreground: by cursor, blink and underline, or else by the glyph.
 #[tactic(auto, unfolding(crate::specs::Text::is_foreground))]
-fn is_foreground(host: &Host, crtc: &Crtc, attr: &Attr, source: SourceDot, cell: Cell) -> bool
-    ensures { result ≡ is_foreground_dot host.now crtc.now attr.now source cell }
+fn is_foreground(display: &Display<'_>, source: SourceDot, cell: Cell) -> bool
+    ensures { result ≡ is_foreground_dot display.now.host display.now.crtc display.now.attr source cell }
 {
-    if is_cursor_at(crtc, source.counter) {
+    if is_cursor_at(display.crtc(), source.counter) {
         true
-    } else if is_blinked_away(crtc, attr, cell) {
+    } else if is_blinked_away(display, cell) {
         false
-    } else if is_underlined(crtc, attr, cell) {
+    } else if is_underlined(display, cell) {
         true
     } else {
-        let row = glyph_row(host, cell, crtc.beam().scan);
-        is_glyph_dot(attr, cell.character, row, source.dot)
+        let row = glyph_row(display.host(), cell, display.beam().scan);
+        is_glyph_dot(display.attr(), cell.character, row, source.dot)
     }
 }
 
@@ -158,21 +159,21 @@ fn background(attr: &Attr, cell: Cell) -> u8
 }
 
 /// The four bits of a dot of a cell.
-fn cell_nibble(host: &Host, crtc: &Crtc, attr: &Attr, source: SourceDot, cell: Cell) -> u8
-    ensures { result ≡ nibble_of_cell host.now crtc.now attr.now source cell }
+fn cell_nibble(display: &Display<'_>, source: SourceDot, cell: Cell) -> u8
+    ensures { result ≡ nibble_of_cell display.now.host display.now.crtc display.now.attr source cell }
 {
-    if is_foreground(host, crtc, attr, source, cell) {
+    if is_foreground(display, source, cell) {
         cell.attribute % 16
     } else {
-        background(attr, cell)
+        background(display.attr(), cell)
     }
 }
 
 /// The four bits of a dot of text.
 #[tactic(auto, unfolding(crate::specs::Text::text_nibble))]
-pub(crate) fn text_nibble(host: &Host, crtc: &Crtc, attr: &Attr, source: SourceDot) -> u8
-    ensures { result ≡ nibble_of_text host.now crtc.now attr.now source }
+pub(crate) fn text_nibble(display: &Display<'_>, source: SourceDot) -> u8
+    ensures { result ≡ nibble_of_text display.now.host display.now.crtc display.now.attr source }
 {
-    let cell = cell_at(host, fetch_address(crtc.fields(), source.counter));
-    cell_nibble(host, crtc, attr, source, cell)
+    let cell = cell_at(display.host(), display.fetch_address(source.counter));
+    cell_nibble(display, source, cell)
 }

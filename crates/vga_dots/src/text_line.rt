@@ -1,14 +1,13 @@
 //! What is looked up once for a line of text.
-ghost use Rattle.std.specs.Prelude.{◌≡◌, ◌+◌, ◌*◌, ◌%◌, ◌<◌, ◌≤◌, ◌==◌, ◌&&◌, not, nat_le, nat_lt, bit_and, if◌then◌else◌};
+ghost use Rattle.std.specs.Prelude.{◌≡◌, ◌+◌, ◌*◌, ◌%◌, ◌<◌, ◌==◌, ◌&&◌, not, nat_le, nat_lt, bit_and, if◌then◌else◌};
 ghost use Rattle.vga_bits.specs.Bits.{is_set as is_set_of, field};
 ghost use Rattle.vga_crtc.specs.Fields.{is_cursor_off, cursor_start, cursor_end};
-ghost use Rattle.vga_dots.specs.TextLine.{text_line};
+ghost use Rattle.vga_dots.specs.TextLine.{text_line, HasGlyphs};
 
+use crate::display::Display;
 use crate::text::{Cell, GLYPH_BYTES, UNDERLINE_BITS, background_bits, map_start};
-use vga_attr::Attr;
 use vga_bits::is_set;
 use vga_crtc::Crtc;
-use vga_host::Host;
 
 /// What the beam's line decides for all characters of text alike. A character is drawn by these, and the
 /// registers are not looked at again.
@@ -47,11 +46,13 @@ fn has_cursor(crtc: &Crtc) -> bool
 impl TextLine {
     /// What the beam's line decides.
     #[tactic(auto, unfolding(crate::specs::TextLine::text_line))]
-    pub(crate) fn at_beam(host: &Host, crtc: &Crtc, attr: &Attr) -> TextLine
-        ensures value { result ≡ text_line host.now crtc.now attr.now }
-        ensures few_a { result.map_a ≤ 57375 }
-        ensures few_b { result.map_b ≤ 57375 }
+    pub(crate) fn at_beam(display: &Display<'_>) -> TextLine
+        ensures value { result ≡ text_line display.now.host display.now.crtc display.now.attr }
+        ensures glyphs { HasGlyphs result }
     {
+        let host = display.host();
+        let crtc = display.crtc();
+        let attr = display.attr();
         let beam = crtc.beam();
         TextLine {
             cursor: crtc.fields().cursor_location(),
@@ -88,8 +89,7 @@ impl TextLine {
 
     /// Where the row of a cell's glyph stands in its plane.
     pub(crate) fn glyph_place(&self, cell: Cell) -> u16
-        requires few_a { self.now.map_a ≤ 57375 }
-        requires few_b { self.now.map_b ≤ 57375 }
+        requires { HasGlyphs self.now }
         ensures { result ≡ (if is_set_of cell.attribute 3 then self.now.map_a else self.now.map_b) + 32 * cell.character }
     {
         let map = if is_set(cell.attribute, 3) {

@@ -13,7 +13,7 @@ use vga_bits::Refusal;
 use vga_crtc::laws::{beam_in_line, dot_moves, frame_ends, line_moves, start_is_taken_once};
 use vga_crtc::{Beam, Crtc};
 use vga_dac::Dac;
-use vga_dots::{dot_colour, shown_characters};
+use vga_dots::{Display, dot_colour, shown_characters};
 use vga_host::Host;
 
 /// The most dots that one step may advance.
@@ -43,24 +43,26 @@ fn draw_dot(host: &Host, crtc: &mut Crtc, attr: &Attr, dac: &Dac, canvas: &mut C
     start_is_taken_once();
     crtc.take_start();
     if crtc.is_display() {
-        canvas.add(crtc.beam().line, dot_colour(host, crtc, attr, dac));
+        let colour = dot_colour(&Display::new(host, crtc, attr, dac));
+        canvas.add(crtc.beam().line, colour);
     }
     crtc.step_dot(width);
 }
 
 /// Adds the display dots of the beam's line, the start of whose frame is taken.
-fn draw_row(host: &Host, crtc: &Crtc, attr: &Attr, dac: &Dac, canvas: &mut Canvas)
-    requires place { IsDrawnTo crtc.now.beam 0 canvas.old.line canvas.old.width }
-    requires start { IsLineStart crtc.now.beam }
-    ensures dots { canvas.new.dots ≡ canvas.old.dots ++ line_dots host.now crtc.now attr.now dac.now }
-    ensures below { canvas.new.line ≤ crtc.now.beam.line }
+fn draw_row(display: &Display<'_>, canvas: &mut Canvas)
+    requires place { IsDrawnTo display.now.crtc.beam 0 canvas.old.line canvas.old.width }
+    requires start { IsLineStart display.now.crtc.beam }
+    ensures dots { canvas.new.dots ≡ canvas.old.dots ++ line_dots display.now }
+    ensures below { canvas.new.line ≤ display.now.crtc.beam.line }
 {
+    let crtc = display.crtc();
     if crtc.is_display() {
         let count = shown_characters(crtc.fields()) as usize;
-        if host.is_eight_dots() {
-            canvas.add_line::<8>(host, crtc, attr, dac, count);
+        if display.host().is_eight_dots() {
+            canvas.add_line::<8>(display, count);
         } else {
-            canvas.add_line::<9>(host, crtc, attr, dac, count);
+            canvas.add_line::<9>(display, count);
         }
     }
 }
@@ -78,13 +80,8 @@ impl Card {
         let width = self.host.character_width();
         clear_at_first_dot(self.crtc.beam(), &mut self.canvas);
         self.crtc.take_start();
-        draw_row(
-            &self.host,
-            &self.crtc,
-            &self.attr,
-            &self.dac,
-            &mut self.canvas,
-        );
+        let display = Display::new(&self.host, &self.crtc, &self.attr, &self.dac);
+        draw_row(&display, &mut self.canvas);
         self.crtc.step_line(width);
     }
 

@@ -10,5 +10,5 @@ returns-clause-line g c =
     let same = c.as_mut_slice.ensures.value in
     let lines : length new ≡ length mid.items = omega (arith, ap length same) in
     rw (written_back mid.len new mid.items whole)
-    (line_appended g.row.CW c.args.host.now c.args.crtc.now c.args.attr.now c.args.dac.now c.args.buffer.now.items mid.items new c.args.used c.args.len
+    (line_appended g.row.CW c.args.display.now c.args.buffer.now.items mid.items new c.args.used c.args.len
     c.requires.used c.requires.len c.lengthen.ensures.front (omega (arith, lines, c.lengthen.ensures.len)) (rw same at c.draw_at.ensures.front) (rw same at c.draw_at.ensures.drawn))

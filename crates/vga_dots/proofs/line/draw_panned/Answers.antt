@@ -4,20 +4,20 @@ use Rattle.vga_dots.proofs.LineLemmas.{line_panned, narrow, eight_wide}
 use Rattle.vga_dots.proofs.line.draw_panned.Goals as goal
 
 pub draw_characters-requires-clause-width : goal.draw_characters-requires-clause-width
-draw_characters-requires-clause-width g c = narrow c.args.host.now g.row.CW c.requires.width
+draw_characters-requires-clause-width g c = narrow c.args.display.now.host g.row.CW c.requires.width
 
 pub draw_characters-requires-clause-room : goal.draw_characters-requires-clause-room
 draw_characters-requires-clause-room g c =
-    let few = narrow c.args.host.now g.row.CW c.requires.width in
+    let few = narrow c.args.display.now.host g.row.CW c.requires.width in
     omega (arith, mul-le (c.args.count + 1) g.row.CW 257 9 (omega (arith, c.requires.count)) (omega (arith, few)))
 
 pub copy_dots-requires-clause-there : goal.copy_dots-requires-clause-there
 copy_dots-requires-clause-there g c =
-    let few = narrow c.args.host.now g.row.CW c.requires.width in
+    let few = narrow c.args.display.now.host g.row.CW c.requires.width in
     omega (arith, c.requires.few, mul-le c.args.count g.row.CW 256 9 c.requires.count (omega (arith, few)))
 
 pub returns : goal.returns
 returns g c =
-    let some = eight_wide c.args.host.now g.row.CW c.requires.width in
-    line_panned g.row.CW c.args.host.now c.args.crtc.now c.args.attr.now c.args.dac.now c.requires.width c.args.count c.args.panned _ c.draw_characters.new.row c.args.row.now c.copy_dots.new.row
+    let some = eight_wide c.args.display.now.host g.row.CW c.requires.width in
+    line_panned g.row.CW c.args.display.now c.requires.width c.args.count c.args.panned _ c.draw_characters.new.row c.args.row.now c.copy_dots.new.row
     c.requires.panned (omega (arith, c.requires.few, some)) c.draw_characters.ensures c.copy_dots.ensures

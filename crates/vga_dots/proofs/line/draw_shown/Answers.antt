@@ -4,13 +4,11 @@ use Rattle.vga_dots.proofs.LineLemmas.{line_unpanned, narrow}
 use Rattle.vga_dots.proofs.line.draw_shown.Goals as goal
 
 pub draw_characters-requires-clause-width : goal.draw_characters-requires-clause-width
-draw_characters-requires-clause-width g c = narrow c.args.host.now g.row.CW c.requires.width
+draw_characters-requires-clause-width g c = narrow c.args.display.now.host g.row.CW c.requires.width
 
 pub returns-then-panned-eq0 : goal.returns-then-panned-eq0
 returns-then-panned-eq0 g c =
-    let h = c.args.host.now in
-    let r = c.args.crtc.now in
-    let a = c.args.attr.now in
+    let d = c.args.display.now in
     let unmoved : c.panned-panned.result ≡ 0 = omega arith in
-    let none : panned h r a ≡ 0 = sym c.panned-panned.ensures.value ∙ unmoved in
-    line_unpanned g.row.CW h r a c.args.dac.now c.requires.width c.args.count c.args.row.now c.draw_characters.new.row none c.draw_characters.ensures
+    let none : panned d.host d.crtc d.attr ≡ 0 = sym c.panned-panned.ensures.value ∙ unmoved in
+    line_unpanned g.row.CW d c.requires.width c.args.count c.args.row.now c.draw_characters.new.row none c.draw_characters.ensures

@@ -53,10 +53,10 @@ returns-clause-dots g c =
     let later = λ (j : ℕ) (l : v < j). c.self.invariant.1.later j (omega arith) in
     let whole = drawn.whole ∙ ap (λ m. bytes ++ take m drawn.row) (sym count) in
     let old = c.args.self.now.dots in
-    let width : 0 < character_width c.args.host.now = wide _ in
+    let width : 0 < character_width c.args.display.now.host = wide _ in
     let some : 0 < g.row.CW = omega (arith, width, c.requires.width) in
     rw (whole, was)
     (stored_line a.widths.items bytes row v n within later c.self.invariant.1.counted
     ∙ ap (λ (s : Sheet). s.dots ++ dots_from (replicate n v) row) c.self.view_is
     ∙ ap (λ m. old ++ dots_from (replicate n v) (take m drawn.row)) count
-    ∙ ap (λ (x : List Dot). old ++ x) (appended_line c.args.host.now c.args.crtc.now c.args.attr.now c.args.dac.now g.row.CW n v drawn.row drawn.blank c.requires.width some c.requires.shown (ap (λ m. m * g.row.CW) c.requires.count) here drawn.drawn drawn.long))
+    ∙ ap (λ (x : List Dot). old ++ x) (appended_line c.args.display.now g.row.CW n v drawn.row drawn.blank c.requires.width some c.requires.shown (ap (λ m. m * g.row.CW) c.requires.count) here drawn.drawn drawn.long))

@@ -1,27 +1,29 @@
-use Rattle.std.proofs.Common.{◌++◌, sym, subst, ap, ◌∙◌, List}
+use Rattle.std.proofs.Common.{◌≤◌, ◌++◌, sym, subst, ap, ◌∙◌, List}
 use Rattle.vga_crtc.specs.declared.beam.Beam.{Beam}
 use Rattle.vga_crtc.specs.Crtc.{CrtcState}
-use Rattle.vga_crtc.specs.Beam.{after_start}
 use Rattle.vga_crtc.specs.Raster.{IsLineStart}
+use Rattle.vga_dots.specs.Display.{DisplayState}
 use Rattle.vga_card.specs.Picture.{Dot}
 use Rattle.vga_card.specs.Card.{CardState}
 use Rattle.vga_card.specs.Dots.{fresh_dots, dots}
-use Rattle.vga_card.specs.Line.{line_dots, line_count}
+use Rattle.vga_card.specs.Line.{line_dots, started_display, line_count}
 use Rattle.vga_card.proofs.PlaceLemmas.{drawn_started}
 use Rattle.vga_card.proofs.LineLemmas.{line_is, line_moves, started_start}
 use Rattle.vga_card.proofs.card.Card.take_line.Goals as goal
 
 pub draw_row-requires-clause-place : goal.draw_row-requires-clause-place
 draw_row-requires-clause-place c =
-    rw (c.take_start.ensures.started, c.clear_at_first_dot.ensures.line, c.clear_at_first_dot.ensures.width, c.beam.ensures.value) (drawn_started c.start_is_taken_once.ensures.place c.self.inside.crtc 0 _ _ c.self.invariant)
+    rw (ap (λ (x : DisplayState). x.crtc) c.new-display.ensures, c.take_start.ensures.started, c.clear_at_first_dot.ensures.line, c.clear_at_first_dot.ensures.width, c.beam.ensures.value) (drawn_started c.start_is_taken_once.ensures.place c.self.inside.crtc 0 _ _ c.self.invariant)
 
 pub draw_row-requires-clause-start : goal.draw_row-requires-clause-start
 draw_row-requires-clause-start c =
     let here = subst (λ (x : CardState). IsLineStart x.crtc.beam) (sym c.self.view_is) c.requires in
-    rw c.take_start.ensures.started (started_start c.start_is_taken_once.ensures.place c.self.inside.crtc here)
+    rw (ap (λ (x : DisplayState). x.crtc) c.new-display.ensures, c.take_start.ensures.started) (started_start c.start_is_taken_once.ensures.place c.self.inside.crtc here)
 
 pub invariant_of-self : goal.invariant_of-self
-invariant_of-self c = line_moves c.start_is_taken_once.ensures.place c.line_moves.ensures _ c.take_start.new.self c.step_line.new.self _ _ c.step_line.ensures c.draw_row.ensures.below
+invariant_of-self c =
+    let below = subst (λ (x : DisplayState). c.draw_row.new.canvas.line ≤ x.crtc.beam.line) c.new-display.ensures c.draw_row.ensures.below in
+    line_moves c.start_is_taken_once.ensures.place c.line_moves.ensures _ c.take_start.new.self c.step_line.new.self _ _ c.step_line.ensures below
 
 pub returns : goal.returns
 returns c =
@@ -29,8 +31,9 @@ returns c =
     let old : CardState = record { host = a.host; crtc = a.crtc; attr = a.attr; dac = a.dac; misc = a.misc; drawn = a.canvas.dots } in
     let here = subst (λ (x : CardState). IsLineStart x.crtc.beam) (sym c.self.view_is) c.requires in
     let draws = c.draw_row.ensures.dots
-    ∙ ap (λ (x : CrtcState). c.clear_at_first_dot.new.canvas.dots ++ line_dots a.host x a.attr a.dac) c.take_start.ensures.started
-    ∙ ap (λ (dots : List Dot). dots ++ line_dots a.host (after_start a.crtc) a.attr a.dac) (c.clear_at_first_dot.ensures.dots ∙ ap (λ (b : Beam). fresh_dots b a.canvas.dots) c.beam.ensures.value) in
+    ∙ ap (λ (x : DisplayState). c.clear_at_first_dot.new.canvas.dots ++ line_dots x) c.new-display.ensures
+    ∙ ap (λ (x : CrtcState). c.clear_at_first_dot.new.canvas.dots ++ line_dots (record { host = a.host; crtc = x; attr = a.attr; dac = a.dac })) c.take_start.ensures.started
+    ∙ ap (λ (dots : List Dot). dots ++ line_dots (started_display old)) (c.clear_at_first_dot.ensures.dots ∙ ap (λ (b : Beam). fresh_dots b a.canvas.dots) c.beam.ensures.value) in
     let moves = rw (c.take_start.ensures.started, c.character_width-width.ensures.value) at c.step_line.ensures in
     line_is c.start_is_taken_once.ensures.place c.start_is_taken_once.ensures.dots c.beam_in_line.ensures.place c.beam_in_line.ensures.count c.frame_ends.ensures
     old c.step_line.new.self c.draw_row.new.canvas.dots here moves draws ∙ ap (λ (x : CardState). dots (line_count x) x) c.self.view_is

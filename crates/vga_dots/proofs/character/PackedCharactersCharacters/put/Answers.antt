@@ -1,0 +1,29 @@
+-- The four bytes are fetched, and each is two dots.
+use Rattle.std.proofs.Common.{◌≡◌, ℕ, List, refl, ap, ◌∙◌, arith}
+use Rattle.vga_bits.specs.Four.{of_plane}
+use Rattle.vga_planes.specs.Planes.{byte_at, bytes_at}
+use Rattle.vga_dac.specs.Dac.{DacState}
+use Rattle.vga_dots.specs.SourceDot.{fetch_address}
+use Rattle.vga_dots.specs.Line.{masked, dot_of, source_colour}
+use Rattle.vga_dots.proofs.RowLemmas.{dots_alike}
+use Rattle.vga_dots.proofs.CharacterLemmas.{packed_dot}
+use Rattle.vga_dots.proofs.character.PackedCharactersCharacters.put.Goals as goal
+
+pub returns : goal.returns
+returns g c =
+    let d = c.args.display.now in
+    let n = c.args.counter in
+    let memory = d.host.memory in
+    let address = fetch_address d.crtc.registers n in
+    let fetched : (p v : ℕ) → v ≡ of_plane c.load-fetched.result p → of_plane (bytes_at memory address) p ≡ byte_at memory p address → v ≡ byte_at memory p address =
+    λ p v e same. e ∙ ap (λ l. of_plane l p) c.load-fetched.ensures ∙ ap (λ m. of_plane (bytes_at m c.fetch_address-address.result) p) c.planes.ensures
+    ∙ ap (λ o. of_plane (bytes_at memory o) p) c.fetch_address-address.ensures ∙ same in
+    let colour : (q : List ℕ) (v w : ℕ) → q ≡ masked c.dac-dac.result.now v → v ≡ w → q ≡ masked d.dac w =
+    λ q v w e same. e ∙ ap (λ (x : DacState). masked x v) c.dac-dac.ensures ∙ ap (masked d.dac) same in
+    let e0 = colour _ _ _ c.masked.ensures (fetched 0 _ c.byte.ensures refl) in
+    let e1 = colour _ _ _ c.masked-2.ensures (fetched 1 _ c.byte-2.ensures refl) in
+    let e2 = colour _ _ _ c.masked-3.ensures (fetched 2 _ c.byte-3.ensures refl) in
+    let e3 = colour _ _ _ c.masked-4.ensures (fetched 3 _ c.byte-4.ensures refl) in
+    let e4 = colour _ _ 0 c.masked-5.ensures refl in
+    dots_alike g.row.CW c.args.at _ (λ i. source_colour d (dot_of n i)) c.args.row.now c.put_pixels.new.row c.put_pixels.ensures
+    (λ i l. packed_dot d n _ _ _ _ _ i (omega (arith, l, c.requires.width)) c.requires.draws e0 e1 e2 e3 e4)

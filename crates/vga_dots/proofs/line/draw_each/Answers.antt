@@ -1,0 +1,13 @@
+use Rattle.std.proofs.Common.{◌+◌, ◌*◌, ◌%◌, subst}
+use Rattle.vga_crtc.specs.declared.beam.Beam.{Beam}
+use Rattle.vga_dots.specs.Row.{AreDotsPut}
+use Rattle.vga_dots.specs.Line.{dot_of, source_colour, unpanned_colour}
+use Rattle.vga_dots.proofs.RowLemmas.{characters_more}
+use Rattle.vga_dots.proofs.line.draw_each.Goals as goal
+
+pub loop-x-preserved : goal.loop-x-preserved
+loop-x-preserved g c =
+    let d = c.args.display.now in
+    let x = c.loop-x.x in
+    characters_more g.row.CW x (unpanned_colour d) c.args.row.now c.loop-x.row c.put.new.row c.loop-x.invariant
+    (subst (λ (b : Beam). AreDotsPut g.row.CW (x * g.row.CW) (λ i. source_colour d (dot_of ((b.base + x) % 65536) i)) c.loop-x.row c.put.new.row) c.beam-base.ensures.value c.put.ensures)

@@ -1,7 +1,0 @@
-use Rattle.vga_dots.specs.Row.{AreCharactersPut}
-use Rattle.vga_dots.specs.Line.{unpanned_colour}
-use Rattle.vga_dots.proofs.line.draw_packed.Given as goal
-
--- the characters so far are drawn
-abbrev pub invariant-loop-x : goal.invariant-loop-x
-invariant-loop-x g l = AreCharactersPut g.row.CW l.x (unpanned_colour l.host l.crtc l.attr l.dac) l.fn.row l.row
