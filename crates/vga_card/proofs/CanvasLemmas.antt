@@ -9,7 +9,7 @@ use Rattle.vga_dots.specs.Line.{shown_characters, IsLineDrawn}
 use Rattle.vga_card.specs.Line.{IsLineAppended}
 use Rattle.vga_bits.proofs.ByteLemmas.{zeros_at}
 use Rattle.vga_card.specs.Picture.{Dot, widest, highest, lines_of, lines_from}
-use Rattle.vga_card.specs.Canvas.{Sheet, empty_sheet, dots_from, stored_dots, IsCanvas}
+use Rattle.vga_card.specs.Canvas.{CanvasState, blank_canvas, dots_from, stored_dots, IsCanvas}
 
 -- no later line has a dot
 no_lines : (u : ℕ) (ws : List ℕ) → ((j : ℕ) → slice_index ws j ≡ 0) → lines_from u ws ≡ []
@@ -80,14 +80,14 @@ pub record HasRoom (ws : List ℕ) (line v n : ℕ) : Type 0 where
   pub beside : v ≡ line → slice_index ws line + n ≤ widest
 
 -- a canvas shows whether it has room for one dot more
-pub room_shown : (sheet : Sheet) (dots : List Dot) (ws : List ℕ) (line v : ℕ) → record { dots = dots; line = line; width = slice_index ws line } ≡ sheet → v < 1024 → sheet.line ≤ v → (v ≡ sheet.line → sheet.width < widest) → HasRoom ws line v 1
-room_shown sheet dots ws line v shown inside after room =
-    let last = ap (λ (s : Sheet). s.line) shown in
+pub room_shown : (canvas : CanvasState) (dots : List Dot) (ws : List ℕ) (line v : ℕ) → record { dots = dots; line = line; width = slice_index ws line } ≡ canvas → v < 1024 → canvas.line ≤ v → (v ≡ canvas.line → canvas.width < widest) → HasRoom ws line v 1
+room_shown canvas dots ws line v shown inside after room =
+    let last = ap (λ (s : CanvasState). s.line) shown in
     record {
       after = omega (arith, last, after);
       inside = inside;
       few = omega arith;
-      beside = λ same. omega (arith, ap (λ (s : Sheet). s.width) shown, room (same ∙ last));
+      beside = λ same. omega (arith, ap (λ (s : CanvasState). s.width) shown, room (same ∙ last));
     }
 
 -- the width of a line before n dots more
@@ -152,7 +152,7 @@ empty_dots : (buffer ws : List ℕ) → ((j : ℕ) → slice_index ws j ≡ 0) �
 unfolding dots_from
 empty_dots buffer ws h = ap (λ x. dots_from x buffer) (no_lines 0 ws h)
 
-pub shows_none : (buffer ws : List ℕ) → ((j : ℕ) → slice_index ws j ≡ 0) → record { dots = stored_dots ws buffer; line = 0; width = slice_index ws 0 } ≡ empty_sheet
+pub shows_none : (buffer ws : List ℕ) → ((j : ℕ) → slice_index ws j ≡ 0) → record { dots = stored_dots ws buffer; line = 0; width = slice_index ws 0 } ≡ blank_canvas
 shows_none buffer ws h = ap (λ (dots : List Dot). record { dots = dots; line = 0; width = slice_index ws 0 }) (empty_dots buffer ws h) ∙ ap (λ (n : ℕ). record { dots = []; line = 0; width = n }) (h 0)
 
 pub blank : (n : ℕ) (ws : List ℕ) → ws ≡ zeros n → (j : ℕ) → slice_index ws j ≡ 0
@@ -168,14 +168,14 @@ stored_line ws buffer colours v n l h e =
     ∙ ap (λ k. stored_dots ws buffer ++ dots_from (replicate n k) colours) z
 
 -- a canvas shows whether it has room for n dots more
-pub line_shown : (sheet : Sheet) (dots : List Dot) (ws : List ℕ) (line v n : ℕ) → record { dots = dots; line = line; width = slice_index ws line } ≡ sheet → v < highest → sheet.line ≤ v → n ≤ widest → (v ≡ sheet.line → sheet.width + n ≤ widest) → HasRoom ws line v n
-line_shown sheet dots ws line v n shown inside after few room =
-    let last = ap (λ (s : Sheet). s.line) shown in
+pub line_shown : (canvas : CanvasState) (dots : List Dot) (ws : List ℕ) (line v n : ℕ) → record { dots = dots; line = line; width = slice_index ws line } ≡ canvas → v < highest → canvas.line ≤ v → n ≤ widest → (v ≡ canvas.line → canvas.width + n ≤ widest) → HasRoom ws line v n
+line_shown canvas dots ws line v n shown inside after few room =
+    let last = ap (λ (s : CanvasState). s.line) shown in
     record {
       after = omega (arith, last, after);
       inside = inside;
       few = few;
-      beside = λ same. omega (arith, ap (λ (s : Sheet). s.width) shown, room (same ∙ last));
+      beside = λ same. omega (arith, ap (λ (s : CanvasState). s.width) shown, room (same ∙ last));
     }
 
 -- more memory does no harm

@@ -7,7 +7,7 @@ ghost use Rattle.vga_crtc.specs.Fields.{vertical_display_end};
 ghost use Rattle.vga_dots.specs.Line.{shown_characters, IsLineDrawn};
 ghost use Rattle.vga_card.specs.Picture.{Dot, widest, highest, bytes_of, shape, rows, IsPictureOf};
 ghost use Rattle.vga_card.specs.Frames.{IsSmall};
-ghost use Rattle.vga_card.specs.Canvas.{IsSmallShape, empty_sheet, width_with};
+ghost use Rattle.vga_card.specs.Canvas.{IsSmallShape, blank_canvas, width_with};
 ghost use Rattle.vga_card.specs.Line.{line_dots, IsLineAppended};
 
 use crate::drawn::Drawn;
@@ -38,9 +38,9 @@ pub(crate) struct Canvas {
 
 impl Model for Canvas {
     ghost use Rattle.std.specs.Prelude.{◌≤◌, length, slice_index, take, vec_capacity};
-    ghost use Rattle.vga_card.specs.Canvas.{Sheet, IsCanvas, stored_dots};
+    ghost use Rattle.vga_card.specs.Canvas.{CanvasState, IsCanvas, stored_dots};
 
-    ghost Value = { Sheet };
+    ghost Value = { CanvasState };
 
     ghost view = { λ c. record { dots = stored_dots c.widths.items (take c.used c.buffer.items); line = c.line; width = slice_index c.widths.items c.line } };
 
@@ -138,7 +138,7 @@ impl Canvas {
     /// No dots, with room for the largest frame: no later call takes memory. It fails with
     /// `OutOfMemory` alone.
     pub(crate) fn new(alloc: Global) -> Result<Canvas, Fault>
-        ensures ok { IfOk result (λ canvas. canvas ≡ empty_sheet) }
+        ensures ok { IfOk result (λ canvas. canvas ≡ blank_canvas) }
         ensures err { IsOkUnless result Fault.OutOfMemory }
     {
         let buffer = room_for(alloc, 3 * WIDEST * HIGHEST)?;
@@ -193,7 +193,7 @@ impl Canvas {
 
     /// Takes all dots away.
     pub(crate) fn clear(&mut self)
-        ensures { self.new ≡ empty_sheet }
+        ensures { self.new ≡ blank_canvas }
     {
         self.used = 0;
         clear_widths(self.widths.as_mut_slice(), self.line as usize);

@@ -3,7 +3,7 @@ use Rattle.std.proofs.lemmas.List.{get_or_read, length-take}
 use Rattle.vga_crtc.specs.declared.beam.Beam.{Beam}
 use Rattle.vga_host.specs.Fields.{character_width}
 use Rattle.vga_card.specs.Picture.{Dot}
-use Rattle.vga_card.specs.Canvas.{Sheet, dots_from}
+use Rattle.vga_card.specs.Canvas.{CanvasState, dots_from}
 use Rattle.vga_card.proofs.CanvasLemmas.{line_shown, stored_line, canvas_more, roomier, bytes_fit}
 use Rattle.vga_card.proofs.FrameLemmas.{wide}
 use Rattle.vga_card.proofs.RowLemmas.{appended_line}
@@ -49,7 +49,7 @@ returns-clause-dots g c =
     let count = ap (λ m. 3 * (m * g.row.CW)) c.requires.count in
     let within : v < length a.widths.items = omega (arith, here) in
     let was = get_or_read a.widths.items v c.index_mut-width.result.now within c.index_mut-width.ensures.value 0 in
-    let after : a.line ≤ v = omega (arith, here, ap (λ (s : Sheet). s.line) c.self.view_is) in
+    let after : a.line ≤ v = omega (arith, here, ap (λ (s : CanvasState). s.line) c.self.view_is) in
     let later = λ (j : ℕ) (l : v < j). c.self.invariant.1.later j (omega arith) in
     let whole = drawn.whole ∙ ap (λ m. bytes ++ take m drawn.row) (sym count) in
     let old = c.args.self.now.dots in
@@ -57,6 +57,6 @@ returns-clause-dots g c =
     let some : 0 < g.row.CW = omega (arith, width, c.requires.width) in
     rw (whole, was)
     (stored_line a.widths.items bytes row v n within later c.self.invariant.1.counted
-    ∙ ap (λ (s : Sheet). s.dots ++ dots_from (replicate n v) row) c.self.view_is
+    ∙ ap (λ (s : CanvasState). s.dots ++ dots_from (replicate n v) row) c.self.view_is
     ∙ ap (λ m. old ++ dots_from (replicate n v) (take m drawn.row)) count
     ∙ ap (λ (x : List Dot). old ++ x) (appended_line c.args.display.now g.row.CW n v drawn.row drawn.blank c.requires.width some c.requires.shown (ap (λ m. m * g.row.CW) c.requires.count) here drawn.drawn drawn.long))
