@@ -3,8 +3,12 @@
 -- Interface Technical Reference, Video Subsystems, "Alphanumeric Modes"; the values are this adapter's choice.
 use Rattle.std.specs.Prelude.{ℕ, ◌==◌, if◌then◌else◌, slice_set, Option, Some, None}
 use Rattle.bios_modes.specs.declared.heights.TextRow.{TextRow}
+use Rattle.bios_modes.specs.declared.kind.Kind.{Kind}
+use Rattle.bios_modes.specs.declared.kind.Kind.TheVariants.{Text, Planar, Packed}
 use Rattle.bios_modes.specs.declared.modes.ModeRow.{ModeRow}
-use Rattle.bios_modes.specs.Modes.{mode_row, colour_text, monochrome_text}
+use Rattle.bios_modes.specs.declared.palette.Palette.{Palette}
+use Rattle.bios_modes.specs.declared.palette.Palette.TheVariants.{Monochrome}
+use Rattle.bios_modes.specs.Modes.{mode_row}
 
 -- characters of 8 scan lines, 50 rows on a page, underlined in this scan line
 abbrev pub fifty_rows : ℕ → TextRow
@@ -18,7 +22,7 @@ twenty_eight_rows underline = record { height = 14; last_row = 27; size = 0x2000
 abbrev pub twenty_five_rows : ℕ → TextRow
 twenty_five_rows underline = record { height = 16; last_row = 24; size = 0x1000; pages = 8; maximum_scan_line = 0x4F; vertical_display_end = 0x8F; underline = underline; cursor_type = 0x0D0E }
 
--- the rows of mode 3, which underlines in no scan line of a character
+-- the rows of text in colour, which underlines in no scan line of a character
 abbrev pub colour_rows : ℕ → Option TextRow
 colour_rows height =
     if height == 8 then Some (fifty_rows 0x1F)
@@ -26,7 +30,7 @@ colour_rows height =
     else if height == 16 then Some (twenty_five_rows 0x1F)
     else None
 
--- the rows of mode 7, which underlines in the last one
+-- the rows of text without colours, which underlines in the last one
 abbrev pub monochrome_rows : ℕ → Option TextRow
 monochrome_rows height =
     if height == 8 then Some (fifty_rows 0x07)
@@ -34,9 +38,23 @@ monochrome_rows height =
     else if height == 16 then Some (twenty_five_rows 0x0F)
     else None
 
--- the row of a mode and a height of its characters, if it is one of text, and there are characters of this height
+-- what hangs on a row, if there is one
+abbrev pub if_row : {A : Type 0} → Option ModeRow → (ModeRow → Option A) → Option A
+if_row None f = None
+if_row (Some row) f = f row
+
+-- what a mode has with characters of this height, if it is one of text, and there are characters of this height
+abbrev pub text_rows : Kind → Palette → ℕ → Option TextRow
+text_rows Text Monochrome height = monochrome_rows height
+text_rows Text _ height = colour_rows height
+text_rows Planar _ height = None
+text_rows Packed _ height = None
+
+abbrev pub text_row_in : ModeRow → ℕ → Option TextRow
+text_row_in row height = text_rows row.kind row.palette height
+
 abbrev pub text_row : ℕ → ℕ → Option TextRow
-text_row mode height = if mode == 0x03 then colour_rows height else if mode == 0x07 then monochrome_rows height else None
+text_row mode height = if_row (mode_row mode) (λ row. text_row_in row height)
 
 -- a text mode with characters of another height
 abbrev pub with_text : ModeRow → TextRow → ModeRow
@@ -53,9 +71,15 @@ abbrev pub with_height : ModeRow → Option TextRow → Option ModeRow
 with_height row None = None
 with_height row (Some text) = Some (with_text row text)
 
--- the row of a mode whose characters have this height: of text by the table; of graphics the mode's own, whatever the height is
+-- a mode with characters of this height: of text by the table; of graphics the mode's own, whatever the height is
+abbrev pub by_kind : Kind → ModeRow → ℕ → Option ModeRow
+by_kind Text row height = with_height row (text_row_in row height)
+by_kind Planar row height = Some row
+by_kind Packed row height = Some row
+
+abbrev pub at_height : ModeRow → ℕ → Option ModeRow
+at_height row height = by_kind row.kind row height
+
+-- the row of a mode whose characters have this height
 abbrev pub row_at : ℕ → ℕ → Option ModeRow
-row_at mode height =
-    if mode == 0x03 then with_height colour_text (colour_rows height)
-    else if mode == 0x07 then with_height monochrome_text (monochrome_rows height)
-    else mode_row mode
+row_at mode height = if_row (mode_row mode) (λ row. at_height row height)

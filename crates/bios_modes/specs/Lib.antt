@@ -1,5 +1,6 @@
 pub mod Bda
 pub mod Modes
+pub mod Kinds
 pub mod Heights
 pub mod Palette
 pub mod Fonts

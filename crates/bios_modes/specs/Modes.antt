@@ -1,8 +1,10 @@
--- The mode table: the registers that each mode sets, and what the BIOS data say of it.
+-- The mode table: the registers that each mode sets, what the BIOS data say of it, how it uses the memory, and its palette.
 -- From the IBM PS/2 Hardware Interface Technical Reference, Video Subsystems, "Register Settings for BIOS Modes", and the IBM PS/2
 -- and PC BIOS Interface Technical Reference, "Interrupt 10H - Video" and "BIOS Data Area"; the values are this adapter's choice.
 use Rattle.std.specs.Prelude.{ℕ, ◌==◌, if◌then◌else◌, [], ◌∷◌, Option, Some, None}
+use Rattle.bios_modes.specs.declared.kind.Kind.TheVariants.{Text, Planar, Packed}
 use Rattle.bios_modes.specs.declared.modes.ModeRow.{ModeRow}
+use Rattle.bios_modes.specs.declared.palette.Palette.TheVariants.{Colours16, Colours64, Colours256, Monochrome}
 
 -- mode 3: text of 80 columns in 16 colours
 abbrev pub colour_text : ModeRow
@@ -20,6 +22,8 @@ colour_text = record {
   crtc_address = 0x3D4;
   cursor_type = 0x0D0E;
   base = 0xB8000;
+  kind = Text;
+  palette = Colours64;
 }
 
 -- mode 7: text of 80 columns without colours
@@ -38,6 +42,8 @@ monochrome_text = record {
   crtc_address = 0x3B4;
   cursor_type = 0x0D0E;
   base = 0xB0000;
+  kind = Text;
+  palette = Monochrome;
 }
 
 -- mode 0D: 320 by 200 dots in 16 colours
@@ -56,6 +62,8 @@ planes_320_by_200 = record {
   crtc_address = 0x3D4;
   cursor_type = 0x0000;
   base = 0xA0000;
+  kind = Planar;
+  palette = Colours16;
 }
 
 -- mode 10: 640 by 350 dots in 16 colours
@@ -74,6 +82,8 @@ planes_640_by_350 = record {
   crtc_address = 0x3D4;
   cursor_type = 0x0000;
   base = 0xA0000;
+  kind = Planar;
+  palette = Colours64;
 }
 
 -- mode 12: 640 by 480 dots in 16 colours
@@ -92,6 +102,8 @@ planes_640_by_480 = record {
   crtc_address = 0x3D4;
   cursor_type = 0x0000;
   base = 0xA0000;
+  kind = Planar;
+  palette = Colours64;
 }
 
 -- mode 13: 320 by 200 dots in 256 colours
@@ -110,6 +122,8 @@ bytes_320_by_200 = record {
   crtc_address = 0x3D4;
   cursor_type = 0x0000;
   base = 0xA0000;
+  kind = Packed;
+  palette = Colours256;
 }
 
 -- the row of a mode, if it is one of the six

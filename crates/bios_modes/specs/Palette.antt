@@ -1,9 +1,13 @@
 -- The default palettes: the DAC entries that a mode sets.
 -- From the IBM PS/2 and PC BIOS Interface Technical Reference, "Interrupt 10H - Video", "Default Palette"; the values are this
 -- adapter's choice.
-use Rattle.std.specs.Prelude.{ℕ, Bool, ◌+◌, ◌-◌, ◌*◌, ◌/◌, ◌==◌, ◌&&◌, ◌||◌, not, nat_lt, if◌then◌else◌, List, [], ◌∷◌}
+use Rattle.std.specs.Prelude.{ℕ, Bool, ◌+◌, ◌-◌, ◌*◌, ◌/◌, ◌==◌, ◌&&◌, true, false, not, nat_lt, if◌then◌else◌, List, [], ◌∷◌, Option, Some, None}
 use Rattle.std.specs.Int.{bit_at}
 use Rattle.vga_bits.specs.Bits.{is_set, field}
+use Rattle.bios_modes.specs.declared.modes.ModeRow.{ModeRow}
+use Rattle.bios_modes.specs.declared.palette.Palette.{Palette}
+use Rattle.bios_modes.specs.declared.palette.Palette.TheVariants.{Colours16, Colours64, Colours256, Monochrome}
+use Rattle.bios_modes.specs.Modes.{mode_row}
 
 -- red, green and blue
 abbrev pub rgb : ℕ → ℕ → ℕ → List ℕ
@@ -13,7 +17,7 @@ rgb red green blue = red ∷ green ∷ blue ∷ []
 abbrev pub component : ℕ → ℕ → ℕ → ℕ
 component n strong weak = 0x2A * bit_at n strong + 0x15 * bit_at n weak
 
--- modes 3, 10 and 12: each component has two bits of its own
+-- 64 colours: each component has two bits of its own
 abbrev pub of_six_bits : ℕ → List ℕ
 of_six_bits n = rgb (component n 2 5) (component n 1 4) (component n 0 3)
 
@@ -28,25 +32,43 @@ of_bright_bit bright n =
 abbrev pub grey : ℕ → List ℕ
 grey level = rgb level level level
 
--- mode 7: black, or one of two greys
+-- black, or one of two greys
 abbrev pub of_intensity : ℕ → List ℕ
 of_intensity n = grey (if is_set n 3 then 0x2A + 0x15 * bit_at n 4 else 0)
 
--- mode 13: 16 colours, 16 greys from black to white, and colours of three bits of red, three of green and two of blue
+-- 256 colours: 16 colours, 16 greys from black to white, and colours of three bits of red, three of green and two of blue
 abbrev pub of_byte : ℕ → List ℕ
 of_byte n =
     if nat_lt n 0x10 then of_bright_bit 3 n
     else if nat_lt n 0x20 then grey (63 * (n - 16) / 15)
     else rgb (9 * field n 7 5) (9 * field n 4 2) (21 * field n 1 0)
 
--- whether the number is one of a mode
-abbrev pub is_mode : ℕ → Bool
-is_mode mode = (mode == 0x03) || (mode == 0x07) || (mode == 0x0D) || (mode == 0x10) || (mode == 0x12) || (mode == 0x13)
+-- entry n of a palette
+abbrev pub palette_entry : Palette → ℕ → List ℕ
+palette_entry Colours64 n = of_six_bits n
+palette_entry Monochrome n = of_intensity n
+palette_entry Colours16 n = of_bright_bit 4 n
+palette_entry Colours256 n = of_byte n
+
+-- the palette of a mode, by its row; of a number that is no mode's it is that of mode 3
+abbrev pub palette_in : Option ModeRow → Palette
+palette_in None = Colours64
+palette_in (Some row) = row.palette
+
+abbrev pub palette_of : ℕ → Palette
+palette_of mode = palette_in (mode_row mode)
 
 -- entry n of a mode's palette
 abbrev pub dac_entry : ℕ → ℕ → List ℕ
-dac_entry mode n =
-    if mode == 0x07 then of_intensity n
-    else if mode == 0x0D then of_bright_bit 4 n
-    else if mode == 0x13 then of_byte n
-    else of_six_bits n
+dac_entry mode n = palette_entry (palette_of mode) n
+
+-- whether a palette has no colours
+abbrev pub is_grey : Palette → Bool
+is_grey Colours64 = false
+is_grey Monochrome = true
+is_grey Colours16 = false
+is_grey Colours256 = false
+
+-- whether a mode shows no colours
+abbrev pub is_monochrome_mode : ℕ → Bool
+is_monochrome_mode mode = is_grey (palette_of mode)

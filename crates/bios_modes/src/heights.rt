@@ -1,8 +1,10 @@
 //! What the height of characters makes of a text mode.
 ghost use Rattle.std.specs.Prelude.{◌≡◌};
-ghost use Rattle.bios_modes.specs.Heights.{colour_rows, fifty_rows, monochrome_rows, row_at as row_at_of, text_row as text_row_of, twenty_eight_rows, twenty_five_rows, with_text};
+ghost use Rattle.bios_modes.specs.Heights.{at_height, colour_rows, fifty_rows, monochrome_rows, row_at as row_at_of, text_row as text_row_of, text_row_in, twenty_eight_rows, twenty_five_rows, with_text};
 
+use super::kind::Kind;
 use super::modes::{ModeRow, mode_row};
+use super::palette::Palette;
 
 /// The registers of the CRT controller that the height of characters changes: the maximum scan line, the end of the
 /// vertical display, and the location of underlines.
@@ -83,7 +85,7 @@ impl TextRow {
         }
     }
 
-    /// The rows of mode 3, which underlines in no scan line of a character.
+    /// The rows of text in colour, which underlines in no scan line of a character.
     fn of_colour(height: u8) -> Option<TextRow>
         ensures { result ≡ colour_rows height }
     {
@@ -95,7 +97,7 @@ impl TextRow {
         }
     }
 
-    /// The rows of mode 7, which underlines in the last one.
+    /// The rows of text without colours, which underlines in the last one.
     fn of_monochrome(height: u8) -> Option<TextRow>
         ensures { result ≡ monochrome_rows height }
     {
@@ -124,17 +126,38 @@ impl ModeRow {
         row.cursor_type = text.cursor_type;
         row
     }
+
+    /// What the mode has with characters of this height, if it is one of text, and there are characters of this height.
+    fn text_row(&self, height: u8) -> Option<TextRow>
+        ensures { result ≡ text_row_in self.now height }
+    {
+        match (self.kind, self.palette) {
+            (Kind::Text, Palette::Monochrome) => TextRow::of_monochrome(height),
+            (Kind::Text, _) => TextRow::of_colour(height),
+            _ => None,
+        }
+    }
+
+    /// The mode with characters of this height, if it is one of text; else the mode as it is.
+    fn at_height(self, height: u16) -> Option<ModeRow>
+        ensures { result ≡ at_height self height }
+    {
+        if self.kind != Kind::Text {
+            return Some(self);
+        }
+        if height > u8::MAX as u16 {
+            return None;
+        }
+        let text = self.text_row(height as u8)?;
+        Some(self.with_text(text))
+    }
 }
 
 /// What a text mode, 3 or 7, has with characters of 8, 14 or 16 scan lines. There is no row of any other mode or height.
 pub fn text_row(mode: u8, height: u8) -> Option<TextRow>
     ensures { result ≡ text_row_of mode height }
 {
-    match mode {
-        0x03 => TextRow::of_colour(height),
-        0x07 => TextRow::of_monochrome(height),
-        _ => None,
-    }
+    mode_row(mode)?.text_row(height)
 }
 
 /// The row of a mode whose characters have this height: of a text mode by the text-height table, if there is one; of a
@@ -142,14 +165,5 @@ pub fn text_row(mode: u8, height: u8) -> Option<TextRow>
 pub fn row_at(mode: u8, height: u16) -> Option<ModeRow>
     ensures { result ≡ row_at_of mode height }
 {
-    let row = mode_row(mode)?;
-    if mode != 0x03 && mode != 0x07 {
-        return Some(row);
-    }
-    if height > u8::MAX as u16 {
-        return None;
-    }
-    let height = height as u8;
-    let text = text_row(mode, height)?;
-    Some(row.with_text(text))
+    mode_row(mode)?.at_height(height)
 }

@@ -6,12 +6,14 @@ mod bounds;
 pub mod font;
 pub mod fonts;
 pub mod heights;
+pub mod kind;
 pub mod modes;
-mod palette;
+pub mod palette;
 
 pub use bda::Bda;
 pub use font::Font;
 pub use fonts::Fonts;
 pub use heights::{TextRow, row_at, text_row};
+pub use kind::{Kind, is_packed, is_text, kind_of};
 pub use modes::{ModeRow, mode_row};
-pub use palette::dac_entry;
+pub use palette::{Palette, dac_entry, is_monochrome, palette_of};

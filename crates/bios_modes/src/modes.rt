@@ -2,8 +2,11 @@
 ghost use Rattle.std.specs.Prelude.{◌≡◌};
 ghost use Rattle.bios_modes.specs.Modes.{mode_row as row_of};
 
+use super::kind::Kind;
+use super::palette::Palette;
+
 /// A mode's row of the mode table: the values of the adapter's registers, in the order of their numbers,
-/// and what the BIOS data say of the mode.
+/// what the BIOS data say of the mode, how it uses the memory, and the colours that it begins with.
 #[derive(Clone, Copy, PartialEq, Eq, Debug)]
 pub struct ModeRow {
     /// The miscellaneous output register.
@@ -32,6 +35,10 @@ pub struct ModeRow {
     pub cursor_type: u16,
     /// The address of page 0 in the processor's memory.
     pub base: u32,
+    /// How the mode uses the memory.
+    pub kind: Kind,
+    /// The colours that the mode begins with.
+    pub palette: Palette,
 }
 
 /// Mode 3: text of 80 columns in 16 colours.
@@ -55,6 +62,8 @@ const COLOUR_TEXT: ModeRow = ModeRow {
     crtc_address: 0x3D4,
     cursor_type: 0x0D0E,
     base: 0xB8000,
+    kind: Kind::Text,
+    palette: Palette::Colours64,
 };
 
 /// Mode 7: text of 80 columns without colours.
@@ -78,6 +87,8 @@ const MONOCHROME_TEXT: ModeRow = ModeRow {
     crtc_address: 0x3B4,
     cursor_type: 0x0D0E,
     base: 0xB0000,
+    kind: Kind::Text,
+    palette: Palette::Monochrome,
 };
 
 /// Mode 0D: 320 by 200 dots in 16 colours.
@@ -101,6 +112,8 @@ const PLANES_320_BY_200: ModeRow = ModeRow {
     crtc_address: 0x3D4,
     cursor_type: 0x0000,
     base: 0xA0000,
+    kind: Kind::Planar,
+    palette: Palette::Colours16,
 };
 
 /// Mode 10: 640 by 350 dots in 16 colours.
@@ -124,6 +137,8 @@ const PLANES_640_BY_350: ModeRow = ModeRow {
     crtc_address: 0x3D4,
     cursor_type: 0x0000,
     base: 0xA0000,
+    kind: Kind::Planar,
+    palette: Palette::Colours64,
 };
 
 /// Mode 12: 640 by 480 dots in 16 colours.
@@ -147,6 +162,8 @@ const PLANES_640_BY_480: ModeRow = ModeRow {
     crtc_address: 0x3D4,
     cursor_type: 0x0000,
     base: 0xA0000,
+    kind: Kind::Planar,
+    palette: Palette::Colours64,
 };
 
 /// Mode 13: 320 by 200 dots in 256 colours.
@@ -170,6 +187,8 @@ const BYTES_320_BY_200: ModeRow = ModeRow {
     crtc_address: 0x3D4,
     cursor_type: 0x0000,
     base: 0xA0000,
+    kind: Kind::Packed,
+    palette: Palette::Colours256,
 };
 
 /// The row of a mode: 3, 7, 0D, 10, 12 or 13 (hexadecimal). There is none of any other.

@@ -1,7 +1,22 @@
 //! The default palettes.
-ghost use Rattle.std.specs.Prelude.{◌≡◌, ◌<◌, ◌≤◌, IsTrue};
+ghost use Rattle.std.specs.Prelude.{◌≡◌, ◌<◌, ◌≤◌};
 ghost use Rattle.std.specs.Int.{bit_at};
-ghost use Rattle.bios_modes.specs.Palette.{component as component_of, of_six_bits as six_bits_of, of_bright_bit as bright_bit_of, of_intensity as intensity_of, of_byte as byte_of, is_mode, dac_entry as entry_of};
+ghost use Rattle.bios_modes.specs.Palette.{component as component_of, of_six_bits as six_bits_of, of_bright_bit as bright_bit_of, of_intensity as intensity_of, of_byte as byte_of, palette_entry, is_monochrome_mode, palette_of as palette_of_mode, dac_entry as entry_of};
+
+use super::modes::mode_row;
+
+/// The default palettes.
+#[derive(Clone, Copy, PartialEq, Eq, Debug)]
+pub enum Palette {
+    /// 64 colours, of two bits for each component.
+    Colours64,
+    /// Black and two greys.
+    Monochrome,
+    /// 16 colours, of a bit for each component and a bright one.
+    Colours16,
+    /// 16 colours, 16 greys, and colours by the bits of a byte.
+    Colours256,
+}
 
 /// Two thirds of a component's full 3F, and one third.
 const STRONG: u8 = 0x2A;
@@ -70,16 +85,40 @@ fn of_byte(n: u8) -> [u8; 3]
     }
 }
 
-/// Red, green and blue of entry n of a mode's default palette, each 0 to 3F (hexadecimal). The mode is one of
-/// 3, 7, 0D, 10, 12 and 13 (hexadecimal).
+impl Palette {
+    /// Red, green and blue of entry n, each 0 to 3F (hexadecimal).
+    pub fn entry(self, n: u8) -> [u8; 3]
+        ensures { result ≡ palette_entry self n }
+    {
+        match self {
+            Palette::Colours64 => of_six_bits(n),
+            Palette::Monochrome => of_intensity(n),
+            Palette::Colours16 => of_bright_bit(n, 4),
+            Palette::Colours256 => of_byte(n),
+        }
+    }
+}
+
+/// The default palette of a mode, by its row; of a number that is no mode's it is that of mode 3.
+pub fn palette_of(mode: u8) -> Palette
+    ensures { result ≡ palette_of_mode mode }
+{
+    match mode_row(mode) {
+        Some(row) => row.palette,
+        None => Palette::Colours64,
+    }
+}
+
+/// Red, green and blue of entry n of a mode's default palette, each 0 to 3F (hexadecimal).
 pub fn dac_entry(mode: u8, n: u8) -> [u8; 3]
-    requires { IsTrue (is_mode mode) }
     ensures { result ≡ entry_of mode n }
 {
-    match mode {
-        0x07 => of_intensity(n),
-        0x0D => of_bright_bit(n, 4),
-        0x13 => of_byte(n),
-        _ => of_six_bits(n),
-    }
+    palette_of(mode).entry(n)
+}
+
+/// Whether a mode shows no colours.
+pub fn is_monochrome(mode: u8) -> bool
+    ensures { result ≡ is_monochrome_mode mode }
+{
+    palette_of(mode) == Palette::Monochrome
 }

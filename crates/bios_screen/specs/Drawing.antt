@@ -1,19 +1,30 @@
 -- A plain screen and the dot that comes next: dots are taken one at a time, and services may come between them.
 -- From the IBM PS/2 Hardware Interface Technical Reference, Video Subsystems, "CRT Controller Registers"; that the page of a frame
 -- is taken at its first dot is this adapter's choice.
-use Rattle.std.specs.Prelude.{ℕ, zero, suc, ◌≡◌, ◌≢◌, ◌⊎◌, ◌+◌, ◌-◌, ◌*◌, ◌/◌, ◌%◌, ◌==◌, ◌&&◌, nat_lt, Bool, if◌then◌else◌, List, [], ◌++◌, None}
+use Rattle.std.specs.Prelude.{ℕ, zero, suc, ◌≡◌, ◌≢◌, ◌⊎◌, ◌+◌, ◌-◌, ◌*◌, ◌/◌, ◌%◌, ◌==◌, ◌&&◌, nat_lt, Bool, if◌then◌else◌, List, [], ◌++◌, Option, Some, None}
 use Rattle.bios_services.specs.declared.glyph_load.GlyphLoad.{GlyphLoad}
-use Rattle.bios_services.specs.ModeSet.{is_text}
+use Rattle.bios_modes.specs.Kinds.{is_text}
+use Rattle.bios_modes.specs.Modes.{mode_row}
+use Rattle.bios_modes.specs.declared.modes.ModeRow.{ModeRow}
 use Rattle.bios_screen.specs.Screen.{Screen}
 use Rattle.bios_screen.specs.Loaded.{load_refusal_on}
-use Rattle.bios_screen.specs.Picture.{dot_at, picture_width, picture_height, next_frame}
+use Rattle.bios_screen.specs.Picture.{dot_at, lines_of, pixel_width, picture_width, picture_height, next_frame}
 
--- how many dots a line of a mode has, and how many lines a frame has: the picture and what lies right of it and below
+-- how many columns of characters a mode has, by its row; a number that is no mode's is taken to have 80
+abbrev pub columns_in : Option ModeRow → ℕ
+columns_in None = 80
+columns_in (Some row) = row.columns
+
+abbrev pub columns_of : ℕ → ℕ
+columns_of mode = columns_in (mode_row mode)
+
+-- how many dots a line of a mode has, and how many lines a frame has: the picture and what lies right of it, which is a quarter of
+-- it, and below
 abbrev pub dots_a_line : ℕ → ℕ
-dots_a_line mode = if is_text mode then 900 else if mode == 0x0D then 400 else 800
+dots_a_line mode = if is_text mode then 900 else 10 * (pixel_width mode * columns_of mode)
 
 abbrev pub lines_a_frame : ℕ → ℕ
-lines_a_frame mode = if mode == 0x12 then 525 else 449
+lines_a_frame mode = if lines_of mode == 480 then 525 else 449
 
 -- how many dots a frame has. It is opaque, since it would be counted down to.
 unfoldable pub dots_a_frame : ℕ → ℕ

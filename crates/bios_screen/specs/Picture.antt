@@ -2,9 +2,12 @@
 -- From the IBM PS/2 and PC BIOS Interface Technical Reference, "Interrupt 10H - Video", and the IBM PS/2 Hardware Interface
 -- Technical Reference, Video Subsystems, "Alphanumeric Modes" and "All Points Addressable Modes"; at which frames characters and
 -- cursor blink, and what comes first of underline, blink and cursor, is this adapter's choice.
-use Rattle.std.specs.Prelude.{ℕ, ◌+◌, ◌-◌, ◌*◌, ◌/◌, ◌%◌, ◌==◌, ◌&&◌, ◌||◌, not, nat_lt, nat_le, Bool, true, false, if◌then◌else◌, List, [], ◌∷◌, slice_index, bit_and}
+use Rattle.std.specs.Prelude.{ℕ, ◌+◌, ◌-◌, ◌*◌, ◌/◌, ◌%◌, ◌==◌, ◌&&◌, not, nat_lt, nat_le, Bool, true, false, if◌then◌else◌, List, [], ◌∷◌, slice_index, bit_and, Option, Some, None}
 use Rattle.vga_bits.specs.Bits.{is_set, field}
-use Rattle.bios_services.specs.ModeSet.{is_text}
+use Rattle.bios_modes.specs.Kinds.{is_text, is_packed}
+use Rattle.bios_modes.specs.Palette.{is_monochrome_mode}
+use Rattle.bios_modes.specs.Modes.{mode_row}
+use Rattle.bios_modes.specs.declared.modes.ModeRow.{ModeRow}
 use Rattle.bios_services.specs.Registers.{high, low}
 use Rattle.bios_screen.specs.Screen.{Cell, Palette, Screen, page_start, cursor_cell}
 use Rattle.bios_screen.specs.Step.{cell_on, pixel_of, pixel_number}
@@ -21,7 +24,7 @@ is_glyph_dot character byte i =
 
 -- the monochrome display underlines attributes of this pattern, in the last row of a character
 abbrev pub is_underlined : Screen → Cell → ℕ → Bool
-is_underlined s cell r = (s.mode == 0x07) && ((bit_and cell.1 0x77 == 1) && (r == s.layout.height - 1))
+is_underlined s cell r = is_monochrome_mode s.mode && ((bit_and cell.1 0x77 == 1) && (r == s.layout.height - 1))
 
 -- where attributes blink, a cell whose attribute has bit 7 is gone in the second 16 of 32 frames
 abbrev pub is_blinked_away : Screen → Cell → Bool
@@ -68,12 +71,20 @@ text_dot s page x y = shade s.palette (nibble s (cell_shown s page x y) (y % s.l
 
 -- ---- graphics
 
--- how many dots of a line a pixel takes, and how many lines
+-- how many lines of pixels a mode has, by its row
+abbrev pub lines_in : Option ModeRow → ℕ
+lines_in None = 0
+lines_in (Some row) = row.height * (row.last_row + 1)
+
+abbrev pub lines_of : ℕ → ℕ
+lines_of mode = lines_in (mode_row mode)
+
+-- how many dots of a line a pixel takes, which is two where it is a byte; and how many lines, which is two where there are 200
 abbrev pub pixel_width : ℕ → ℕ
-pixel_width mode = if mode == 0x13 then 2 else 1
+pixel_width mode = if is_packed mode then 2 else 1
 
 abbrev pub pixel_height : ℕ → ℕ
-pixel_height mode = if (mode == 0x0D) || (mode == 0x13) then 2 else 1
+pixel_height mode = if lines_of mode == 200 then 2 else 1
 
 -- pixel (x, y) of a page
 abbrev pub pixel_on : Screen → ℕ → ℕ → ℕ → ℕ
@@ -83,7 +94,7 @@ pixel_on s page x y = pixel_of s page (pixel_number s x y)
 unfoldable pub pixel_dot : Screen → ℕ → ℕ → ℕ → List ℕ
 pixel_dot s page x y =
     let pixel = pixel_on s page (x / pixel_width s.mode) (y / pixel_height s.mode) in
-    if s.mode == 0x13 then tint s.palette pixel else shade s.palette pixel
+    if is_packed s.mode then tint s.palette pixel else shade s.palette pixel
 
 -- ---- the picture
 

@@ -14,7 +14,7 @@ use Rattle.bios_services.specs.declared.call.Service.{Service}
 use Rattle.bios_services.specs.declared.colours.ColourService.{ColourService}
 use Rattle.bios_services.specs.declared.colours.ColourService.TheVariants.{SetOverscan}
 use Rattle.bios_services.specs.Plan.{run}
-use Rattle.bios_services.specs.ModeSet.{is_text}
+use Rattle.bios_modes.specs.Kinds.{is_text}
 use Rattle.bios_services.specs.Refusals.{refusal_in_mode}
 use Rattle.bios_services.specs.Calls.{call_of}
 use Rattle.bios_services.specs.Service.{plan_of, Outcome, Answered, service as whole_service}

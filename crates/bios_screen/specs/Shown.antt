@@ -12,7 +12,7 @@ use Rattle.vga_card.specs.Card.{CardState}
 use Rattle.bios_modes.specs.declared.modes.ModeRow.{ModeRow}
 use Rattle.bios_modes.specs.Heights.{row_at}
 use Rattle.bios_modes.specs.Bda.{BiosData}
-use Rattle.bios_services.specs.ModeSet.{is_text}
+use Rattle.bios_modes.specs.Kinds.{is_text, is_packed}
 use Rattle.bios_services.specs.Cursor.{cursor_address, start_address}
 use Rattle.bios_services.specs.Pixels.{dots_across, dots_down}
 use Rattle.bios_screen.specs.Listing.{listing}
@@ -96,7 +96,7 @@ packed_pixel memory n = byte_at memory (n % 4) (n / 4 * 4)
 
 -- pixel k of a page that begins at byte z
 abbrev pub pixel_in : ℕ → Four (List ℕ) → ℕ → ℕ → ℕ
-pixel_in mode memory z k = if mode == 0x13 then packed_pixel memory (z + k) else planar_pixel memory z k
+pixel_in mode memory z k = if is_packed mode then packed_pixel memory (z + k) else planar_pixel memory z k
 
 -- the first n of them
 unfoldable pub pixels_in : ℕ → Four (List ℕ) → ℕ → ℕ → List ℕ

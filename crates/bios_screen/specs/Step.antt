@@ -11,6 +11,8 @@ use Rattle.bios_services.specs.declared.cell_run.CellRun.{CellRun}
 use Rattle.bios_services.specs.declared.strings.StringCall.{StringCall}
 use Rattle.bios_services.specs.declared.call.Service.{Service}
 use Rattle.bios_services.specs.declared.call.Service.TheVariants.{SetCursorType, SetCursor, ReadCursor, SelectPage, ScrollUp, ScrollDown, ReadCell, WriteCells, WritePixel, ReadPixel, Teletype, ReadMode, Colours, ReadAdapter, WriteString, ReadDisplay}
+use Rattle.bios_modes.specs.Kinds.{is_packed}
+use Rattle.bios_modes.specs.Palette.{is_monochrome_mode}
 use Rattle.bios_services.specs.Registers.{low, with_low}
 use Rattle.bios_services.specs.Teletype.{line_start, dots_in}
 use Rattle.bios_services.specs.Strings.{string_len, character_at, ink_at}
@@ -157,7 +159,7 @@ with_pixels s page new = record s { contents = change_pixels page new s.contents
 
 -- what a colour makes of a pixel: one of 256 stands there; of 16 the four low bits do, or by bit 7 their XOR with the pixel
 abbrev pub colour_over : ℕ → ℕ → ℕ → ℕ
-colour_over mode colour old = if mode == 0x13 then colour else if is_set colour 7 then bit_xor old (colour % 16) else colour % 16
+colour_over mode colour old = if is_packed mode then colour else if is_set colour 7 then bit_xor old (colour % 16) else colour % 16
 
 -- one pixel changes, and all others stay
 abbrev pub change_pixel : ℕ → (ℕ → ℕ) → (ℕ → ℕ) → ℕ → ℕ
@@ -179,7 +181,7 @@ pixel_line s k = k / (8 * s.layout.columns) % s.layout.height
 
 -- what a character makes of a pixel where its glyph has a dot, and where it has none: that becomes 0, or by XOR stays
 abbrev pub glyph_pixel : ℕ → ℕ → Bool → ℕ → ℕ
-glyph_pixel mode colour is_dot old = if is_dot then colour_over mode colour old else if not (mode == 0x13) && is_set colour 7 then old else 0
+glyph_pixel mode colour is_dot old = if is_dot then colour_over mode colour old else if not (is_packed mode) && is_set colour 7 then old else 0
 
 -- count cells from the first on get a character by the font of the mode's height, and all other pixels stay
 abbrev pub draw_characters : FontSet → Screen → ℕ → ℕ → ℕ → ℕ → (ℕ → ℕ) → ℕ → ℕ
@@ -209,7 +211,7 @@ row_pixels s rows = 8 * s.layout.columns * (s.layout.height * rows)
 
 -- a window's colour as a pixel
 abbrev pub fill_pixel : ℕ → ℕ → ℕ
-fill_pixel mode colour = if mode == 0x13 then colour else colour % 16
+fill_pixel mode colour = if is_packed mode then colour else colour % 16
 
 -- the window goes up: a pixel takes what stood some rows of characters below it, the last rows get the colour, and all outside stays
 abbrev pub pixels_up : Screen → Scroll → (ℕ → ℕ) → ℕ → ℕ
@@ -343,6 +345,6 @@ answer_on fonts s (ReadPixel page x y) r = record r { ax = with_low r.ax (pixel_
 answer_on fonts s (Teletype character colour) r = r
 answer_on fonts s ReadMode r = record r { ax = s.mode + 256 * s.layout.columns; bx = low r.bx + 256 * s.page }
 answer_on fonts s (Colours service) r = colours_answer s service r
-answer_on fonts s ReadAdapter r = record r { bx = (if s.mode == 0x07 then 0x0103 else 0x0003); cx = 0x0009 }
+answer_on fonts s ReadAdapter r = record r { bx = (if is_monochrome_mode s.mode then 0x0103 else 0x0003); cx = 0x0009 }
 answer_on fonts s (WriteString call) r = r
 answer_on fonts s ReadDisplay r = record r { ax = 0x1A1A; bx = 0x0008 }

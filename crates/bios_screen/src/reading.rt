@@ -1,16 +1,16 @@
 //! Reading the screen that the adapter shows.
-ghost use Rattle.std.specs.Prelude.{◌≡◌, ◌+◌, ◌*◌, ◌/◌, ◌<◌, ◌≤◌, ◌++◌, true, false, vec_len, Some, IfOk, OnOk, IsOkUnless};
+ghost use Rattle.std.specs.Prelude.{◌≡◌, ◌+◌, ◌*◌, ◌/◌, ◌<◌, ◌≤◌, ◌++◌, true, false, vec_len, Some, IfOk, OnOk, IsOkUnless, IsTrue, if◌then◌else◌};
 ghost use Rattle.std.specs.Int.{bit_at};
 ghost use Rattle.vga_planes.specs.Planes.{byte_at};
 ghost use Rattle.bios_modes.specs.Heights.{row_at as row_at_of};
-ghost use Rattle.bios_services.specs.ModeSet.{is_text as is_text_of};
+ghost use Rattle.bios_modes.specs.Kinds.{is_packed as is_packed_of, is_text as is_text_of};
 ghost use Rattle.bios_screen.specs.Raster.{join};
-ghost use Rattle.bios_screen.specs.Shown.{cells_in, glyphs_in, planar_pixel, packed_pixel, pixel_in, pixels_in, page_pixels as page_pixels_of, text_screen, pixel_screen, shows, shown};
+ghost use Rattle.bios_screen.specs.Shown.{cells_in, glyphs_in, planar_pixel, packed_pixel, pixels_in, page_pixels as page_pixels_of, text_screen, pixel_screen, shows, shown};
 
 use crate::palette::Palette;
 use crate::screen::{Layout, Screen};
-use crate::shown::{is_shown, is_text};
-use bios_modes::{Bda, ModeRow, row_at};
+use crate::shown::is_shown;
+use bios_modes::{Bda, ModeRow, is_packed, is_text, row_at};
 use std::alloc::Global;
 use vga_bits::Fault;
 use vga_card::Card;
@@ -100,13 +100,13 @@ fn packed(planes: &Planes, n: u32) -> u8
     planes.byte((n % 4) as usize, (n / 4 * 4) as u16)
 }
 
-/// Pixel k of a page that begins at byte z.
-fn pixel(planes: &Planes, mode: u8, z: u32, k: u32) -> u8
+/// Pixel k of a page that begins at byte z, where it is known whether the mode has a byte for each.
+fn pixel(planes: &Planes, is_byte: bool, z: u32, k: u32) -> u8
     requires planar { z + k / 8 < 65536 }
-    requires packed { mode ≡ 0x13 → z + k < 65536 }
-    ensures { result ≡ pixel_in mode planes.now z k }
+    requires packed { IsTrue is_byte → z + k < 65536 }
+    ensures { result ≡ (if is_byte then packed_pixel planes.now (z + k) else planar_pixel planes.now z k) }
 {
-    if mode == 0x13 {
+    if is_byte {
         packed(planes, z + k)
     } else {
         planar(planes, z, k)
@@ -117,12 +117,13 @@ fn pixel(planes: &Planes, mode: u8, z: u32, k: u32) -> u8
 #[tactic(auto, using(crate::proofs::Shows::Reading::no_pixels, crate::proofs::Shows::Reading::pixel_pushed))]
 fn read_page(planes: &Planes, mode: u8, z: u32, n: u32, pixels: &mut Vec<u8>) -> Result<(), Fault>
     requires planar { z + (n + 7) / 8 ≤ 65536 }
-    requires packed { mode ≡ 0x13 → z + n ≤ 65536 }
+    requires packed { IsTrue (is_packed_of mode) → z + n ≤ 65536 }
     ensures ok { OnOk result (pixels.new.items ≡ pixels.old.items ++ pixels_in mode planes.now z n) }
     ensures err { IsOkUnless result Fault.OutOfMemory }
 {
+    let is_byte = is_packed(mode);
     for k in 0..n {
-        if pixels.push(pixel(planes, mode, z, k)).is_err() {
+        if pixels.push(pixel(planes, is_byte, z, k)).is_err() {
             return Err(Fault::OutOfMemory);
         }
     }
@@ -141,7 +142,7 @@ fn read_pixels(
 ) -> Result<Vec<u8>, Fault>
     requires planar { size * pages ≤ 65536 }
     requires page { (n + 7) / 8 ≤ size }
-    requires packed { mode ≡ 0x13 → n ≤ size }
+    requires packed { IsTrue (is_packed_of mode) → n ≤ size }
     ensures ok { IfOk result (λ pixels. pixels.items ≡ join (λ p. pixels_in mode planes.now (size * p) n) pages) }
     ensures err { IsOkUnless result Fault.OutOfMemory }
 {

@@ -3,7 +3,7 @@ ghost use Rattle.std.specs.Prelude.{◌≡◌};
 ghost use Rattle.bios_screen.specs.Parts.{cell_at, pixel_at, cursor_at};
 
 use crate::palette::Palette;
-use crate::shown::is_text;
+use bios_modes::is_text;
 use std::marker::Model;
 
 /// How a screen is cut: columns and rows of characters on a page, scan lines of a character, how many

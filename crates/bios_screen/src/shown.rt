@@ -2,22 +2,14 @@
 ghost use Rattle.std.specs.Prelude.{◌≡◌, ◌≤◌, ◌<◌, ◌*◌, true, drop, length, Some};
 ghost use Rattle.std.specs.Str.{bytes_eq};
 ghost use Rattle.bios_modes.specs.Heights.{row_at};
-ghost use Rattle.bios_services.specs.ModeSet.{is_text as is_text_of};
 ghost use Rattle.bios_services.specs.Cursor.{start_address};
 ghost use Rattle.bios_screen.specs.Shown.{shows_memory as shows_memory_of, shows_data as shows_data_of, shows_attribute as shows_attribute_of, shows, location_shown, crtc_shown};
 
-use bios_modes::{Bda, ModeRow};
+use bios_modes::{Bda, ModeRow, is_text};
 use vga_attr::Attr;
 use vga_card::Card;
 use vga_crtc::Crtc;
 use vga_host::Host;
-
-/// Whether a mode is one of text.
-pub(crate) fn is_text(mode: u8) -> bool
-    ensures { result ≡ is_text_of mode }
-{
-    mode == 0x03 || mode == 0x07
-}
 
 /// The registers of the sequencer.
 fn sequencer_of(host: &Host) -> [u8; 5]

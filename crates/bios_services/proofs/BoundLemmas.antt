@@ -2,7 +2,7 @@
 use Rattle.std.proofs.Common.{◌≡◌, ◌≢◌, ℕ, ◌*◌, ◌<◌, ◌≤◌, ap, sym, refl, subst, mul-zero, ◌∙◌, arith, IfSome, Bool, true, false, if◌then◌else◌, Option, Some, None, inl, inr, ◌==◌}
 use Rattle.bios_modes.specs.declared.modes.ModeRow.{ModeRow}
 use Rattle.bios_modes.specs.declared.heights.TextRow.{TextRow}
-use Rattle.bios_modes.specs.Heights.{fifty_rows, twenty_eight_rows, twenty_five_rows, colour_rows, monochrome_rows, with_text, with_height, row_at}
+use Rattle.bios_modes.specs.Heights.{fifty_rows, twenty_eight_rows, twenty_five_rows, colour_rows, monochrome_rows, with_text, with_height, if_row, at_height, row_at}
 use Rattle.bios_modes.specs.Modes.{mode_row, colour_text, monochrome_text, planes_320_by_200, planes_640_by_350, planes_640_by_480, bytes_320_by_200}
 use Rattle.bios_modes.specs.Bda.{BiosData}
 use Rattle.bios_modes.specs.Begin.{data_of_mode}
@@ -11,7 +11,8 @@ use Rattle.std.specs.Prelude.{◌+◌, nat_le}
 use Rattle.std.proofs.lemmas.Bool.Decides.{nat_tests}
 use Rattle.vga_bits.specs.declared.refusal.Refusal.TheVariants.{WrongKind, CountPast, BadBlock}
 use Rattle.bios_services.specs.declared.glyph_load.GlyphLoad.{GlyphLoad}
-use Rattle.bios_services.specs.ModeSet.{is_text}
+use Rattle.bios_modes.specs.Kinds.{is_text, is_text_kind, kind_in}
+use Rattle.bios_services.specs.Cells.{base_in, page_base}
 use Rattle.bios_services.specs.Reasons.{refuse_unless, wrong_block}
 use Rattle.bios_services.specs.GlyphLoads.{AreThere, glyphs_len, load_refusal}
 use Rattle.bios_services.specs.Bounds.{IsSet, StaysInMode, pages_in, ports_end}
@@ -26,6 +27,14 @@ on_either P false px py = py
 on_each_mode : (P : Option ModeRow → Type 0) (mode : ℕ) → P (Some colour_text) → P (Some monochrome_text) → P (Some planes_320_by_200) → P (Some planes_640_by_350) → P (Some planes_640_by_480) → P (Some bytes_320_by_200) → P None → P (mode_row mode)
 on_each_mode P mode p3 p7 p0d p10 p12 p13 none =
     on_either P (mode == 0x03) p3 (on_either P (mode == 0x07) p7 (on_either P (mode == 0x0D) p0d (on_either P (mode == 0x10) p10 (on_either P (mode == 0x12) p12 (on_either P (mode == 0x13) p13 none)))))
+
+-- the row of a mode with characters of a height
+abbrev sized : Option ModeRow → ℕ → Option ModeRow
+sized x height = if_row x (λ row. at_height row height)
+
+-- the pages of each mode begin at one of three places
+pub base_small : (mode : ℕ) → page_base mode ≤ 0xB8000
+base_small mode = on_each_mode (λ x. base_in x ≤ 0xB8000) mode (omega arith) (omega arith) (omega arith) (omega arith) (omega arith) (omega arith) (omega arith)
 
 -- what holds of each row of mode 3, and of none, holds of that of any height
 on_colour : (P : Option ModeRow → Type 0) (height : ℕ) → P (Some (with_text colour_text (fifty_rows 0x1F))) → P (Some (with_text colour_text (twenty_eight_rows 0x1F))) → P (Some (with_text colour_text (twenty_five_rows 0x1F))) → P None → P (with_height colour_text (colour_rows height))
@@ -45,7 +54,7 @@ on_each_row : (P : Option ModeRow → Type 0) (mode height : ℕ)
     → P (Some (with_text monochrome_text (fifty_rows 0x07))) → P (Some (with_text monochrome_text (twenty_eight_rows 0x0D))) → P (Some (with_text monochrome_text (twenty_five_rows 0x0F)))
     → P (Some planes_320_by_200) → P (Some planes_640_by_350) → P (Some planes_640_by_480) → P (Some bytes_320_by_200) → P None → P (row_at mode height)
 on_each_row P mode height c8 c14 c16 m8 m14 m16 p0d p10 p12 p13 none =
-    on_either P (mode == 0x03) (on_colour P height c8 c14 c16 none) (on_either P (mode == 0x07) (on_monochrome P height m8 m14 m16 none) (on_each_mode P mode c16 m16 p0d p10 p12 p13 none))
+    on_each_mode (λ x. P (sized x height)) mode (on_colour P height c8 c14 c16 none) (on_monochrome P height m8 m14 m16 none) p0d p10 p12 p13 none
 
 -- a row whose numbers are small enough
 record Small (row : ModeRow) : Type 0 where
@@ -159,50 +168,34 @@ colour_begins height = on_colour (λ x. IfSome x (BeginsAt (λ h. with_height co
 monochrome_begins : (height : ℕ) → IfSome (with_height monochrome_text (monochrome_rows height)) (BeginsAt (λ h. with_height monochrome_text (monochrome_rows h)))
 monochrome_begins height = on_monochrome (λ x. IfSome x (BeginsAt (λ h. with_height monochrome_text (monochrome_rows h)))) height (omega arith, refl) (omega arith, refl) (omega arith, refl) tt
 
--- the rows of graphics
-abbrev graphics_row : ℕ → Option ModeRow
-graphics_row mode = if mode == 0x0D then Some planes_320_by_200 else if mode == 0x10 then Some planes_640_by_350 else if mode == 0x12 then Some planes_640_by_480 else if mode == 0x13 then Some bytes_320_by_200 else None
+-- each row of a mode and a height begins it
+all_begin : (mode height : ℕ) → IfSome (row_at mode height) (BeginsAt (row_at mode))
+all_begin mode height =
+    on_each_mode (λ x. IfSome (sized x height) (BeginsAt (sized x))) mode (colour_begins height) (monochrome_begins height)
+    (omega arith, refl) (omega arith, refl) (omega arith, refl) (omega arith, refl) tt
 
-graphics_page : (mode : ℕ) → IfSome (graphics_row mode) (λ row. 0 < row.pages)
-graphics_page mode =
-    let P : Option ModeRow → Type 0 = λ x. IfSome x (λ row. 0 < row.pages) in
-    on_either P (mode == 0x0D) (omega arith) (on_either P (mode == 0x10) (omega arith) (on_either P (mode == 0x12) (omega arith) (on_either P (mode == 0x13) (omega arith) tt)))
-
--- the row of a mode, and that of a mode and a height, by the tests of text
-abbrev row_by : Bool → Bool → Option ModeRow → Option ModeRow
-row_by a b rest = if a then Some colour_text else if b then Some monochrome_text else rest
-
-abbrev rows_by : Bool → Bool → Option ModeRow → ℕ → Option ModeRow
-rows_by a b rest height = if a then with_height colour_text (colour_rows height) else if b then with_height monochrome_text (monochrome_rows height) else row_by a b rest
-
-all_begin : (a b : Bool) (height : ℕ) (rest : Option ModeRow) → IfSome rest (λ row. 0 < row.pages) → IfSome (rows_by a b rest height) (BeginsAt (rows_by a b rest))
-all_begin true b height rest some = colour_begins height
-all_begin false true height rest some = monochrome_begins height
-all_begin false false height None some = tt
-all_begin false false height (Some row) some = (some, refl)
-
-all_own : (a b : Bool) (rest : Option ModeRow) → IfSome (row_by a b rest) (λ row. rows_by a b rest row.height ≡ Some row)
-all_own true b rest = refl
-all_own false true rest = refl
-all_own false false None = tt
-all_own false false (Some row) = refl
+-- each row of a mode is that of its own height
+all_own : (mode : ℕ) → IfSome (mode_row mode) (λ row. row_at mode row.height ≡ Some row)
+all_own mode = on_each_mode (λ x. IfSome x (λ row. sized x row.height ≡ Some row)) mode refl refl refl refl refl refl tt
 
 -- the data that a mode begins with at a height are valid
 pub begins_valid_at : (mode height : ℕ) (row : ModeRow) → row_at mode height ≡ Some row → IsValid (data_of_mode mode row)
 begins_valid_at mode height row e =
-    let h : BeginsAt (row_at mode) row = subst (λ x. IfSome x (BeginsAt (row_at mode))) e (all_begin (mode == 0x03) (mode == 0x07) height (graphics_row mode) (graphics_page mode)) in
+    let h : BeginsAt (row_at mode) row = subst (λ x. IfSome x (BeginsAt (row_at mode))) e (all_begin mode height) in
     inr (subst (λ x. Fits x (data_of_mode mode row)) (sym h.1) (begins_as row mode h.0))
 
 -- and those that it begins with at its own
 pub begins_valid : (mode : ℕ) (row : ModeRow) → mode_row mode ≡ Some row → IsValid (data_of_mode mode row)
 begins_valid mode row e =
-    begins_valid_at mode row.height row (subst (λ x. IfSome x (λ r. row_at mode r.height ≡ Some r)) e (all_own (mode == 0x03) (mode == 0x07) (graphics_row mode)))
+    begins_valid_at mode row.height row (subst (λ x. IfSome x (λ r. row_at mode r.height ≡ Some r)) e (all_own mode))
 
 -- ---- function 11
 
 -- a small row of text is no higher than a map of glyphs has lines for, and has its height
 text_height : (mode height : ℕ) (row : ModeRow) → is_text mode ≡ true → row_at mode height ≡ Some row → height ≤ 16
-text_height mode height row text e = grind (arith, nat_tests)
+text_height mode height row =
+    on_each_mode (λ x. is_text_kind (kind_in x) ≡ true → sized x height ≡ Some row → height ≤ 16) mode
+    (λ _ e. grind (arith, nat_tests)) (λ _ e. grind (arith, nat_tests)) (λ t _. absurd (cc)) (λ t _. absurd (cc)) (λ t _. absurd (cc)) (λ t _. absurd (cc)) (λ t _. absurd (cc))
 
 -- glyphs that are not refused, and whose height there is, are there
 pub there_of : (load : GlyphLoad) (mode len : ℕ) (row : ModeRow) → load_refusal load mode len ≡ None → row_at mode load.height ≡ Some row → AreThere load len

@@ -2,13 +2,14 @@
 -- From the IBM PS/2 and PC BIOS Interface Technical Reference, "Interrupt 10H - Video", (AH) = 06H and 07H.
 use Rattle.std.specs.Prelude.{ℕ, ◌+◌, ◌-◌, ◌*◌, ◌%◌, ◌^◌, ◌<◌, ◌≤◌, ◌==◌, if◌then◌else◌, min}
 use Rattle.bios_modes.specs.Bda.{BiosData}
-use Rattle.bios_services.specs.declared.kind.Kind.{Kind}
-use Rattle.bios_services.specs.declared.kind.Kind.TheVariants.{Text, Planar, Packed}
+use Rattle.bios_modes.specs.declared.kind.Kind.{Kind}
+use Rattle.bios_modes.specs.declared.kind.Kind.TheVariants.{Text, Planar, Packed}
 use Rattle.bios_services.specs.declared.band.Band.{Band}
 use Rattle.bios_services.specs.declared.paint.Paint.{Paint}
 use Rattle.bios_services.specs.Plan.{Plan, Done, ◌>>◌, put, move, each, each_down}
 use Rattle.bios_services.specs.Cycles.{sequencer, graphics}
-use Rattle.bios_services.specs.Kinds.{kind_of, column_bytes, row_lines}
+use Rattle.bios_modes.specs.Kinds.{kind_of}
+use Rattle.bios_services.specs.Kinds.{column_bytes, row_lines}
 use Rattle.bios_services.specs.Cells.{page_address}
 use Rattle.bios_services.specs.VideoRegisters.{map_mask, all_planes, graphics_mode, copy_latches, plain_access, all_bits}
 

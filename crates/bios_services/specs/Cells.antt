@@ -1,13 +1,19 @@
 -- Cells of characters: where they stand in memory, and how text is read and written.
 -- From the IBM PS/2 and PC BIOS Interface Technical Reference, "Interrupt 10H - Video", (AH) = 08H to 0AH.
-use Rattle.std.specs.Prelude.{ℕ, ◌+◌, ◌*◌, ◌==◌, if◌then◌else◌}
+use Rattle.std.specs.Prelude.{ℕ, ◌+◌, ◌*◌, if◌then◌else◌, Option, Some, None}
+use Rattle.bios_modes.specs.declared.modes.ModeRow.{ModeRow}
 use Rattle.bios_modes.specs.Bda.{BiosData}
+use Rattle.bios_modes.specs.Modes.{mode_row}
 use Rattle.bios_services.specs.declared.ink.Ink.{Ink}
 use Rattle.bios_services.specs.Plan.{Plan, Done, ◌>>=◌, ◌>>◌, put, get}
 
--- where the pages of a mode begin
+-- where the pages of a mode begin, by its row; those of a number that is no mode's, where pages of graphics do
+abbrev pub base_in : Option ModeRow → ℕ
+base_in None = 0xA0000
+base_in (Some row) = row.base
+
 abbrev pub page_base : ℕ → ℕ
-page_base mode = if mode == 0x03 then 0xB8000 else if mode == 0x07 then 0xB0000 else 0xA0000
+page_base mode = base_in (mode_row mode)
 
 -- where a page begins
 abbrev pub page_address : BiosData → ℕ → ℕ

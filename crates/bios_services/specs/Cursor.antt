@@ -4,7 +4,7 @@ use Rattle.std.specs.Prelude.{ℕ, ◌+◌, ◌*◌, ◌/◌, ◌%◌, ◌==◌,
 use Rattle.bios_modes.specs.Bda.{BiosData}
 use Rattle.bios_services.specs.Plan.{Plan, Done, ◌>>◌}
 use Rattle.bios_services.specs.Cycles.{crtc}
-use Rattle.bios_services.specs.ModeSet.{is_text}
+use Rattle.bios_modes.specs.Kinds.{is_text}
 use Rattle.bios_services.specs.VideoRegisters.{cursor_start, cursor_end, start_address_high, cursor_address_high}
 
 -- the row and the column of a place, its high and its low byte

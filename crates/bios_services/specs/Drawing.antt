@@ -7,11 +7,11 @@ use Rattle.bios_modes.specs.Bda.{BiosData}
 use Rattle.bios_modes.specs.Fonts.{FontSet}
 use Rattle.bios_services.specs.declared.ink.Ink.{Ink}
 use Rattle.bios_services.specs.declared.band.Band.{Band}
-use Rattle.bios_services.specs.declared.kind.Kind.{Kind}
-use Rattle.bios_services.specs.declared.kind.Kind.TheVariants.{Text, Planar, Packed}
+use Rattle.bios_modes.specs.declared.kind.Kind.{Kind}
+use Rattle.bios_modes.specs.declared.kind.Kind.TheVariants.{Text, Planar, Packed}
 use Rattle.bios_services.specs.Plan.{Plan, ◌>>◌, put, get, each}
 use Rattle.bios_services.specs.Cycles.{sequencer, graphics}
-use Rattle.bios_services.specs.Kinds.{kind_of}
+use Rattle.bios_modes.specs.Kinds.{kind_of}
 use Rattle.bios_services.specs.Cells.{cell_address, write_cell_plan}
 use Rattle.bios_services.specs.Bands.{band_of, address_in, plain, paint_row}
 use Rattle.bios_services.specs.Glyphs.{glyph_line}

@@ -11,7 +11,8 @@ use Rattle.bios_services.specs.declared.glyph_load.GlyphLoad.{GlyphLoad}
 use Rattle.bios_services.specs.Plan.{Plan, ◌>>◌}
 use Rattle.bios_services.specs.Registers.{high, low}
 use Rattle.bios_services.specs.Cycles.{crtc}
-use Rattle.bios_services.specs.ModeSet.{is_text, font_plan}
+use Rattle.bios_modes.specs.Kinds.{is_text}
+use Rattle.bios_services.specs.ModeSet.{font_plan}
 use Rattle.bios_services.specs.Cursor.{word_plan}
 use Rattle.bios_services.specs.Glyphs.{glyph_line}
 use Rattle.bios_services.specs.Reasons.{◌or◌, refuse_unless, wrong_block}

@@ -1,13 +1,8 @@
--- The three ways in which modes use the memory: text, a bit of each plane for a dot, and a byte for a dot.
+-- How much of the memory characters take, by how a mode uses it.
 -- From the IBM PS/2 Hardware Interface Technical Reference, Video Subsystems, "Video Memory Organization".
-use Rattle.std.specs.Prelude.{ℕ, ◌==◌, if◌then◌else◌}
-use Rattle.bios_services.specs.declared.kind.Kind.{Kind}
-use Rattle.bios_services.specs.declared.kind.Kind.TheVariants.{Text, Planar, Packed}
-use Rattle.bios_services.specs.ModeSet.{is_text}
-
--- how a mode uses the memory
-abbrev pub kind_of : ℕ → Kind
-kind_of mode = if is_text mode then Text else if mode == 0x13 then Packed else Planar
+use Rattle.std.specs.Prelude.{ℕ}
+use Rattle.bios_modes.specs.declared.kind.Kind.{Kind}
+use Rattle.bios_modes.specs.declared.kind.Kind.TheVariants.{Text, Planar, Packed}
 
 -- how many bytes of a line a column of characters takes: a character and its attribute, eight dots of a plane, or eight dots
 abbrev pub column_bytes : Kind → ℕ

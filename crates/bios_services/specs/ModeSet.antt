@@ -1,17 +1,14 @@
 -- Setting a mode: every register, the palette, the font of a text mode, and the memory; and the BIOS data afterwards.
 -- From the IBM PS/2 and PC BIOS Interface Technical Reference, "Interrupt 10H - Video", (AH) = 00H; the order of the cycles is
 -- this adapter's choice.
-use Rattle.std.specs.Prelude.{ℕ, ◌+◌, ◌*◌, ◌%◌, ◌==◌, ◌||◌, if◌then◌else◌, Bool, List, slice_index, bit_and}
+use Rattle.std.specs.Prelude.{ℕ, ◌+◌, ◌*◌, ◌%◌, ◌==◌, if◌then◌else◌, Bool, List, slice_index, bit_and}
 use Rattle.bios_modes.specs.declared.modes.ModeRow.{ModeRow}
+use Rattle.bios_modes.specs.Kinds.{is_text}
 use Rattle.bios_modes.specs.Palette.{dac_entry}
 use Rattle.bios_modes.specs.Fonts.{FontSet, glyph_row}
 use Rattle.bios_services.specs.Plan.{Plan, Done, ◌>>◌, out, put, each}
 use Rattle.bios_services.specs.Cycles.{sequencer, graphics, crtc, group, attribute_group, expect_index, show_palette}
 use Rattle.bios_services.specs.VideoRegisters.{miscellaneous_output, sequencer_port, graphics_port, dac_mask, dac_write_index, dac_data, all_bits, vertical_retrace_end, map_mask, glyph_plane, text_planes, memory_mode, all_addresses, odd_and_even_addresses, graphics_mode, plain_access, odd_and_even_access, miscellaneous, window_at_a0000}
-
--- the two text modes
-abbrev pub is_text : ℕ → Bool
-is_text mode = (mode == 0x03) || (mode == 0x07)
 
 -- all registers; first those of the CRT controller are unprotected
 unfoldable pub registers_plan : ModeRow → Plan (Unit {0})

@@ -1,10 +1,11 @@
 -- Writing and reading one dot.
 -- From the IBM PS/2 and PC BIOS Interface Technical Reference, "Interrupt 10H - Video", (AH) = 0CH and 0DH; the order of the cycles
 -- is this adapter's choice.
-use Rattle.std.specs.Prelude.{ℕ, ◌+◌, ◌-◌, ◌*◌, ◌/◌, ◌%◌, ◌^◌, ◌==◌, if◌then◌else◌}
+use Rattle.std.specs.Prelude.{ℕ, ◌+◌, ◌-◌, ◌*◌, ◌/◌, ◌%◌, ◌^◌, if◌then◌else◌}
 use Rattle.std.specs.Int.{bit_at}
 use Rattle.vga_bits.specs.Bits.{is_set}
 use Rattle.bios_modes.specs.Bda.{BiosData}
+use Rattle.bios_modes.specs.Kinds.{is_packed}
 use Rattle.bios_services.specs.Plan.{Plan, Done, ◌>>=◌, ◌>>◌, put, get}
 use Rattle.bios_services.specs.Cycles.{graphics}
 use Rattle.bios_services.specs.Cells.{page_address}
@@ -17,9 +18,9 @@ dots_across d = 8 * d.columns
 abbrev pub dots_down : BiosData → ℕ
 dots_down d = d.height * (d.last_row + 1)
 
--- the address of a dot: mode 13 has a byte for each, the others a byte of each plane for eight
+-- the address of a dot: 256 colours have a byte for each, 16 a byte of each plane for eight
 abbrev pub pixel_address : BiosData → ℕ → ℕ → ℕ → ℕ
-pixel_address d page x y = page_address d page + (if d.mode == 0x13 then dots_across d * y + x else d.columns * y + x / 8)
+pixel_address d page x y = page_address d page + (if is_packed d.mode then dots_across d * y + x else d.columns * y + x / 8)
 
 -- the function of planes, where bit 7 of a colour asks for XOR
 abbrev pub function_plan : ℕ → ℕ → Plan (Unit {0})
@@ -40,7 +41,7 @@ write_dot_plan address x colour = do
 -- 0C: a dot at a column and a line of a page
 unfoldable pub write_pixel_plan : BiosData → ℕ → ℕ → ℕ → ℕ → Plan (Unit {0})
 write_pixel_plan d page x y colour =
-    if d.mode == 0x13 then put (pixel_address d page x y) colour else write_dot_plan (pixel_address d page x y) x colour
+    if is_packed d.mode then put (pixel_address d page x y) colour else write_dot_plan (pixel_address d page x y) x colour
 
 -- the byte of a plane, whose number is put into read map select
 abbrev pub plane_byte : ℕ → ℕ → Plan ℕ
@@ -61,4 +62,4 @@ read_dot_plan address x = do
 -- 0D: the colour of a dot
 unfoldable pub read_pixel_plan : BiosData → ℕ → ℕ → ℕ → Plan ℕ
 read_pixel_plan d page x y =
-    if d.mode == 0x13 then get (pixel_address d page x y) else read_dot_plan (pixel_address d page x y) x
+    if is_packed d.mode then get (pixel_address d page x y) else read_dot_plan (pixel_address d page x y) x

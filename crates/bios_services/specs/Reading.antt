@@ -4,8 +4,8 @@
 use Rattle.std.specs.Prelude.{ℕ, ◌+◌, ◌-◌, ◌*◌, ◌%◌, ◌==◌, if◌then◌else◌, List}
 use Rattle.bios_modes.specs.Fonts.{FontSet}
 use Rattle.bios_services.specs.declared.band.Band.{Band}
-use Rattle.bios_services.specs.declared.kind.Kind.{Kind}
-use Rattle.bios_services.specs.declared.kind.Kind.TheVariants.{Text, Planar, Packed}
+use Rattle.bios_modes.specs.declared.kind.Kind.{Kind}
+use Rattle.bios_modes.specs.declared.kind.Kind.TheVariants.{Text, Planar, Packed}
 use Rattle.bios_services.specs.Plan.{Plan, Done, ◌>>=◌, ◌>>◌, get, fold, gather}
 use Rattle.bios_services.specs.Bands.{address_in, access_plan}
 use Rattle.bios_services.specs.Glyphs.{first_character}

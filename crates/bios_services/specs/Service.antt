@@ -5,6 +5,7 @@ use Rattle.vga_bits.specs.declared.refusal.Refusal.{Refusal}
 use Rattle.vga_card.specs.Bus.{Meaning}
 use Rattle.bios_modes.specs.declared.modes.ModeRow.{ModeRow}
 use Rattle.bios_modes.specs.Modes.{mode_row}
+use Rattle.bios_modes.specs.Palette.{is_monochrome_mode}
 use Rattle.bios_modes.specs.Heights.{row_at}
 use Rattle.bios_modes.specs.Bda.{BiosData}
 use Rattle.bios_modes.specs.Begin.{data_of_mode}
@@ -23,7 +24,8 @@ use Rattle.bios_services.specs.declared.call.Call.TheVariants.{SetMode, ReadTabl
 use Rattle.bios_services.specs.declared.call.Service.{Service}
 use Rattle.bios_services.specs.declared.call.Service.TheVariants.{SetCursorType, SetCursor, ReadCursor, SelectPage, ScrollUp, ScrollDown, ReadCell, WriteCells, WritePixel, ReadPixel, Teletype, ReadMode, Colours, ReadAdapter, WriteString, ReadDisplay}
 use Rattle.bios_services.specs.Plan.{Plan, Done, ◌>>=◌, ◌>>◌, run}
-use Rattle.bios_services.specs.ModeSet.{is_text, mode_set_plan}
+use Rattle.bios_modes.specs.Kinds.{is_text}
+use Rattle.bios_services.specs.ModeSet.{mode_set_plan}
 use Rattle.bios_services.specs.Cursor.{place_of, cursor_cell, move_cursor_plan, cursor_type_plan, page_plan}
 use Rattle.bios_services.specs.Cells.{cell_address, read_cell_plan}
 use Rattle.bios_services.specs.Drawing.{cell_band, cell_row}
@@ -71,7 +73,7 @@ read_mode_of d r = record r { ax = d.mode + 256 * d.columns; bx = low r.bx + 256
 
 -- whether the mode is monochrome, and the memory of the adapter, as high and low byte of BX; its switches in CX
 abbrev pub read_adapter_of : BiosData → Regs → Regs
-read_adapter_of d r = record r { bx = (if d.mode == 0x07 then 0x0103 else 0x0003); cx = 0x0009 }
+read_adapter_of d r = record r { bx = (if is_monochrome_mode d.mode then 0x0103 else 0x0003); cx = 0x0009 }
 
 -- the function is there, and the display is a VGA's in colour
 abbrev pub read_display_of : Regs → Regs

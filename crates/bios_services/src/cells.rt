@@ -6,26 +6,21 @@ ghost use Rattle.bios_services.specs.Cells.{page_base as page_base_of, page_addr
 
 use crate::cycles::{get, put};
 use crate::ink::Ink;
-use bios_modes::Bda;
+use bios_modes::{Bda, mode_row};
 use vga_card::Bus;
-
-/// Where the pages of mode 3 begin, and those of mode 7.
-const COLOUR_BASE: u32 = 0xB8000;
-
-const MONOCHROME_BASE: u32 = 0xB0000;
 
 /// Where the pages of graphics modes begin, and glyphs stand.
 pub(crate) const GRAPHICS_BASE: u32 = 0xA0000;
 
-/// Where the pages of a mode begin.
+/// Where the pages of a mode begin, by its row.
+#[tactic(auto, using(crate::proofs::BoundLemmas::base_small))]
 fn page_base(mode: u8) -> u32
     ensures value { result ≡ page_base_of mode }
     ensures small { result ≤ 0xB8000 }
 {
-    match mode {
-        0x03 => COLOUR_BASE,
-        0x07 => MONOCHROME_BASE,
-        _ => GRAPHICS_BASE,
+    match mode_row(mode) {
+        Some(row) => row.base,
+        None => GRAPHICS_BASE,
     }
 }
 

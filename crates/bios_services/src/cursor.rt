@@ -5,9 +5,8 @@ ghost use Rattle.bios_services.specs.Bounds.{IsSet, StaysInMode, pages_of, furth
 ghost use Rattle.bios_services.specs.Cursor.{cell_number as cell_number_of, cursor_cell as cursor_cell_of, word_plan, cursor_address as cursor_address_of, cursor_plan, move_cursor_plan, cursor_type_plan, page_plan};
 
 use crate::cycles::indexed;
-use crate::mode_set::is_text;
 use crate::video_registers::{CURSOR_ADDRESS, CURSOR_END, CURSOR_START, START_ADDRESS};
-use bios_modes::Bda;
+use bios_modes::{Bda, is_text};
 use vga_card::Bus;
 
 /// The number of the cell at a place, counted along the rows.

@@ -11,7 +11,6 @@ use crate::cells::GRAPHICS_BASE;
 use crate::cursor::write_word;
 use crate::cycles::{graphics, indexed, put, sequencer};
 use crate::glyphs::glyph_line;
-use crate::mode_set::is_text;
 use crate::reasons::{refuse_unless, wrong_block};
 use crate::regs::{Regs, high, low};
 use crate::video_registers::{
@@ -20,7 +19,7 @@ use crate::video_registers::{
     PLAIN_ODD_AND_EVEN, START_ADDRESS, TEXT_PLANES, UNDERLINE_LOCATION, VERTICAL_DISPLAY_END,
     WINDOW_AT_A0000,
 };
-use bios_modes::{Fonts, ModeRow};
+use bios_modes::{Fonts, ModeRow, is_text};
 use vga_bits::Refusal;
 use vga_card::Bus;
 

@@ -20,7 +20,6 @@ use crate::cursor::{cursor_cell, move_cursor, set_cursor_type, show_page};
 use crate::drawing::cell_band;
 use crate::glyph_load::GlyphLoad;
 use crate::mode_set;
-use crate::mode_set::is_text;
 use crate::pixels::{read_pixel, write_pixel};
 use crate::reading::read_character;
 use crate::refusals::{page_named, refusal_in_mode, unknown_refusal};
@@ -28,7 +27,7 @@ use crate::regs::{Regs, with_low};
 use crate::reply::{Reply, ServiceError, Table};
 use crate::tables::{TableService, read_table, table_refusal};
 use crate::teletype::teletype;
-use bios_modes::{Bda, Fonts, mode_row, row_at};
+use bios_modes::{Bda, Fonts, is_monochrome, is_text, mode_row, row_at};
 use std::alloc::Global;
 use vga_bits::Refusal;
 use vga_card::Bus;
@@ -83,7 +82,11 @@ fn read_mode(bda: &Bda, regs: &mut Regs)
 fn read_adapter(bda: &Bda, regs: &mut Regs)
     ensures { regs.new ≡ read_adapter_of bda.now regs.old }
 {
-    regs.bx = if bda.mode() == 0x07 { 0x0103 } else { 0x0003 };
+    regs.bx = if is_monochrome(bda.mode()) {
+        0x0103
+    } else {
+        0x0003
+    };
     regs.cx = 0x0009;
 }
 

@@ -1,36 +1,16 @@
-//! The three ways in which modes use the memory.
+//! What hangs on how a mode uses the memory.
 ghost use Rattle.std.specs.Prelude.{◌≡◌, ◌≤◌};
-ghost use Rattle.bios_services.specs.Kinds.{kind_of as kind_of_mode, column_bytes as column_bytes_of, row_lines as row_lines_of};
+ghost use Rattle.bios_services.specs.Kinds.{column_bytes as column_bytes_of, row_lines as row_lines_of};
 
-/// How a mode uses the memory.
-#[derive(Clone, Copy)]
-pub enum Kind {
-    /// Characters and attributes in turn.
-    Text,
-    /// 16 colours: a bit of each of four planes for a dot.
-    Planar,
-    /// 256 colours: a byte for a dot.
-    Packed,
-}
-
-/// How a mode uses the memory.
-pub(crate) fn kind_of(mode: u8) -> Kind
-    ensures { result ≡ kind_of_mode mode }
-{
-    match mode {
-        0x03 | 0x07 => Kind::Text,
-        0x13 => Kind::Packed,
-        _ => Kind::Planar,
-    }
-}
+pub(crate) use bios_modes::{Kind, kind_of};
 
 /// What stands for text, for 16 colours and for 256 colours, by the kind. Each arm says for what it stands.
 macro_rules! by_kind {
     ($kind:expr, Text => $text:expr, Planar => $planar:expr, Packed => $packed:expr $(,)?) => {
         match $kind {
-            $crate::kind::Kind::Text => $text,
-            $crate::kind::Kind::Planar => $planar,
-            $crate::kind::Kind::Packed => $packed,
+            bios_modes::Kind::Text => $text,
+            bios_modes::Kind::Planar => $planar,
+            bios_modes::Kind::Packed => $packed,
         }
     };
 }

@@ -1,9 +1,8 @@
 //! Setting a mode: every register, the palette, the font of a text mode, and the memory.
-ghost use Rattle.std.specs.Prelude.{◌≡◌, ◌<◌, ◌≤◌, ◌+◌, ◌*◌, ◌^◌, IsTrue, if◌then◌else◌};
-ghost use Rattle.bios_modes.specs.Palette.{is_mode};
+ghost use Rattle.std.specs.Prelude.{◌≡◌, ◌<◌, ◌≤◌, ◌+◌, ◌*◌, ◌^◌, if◌then◌else◌};
 ghost use Rattle.bios_services.specs.Bounds.{ports_end};
 ghost use Rattle.bios_services.specs.Plan.{run};
-ghost use Rattle.bios_services.specs.ModeSet.{is_text as is_text_mode, registers_plan, colour_plan, palette_plan, blank_byte as blank_byte_of, blank_plan, clear_plan, text_plan, memory_plan, mode_set_plan};
+ghost use Rattle.bios_services.specs.ModeSet.{registers_plan, colour_plan, palette_plan, blank_byte as blank_byte_of, blank_plan, clear_plan, text_plan, memory_plan, mode_set_plan};
 
 use crate::cells::GRAPHICS_BASE;
 use crate::cycles::{attribute_group, expect_index, group, indexed, out, put, show_palette};
@@ -12,20 +11,13 @@ use crate::video_registers::{
     ALL_BITS, DAC_DATA, DAC_MASK, DAC_WRITE_INDEX, GRAPHICS, MISCELLANEOUS, MISCELLANEOUS_OUTPUT,
     SEQUENCER, VERTICAL_RETRACE_END,
 };
-use bios_modes::{Fonts, ModeRow, dac_entry};
+use bios_modes::{Fonts, ModeRow, is_text, palette_of};
 use vga_card::Bus;
 
 /// How many bytes a text mode clears, and a graphics mode.
 const TEXT_LEN: u32 = 0x8000;
 
 const GRAPHICS_LEN: u32 = 0x10000;
-
-/// Whether a mode is one of the two of text.
-pub(crate) fn is_text(mode: u8) -> bool
-    ensures { result ≡ is_text_mode mode }
-{
-    mode == 0x03 || mode == 0x07
-}
 
 /// Writes all registers.
 #[tactic(auto, using(crate::proofs::RunLemmas::run_bind), unfolding(crate::specs::ModeSet::registers_plan))]
@@ -57,14 +49,14 @@ fn write_colour<B: Bus>(bus: &mut B, colour: [u8; 3])
 /// Writes the DAC's mask, and the first n entries of a mode's palette.
 #[tactic(auto, using(crate::proofs::RunLemmas::run_bind), unfolding(crate::specs::ModeSet::palette_plan))]
 fn write_palette<B: Bus>(bus: &mut B, mode: u8, n: u16)
-    requires mode { IsTrue (is_mode mode) }
-    requires few { n ≤ 256 }
+    requires { n ≤ 256 }
     ensures { bus.new ≡ (run B.meaning (palette_plan mode n) bus.old).0 }
 {
     out(bus, DAC_MASK, ALL_BITS);
     out(bus, DAC_WRITE_INDEX, 0x00);
+    let palette = palette_of(mode);
     for i in 0..n {
-        write_colour(bus, dac_entry(mode, i as u8));
+        write_colour(bus, palette.entry(i as u8));
     }
 }
 
@@ -125,7 +117,6 @@ fn write_memory<B: Bus>(bus: &mut B, mode: u8, row: &ModeRow, keeps: bool, fonts
 /// Sets a mode, and clears its memory unless it is kept.
 #[tactic(auto, using(crate::proofs::RunLemmas::run_bind), unfolding(crate::specs::ModeSet::mode_set_plan))]
 pub(crate) fn set_mode<B: Bus>(bus: &mut B, mode: u8, row: &ModeRow, keeps: bool, fonts: &Fonts)
-    requires mode { IsTrue (is_mode mode) }
     requires port { row.now.crtc_address < ports_end }
     requires base { row.now.base < 2 ^ 20 }
     ensures { bus.new ≡ (run B.meaning (mode_set_plan mode row.now keeps fonts.now) bus.old).0 }

@@ -1,6 +1,7 @@
 //! Functions 0C and 0D: writing and reading one dot.
 ghost use Rattle.std.specs.Prelude.{◌≡◌, ◌<◌, ◌≤◌, ◌+◌, ◌-◌, ◌*◌, ◌%◌};
 ghost use Rattle.std.specs.Int.{bit_at};
+ghost use Rattle.bios_modes.specs.Kinds.{is_packed as is_packed_mode};
 ghost use Rattle.bios_services.specs.Plan.{run};
 ghost use Rattle.bios_services.specs.Bounds.{IsSet, pages_of};
 ghost use Rattle.bios_services.specs.Pixels.{dots_across as dots_across_of, dots_down as dots_down_of, pixel_address as pixel_address_of, function_plan, write_dot_plan, write_pixel_plan, plane_byte as plane_byte_plan, read_dot_plan, read_pixel_plan};
@@ -11,12 +12,9 @@ use crate::video_registers::{
     ALL_BITS, BIT_MASK, DATA_ROTATE, GRAPHICS_MODE, PLAIN, READ_MAP_SELECT, REPLACE, WRITE_COLOUR,
     XOR,
 };
-use bios_modes::Bda;
+use bios_modes::{Bda, is_packed};
 use vga_bits::is_set;
 use vga_card::Bus;
-
-/// The mode that has a byte for each dot.
-const PACKED_MODE: u8 = 0x13;
 
 /// How many dots a graphics mode has across.
 pub(crate) fn dots_across(bda: &Bda) -> u32
@@ -32,15 +30,16 @@ pub(crate) fn dots_down(bda: &Bda) -> u32
     bda.height() as u32 * (bda.last_row() as u32 + 1)
 }
 
-/// The address of a dot.
-fn pixel_address(bda: &Bda, page: u8, x: u16, y: u16) -> u32
+/// The address of a dot, where it is known whether the mode has a byte for each.
+fn pixel_address(bda: &Bda, packed: bool, page: u8, x: u16, y: u16) -> u32
+    requires packed { packed ≡ is_packed_mode bda.now.mode }
     requires data { IsSet bda.now }
     requires page { page < pages_of bda.now }
     ensures { result ≡ pixel_address_of bda.now page x y }
 {
     let start = page_address(bda, page);
     let columns = bda.columns() as u32;
-    if bda.mode() == PACKED_MODE {
+    if packed {
         start + (8 * columns * y as u32 + x as u32)
     } else {
         start + (columns * y as u32 + x as u32 / 8)
@@ -78,8 +77,9 @@ pub(crate) fn write_pixel<B: Bus>(bus: &mut B, bda: &Bda, page: u8, x: u16, y: u
     requires page { page < pages_of bda.now }
     ensures { bus.new ≡ (run B.meaning (write_pixel_plan bda.now page x y colour) bus.old).0 }
 {
-    let address = pixel_address(bda, page, x, y);
-    if bda.mode() == PACKED_MODE {
+    let packed = is_packed(bda.mode());
+    let address = pixel_address(bda, packed, page, x, y);
+    if packed {
         put(bus, address, colour);
     } else {
         write_dot(bus, address, x, colour);
@@ -125,8 +125,9 @@ pub(crate) fn read_pixel<B: Bus>(bus: &mut B, bda: &Bda, page: u8, x: u16, y: u1
     requires page { page < pages_of bda.now }
     ensures { (bus.new, result) ≡ run B.meaning (read_pixel_plan bda.now page x y) bus.old }
 {
-    let address = pixel_address(bda, page, x, y);
-    if bda.mode() == PACKED_MODE {
+    let packed = is_packed(bda.mode());
+    let address = pixel_address(bda, packed, page, x, y);
+    if packed {
         get(bus, address)
     } else {
         read_dot(bus, address, x)

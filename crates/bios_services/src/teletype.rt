@@ -11,8 +11,7 @@ use crate::cursor::{cell_number, move_cursor};
 use crate::cycles::get;
 use crate::drawing::write_character;
 use crate::ink::Ink;
-use crate::mode_set::is_text;
-use bios_modes::{Bda, Fonts};
+use bios_modes::{Bda, Fonts, is_text};
 use vga_card::Bus;
 
 /// The control characters.

@@ -10,7 +10,6 @@ use Rattle.bios_modes.specs.Fonts.{FontSet, fonts_of}
 use Rattle.bios_services.specs.declared.call.Call.{Call}
 use Rattle.bios_services.specs.declared.call.Call.TheVariants.{SetMode, ReadTable, LoadGlyphs, InMode}
 use Rattle.bios_services.specs.Calls.{call_of}
-use Rattle.bios_services.specs.ModeSet.{is_text}
 use Rattle.vga_script.specs.declared.step.Step.{Step}
 use Rattle.vga_script.specs.declared.step.Step.TheVariants.{Int, Frame}
 use Rattle.vga_script.specs.Step.{AreInRange}
@@ -18,9 +17,13 @@ use Rattle.vga_run.specs.Report.{report_of, steps_until}
 use Rattle.vga_run.specs.Run.{RunAnswers, ReportsSteps, RunsScript}
 use Rattle.vga_run.specs.ScreenReport.{Clears, StaysOnScreens, registers_of, IsOfScreens, AreOfScreens}
 use Rattle.vga_run.proofs.ScreenLemmas.{OneList, StepsFit, glyph_bytes, input_script}
-use Rattle.bios_screen.specs.Drawing.{Drawing, dots_a_frame, take_frame}
+use Rattle.bios_screen.specs.Drawing.{Drawing, dots_a_frame, take_frame, columns_in}
 use Rattle.bios_screen.specs.Whole.{IsFrameTaken}
 use Rattle.vga_run.specs.DotReport.{drawing_after, power_on_drawing, dot_report, StaysAt, AllOfDots, AreOfDots, ReportsDots, RunsDots}
+use Rattle.bios_modes.specs.Kinds.{is_text_kind, is_packed_kind, kind_in}
+use Rattle.bios_modes.specs.Modes.{colour_text, monochrome_text, planes_320_by_200, planes_640_by_350, planes_640_by_480, bytes_320_by_200}
+use Rattle.bios_modes.specs.declared.modes.ModeRow.{ModeRow}
+use Rattle.bios_screen.specs.Picture.{lines_in}
 
 -- ---- runs
 
@@ -59,18 +62,27 @@ run_of_dots law one fit until file input before after (Err _) glyphs h = λ byte
 
 -- ---- whole frames
 
+-- a frame of a mode with this row has dots
+abbrev HasDots : Option ModeRow → Type 0
+HasDots row =
+    0 < (if lines_in row == 480 then 525 else 449)
+    * (if is_text_kind (kind_in row) then 900 else 10 * ((if is_packed_kind (kind_in row) then 2 else 1) * columns_in row))
+
 -- a frame has dots, whatever the mode
 some_dots : (mode : ℕ) → 0 < dots_a_frame mode
 unfolding dots_a_frame
-some_dots mode = by_tests (is_text mode) (mode == 0x0D) (mode == 0x12)
+some_dots mode = by_tests (mode == 0x03) (mode == 0x07) (mode == 0x0D) (mode == 0x10) (mode == 0x12) (mode == 0x13)
   where
-    by_tests : (t l h : Bool) → 0 < (if h then 525 else 449) * (if t then 900 else if l then 400 else 800)
-    by_tests true l true = omega arith
-    by_tests true l false = omega arith
-    by_tests false true true = omega arith
-    by_tests false true false = omega arith
-    by_tests false false true = omega arith
-    by_tests false false false = omega arith
+    by_tests : (a b f g i j : Bool)
+        → HasDots (if a then Some colour_text else if b then Some monochrome_text else if f then Some planes_320_by_200 else if g then Some planes_640_by_350
+        else if i then Some planes_640_by_480 else if j then Some bytes_320_by_200 else None)
+    by_tests true b f g i j = omega arith
+    by_tests false true f g i j = omega arith
+    by_tests false false true g i j = omega arith
+    by_tests false false false true i j = omega arith
+    by_tests false false false false true j = omega arith
+    by_tests false false false false false true = omega arith
+    by_tests false false false false false false = omega arith
 
 -- the law of plain frames
 abbrev pub FramesEnd : Type 0

@@ -1,16 +1,17 @@
 -- The cells of the active page as text.
-use Rattle.std.specs.Prelude.{ℕ, zero, suc, ◌+◌, ◌*◌, ◌≤◌, ◌==◌, ◌||◌, if◌then◌else◌, List, [], ◌∷◌, ◌++◌, codes, Option, Some, None, Result, Ok, Err}
+use Rattle.std.specs.Prelude.{ℕ, zero, suc, ◌+◌, ◌*◌, ◌≤◌, ◌==◌, if◌then◌else◌, List, [], ◌∷◌, ◌++◌, codes, Option, Some, None, Result, Ok, Err}
 use Rattle.vga_bits.specs.declared.refusal.Refusal.{Refusal}
 use Rattle.vga_bits.specs.declared.refusal.Refusal.TheVariants.{NoMode, WrongKind}
 use Rattle.vga_bits.specs.Hex.{hex_byte}
 use Rattle.vga_planes.specs.Planes.{byte_at}
 use Rattle.vga_card.specs.Card.{CardState}
 use Rattle.bios_modes.specs.Bda.{BiosData}
+use Rattle.bios_modes.specs.Kinds.{is_text}
 use Rattle.vga_show.specs.Lines.{line, hex_words}
 
 -- why there are no cells: no mode is set, or it is one of graphics
 abbrev pub cells_refusal : ℕ → Option Refusal
-cells_refusal mode = if mode == 0 then Some NoMode else if (mode == 0x03) || (mode == 0x07) then None else Some WrongKind
+cells_refusal mode = if mode == 0 then Some NoMode else if is_text mode then None else Some WrongKind
 
 -- cell k of the active page: its character as high byte, from plane 0, and its attribute as low one, from plane 1
 abbrev pub cell_word : CardState → BiosData → ℕ → ℕ

@@ -6,7 +6,7 @@ ghost use Rattle.vga_show.specs.Lines.{room, hex_words, behind_blanks};
 ghost use Rattle.vga_show.specs.Cells.{cells_refusal as cells_refusal_of, cell_word, row_text as row_text_of, rows_text, cells_text, cells_answer, HasCells};
 
 use super::text::{DumpText, push_word};
-use bios_modes::Bda;
+use bios_modes::{Bda, is_text};
 use std::io::Write;
 use vga_bits::{Fault, Refusal, Tracked, write_whole};
 use vga_card::Card;
@@ -15,10 +15,12 @@ use vga_card::Card;
 fn cells_refusal(mode: u8) -> Option<Refusal>
     ensures { result ≡ cells_refusal_of mode }
 {
-    match mode {
-        0 => Some(Refusal::NoMode),
-        0x03 | 0x07 => None,
-        _ => Some(Refusal::WrongKind),
+    if mode == 0 {
+        Some(Refusal::NoMode)
+    } else if is_text(mode) {
+        None
+    } else {
+        Some(Refusal::WrongKind)
     }
 }
 

@@ -1,6 +1,6 @@
 -- What every screen that is shown says of its frames, in text and in graphics.
 use Rattle.std.proofs.Common.{◌≡◌, ℕ, ◌+◌, ◌*◌, ◌/◌, ◌<◌, refl, sym, ap, subst, ◌∙◌, arith, Bool, true, false, Some}
-use Rattle.std.specs.Prelude.{◌==◌, if◌then◌else◌}
+use Rattle.std.specs.Prelude.{if◌then◌else◌}
 use Rattle.vga_crtc.specs.Fields.{horizontal_total, vertical_total}
 use Rattle.vga_crtc.specs.Beam.{characters, lines, first_counter}
 use Rattle.vga_card.specs.declared.shape.Shape.{Shape}
@@ -9,7 +9,7 @@ use Rattle.vga_card.specs.Card.{CardState}
 use Rattle.bios_modes.specs.declared.modes.ModeRow.{ModeRow}
 use Rattle.bios_modes.specs.Modes.{bytes_320_by_200}
 use Rattle.bios_modes.specs.Bda.{BiosData}
-use Rattle.bios_services.specs.ModeSet.{is_text}
+use Rattle.bios_modes.specs.Kinds.{is_text}
 use Rattle.bios_services.specs.Cursor.{cursor_address, start_address}
 use Rattle.bios_screen.specs.Screen.{Screen}
 use Rattle.bios_screen.specs.Shown.{crtc_registers, pixel_screen, shown}
@@ -30,7 +30,7 @@ use Rattle.bios_screen.proofs.Dots.PlanarDots.{IsPlanar}
 use Rattle.bios_screen.proofs.Dots.PlanarDots as planar
 use Rattle.bios_screen.proofs.Dots.PackedDots.{IsPacked, packed_raster}
 use Rattle.bios_screen.proofs.Dots.PackedDots as packed
-use Rattle.bios_screen.specs.Drawing.{dots_a_line, lines_a_frame}
+use Rattle.bios_screen.specs.Drawing.{dots_a_line, lines_a_frame, columns_of}
 
 -- the adapter's frames have the numbers of the mode; a frame of any page draws that page; and the next one is of the active page
 pub record HasFrames (c : CardState) (d : BiosData) (s : Screen) : Type 0 where
@@ -90,7 +90,7 @@ module _ (c : CardState) (d : BiosData) (h : IsShown c d) (z : IsCard c) where
   text_frames = record {
     raster = text_raster c d h;
     has = has_raster c d h;
-    line = ap (λ n. n * 9) characters_are ∙ sym (ap (λ b. if b then 900 else if d.mode == 0x0D then 400 else 800) h.tests.is_text);
+    line = ap (λ n. n * 9) characters_are ∙ sym (ap (λ b. if b then 900 else 10 * (pixel_width d.mode * columns_of d.mode)) h.tests.is_text);
     lines = lines_are ∙ sym (ap lines_a_frame h.number ∙ frame_lines_by h.display);
     wide = ap (λ (m : Shape). m.width) (size_is c d h);
     high = ap (λ (m : Shape). m.height) (size_is c d h);

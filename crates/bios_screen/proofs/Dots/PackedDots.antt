@@ -19,7 +19,7 @@ use Rattle.vga_card.specs.Bounds.{IsCard}
 use Rattle.vga_card.specs.Card.{CardState}
 use Rattle.bios_modes.specs.Modes.{bytes_320_by_200}
 use Rattle.bios_modes.specs.Bda.{BiosData}
-use Rattle.bios_services.specs.ModeSet.{is_text}
+use Rattle.bios_modes.specs.Kinds.{is_text, is_packed}
 use Rattle.bios_services.specs.Cursor.{start_address}
 use Rattle.bios_screen.specs.Screen.{Screen}
 use Rattle.bios_screen.specs.Shown.{crtc_registers, packed_pixel, planar_pixel, pixel_pages, palette_in, location_shown, pixel_screen}
@@ -166,14 +166,14 @@ module _ (c : CardState) (d : BiosData) (t : IsPacked c d) (z : IsCard c) where
       ∙ ap (λ n. slice_index (get_or (pixel_pages d.mode m d.size (8 * 40 * (8 * (n + 1))) 1) 0 []) i) t.has.last_row
       ∙ ap (λ n. slice_index (get_or (pixel_pages d.mode m n (8 * 40 * (8 * (24 + 1))) 1) 0 []) i) t.has.size
       ∙ pixel_at d.mode m 0xFA00 (8 * 40 * (8 * (24 + 1))) 1 0 i (omega arith) (omega arith)
-      ∙ ap (λ n. if n == 0x13 then packed_pixel m (0xFA00 * 0 + i) else planar_pixel m (0xFA00 * 0) i) t.number
+      ∙ ap (λ n. if is_packed n then packed_pixel m (0xFA00 * 0 + i) else planar_pixel m (0xFA00 * 0) i) t.number
       ∙ ap (packed_pixel m) zero_page
       ∙ ap (λ p. byte_at m p (i / 4 * 4)) plane
       ∙ ap (byte_at m (k / 2)) there
 
   dot_is : (x y : ℕ) → pixel_dot s 0 x y ≡ tint s.palette (pixel_on s 0 (x / 2) (y / 2))
   unfolding pixel_dot
-  dot_is x y = ap (λ n. let p = pixel_on s 0 (x / pixel_width n) (y / pixel_height n) in if n == 0x13 then tint s.palette p else shade s.palette p) t.number
+  dot_is x y = ap (λ n. let p = pixel_on s 0 (x / pixel_width n) (y / pixel_height n) in if is_packed n then tint s.palette p else shade s.palette p) t.number
 
   pub draws : Draws packed_raster c 0 (pixel_dot s 0)
   unfolding dot_colour colour_number

@@ -22,7 +22,7 @@ use Rattle.vga_dots.specs.Colour.{nibble}
 use Rattle.vga_card.specs.Bounds.{IsCard}
 use Rattle.vga_card.specs.Card.{CardState}
 use Rattle.bios_modes.specs.Bda.{BiosData}
-use Rattle.bios_services.specs.ModeSet.{is_text}
+use Rattle.bios_modes.specs.Kinds.{is_text, is_packed}
 use Rattle.bios_services.specs.Cursor.{start_address}
 use Rattle.bios_screen.specs.Screen.{Screen}
 use Rattle.bios_screen.specs.Shown.{planar_pixel, packed_pixel, pixel_in, pixels_in, pixel_pages, location_shown, pixel_screen}
@@ -198,7 +198,7 @@ module _ (m : Planes) (c : CardState) (d : BiosData) (t : IsPlanar m c d) (z : I
         ∙ ap (λ n. slice_index (get_or (pixel_pages d.mode c.host.memory d.size (8 * w * ((row_of m).height * (n + 1))) pages) g []) i) t.has.last_row
         ∙ ap (λ n. slice_index (get_or (pixel_pages d.mode c.host.memory n count pages) g []) i) t.has.size
         ∙ pixel_at d.mode c.host.memory size count pages g i lg (pixel_within m v x k lv lx lk)
-        ∙ ap (λ b. if b then packed_pixel c.host.memory (size * g + i) else planar_pixel c.host.memory (size * g) i) (ap (λ n. n == 0x13) t.number ∙ packed_by m)
+        ∙ ap (λ b. if b then packed_pixel c.host.memory (size * g + i) else planar_pixel c.host.memory (size * g) i) (ap is_packed t.number ∙ packed_by m)
         ∙ pixel_there c.host (size * g) w y x k lk
         ∙ ap (λ n. plane_bits c.host (size * g + (n * y + x)) (7 - k)) (sym (columns_by m))
 
@@ -219,7 +219,7 @@ module _ (m : Planes) (c : CardState) (d : BiosData) (t : IsPlanar m c d) (z : I
     unfolding pixel_dot
     dot_is x y =
         let whole : x / 1 ≡ x = omega arith in
-        ap (λ n. let p = pixel_on s g (x / pixel_width n) (y / pixel_height n) in if n == 0x13 then tint s.palette p else shade s.palette p) t.number
+        ap (λ n. let p = pixel_on s g (x / pixel_width n) (y / pixel_height n) in if is_packed n then tint s.palette p else shade s.palette p) t.number
         ∙ ap (λ b. let p = pixel_on s g (x / (if b then 2 else 1)) (y / pixel_height (number_of m)) in if b then tint s.palette p else shade s.palette p) (packed_by m)
         ∙ ap (λ n. shade s.palette (pixel_on s g n (y / pixel_height (number_of m)))) whole
 

@@ -32,6 +32,7 @@ use Rattle.bios_screen.proofs.Base.Tests.{lt_test}
 use Rattle.bios_screen.proofs.Base.Setting.{Setting}
 use Rattle.std.proofs.lemmas.Nat.{mod_below}
 use Rattle.std.proofs.Math.Nat.{div-lt_iff_lt-mul}
+use Rattle.bios_modes.specs.Palette.{is_monochrome_mode}
 use Rattle.bios_screen.proofs.Base.Places.{ends_before}
 use Rattle.bios_screen.proofs.Dots.Colours.{HasAttribute, attribute_is, control_bit, Coloured, dot_shade}
 use Rattle.bios_screen.proofs.Dots.TextRows.{IsTextFrame, frame_of}
@@ -47,7 +48,7 @@ not_graphics : (k : Display) → is_set (window_of k) 0 ≡ false
 not_graphics Colour = refl
 not_graphics Monochrome = refl
 
-mono_by : (k : Display) → is_set (control_of k) 1 ≡ (number_of k == 0x07)
+mono_by : (k : Display) → is_set (control_of k) 1 ≡ is_monochrome_mode (number_of k)
 mono_by Colour = refl
 mono_by Monochrome = refl
 
@@ -175,8 +176,8 @@ module _ (c : CardState) (d : BiosData) (h : IsShown c d) (z : IsCard c) (g : �
   select_is : slice_index c.attr.registers 0x14 ≡ 0
   select_is = attribute.select ∙ ap (λ (r : ModeRow). slice_index r.attribute 0x14) h.row_is ∙ select_by disp
 
-  mono_is : is_monochrome c.attr ≡ (d.mode == 0x07)
-  mono_is = control_bit (slice_index c.attr.registers 0x10) (control_of disp) 1 (control_is c d h) refl ∙ mono_by disp ∙ ap (λ n. n == 0x07) (sym h.number)
+  mono_is : is_monochrome c.attr ≡ is_monochrome_mode d.mode
+  mono_is = control_bit (slice_index c.attr.registers 0x10) (control_of disp) 1 (control_is c d h) refl ∙ mono_by disp ∙ ap is_monochrome_mode (sym h.number)
 
   line_is : is_line_graphics c.attr ≡ true
   line_is = control_bit (slice_index c.attr.registers 0x10) (control_of disp) 2 (control_is c d h) refl ∙ line_by disp
@@ -272,9 +273,9 @@ module _ (c : CardState) (d : BiosData) (h : IsShown c d) (z : IsCard c) (g : �
       let a = bit_and (there q).1 0x77 == 1 in
       let last : h.row.height - 1 ≡ d.height - 1 = let e = h.has.height in omega arith in
       ap (λ w. w && a && v % height == underline_location c.crtc.registers) mono_is
-      ∙ ap (λ r. (d.mode == 0x07) && a && v % height == underline_location r) h.tests.crtc
+      ∙ ap (λ r. is_monochrome_mode d.mode && a && v % height == underline_location r) h.tests.crtc
       ∙ t.underline d.cursor_type (start_address d d.page) (cursor_address d d.page) a (v % height)
-      ∙ ap (λ n. (d.mode == 0x07) && (a && (v % height == n))) last
+      ∙ ap (λ n. is_monochrome_mode d.mode && (a && (v % height == n))) last
 
   blinked_is : (q v x k : ℕ) → is_cell_blinked (placed v x k) c.attr (dot_cell q) ≡ is_blinked_away s (there q)
   unfolding is_cell_blinked

@@ -12,7 +12,7 @@ use Rattle.vga_card.specs.Bounds.{IsCard}
 use Rattle.vga_card.specs.Card.{CardState}
 use Rattle.vga_card.specs.Frames.{frame}
 use Rattle.bios_modes.specs.Bda.{BiosData}
-use Rattle.bios_services.specs.ModeSet.{is_text}
+use Rattle.bios_modes.specs.Kinds.{is_text}
 use Rattle.bios_services.specs.Cursor.{cursor_address, start_address}
 use Rattle.bios_screen.specs.Screen.{Screen, page_start}
 use Rattle.bios_screen.specs.Shown.{shown}

@@ -11,6 +11,7 @@ use Rattle.vga_dots.specs.SourceDot.{fetch_address}
 use Rattle.vga_card.specs.Card.{CardState}
 use Rattle.bios_modes.specs.declared.modes.ModeRow.{ModeRow}
 use Rattle.bios_modes.specs.Bda.{BiosData}
+use Rattle.bios_modes.specs.Palette.{is_monochrome_mode}
 use Rattle.bios_services.specs.Registers.{high, low}
 use Rattle.bios_screen.specs.Shown.{crtc_registers}
 use Rattle.bios_screen.specs.Raster.{Raster}
@@ -40,7 +41,7 @@ pub record IsTextFrame (mode : ℕ) (row : ModeRow) : Type 0 where
   pub first : (type start location : ℕ) → first_counter (crtc_registers row type start location) ≡ (256 * (start / 256) + start % 256 + 0) % 65536
   pub beam : (type start location a frame v x k : ℕ) → regular_beam (crtc_registers row type start location) a frame v x k ≡ beam_of row a frame v x k
   pub fetch : (type start location n : ℕ) → fetch_address (crtc_registers row type start location) n ≡ 2 * n % 65536 + bit_at n 15
-  pub underline : (type start location : ℕ) (v : Bool) (r : ℕ) → ((mode == 0x07) && v && r == underline_location (crtc_registers row type start location)) ≡ ((mode == 0x07) && (v && (r == row.height - 1)))
+  pub underline : (type start location : ℕ) (v : Bool) (r : ℕ) → (is_monochrome_mode mode && v && r == underline_location (crtc_registers row type start location)) ≡ (is_monochrome_mode mode && (v && (r == row.height - 1)))
   pub cursor : (type start location k r : ℕ) (f : Bool) → (let l = crtc_registers row type start location in (k == cursor_location l) && not (is_cursor_off l) && nat_le (cursor_start l) r && nat_le r (cursor_end l) && f)
       ≡ ((k == 256 * (location / 256) + location % 256) && not (is_set (bit_and (high type) 0x3F) 5) && nat_le (field (bit_and (high type) 0x3F) 4 0) r && nat_le r (field (bit_and (low type) 0x7F) 4 0) && f)
 
@@ -96,7 +97,7 @@ fetch_by Monochrome Eight type start location n = refl
 fetch_by Monochrome Fourteen type start location n = refl
 fetch_by Monochrome Sixteen type start location n = refl
 
-underline_by : (disp : Display) (height : Height) (type start location : ℕ) (v : Bool) (r : ℕ) → ((number_of disp == 0x07) && v && r == underline_location (registers_of disp height type start location)) ≡ ((number_of disp == 0x07) && (v && (r == (row_with disp height).height - 1)))
+underline_by : (disp : Display) (height : Height) (type start location : ℕ) (v : Bool) (r : ℕ) → (is_monochrome_mode (number_of disp) && v && r == underline_location (registers_of disp height type start location)) ≡ (is_monochrome_mode (number_of disp) && (v && (r == (row_with disp height).height - 1)))
 unfolding underline_location
 underline_by Colour Eight type start location v r = refl
 underline_by Colour Fourteen type start location v r = refl

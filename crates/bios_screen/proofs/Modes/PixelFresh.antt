@@ -30,7 +30,8 @@ use Rattle.bios_services.specs.declared.call.Call.{Call}
 use Rattle.bios_services.specs.declared.call.Call.TheVariants.{SetMode}
 use Rattle.bios_services.specs.Service.{call_plan, set_mode_plan, answer_of, Answered, service as whole_service}
 use Rattle.bios_services.specs.Plan.{Plan, Done, run, put, each, ◌>>◌}
-use Rattle.bios_services.specs.ModeSet.{is_text, registers_plan, colour_plan, palette_plan, clear_plan, memory_plan, mode_set_plan}
+use Rattle.bios_modes.specs.Kinds.{is_text}
+use Rattle.bios_services.specs.ModeSet.{registers_plan, colour_plan, palette_plan, clear_plan, memory_plan, mode_set_plan}
 use Rattle.bios_screen.specs.Screen.{Pixels, Screen}
 use Rattle.bios_screen.specs.Shown.{planar_pixel, packed_pixel, pixel_in, pixels_in, pixel_pages, shows, screen_by, text_screen, pixel_screen, screen_of, shown, shown_by}
 use Rattle.bios_screen.specs.Fresh.{default_component, blank_pixels, fresh_text, fresh_pixels, fresh_screen}

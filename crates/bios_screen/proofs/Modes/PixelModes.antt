@@ -8,9 +8,9 @@ use Rattle.vga_crtc.specs.Beam.{characters, lines, first_counter}
 use Rattle.vga_crtc.specs.Raster.{IsRegular, regular_beam}
 use Rattle.vga_dots.specs.SourceDot.{fetch_address}
 use Rattle.bios_modes.specs.declared.modes.ModeRow.{ModeRow}
-use Rattle.bios_modes.specs.Heights.{colour_rows, monochrome_rows, with_height, row_at}
+use Rattle.bios_modes.specs.Heights.{if_row, at_height, row_at}
 use Rattle.bios_modes.specs.Modes.{mode_row, colour_text, monochrome_text, planes_320_by_200, planes_640_by_350, planes_640_by_480, bytes_320_by_200}
-use Rattle.bios_services.specs.ModeSet.{is_text}
+use Rattle.bios_modes.specs.Kinds.{is_text, is_packed}
 use Rattle.bios_screen.specs.Shown.{crtc_registers}
 use Rattle.bios_screen.specs.Picture.{pixel_height}
 use Rattle.bios_screen.specs.Raster.{Raster, IsRaster}
@@ -76,15 +76,15 @@ graphics_row mode height row text e = by_tests (mode == 0x03) (mode == 0x07) (mo
     by_tests false false false true i j ea eb ef eg ei ej = there (Sixteen Middle) (same eg) refl
     by_tests false false false false true j ea eb ef eg ei ej = there (Sixteen High) (same ei) refl
     by_tests false false false false false true ea eb ef eg ei ej = there Many (same ej) refl
-    by_tests false false false false false false ea eb ef eg ei ej = none_some row (sym (
-        ap (λ w. if w then with_height colour_text (colour_rows height) else if mode == 0x07 then with_height monochrome_text (monochrome_rows height) else mode_row mode) ea
-        ∙ ap (λ w. if w then with_height monochrome_text (monochrome_rows height) else mode_row mode) eb
-        ∙ ap (λ w. if w then Some colour_text else if mode == 0x07 then Some monochrome_text else if mode == 0x0D then Some planes_320_by_200 else fourth mode) ea
+    by_tests false false false false false false ea eb ef eg ei ej =
+        let none : mode_row mode ≡ None =
+        ap (λ w. if w then Some colour_text else if mode == 0x07 then Some monochrome_text else if mode == 0x0D then Some planes_320_by_200 else fourth mode) ea
         ∙ ap (λ w. if w then Some monochrome_text else if mode == 0x0D then Some planes_320_by_200 else fourth mode) eb
         ∙ ap (λ w. if w then Some planes_320_by_200 else fourth mode) ef
         ∙ ap (λ w. if w then Some planes_640_by_350 else if mode == 0x12 then Some planes_640_by_480 else if mode == 0x13 then Some bytes_320_by_200 else None) eg
         ∙ ap (λ w. if w then Some planes_640_by_480 else if mode == 0x13 then Some bytes_320_by_200 else None) ei
-        ∙ ap (λ w. if w then Some bytes_320_by_200 else None) ej) ∙ e)
+        ∙ ap (λ w. if w then Some bytes_320_by_200 else None) ej in
+        none_some row (sym (ap (λ (x : Option ModeRow). if_row x (λ r. at_height r height)) none) ∙ e)
 
 -- ---- what is alike
 
@@ -101,7 +101,7 @@ text_by Low = refl
 text_by Middle = refl
 text_by High = refl
 
-pub packed_by : (m : Planes) → (number_of m == 0x13) ≡ false
+pub packed_by : (m : Planes) → is_packed (number_of m) ≡ false
 packed_by Low = refl
 packed_by Middle = refl
 packed_by High = refl

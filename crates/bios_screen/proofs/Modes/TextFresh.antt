@@ -20,7 +20,8 @@ use Rattle.bios_services.specs.declared.call.Call.TheVariants.{SetMode}
 use Rattle.bios_services.specs.Service.{call_plan, set_mode_plan, answer_of, Answered, service as whole_service}
 use Rattle.bios_services.specs.Plan.{Plan, Done, run, put, each, ◌>>◌}
 use Rattle.bios_services.specs.Cycles.{sequencer, graphics}
-use Rattle.bios_services.specs.ModeSet.{is_text, registers_plan, colour_plan, palette_plan, glyphs_plan, font_plan, blank_byte, blank_plan, text_plan, memory_plan, mode_set_plan}
+use Rattle.bios_modes.specs.Kinds.{is_text}
+use Rattle.bios_services.specs.ModeSet.{registers_plan, colour_plan, palette_plan, glyphs_plan, font_plan, blank_byte, blank_plan, text_plan, memory_plan, mode_set_plan}
 use Rattle.bios_screen.specs.Screen.{Cell, Screen}
 use Rattle.bios_screen.specs.Shown.{cell_in, cells_in, glyph_byte, glyphs_in, shows, screen_with, screen_of, all_cells, shown, shown_by}
 use Rattle.bios_screen.specs.Fresh.{blank_cells, default_component, font_bytes, fresh_text, fresh_pixels, fresh_screen}

@@ -10,12 +10,12 @@ use Rattle.bios_modes.specs.Heights.{row_at}
 use Rattle.bios_modes.specs.Bda.{BiosData}
 use Rattle.bios_modes.specs.Fonts.{FontSet}
 use Rattle.bios_services.specs.declared.regs.Regs.{Regs}
-use Rattle.bios_services.specs.declared.kind.Kind.TheVariants.{Packed}
+use Rattle.bios_modes.specs.declared.kind.Kind.TheVariants.{Packed}
 use Rattle.bios_services.specs.declared.call.Service.TheVariants.{ReadCell}
 use Rattle.bios_services.specs.Cells.{cells_of}
 use Rattle.bios_services.specs.Drawing.{cell_band, cell_row}
 use Rattle.bios_services.specs.Glyphs.{first_character}
-use Rattle.bios_services.specs.Kinds.{kind_of}
+use Rattle.bios_modes.specs.Kinds.{kind_of}
 use Rattle.bios_services.specs.Plan.{Plan, run, get, gather, fold, Done, ◌>>=◌}
 use Rattle.bios_services.specs.Reading.{shift_dot, packed_line, line_plan, lines_plan, read_character_plan}
 use Rattle.bios_screen.specs.Listing.{listing}

@@ -9,6 +9,7 @@ use Rattle.bios_modes.specs.Modes.{bytes_320_by_200}
 use Rattle.bios_modes.specs.Heights.{row_at}
 use Rattle.bios_modes.specs.Bda.{BiosData}
 use Rattle.bios_modes.specs.Fonts.{FontSet}
+use Rattle.bios_modes.specs.Kinds.{is_packed}
 use Rattle.bios_services.specs.declared.regs.Regs.{Regs}
 use Rattle.bios_services.specs.declared.call.Service.TheVariants.{WritePixel, ReadPixel}
 use Rattle.bios_services.specs.Cells.{page_base}
@@ -45,7 +46,7 @@ module _ (c : CardState) (d : BiosData) (t : IsPacked c d) (e : row_at d.mode d.
   address_is : (x y : ℕ) → pixel_address d 0 x y ≡ 0xA0000 + number x y
   address_is x y =
       let none : d.size * 0 ≡ 0 = omega arith in
-      ap (λ m. page_base m + d.size * 0 + (if m == 0x13 then 8 * d.columns * y + x else d.columns * y + x / 8)) t.number
+      ap (λ m. page_base m + d.size * 0 + (if is_packed m then 8 * d.columns * y + x else d.columns * y + x / 8)) t.number
       ∙ ap (λ n. 0xA0000 + n + (8 * d.columns * y + x)) none
       ∙ sum (8 * d.columns * y + x)
     where
@@ -57,7 +58,7 @@ module _ (c : CardState) (d : BiosData) (t : IsPacked c d) (e : row_at d.mode d.
   write_is : (x y colour : ℕ) → write_pixel_plan d 0 x y colour ≡ put (0xA0000 + number x y) colour
   unfolding write_pixel_plan
   write_is x y colour =
-      ap (λ m. let p : Plan (Unit {0}) = (if m == 0x13 then put (pixel_address d 0 x y) colour else write_dot_plan (pixel_address d 0 x y) x colour) in p) t.number
+      ap (λ m. let p : Plan (Unit {0}) = (if is_packed m then put (pixel_address d 0 x y) colour else write_dot_plan (pixel_address d 0 x y) x colour) in p) t.number
       ∙ ap (λ a. put a colour) (address_is x y)
 
   dot_shown : (x y colour : ℕ) → There bytes_320_by_200 d 0 x y → shown (with_memory c (packed_memory c.host.memory (number x y) colour)) d ≡ Some (with_pixels s 0 (change_pixel (number x y) (colour_over d.mode colour)))
@@ -87,7 +88,7 @@ module _ (c : CardState) (d : BiosData) (t : IsPacked c d) (e : row_at d.mode d.
   read_is : (x y : ℕ) → read_pixel_plan d 0 x y ≡ get (0xA0000 + number x y)
   unfolding read_pixel_plan
   read_is x y =
-      ap (λ m. let p : Plan ℕ = (if m == 0x13 then get (pixel_address d 0 x y) else read_dot_plan (pixel_address d 0 x y) x) in p) t.number
+      ap (λ m. let p : Plan ℕ = (if is_packed m then get (pixel_address d 0 x y) else read_dot_plan (pixel_address d 0 x y) x) in p) t.number
       ∙ ap get (address_is x y)
 
   read_at_0 : (x y : ℕ) → There bytes_320_by_200 d 0 x y → IsRead bytes_320_by_200 c d e 0 x y

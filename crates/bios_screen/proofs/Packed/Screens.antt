@@ -8,7 +8,7 @@ use Rattle.vga_card.specs.Card.{CardState}
 use Rattle.bios_modes.specs.Bda.{BiosData}
 use Rattle.bios_modes.specs.Modes.{bytes_320_by_200}
 use Rattle.bios_modes.specs.Heights.{row_at}
-use Rattle.bios_services.specs.ModeSet.{is_text}
+use Rattle.bios_modes.specs.Kinds.{is_text, is_packed}
 use Rattle.bios_services.specs.Plan.{run, put, get}
 use Rattle.bios_screen.specs.Listing.{listing}
 use Rattle.bios_screen.specs.Screen.{Pixels, Screen}
@@ -80,7 +80,7 @@ module _ (c : CardState) (d : BiosData) (t : IsPacked c d) (e : row_at d.mode d.
   pixel_by : (m : Four (List ℕ)) (k : ℕ) → pixel_in d.mode m (d.size * 0) k ≡ packed_pixel m k
   pixel_by m k =
       let at : d.size * 0 + k ≡ k = omega arith in
-      ap (λ i. if i == 0x13 then packed_pixel m (d.size * 0 + k) else planar_pixel m (d.size * 0) k) t.number ∙ ap (packed_pixel m) at
+      ap (λ i. if is_packed i then packed_pixel m (d.size * 0 + k) else planar_pixel m (d.size * 0) k) t.number ∙ ap (packed_pixel m) at
 
   pub pixel_is : (k : ℕ) → k < page_pixels d → pixel_of s 0 k ≡ packed_pixel c.host.memory k
   pixel_is k l = pixel_at d.mode c.host.memory d.size (page_pixels d) 1 0 k (omega arith) l ∙ pixel_by c.host.memory k

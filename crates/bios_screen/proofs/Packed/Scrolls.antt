@@ -11,12 +11,13 @@ use Rattle.bios_modes.specs.Bda.{BiosData}
 use Rattle.bios_modes.specs.Fonts.{FontSet}
 use Rattle.bios_services.specs.declared.regs.Regs.{Regs}
 use Rattle.bios_services.specs.declared.band.Band.{Band}
-use Rattle.bios_services.specs.declared.kind.Kind.TheVariants.{Packed}
+use Rattle.bios_modes.specs.declared.kind.Kind.TheVariants.{Packed}
 use Rattle.bios_services.specs.declared.scroll.Scroll.{Scroll}
 use Rattle.bios_services.specs.declared.call.Service.TheVariants.{ScrollUp, ScrollDown}
 use Rattle.bios_services.specs.Bands.{band_of, paint_byte, plain, raise_rows, lower_rows, paint_rows, fill_plan, up_plan, down_plan}
 use Rattle.bios_services.specs.Cells.{page_base, page_address}
-use Rattle.bios_services.specs.Kinds.{kind_of, column_bytes, row_lines}
+use Rattle.bios_modes.specs.Kinds.{kind_of}
+use Rattle.bios_services.specs.Kinds.{column_bytes, row_lines}
 use Rattle.bios_services.specs.Plan.{run, put, get, move}
 use Rattle.bios_screen.specs.Screen.{Screen}
 use Rattle.bios_screen.specs.Shown.{packed_pixel, page_pixels, pixel_screen, shown}

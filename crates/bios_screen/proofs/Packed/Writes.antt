@@ -15,13 +15,13 @@ use Rattle.bios_services.specs.declared.regs.Regs.{Regs}
 use Rattle.bios_services.specs.declared.band.Band.{Band}
 use Rattle.bios_services.specs.declared.cell_run.CellRun.{CellRun}
 use Rattle.bios_services.specs.declared.ink.Ink.{Ink}
-use Rattle.bios_services.specs.declared.kind.Kind.TheVariants.{Packed}
+use Rattle.bios_modes.specs.declared.kind.Kind.TheVariants.{Packed}
 use Rattle.bios_services.specs.declared.call.Service.TheVariants.{WriteCells}
 use Rattle.bios_services.specs.Bands.{address_in}
 use Rattle.bios_services.specs.Cells.{page_base, cells_of}
 use Rattle.bios_services.specs.Drawing.{dot_of, put_dots, packed_plan, character_by, character_plan, characters_plan}
 use Rattle.bios_services.specs.Glyphs.{glyph_line}
-use Rattle.bios_services.specs.Kinds.{kind_of}
+use Rattle.bios_modes.specs.Kinds.{kind_of}
 use Rattle.bios_services.specs.Plan.{Plan, run, put, each}
 use Rattle.bios_screen.specs.Screen.{Screen}
 use Rattle.bios_screen.specs.Shown.{packed_pixel, pixel_screen, shown}

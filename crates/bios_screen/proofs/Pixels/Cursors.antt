@@ -9,7 +9,7 @@ use Rattle.bios_modes.specs.Fonts.{FontSet}
 use Rattle.bios_services.specs.declared.regs.Regs.{Regs}
 use Rattle.bios_services.specs.declared.call.Service.TheVariants.{SetCursorType, SetCursor, SelectPage}
 use Rattle.bios_services.specs.Plan.{Plan, run, Done, ◌>>=◌, ◌>>◌}
-use Rattle.bios_services.specs.ModeSet.{is_text}
+use Rattle.bios_modes.specs.Kinds.{is_text}
 use Rattle.bios_services.specs.Registers.{high, low}
 use Rattle.bios_services.specs.Cycles.{crtc}
 use Rattle.bios_services.specs.Cursor.{word_plan, cursor_plan, page_plan, cursor_address, start_address, with_place, with_page, move_cursor_plan, cursor_type_plan}

@@ -4,7 +4,7 @@ use Rattle.vga_card.specs.Card.{CardState}
 use Rattle.bios_modes.specs.declared.modes.ModeRow.{ModeRow}
 use Rattle.bios_modes.specs.Heights.{row_at}
 use Rattle.bios_modes.specs.Bda.{BiosData}
-use Rattle.bios_services.specs.ModeSet.{is_text}
+use Rattle.bios_modes.specs.Kinds.{is_text}
 use Rattle.bios_screen.specs.Screen.{Pixels}
 use Rattle.bios_screen.specs.Shown.{shows_attribute, pixel_pages, page_pixels, screen_by, shown}
 use Rattle.bios_screen.proofs.Base.Setting.{setting}

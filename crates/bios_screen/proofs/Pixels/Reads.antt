@@ -13,7 +13,7 @@ use Rattle.bios_services.specs.Cells.{cells_of, cell_address, read_cell_plan}
 use Rattle.bios_services.specs.Cursor.{cell_number, place_of, cursor_cell}
 use Rattle.bios_services.specs.Drawing.{cell_band, cell_row}
 use Rattle.bios_services.specs.Glyphs.{first_character}
-use Rattle.bios_services.specs.ModeSet.{is_text}
+use Rattle.bios_modes.specs.Kinds.{is_text}
 use Rattle.bios_services.specs.Plan.{Plan, run, Done, ◌>>=◌}
 use Rattle.bios_services.specs.Reading.{read_character_plan}
 use Rattle.bios_services.specs.Reasons.{◌or◌, no_page, outside_cells}

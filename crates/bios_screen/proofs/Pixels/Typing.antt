@@ -9,7 +9,7 @@ use Rattle.bios_modes.specs.Fonts.{FontSet}
 use Rattle.bios_modes.specs.Modes.{bytes_320_by_200}
 use Rattle.bios_services.specs.Bounds.{pages_of}
 use Rattle.bios_services.specs.Plan.{Plan, run, Done, get, ◌>>=◌, ◌>>◌}
-use Rattle.bios_services.specs.ModeSet.{is_text}
+use Rattle.bios_modes.specs.Kinds.{is_text}
 use Rattle.bios_services.specs.Cursor.{column_of, cell_number}
 use Rattle.bios_services.specs.Cells.{cell_address}
 use Rattle.bios_services.specs.Bands.{band_of, up_plan}

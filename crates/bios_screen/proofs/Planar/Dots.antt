@@ -12,6 +12,7 @@ use Rattle.vga_card.specs.Card.{CardState}
 use Rattle.bios_modes.specs.Heights.{row_at}
 use Rattle.bios_modes.specs.Bda.{BiosData}
 use Rattle.bios_modes.specs.Fonts.{FontSet}
+use Rattle.bios_modes.specs.Kinds.{is_packed}
 use Rattle.bios_services.specs.declared.regs.Regs.{Regs}
 use Rattle.bios_services.specs.declared.call.Service.TheVariants.{WritePixel}
 use Rattle.bios_services.specs.Cycles.{graphics}
@@ -146,13 +147,13 @@ module _ (law : KeepsBounds) (m : Planes) (c : CardState) (d : BiosData) (t : Is
   write_is : (p x y v : ℕ) → write_pixel_plan d p x y v ≡ dot_plan (is_set v 7) (0xA0000 + (d.size * p + pixel_number s x y / 8)) (x % 8) v
   unfolding write_pixel_plan
   write_is p x y v =
-      ap (λ b. let q : Plan (Unit {0}) = (if b then put (pixel_address d p x y) v else write_dot_plan (pixel_address d p x y) x v) in q) (ap (λ i. i == 0x13) t.number ∙ packed_by m)
+      ap (λ b. let q : Plan (Unit {0}) = (if b then put (pixel_address d p x y) v else write_dot_plan (pixel_address d p x y) x v) in q) (ap is_packed t.number ∙ packed_by m)
       ∙ ap (λ a. write_dot_plan a x v) (reads.address_is m c d t e z p x y)
       ∙ plan_is (0xA0000 + (d.size * p + pixel_number s x y / 8)) x v
 
   -- the colour by the mode
   ink_is : (v : ℕ) → ink (is_set v 7) v ≡ colour_over d.mode v
-  ink_is v = sym (ap (λ i o. let x : ℕ = if i then v else ink (is_set v 7) v o in x) (ap (λ i. i == 0x13) t.number ∙ packed_by m))
+  ink_is v = sym (ap (λ i o. let x : ℕ = if i then v else ink (is_set v 7) v o in x) (ap is_packed t.number ∙ packed_by m))
 
   pub write_pixel : (page x y v : ℕ) (fonts : FontSet) (r : Regs) (block : List ℕ) → IsServed (WritePixel page x y v) fonts r block c d s
   write_pixel page x y v fonts r block = services.write_pixel (row_of m) c d e page x y v fonts r block (λ p h.

@@ -10,7 +10,7 @@ use Rattle.vga_host.specs.Host.{HostState}
 use Rattle.vga_host.specs.Read.{read_bit, read_byte}
 use Rattle.vga_card.specs.Bus.{card_meaning}
 use Rattle.vga_card.specs.Card.{CardState}
-use Rattle.bios_services.specs.declared.kind.Kind.TheVariants.{Planar}
+use Rattle.bios_modes.specs.declared.kind.Kind.TheVariants.{Planar}
 use Rattle.bios_services.specs.Plan.{Plan, run, gather, Done, ◌>>=◌}
 use Rattle.bios_services.specs.Reading.{line_plan}
 use Rattle.bios_screen.specs.Listing.{listing}

@@ -1,6 +1,6 @@
 -- A pixel of sixteen colours is read, plane after plane.
 use Rattle.std.proofs.Common.{◌≡◌, ℕ, zero, suc, ◌+◌, ◌-◌, ◌*◌, ◌/◌, ◌%◌, ◌<◌, refl, sym, ap, ◌∙◌, subst, arith, List, [], ◌∷◌, Some, true}
-use Rattle.std.specs.Prelude.{slice_index, slice_set, bit_and, ◌==◌, if◌then◌else◌}
+use Rattle.std.specs.Prelude.{slice_index, slice_set, bit_and, if◌then◌else◌}
 use Rattle.std.specs.Int.{bit_at}
 use Rattle.vga_bits.specs.Bits.{is_set, byte_of}
 use Rattle.vga_bits.proofs.BitLemmas.{byte_bits}
@@ -16,6 +16,7 @@ use Rattle.vga_card.specs.Cycles.{out_at}
 use Rattle.bios_modes.specs.Heights.{row_at}
 use Rattle.bios_modes.specs.Bda.{BiosData}
 use Rattle.bios_modes.specs.Fonts.{FontSet}
+use Rattle.bios_modes.specs.Kinds.{is_packed}
 use Rattle.bios_services.specs.declared.regs.Regs.{Regs}
 use Rattle.bios_services.specs.declared.call.Service.TheVariants.{ReadPixel}
 use Rattle.bios_services.specs.Cells.{page_base}
@@ -112,7 +113,7 @@ enabled_by Low = refl
 enabled_by Middle = refl
 enabled_by High = refl
 
-base_by : (m : Planes) (a b f : ℕ) → page_base (number_of m) + a + (if number_of m == 0x13 then b else f) ≡ 0xA0000 + a + f
+base_by : (m : Planes) (a b f : ℕ) → page_base (number_of m) + a + (if is_packed (number_of m) then b else f) ≡ 0xA0000 + a + f
 base_by Low a b f = refl
 base_by Middle a b f = refl
 base_by High a b f = refl
@@ -142,7 +143,7 @@ module _ (m : Planes) (c : CardState) (d : BiosData) (t : IsPlanar m c d) (e : r
 
   pub address_is : (p x y : ℕ) → pixel_address d p x y ≡ 0xA0000 + offset p x y
   address_is p x y =
-      ap (λ i. page_base i + d.size * p + (if i == 0x13 then 8 * d.columns * y + x else d.columns * y + x / 8)) t.number
+      ap (λ i. page_base i + d.size * p + (if is_packed i then 8 * d.columns * y + x else d.columns * y + x / 8)) t.number
       ∙ base_by m (d.size * p) (8 * d.columns * y + x) (d.columns * y + x / 8)
       ∙ sum_is (d.size * p) (d.columns * y + x / 8)
       ∙ ap (λ i. 0xA0000 + (d.size * p + i)) (eighth d.columns y x)
@@ -150,7 +151,7 @@ module _ (m : Planes) (c : CardState) (d : BiosData) (t : IsPlanar m c d) (e : r
   read_is : (p x y : ℕ) → read_pixel_plan d p x y ≡ read_dot_plan (0xA0000 + offset p x y) x
   unfolding read_pixel_plan
   read_is p x y =
-      ap (λ b. let q : Plan ℕ = (if b then get (pixel_address d p x y) else read_dot_plan (pixel_address d p x y) x) in q) (ap (λ i. i == 0x13) t.number ∙ packed_by m)
+      ap (λ b. let q : Plan ℕ = (if b then get (pixel_address d p x y) else read_dot_plan (pixel_address d p x y) x) in q) (ap is_packed t.number ∙ packed_by m)
       ∙ ap (λ a. read_dot_plan a x) (address_is p x y)
 
   begins : IsPicking (without_reads c) (row_of m).misc (slice_index (row_of m).sequencer 1) 0 c

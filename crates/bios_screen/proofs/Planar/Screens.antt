@@ -1,6 +1,6 @@
 -- From drawn memory of sixteen colours to the screen that it shows, in which one page is drawn anew.
 use Rattle.std.proofs.Common.{◌≡◌, ◌≢◌, ℕ, ◌+◌, ◌*◌, ◌/◌, ◌%◌, ◌<◌, ◌≤◌, ◌⊎◌, inl, inr, ⊎_elim, refl, sym, ap, ◌∙◌, subst, arith, [], length, get_or, Some, false}
-use Rattle.std.specs.Prelude.{slice_index, set, ◌==◌, if◌then◌else◌}
+use Rattle.std.specs.Prelude.{slice_index, set, if◌then◌else◌}
 use Rattle.std.proofs.lemmas.Bool.{cases_lt}
 use Rattle.vga_bits.specs.Four.{Four}
 use Rattle.vga_planes.specs.Planes.{bytes_at}
@@ -8,7 +8,7 @@ use Rattle.vga_card.specs.Bounds.{IsCard}
 use Rattle.vga_card.specs.Card.{CardState}
 use Rattle.bios_modes.specs.Bda.{BiosData}
 use Rattle.bios_modes.specs.Heights.{row_at}
-use Rattle.bios_services.specs.ModeSet.{is_text}
+use Rattle.bios_modes.specs.Kinds.{is_text, is_packed}
 use Rattle.bios_screen.specs.Listing.{listing}
 use Rattle.bios_screen.specs.Screen.{Pixels, Screen}
 use Rattle.bios_screen.specs.Shown.{packed_pixel, planar_pixel, pixel_in, pixels_in, pixel_pages, page_pixels, screen_by, pixel_screen, shown}
@@ -82,7 +82,7 @@ module _ (m : Planes) (c : CardState) (d : BiosData) (t : IsPlanar m c d) (e : r
   pixel_is p k lp l =
       let f = c.host.memory in
       pixel_at d.mode f d.size (page_pixels d) (row_of m).pages p k lp l
-      ∙ ap (λ b. if b then packed_pixel f (d.size * p + k) else planar_pixel f (d.size * p) k) (ap (λ i. i == 0x13) t.number ∙ packed_by m)
+      ∙ ap (λ b. if b then packed_pixel f (d.size * p + k) else planar_pixel f (d.size * p) k) (ap is_packed t.number ∙ packed_by m)
 
   -- other pages lie apart
   apart : (p q k : ℕ) → p ≢ q → k < d.size → (d.size * q + k < d.size * p) ⊎ (d.size * p + d.size ≤ d.size * q + k)
@@ -104,7 +104,7 @@ module _ (m : Planes) (c : CardState) (d : BiosData) (t : IsPlanar m c d) (e : r
       let row = row_of m in
       let n = page_pixels d in
       let old = pixel_pages d.mode c.host.memory d.size n row.pages in
-      let packed : (d.mode == 0x13) ≡ false = ap (λ i. i == 0x13) t.number ∙ packed_by m in
+      let packed : is_packed d.mode ≡ false = ap is_packed t.number ∙ packed_by m in
       let new_pixel : (g k : ℕ) → pixel_in d.mode y.host.memory (d.size * g) k ≡ nibble_of (f (d.size * g + k / 8)) (k % 8) = λ g k.
       ap (λ b. if b then packed_pixel y.host.memory (d.size * g + k) else planar_pixel y.host.memory (d.size * g) k) packed
       ∙ ap (λ (x : Four ℕ). nibble_of x (k % 8)) (h.cell (d.size * g + k / 8)) in
@@ -126,7 +126,7 @@ module _ (m : Planes) (c : CardState) (d : BiosData) (t : IsPlanar m c d) (e : r
   stays y f q h same =
       let row = row_of m in
       let n = page_pixels d in
-      let packed : (d.mode == 0x13) ≡ false = ap (λ i. i == 0x13) t.number ∙ packed_by m in
+      let packed : is_packed d.mode ≡ false = ap is_packed t.number ∙ packed_by m in
       let pixel : (g k : ℕ) → pixel_in d.mode y.host.memory (d.size * g) k ≡ pixel_in d.mode c.host.memory (d.size * g) k = λ g k.
       ap (λ b. if b then packed_pixel y.host.memory (d.size * g + k) else planar_pixel y.host.memory (d.size * g) k) packed
       ∙ ap (λ (x : Four ℕ). nibble_of x (k % 8)) (h.cell (d.size * g + k / 8) ∙ same (d.size * g + k / 8))

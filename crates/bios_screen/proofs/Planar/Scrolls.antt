@@ -13,12 +13,13 @@ use Rattle.bios_modes.specs.Bda.{BiosData}
 use Rattle.bios_modes.specs.Fonts.{FontSet}
 use Rattle.bios_services.specs.declared.regs.Regs.{Regs}
 use Rattle.bios_services.specs.declared.band.Band.{Band}
-use Rattle.bios_services.specs.declared.kind.Kind.TheVariants.{Planar}
+use Rattle.bios_modes.specs.declared.kind.Kind.TheVariants.{Planar}
 use Rattle.bios_services.specs.declared.scroll.Scroll.{Scroll}
 use Rattle.bios_services.specs.declared.call.Service.TheVariants.{ScrollUp, ScrollDown}
 use Rattle.bios_services.specs.Bands.{band_of, up_plan, down_plan}
 use Rattle.bios_services.specs.Cells.{page_base, page_address}
-use Rattle.bios_services.specs.Kinds.{kind_of, column_bytes, row_lines}
+use Rattle.bios_modes.specs.Kinds.{kind_of, is_packed}
+use Rattle.bios_services.specs.Kinds.{column_bytes, row_lines}
 use Rattle.bios_services.specs.Plan.{run}
 use Rattle.bios_screen.specs.Screen.{Screen}
 use Rattle.bios_screen.specs.Shown.{page_pixels, pixel_screen, shown}
@@ -141,7 +142,7 @@ module _ (law : KeepsBounds) (m : Planes) (c : CardState) (d : BiosData) (t : Is
       ap (λ (v : Four ℕ). nibble_of v j) is.is
       ∙ pixel_lined false mask 0xFF j is.under (omega arith) lj
       ∙ ap (λ v. dotted_by false mask (v == 1) (nibble_of is.under j)) (ones_byte (7 - j) (omega arith))
-      ∙ sym (ap (λ b. let v : ℕ = (if b then scroll.fill else mask) in v) (ap (λ i. i == 0x13) t.number ∙ packed_by m))
+      ∙ sym (ap (λ b. let v : ℕ = (if b then scroll.fill else mask) in v) (ap is_packed t.number ∙ packed_by m))
 
   stays : (change : (ℕ → ℕ) → ℕ → ℕ) → ((k : ℕ) → change (pixel_of s p) k ≡ pixel_of s p k) → shown c d ≡ Some (with_pixels s p change)
   stays change same = screens.page_redrawn m c d t e z p c old c.host.latches change lp (screens.begins m c d t e z) (λ k lk. sym (screens.pixel_is m c d t e z p k lp lk) ∙ sym (same k)) (λ o out. refl)

@@ -10,7 +10,7 @@ use Rattle.vga_host.specs.Write.{written_bit, combined_bit}
 use Rattle.vga_card.specs.Bus.{card_meaning}
 use Rattle.vga_card.specs.Card.{CardState}
 use Rattle.bios_services.specs.declared.band.Band.{Band}
-use Rattle.bios_services.specs.declared.kind.Kind.TheVariants.{Planar}
+use Rattle.bios_modes.specs.declared.kind.Kind.TheVariants.{Planar}
 use Rattle.bios_services.specs.Bands.{paint_byte, plain, paint_rows, raise_rows, lower_rows, fill_plan, up_plan, down_plan}
 use Rattle.bios_services.specs.Cycles.{sequencer, graphics}
 use Rattle.bios_services.specs.Plan.{Plan, run, put, get, move, ◌>>◌}

@@ -16,14 +16,15 @@ use Rattle.bios_services.specs.declared.regs.Regs.{Regs}
 use Rattle.bios_services.specs.declared.band.Band.{Band}
 use Rattle.bios_services.specs.declared.cell_run.CellRun.{CellRun}
 use Rattle.bios_services.specs.declared.ink.Ink.{Ink}
-use Rattle.bios_services.specs.declared.kind.Kind.{Kind}
-use Rattle.bios_services.specs.declared.kind.Kind.TheVariants.{Planar}
+use Rattle.bios_modes.specs.declared.kind.Kind.{Kind}
+use Rattle.bios_modes.specs.declared.kind.Kind.TheVariants.{Planar}
 use Rattle.bios_services.specs.declared.call.Service.TheVariants.{WriteCells}
 use Rattle.bios_services.specs.Bands.{address_in, paint_line, paint_row}
 use Rattle.bios_services.specs.Cells.{page_base, page_address, cells_of}
 use Rattle.bios_services.specs.Drawing.{put_glyph, put_glyph_over, plain_plan, xor_plan, planar_plan, character_by, character_plan, characters_plan}
 use Rattle.bios_services.specs.Glyphs.{glyph_line}
-use Rattle.bios_services.specs.Kinds.{kind_of, column_bytes, row_lines}
+use Rattle.bios_modes.specs.Kinds.{kind_of, is_packed}
+use Rattle.bios_services.specs.Kinds.{column_bytes, row_lines}
 use Rattle.bios_services.specs.Plan.{run}
 use Rattle.bios_screen.specs.Screen.{Screen}
 use Rattle.bios_screen.specs.Shown.{pixel_screen, shown}
@@ -183,7 +184,7 @@ module _ (law : KeepsBounds) (m : Planes) (c : CardState) (d : BiosData) (t : Is
 
   -- what a dot makes of a pixel, in a mode of sixteen colours
   dot_is : (colour : ℕ) (is_dot : Bool) (x : ℕ) → dotted_by (is_set colour 7) (colour % 16) is_dot x ≡ glyph_pixel d.mode colour is_dot x
-  dot_is colour is_dot x = sym (ap (λ b. if is_dot then (if b then colour else if is_set colour 7 then Rattle.std.specs.Prelude.bit_xor x (colour % 16) else colour % 16) else if not b && is_set colour 7 then x else 0) (ap (λ i. i == 0x13) t.number ∙ packed_by m))
+  dot_is colour is_dot x = sym (ap (λ b. if is_dot then (if b then colour else if is_set colour 7 then Rattle.std.specs.Prelude.bit_xor x (colour % 16) else colour % 16) else if not b && is_set colour 7 then x else 0) (ap is_packed t.number ∙ packed_by m))
 
   pub characters_shown : (fonts : FontSet) (p q n character : ℕ) (ink : Ink) → p < (row_of m).pages → q + n ≤ cells_of d → shown (run card_meaning (characters_plan fonts d p q character ink n) c).0 d ≡ Some (with_pixels s p (draw_characters fonts s q n character ink.colour))
   characters_shown fonts p q n character ink lp lq =

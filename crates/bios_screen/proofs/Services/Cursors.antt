@@ -20,7 +20,7 @@ use Rattle.bios_services.specs.declared.call.Service.TheVariants.{SetCursorType,
 use Rattle.bios_services.specs.Plan.{Plan, run, Done, ◌>>=◌, ◌>>◌}
 use Rattle.bios_services.specs.Registers.{high, low}
 use Rattle.bios_services.specs.Cycles.{crtc}
-use Rattle.bios_services.specs.ModeSet.{is_text}
+use Rattle.bios_modes.specs.Kinds.{is_text}
 use Rattle.bios_services.specs.Cursor.{word_plan, cursor_plan, page_plan, cursor_address, start_address, place_of, with_place, with_page, move_cursor_plan, cursor_type_plan}
 use Rattle.bios_services.specs.Reasons.{no_page}
 use Rattle.bios_services.specs.Refusals.{page_among, page_named, refusal_in_mode}

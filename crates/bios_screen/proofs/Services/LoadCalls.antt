@@ -19,7 +19,7 @@ use Rattle.bios_services.specs.declared.glyph_load.GlyphLoad.{GlyphLoad}
 use Rattle.bios_services.specs.declared.call.Call.{Call}
 use Rattle.bios_services.specs.declared.call.Call.TheVariants.{LoadGlyphs}
 use Rattle.bios_services.specs.Plan.{Plan, Done, run, ◌>>◌}
-use Rattle.bios_services.specs.ModeSet.{is_text}
+use Rattle.bios_modes.specs.Kinds.{is_text}
 use Rattle.bios_services.specs.Reasons.{◌or◌, refuse_unless, wrong_block}
 use Rattle.bios_services.specs.GlyphLoads.{AreThere, glyphs_len, load_refusal, load_plan}
 use Rattle.bios_services.specs.Calls.{call_of}

@@ -10,7 +10,7 @@ use Rattle.bios_modes.specs.Fonts.{FontSet}
 use Rattle.bios_services.specs.declared.regs.Regs.{Regs}
 use Rattle.bios_services.specs.declared.call.Service.TheVariants.{Teletype}
 use Rattle.bios_services.specs.Bounds.{pages_of}
-use Rattle.bios_services.specs.ModeSet.{is_text}
+use Rattle.bios_modes.specs.Kinds.{is_text}
 use Rattle.bios_services.specs.Plan.{Plan, run, Done, ◌>>=◌}
 use Rattle.bios_services.specs.Cursor.{place_of, move_cursor_plan}
 use Rattle.bios_services.specs.Teletype.{dots_in, type_plan, teletype_plan}

@@ -9,7 +9,7 @@ use Rattle.bios_modes.specs.Fonts.{FontSet}
 use Rattle.bios_services.specs.declared.regs.Regs.{Regs}
 use Rattle.bios_services.specs.declared.call.Service.TheVariants.{WritePixel, ReadPixel}
 use Rattle.bios_services.specs.Bounds.{pages_of}
-use Rattle.bios_services.specs.ModeSet.{is_text}
+use Rattle.bios_modes.specs.Kinds.{is_text}
 use Rattle.bios_services.specs.Pixels.{dots_across, dots_down}
 use Rattle.bios_services.specs.Reasons.{◌or◌, refuse_unless, no_pixels, no_page, outside_pixels}
 use Rattle.bios_services.specs.Refusals.{page_named, refusal_in_mode}

@@ -5,7 +5,7 @@ use Rattle.bios_modes.specs.declared.modes.ModeRow.{ModeRow}
 use Rattle.bios_modes.specs.Modes.{bytes_320_by_200}
 use Rattle.bios_modes.specs.Heights.{row_at}
 use Rattle.bios_modes.specs.Bda.{BiosData}
-use Rattle.bios_services.specs.ModeSet.{is_text}
+use Rattle.bios_modes.specs.Kinds.{is_text}
 use Rattle.bios_screen.specs.Screen.{Screen}
 use Rattle.bios_screen.specs.Shown.{pixel_screen, shown}
 use Rattle.bios_screen.proofs.Shows.Screens.{AllTests, data_is}

@@ -1,5 +1,5 @@
 -- What a reading has found so far, and lists by their elements.
-use Rattle.std.proofs.Common.{◌≡◌, ℕ, zero, suc, ◌+◌, ◌*◌, ◌/◌, ◌%◌, ◌<◌, ◌≤◌, ⊎_elim, refl, sym, ap, subst, ◌∙◌, arith, List, [], ◌∷◌, ◌++◌, length, append_assoc, get_or, Bool, true, false, Some, None}
+use Rattle.std.proofs.Common.{◌≡◌, ℕ, zero, suc, ◌+◌, ◌*◌, ◌/◌, ◌%◌, ◌<◌, ◌≤◌, ⊎_elim, refl, sym, ap, subst, ◌∙◌, arith, List, [], ◌∷◌, ◌++◌, length, append_assoc, get_or, Bool, true, false, Some, None, IsTrue}
 use Rattle.std.specs.Prelude.{slice_index, slice_set, take, bit_and, nat_lt, ◌&&◌, if◌then◌else◌}
 use Rattle.std.specs.Str.{bytes_eq}
 use Rattle.std.proofs.lemmas.Bool.{cases_lt}
@@ -10,7 +10,7 @@ use Rattle.vga_card.specs.Card.{CardState}
 use Rattle.bios_modes.specs.declared.modes.ModeRow.{ModeRow}
 use Rattle.bios_modes.specs.Heights.{row_at}
 use Rattle.bios_modes.specs.Bda.{BiosData}
-use Rattle.bios_services.specs.ModeSet.{is_text}
+use Rattle.bios_modes.specs.Kinds.{is_text, is_packed}
 use Rattle.bios_services.specs.Cursor.{start_address}
 use Rattle.bios_screen.specs.Listing.{listing}
 use Rattle.bios_screen.specs.Screen.{Cell, Contents, Cells, Pixels, Layout, Screen, no_cell, cell_of}
@@ -200,15 +200,15 @@ pub record PixelNumbers (row : ModeRow) (mode columns height size n : ℕ) : Typ
   pub height_few : height ≤ 16
   pub all : size * row.pages ≤ 65536
   pub page : (n + 7) / 8 ≤ size
-  pub packed : mode ≡ 0x13 → n ≤ size
+  pub packed : IsTrue (is_packed mode) → n ≤ size
 
 abbrev pixels_of : ModeRow → ℕ
 pixels_of row = 8 * row.columns * (row.height * (row.last_row + 1))
 
 numbers_by : (k : Graphics) → PixelNumbers (row_in k) (number_in k) (row_in k).columns (row_in k).height (row_in k).size (pixels_of (row_in k))
-numbers_by (Sixteen Low) = record { columns_few = omega arith; height_few = omega arith; all = omega arith; page = omega arith; packed = λ e. omega arith }
-numbers_by (Sixteen Middle) = record { columns_few = omega arith; height_few = omega arith; all = omega arith; page = omega arith; packed = λ e. omega arith }
-numbers_by (Sixteen High) = record { columns_few = omega arith; height_few = omega arith; all = omega arith; page = omega arith; packed = λ e. omega arith }
+numbers_by (Sixteen Low) = record { columns_few = omega arith; height_few = omega arith; all = omega arith; page = omega arith; packed = λ e. absurd (cc) }
+numbers_by (Sixteen Middle) = record { columns_few = omega arith; height_few = omega arith; all = omega arith; page = omega arith; packed = λ e. absurd (cc) }
+numbers_by (Sixteen High) = record { columns_few = omega arith; height_few = omega arith; all = omega arith; page = omega arith; packed = λ e. absurd (cc) }
 numbers_by Many = record { columns_few = omega arith; height_few = omega arith; all = omega arith; page = omega arith; packed = λ e. omega arith }
 
 pub pixel_numbers : (row : ModeRow) (c : CardState) (d : BiosData) → row_at d.mode d.height ≡ Some row → is_text d.mode ≡ false → shows row c d ≡ true → PixelNumbers row d.mode d.columns d.height d.size (page_pixels d)

@@ -9,12 +9,11 @@ use Rattle.bios_modes.specs.declared.modes.ModeRow.{ModeRow}
 use Rattle.bios_modes.specs.Heights.{row_at}
 use Rattle.bios_modes.specs.Heights.{row_at}
 use Rattle.bios_modes.specs.Bda.{BiosData}
-use Rattle.bios_services.specs.declared.kind.Kind.{Kind}
-use Rattle.bios_services.specs.declared.kind.Kind.TheVariants.{Text, Planar, Packed}
+use Rattle.bios_modes.specs.declared.kind.Kind.{Kind}
+use Rattle.bios_modes.specs.declared.kind.Kind.TheVariants.{Text, Planar, Packed}
 use Rattle.bios_services.specs.Bounds.{pages_in, pages_of}
 use Rattle.bios_services.specs.Refusals.{page_among, page_named}
-use Rattle.bios_services.specs.ModeSet.{is_text}
-use Rattle.bios_services.specs.Kinds.{kind_of}
+use Rattle.bios_modes.specs.Kinds.{is_text, kind_of, is_text_kind}
 use Rattle.bios_services.specs.Cursor.{cursor_address, start_address}
 use Rattle.bios_screen.specs.Screen.{Screen}
 use Rattle.bios_screen.specs.Shown.{shows_memory, crtc_registers, crtc_shown, shows_attribute, shows_data, shows, text_screen, pixel_screen, screen_of, shown_by, shown}
@@ -195,7 +194,12 @@ text_shown c d s h t = ap is_text (sym (mode_of_shown c d s h).is) ∙ t
 
 -- the mode uses the memory for text
 pub kind_is : (c : CardState) (d : BiosData) → IsShown c d → kind_of d.mode ≡ Text
-kind_is c d h = ap (λ b. let k : Kind = (if b then Text else if d.mode == 0x13 then Packed else Planar) in k) h.tests.is_text
+kind_is c d h = by_kind (kind_of d.mode) h.tests.is_text
+  where
+    by_kind : (k : Kind) → is_text_kind k ≡ true → k ≡ Text
+    by_kind Text t = refl
+    by_kind Planar t = absurd (cc)
+    by_kind Packed t = absurd (cc)
 
 -- mode control, but for blinking, is the mode's
 pub control_is : (c : CardState) (d : BiosData) (h : IsShown c d) → bit_and (slice_index c.attr.registers 0x10) 0xF7 ≡ control_of h.display

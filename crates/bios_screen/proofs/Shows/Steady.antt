@@ -11,7 +11,7 @@ use Rattle.vga_card.specs.Dots.{character_width}
 use Rattle.bios_modes.specs.declared.modes.ModeRow.{ModeRow}
 use Rattle.bios_modes.specs.Heights.{row_at}
 use Rattle.bios_modes.specs.Bda.{BiosData}
-use Rattle.bios_services.specs.ModeSet.{is_text}
+use Rattle.bios_modes.specs.Kinds.{is_text}
 use Rattle.bios_services.specs.Cursor.{start_address}
 use Rattle.bios_screen.specs.Screen.{Layout, Screen}
 use Rattle.bios_screen.specs.Shown.{crtc_registers, location_shown, shown}

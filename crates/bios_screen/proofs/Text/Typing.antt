@@ -10,7 +10,7 @@ use Rattle.bios_modes.specs.Fonts.{FontSet}
 use Rattle.bios_services.specs.declared.ink.Ink.{Ink}
 use Rattle.bios_services.specs.Bounds.{pages_of}
 use Rattle.bios_services.specs.Plan.{Plan, run, Done, get, ◌>>=◌, ◌>>◌}
-use Rattle.bios_services.specs.ModeSet.{is_text}
+use Rattle.bios_modes.specs.Kinds.{is_text}
 use Rattle.bios_services.specs.Cursor.{row_of, column_of, cell_number}
 use Rattle.bios_services.specs.Cells.{cell_address, write_cell_plan}
 use Rattle.bios_services.specs.Bands.{band_of, up_plan}

@@ -13,7 +13,7 @@ use Rattle.bios_services.specs.declared.regs.Regs.{Regs}
 use Rattle.bios_services.specs.declared.scroll.Scroll.{Scroll}
 use Rattle.bios_services.specs.declared.call.Service.TheVariants.{ScrollUp, ScrollDown}
 use Rattle.bios_services.specs.declared.band.Band.{Band}
-use Rattle.bios_services.specs.declared.kind.Kind.TheVariants.{Text}
+use Rattle.bios_modes.specs.declared.kind.Kind.TheVariants.{Text}
 use Rattle.bios_services.specs.Kinds.{column_bytes, row_lines}
 use Rattle.bios_services.specs.Cells.{page_address}
 use Rattle.bios_services.specs.Plan.{Plan, run, Done, get, put, move, ◌>>◌}

@@ -1,0 +1,46 @@
+//! The three ways in which modes use the memory.
+ghost use Rattle.std.specs.Prelude.{◌≡◌};
+ghost use Rattle.bios_modes.specs.Kinds.{kind_of as kind_of_mode, is_text as is_text_mode, is_packed as is_packed_mode};
+
+use super::modes::mode_row;
+
+/// How a mode uses the memory.
+#[derive(Clone, Copy, PartialEq, Eq, Debug)]
+pub enum Kind {
+    /// Characters and attributes in turn.
+    Text,
+    /// 16 colours: a bit of each of four planes for a dot.
+    Planar,
+    /// 256 colours: a byte for a dot.
+    Packed,
+}
+
+/// How a mode uses the memory, by its row; a number that is no mode's is taken for one of 16 colours.
+pub fn kind_of(mode: u8) -> Kind
+    ensures { result ≡ kind_of_mode mode }
+{
+    match mode_row(mode) {
+        Some(row) => row.kind,
+        None => Kind::Planar,
+    }
+}
+
+/// Whether a mode is one of text.
+pub fn is_text(mode: u8) -> bool
+    ensures { result ≡ is_text_mode mode }
+{
+    match kind_of(mode) {
+        Kind::Text => true,
+        Kind::Planar | Kind::Packed => false,
+    }
+}
+
+/// Whether a mode is one of 256 colours.
+pub fn is_packed(mode: u8) -> bool
+    ensures { result ≡ is_packed_mode mode }
+{
+    match kind_of(mode) {
+        Kind::Packed => true,
+        Kind::Text | Kind::Planar => false,
+    }
+}
