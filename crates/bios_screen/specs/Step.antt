@@ -5,7 +5,7 @@ use Rattle.vga_bits.specs.Bits.{is_set, byte_of}
 use Rattle.vga_bits.specs.declared.refusal.Refusal.{Refusal}
 use Rattle.bios_modes.specs.Fonts.{FontSet}
 use Rattle.bios_services.specs.declared.regs.Regs.{Regs}
-use Rattle.bios_services.specs.declared.ink.Ink.{Ink}
+use Rattle.bios_services.specs.declared.colouring.Colouring.{Colouring}
 use Rattle.bios_services.specs.declared.scroll.Scroll.{Scroll}
 use Rattle.bios_services.specs.declared.cell_run.CellRun.{CellRun}
 use Rattle.bios_services.specs.declared.strings.StringCall.{StringCall}
@@ -15,7 +15,7 @@ use Rattle.bios_modes.specs.Kinds.{is_packed}
 use Rattle.bios_modes.specs.Palette.{is_monochrome_mode}
 use Rattle.bios_services.specs.Registers.{low, with_low}
 use Rattle.bios_services.specs.Teletype.{line_start, dots_in}
-use Rattle.bios_services.specs.Strings.{string_len, character_at, ink_at}
+use Rattle.bios_services.specs.Strings.{string_len, character_at, colouring_at}
 use Rattle.bios_services.specs.Colours.{colour_refusal}
 use Rattle.bios_services.specs.Reasons.{◌or◌, no_pixels, no_page, outside_cells, outside_page, outside_pixels, past_cells, wrong_block}
 use Rattle.bios_services.specs.Refusals.{page_among}
@@ -87,13 +87,13 @@ abbrev pub with_cells : Screen → ((ℕ → Cell) → ℕ → Cell) → Screen
 with_cells s new = record s { contents = change_cells new s.contents }
 
 -- a character with an attribute; where none is given the cell keeps its own
-abbrev pub character_over : ℕ → Ink → Cell → Cell
-character_over character ink cell = (character, if ink.is_attribute then ink.colour else cell.1)
+abbrev pub character_over : ℕ → Colouring → Cell → Cell
+character_over character colouring cell = (character, if colouring.is_attribute then colouring.colour else cell.1)
 
 -- count cells from the first on become a character, and all others stay
-abbrev pub write_characters : ℕ → ℕ → ℕ → Ink → (ℕ → Cell) → ℕ → Cell
-write_characters first count character ink old k =
-    if nat_le first k && nat_lt k (first + count) then character_over character ink (old k) else old k
+abbrev pub write_characters : ℕ → ℕ → ℕ → Colouring → (ℕ → Cell) → ℕ → Cell
+write_characters first count character colouring old k =
+    if nat_le first k && nat_lt k (first + count) then character_over character colouring (old k) else old k
 
 -- row and column of cell k on a page
 abbrev pub row_on : Screen → ℕ → ℕ → ℕ
@@ -191,13 +191,13 @@ draw_characters fonts s first count character colour old k =
     else old k
 
 -- a character is written to count cells of a page from one on, to cells of text or as dots
-abbrev pub put_characters : FontSet → Screen → ℕ → ℕ → ℕ → ℕ → Ink → Screen
-put_characters fonts s page first count character ink =
-    with_pixels (with_cells s (write_characters (page_start s page + first) count character ink)) page (draw_characters fonts s first count character ink.colour)
+abbrev pub put_characters : FontSet → Screen → ℕ → ℕ → ℕ → ℕ → Colouring → Screen
+put_characters fonts s page first count character colouring =
+    with_pixels (with_cells s (write_characters (page_start s page + first) count character colouring)) page (draw_characters fonts s first count character colouring.colour)
 
 -- it is written from the cursor of a page on
 abbrev pub write_at_cursor : FontSet → Screen → ℕ → CellRun → Screen
-write_at_cursor fonts s page cells = put_characters fonts s page (cursor_number s page) cells.count cells.character cells.ink
+write_at_cursor fonts s page cells = put_characters fonts s page (cursor_number s page) cells.count cells.character cells.colouring
 
 -- whether pixel k of a page is in a window
 abbrev pub has_pixel : Screen → Scroll → ℕ → Bool
@@ -257,18 +257,18 @@ cursor_advance s page place =
     else ((line_feed s page place).0, line_start (line_feed s page place).1)
 
 -- a character at a place, and the place behind
-abbrev pub put_character : FontSet → Screen → ℕ → ℕ → ℕ → Ink → Screen
-put_character fonts s page place character ink = put_characters fonts s page (place_number s place) 1 character ink
+abbrev pub put_character : FontSet → Screen → ℕ → ℕ → ℕ → Colouring → Screen
+put_character fonts s page place character colouring = put_characters fonts s page (place_number s place) 1 character colouring
 
 -- a character is typed at a place: a bell does nothing, a backspace goes a column back, a line feed a row down, a carriage
 -- return to the first column; any other is shown
-unfoldable pub type_character : FontSet → Screen → ℕ → ℕ → ℕ → Ink → Screen × ℕ
-type_character fonts s page place character ink =
+unfoldable pub type_character : FontSet → Screen → ℕ → ℕ → ℕ → Colouring → Screen × ℕ
+type_character fonts s page place character colouring =
     if character == 0x07 then (s, place)
     else if character == 0x08 then (s, if column_of place == 0 then place else place - 1)
     else if character == 0x0A then line_feed s page place
     else if character == 0x0D then (s, line_start place)
-    else cursor_advance (put_character fonts s page place character ink) page place
+    else cursor_advance (put_character fonts s page place character colouring) page place
 
 -- a cursor at another place of a page
 abbrev pub with_place : Screen → ℕ → ℕ → Screen
@@ -283,7 +283,7 @@ type_at_cursor fonts s character colour =
 -- n characters of a string, from character i on, are typed one after another on a page, from a screen and a place on
 abbrev pub type_characters : FontSet → StringCall → List ℕ → ℕ → ℕ → ℕ → Screen × ℕ → Screen × ℕ
 type_characters fonts call block page zero i at = at
-type_characters fonts call block page (suc n) i at = type_characters fonts call block page n (i + 1) (type_character fonts at.0 page at.1 (character_at call block i) (ink_at call block i))
+type_characters fonts call block page (suc n) i at = type_characters fonts call block page n (i + 1) (type_character fonts at.0 page at.1 (character_at call block i) (colouring_at call block i))
 
 -- a whole string is typed on a page, and the cursor goes behind it where that is asked
 abbrev pub type_string : FontSet → Screen → ℕ → StringCall → List ℕ → Screen

@@ -57,7 +57,7 @@ pub fn cursor_is_served()
 /// Functions 08, 09 and 0A: the cell at the cursor is read, and cells from it on are written, in graphics as dots.
 pub fn cells_are_served()
     ensures read { (page : ℕ) → Serves (ReadCell page) }
-    ensures written { (cells : CellRun) → cells.character < 256 → cells.ink.colour < 256 → Serves (WriteCells cells) }
+    ensures written { (cells : CellRun) → cells.character < 256 → cells.colouring.colour < 256 → Serves (WriteCells cells) }
 {
     bounds_stay();
 }

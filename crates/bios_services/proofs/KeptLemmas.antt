@@ -16,7 +16,7 @@ use Rattle.bios_modes.specs.Bda.{BiosData, power_on_data}
 use Rattle.bios_modes.specs.Begin.{data_of_mode}
 use Rattle.bios_modes.specs.Fonts.{FontSet}
 use Rattle.bios_services.specs.declared.regs.Regs.{Regs}
-use Rattle.bios_services.specs.declared.ink.Ink.{Ink}
+use Rattle.bios_services.specs.declared.colouring.Colouring.{Colouring}
 use Rattle.bios_services.specs.declared.strings.StringCall.{StringCall}
 use Rattle.bios_services.specs.declared.tables.TableService.{TableService}
 use Rattle.bios_services.specs.declared.glyph_load.GlyphLoad.{GlyphLoad}
@@ -35,7 +35,7 @@ use Rattle.bios_services.specs.CellRuns.{cell_run_plan}
 use Rattle.bios_services.specs.Scroll.{scroll_up_plan, scroll_down_plan}
 use Rattle.bios_services.specs.Pixels.{write_pixel_plan}
 use Rattle.bios_services.specs.Teletype.{line_start, dots_in, line_feed_fill, line_feed_plan, cursor_advance_plan, show_plan, type_plan, teletype_plan}
-use Rattle.bios_services.specs.Strings.{string_len, character_at, ink_at, type_string_plan, string_plan}
+use Rattle.bios_services.specs.Strings.{string_len, character_at, colouring_at, type_string_plan, string_plan}
 use Rattle.bios_services.specs.ModeSet.{mode_set_plan}
 use Rattle.bios_services.specs.Reasons.{no_page, outside_page, wrong_block}
 use Rattle.bios_services.specs.Colours.{colours_plan}
@@ -135,14 +135,14 @@ back_near : (place : ℕ) (b : Bool) → IsNear place → IsNear (if b then plac
 back_near place true near = near
 back_near place false near = omega arith
 
-typed_near : (fonts : FontSet) (d : BiosData) (page place character : ℕ) (ink : Ink) → d.last_row < 50 → d.columns ≤ 80 → IsNear place → Always IsNear (type_plan fonts d page place character ink)
+typed_near : (fonts : FontSet) (d : BiosData) (page place character : ℕ) (colouring : Colouring) → d.last_row < 50 → d.columns ≤ 80 → IsNear place → Always IsNear (type_plan fonts d page place character colouring)
 unfolding type_plan show_plan
-typed_near fonts d page place character ink few narrow near =
+typed_near fonts d page place character colouring few narrow near =
     on_if IsNear (character == 0x07) (Done place) _ (λ _. near)
     (λ _. on_if IsNear (character == 0x08) (Done (if column_of place == 0 then place else place - 1)) _ (λ _. back_near place (column_of place == 0) near)
     (λ _. on_if IsNear (character == 0x0A) (line_feed_plan d page place) _ (λ _. fed_near d page place few near)
     (λ _. on_if IsNear (character == 0x0D) (Done (line_start place)) _ (λ _. start_near place near)
-    (λ _. behind IsNear (character_plan fonts d page (cell_number d place) character ink) (λ _. cursor_advance_plan d page place) (λ _. advanced_near d page place few narrow near)))))
+    (λ _. behind IsNear (character_plan fonts d page (cell_number d place) character colouring) (λ _. cursor_advance_plan d page place) (λ _. advanced_near d page place few narrow near)))))
 
 -- ---- BIOS data
 
@@ -210,12 +210,12 @@ module _ (d : BiosData) (a : AreData d) (is : IsSet d) (unset : d.mode ≢ 0) wh
       (λ place l. moved d.page place (omega arith)))
 
   characters_near : (fonts : FontSet) (page : ℕ) (s : StringCall) (block : List ℕ) (n i place : ℕ) → IsNear place
-      → Always IsNear (fold (λ i place. type_plan fonts d page place (character_at s block i) (ink_at s block i)) n i place)
+      → Always IsNear (fold (λ i place. type_plan fonts d page place (character_at s block i) (colouring_at s block i)) n i place)
   characters_near fonts page s block zero i place near = near
   characters_near fonts page s block (suc n) i place near =
-      let turn : ℕ → ℕ → Plan ℕ = λ i place. type_plan fonts d page place (character_at s block i) (ink_at s block i) in
+      let turn : ℕ → ℕ → Plan ℕ = λ i place. type_plan fonts d page place (character_at s block i) (colouring_at s block i) in
       behind_such IsNear IsNear (turn i place) (λ next. fold turn n (i + 1) next)
-      (typed_near fonts d page place (character_at s block i) (ink_at s block i) is.rows is.columns near)
+      (typed_near fonts d page place (character_at s block i) (colouring_at s block i) is.rows is.columns near)
       (λ next l. characters_near fonts page s block n (i + 1) next l)
 
   string : (fonts : FontSet) (page : ℕ) (s : StringCall) (block : List ℕ) → IsNear s.place → Always AreData (string_plan fonts d page s block)

@@ -1,11 +1,11 @@
--- Some columns of a page, as bytes of its lines: rows that are copied, and rows that are painted.
+-- Some columns of a page, as bytes of its lines: rows that are copied, and rows that are filled.
 -- From the IBM PS/2 and PC BIOS Interface Technical Reference, "Interrupt 10H - Video", (AH) = 06H and 07H.
 use Rattle.std.specs.Prelude.{ℕ, ◌+◌, ◌-◌, ◌*◌, ◌%◌, ◌^◌, ◌<◌, ◌≤◌, ◌==◌, if◌then◌else◌, min}
 use Rattle.bios_modes.specs.Bda.{BiosData}
 use Rattle.bios_modes.specs.declared.kind.Kind.{Kind}
 use Rattle.bios_modes.specs.declared.kind.Kind.TheVariants.{Text, Planar, Packed}
 use Rattle.bios_services.specs.declared.band.Band.{Band}
-use Rattle.bios_services.specs.declared.paint.Paint.{Paint}
+use Rattle.bios_services.specs.declared.filling.Filling.{Filling}
 use Rattle.bios_services.specs.Plan.{Plan, Done, ◌>>◌, put, move, each, each_down}
 use Rattle.bios_services.specs.Cycles.{sequencer, graphics}
 use Rattle.bios_modes.specs.Kinds.{kind_of}
@@ -55,25 +55,25 @@ unfoldable pub lower_rows : Band → ℕ → ℕ → ℕ → Plan (Unit {0})
 lower_rows band n top count = each_down (λ row. copy_row band row (row + n)) count top
 
 -- two bytes in turn: a blank and its attribute, or one byte everywhere
-abbrev pub blank : ℕ → Paint
+abbrev pub blank : ℕ → Filling
 blank attribute = record { even = 0x20; odd = attribute }
 
-abbrev pub plain : ℕ → Paint
+abbrev pub plain : ℕ → Filling
 plain byte = record { even = byte; odd = byte }
 
--- what byte i of a line is painted with
-abbrev pub paint_byte : Paint → ℕ → ℕ
-paint_byte paint i = if i % 2 == 0 then paint.even else paint.odd
+-- what byte i of a line is filled with
+abbrev pub filling_byte : Filling → ℕ → ℕ
+filling_byte filling i = if i % 2 == 0 then filling.even else filling.odd
 
--- a line of a row is painted, a row is, and count rows from row `top` on are
-unfoldable pub paint_line : Band → Paint → ℕ → ℕ → Plan (Unit {0})
-paint_line band paint row line = each (λ i. put (address_in band row line i) (paint_byte paint i)) band.width 0
+-- a line of a row is filled, a row is, and count rows from row `top` on are
+unfoldable pub fill_line : Band → Filling → ℕ → ℕ → Plan (Unit {0})
+fill_line band filling row line = each (λ i. put (address_in band row line i) (filling_byte filling i)) band.width 0
 
-unfoldable pub paint_row : Band → Paint → ℕ → Plan (Unit {0})
-paint_row band paint row = each (paint_line band paint row) band.lines 0
+unfoldable pub fill_row : Band → Filling → ℕ → Plan (Unit {0})
+fill_row band filling row = each (fill_line band filling row) band.lines 0
 
-unfoldable pub paint_rows : Band → Paint → ℕ → ℕ → Plan (Unit {0})
-paint_rows band paint top count = each (paint_row band paint) count top
+unfoldable pub fill_rows : Band → Filling → ℕ → ℕ → Plan (Unit {0})
+fill_rows band filling top count = each (fill_row band filling) count top
 
 -- the graphics controller's read and write mode, which services change in 16 colours alone
 abbrev pub access_plan : Kind → ℕ → Plan (Unit {0})
@@ -83,13 +83,13 @@ access_plan Packed mode = Done tt
 
 -- count rows from row `top` on get one attribute, or one colour, which goes to the planes of its bits
 unfoldable pub fill_plan : Kind → Band → ℕ → ℕ → ℕ → Plan (Unit {0})
-fill_plan Text band colour top count = paint_rows band (blank colour) top count
+fill_plan Text band colour top count = fill_rows band (blank colour) top count
 fill_plan Planar band colour top count = do
-  paint_rows band (plain 0x00) top count
+  fill_rows band (plain 0x00) top count
   sequencer map_mask (colour % 16)
-  paint_rows band (plain all_bits) top count
+  fill_rows band (plain all_bits) top count
   sequencer map_mask all_planes
-fill_plan Packed band colour top count = paint_rows band (plain colour) top count
+fill_plan Packed band colour top count = fill_rows band (plain colour) top count
 
 -- height rows from row `top` on go up by n, and the last n are filled; planes are copied through the latches
 unfoldable pub up_plan : Band → ℕ → ℕ → ℕ → ℕ → Plan (Unit {0})

@@ -16,10 +16,10 @@ abbrev pub cell_run_of : Regs → Bool → CellRun
 cell_run_of r is_attribute = record {
   page = high r.bx;
   character = low r.ax;
-  ink = record { colour = low r.bx; is_attribute = is_attribute };
+  colouring = record { colour = low r.bx; is_attribute = is_attribute };
   count = r.cx;
 }
 
 -- the character goes to each of these cells, from the cursor of a page on
 abbrev pub cell_run_plan : FontSet → BiosData → ℕ → CellRun → Plan (Unit {0})
-cell_run_plan fonts d page cells = characters_plan fonts d page (cursor_cell d page) cells.character cells.ink cells.count
+cell_run_plan fonts d page cells = characters_plan fonts d page (cursor_cell d page) cells.character cells.colouring cells.count

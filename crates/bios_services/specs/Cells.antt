@@ -4,7 +4,7 @@ use Rattle.std.specs.Prelude.{ℕ, ◌+◌, ◌*◌, if◌then◌else◌, Option
 use Rattle.bios_modes.specs.declared.modes.ModeRow.{ModeRow}
 use Rattle.bios_modes.specs.Bda.{BiosData}
 use Rattle.bios_modes.specs.Modes.{mode_row}
-use Rattle.bios_services.specs.declared.ink.Ink.{Ink}
+use Rattle.bios_services.specs.declared.colouring.Colouring.{Colouring}
 use Rattle.bios_services.specs.Plan.{Plan, Done, ◌>>=◌, ◌>>◌, put, get}
 
 -- where the pages of a mode begin, by its row; those of a number that is no mode's, where pages of graphics do
@@ -35,11 +35,11 @@ read_cell_plan address = do
   Done (character + 256 * colour)
 
 -- a colour, where it is to be the cell's attribute
-abbrev pub ink_plan : ℕ → Ink → Plan (Unit {0})
-ink_plan address ink = if ink.is_attribute then put address ink.colour else Done tt
+abbrev pub attribute_plan : ℕ → Colouring → Plan (Unit {0})
+attribute_plan address colouring = if colouring.is_attribute then put address colouring.colour else Done tt
 
 -- a character in a cell of text, and then its attribute, where it gets one
-unfoldable pub write_cell_plan : ℕ → ℕ → Ink → Plan (Unit {0})
-write_cell_plan address character ink = do
+unfoldable pub write_cell_plan : ℕ → ℕ → Colouring → Plan (Unit {0})
+write_cell_plan address character colouring = do
   put address character
-  ink_plan (address + 1) ink
+  attribute_plan (address + 1) colouring

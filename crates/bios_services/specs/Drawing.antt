@@ -5,7 +5,7 @@ use Rattle.std.specs.Prelude.{ℕ, ◌+◌, ◌-◌, ◌/◌, ◌%◌, if◌then
 use Rattle.vga_bits.specs.Bits.{is_set}
 use Rattle.bios_modes.specs.Bda.{BiosData}
 use Rattle.bios_modes.specs.Fonts.{FontSet}
-use Rattle.bios_services.specs.declared.ink.Ink.{Ink}
+use Rattle.bios_services.specs.declared.colouring.Colouring.{Colouring}
 use Rattle.bios_services.specs.declared.band.Band.{Band}
 use Rattle.bios_modes.specs.declared.kind.Kind.{Kind}
 use Rattle.bios_modes.specs.declared.kind.Kind.TheVariants.{Text, Planar, Packed}
@@ -13,7 +13,7 @@ use Rattle.bios_services.specs.Plan.{Plan, ◌>>◌, put, get, each}
 use Rattle.bios_services.specs.Cycles.{sequencer, graphics}
 use Rattle.bios_modes.specs.Kinds.{kind_of}
 use Rattle.bios_services.specs.Cells.{cell_address, write_cell_plan}
-use Rattle.bios_services.specs.Bands.{band_of, address_in, plain, paint_row}
+use Rattle.bios_services.specs.Bands.{band_of, address_in, plain, fill_row}
 use Rattle.bios_services.specs.Glyphs.{glyph_line}
 use Rattle.bios_services.specs.VideoRegisters.{map_mask, all_planes, data_rotate, xor, replace}
 
@@ -40,7 +40,7 @@ put_glyph_over cell row fonts character = each (λ r. put_over (address_in cell 
 -- a character in 16 colours: the cell is blanked, and the planes of the colour get the glyph
 unfoldable pub plain_plan : Band → ℕ → FontSet → ℕ → ℕ → Plan (Unit {0})
 plain_plan cell row fonts character colour = do
-  paint_row cell (plain 0x00) row
+  fill_row cell (plain 0x00) row
   sequencer map_mask (colour % 16)
   put_glyph cell row fonts character
   sequencer map_mask all_planes
@@ -71,14 +71,14 @@ unfoldable pub packed_plan : Band → ℕ → FontSet → ℕ → ℕ → Plan (
 packed_plan cell row fonts character colour = each (λ r. put_dots cell row r (glyph_line fonts cell.lines character r) colour) cell.lines 0
 
 -- a character at cell q of a page, by how the mode uses the memory
-unfoldable pub character_by : Kind → FontSet → BiosData → ℕ → ℕ → ℕ → Ink → Plan (Unit {0})
-character_by Text fonts d page q character ink = write_cell_plan (cell_address d page q) character ink
-character_by Planar fonts d page q character ink = planar_plan (cell_band d page q) (cell_row d q) fonts character ink.colour
-character_by Packed fonts d page q character ink = packed_plan (cell_band d page q) (cell_row d q) fonts character ink.colour
+unfoldable pub character_by : Kind → FontSet → BiosData → ℕ → ℕ → ℕ → Colouring → Plan (Unit {0})
+character_by Text fonts d page q character colouring = write_cell_plan (cell_address d page q) character colouring
+character_by Planar fonts d page q character colouring = planar_plan (cell_band d page q) (cell_row d q) fonts character colouring.colour
+character_by Packed fonts d page q character colouring = packed_plan (cell_band d page q) (cell_row d q) fonts character colouring.colour
 
-abbrev pub character_plan : FontSet → BiosData → ℕ → ℕ → ℕ → Ink → Plan (Unit {0})
-character_plan fonts d page q character ink = character_by (kind_of d.mode) fonts d page q character ink
+abbrev pub character_plan : FontSet → BiosData → ℕ → ℕ → ℕ → Colouring → Plan (Unit {0})
+character_plan fonts d page q character colouring = character_by (kind_of d.mode) fonts d page q character colouring
 
 -- a character at n cells from cell q on
-unfoldable pub characters_plan : FontSet → BiosData → ℕ → ℕ → ℕ → Ink → ℕ → Plan (Unit {0})
-characters_plan fonts d page q character ink n = each (λ i. character_plan fonts d page (q + i) character ink) n 0
+unfoldable pub characters_plan : FontSet → BiosData → ℕ → ℕ → ℕ → Colouring → ℕ → Plan (Unit {0})
+characters_plan fonts d page q character colouring n = each (λ i. character_plan fonts d page (q + i) character colouring) n 0

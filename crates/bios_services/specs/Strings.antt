@@ -4,7 +4,7 @@ use Rattle.std.specs.Prelude.{ℕ, ◌+◌, ◌*◌, ◌%◌, ◌==◌, nat_le, 
 use Rattle.bios_modes.specs.Bda.{BiosData}
 use Rattle.bios_modes.specs.Fonts.{FontSet}
 use Rattle.bios_services.specs.declared.regs.Regs.{Regs}
-use Rattle.bios_services.specs.declared.ink.Ink.{Ink}
+use Rattle.bios_services.specs.declared.colouring.Colouring.{Colouring}
 use Rattle.bios_services.specs.declared.strings.StringCall.{StringCall}
 use Rattle.bios_services.specs.Plan.{Plan, Done, ◌>>=◌, fold}
 use Rattle.bios_services.specs.Registers.{high, low}
@@ -33,13 +33,13 @@ string_len s = stride s * s.count
 abbrev pub character_at : StringCall → List ℕ → ℕ → ℕ
 character_at s block i = slice_index block (stride s * i)
 
-abbrev pub ink_at : StringCall → List ℕ → ℕ → Ink
-ink_at s block i = record { colour = (if s.has_attributes then slice_index block (2 * i + 1) else s.colour); is_attribute = true }
+abbrev pub colouring_at : StringCall → List ℕ → ℕ → Colouring
+colouring_at s block i = record { colour = (if s.has_attributes then slice_index block (2 * i + 1) else s.colour); is_attribute = true }
 
 -- the characters are typed one after another on a page; the answer is the place behind the last
 unfoldable pub type_string_plan : FontSet → BiosData → ℕ → StringCall → List ℕ → Plan ℕ
 type_string_plan fonts d page s block =
-    fold (λ i place. type_plan fonts d page place (character_at s block i) (ink_at s block i)) s.count 0 s.place
+    fold (λ i place. type_plan fonts d page place (character_at s block i) (colouring_at s block i)) s.count 0 s.place
 
 -- a string is typed on a page, and the cursor moved behind it where that is asked
 unfoldable pub string_plan : FontSet → BiosData → ℕ → StringCall → List ℕ → Plan BiosData

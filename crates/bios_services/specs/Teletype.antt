@@ -3,7 +3,7 @@
 use Rattle.std.specs.Prelude.{ℕ, ◌+◌, ◌-◌, ◌*◌, ◌==◌, nat_lt, if◌then◌else◌, false}
 use Rattle.bios_modes.specs.Bda.{BiosData}
 use Rattle.bios_modes.specs.Fonts.{FontSet}
-use Rattle.bios_services.specs.declared.ink.Ink.{Ink}
+use Rattle.bios_services.specs.declared.colouring.Colouring.{Colouring}
 use Rattle.bios_services.specs.Plan.{Plan, Done, ◌>>=◌, ◌>>◌, get}
 use Rattle.bios_modes.specs.Kinds.{is_text}
 use Rattle.bios_services.specs.Cursor.{row_of, column_of, cell_number, place_of, move_cursor_plan}
@@ -38,23 +38,23 @@ cursor_advance_plan d page place =
       Done (line_start below))
 
 -- a character is written at a place, and the answer is the place behind
-unfoldable pub show_plan : FontSet → BiosData → ℕ → ℕ → ℕ → Ink → Plan ℕ
-show_plan fonts d page place character ink = do
-  character_plan fonts d page (cell_number d place) character ink
+unfoldable pub show_plan : FontSet → BiosData → ℕ → ℕ → ℕ → Colouring → Plan ℕ
+show_plan fonts d page place character colouring = do
+  character_plan fonts d page (cell_number d place) character colouring
   cursor_advance_plan d page place
 
 -- a character is typed at a place, and the answer is the place afterwards: a bell does nothing, a backspace goes a column
 -- back, a line feed a row down, a carriage return to the first column; any other is shown
-unfoldable pub type_plan : FontSet → BiosData → ℕ → ℕ → ℕ → Ink → Plan ℕ
-type_plan fonts d page place character ink =
+unfoldable pub type_plan : FontSet → BiosData → ℕ → ℕ → ℕ → Colouring → Plan ℕ
+type_plan fonts d page place character colouring =
     if character == 0x07 then Done place
     else if character == 0x08 then Done (if column_of place == 0 then place else place - 1)
     else if character == 0x0A then line_feed_plan d page place
     else if character == 0x0D then Done (line_start place)
-    else show_plan fonts d page place character ink
+    else show_plan fonts d page place character colouring
 
 -- a colour for dots; cells of text keep their attributes
-abbrev pub dots_in : ℕ → Ink
+abbrev pub dots_in : ℕ → Colouring
 dots_in colour = record { colour = colour; is_attribute = false }
 
 -- a character is typed at the cursor of the active page, which then stands behind it; a bell leaves it

@@ -2,12 +2,12 @@
 ghost use Rattle.std.specs.Prelude.{◌≡◌, ◌<◌, ◌≤◌, ◌+◌, ◌-◌, ◌*◌, ◌^◌};
 ghost use Rattle.bios_services.specs.Plan.{run};
 ghost use Rattle.bios_services.specs.Bounds.{IsSet, pages_of, reached_cells, reached_rows};
-ghost use Rattle.bios_services.specs.Bands.{IsBand, address_in, band_of, copy_line as copy_line_plan, copy_row as copy_row_plan, raise_rows as raise_rows_plan, lower_rows as lower_rows_plan, paint_line as paint_line_plan, paint_row as paint_row_plan, paint_rows as paint_rows_plan, access_plan, fill_plan, up_plan, down_plan};
+ghost use Rattle.bios_services.specs.Bands.{IsBand, address_in, band_of, copy_line as copy_line_plan, copy_row as copy_row_plan, raise_rows as raise_rows_plan, lower_rows as lower_rows_plan, fill_line as fill_line_plan, fill_row as fill_row_plan, fill_rows as fill_rows_plan, access_plan, fill_plan, up_plan, down_plan};
 
 use crate::cells::page_address;
 use crate::cycles::{graphics, move_byte, put, sequencer};
 use crate::kind::{Kind, by_kind, column_bytes, kind_of, row_lines};
-use crate::paint::Paint;
+use crate::filling::Filling;
 use crate::video_registers::{ALL_BITS, ALL_PLANES, COPY_LATCHES, GRAPHICS_MODE, MAP_MASK, PLAIN};
 use bios_modes::Bda;
 use vga_card::Bus;
@@ -125,40 +125,40 @@ impl Band {
         }
     }
 
-    /// Paints a line of a row.
-    #[tactic(auto, using(crate::proofs::RunLemmas::run_bind), unfolding(crate::specs::Bands::paint_line))]
-    fn paint_line<B: Bus>(self, bus: &mut B, paint: Paint, row: u32, line: u32)
+    /// Fills a line of a row.
+    #[tactic(auto, using(crate::proofs::RunLemmas::run_bind), unfolding(crate::specs::Bands::fill_line))]
+    fn fill_line<B: Bus>(self, bus: &mut B, filling: Filling, row: u32, line: u32)
         requires band { IsBand self }
         requires row { row < reached_cells }
         requires line { line ≤ 16 }
-        ensures { bus.new ≡ (run B.meaning (paint_line_plan self paint row line) bus.old).0 }
+        ensures { bus.new ≡ (run B.meaning (fill_line_plan self filling row line) bus.old).0 }
     {
         for i in 0..self.width {
-            put(bus, self.address(row, line, i), paint.byte(i));
+            put(bus, self.address(row, line, i), filling.byte(i));
         }
     }
 
-    /// Paints a row.
-    #[tactic(auto, using(crate::proofs::RunLemmas::run_bind), unfolding(crate::specs::Bands::paint_row))]
-    pub(crate) fn paint_row<B: Bus>(self, bus: &mut B, paint: Paint, row: u32)
+    /// Fills a row.
+    #[tactic(auto, using(crate::proofs::RunLemmas::run_bind), unfolding(crate::specs::Bands::fill_row))]
+    pub(crate) fn fill_row<B: Bus>(self, bus: &mut B, filling: Filling, row: u32)
         requires band { IsBand self }
         requires row { row < reached_cells }
-        ensures { bus.new ≡ (run B.meaning (paint_row_plan self paint row) bus.old).0 }
+        ensures { bus.new ≡ (run B.meaning (fill_row_plan self filling row) bus.old).0 }
     {
         for line in 0..self.lines {
-            self.paint_line(bus, paint, row, line);
+            self.fill_line(bus, filling, row, line);
         }
     }
 
-    /// Paints the rows from one to another.
-    #[tactic(auto, using(crate::proofs::RunLemmas::run_bind), unfolding(crate::specs::Bands::paint_rows))]
-    fn paint_rows<B: Bus>(self, bus: &mut B, paint: Paint, top: u32, end: u32)
+    /// Fills the rows from one to another.
+    #[tactic(auto, using(crate::proofs::RunLemmas::run_bind), unfolding(crate::specs::Bands::fill_rows))]
+    fn fill_rows<B: Bus>(self, bus: &mut B, filling: Filling, top: u32, end: u32)
         requires band { IsBand self }
         requires end { end ≤ reached_rows }
-        ensures { bus.new ≡ (run B.meaning (paint_rows_plan self paint top (end - top)) bus.old).0 }
+        ensures { bus.new ≡ (run B.meaning (fill_rows_plan self filling top (end - top)) bus.old).0 }
     {
         for row in top..end {
-            self.paint_row(bus, paint, row);
+            self.fill_row(bus, filling, row);
         }
     }
 
@@ -171,14 +171,14 @@ impl Band {
     {
         by_kind!(
             self.kind,
-            Text => self.paint_rows(bus, Paint::blank(colour), top, end),
+            Text => self.fill_rows(bus, Filling::blank(colour), top, end),
             Planar => {
-                self.paint_rows(bus, Paint::plain(0x00), top, end);
+                self.fill_rows(bus, Filling::plain(0x00), top, end);
                 sequencer(bus, MAP_MASK, colour % 16);
-                self.paint_rows(bus, Paint::plain(ALL_BITS), top, end);
+                self.fill_rows(bus, Filling::plain(ALL_BITS), top, end);
                 sequencer(bus, MAP_MASK, ALL_PLANES);
             },
-            Packed => self.paint_rows(bus, Paint::plain(colour), top, end),
+            Packed => self.fill_rows(bus, Filling::plain(colour), top, end),
         )
     }
 

@@ -6,7 +6,7 @@ ghost use Rattle.bios_services.specs.CellRuns.{cell_run_of, cell_run_plan};
 
 use crate::cursor::cursor_cell;
 use crate::drawing::write_characters;
-use crate::ink::Ink;
+use crate::colouring::Colouring;
 use crate::regs::{Regs, high, low};
 use bios_modes::{Bda, Fonts};
 use vga_card::Bus;
@@ -16,7 +16,7 @@ use vga_card::Bus;
 pub struct CellRun {
     pub page: u8,
     pub character: u8,
-    pub ink: Ink,
+    pub colouring: Colouring,
     pub count: u16,
 }
 
@@ -28,7 +28,7 @@ impl CellRun {
         CellRun {
             page: high(regs.bx),
             character: low(regs.ax),
-            ink: Ink {
+            colouring: Colouring {
                 colour: low(regs.bx),
                 is_attribute,
             },
@@ -44,6 +44,6 @@ impl CellRun {
     {
         let q = cursor_cell(bda, page);
         let n = self.count as u32;
-        write_characters(bus, fonts, bda, page, q, self.character, self.ink, n);
+        write_characters(bus, fonts, bda, page, q, self.character, self.colouring, n);
     }
 }

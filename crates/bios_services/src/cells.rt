@@ -2,10 +2,10 @@
 ghost use Rattle.std.specs.Prelude.{◌≡◌, ◌<◌, ◌≤◌, ◌+◌, ◌*◌, ◌^◌};
 ghost use Rattle.bios_services.specs.Plan.{run};
 ghost use Rattle.bios_services.specs.Bounds.{IsSet, pages_of, reached_cells};
-ghost use Rattle.bios_services.specs.Cells.{page_base as page_base_of, page_address as page_address_of, cell_address as cell_address_of, cells_of, read_cell_plan, ink_plan, write_cell_plan};
+ghost use Rattle.bios_services.specs.Cells.{page_base as page_base_of, page_address as page_address_of, cell_address as cell_address_of, cells_of, read_cell_plan, attribute_plan, write_cell_plan};
 
 use crate::cycles::{get, put};
-use crate::ink::Ink;
+use crate::colouring::Colouring;
 use bios_modes::{Bda, mode_row};
 use vga_card::Bus;
 
@@ -65,20 +65,20 @@ pub(crate) fn read_cell<B: Bus>(bus: &mut B, address: u32) -> u16
 }
 
 /// Writes a colour as the cell's attribute, where it is to be that.
-fn write_ink<B: Bus>(bus: &mut B, address: u32, ink: Ink)
-    ensures { bus.new ≡ (run B.meaning (ink_plan address ink) bus.old).0 }
+fn write_attribute<B: Bus>(bus: &mut B, address: u32, colouring: Colouring)
+    ensures { bus.new ≡ (run B.meaning (attribute_plan address colouring) bus.old).0 }
 {
-    if ink.is_attribute {
-        put(bus, address, ink.colour);
+    if colouring.is_attribute {
+        put(bus, address, colouring.colour);
     }
 }
 
 /// Writes a character to a cell of text, and its attribute where it gets one.
 #[tactic(auto, using(crate::proofs::RunLemmas::run_bind), unfolding(crate::specs::Cells::write_cell_plan))]
-pub(crate) fn write_cell<B: Bus>(bus: &mut B, address: u32, character: u8, ink: Ink)
+pub(crate) fn write_cell<B: Bus>(bus: &mut B, address: u32, character: u8, colouring: Colouring)
     requires { address < 2 ^ 30 }
-    ensures { bus.new ≡ (run B.meaning (write_cell_plan address character ink) bus.old).0 }
+    ensures { bus.new ≡ (run B.meaning (write_cell_plan address character colouring) bus.old).0 }
 {
     put(bus, address, character);
-    write_ink(bus, address + 1, ink);
+    write_attribute(bus, address + 1, colouring);
 }

@@ -9,9 +9,9 @@ use crate::band::Band;
 use crate::cells::{cell_address, write_cell};
 use crate::cycles::{get, graphics, put, sequencer};
 use crate::glyphs::glyph_line;
-use crate::ink::Ink;
+use crate::colouring::Colouring;
 use crate::kind::{by_kind, kind_of};
-use crate::paint::Paint;
+use crate::filling::Filling;
 use crate::video_registers::{ALL_PLANES, DATA_ROTATE, MAP_MASK, REPLACE, XOR};
 use bios_modes::{Bda, Fonts};
 use vga_bits::is_set;
@@ -69,7 +69,7 @@ fn draw_plain<B: Bus>(bus: &mut B, cell: Band, row: u32, fonts: &Fonts, characte
     requires row { row < reached_cells }
     ensures { bus.new ≡ (run B.meaning (plain_plan cell row fonts.now character colour) bus.old).0 }
 {
-    cell.paint_row(bus, Paint::plain(0x00), row);
+    cell.fill_row(bus, Filling::plain(0x00), row);
     sequencer(bus, MAP_MASK, colour % 16);
     put_glyph(bus, cell, row, fonts, character);
     sequencer(bus, MAP_MASK, ALL_PLANES);
@@ -146,18 +146,18 @@ pub(crate) fn write_character<B: Bus>(
     page: u8,
     q: u32,
     character: u8,
-    ink: Ink,
+    colouring: Colouring,
 )
     requires data { IsSet bda.now }
     requires page { page < pages_of bda.now }
     requires cell { q < reached_cells }
-    ensures { bus.new ≡ (run B.meaning (character_plan fonts.now bda.now page q character ink) bus.old).0 }
+    ensures { bus.new ≡ (run B.meaning (character_plan fonts.now bda.now page q character colouring) bus.old).0 }
 {
     let row = q / bda.columns() as u32;
-    let colour = ink.colour;
+    let colour = colouring.colour;
     by_kind!(
         kind_of(bda.mode()),
-        Text => write_cell(bus, cell_address(bda, page, q), character, ink),
+        Text => write_cell(bus, cell_address(bda, page, q), character, colouring),
         Planar => draw_planar(bus, cell_band(bda, page, q), row, fonts, character, colour),
         Packed => draw_packed(bus, cell_band(bda, page, q), row, fonts, character, colour),
     )
@@ -172,15 +172,15 @@ pub(crate) fn write_characters<B: Bus>(
     page: u8,
     q: u32,
     character: u8,
-    ink: Ink,
+    colouring: Colouring,
     n: u32,
 )
     requires data { IsSet bda.now }
     requires page { page < pages_of bda.now }
     requires cells { q + n ≤ reached_cells }
-    ensures { bus.new ≡ (run B.meaning (characters_plan fonts.now bda.now page q character ink n) bus.old).0 }
+    ensures { bus.new ≡ (run B.meaning (characters_plan fonts.now bda.now page q character colouring n) bus.old).0 }
 {
     for i in 0..n {
-        write_character(bus, fonts, bda, page, q + i, character, ink);
+        write_character(bus, fonts, bda, page, q + i, character, colouring);
     }
 }

@@ -3,10 +3,10 @@ ghost use Rattle.std.specs.Prelude.{◌≡◌, ◌<◌, ◌≤◌, length};
 ghost use Rattle.bios_services.specs.Plan.{run};
 ghost use Rattle.bios_services.specs.Bounds.{IsSet, StaysInMode, pages_of};
 ghost use Rattle.bios_services.specs.Cursor.{row_of};
-ghost use Rattle.bios_services.specs.Strings.{string_of as string_of_regs, string_len, character_at, ink_at, type_string_plan, string_plan};
+ghost use Rattle.bios_services.specs.Strings.{string_of as string_of_regs, string_len, character_at, colouring_at, type_string_plan, string_plan};
 
 use crate::cursor::move_cursor;
-use crate::ink::Ink;
+use crate::colouring::Colouring;
 use crate::regs::{Regs, high, low};
 use crate::teletype::type_character;
 use bios_modes::{Bda, Fonts};
@@ -68,17 +68,17 @@ impl StringCall {
     }
 
     /// The colour in which character i of the block is typed.
-    fn ink(self, block: &[u8], i: u16) -> Ink
+    fn colouring(self, block: &[u8], i: u16) -> Colouring
         requires whole { length block.now ≡ string_len self }
         requires character { i < self.count }
-        ensures { result ≡ ink_at self block.now i }
+        ensures { result ≡ colouring_at self block.now i }
     {
         let colour = if self.has_attributes {
             block[2 * i as usize + 1]
         } else {
             self.colour
         };
-        Ink {
+        Colouring {
             colour,
             is_attribute: true,
         }
@@ -96,8 +96,8 @@ impl StringCall {
         let mut place = self.place;
         for i in 0..self.count {
             let character = self.character(block, i);
-            let ink = self.ink(block, i);
-            place = type_character(bus, fonts, bda, page, place, character, ink);
+            let colouring = self.colouring(block, i);
+            place = type_character(bus, fonts, bda, page, place, character, colouring);
         }
         place
     }

@@ -10,7 +10,7 @@ use crate::cells::cell_address;
 use crate::cursor::{cell_number, move_cursor};
 use crate::cycles::get;
 use crate::drawing::write_character;
-use crate::ink::Ink;
+use crate::colouring::Colouring;
 use bios_modes::{Bda, Fonts, is_text};
 use vga_card::Bus;
 
@@ -81,16 +81,16 @@ fn show<B: Bus>(
     page: u8,
     place: u16,
     character: u8,
-    ink: Ink,
+    colouring: Colouring,
 ) -> u16
     requires data { IsSet bda.now }
     requires page { page < pages_of bda.now }
     requires row { row_of place ≤ bda.now.last_row }
-    ensures place { (bus.new, result) ≡ run B.meaning (show_plan fonts.now bda.now page place character ink) bus.old }
+    ensures place { (bus.new, result) ≡ run B.meaning (show_plan fonts.now bda.now page place character colouring) bus.old }
     ensures row { row_of result ≤ bda.now.last_row }
 {
     let q = cell_number(bda, place);
-    write_character(bus, fonts, bda, page, q, character, ink);
+    write_character(bus, fonts, bda, page, q, character, colouring);
     cursor_advance(bus, bda, page, place)
 }
 
@@ -103,12 +103,12 @@ pub(crate) fn type_character<B: Bus>(
     page: u8,
     place: u16,
     character: u8,
-    ink: Ink,
+    colouring: Colouring,
 ) -> u16
     requires data { IsSet bda.now }
     requires page { page < pages_of bda.now }
     requires row { row_of place ≤ bda.now.last_row }
-    ensures place { (bus.new, result) ≡ run B.meaning (type_plan fonts.now bda.now page place character ink) bus.old }
+    ensures place { (bus.new, result) ≡ run B.meaning (type_plan fonts.now bda.now page place character colouring) bus.old }
     ensures row { row_of result ≤ bda.now.last_row }
 {
     match character {
@@ -116,7 +116,7 @@ pub(crate) fn type_character<B: Bus>(
         BACKSPACE => { if place % 256 == 0 { place } else { place - 1 } }
         LINE_FEED => line_feed(bus, bda, page, place),
         CARRIAGE_RETURN => place / 256 * 256,
-        _ => show(bus, fonts, bda, page, place, character, ink),
+        _ => show(bus, fonts, bda, page, place, character, colouring),
     }
 }
 
@@ -133,10 +133,10 @@ pub(crate) fn teletype<B: Bus>(bus: &mut B, fonts: &Fonts, bda: &mut Bda, charac
     }
     let page = bda.page();
     let place = bda.cursor_place(page as usize);
-    let ink = Ink {
+    let colouring = Colouring {
         colour,
         is_attribute: false,
     };
-    let behind = type_character(bus, fonts, bda, page, place, character, ink);
+    let behind = type_character(bus, fonts, bda, page, place, character, colouring);
     move_cursor(bus, bda, page, behind);
 }

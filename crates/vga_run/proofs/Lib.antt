@@ -1,4 +1,4 @@
-pub mod LookLemmas
+pub mod DumpLemmas
 pub mod NumberLemmas
 pub mod ReportLemmas
 pub mod TakenLemmas

@@ -54,7 +54,7 @@ abbrev pub of_drawn : Drawn → Reply
 of_drawn (drawn.Picture width height bytes) = Picture width height bytes.now
 of_drawn drawn.Ragged = Ragged
 
--- what a look answers: its dump, unless it is refused
-abbrev pub of_look : Option Refusal → List ℕ → Reply
-of_look None text = Dump text
-of_look (Some why) text = Plain (Refused why)
+-- what a dump answers: its dump, unless it is refused
+abbrev pub of_dump : Option Refusal → List ℕ → Reply
+of_dump None text = Dump text
+of_dump (Some why) text = Plain (Refused why)

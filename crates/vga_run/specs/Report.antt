@@ -57,9 +57,9 @@ line n Ragged = decimal n ++ codes " ragged\n"
 line n (Dump text) = number_text n ++ text
 
 -- what stands behind the number of a step that shows something: the dump, or the name of the refusal
-abbrev pub look_text : Option Refusal → List ℕ → List ℕ
-look_text None text = text
-look_text (Some why) text = refusal_name why ++ codes "\n"
+abbrev pub dump_or_refusal : Option Refusal → List ℕ → List ℕ
+dump_or_refusal None text = text
+dump_or_refusal (Some why) text = refusal_name why ++ codes "\n"
 
 -- the lines of the steps from this machine on, of which the first has the number n
 abbrev pub report_from : Machine → ℕ → List Step → List ℕ
@@ -67,13 +67,13 @@ report_from m n [] = []
 report_from m n (step ∷ steps) = line n (answer_to m step) ++ report_from (after_step m step) (n + 1) steps
 
 -- what is shown where a run is stopped: the registers, the beam, the latches and the BIOS data
-abbrev pub last_looks : List Step
-last_looks = Show shown.Registers ∷ Show shown.Beam ∷ Show shown.Latches ∷ Show shown.BiosData ∷ []
+abbrev pub last_dumps : List Step
+last_dumps = Show shown.Registers ∷ Show shown.Beam ∷ Show shown.Latches ∷ Show shown.BiosData ∷ []
 
--- the steps of a run: all of a script, or so many of the first, all if there are fewer, and then the last looks
+-- the steps of a run: all of a script, or so many of the first, all if there are fewer, and then the last dumps
 abbrev pub steps_until : Option ℕ → List Step → List Step
 steps_until None steps = steps
-steps_until (Some most) steps = take most steps ++ last_looks
+steps_until (Some most) steps = take most steps ++ last_dumps
 
 -- the report of a script over some fonts: its steps are run from power-on, and numbered from 1
 abbrev pub report_of : FontSet → List Step → List ℕ

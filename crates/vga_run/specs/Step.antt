@@ -1,5 +1,5 @@
 -- What each step of a script answers, and what it leaves: a cycle of the adapter, some dots, a frame, a service of the video
--- BIOS, or a look at the machine.
+-- BIOS, or a dump of the machine.
 use Rattle.std.specs.Prelude.{ℕ, ◌≡◌, true, List, [], ◌∷◌, nat_le, if◌then◌else◌, Option, None, Ok, Err}
 use Rattle.vga_bits.specs.declared.refusal.Refusal.{Refusal}
 use Rattle.vga_bits.specs.declared.refusal.Refusal.TheVariants.{TooFar}
@@ -24,7 +24,7 @@ use Rattle.vga_script.specs.declared.shown.Shown.TheVariants as shown
 use Rattle.vga_script.specs.declared.step.Step.{Step}
 use Rattle.vga_script.specs.declared.step.Step.TheVariants.{Out, OutWord, In, InWord, Put, PutWord, Get, GetWord, Int, Advance, Frame, Show}
 use Rattle.vga_run.specs.declared.machine.Machine.{Machine}
-use Rattle.vga_run.specs.Answer.{Reply, Plain, of_write, of_byte, of_word, of_service, of_frame, of_look}
+use Rattle.vga_run.specs.Answer.{Reply, Plain, of_write, of_byte, of_word, of_service, of_frame, of_dump}
 
 -- the dump of what a step shows
 unfoldable pub dump_text : Machine → Shown → List ℕ
@@ -36,10 +36,10 @@ dump_text m (shown.Plane plane offset count) = plane_text m.card plane offset co
 dump_text m shown.BiosData = bda_text m.bda
 dump_text m shown.Cells = cells_text (cells_refusal m.bda.mode) m.card m.bda
 
--- why a look is refused: there are no cells
-unfoldable pub look_refusal : Machine → Shown → Option Refusal
-look_refusal m shown.Cells = cells_refusal m.bda.mode
-look_refusal m what = None
+-- why a dump is refused: there are no cells
+unfoldable pub dump_refusal : Machine → Shown → Option Refusal
+dump_refusal m shown.Cells = cells_refusal m.bda.mode
+dump_refusal m what = None
 
 -- a call of interrupt 10: its cycles over the adapter, what it answers, and the BIOS data afterwards
 unfoldable pub called : Machine → ℕ → ℕ → ℕ → ℕ → List ℕ → CardState × Answered
@@ -67,9 +67,9 @@ answer_to m (GetWord address) = Plain (of_word (get_word_cycle m.card address).1
 answer_to m (Int ax bx cx dx block) = of_service (called m ax bx cx dx block).1.0
 answer_to m (Advance count) = Plain (of_write (advance_cycle m.card count).1)
 answer_to m Frame = of_frame (frame m.card).drawn
-answer_to m (Show what) = of_look (look_refusal m what) (dump_text m what)
+answer_to m (Show what) = of_dump (dump_refusal m what) (dump_text m what)
 
--- the machine after a step; one that is refused, and a look at the machine, leave it
+-- the machine after a step; one that is refused, and a dump of the machine, leave it
 unfoldable pub after_step : Machine → Step → Machine
 after_step m (Out port value) = record m { card = (out_cycle m.card port value).0 }
 after_step m (OutWord port value) = record m { card = (out_word_cycle m.card port value).0 }

@@ -3,13 +3,13 @@ ghost use Rattle.std.specs.Prelude.{◌≡◌, ◌+◌, ◌*◌, ◌<◌, ◌≤
 ghost use Rattle.vga_bits.specs.Tracked.{inner_of, has_failed, Writes};
 ghost use Rattle.vga_card.specs.Frames.{IsSmall};
 ghost use Rattle.vga_card.specs.Picture.{widest, highest};
-ghost use Rattle.vga_run.specs.Answer.{Picture, Ragged, of_drawn, of_look};
-ghost use Rattle.vga_run.specs.Step.{after_step, after_steps, dump_text, look_refusal};
+ghost use Rattle.vga_run.specs.Answer.{Picture, Ragged, of_drawn, of_dump};
+ghost use Rattle.vga_run.specs.Step.{after_step, after_steps, dump_text, dump_refusal};
 ghost use Rattle.vga_run.specs.Run.{WritesStep, WritesReport};
 ghost use Rattle.vga_script.specs.Step.{IsInRange, AreInRange};
 ghost use Rattle.vga_script.specs.declared.step.Step.TheVariants.{Int};
 ghost use Rattle.vga_script.specs.Shown.{IsShownInRange};
-ghost use Rattle.vga_run.specs.Report.{line as line_of, look_text, picture_line as picture_line_of, last_looks};
+ghost use Rattle.vga_run.specs.Report.{line as line_of, dump_or_refusal, picture_line as picture_line_of, last_dumps};
 ghost use Rattle.vga_show.specs.Ppm.{ppm};
 ghost use Rattle.bios_modes.specs.Valid.{IsValid};
 
@@ -103,13 +103,13 @@ fn write_drawn<W: Write>(out: &mut Tracked<W>, n: usize, drawn: Drawn<'_>) -> Re
 }
 
 /// Writes the dump of what a step shows, behind its number, or the name of the refusal.
-#[tactic(auto, unfolding(crate::specs::Step::dump_text, crate::specs::Step::look_refusal))]
+#[tactic(auto, unfolding(crate::specs::Step::dump_text, crate::specs::Step::dump_refusal))]
 fn write_dump<W: Write>(out: &mut Tracked<W>, machine: &Machine, shown: Shown) -> Result<(), Fault>
     requires writer { has_failed out.old ≡ false }
     requires range { IsShownInRange shown }
     requires valid { IsValid machine.now.bda }
     ensures { Writes (W.contents (inner_of out.old)) (W.contents (inner_of out.new))
-        (has_failed out.new) result (look_text (look_refusal machine.now shown) (dump_text machine.now shown)) }
+        (has_failed out.new) result (dump_or_refusal (dump_refusal machine.now shown) (dump_text machine.now shown)) }
 {
     match shown {
         Shown::Registers => dump_regs(out, &machine.card),
@@ -127,7 +127,7 @@ fn write_dump<W: Write>(out: &mut Tracked<W>, machine: &Machine, shown: Shown) -
 }
 
 /// Writes the number of step n, and the dump of what it shows, or why it is refused.
-#[tactic(auto, using(crate::proofs::LookLemmas::writes_look, crate::proofs::LookLemmas::front_of_look))]
+#[tactic(auto, using(crate::proofs::DumpLemmas::writes_dump, crate::proofs::DumpLemmas::front_of_dump))]
 fn write_shown<W: Write>(
     out: &mut Tracked<W>,
     n: usize,
@@ -138,7 +138,7 @@ fn write_shown<W: Write>(
     requires range { IsShownInRange shown }
     requires valid { IsValid machine.now.bda }
     ensures { Writes (W.contents (inner_of out.old)) (W.contents (inner_of out.new))
-        (has_failed out.new) result (line_of n (of_look (look_refusal machine.now shown) (dump_text machine.now shown))) }
+        (has_failed out.new) result (line_of n (of_dump (dump_refusal machine.now shown) (dump_text machine.now shown))) }
 {
     write_whole(out, numbered(n).as_slice())?;
     write_dump(out, machine, shown)
@@ -254,20 +254,20 @@ fn write_lines<W: Write>(
     Ok(())
 }
 
-/// Takes the last looks at the machine, of which the first has this number.
-pub(crate) fn write_last_looks<W: Write>(
+/// Takes the last dumps of the machine, of which the first has this number.
+pub(crate) fn write_last_dumps<W: Write>(
     alloc: Global,
     out: &mut Tracked<W>,
     machine: &mut Machine,
     first: usize,
 ) -> Result<(), Fault>
     requires writer { has_failed out.old ≡ false }
-    requires numbers { first + length last_looks < 2 ^ 64 }
+    requires numbers { first + length last_dumps < 2 ^ 64 }
     requires valid { IsValid machine.old.bda }
     ensures { WritesReport (W.contents (inner_of out.old)) (W.contents (inner_of out.new))
-        (has_failed out.new) result machine.old first last_looks }
+        (has_failed out.new) result machine.old first last_dumps }
 {
-    let last_looks = [
+    let last_dumps = [
         Step::Show {
             shown: Shown::Registers,
         },
@@ -279,5 +279,5 @@ pub(crate) fn write_last_looks<W: Write>(
             shown: Shown::BiosData,
         },
     ];
-    write_lines(alloc, out, machine, first, &last_looks)
+    write_lines(alloc, out, machine, first, &last_dumps)
 }

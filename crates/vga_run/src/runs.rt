@@ -22,7 +22,7 @@ use vga_script::{Script, Steps, one_fault, one_list, read_script, steps_fit};
 /// Runs a script from power-on, writes its report and nothing else, and flushes the writer. The reader
 /// and the writer must not have failed before.
 ///
-/// With `until` the run is that of so many of the first steps, all if there are fewer, followed by looks at
+/// With `until` the run is that of so many of the first steps, all if there are fewer, followed by dumps of
 /// the registers, the beam, the latches and the BIOS data, as steps with the next numbers.
 ///
 /// A fault ends the run. Of several the first in this order is answered:

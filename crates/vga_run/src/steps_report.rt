@@ -9,7 +9,7 @@ ghost use Rattle.vga_script.specs.Spelling.{script_limit};
 
 use super::machine::Machine;
 use super::numbered_line::NumberedLine;
-use super::report::{write_last_looks, write_step};
+use super::report::{write_last_dumps, write_step};
 use std::alloc::Global;
 use std::io::Write;
 use vga_bits::{Fault, Tracked, flush};
@@ -44,7 +44,7 @@ fn write_first<W: Write>(
     Ok(())
 }
 
-/// Takes so many of the first steps, all if there are fewer, and then the last looks.
+/// Takes so many of the first steps, all if there are fewer, and then the last dumps.
 fn write_until<W: Write>(
     alloc: Global,
     out: &mut Tracked<W>,
@@ -60,10 +60,10 @@ fn write_until<W: Write>(
 {
     let mut line = NumberedLine::of(1);
     write_first(alloc, out, &mut line, machine, steps, most as usize)?;
-    write_last_looks(alloc, out, machine, line.number())
+    write_last_dumps(alloc, out, machine, line.number())
 }
 
-/// Takes the steps on this machine, all of them or so many of the first with the last looks.
+/// Takes the steps on this machine, all of them or so many of the first with the last dumps.
 fn write_steps<W: Write>(
     alloc: Global,
     out: &mut Tracked<W>,
@@ -86,7 +86,7 @@ fn write_steps<W: Write>(
     }
 }
 
-/// Takes the steps on this machine, all of them or so many of the first with the last looks, writes what each
+/// Takes the steps on this machine, all of them or so many of the first with the last dumps, writes what each
 /// answers, of which the first has the number 1, and flushes the writer. It fails with `WriteFault` where the
 /// writer does, which then has a front of the report, and with `OutOfMemory` before a step that takes memory.
 #[tactic(auto, using(crate::proofs::ReportLemmas::report_is_flushed))]

@@ -23,7 +23,7 @@ use Rattle.vga_script.proofs.OptionLemmas.{just, some_is, not_both}
 no_step : (p : Step × List ℕ) → step_of [] ≡ just p → ⊥
 no_step p e = absurd (cc)
 
--- a look at a plane that was written is read back, and need not be in range
+-- a dump of a plane that was written is read back, and need not be in range
 pub plane_back : (plane offset count : ℕ) (x : List ℕ) → offset < 2 ^ 16 → count < 2 ^ 16 → step_of (spelling (Show (shown.Plane plane offset count)) ++ x) ≡ Some (Show (shown.Plane plane offset count), x)
 plane_back plane offset count x ho hn =
     ap (λ (o : ℕ). just (Show (shown.Plane plane o (little_number 2 (little_bytes 2 count ++ x))), x)) (two_back offset (little_bytes 2 count ++ x) ho)

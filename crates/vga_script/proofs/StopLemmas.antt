@@ -32,9 +32,9 @@ has_shown (shown.Plane plane offset count) x rest e = (6, ap shown_len e, let l 
 has_shown shown.BiosData x rest e = (1, ap shown_len e, let l = ap length e in omega arith)
 has_shown shown.Cells x rest e = (1, ap shown_len e, let l = ap length e in omega arith)
 
--- so is a look at it
-has_look : (what : Shown) (x : List ℕ) (opcode : ℕ) (rest : List ℕ) → spelling (Show what) ++ x ≡ opcode ∷ rest → HasFields opcode rest
-has_look what x opcode rest e =
+-- so is a dump of it
+has_dump : (what : Shown) (x : List ℕ) (opcode : ℕ) (rest : List ℕ) → spelling (Show what) ++ x ≡ opcode ∷ rest → HasFields opcode rest
+has_dump what x opcode rest e =
     let first : opcode_show ≡ opcode = cc in
     let tail : rest ≡ shown_spelling what ++ x = cc in
     subst (λ (o : ℕ). HasFields o rest) first (has_shown what x rest tail)
@@ -56,7 +56,7 @@ has_fields (Int a b c d block) x opcode rest (ha, hb, hc, hd, (hl, all)) e =
     let count : little_number 2 (drop 8 rest) ≡ length block = ap (λ (t : List ℕ). little_number 2 (drop 8 t)) tail ∙ two_back (length block) (block ++ x) hl in
     (10 + length block, ap (λ (o : ℕ). fields_len o rest) first ∙ ap (λ (n : ℕ). just (10 + n)) count, let k = ap length tail in let j = length-append block x in omega arith)
 has_fields Frame x opcode rest fits e = let first : opcode ≡ opcode_frame = cc in (0, ap (λ (o : ℕ). fields_len o rest) first, omega arith)
-has_fields (Show what) x opcode rest fits e = has_look what x opcode rest e
+has_fields (Show what) x opcode rest fits e = has_dump what x opcode rest e
 
 -- no whole step stands at the front of some bytes
 abbrev pub NoStepStarts : List ℕ → Type 0
@@ -65,8 +65,8 @@ NoStepStarts bytes = StartsWithBadStep bytes ⊎ StartsWithCutStep bytes
 -- where one does
 pub step_starts : (s : Step) (x bytes : List ℕ) → IsInRange s → bytes ≡ spelling s ++ x → NoStepStarts bytes → ⊥
 step_starts s x bytes fits e (inl (inr (plane, offset, count, rest, ho, hn, front, bad))) =
-    let look : Step = Show (shown.Plane plane offset count) in
-    let same : (s, x) ≡ (look, rest) = some_is (s, x) (look, rest) (sym (step_back s x fits) ∙ ap step_of (sym e ∙ front) ∙ plane_back plane offset count rest ho hn) in
+    let dump : Step = Show (shown.Plane plane offset count) in
+    let same : (s, x) ≡ (dump, rest) = some_is (s, x) (dump, rest) (sym (step_back s x fits) ∙ ap step_of (sym e ∙ front) ∙ plane_back plane offset count rest ho hn) in
     bad (subst IsInRange (ap (λ (p : Step × List ℕ). p.0) same) fits)
 step_starts s x bytes fits e (inl (inl (opcode, rest, front, none))) =
     let f = has_fields s x opcode rest fits (sym e ∙ front) in
@@ -78,7 +78,7 @@ step_starts s x bytes fits e (inr (opcode, rest, needed, front, is, short)) =
 -- a step is bad or cut off
 pub one_reason : (bytes : List ℕ) → StartsWithBadStep bytes → StartsWithCutStep bytes → ⊥
 one_reason bytes (inr (plane, offset, count, x, ho, hn, front, bad)) (opcode, rest, needed, front', is, short) =
-    not_cut opcode rest needed (has_look (shown.Plane plane offset count) x opcode rest (sym front ∙ front')) is short
+    not_cut opcode rest needed (has_dump (shown.Plane plane offset count) x opcode rest (sym front ∙ front')) is short
 one_reason bytes (inl (opcode, rest, front, none)) (opcode', rest', needed, front', is, short) =
     let e : opcode ∷ rest ≡ opcode' ∷ rest' = sym front ∙ front' in
     let same : opcode ≡ opcode' = cc in

@@ -44,11 +44,11 @@ fields_len opcode rest =
     else if opcode == opcode_show then shown_len rest
     else None
 
--- the bytes begin with no opcode, or with a look of no kind
+-- the bytes begin with no opcode, or with a dump of no kind
 abbrev pub StartsWithNoOpcode : List ℕ → Type 0
 StartsWithNoOpcode bytes = (opcode : ℕ) × (rest : List ℕ) × (bytes ≡ opcode ∷ rest) × (fields_len opcode rest ≡ None)
 
--- The bytes begin with a whole look at a plane that is out of range: at none of the four, at no bytes or more than 256,
+-- The bytes begin with a whole dump of a plane that is out of range: at none of the four, at no bytes or more than 256,
 -- or past its end. Its offset and its count fit two bytes, since larger numbers are spelled as smaller ones are.
 abbrev pub StartsOutOfRange : List ℕ → Type 0
 StartsOutOfRange bytes =

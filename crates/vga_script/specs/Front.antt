@@ -15,7 +15,7 @@ use Rattle.vga_script.specs.Spelling.{opcode_out, opcode_out_word, opcode_in, op
 abbrev pub call_at : ℕ → ℕ → ℕ → ℕ → ℕ → List ℕ → Option (Step × List ℕ)
 call_at ax bx cx dx len rest = Some (Int ax bx cx dx (take len rest), drop len rest)
 
--- a look of this kind, with its fields and what follows them
+-- a dump of this kind, with its fields and what follows them
 abbrev pub shown_at : ℕ → List ℕ → Option (Step × List ℕ)
 shown_at kind rest =
     if kind == kind_registers then Some (Show shown.Registers, rest)

@@ -66,7 +66,7 @@ opcode_advance = 0x0A
 abbrev pub opcode_frame : ℕ
 opcode_frame = 0x0B
 
--- the opcode of a look at the adapter
+-- the opcode of a dump of the adapter
 abbrev pub opcode_show : ℕ
 opcode_show = 0x0C
 

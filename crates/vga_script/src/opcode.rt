@@ -9,7 +9,7 @@ pub(crate) const INT: u8 = 0x09;
 /// The opcode of a frame that is drawn.
 pub(crate) const FRAME: u8 = 0x0B;
 
-/// The opcode of a look at the adapter.
+/// The opcode of a dump of the adapter.
 pub(crate) const SHOW: u8 = 0x0C;
 
 /// The opcode that begins a block.
@@ -18,7 +18,7 @@ pub(crate) const REPEAT: u8 = 0x0D;
 /// The opcode that ends it.
 pub(crate) const END: u8 = 0x0E;
 
-/// What follows the opcode of a look where the registers are shown.
+/// What follows the opcode of a dump where the registers are shown.
 pub(crate) const SHOW_REGISTERS: u8 = 0x00;
 
 /// What follows it where an entry of the DAC is.

@@ -131,7 +131,7 @@ fn print_advance(out: &mut Vec<u8>, dots: u32) -> Result<(), Fault>
     end_line(out, line)
 }
 
-/// Prints a look at an entry of the DAC. It fails with `OutOfMemory` alone.
+/// Prints a dump of an entry of the DAC. It fails with `OutOfMemory` alone.
 #[tactic(auto, unfolding(crate::specs::Printing::line_of))]
 fn print_dac(out: &mut Vec<u8>, index: u8) -> Result<(), Fault>
     ensures ok { OnOk result (out.new.items ≡ out.old.items
@@ -144,7 +144,7 @@ fn print_dac(out: &mut Vec<u8>, index: u8) -> Result<(), Fault>
     end_line(out, line)
 }
 
-/// Prints a look at bytes of a plane. It fails with `OutOfMemory` alone.
+/// Prints a dump of bytes of a plane. It fails with `OutOfMemory` alone.
 #[tactic(auto, unfolding(crate::specs::Printing::line_of, vga_bits::specs::Hex::hex))]
 fn print_plane(out: &mut Vec<u8>, plane: u8, offset: u16, count: u16) -> Result<(), Fault>
     ensures ok { OnOk result (out.new.items ≡ out.old.items
@@ -161,7 +161,7 @@ fn print_plane(out: &mut Vec<u8>, plane: u8, offset: u16, count: u16) -> Result<
     end_line(out, line)
 }
 
-/// Prints a look at the adapter. It fails with `OutOfMemory` alone.
+/// Prints a dump of the adapter. It fails with `OutOfMemory` alone.
 #[tactic(auto, unfolding(crate::specs::Printing::line_of))]
 fn print_shown(out: &mut Vec<u8>, shown: Shown) -> Result<(), Fault>
     ensures ok { OnOk result (out.new.items ≡ out.old.items ++ printed_line (Step.Show shown)) }

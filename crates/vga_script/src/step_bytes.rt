@@ -212,7 +212,7 @@ fn append_call(out: &mut Vec<u8>, ax: u16, bx: u16, cx: u16, dx: u16, len: u16) 
     append_u16(out, len)
 }
 
-/// Puts the bytes of a look at the adapter at the end. It fails with `OutOfMemory` alone.
+/// Puts the bytes of a dump of the adapter at the end. It fails with `OutOfMemory` alone.
 fn append_shown(out: &mut Vec<u8>, shown: Shown) -> Result<(), Fault>
     ensures ok { OnOk result (out.new.items ≡ out.old.items ++ (opcode_show ∷ shown_spelling shown)) }
     ensures err { IsOkUnless result Fault.OutOfMemory }

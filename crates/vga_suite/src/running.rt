@@ -12,7 +12,7 @@ use vga_bits::{Fault, Tracked};
 use vga_script::assemble;
 
 /// The report of the script that some bytes spell, all of it or so many of its first steps with the
-/// last looks, or the fault that ends the run.
+/// last dumps, or the fault that ends the run.
 pub fn run_bytes(
     alloc: Global,
     bytes: &[u8],

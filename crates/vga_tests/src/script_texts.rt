@@ -54,12 +54,12 @@ const BAD_REGISTERS: &[u8] =
     b"int bx=1 ax=1\nint ax=1 ax=1\nint dx=1 cx=1\nint ax= 1\nint ax =1\nint ex=1\n\
     int block 00 ax=1";
 
-/// Looks with no name, another, too many words or too few.
+/// Dumps with no name, another, too many words or too few.
 const BAD_LOOKS: &[u8] =
     b"show\nshow cells 0\nshow reg\nregs\nshow regs x\nshow beam 0\nshow latches 0\nshow bda 0\n\
     show dac\nshow dac 100\nshow dac 1 2\nshow plane 0 0\nshow plane 0 0 1 1";
 
-/// Looks at a plane that is none, with too many digits, at no bytes or too many, or past the end.
+/// Dumps of a plane that is none, with too many digits, at no bytes or too many, or past the end.
 const BAD_PLANES: &[u8] =
     b"show plane 4 0 1\nshow plane 10 0 1\nshow plane 2 10000 1\nshow plane 2 0 0\n\
     show plane 2 0 257\nshow plane 2 0 A\nshow plane 2 FFFF 2";

@@ -1,11 +1,11 @@
--- Rows of a band that are copied, and rows that are painted, on any machine whose memory is flat.
+-- Rows of a band that are copied, and rows that are filled, on any machine whose memory is flat.
 use Rattle.std.proofs.Common.{◌≡◌, ◌≢◌, ℕ, ◌+◌, ◌*◌, ◌%◌, ◌<◌, ◌≤◌, arith, Bool, true, false}
 use Rattle.std.specs.Prelude.{◌==◌, if◌then◌else◌}
 use Rattle.vga_card.specs.Bus.{Meaning}
 use Rattle.bios_services.specs.declared.band.Band.{Band}
-use Rattle.bios_services.specs.declared.paint.Paint.{Paint}
+use Rattle.bios_services.specs.declared.filling.Filling.{Filling}
 use Rattle.bios_services.specs.Plan.{run, put, move}
-use Rattle.bios_services.specs.Bands.{address_in, paint_byte, copy_line, copy_row, raise_rows, lower_rows, paint_line, paint_row, paint_rows}
+use Rattle.bios_services.specs.Bands.{address_in, filling_byte, copy_line, copy_row, raise_rows, lower_rows, fill_line, fill_row, fill_rows}
 use Rattle.bios_screen.proofs.Base.Flat.{Edited, Moved, Turn, Leaves, set_cell}
 use Rattle.bios_screen.proofs.Base.Edits.{changed_edit, edits}
 use Rattle.bios_screen.proofs.Base.Moves.{one_move, moves_up, moves_down}
@@ -19,10 +19,10 @@ pub record IsWindow (base size : ℕ) (band : Band) (start rows top height : ℕ
   pub inside : (row : ℕ) → top ≤ row → row < top + height → row < rows
   pub across : (i : ℕ) → i < band.width → band.left + i < band.pitch
 
-painted_small : (paint : Paint) (i : ℕ) → paint.even < 256 → paint.odd < 256 → paint_byte paint i < 256
-painted_small paint i e o = by_test (i % 2 == 0)
+filled_small : (filling : Filling) (i : ℕ) → filling.even < 256 → filling.odd < 256 → filling_byte filling i < 256
+filled_small filling i e o = by_test (i % 2 == 0)
   where
-    by_test : (b : Bool) → (if b then paint.even else paint.odd) < 256
+    by_test : (b : Bool) → (if b then filling.even else filling.odd) < 256
     by_test true = e
     by_test false = o
 
@@ -109,33 +109,33 @@ module _ (S X : Type 0) (m : Meaning S) (base size : ℕ) (band : Band) (start r
         (λ x y g h lb lo hi. rows_apart x (y + n) g h (omega arith))
         count top s f (omega arith) (omega arith) t
 
-  -- ---- rows are painted, where a byte makes of a cell another
+  -- ---- rows are filled, where a byte makes of a cell another
 
-  module _ (R : S → (ℕ → X) → Type 0) (made : ℕ → X → X) (stored : (at j v : ℕ) (s : S) (f : ℕ → X) → at ≡ base + j → j < size → v < 256 → R s f → R (run m (put at v) s).0 (set_cell f j (made v (f j)))) (paint : Paint) (even : paint.even < 256) (odd : paint.odd < 256) where
-    line_painted : (row line : ℕ) (s : S) (f : ℕ → X) → row < rows → line < band.lines → R s f → Leaves S X R (run m (paint_line band paint row line) s).0 (Edited X Column (λ h. place row line h.turn) (λ h x. made (paint_byte paint h.turn) x) f)
-    unfolding paint_line
-    line_painted row line s f lr ll t =
-        edits S X m (λ i. put (address_in band row line i) (paint_byte paint i)) (λ _. R) 0 band.width (λ _. Unit {0}) (λ k _. place row line k) (λ k _ x. made (paint_byte paint k) x)
+  module _ (R : S → (ℕ → X) → Type 0) (made : ℕ → X → X) (stored : (at j v : ℕ) (s : S) (f : ℕ → X) → at ≡ base + j → j < size → v < 256 → R s f → R (run m (put at v) s).0 (set_cell f j (made v (f j)))) (filling : Filling) (even : filling.even < 256) (odd : filling.odd < 256) where
+    line_filled : (row line : ℕ) (s : S) (f : ℕ → X) → row < rows → line < band.lines → R s f → Leaves S X R (run m (fill_line band filling row line) s).0 (Edited X Column (λ h. place row line h.turn) (λ h x. made (filling_byte filling h.turn) x) f)
+    unfolding fill_line
+    line_filled row line s f lr ll t =
+        edits S X m (λ i. put (address_in band row line i) (filling_byte filling i)) (λ _. R) 0 band.width (λ _. Unit {0}) (λ k _. place row line k) (λ k _ x. made (filling_byte filling k) x)
         (λ x y _ _ lb lo hi. omega arith)
         (λ k x g lb hi u. record {
-          cells = set_cell g (place row line k) (made (paint_byte paint k) (g (place row line k)));
-          shown = stored (address_in band row line k) (place row line k) (paint_byte paint k) x g (address_is row line k) (within row line k lr ll hi) (painted_small paint k even odd) u;
-          fact = changed_edit (place row line k) (made (paint_byte paint k)) g;
+          cells = set_cell g (place row line k) (made (filling_byte filling k) (g (place row line k)));
+          shown = stored (address_in band row line k) (place row line k) (filling_byte filling k) x g (address_is row line k) (within row line k lr ll hi) (filled_small filling k even odd) u;
+          fact = changed_edit (place row line k) (made (filling_byte filling k)) g;
         })
         band.width 0 s f (omega arith) (omega arith) t
 
-    row_painted : (row : ℕ) (s : S) (f : ℕ → X) → row < rows → R s f → Leaves S X R (run m (paint_row band paint row) s).0 (Edited X Line (λ h. place row h.turn h.place.turn) (λ h x. made (paint_byte paint h.place.turn) x) f)
-    unfolding paint_row
-    row_painted row s f lr t =
-        edits S X m (paint_line band paint row) (λ _. R) 0 band.lines (λ _. Column) (λ line h. place row line h.turn) (λ line h x. made (paint_byte paint h.turn) x)
+    row_filled : (row : ℕ) (s : S) (f : ℕ → X) → row < rows → R s f → Leaves S X R (run m (fill_row band filling row) s).0 (Edited X Line (λ h. place row h.turn h.place.turn) (λ h x. made (filling_byte filling h.place.turn) x) f)
+    unfolding fill_row
+    row_filled row s f lr t =
+        edits S X m (fill_line band filling row) (λ _. R) 0 band.lines (λ _. Column) (λ line h. place row line h.turn) (λ line h x. made (filling_byte filling h.turn) x)
         (λ x y g h lb lo hi. lines_apart row x y g h (omega arith) hi (omega arith))
-        (λ line x g lb hi u. line_painted row line x g lr hi u)
+        (λ line x g lb hi u. line_filled row line x g lr hi u)
         band.lines 0 s f (omega arith) (omega arith) t
 
-    pub rows_painted : (first count : ℕ) (s : S) (f : ℕ → X) → top ≤ first → first + count ≤ top + height → R s f → Leaves S X R (run m (paint_rows band paint first count) s).0 (Edited X (Turn (λ _. Line) first (first + count)) (λ h. place h.turn h.place.turn h.place.place.turn) (λ h x. made (paint_byte paint h.place.place.turn) x) f)
-    unfolding paint_rows
-    rows_painted first count s f low fits t =
-        edits S X m (paint_row band paint) (λ _. R) first (first + count) (λ _. Line) (λ row h. place row h.turn h.place.turn) (λ row h x. made (paint_byte paint h.place.turn) x)
+    pub rows_filled : (first count : ℕ) (s : S) (f : ℕ → X) → top ≤ first → first + count ≤ top + height → R s f → Leaves S X R (run m (fill_rows band filling first count) s).0 (Edited X (Turn (λ _. Line) first (first + count)) (λ h. place h.turn h.place.turn h.place.place.turn) (λ h x. made (filling_byte filling h.place.place.turn) x) f)
+    unfolding fill_rows
+    rows_filled first count s f low fits t =
+        edits S X m (fill_row band filling) (λ _. R) first (first + count) (λ _. Line) (λ row h. place row h.turn h.place.turn) (λ row h x. made (filling_byte filling h.place.turn) x)
         (λ x y g h lb lo hi. rows_apart x y g h (omega arith))
-        (λ row x g lb hi u. row_painted row x g (w.inside row (omega arith) (omega arith)) u)
+        (λ row x g lb hi u. row_filled row x g (w.inside row (omega arith) (omega arith)) u)
         count first s f (omega arith) (omega arith) t

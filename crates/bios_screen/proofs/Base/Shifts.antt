@@ -1,4 +1,4 @@
--- A window of a flat memory whose rows were moved and then painted, by the number of a cell, whatever the sizes are.
+-- A window of a flat memory whose rows were moved and then filled, by the number of a cell, whatever the sizes are.
 use Rattle.std.proofs.Common.{◌≡◌, ℕ, ◌+◌, ◌-◌, ◌*◌, ◌/◌, ◌%◌, ◌<◌, ◌≤◌, sym, ap, ◌∙◌, arith}
 use Rattle.std.proofs.Math.Nat.{mod-lt}
 use Rattle.bios_screen.proofs.Base.Flat.{Edited, Moved, Turn}
@@ -62,19 +62,19 @@ module _ (X : Type 0) (W H start left width top height : ℕ) (wide : 0 < W) (hi
   place_in : (r l i : ℕ) → top ≤ r → r < top + height → l < H → i < width → IsIn (W * (H * r + l) + (left + i))
   place_in r l i a b ll li = let e = row_of r l i ll li in let f = column_of r l i li in record { above = omega arith; below = omega arith; before = omega arith; behind = omega arith }
 
-  -- a cell that was painted over
-  pub record IsPainted (B : X → X) (x : X) : Type 0 where
+  -- a cell that was filled over
+  pub record IsFilled (B : X → X) (x : X) : Type 0 where
     pub under : X
     pub is : x ≡ B under
 
   pub record GoneUp (n : ℕ) (B : X → X) (f g : ℕ → X) : Type 0 where
     pub moved : (b : ℕ) → IsIn b → b / W / H + n < top + height → g (start + b) ≡ f (start + (b + W * (H * n)))
-    pub painted : (b : ℕ) → IsIn b → top + height ≤ b / W / H + n → IsPainted B (g (start + b))
+    pub filled : (b : ℕ) → IsIn b → top + height ≤ b / W / H + n → IsFilled B (g (start + b))
     pub outside : (o : ℕ) → ((b : ℕ) → o ≡ start + b → IsIn b → ⊥) → g o ≡ f o
 
   pub record GoneDown (n : ℕ) (B : X → X) (f g : ℕ → X) : Type 0 where
     pub moved : (b : ℕ) → IsIn b → top + n ≤ b / W / H → g (start + b) ≡ f (start + (b - W * (H * n)))
-    pub painted : (b : ℕ) → IsIn b → b / W / H < top + n → IsPainted B (g (start + b))
+    pub filled : (b : ℕ) → IsIn b → b / W / H < top + n → IsFilled B (g (start + b))
     pub outside : (o : ℕ) → ((b : ℕ) → o ≡ start + b → IsIn b → ⊥) → g o ≡ f o
 
   -- the turn of a cell
@@ -85,20 +85,20 @@ module _ (X : Type 0) (W H start left width top height : ℕ) (wide : 0 < W) (hi
       → Moved X (Rows top (top + (height - n))) (λ h. place (h.turn + n) h.place.turn h.place.place.turn) (λ h. place h.turn h.place.turn h.place.place.turn) f mid
       → Edited X (Rows (top + (height - n)) (top + (height - n) + n)) (λ h. place h.turn h.place.turn h.place.place.turn) F mid g → GoneUp n B f g
   unfolding turn_of
-  gone_up n few B F same f mid g up paint = record {
+  gone_up n few B F same f mid g up filling = record {
     moved = λ b i k.
         let l0 = i.above in
         let h = turn_of top (top + (height - n)) b (row b) i.above (omega arith) i.before i.behind in
         let at = place_of b i.before in
         let far : place (row b + n) (line b) (column b - left) ≡ start + (b + W * (H * n)) = let s = shift (row b) (line b) (column b - left) n in omega arith in
-        paint.outside (start + b) (λ h q. let v = row_is b h.turn h.place.turn h.place.place.turn h.place.before h.place.place.before q in let u = h.from in absurd (omega arith))
+        filling.outside (start + b) (λ h q. let v = row_is b h.turn h.place.turn h.place.place.turn h.place.before h.place.place.before q in let u = h.from in absurd (omega arith))
         ∙ ap mid (sym at) ∙ up.inside h ∙ ap f far;
-    painted = λ b i k.
+    filled = λ b i k.
         let l0 = i.below in
         let h = turn_of (top + (height - n)) (top + (height - n) + n) b (row b) (omega arith) (omega arith) i.before i.behind in
-        record { under = mid (place (row b) (line b) (column b - left)); is = ap g (sym (place_of b i.before)) ∙ paint.inside h ∙ same h (mid (place (row b) (line b) (column b - left))) };
+        record { under = mid (place (row b) (line b) (column b - left)); is = ap g (sym (place_of b i.before)) ∙ filling.inside h ∙ same h (mid (place (row b) (line b) (column b - left))) };
     outside = λ o none.
-        paint.outside o (λ h q. let u = h.from in let v = h.before in none (W * (H * h.turn + h.place.turn) + (left + h.place.place.turn)) q (place_in h.turn h.place.turn h.place.place.turn (omega arith) (omega arith) h.place.before h.place.place.before))
+        filling.outside o (λ h q. let u = h.from in let v = h.before in none (W * (H * h.turn + h.place.turn) + (left + h.place.place.turn)) q (place_in h.turn h.place.turn h.place.place.turn (omega arith) (omega arith) h.place.before h.place.place.before))
         ∙ up.outside o (λ h q. let u = h.from in let v = h.before in none (W * (H * h.turn + h.place.turn) + (left + h.place.place.turn)) q (place_in h.turn h.place.turn h.place.place.turn (omega arith) (omega arith) h.place.before h.place.place.before));
   }
 
@@ -106,7 +106,7 @@ module _ (X : Type 0) (W H start left width top height : ℕ) (wide : 0 < W) (hi
       → Moved X (Rows top (top + (height - n))) (λ h. place h.turn h.place.turn h.place.place.turn) (λ h. place (h.turn + n) h.place.turn h.place.place.turn) f mid
       → Edited X (Rows top (top + n)) (λ h. place h.turn h.place.turn h.place.place.turn) F mid g → GoneDown n B f g
   unfolding turn_of
-  gone_down n few B F same f mid g down paint = record {
+  gone_down n few B F same f mid g down filling = record {
     moved = λ b i k.
         let l0 = i.below in
         let from = row b - n in
@@ -114,13 +114,13 @@ module _ (X : Type 0) (W H start left width top height : ℕ) (wide : 0 < W) (hi
         let back : from + n ≡ row b = omega arith in
         let at : place (from + n) (line b) (column b - left) ≡ start + b = ap (λ r. place r (line b) (column b - left)) back ∙ place_of b i.before in
         let near : place from (line b) (column b - left) ≡ start + (b - W * (H * n)) = let s = shift from (line b) (column b - left) n in omega arith in
-        paint.outside (start + b) (λ h q. let v = row_is b h.turn h.place.turn h.place.place.turn h.place.before h.place.place.before q in let u = h.before in absurd (omega arith))
+        filling.outside (start + b) (λ h q. let v = row_is b h.turn h.place.turn h.place.place.turn h.place.before h.place.place.before q in let u = h.before in absurd (omega arith))
         ∙ ap mid (sym at) ∙ down.inside h ∙ ap f near;
-    painted = λ b i k.
+    filled = λ b i k.
         let l0 = i.above in
         let h = turn_of top (top + n) b (row b) i.above k i.before i.behind in
-        record { under = mid (place (row b) (line b) (column b - left)); is = ap g (sym (place_of b i.before)) ∙ paint.inside h ∙ same h (mid (place (row b) (line b) (column b - left))) };
+        record { under = mid (place (row b) (line b) (column b - left)); is = ap g (sym (place_of b i.before)) ∙ filling.inside h ∙ same h (mid (place (row b) (line b) (column b - left))) };
     outside = λ o none.
-        paint.outside o (λ h q. let u = h.from in let v = h.before in none (W * (H * h.turn + h.place.turn) + (left + h.place.place.turn)) q (place_in h.turn h.place.turn h.place.place.turn (omega arith) (omega arith) h.place.before h.place.place.before))
+        filling.outside o (λ h q. let u = h.from in let v = h.before in none (W * (H * h.turn + h.place.turn) + (left + h.place.place.turn)) q (place_in h.turn h.place.turn h.place.place.turn (omega arith) (omega arith) h.place.before h.place.place.before))
         ∙ down.outside o (λ h q. let u = h.from in let v = h.before in none (W * (H * (h.turn + n) + h.place.turn) + (left + h.place.place.turn)) q (place_in (h.turn + n) h.place.turn h.place.place.turn (omega arith) (omega arith) h.place.before h.place.place.before));
   }

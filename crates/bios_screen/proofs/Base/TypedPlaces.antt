@@ -3,7 +3,7 @@ use Rattle.std.proofs.Common.{◌≡◌, ℕ, ◌+◌, ◌-◌, ◌<◌, ◌≤�
 use Rattle.std.specs.Prelude.{◌==◌, nat_lt, if◌then◌else◌}
 use Rattle.std.proofs.lemmas.Bool.Decides.{nat_tests}
 use Rattle.bios_modes.specs.Fonts.{FontSet}
-use Rattle.bios_services.specs.declared.ink.Ink.{Ink}
+use Rattle.bios_services.specs.declared.colouring.Colouring.{Colouring}
 use Rattle.bios_services.specs.Cursor.{row_of, column_of}
 use Rattle.bios_services.specs.Teletype.{line_start}
 use Rattle.bios_screen.specs.Screen.{Screen}
@@ -60,22 +60,22 @@ module _ (rows columns : ℕ) (narrow : columns ≤ 80) where
       by_test true t = let a = lt_is (column_of place + 1) s.layout.columns t in subst (Inside rows columns) (sym (ap either t)) (behind_inside place (omega arith) i)
       by_test false t = subst (Inside rows columns) (sym (ap either t)) (start_inside (line_feed s p place).1 (fed_inside s p place e i))
 
-  pub typed_inside : (fonts : FontSet) (s : Screen) (p place v : ℕ) (ink : Ink) → s.layout.rows ≡ rows → s.layout.columns ≡ columns → Inside rows columns place → Inside rows columns (type_character fonts s p place v ink).1
+  pub typed_inside : (fonts : FontSet) (s : Screen) (p place v : ℕ) (colouring : Colouring) → s.layout.rows ≡ rows → s.layout.columns ≡ columns → Inside rows columns place → Inside rows columns (type_character fonts s p place v colouring).1
   unfolding type_character
-  typed_inside fonts s p place v ink e w i = by_tests (v == 0x07) (v == 0x08) (v == 0x0A) (v == 0x0D)
+  typed_inside fonts s p place v colouring e w i = by_tests (v == 0x07) (v == 0x08) (v == 0x0A) (v == 0x0D)
     where
       back : ℕ
       back = if column_of place == 0 then place else place - 1
 
       on : Screen × ℕ
-      on = cursor_advance (put_character fonts s p place v ink) p place
+      on = cursor_advance (put_character fonts s p place v colouring) p place
 
       by_tests : (a b g f : Bool) → Inside rows columns (let x : Screen × ℕ = (if a then (s, place) else if b then (s, back) else if g then line_feed s p place else if f then (s, line_start place) else on) in x.1)
       by_tests true b g f = i
       by_tests false true g f = back_inside place i
       by_tests false false true f = fed_inside s p place e i
       by_tests false false false true = start_inside place i
-      by_tests false false false false = advanced_inside (put_character fonts s p place v ink) p place e w i
+      by_tests false false false false = advanced_inside (put_character fonts s p place v colouring) p place e w i
 
   pub inside_word : (place : ℕ) → rows ≤ 255 → Inside rows columns place → place < 65536
   inside_word place l i = let r = i.row in omega arith

@@ -121,7 +121,7 @@ turned = refl
 
 -- a character takes the colour where its glyph has dots, and all else of its cell is 0
 abbrev character : ℕ → CellRun
-character colour = record { page = 0; character = 0; ink = record { colour = colour; is_attribute = true }; count = 1 }
+character colour = record { page = 0; character = 0; colouring = record { colour = colour; is_attribute = true }; count = 1 }
 
 drawn : pixels (next fonts (shown 0x10) (WriteCells (character 0x15)) []) ≡ (5 ∷ 5 ∷ 0 ∷ 0 ∷ 0 ∷ 0 ∷ 0 ∷ 5 ∷ 5 ∷ 0 ∷ 0 ∷ 0 ∷ 0 ∷ 0 ∷ 0 ∷ 0 ∷ []) ∷ []
 unfolding next

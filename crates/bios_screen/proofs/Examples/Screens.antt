@@ -35,7 +35,7 @@ six = (1, 11) ∷ (2, 12) ∷ (3, 13) ∷ (4, 14) ∷ (5, 15) ∷ (6, 16) ∷ (7
 
 -- so many cells of a character in this colour, which is an attribute or is not
 abbrev run : ℕ → ℕ → Bool → ℕ → CellRun
-run character colour is_attribute count = record { page = 0; character = character; ink = record { colour = colour; is_attribute = is_attribute }; count = count }
+run character colour is_attribute count = record { page = 0; character = character; colouring = record { colour = colour; is_attribute = is_attribute }; count = count }
 
 -- cells of text need no fonts
 abbrev no_fonts : FontSet

@@ -14,7 +14,7 @@ use Rattle.bios_services.specs.declared.band.Band.{Band}
 use Rattle.bios_modes.specs.declared.kind.Kind.TheVariants.{Packed}
 use Rattle.bios_services.specs.declared.scroll.Scroll.{Scroll}
 use Rattle.bios_services.specs.declared.call.Service.TheVariants.{ScrollUp, ScrollDown}
-use Rattle.bios_services.specs.Bands.{band_of, paint_byte, plain, raise_rows, lower_rows, paint_rows, fill_plan, up_plan, down_plan}
+use Rattle.bios_services.specs.Bands.{band_of, filling_byte, plain, raise_rows, lower_rows, fill_rows, fill_plan, up_plan, down_plan}
 use Rattle.bios_services.specs.Cells.{page_base, page_address}
 use Rattle.bios_modes.specs.Kinds.{kind_of}
 use Rattle.bios_services.specs.Kinds.{column_bytes, row_lines}
@@ -33,7 +33,7 @@ use Rattle.bios_screen.proofs.Base.Shifts as shifts
 use Rattle.bios_screen.proofs.Dots.PackedDots.{IsPacked}
 use Rattle.bios_screen.proofs.Base.CellPlaces.{moved_within}
 use Rattle.bios_screen.proofs.Planar.Settings.{without_drawing}
-use Rattle.bios_screen.proofs.Planar.Windows.{painted_plain}
+use Rattle.bios_screen.proofs.Planar.Windows.{filled_plain}
 use Rattle.bios_screen.proofs.Packed.Screens as screens
 use Rattle.bios_screen.proofs.Packed.Screens.{IsFlat, put_flat, get_flat}
 use Rattle.bios_screen.proofs.Pixels.Windows as pixel_windows
@@ -134,13 +134,13 @@ module _ (law : KeepsBounds) (c : CardState) (d : BiosData) (t : IsPacked c d) (
       let moving = raise_rows band n top count in
       let c1 = (run card_meaning moving c).0 in
       let m1 = bands.rows_raised CardState ℕ card_meaning 0xA0000 65536 band 0 rows top height window (IsFlat rest) (pixel_moved law rest) n count c old (omega arith) (λ l. some (omega arith)) (screens.begins c d t e z) in
-      let m2 = bands.rows_painted CardState ℕ card_meaning 0xA0000 65536 band 0 rows top height window (IsFlat rest) (λ v x. v) (pixel_put_at law rest) (plain scroll.fill) few few (top + count) n c1 m1.cells (omega arith) (omega arith) m1.shown in
-      let all : Leaves CardState ℕ (IsFlat rest) (run card_meaning (paint_rows band (plain scroll.fill) (top + count) n) c1).0 (shifts.GoneUp ℕ w h 0 left width top height wide high window.across n Fill old) = record {
+      let m2 = bands.rows_filled CardState ℕ card_meaning 0xA0000 65536 band 0 rows top height window (IsFlat rest) (λ v x. v) (pixel_put_at law rest) (plain scroll.fill) few few (top + count) n c1 m1.cells (omega arith) (omega arith) m1.shown in
+      let all : Leaves CardState ℕ (IsFlat rest) (run card_meaning (fill_rows band (plain scroll.fill) (top + count) n) c1).0 (shifts.GoneUp ℕ w h 0 left width top height wide high window.across n Fill old) = record {
         cells = m2.cells;
         shown = m2.shown;
-        fact = shifts.gone_up ℕ w h 0 left width top height wide high window.across n less Fill (λ x v. paint_byte (plain scroll.fill) x.place.place.turn) (λ x v. painted_plain scroll.fill x.place.place.turn) old m1.cells m2.cells m1.fact m2.fact;
+        fact = shifts.gone_up ℕ w h 0 left width top height wide high window.across n less Fill (λ x v. filling_byte (plain scroll.fill) x.place.place.turn) (λ x v. filled_plain scroll.fill x.place.place.turn) old m1.cells m2.cells m1.fact m2.fact;
       } in
-      subst (λ r. Leaves CardState ℕ (IsFlat rest) r.0 (shifts.GoneUp ℕ w h 0 left width top height wide high window.across n Fill old)) (sym (run_bind card_meaning moving (λ _. paint_rows band (plain scroll.fill) (top + count) n) c)) all
+      subst (λ r. Leaves CardState ℕ (IsFlat rest) r.0 (shifts.GoneUp ℕ w h 0 left width top height wide high window.across n Fill old)) (sym (run_bind card_meaning moving (λ _. fill_rows band (plain scroll.fill) (top + count) n) c)) all
 
   went_down : Leaves CardState ℕ (IsFlat rest) (run card_meaning (down_plan band top height n scroll.fill) c).0 (shifts.GoneDown ℕ w h 0 left width top height wide high window.across n Fill old)
   unfolding down_plan fill_plan
@@ -151,13 +151,13 @@ module _ (law : KeepsBounds) (c : CardState) (d : BiosData) (t : IsPacked c d) (
       let moving = lower_rows band n top count in
       let c1 = (run card_meaning moving c).0 in
       let m1 = bands.rows_lowered CardState ℕ card_meaning 0xA0000 65536 band 0 rows top height window (IsFlat rest) (pixel_moved law rest) n count c old (omega arith) (λ l. some (omega arith)) (screens.begins c d t e z) in
-      let m2 = bands.rows_painted CardState ℕ card_meaning 0xA0000 65536 band 0 rows top height window (IsFlat rest) (λ v x. v) (pixel_put_at law rest) (plain scroll.fill) few few top n c1 m1.cells (omega arith) (omega arith) m1.shown in
-      let all : Leaves CardState ℕ (IsFlat rest) (run card_meaning (paint_rows band (plain scroll.fill) top n) c1).0 (shifts.GoneDown ℕ w h 0 left width top height wide high window.across n Fill old) = record {
+      let m2 = bands.rows_filled CardState ℕ card_meaning 0xA0000 65536 band 0 rows top height window (IsFlat rest) (λ v x. v) (pixel_put_at law rest) (plain scroll.fill) few few top n c1 m1.cells (omega arith) (omega arith) m1.shown in
+      let all : Leaves CardState ℕ (IsFlat rest) (run card_meaning (fill_rows band (plain scroll.fill) top n) c1).0 (shifts.GoneDown ℕ w h 0 left width top height wide high window.across n Fill old) = record {
         cells = m2.cells;
         shown = m2.shown;
-        fact = shifts.gone_down ℕ w h 0 left width top height wide high window.across n less Fill (λ x v. paint_byte (plain scroll.fill) x.place.place.turn) (λ x v. painted_plain scroll.fill x.place.place.turn) old m1.cells m2.cells m1.fact m2.fact;
+        fact = shifts.gone_down ℕ w h 0 left width top height wide high window.across n less Fill (λ x v. filling_byte (plain scroll.fill) x.place.place.turn) (λ x v. filled_plain scroll.fill x.place.place.turn) old m1.cells m2.cells m1.fact m2.fact;
       } in
-      subst (λ r. Leaves CardState ℕ (IsFlat rest) r.0 (shifts.GoneDown ℕ w h 0 left width top height wide high window.across n Fill old)) (sym (run_bind card_meaning moving (λ _. paint_rows band (plain scroll.fill) top n) c)) all
+      subst (λ r. Leaves CardState ℕ (IsFlat rest) r.0 (shifts.GoneDown ℕ w h 0 left width top height wide high window.across n Fill old)) (sym (run_bind card_meaning moving (λ _. fill_rows band (plain scroll.fill) top n) c)) all
 
   -- ---- the pixels
 
@@ -175,7 +175,7 @@ module _ (law : KeepsBounds) (c : CardState) (d : BiosData) (t : IsPacked c d) (
   none : (b : ℕ) → 0 + b ≡ b
   none b = omega arith
 
-  filled : (x : ℕ) → shifts.IsPainted ℕ w h 0 left width top height wide high window.across Fill x → x ≡ fill_pixel d.mode scroll.fill
+  filled : (x : ℕ) → shifts.IsFilled ℕ w h 0 left width top height wide high window.across Fill x → x ≡ fill_pixel d.mode scroll.fill
   filled x is = is.is ∙ sym (ap (λ i. fill_pixel i scroll.fill) t.number)
 
   stays : (change : (ℕ → ℕ) → ℕ → ℕ) → ((k : ℕ) → change (pixel_of s p) k ≡ pixel_of s p k) → shown c d ≡ Some (with_pixels s p change)
@@ -210,7 +210,7 @@ module _ (law : KeepsBounds) (c : CardState) (d : BiosData) (t : IsPacked c d) (
           ∙ ap (λ x. if x then pixel_of s 0 far else fill_pixel d.mode scroll.fill) (sym (lt_test (pixel_row s k + n) (top + height) l))
           ∙ tests)
           (λ (l : top + height ≤ pixel_row s k + n).
-          ap f (sym (none k)) ∙ filled (f (0 + k)) (up.painted k i l)
+          ap f (sym (none k)) ∙ filled (f (0 + k)) (up.filled k i l)
           ∙ ap (λ x. if x then pixel_of s 0 (k + row_pixels s n) else fill_pixel d.mode scroll.fill) (sym (not_lt (pixel_row s k + n) (top + height) l))
           ∙ tests)
           (cases_lt (pixel_row s k + n) (top + height))
@@ -233,7 +233,7 @@ module _ (law : KeepsBounds) (c : CardState) (d : BiosData) (t : IsPacked c d) (
           let tests = sym (ap (λ b. if b then (if nat_le (top + n) (pixel_row s k) then pixel_of s 0 (k - row_pixels s n) else fill_pixel d.mode scroll.fill) else pixel_of s 0 k) test) in
           ⊎_elim
           (λ (l : pixel_row s k < top + n).
-          ap f (sym (none k)) ∙ filled (f (0 + k)) (down.painted k i l)
+          ap f (sym (none k)) ∙ filled (f (0 + k)) (down.filled k i l)
           ∙ ap (λ x. if x then pixel_of s 0 (k - row_pixels s n) else fill_pixel d.mode scroll.fill) (sym (not_le (top + n) (pixel_row s k) l))
           ∙ tests)
           (λ (l : top + n ≤ pixel_row s k).

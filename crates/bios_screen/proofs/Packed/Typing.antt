@@ -7,7 +7,7 @@ use Rattle.bios_modes.specs.Modes.{bytes_320_by_200}
 use Rattle.bios_modes.specs.Heights.{row_at}
 use Rattle.bios_modes.specs.Bda.{BiosData}
 use Rattle.bios_modes.specs.Fonts.{FontSet}
-use Rattle.bios_services.specs.declared.ink.Ink.{Ink}
+use Rattle.bios_services.specs.declared.colouring.Colouring.{Colouring}
 use Rattle.bios_services.specs.Bands.{band_of, up_plan}
 use Rattle.bios_services.specs.Cursor.{row_of, column_of, cell_number}
 use Rattle.bios_services.specs.Drawing.{character_plan}
@@ -29,7 +29,7 @@ module _ (law : KeepsBounds) (c : CardState) (d : BiosData) (t : IsPacked c d) (
   pub raised : shown (run card_meaning (up_plan (band_of d p 0 (d.columns - 1)) 0 (d.last_row + 1) 1 0) c).0 d ≡ Some (window_up s p (whole_page s 0))
   raised = page_raised bytes_320_by_200 c d p 0 (up_shown law c d t e z p lp (whole_page s 0) (omega arith))
 
-  pub put : (fonts : FontSet) (place v : ℕ) (ink : Ink) → row_of place < d.last_row + 1 → column_of place < d.columns → v < 256 → ink.colour < 256 → shown (run card_meaning (character_plan fonts d p (cell_number d place) v ink) c).0 d ≡ Some (put_character fonts s p place v ink)
-  put fonts place v ink lr lc lv la =
-      ap (λ y. shown y d) (one_character fonts d p (cell_number d place) v ink c)
-      ∙ characters_shown law c d t e z fonts p (cell_number d place) 1 v ink lp (place_within d place lr lc) la
+  pub put : (fonts : FontSet) (place v : ℕ) (colouring : Colouring) → row_of place < d.last_row + 1 → column_of place < d.columns → v < 256 → colouring.colour < 256 → shown (run card_meaning (character_plan fonts d p (cell_number d place) v colouring) c).0 d ≡ Some (put_character fonts s p place v colouring)
+  put fonts place v colouring lr lc lv la =
+      ap (λ y. shown y d) (one_character fonts d p (cell_number d place) v colouring c)
+      ∙ characters_shown law c d t e z fonts p (cell_number d place) 1 v colouring lp (place_within d place lr lc) la

@@ -14,7 +14,7 @@ use Rattle.bios_modes.specs.Fonts.{FontSet}
 use Rattle.bios_services.specs.declared.regs.Regs.{Regs}
 use Rattle.bios_services.specs.declared.band.Band.{Band}
 use Rattle.bios_services.specs.declared.cell_run.CellRun.{CellRun}
-use Rattle.bios_services.specs.declared.ink.Ink.{Ink}
+use Rattle.bios_services.specs.declared.colouring.Colouring.{Colouring}
 use Rattle.bios_modes.specs.declared.kind.Kind.TheVariants.{Packed}
 use Rattle.bios_services.specs.declared.call.Service.TheVariants.{WriteCells}
 use Rattle.bios_services.specs.Bands.{address_in}
@@ -85,15 +85,15 @@ module _ (law : KeepsBounds) (c : CardState) (d : BiosData) (t : IsPacked c d) (
       ∙ ap (λ n. 0xA0000 + n + 8 * w * (h * (q / w) + r) + 8 * (q % w) + i) none
       ∙ address_sum w h (q / w) r (q % w) i
 
-  character_is : (fonts : FontSet) (q character : ℕ) (ink : Ink) → character_plan fonts d 0 q character ink ≡ glyph_plan (λ r i. 0xA0000 + place q r i) (glyph_line fonts h character) h ink.colour
+  character_is : (fonts : FontSet) (q character : ℕ) (colouring : Colouring) → character_plan fonts d 0 q character colouring ≡ glyph_plan (λ r i. 0xA0000 + place q r i) (glyph_line fonts h character) h colouring.colour
   unfolding character_by
-  character_is fonts q character ink =
+  character_is fonts q character colouring =
       let kind = ap kind_of t.number in
       let band = column_by Packed d 0 (q % w) in
-      ap (λ k. character_by k fonts d 0 q character ink) kind
-      ∙ ap (λ k. packed_plan (column_by k d 0 (q % w)) (q / w) fonts character ink.colour) kind
-      ∙ plan_is band (q / w) fonts character ink.colour
-      ∙ ap (λ a. glyph_plan a (glyph_line fonts h character) h ink.colour) (λ j r i. address_is q r i j)
+      ap (λ k. character_by k fonts d 0 q character colouring) kind
+      ∙ ap (λ k. packed_plan (column_by k d 0 (q % w)) (q / w) fonts character colouring.colour) kind
+      ∙ plan_is band (q / w) fonts character colouring.colour
+      ∙ ap (λ a. glyph_plan a (glyph_line fonts h character) h colouring.colour) (λ j r i. address_is q r i j)
 
   -- the page has 8000 strips
   pub strip_small : (q r : ℕ) → q < cells_of d → r < h → strip_at w h q r < 8000
@@ -148,27 +148,27 @@ module _ (law : KeepsBounds) (c : CardState) (d : BiosData) (t : IsPacked c d) (
   abbrev AreDrawn : FontSet → ℕ → ℕ → ℕ → ℕ → (ℕ → ℕ) → (ℕ → ℕ) → Type 0
   AreDrawn fonts q n character colour f = Edited ℕ (Places n) (λ x. place (q + x.turn) x.place.turn x.place.place.turn) (λ x v. dot_of (glyph_line fonts h character x.place.turn) colour x.place.place.turn) f
 
-  characters : (fonts : FontSet) (q n character : ℕ) (ink : Ink) → q + n ≤ cells_of d → ink.colour < 256
-      → Leaves CardState ℕ (IsFlat rest) (run card_meaning (characters_plan fonts d 0 q character ink n) c).0 (AreDrawn fonts q n character ink.colour (packed_pixel c.host.memory))
+  characters : (fonts : FontSet) (q n character : ℕ) (colouring : Colouring) → q + n ≤ cells_of d → colouring.colour < 256
+      → Leaves CardState ℕ (IsFlat rest) (run card_meaning (characters_plan fonts d 0 q character colouring n) c).0 (AreDrawn fonts q n character colouring.colour (packed_pixel c.host.memory))
   unfolding characters_plan
-  characters fonts q n character ink lq lc =
+  characters fonts q n character colouring lq lc =
       let g = glyph_line fonts h character in
-      edits CardState ℕ card_meaning (λ i. character_plan fonts d 0 (q + i) character ink) (λ _. IsFlat rest) 0 n (λ _. Lines) (λ i x. place (q + i) x.turn x.place.turn) (λ i x v. dot_of (g x.turn) ink.colour x.place.turn)
+      edits CardState ℕ card_meaning (λ i. character_plan fonts d 0 (q + i) character colouring) (λ _. IsFlat rest) 0 n (λ _. Lines) (λ i x. place (q + i) x.turn x.place.turn) (λ i x v. dot_of (g x.turn) colouring.colour x.place.turn)
       (λ i j x k lb lo hi same. let one = (apart (q + i) (q + j) x.turn k.turn x.place.turn k.place.turn x.before k.before x.place.before k.place.before same).0 in absurd (omega arith))
-      (λ i u f lb l v. subst (λ plan. Leaves CardState ℕ (IsFlat rest) (run card_meaning plan u).0 (Edited ℕ Lines (λ x. place (q + i) x.turn x.place.turn) (λ x v. dot_of (g x.turn) ink.colour x.place.turn) f))
-      (sym (character_is fonts (q + i) character ink)) (glyph_drawn (q + i) ink.colour g u f (omega arith) lc v))
+      (λ i u f lb l v. subst (λ plan. Leaves CardState ℕ (IsFlat rest) (run card_meaning plan u).0 (Edited ℕ Lines (λ x. place (q + i) x.turn x.place.turn) (λ x v. dot_of (g x.turn) colouring.colour x.place.turn) f))
+      (sym (character_is fonts (q + i) character colouring)) (glyph_drawn (q + i) colouring.colour g u f (omega arith) lc v))
       n 0 c (packed_pixel c.host.memory) (omega arith) (omega arith) (screens.begins c d t e z)
 
   -- what a dot makes of a pixel, in 256 colours
   dot_is : (colour : ℕ) (is_dot : Bool) (x : ℕ) → (if is_dot then colour else 0) ≡ glyph_pixel d.mode colour is_dot x
   dot_is colour is_dot x = sym (ap (λ i. glyph_pixel i colour is_dot x) t.number)
 
-  first_page_shown : (fonts : FontSet) (q n character : ℕ) (ink : Ink) → q + n ≤ cells_of d → ink.colour < 256 → shown (run card_meaning (characters_plan fonts d 0 q character ink n) c).0 d ≡ Some (with_pixels s 0 (draw_characters fonts s q n character ink.colour))
-  first_page_shown fonts q n character ink lq lc =
-      let after = characters fonts q n character ink lq lc in
+  first_page_shown : (fonts : FontSet) (q n character : ℕ) (colouring : Colouring) → q + n ≤ cells_of d → colouring.colour < 256 → shown (run card_meaning (characters_plan fonts d 0 q character colouring n) c).0 d ≡ Some (with_pixels s 0 (draw_characters fonts s q n character colouring.colour))
+  first_page_shown fonts q n character colouring lq lc =
+      let after = characters fonts q n character colouring lq lc in
       let f = after.cells in
       let g = glyph_line fonts h character in
-      screens.page_redrawn c d t e z (run card_meaning (characters_plan fonts d 0 q character ink n) c).0 f (draw_characters fonts s q n character ink.colour) after.shown
+      screens.page_redrawn c d t e z (run card_meaning (characters_plan fonts d 0 q character colouring n) c).0 f (draw_characters fonts s q n character colouring.colour) after.shown
       (λ k lk.
       let b = k / 8 in
       let j = k % 8 in
@@ -177,9 +177,9 @@ module _ (law : KeepsBounds) (c : CardState) (d : BiosData) (t : IsPacked c d) (
       let line = line_of w h b in
       let cell_is : pixel_cell s k ≡ cell = pixel_cell_is w h k wide in
       let line_is : pixel_line s k ≡ line = pixel_line_is w h k wide in
-      let stays : (nat_le q (pixel_cell s k) && nat_lt (pixel_cell s k) (q + n)) ≡ false → ((x : Places n) → k ≢ place (q + x.turn) x.place.turn x.place.place.turn) → f k ≡ draw_characters fonts s q n character ink.colour (pixel_of s 0) k = λ test o.
+      let stays : (nat_le q (pixel_cell s k) && nat_lt (pixel_cell s k) (q + n)) ≡ false → ((x : Places n) → k ≢ place (q + x.turn) x.place.turn x.place.place.turn) → f k ≡ draw_characters fonts s q n character colouring.colour (pixel_of s 0) k = λ test o.
       after.fact.outside k o ∙ sym (screens.pixel_is c d t e z k lk)
-      ∙ sym (ap (λ v. if v then glyph_pixel d.mode ink.colour (is_set (g (pixel_line s k)) (7 - j)) (pixel_of s 0 k) else pixel_of s 0 k) test) in
+      ∙ sym (ap (λ v. if v then glyph_pixel d.mode colouring.colour (is_set (g (pixel_line s k)) (7 - j)) (pixel_of s 0 k) else pixel_of s 0 k) test) in
       let other : (x : Places n) → k ≡ place (q + x.turn) x.place.turn x.place.place.turn → cell ≡ q + x.turn = λ x y.
       let l = x.place.place.before in
       let same : b ≡ strip_at w h (q + x.turn) x.place.turn = omega arith in
@@ -194,18 +194,18 @@ module _ (law : KeepsBounds) (c : CardState) (d : BiosData) (t : IsPacked c d) (
       let at : place (q + u) line j ≡ k = ap (λ v. 8 * strip_at w h v line + j) cell_u ∙ ap (λ v. 8 * v + j) (strip_of_cell w h b wide high) ∙ whole in
       ap f (sym at)
       ∙ after.fact.inside x
-      ∙ dot_is ink.colour (is_set (g line) (7 - j)) (pixel_of s 0 k)
-      ∙ ap (λ v. glyph_pixel d.mode ink.colour (is_set (g v) (7 - j)) (pixel_of s 0 k)) (sym line_is)
-      ∙ sym (ap (λ v. if v then glyph_pixel d.mode ink.colour (is_set (g (pixel_line s k)) (7 - j)) (pixel_of s 0 k) else pixel_of s 0 k) (inside_test q (pixel_cell s k) n lo hi)))
+      ∙ dot_is colouring.colour (is_set (g line) (7 - j)) (pixel_of s 0 k)
+      ∙ ap (λ v. glyph_pixel d.mode colouring.colour (is_set (g v) (7 - j)) (pixel_of s 0 k)) (sym line_is)
+      ∙ sym (ap (λ v. if v then glyph_pixel d.mode colouring.colour (is_set (g (pixel_line s k)) (7 - j)) (pixel_of s 0 k) else pixel_of s 0 k) (inside_test q (pixel_cell s k) n lo hi)))
       (λ (hi : q + n ≤ pixel_cell s k). stays (behind_test q (pixel_cell s k) n hi) (λ x y. let v = other x y in let l = x.before in absurd (omega arith)))
       (cases_lt (pixel_cell s k) (q + n)))
       (cases_lt (pixel_cell s k) q))
 
   -- there is no other page
-  pub characters_shown : (fonts : FontSet) (p q n character : ℕ) (ink : Ink) → p < bytes_320_by_200.pages → q + n ≤ cells_of d → ink.colour < 256 → shown (run card_meaning (characters_plan fonts d p q character ink n) c).0 d ≡ Some (with_pixels s p (draw_characters fonts s q n character ink.colour))
-  characters_shown fonts p q n character ink lp lq lc =
+  pub characters_shown : (fonts : FontSet) (p q n character : ℕ) (colouring : Colouring) → p < bytes_320_by_200.pages → q + n ≤ cells_of d → colouring.colour < 256 → shown (run card_meaning (characters_plan fonts d p q character colouring n) c).0 d ≡ Some (with_pixels s p (draw_characters fonts s q n character colouring.colour))
+  characters_shown fonts p q n character colouring lp lq lc =
       let first : 0 ≡ p = omega arith in
-      subst (λ i. shown (run card_meaning (characters_plan fonts d i q character ink n) c).0 d ≡ Some (with_pixels s i (draw_characters fonts s q n character ink.colour))) first (first_page_shown fonts q n character ink lq lc)
+      subst (λ i. shown (run card_meaning (characters_plan fonts d i q character colouring n) c).0 d ≡ Some (with_pixels s i (draw_characters fonts s q n character colouring.colour))) first (first_page_shown fonts q n character colouring lq lc)
 
-  pub write_cells : (cells : CellRun) (fonts : FontSet) (r : Regs) (block : List ℕ) → cells.ink.colour < 256 → IsServed (WriteCells cells) fonts r block c d s
-  write_cells cells fonts r block lc = writes.write_cells bytes_320_by_200 c d e cells fonts r block (λ p q lp lq. characters_shown fonts p q cells.count cells.character cells.ink lp lq lc)
+  pub write_cells : (cells : CellRun) (fonts : FontSet) (r : Regs) (block : List ℕ) → cells.colouring.colour < 256 → IsServed (WriteCells cells) fonts r block c d s
+  write_cells cells fonts r block lc = writes.write_cells bytes_320_by_200 c d e cells fonts r block (λ p q lp lq. characters_shown fonts p q cells.count cells.character cells.colouring lp lq lc)

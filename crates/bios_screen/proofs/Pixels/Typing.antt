@@ -40,9 +40,9 @@ module _ (law : KeepsBounds) (fonts : FontSet) (d : BiosData) (p : ℕ) (lp : p 
 
   pub can_type : CanType fonts d p
   can_type = record {
-    put = λ c s place v ink z e i lv la. by_colours c d (λ w. shown (run card_meaning (character_plan fonts d p (cell_number d place) v ink) c).0 d ≡ Some (put_character fonts w p place v ink))
-        (λ m is row. planar.put law m c d is row z p (page_in d (row_of m) p row lp) fonts place v ink i.row i.column lv la)
-        (λ is row. packed.put law c d is row z p (page_in d bytes_320_by_200 p row lp) fonts place v ink i.row i.column lv la)
+    put = λ c s place v colouring z e i lv la. by_colours c d (λ w. shown (run card_meaning (character_plan fonts d p (cell_number d place) v colouring) c).0 d ≡ Some (put_character fonts w p place v colouring))
+        (λ m is row. planar.put law m c d is row z p (page_in d (row_of m) p row lp) fonts place v colouring i.row i.column lv la)
+        (λ is row. packed.put law c d is row z p (page_in d bytes_320_by_200 p row lp) fonts place v colouring i.row i.column lv la)
         s t e;
     rise = λ c s place z e lc. by_colours c d (λ w. Leads (rise_plan d p place) c d (risen w p place, place))
         (λ m is row. rises c (row_of m) place (planar.raised law m c d is row z p (page_in d (row_of m) p row lp)))

@@ -49,8 +49,8 @@ dot_plan b address k v = do
   graphics 8 0xFF
 
 -- what a colour makes of one of sixteen
-abbrev ink : Bool → ℕ → ℕ → ℕ
-ink b v old = if b then bit_xor old (v % 16) else v % 16
+abbrev colouring : Bool → ℕ → ℕ → ℕ
+colouring b v old = if b then bit_xor old (v % 16) else v % 16
 
 -- one cell is drawn anew, in which one pixel changes
 record IsDotted (rest : CardState) (e d a k : ℕ) (change : ℕ → ℕ) (y : CardState) (f : ℕ → Four ℕ) : Type 0 where
@@ -58,7 +58,7 @@ record IsDotted (rest : CardState) (e d a k : ℕ) (change : ℕ → ℕ) (y : C
   still : Loaded rest e d at_rest y (set_cell f a new) (f a)
   pixel : (i : ℕ) → i < 8 → nibble_of new i ≡ (if i == k then change (nibble_of (f a) i) else nibble_of (f a) i)
 
-dot_drawn : (law : KeepsBounds) (rest : CardState) (e d a k v : ℕ) (b : Bool) (q : Four ℕ) (c : CardState) (f : ℕ → Four ℕ) → is_set e 1 ≡ true → a < 65536 → k < 8 → Loaded rest e d at_rest c f q → IsDotted rest e d a k (ink b v) (run card_meaning (dot_plan b (0xA0000 + a) k v) c).0 f
+dot_drawn : (law : KeepsBounds) (rest : CardState) (e d a k v : ℕ) (b : Bool) (q : Four ℕ) (c : CardState) (f : ℕ → Four ℕ) → is_set e 1 ≡ true → a < 65536 → k < 8 → Loaded rest e d at_rest c f q → IsDotted rest e d a k (colouring b v) (run card_meaning (dot_plan b (0xA0000 + a) k v) c).0 f
 dot_drawn law rest e d a k v false q c f on la lk t =
     let bits = 0x80 / 2 ^ k in
     let h1 : Hand = record at_rest { bits = bits } in
@@ -122,12 +122,12 @@ module _ (law : KeepsBounds) (m : Planes) (c : CardState) (d : BiosData) (t : Is
   old = bytes_at c.host.memory
 
   -- the byte of each plane, where one of its pixels changes
-  dot_shown : (p n v : ℕ) (b : Bool) (y : CardState) → p < (row_of m).pages → n < page_pixels d → IsDotted (without_drawing c) (row_of m).misc (slice_index (row_of m).sequencer 1) (d.size * p + n / 8) (n % 8) (ink b v) y old → shown y d ≡ Some (with_pixels s p (change_pixel n (ink b v)))
+  dot_shown : (p n v : ℕ) (b : Bool) (y : CardState) → p < (row_of m).pages → n < page_pixels d → IsDotted (without_drawing c) (row_of m).misc (slice_index (row_of m).sequencer 1) (d.size * p + n / 8) (n % 8) (colouring b v) y old → shown y d ≡ Some (with_pixels s p (change_pixel n (colouring b v)))
   dot_shown p n v b y lp ln h =
       let a = d.size * p + n / 8 in
       let f = set_cell old a h.new in
       let room = screens.room m c d t e z n ln in
-      screens.page_redrawn m c d t e z p y f (old a) (change_pixel n (ink b v)) lp h.still
+      screens.page_redrawn m c d t e z p y f (old a) (change_pixel n (colouring b v)) lp h.still
       (λ k lk.
       let was = screens.pixel_is m c d t e z p k lp lk in
       ⊎_elim
@@ -135,12 +135,12 @@ module _ (law : KeepsBounds) (m : Planes) (c : CardState) (d : BiosData) (t : Is
       let at : d.size * p + k / 8 ≡ a = ap (λ i. d.size * p + i) w in
       ap (λ (x : Four ℕ). nibble_of x (k % 8)) (set_same old a h.new (d.size * p + k / 8) at)
       ∙ h.pixel (k % 8) (omega arith)
-      ∙ ap (λ i. if i then ink b v (nibble_of (old a) (k % 8)) else nibble_of (old a) (k % 8)) (one_test k n w)
-      ∙ ap (λ i. if k == n then ink b v i else i) (ap (λ i. nibble_of (old i) (k % 8)) (sym at) ∙ sym was))
+      ∙ ap (λ i. if i then colouring b v (nibble_of (old a) (k % 8)) else nibble_of (old a) (k % 8)) (one_test k n w)
+      ∙ ap (λ i. if k == n then colouring b v i else i) (ap (λ i. nibble_of (old i) (k % 8)) (sym at) ∙ sym was))
       (λ (w : k / 8 ≢ n / 8).
       ap (λ (x : Four ℕ). nibble_of x (k % 8)) (set_other old a h.new (d.size * p + k / 8) (λ u. w (omega arith)))
       ∙ sym was
-      ∙ sym (ap (λ i. if i then ink b v (pixel_of s p k) else pixel_of s p k) (no_test k n w)))
+      ∙ sym (ap (λ i. if i then colouring b v (pixel_of s p k) else pixel_of s p k) (no_test k n w)))
       (cases_eq (k / 8) (n / 8)))
       (λ o out. set_other old a h.new o (λ u. ⊎_elim (λ (w : o < d.size * p). absurd (omega arith)) (λ (w : d.size * p + d.size ≤ o). absurd (omega arith)) out))
 
@@ -152,8 +152,8 @@ module _ (law : KeepsBounds) (m : Planes) (c : CardState) (d : BiosData) (t : Is
       ∙ plan_is (0xA0000 + (d.size * p + pixel_number s x y / 8)) x v
 
   -- the colour by the mode
-  ink_is : (v : ℕ) → ink (is_set v 7) v ≡ colour_over d.mode v
-  ink_is v = sym (ap (λ i o. let x : ℕ = if i then v else ink (is_set v 7) v o in x) (ap is_packed t.number ∙ packed_by m))
+  colouring_is : (v : ℕ) → colouring (is_set v 7) v ≡ colour_over d.mode v
+  colouring_is v = sym (ap (λ i o. let x : ℕ = if i then v else colouring (is_set v 7) v o in x) (ap is_packed t.number ∙ packed_by m))
 
   pub write_pixel : (page x y v : ℕ) (fonts : FontSet) (r : Regs) (block : List ℕ) → IsServed (WritePixel page x y v) fonts r block c d s
   write_pixel page x y v fonts r block = services.write_pixel (row_of m) c d e page x y v fonts r block (λ p h.
@@ -164,5 +164,5 @@ module _ (law : KeepsBounds) (m : Planes) (c : CardState) (d : BiosData) (t : Is
       let drawn = dot_drawn law (without_drawing c) misc clocking (d.size * p + n / 8) (x % 8) v (is_set v 7) c.host.latches c old (reads.enabled_by m) (reads.offset_small m c d t e z p x y h) (omega arith) (screens.begins m c d t e z) in
       ap (λ i. shown (run card_meaning i c).0 d) (write_is p x y v)
       ∙ dot_shown p n v (is_set v 7) (run card_meaning plan c).0 h.page (number_within (row_of m) d p x y h)
-      (subst (λ k. IsDotted (without_drawing c) misc clocking (d.size * p + n / 8) k (ink (is_set v 7) v) (run card_meaning plan c).0 old) (reads.rest_of_8 d.columns y x) drawn)
-      ∙ ap (λ i. Some (with_pixels s p (change_pixel n i))) (ink_is v))
+      (subst (λ k. IsDotted (without_drawing c) misc clocking (d.size * p + n / 8) k (colouring (is_set v 7) v) (run card_meaning plan c).0 old) (reads.rest_of_8 d.columns y x) drawn)
+      ∙ ap (λ i. Some (with_pixels s p (change_pixel n i))) (colouring_is v))

@@ -135,8 +135,8 @@ module _ (law : KeepsBounds) (m : Planes) (c : CardState) (d : BiosData) (t : Is
       let l = (screens.strip_small m c d t e z b (within_rows w h rows b wide high (pixel_windows.inside_rows (row_of m) c d scroll (b / w / h) i.above i.below))).1 in
       ⊎_elim (λ (a : o < d.size * p). absurd (omega arith)) (λ (a : d.size * p + d.size ≤ o). absurd (omega arith)) out
 
-  -- a pixel that was painted over
-  filled : (j : ℕ) (x : Four ℕ) → j < 8 → shifts.IsPainted (Four ℕ) w h start scroll.left width scroll.top height wide high window.across Fill x → nibble_of x j ≡ fill_pixel d.mode scroll.fill
+  -- a pixel that was filled over
+  filled : (j : ℕ) (x : Four ℕ) → j < 8 → shifts.IsFilled (Four ℕ) w h start scroll.left width scroll.top height wide high window.across Fill x → nibble_of x j ≡ fill_pixel d.mode scroll.fill
   filled j x lj is =
       let mask = scroll.fill % 16 in
       ap (λ (v : Four ℕ). nibble_of v j) is.is
@@ -185,7 +185,7 @@ module _ (law : KeepsBounds) (m : Planes) (c : CardState) (d : BiosData) (t : Is
           ∙ ap (λ x. if x then pixel_of s p far else fill_pixel d.mode scroll.fill) (sym (lt_test (pixel_row s k + n) (scroll.top + height) l))
           ∙ tests)
           (λ (l : scroll.top + height ≤ pixel_row s k + n).
-          filled (k % 8) (f (d.size * p + b)) (omega arith) (up.painted b i (omega arith))
+          filled (k % 8) (f (d.size * p + b)) (omega arith) (up.filled b i (omega arith))
           ∙ ap (λ x. if x then pixel_of s p (k + row_pixels s n) else fill_pixel d.mode scroll.fill) (sym (not_lt (pixel_row s k + n) (scroll.top + height) l))
           ∙ tests)
           (cases_lt (pixel_row s k + n) (scroll.top + height))
@@ -212,7 +212,7 @@ module _ (law : KeepsBounds) (m : Planes) (c : CardState) (d : BiosData) (t : Is
           let tests = sym (ap (λ b. if b then (if nat_le (scroll.top + n) (pixel_row s k) then pixel_of s p (k - row_pixels s n) else fill_pixel d.mode scroll.fill) else pixel_of s p k) test) in
           ⊎_elim
           (λ (l : pixel_row s k < scroll.top + n).
-          filled (k % 8) (f (d.size * p + b)) (omega arith) (down.painted b i (omega arith))
+          filled (k % 8) (f (d.size * p + b)) (omega arith) (down.filled b i (omega arith))
           ∙ ap (λ x. if x then pixel_of s p (k - row_pixels s n) else fill_pixel d.mode scroll.fill) (sym (not_le (scroll.top + n) (pixel_row s k) l))
           ∙ tests)
           (λ (l : scroll.top + n ≤ pixel_row s k).

@@ -11,7 +11,7 @@ use Rattle.vga_card.specs.Bus.{card_meaning}
 use Rattle.vga_card.specs.Card.{CardState}
 use Rattle.bios_services.specs.declared.band.Band.{Band}
 use Rattle.bios_modes.specs.declared.kind.Kind.TheVariants.{Planar}
-use Rattle.bios_services.specs.Bands.{paint_byte, plain, paint_rows, raise_rows, lower_rows, fill_plan, up_plan, down_plan}
+use Rattle.bios_services.specs.Bands.{filling_byte, plain, fill_rows, raise_rows, lower_rows, fill_plan, up_plan, down_plan}
 use Rattle.bios_services.specs.Cycles.{sequencer, graphics}
 use Rattle.bios_services.specs.Plan.{Plan, run, put, get, move, ◌>>◌}
 use Rattle.bios_screen.proofs.Base.Flat.{Edited, Moved, Turn, Leaves, set_cell}
@@ -61,8 +61,8 @@ cell_put law rest e d mask on at j v c f ea lj lv t =
     subst (λ x. Drawn rest e d (planes_of mask) (run card_meaning (put x v) c).0 (set_cell f j (masked mask v (f j)))) (sym ea)
     (record { latches = t.latches; is = subst (λ x. Loaded rest e d (planes_of mask) (run card_meaning (put (0xA0000 + j) v) c).0 (set_cell f j x) t.latches) (plainly e d v mask t.latches (f j)) (put_draws law rest e d j v (planes_of mask) t.latches c f on t.is lj) })
 
-pub painted_plain : (v i : ℕ) → paint_byte (plain v) i ≡ v
-painted_plain v i = by_test (i % 2 == 0)
+pub filled_plain : (v i : ℕ) → filling_byte (plain v) i ≡ v
+filled_plain v i = by_test (i % 2 == 0)
   where
     by_test : (b : Bool) → (let x : ℕ = (if b then v else v) in x) ≡ v
     by_test true = refl
@@ -83,35 +83,35 @@ module _ (law : KeepsBounds) (rest : CardState) (e d : ℕ) (on : is_set e 1 ≡
   record IsShifted (P : (ℕ → Four ℕ) → Type 0) (mask first n : ℕ) (g : ℕ → Four ℕ) : Type 0 where
     mid : ℕ → Four ℕ
     moved : P mid
-    edited : Edited (Four ℕ) (Rows first (first + n)) (λ x. place x.turn x.place.turn x.place.place.turn) (λ x q. masked mask (paint_byte (plain 0xFF) x.place.place.turn) (masked 0x0F (paint_byte (plain 0x00) x.place.place.turn) q)) mid g
+    edited : Edited (Four ℕ) (Rows first (first + n)) (λ x. place x.turn x.place.turn x.place.place.turn) (λ x q. masked mask (filling_byte (plain 0xFF) x.place.place.turn) (masked 0x0F (filling_byte (plain 0x00) x.place.place.turn) q)) mid g
 
   abbrev shift_plan : Plan (Unit {0}) → ℕ → ℕ → ℕ → Plan (Unit {0})
   shift_plan moving first n mask = do
     graphics 5 0x01
     moving
     graphics 5 0x00
-    paint_rows band (plain 0x00) first n
+    fill_rows band (plain 0x00) first n
     sequencer 2 mask
-    paint_rows band (plain 0xFF) first n
+    fill_rows band (plain 0xFF) first n
     sequencer 2 0x0F
 
   shifted : (P : (ℕ → Four ℕ) → Type 0) (moving : Plan (Unit {0})) (first n mask : ℕ) (c : CardState) (f : ℕ → Four ℕ) → mask < 16 → top ≤ first → first + n ≤ top + height
       → ((y : CardState) → Drawn rest e d copying y f → Leaves CardState (Four ℕ) (Drawn rest e d copying) (run card_meaning moving y).0 P)
       → Drawn rest e d at_rest c f → Leaves CardState (Four ℕ) (Drawn rest e d at_rest) (run card_meaning (shift_plan moving first n mask) c).0 (IsShifted P mask first n)
   shifted P moving first n mask c f lm low fits moves t =
-      let p2 = paint_rows band (plain 0x00) first n in
-      let p3 = paint_rows band (plain 0xFF) first n in
+      let p2 = fill_rows band (plain 0x00) first n in
+      let p3 = fill_rows band (plain 0xFF) first n in
       let c1 = (run card_meaning (graphics 5 0x01) c).0 in
       let t1 : Drawn rest e d copying c1 f = record { latches = t.latches; is = mode_set law rest e d 0x01 at_rest t.latches c f refl refl t.is } in
       let m1 = moves c1 t1 in
       let c2 = (run card_meaning moving c1).0 in
       let c3 = (run card_meaning (graphics 5 0x00) c2).0 in
       let t3 : Drawn rest e d (planes_of 0x0F) c3 m1.cells = record { latches = m1.shown.latches; is = mode_set law rest e d 0x00 copying m1.shown.latches c2 m1.cells refl refl m1.shown.is } in
-      let m2 = bands.rows_painted CardState (Four ℕ) card_meaning 0xA0000 65536 band start rows top height window (Drawn rest e d (planes_of 0x0F)) (masked 0x0F) (cell_put law rest e d 0x0F on) (plain 0x00) (omega arith) (omega arith) first n c3 m1.cells low fits t3 in
+      let m2 = bands.rows_filled CardState (Four ℕ) card_meaning 0xA0000 65536 band start rows top height window (Drawn rest e d (planes_of 0x0F)) (masked 0x0F) (cell_put law rest e d 0x0F on) (plain 0x00) (omega arith) (omega arith) first n c3 m1.cells low fits t3 in
       let c4 = (run card_meaning p2 c3).0 in
       let c5 = (run card_meaning (sequencer 2 mask) c4).0 in
       let t5 : Drawn rest e d (planes_of mask) c5 m2.cells = record { latches = m2.shown.latches; is = mask_set law rest e d mask (planes_of 0x0F) m2.shown.latches c4 m2.cells lm m2.shown.is } in
-      let m3 = bands.rows_painted CardState (Four ℕ) card_meaning 0xA0000 65536 band start rows top height window (Drawn rest e d (planes_of mask)) (masked mask) (cell_put law rest e d mask on) (plain 0xFF) (omega arith) (omega arith) first n c5 m2.cells low fits t5 in
+      let m3 = bands.rows_filled CardState (Four ℕ) card_meaning 0xA0000 65536 band start rows top height window (Drawn rest e d (planes_of mask)) (masked mask) (cell_put law rest e d mask on) (plain 0xFF) (omega arith) (omega arith) first n c5 m2.cells low fits t5 in
       let c6 = (run card_meaning p3 c5).0 in
       let all : Leaves CardState (Four ℕ) (Drawn rest e d at_rest) (run card_meaning (sequencer 2 0x0F) c6).0 (IsShifted P mask first n) = record {
         cells = m3.cells;
@@ -119,7 +119,7 @@ module _ (law : KeepsBounds) (rest : CardState) (e d : ℕ) (on : is_set e 1 ≡
         fact = record {
           mid = m1.cells;
           moved = m1.fact;
-          edited = edited_twice (λ (x : Rows first (first + n)). place x.turn x.place.turn x.place.place.turn) (λ x q. masked 0x0F (paint_byte (plain 0x00) x.place.place.turn) q) (λ x q. masked mask (paint_byte (plain 0xFF) x.place.place.turn) q) m1.cells m2.cells m3.cells m2.fact m3.fact;
+          edited = edited_twice (λ (x : Rows first (first + n)). place x.turn x.place.turn x.place.place.turn) (λ x q. masked 0x0F (filling_byte (plain 0x00) x.place.place.turn) q) (λ x q. masked mask (filling_byte (plain 0xFF) x.place.place.turn) q) m1.cells m2.cells m3.cells m2.fact m3.fact;
         };
       } in
       let e1 = run_bind card_meaning moving (λ _. graphics 5 0x00 >> (p2 >> (sequencer 2 mask >> (p3 >> sequencer 2 0x0F)))) c1 in
@@ -128,8 +128,8 @@ module _ (law : KeepsBounds) (rest : CardState) (e d : ℕ) (on : is_set e 1 ≡
       subst (λ r. Leaves CardState (Four ℕ) (Drawn rest e d at_rest) r.0 (IsShifted P mask first n)) (sym (e1 ∙ e2 ∙ e3)) all
 
   -- the colour as four bytes
-  paint_is : (mask i : ℕ) (q : Four ℕ) → masked mask (paint_byte (plain 0xFF) i) (masked 0x0F (paint_byte (plain 0x00) i) q) ≡ lined false mask 0xFF q
-  paint_is mask i q = ap (λ v. masked mask v (masked 0x0F (paint_byte (plain 0x00) i) q)) (painted_plain 0xFF i) ∙ ap (λ v. masked mask 0xFF (masked 0x0F v q)) (painted_plain 0x00 i)
+  filling_is : (mask i : ℕ) (q : Four ℕ) → masked mask (filling_byte (plain 0xFF) i) (masked 0x0F (filling_byte (plain 0x00) i) q) ≡ lined false mask 0xFF q
+  filling_is mask i q = ap (λ v. masked mask v (masked 0x0F (filling_byte (plain 0x00) i) q)) (filled_plain 0xFF i) ∙ ap (λ v. masked mask 0xFF (masked 0x0F v q)) (filled_plain 0x00 i)
 
   pub went_up : (n colour : ℕ) (c : CardState) (f : ℕ → Four ℕ) → n ≤ height → (0 < height → 0 < n) → Drawn rest e d at_rest c f
       → Leaves CardState (Four ℕ) (Drawn rest e d at_rest) (run card_meaning (up_plan band top height n colour) c).0 (shifts.GoneUp (Four ℕ) w h start left width top height wide high window.across n (lined false (colour % 16) 0xFF) f)
@@ -141,7 +141,7 @@ module _ (law : KeepsBounds) (rest : CardState) (e d : ℕ) (on : is_set e 1 ≡
       record {
         cells = x.cells;
         shown = x.shown;
-        fact = shifts.gone_up (Four ℕ) w h start left width top height wide high window.across n few (lined false (colour % 16) 0xFF) (λ x q. masked (colour % 16) (paint_byte (plain 0xFF) x.place.place.turn) (masked 0x0F (paint_byte (plain 0x00) x.place.place.turn) q)) (λ x q. paint_is (colour % 16) x.place.place.turn q) f x.fact.mid x.cells x.fact.moved x.fact.edited;
+        fact = shifts.gone_up (Four ℕ) w h start left width top height wide high window.across n few (lined false (colour % 16) 0xFF) (λ x q. masked (colour % 16) (filling_byte (plain 0xFF) x.place.place.turn) (masked 0x0F (filling_byte (plain 0x00) x.place.place.turn) q)) (λ x q. filling_is (colour % 16) x.place.place.turn q) f x.fact.mid x.cells x.fact.moved x.fact.edited;
       }
 
   pub went_down : (n colour : ℕ) (c : CardState) (f : ℕ → Four ℕ) → n ≤ height → (0 < height → 0 < n) → Drawn rest e d at_rest c f
@@ -154,5 +154,5 @@ module _ (law : KeepsBounds) (rest : CardState) (e d : ℕ) (on : is_set e 1 ≡
       record {
         cells = x.cells;
         shown = x.shown;
-        fact = shifts.gone_down (Four ℕ) w h start left width top height wide high window.across n few (lined false (colour % 16) 0xFF) (λ x q. masked (colour % 16) (paint_byte (plain 0xFF) x.place.place.turn) (masked 0x0F (paint_byte (plain 0x00) x.place.place.turn) q)) (λ x q. paint_is (colour % 16) x.place.place.turn q) f x.fact.mid x.cells x.fact.moved x.fact.edited;
+        fact = shifts.gone_down (Four ℕ) w h start left width top height wide high window.across n few (lined false (colour % 16) 0xFF) (λ x q. masked (colour % 16) (filling_byte (plain 0xFF) x.place.place.turn) (masked 0x0F (filling_byte (plain 0x00) x.place.place.turn) q)) (λ x q. filling_is (colour % 16) x.place.place.turn q) f x.fact.mid x.cells x.fact.moved x.fact.edited;
       }

@@ -109,7 +109,7 @@ select_page page = serves_both (SelectPage page) (λ fonts r block c d h bda. cu
 pub read_cell : KeepsBounds → (page : ℕ) → Serves (ReadCell page)
 read_cell law page = serves_each (ReadCell page) (λ fonts r block c d h z. writes.read_cell page fonts r block c d h z) (λ m fonts r block c d t e z. planar_cells.read_cell law m c d t e z page fonts r block) (λ fonts r block c d t e z. packed_cells.read_cell law c d t e z page fonts r block)
 
-pub write_cells : KeepsBounds → (cells : CellRun) → cells.character < 256 → cells.ink.colour < 256 → Serves (WriteCells cells)
+pub write_cells : KeepsBounds → (cells : CellRun) → cells.character < 256 → cells.colouring.colour < 256 → Serves (WriteCells cells)
 write_cells law cells lv la = serves_each (WriteCells cells) (λ fonts r block c d h z. writes.write_cells cells fonts r block c d h z lv la) (λ m fonts r block c d t e z. planar_writes.write_cells law m c d t e z cells fonts r block) (λ fonts r block c d t e z. packed_writes.write_cells law c d t e z cells fonts r block la)
 
 pub scroll_up : KeepsBounds → (window : Scroll) → window.fill < 256 → Serves (ScrollUp window)

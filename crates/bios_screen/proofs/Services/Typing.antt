@@ -8,7 +8,7 @@ use Rattle.bios_modes.specs.declared.modes.ModeRow.{ModeRow}
 use Rattle.bios_modes.specs.Heights.{row_at}
 use Rattle.bios_modes.specs.Bda.{BiosData}
 use Rattle.bios_modes.specs.Fonts.{FontSet}
-use Rattle.bios_services.specs.declared.ink.Ink.{Ink}
+use Rattle.bios_services.specs.declared.colouring.Colouring.{Colouring}
 use Rattle.bios_services.specs.Bounds.{pages_in, pages_of}
 use Rattle.bios_services.specs.Plan.{Plan, run, Done, ◌>>=◌, ◌>>◌}
 use Rattle.bios_services.specs.Bands.{band_of, up_plan}
@@ -93,8 +93,8 @@ rise_plan d p place = line_feed_fill d p place >>= λ colour. (up_plan (band_of 
 
 -- in every mode a character is put at a place of a page, and the page goes up by a row
 pub record CanType (fonts : FontSet) (d : BiosData) (p : ℕ) : Type 0 where
-  pub put : (c : CardState) (s : Screen) (place v : ℕ) (ink : Ink) → IsCard c → shown c d ≡ Some s → Inside (d.last_row + 1) d.columns place → v < 256 → ink.colour < 256
-      → shown (run card_meaning (character_plan fonts d p (cell_number d place) v ink) c).0 d ≡ Some (put_character fonts s p place v ink)
+  pub put : (c : CardState) (s : Screen) (place v : ℕ) (colouring : Colouring) → IsCard c → shown c d ≡ Some s → Inside (d.last_row + 1) d.columns place → v < 256 → colouring.colour < 256
+      → shown (run card_meaning (character_plan fonts d p (cell_number d place) v colouring) c).0 d ≡ Some (put_character fonts s p place v colouring)
   pub rise : (c : CardState) (s : Screen) (place : ℕ) → IsCard c → shown c d ≡ Some s → column_of place < d.columns → Leads (rise_plan d p place) c d (risen s p place, place)
 
 -- ---- typing
@@ -118,16 +118,16 @@ module _ (law : KeepsBounds) (fonts : FontSet) (d : BiosData) (p : ℕ) (can : C
       (leads_if (nat_lt (column_of place + 1) d.columns) (Done (place + 1)) (line_feed_plan d p place >>= start) c d (s, place + 1) next (record { answer = refl; shows = e })
       (leads_on (line_feed_plan d p place) start c d (line_feed s p place) next below (record { answer = refl; shows = below.shows })))
 
-  module _ (c : CardState) (s : Screen) (place v : ℕ) (ink : Ink) (z : IsCard c) (e : shown c d ≡ Some s) (i : Inside (d.last_row + 1) d.columns place) (lv : v < 256) (la : ink.colour < 256) where
-    shows : Leads (show_plan fonts d p place v ink) c d (cursor_advance (put_character fonts s p place v ink) p place)
+  module _ (c : CardState) (s : Screen) (place v : ℕ) (colouring : Colouring) (z : IsCard c) (e : shown c d ≡ Some s) (i : Inside (d.last_row + 1) d.columns place) (lv : v < 256) (la : colouring.colour < 256) where
+    shows : Leads (show_plan fonts d p place v colouring) c d (cursor_advance (put_character fonts s p place v colouring) p place)
     unfolding show_plan
     shows =
-        let write = character_plan fonts d p (cell_number d place) v ink in
-        leads_after write (cursor_advance_plan d p place) c d (cursor_advance (put_character fonts s p place v ink) p place)
-        (advances (run card_meaning write c).0 (put_character fonts s p place v ink) place (plan_bounds law write c z) (can.put c s place v ink z e i lv la) i.column)
+        let write = character_plan fonts d p (cell_number d place) v colouring in
+        leads_after write (cursor_advance_plan d p place) c d (cursor_advance (put_character fonts s p place v colouring) p place)
+        (advances (run card_meaning write c).0 (put_character fonts s p place v colouring) place (plan_bounds law write c z) (can.put c s place v colouring z e i lv la) i.column)
 
     -- what is typed, and where the cursor is then
-    leads : Leads (type_plan fonts d p place v ink) c d (type_character fonts s p place v ink)
+    leads : Leads (type_plan fonts d p place v colouring) c d (type_character fonts s p place v colouring)
     unfolding type_plan type_character
     leads = by_tests (v == 0x07) (v == 0x08) (v == 0x0A) (v == 0x0D)
       where
@@ -138,14 +138,14 @@ module _ (law : KeepsBounds) (fonts : FontSet) (d : BiosData) (p : ℕ) (can : C
         stays n = record { answer = refl; shows = e }
 
         on : Screen × ℕ
-        on = cursor_advance (put_character fonts s p place v ink) p place
+        on = cursor_advance (put_character fonts s p place v colouring) p place
 
-        by_tests : (a b f g : Bool) → Leads (if a then Done place else if b then Done back else if f then line_feed_plan d p place else if g then Done (line_start place) else show_plan fonts d p place v ink) c d (if a then (s, place) else if b then (s, back) else if f then line_feed s p place else if g then (s, line_start place) else on)
+        by_tests : (a b f g : Bool) → Leads (if a then Done place else if b then Done back else if f then line_feed_plan d p place else if g then Done (line_start place) else show_plan fonts d p place v colouring) c d (if a then (s, place) else if b then (s, back) else if f then line_feed s p place else if g then (s, line_start place) else on)
         by_tests true b f g = stays place
         by_tests false true f g = stays back
         by_tests false false true g = feeds c s place z e i.column
         by_tests false false false true = stays (line_start place)
         by_tests false false false false = shows
 
-    pub is_typed : LeadsInside (type_plan fonts d p place v ink) c d (type_character fonts s p place v ink)
-    is_typed = let cut = cut_is c d s e in record { leads = leads; inside = typed_inside (d.last_row + 1) d.columns cut.narrow fonts s p place v ink cut.rows cut.columns i }
+    pub is_typed : LeadsInside (type_plan fonts d p place v colouring) c d (type_character fonts s p place v colouring)
+    is_typed = let cut = cut_is c d s e in record { leads = leads; inside = typed_inside (d.last_row + 1) d.columns cut.narrow fonts s p place v colouring cut.rows cut.columns i }

@@ -3,14 +3,14 @@ use Rattle.std.proofs.Common.{◌≡◌, ℕ, zero, suc, ◌+◌, ◌-◌, refl,
 use Rattle.std.specs.Prelude.{◌==◌, nat_lt, if◌then◌else◌}
 use Rattle.vga_bits.specs.declared.refusal.Refusal.{Refusal}
 use Rattle.bios_modes.specs.Fonts.{FontSet}
-use Rattle.bios_services.specs.declared.ink.Ink.{Ink}
+use Rattle.bios_services.specs.declared.colouring.Colouring.{Colouring}
 use Rattle.bios_services.specs.declared.strings.StringCall.{StringCall}
 use Rattle.bios_services.specs.declared.colours.ColourService.{ColourService}
 use Rattle.bios_services.specs.declared.colours.ColourService.TheVariants.{SetRegister, SetOverscan, SetPalette, SetBlinking, ReadRegister, ReadOverscan, SetEntry, SetEntries, ReadEntry, SetMask, ReadMask}
 use Rattle.bios_services.specs.declared.call.Service.{Service}
 use Rattle.bios_services.specs.declared.call.Service.TheVariants.{SetCursorType, SetCursor, ReadCursor, SelectPage, ScrollUp, ScrollDown, ReadCell, WriteCells, WritePixel, ReadPixel, Teletype, ReadMode, Colours, ReadAdapter, WriteString, ReadDisplay}
 use Rattle.bios_services.specs.Teletype.{line_start, dots_in}
-use Rattle.bios_services.specs.Strings.{character_at, ink_at}
+use Rattle.bios_services.specs.Strings.{character_at, colouring_at}
 use Rattle.bios_services.specs.Cursor.{row_of, column_of}
 use Rattle.bios_screen.specs.Screen.{Screen, cursor_place}
 use Rattle.bios_screen.specs.Colours.{with_colours}
@@ -42,10 +42,10 @@ fed_cut s page place = cut_if s (nat_lt (row_of place) (s.layout.rows - 1)) (s, 
 advanced_cut : (s : Screen) (page place : ℕ) → IsCutAs s (cursor_advance s page place).0
 advanced_cut s page place = cut_if s (nat_lt (column_of place + 1) s.layout.columns) (s, place + 1) ((line_feed s page place).0, line_start (line_feed s page place).1) (uncut s) (fed_cut s page place)
 
-typed_cut : (fonts : FontSet) (s : Screen) (page place character : ℕ) (ink : Ink) → IsCutAs s (type_character fonts s page place character ink).0
+typed_cut : (fonts : FontSet) (s : Screen) (page place character : ℕ) (colouring : Colouring) → IsCutAs s (type_character fonts s page place character colouring).0
 unfolding type_character
-typed_cut fonts s page place character ink =
-    let put = put_character fonts s page place character ink in
+typed_cut fonts s page place character colouring =
+    let put = put_character fonts s page place character colouring in
     let is_put : IsCutAs s put = record { mode = refl; layout = refl } in
     cut_if s (character == 0x07) (s, place) _ (uncut s)
     (cut_if s (character == 0x08) (s, if column_of place == 0 then place else place - 1) _ (uncut s)
@@ -55,8 +55,8 @@ typed_cut fonts s page place character ink =
 string_cut : (fonts : FontSet) (call : StringCall) (block : List ℕ) (page n i : ℕ) (at : Screen × ℕ) → IsCutAs at.0 (type_characters fonts call block page n i at).0
 string_cut fonts call block page zero i at = uncut at.0
 string_cut fonts call block page (suc n) i at =
-    let after = type_character fonts at.0 page at.1 (character_at call block i) (ink_at call block i) in
-    cut_on (typed_cut fonts at.0 page at.1 (character_at call block i) (ink_at call block i)) (string_cut fonts call block page n (i + 1) after)
+    let after = type_character fonts at.0 page at.1 (character_at call block i) (colouring_at call block i) in
+    cut_on (typed_cut fonts at.0 page at.1 (character_at call block i) (colouring_at call block i)) (string_cut fonts call block page n (i + 1) after)
 
 coloured_cut : (s : Screen) (service : ColourService) (block : List ℕ) → IsCutAs s (with_colours s service block)
 unfolding with_colours

@@ -6,7 +6,7 @@ use Rattle.std.proofs.lemmas.Bool.Decides.{nat_tests}
 use Rattle.vga_host.specs.Bounds.{IsHost}
 use Rattle.vga_card.specs.Bus.{card_meaning}
 use Rattle.vga_card.specs.Card.{CardState}
-use Rattle.bios_services.specs.declared.ink.Ink.{Ink}
+use Rattle.bios_services.specs.declared.colouring.Colouring.{Colouring}
 use Rattle.bios_services.specs.Plan.{run, put, get, Done, ◌>>◌}
 use Rattle.bios_services.specs.Cells.{write_cell_plan}
 use Rattle.bios_screen.specs.Screen.{Cell}
@@ -108,13 +108,13 @@ cell_given disp rest c f at k v a e l lv la t =
     cells_same disp rest (run card_meaning (put (at + 1) a) c1).0 (with_attribute (with_character f k v) k a) (set_cell f k (v, a)) (over_is f k v a)
     (attribute_put disp rest c1 (with_character f k v) at k a e l la (character_put disp rest c f at k v e l lv t))
 
-pub cell_written : (disp : Display) (rest c : CardState) (f : ℕ → Cell) (at k v : ℕ) (ink : Ink) → at ≡ base_of disp + 2 * k → k < 16384 → v < 256 → ink.colour < 256 → IsCells disp rest c f → IsCells disp rest (run card_meaning (write_cell_plan at v ink) c).0 (set_cell f k (character_over v ink (f k)))
+pub cell_written : (disp : Display) (rest c : CardState) (f : ℕ → Cell) (at k v : ℕ) (colouring : Colouring) → at ≡ base_of disp + 2 * k → k < 16384 → v < 256 → colouring.colour < 256 → IsCells disp rest c f → IsCells disp rest (run card_meaning (write_cell_plan at v colouring) c).0 (set_cell f k (character_over v colouring (f k)))
 unfolding write_cell_plan
-cell_written disp rest c f at k v ink e l lv la t = by_test ink.is_attribute
+cell_written disp rest c f at k v colouring e l lv la t = by_test colouring.is_attribute
   where
-    by_test : (b : Bool) → IsCells disp rest (run card_meaning (put at v >> (if b then put (at + 1) ink.colour else Done tt)) c).0 (set_cell f k (let x : Cell = (v, if b then ink.colour else (f k).1) in x))
+    by_test : (b : Bool) → IsCells disp rest (run card_meaning (put at v >> (if b then put (at + 1) colouring.colour else Done tt)) c).0 (set_cell f k (let x : Cell = (v, if b then colouring.colour else (f k).1) in x))
     by_test false = character_put disp rest c f at k v e l lv t
-    by_test true = cell_given disp rest c f at k v ink.colour e l lv la t
+    by_test true = cell_given disp rest c f at k v colouring.colour e l lv la t
 
 -- ---- a byte of a cell is read
 

@@ -17,7 +17,7 @@ use Rattle.bios_modes.specs.declared.kind.Kind.TheVariants.{Text}
 use Rattle.bios_services.specs.Kinds.{column_bytes, row_lines}
 use Rattle.bios_services.specs.Cells.{page_address}
 use Rattle.bios_services.specs.Plan.{Plan, run, Done, get, put, move, ◌>>◌}
-use Rattle.bios_services.specs.Bands.{band_of, paint_byte, blank, raise_rows, lower_rows, paint_rows, fill_plan, up_plan, down_plan}
+use Rattle.bios_services.specs.Bands.{band_of, filling_byte, blank, raise_rows, lower_rows, fill_rows, fill_plan, up_plan, down_plan}
 use Rattle.bios_services.specs.Scroll.{has_cells as has_window, height_of, lines_of, scroll_up_plan, scroll_down_plan}
 use Rattle.bios_services.specs.Refusals.{refusal_in_mode}
 use Rattle.bios_services.specs.Service.{plan_of, Outcome}
@@ -194,7 +194,7 @@ module _ (c : CardState) (d : BiosData) (h : IsShown c d) (p : ℕ) (lp : p < h.
   text_stored at j v x f e l lv t = subst (λ n. Textual (run card_meaning (put n v) x).0 (set_cell f j v)) (sym e) (text_put h.display (without_text c) x f j v l lv t)
 
   -- the bytes of a blank
-  blank_byte : (colour q j : ℕ) → j < 2 → paint_byte (blank colour) (2 * q + j) ≡ (if j == 0 then 0x20 else colour)
+  blank_byte : (colour q j : ℕ) → j < 2 → filling_byte (blank colour) (2 * q + j) ≡ (if j == 0 then 0x20 else colour)
   blank_byte colour q j l = let e : ((2 * q + j) % 2 == 0) ≡ (j == 0) = grind (arith, nat_tests) in ap (λ b. if b then 0x20 else colour) e
 
   pub went_up : (n colour : ℕ) (x : CardState) (f : ℕ → ℕ) → n ≤ height → (0 < height → 0 < n) → colour < 256 → Textual x f → Leaves CardState ℕ Textual (run card_meaning (up_plan text_band w.top height n colour) x).0 (λ g. Risen n colour (cells_of_bytes f) (cells_of_bytes g))
@@ -204,9 +204,9 @@ module _ (c : CardState) (d : BiosData) (h : IsShown c d) (p : ℕ) (lp : p < h.
       let top = w.top in
       let x1 = (run card_meaning (raise_rows text_band n top count) x).0 in
       let a = bands.rows_raised CardState ℕ card_meaning (base_of h.display) 32768 text_band (d.size * p) (d.last_row + 1) top height window_is Textual text_moved n count x f (omega arith) (λ l. some (omega arith)) t in
-      let b = bands.rows_painted CardState ℕ card_meaning (base_of h.display) 32768 text_band (d.size * p) (d.last_row + 1) top height window_is Textual (λ v _. v) text_stored (blank colour) (omega arith) lv (top + count) n x1 a.cells (omega arith) (omega arith) a.shown in
+      let b = bands.rows_filled CardState ℕ card_meaning (base_of h.display) 32768 text_band (d.size * p) (d.last_row + 1) top height window_is Textual (λ v _. v) text_stored (blank colour) (omega arith) lv (top + count) n x1 a.cells (omega arith) (omega arith) a.shown in
       let apart = bands.rows_apart CardState ℕ card_meaning (base_of h.display) 32768 text_band (d.size * p) (d.last_row + 1) top height window_is in
-      let all : Leaves CardState ℕ Textual (run card_meaning (paint_rows text_band (blank colour) (top + count) n) x1).0 (λ g. Risen n colour (cells_of_bytes f) (cells_of_bytes g)) = record {
+      let all : Leaves CardState ℕ Textual (run card_meaning (fill_rows text_band (blank colour) (top + count) n) x1).0 (λ g. Risen n colour (cells_of_bytes f) (cells_of_bytes g)) = record {
         cells = b.cells;
         shown = b.shown;
         fact = record {
@@ -224,7 +224,7 @@ module _ (c : CardState) (d : BiosData) (h : IsShown c d) (p : ℕ) (lp : p < h.
               ∙ a.fact.outside (2 * k + j) (λ i. let lf = i.from in let lb = i.before in byte_outside k j lj o top (top + count) i (omega arith) (omega arith)));
         };
       } in
-      subst (λ r. Leaves CardState ℕ Textual r.0 (λ g. Risen n colour (cells_of_bytes f) (cells_of_bytes g))) (sym (run_bind card_meaning (raise_rows text_band n top count) (λ _. paint_rows text_band (blank colour) (top + count) n) x)) all
+      subst (λ r. Leaves CardState ℕ Textual r.0 (λ g. Risen n colour (cells_of_bytes f) (cells_of_bytes g))) (sym (run_bind card_meaning (raise_rows text_band n top count) (λ _. fill_rows text_band (blank colour) (top + count) n) x)) all
 
   pub went_down : (n colour : ℕ) (x : CardState) (f : ℕ → ℕ) → n ≤ height → (0 < height → 0 < n) → colour < 256 → Textual x f → Leaves CardState ℕ Textual (run card_meaning (down_plan text_band w.top height n colour) x).0 (λ g. Sunk n colour (cells_of_bytes f) (cells_of_bytes g))
   unfolding down_plan fill_plan byte_line byte_turn
@@ -233,9 +233,9 @@ module _ (c : CardState) (d : BiosData) (h : IsShown c d) (p : ℕ) (lp : p < h.
       let top = w.top in
       let x1 = (run card_meaning (lower_rows text_band n top count) x).0 in
       let a = bands.rows_lowered CardState ℕ card_meaning (base_of h.display) 32768 text_band (d.size * p) (d.last_row + 1) top height window_is Textual text_moved n count x f (omega arith) (λ l. some (omega arith)) t in
-      let b = bands.rows_painted CardState ℕ card_meaning (base_of h.display) 32768 text_band (d.size * p) (d.last_row + 1) top height window_is Textual (λ v _. v) text_stored (blank colour) (omega arith) lv top n x1 a.cells (omega arith) (omega arith) a.shown in
+      let b = bands.rows_filled CardState ℕ card_meaning (base_of h.display) 32768 text_band (d.size * p) (d.last_row + 1) top height window_is Textual (λ v _. v) text_stored (blank colour) (omega arith) lv top n x1 a.cells (omega arith) (omega arith) a.shown in
       let apart = bands.rows_apart CardState ℕ card_meaning (base_of h.display) 32768 text_band (d.size * p) (d.last_row + 1) top height window_is in
-      let all : Leaves CardState ℕ Textual (run card_meaning (paint_rows text_band (blank colour) top n) x1).0 (λ g. Sunk n colour (cells_of_bytes f) (cells_of_bytes g)) = record {
+      let all : Leaves CardState ℕ Textual (run card_meaning (fill_rows text_band (blank colour) top n) x1).0 (λ g. Sunk n colour (cells_of_bytes f) (cells_of_bytes g)) = record {
         cells = b.cells;
         shown = b.shown;
         fact = record {
@@ -253,7 +253,7 @@ module _ (c : CardState) (d : BiosData) (h : IsShown c d) (p : ℕ) (lp : p < h.
               ∙ a.fact.outside (2 * k + j) (λ i. let lf = i.from in let lb = i.before in byte_outside_below k j lj o n i (omega arith) (omega arith)));
         };
       } in
-      subst (λ r. Leaves CardState ℕ Textual r.0 (λ g. Sunk n colour (cells_of_bytes f) (cells_of_bytes g))) (sym (run_bind card_meaning (lower_rows text_band n top count) (λ _. paint_rows text_band (blank colour) top n) x)) all
+      subst (λ r. Leaves CardState ℕ Textual r.0 (λ g. Sunk n colour (cells_of_bytes f) (cells_of_bytes g))) (sym (run_bind card_meaning (lower_rows text_band n top count) (λ _. fill_rows text_band (blank colour) top n) x)) all
     where
       byte_outside_below : (k j : ℕ) → j < 2 → IsOutside k → (n : ℕ) (t : ByteTurn w.top (w.top + (height - n))) → w.top ≤ t.turn + n → t.turn + n < w.top + height → 2 * k + j ≢ byte_at (t.turn + n) t.place.turn t.place.place.turn
       byte_outside_below k j lj o n t low high q =

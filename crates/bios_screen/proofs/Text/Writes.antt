@@ -11,7 +11,7 @@ use Rattle.bios_modes.specs.Bda.{BiosData}
 use Rattle.bios_modes.specs.Fonts.{FontSet}
 use Rattle.bios_services.specs.declared.regs.Regs.{Regs}
 use Rattle.bios_services.specs.declared.call.Service.TheVariants.{ReadCell, WriteCells}
-use Rattle.bios_services.specs.declared.ink.Ink.{Ink}
+use Rattle.bios_services.specs.declared.colouring.Colouring.{Colouring}
 use Rattle.bios_services.specs.declared.cell_run.CellRun.{CellRun}
 use Rattle.bios_services.specs.Plan.{Plan, run, Done, get, each, ◌>>=◌, ◌>>◌}
 use Rattle.bios_services.specs.Cells.{page_base, cell_address, cells_of, read_cell_plan, write_cell_plan}
@@ -82,21 +82,21 @@ address_is d disp pages p q w =
 -- ---- writing
 
 -- some cells of a page from one on
-pub cells_written : (d : BiosData) (disp : Display) (pages : ℕ) (w : Lies d disp pages) (rest c : CardState) (f : ℕ → Cell) (p q v n : ℕ) (ink : Ink) → d.size / 2 * p + q + n ≤ 16384 → v < 256 → ink.colour < 256 → IsCells disp rest c f → Leaves CardState Cell (IsCells disp rest) (run card_meaning (each (λ i. write_cell_plan (cell_address d p (q + i)) v ink) n 0) c).0 (Edited Cell (Turn (λ _. Unit {0}) 0 n) (λ h. d.size / 2 * p + q + h.turn) (λ h y. character_over v ink y) f)
-cells_written d disp pages w rest c f p q v n ink l lv la t =
+pub cells_written : (d : BiosData) (disp : Display) (pages : ℕ) (w : Lies d disp pages) (rest c : CardState) (f : ℕ → Cell) (p q v n : ℕ) (colouring : Colouring) → d.size / 2 * p + q + n ≤ 16384 → v < 256 → colouring.colour < 256 → IsCells disp rest c f → Leaves CardState Cell (IsCells disp rest) (run card_meaning (each (λ i. write_cell_plan (cell_address d p (q + i)) v colouring) n 0) c).0 (Edited Cell (Turn (λ _. Unit {0}) 0 n) (λ h. d.size / 2 * p + q + h.turn) (λ h y. character_over v colouring y) f)
+cells_written d disp pages w rest c f p q v n colouring l lv la t =
     let k = d.size / 2 * p + q in
-    edits CardState Cell card_meaning (λ i. write_cell_plan (cell_address d p (q + i)) v ink) (λ _. IsCells disp rest) 0 n (λ _. Unit {0}) (λ r h. k + r) (λ r h y. character_over v ink y) (λ i j g h lb lo hi. omega arith)
+    edits CardState Cell card_meaning (λ i. write_cell_plan (cell_address d p (q + i)) v colouring) (λ _. IsCells disp rest) 0 n (λ _. Unit {0}) (λ r h. k + r) (λ r h y. character_over v colouring y) (λ i j g h lb lo hi. omega arith)
     (λ r s x lb hi u. record {
-      cells = set_cell x (k + r) (character_over v ink (x (k + r)));
-      shown = cell_written disp rest s x (cell_address d p (q + r)) (k + r) v ink (let e = address_is d disp pages p (q + r) w in omega arith) (omega arith) lv la u;
-      fact = changed_edit (k + r) (character_over v ink) x;
+      cells = set_cell x (k + r) (character_over v colouring (x (k + r)));
+      shown = cell_written disp rest s x (cell_address d p (q + r)) (k + r) v colouring (let e = address_is d disp pages p (q + r) w in omega arith) (omega arith) lv la u;
+      fact = changed_edit (k + r) (character_over v colouring) x;
     })
     n 0 c f (omega arith) (omega arith) t
 
 -- in text the plan of some characters is that of their cells
-characters_are : (fonts : FontSet) (c : CardState) (d : BiosData) (h : IsShown c d) (p q v n : ℕ) (ink : Ink) → characters_plan fonts d p q v ink n ≡ each (λ i. write_cell_plan (cell_address d p (q + i)) v ink) n 0
+characters_are : (fonts : FontSet) (c : CardState) (d : BiosData) (h : IsShown c d) (p q v n : ℕ) (colouring : Colouring) → characters_plan fonts d p q v colouring n ≡ each (λ i. write_cell_plan (cell_address d p (q + i)) v colouring) n 0
 unfolding characters_plan character_by
-characters_are fonts c d h p q v n ink = ap (λ k. each (λ i. character_by k fonts d p (q + i) v ink) n 0) (kind_is c d h)
+characters_are fonts c d h p q v n colouring = ap (λ k. each (λ i. character_by k fonts d p (q + i) v colouring) n 0) (kind_is c d h)
 
 pub inside_test : (first k n : ℕ) → first ≤ k → k < first + n → (nat_le first k && nat_lt k (first + n)) ≡ true
 inside_test first k n a b = grind (arith, nat_tests)
@@ -108,22 +108,22 @@ pub behind_test : (first k n : ℕ) → first + n ≤ k → (nat_le first k && n
 behind_test first k n a = grind (arith, nat_tests)
 
 -- each cell is as the screen's step has it
-pub written_is : (first n v : ℕ) (ink : Ink) (f g old : ℕ → Cell) → Edited Cell (Turn (λ _. Unit {0}) 0 n) (λ h. first + h.turn) (λ h y. character_over v ink y) f g → (k : ℕ) → old k ≡ f k → g k ≡ write_characters first n v ink old k
-written_is first n v ink f g old edited k same = ⊎_elim
+pub written_is : (first n v : ℕ) (colouring : Colouring) (f g old : ℕ → Cell) → Edited Cell (Turn (λ _. Unit {0}) 0 n) (λ h. first + h.turn) (λ h y. character_over v colouring y) f g → (k : ℕ) → old k ≡ f k → g k ≡ write_characters first n v colouring old k
+written_is first n v colouring f g old edited k same = ⊎_elim
     (λ (a : k < first). outside (before_test first k n a) (λ h. omega arith))
     (λ (a : first ≤ k). ⊎_elim
     (λ (b : k < first + n).
     let j = k - first in
     let e : first + j ≡ k = omega arith in
-    ap g (sym e) ∙ edited.inside (record { turn = j; from = omega arith; before = omega arith; place = tt }) ∙ ap (λ i. character_over v ink (f i)) e
-    ∙ ap (character_over v ink) (sym same)
-    ∙ ap (λ t. if t then character_over v ink (old k) else old k) (sym (inside_test first k n a b)))
+    ap g (sym e) ∙ edited.inside (record { turn = j; from = omega arith; before = omega arith; place = tt }) ∙ ap (λ i. character_over v colouring (f i)) e
+    ∙ ap (character_over v colouring) (sym same)
+    ∙ ap (λ t. if t then character_over v colouring (old k) else old k) (sym (inside_test first k n a b)))
     (λ (b : first + n ≤ k). outside (behind_test first k n b) (λ h. let z = h.before in omega arith))
     (cases_lt k (first + n)))
     (cases_lt k first)
   where
-    outside : (nat_le first k && nat_lt k (first + n)) ≡ false → ((h : Turn (λ _. Unit {0}) 0 n) → k ≢ first + h.turn) → g k ≡ write_characters first n v ink old k
-    outside t o = edited.outside k o ∙ sym same ∙ ap (λ b. if b then character_over v ink (old k) else old k) (sym t)
+    outside : (nat_le first k && nat_lt k (first + n)) ≡ false → ((h : Turn (λ _. Unit {0}) 0 n) → k ≢ first + h.turn) → g k ≡ write_characters first n v colouring old k
+    outside t o = edited.outside k o ∙ sym same ∙ ap (λ b. if b then character_over v colouring (old k) else old k) (sym t)
 
 -- ---- refusals
 
@@ -153,22 +153,22 @@ first_cell d p = d.size / 2 * p + cell_number d (place_of d p)
 
 -- ---- functions 09 and 0A
 
-write_shown : (fonts : FontSet) (c : CardState) (d : BiosData) (h : IsShown c d) (p : ℕ) (cells : CellRun) → IsCard c → CountAllowed h.row.pages p (cell_number d (place_of d p)) cells.count (cells_of d) → cells.character < 256 → cells.ink.colour < 256
-    → shown (run card_meaning (cell_run_plan fonts d p cells) c).0 d ≡ Some (with_cells (screen_shown c d h) (write_characters (cursor_cell (screen_shown c d h) p) cells.count cells.character cells.ink))
+write_shown : (fonts : FontSet) (c : CardState) (d : BiosData) (h : IsShown c d) (p : ℕ) (cells : CellRun) → IsCard c → CountAllowed h.row.pages p (cell_number d (place_of d p)) cells.count (cells_of d) → cells.character < 256 → cells.colouring.colour < 256
+    → shown (run card_meaning (cell_run_plan fonts d p cells) c).0 d ≡ Some (with_cells (screen_shown c d h) (write_characters (cursor_cell (screen_shown c d h) p) cells.count cells.character cells.colouring))
 write_shown fonts c d h p cells z allowed lv la =
     let m = c.host.memory in
     let f = cell_in m.plane0 m.plane1 in
     let w = lies c d h in
     let q = cell_number d (place_of d p) in
     let first = first_cell d p in
-    let plan = each (λ i. write_cell_plan (cell_address d p (q + i)) cells.character cells.ink) cells.count 0 in
+    let plan = each (λ i. write_cell_plan (cell_address d p (q + i)) cells.character cells.colouring) cells.count 0 in
     let fits : first + cells.count ≤ 16384 = let a = allowed.within in let b = w.fits in let e = w.within p allowed.page in omega arith in
-    let done = cells_written d h.display h.row.pages w (without_text c) c f p q cells.character cells.count cells.ink fits lv la (has_cells h.display c h.setting z.host) in
-    ap (λ x. shown (run card_meaning x c).0 d) (characters_are fonts c d h p q cells.character cells.count cells.ink)
-    ∙ renewed_shown h.display (without_text c) c (run card_meaning plan c).0 d h (write_characters first cells.count cells.character cells.ink) done.cells done.shown.is.others done.shown
-    (λ k l. written_is first cells.count cells.character cells.ink f done.cells (cell_on (screen_shown c d h)) done.fact k (cells_at m.plane0 m.plane1 all_cells k l))
+    let done = cells_written d h.display h.row.pages w (without_text c) c f p q cells.character cells.count cells.colouring fits lv la (has_cells h.display c h.setting z.host) in
+    ap (λ x. shown (run card_meaning x c).0 d) (characters_are fonts c d h p q cells.character cells.count cells.colouring)
+    ∙ renewed_shown h.display (without_text c) c (run card_meaning plan c).0 d h (write_characters first cells.count cells.character cells.colouring) done.cells done.shown.is.others done.shown
+    (λ k l. written_is first cells.count cells.character cells.colouring f done.cells (cell_on (screen_shown c d h)) done.fact k (cells_at m.plane0 m.plane1 all_cells k l))
 
-pub write_cells : (cells : CellRun) (fonts : FontSet) (r : Regs) (block : List ℕ) (c : CardState) (d : BiosData) (h : IsShown c d) → IsCard c → cells.character < 256 → cells.ink.colour < 256 → IsServed (WriteCells cells) fonts r block c d (screen_shown c d h)
+pub write_cells : (cells : CellRun) (fonts : FontSet) (r : Regs) (block : List ℕ) (c : CardState) (d : BiosData) (h : IsShown c d) → IsCard c → cells.character < 256 → cells.colouring.colour < 256 → IsServed (WriteCells cells) fonts r block c d (screen_shown c d h)
 unfolding plan_of refusal_in_mode refusal_on next answer_on
 write_cells cells fonts r block c d h z lv la =
     let s = screen_shown c d h in

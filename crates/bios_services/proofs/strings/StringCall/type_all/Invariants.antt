@@ -2,13 +2,13 @@ use Rattle.std.proofs.Common.{◌≡◌, ◌-◌, ◌≤◌}
 use Rattle.bios_services.specs.Plan.{run, fold}
 use Rattle.bios_services.specs.Cursor.{row_of}
 use Rattle.bios_services.specs.Teletype.{type_plan}
-use Rattle.bios_services.specs.Strings.{character_at, ink_at, type_string_plan}
+use Rattle.bios_services.specs.Strings.{character_at, colouring_at, type_string_plan}
 use Rattle.bios_services.proofs.strings.StringCall.type_all.Given as goal
 
 -- what the characters from here on leave and answer is what all of them do, and the place is on the page
 abbrev pub invariant-loop-i : goal.invariant-loop-i
 invariant-loop-i g l = record {
   row : row_of l.place ≤ l.bda.last_row;
-  left : run g.B.Bus.meaning (fold (λ i place. type_plan l.fonts l.bda l.page place (character_at l.self l.block i) (ink_at l.self l.block i)) (l.i-end - l.i) l.i l.place) l.bus
+  left : run g.B.Bus.meaning (fold (λ i place. type_plan l.fonts l.bda l.page place (character_at l.self l.block i) (colouring_at l.self l.block i)) (l.i-end - l.i) l.i l.place) l.bus
       ≡ run g.B.Bus.meaning (type_string_plan l.fonts l.bda l.page l.self l.block) l.fn.bus;
 }

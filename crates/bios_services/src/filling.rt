@@ -1,10 +1,10 @@
-//! The bytes that rows are painted with.
+//! The bytes that rows are filled with.
 ghost use Rattle.std.specs.Prelude.{◌≡◌};
-ghost use Rattle.bios_services.specs.Bands.{paint_byte, blank as blank_of, plain as plain_of};
+ghost use Rattle.bios_services.specs.Bands.{filling_byte, blank as blank_of, plain as plain_of};
 
 /// Two bytes in turn.
 #[derive(Clone, Copy)]
-pub struct Paint {
+pub struct Filling {
     /// The first byte of a line, the third, and so on.
     pub even: u8,
     /// The second, the fourth, and so on.
@@ -14,30 +14,30 @@ pub struct Paint {
 /// What a blank cell of text has as its character.
 const BLANK: u8 = 0x20;
 
-impl Paint {
+impl Filling {
     /// Blank cells of an attribute.
-    pub(crate) fn blank(attribute: u8) -> Paint
+    pub(crate) fn blank(attribute: u8) -> Filling
         ensures { result ≡ blank_of attribute }
     {
-        Paint {
+        Filling {
             even: BLANK,
             odd: attribute,
         }
     }
 
     /// One byte everywhere.
-    pub(crate) fn plain(byte: u8) -> Paint
+    pub(crate) fn plain(byte: u8) -> Filling
         ensures { result ≡ plain_of byte }
     {
-        Paint {
+        Filling {
             even: byte,
             odd: byte,
         }
     }
 
-    /// What byte i of a line is painted with.
+    /// What byte i of a line is filled with.
     pub(crate) fn byte(self, i: u32) -> u8
-        ensures { result ≡ paint_byte self i }
+        ensures { result ≡ filling_byte self i }
     {
         if i % 2 == 0 { self.even } else { self.odd }
     }

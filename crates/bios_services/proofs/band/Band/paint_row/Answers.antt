@@ -1,8 +1,0 @@
-use Rattle.std.proofs.Common.{arith}
-use Rattle.bios_services.specs.Bands.{paint_line}
-use Rattle.bios_services.proofs.RunLemmas.{next_turn}
-use Rattle.bios_services.proofs.band.Band.paint_row.Goals as goal
-
-pub loop-line-preserved : goal.loop-line-preserved
-loop-line-preserved g c =
-    next_turn g.B.Bus.meaning (paint_line c.args.self c.args.paint c.args.row) c.loop-line.line c.args.self.lines c.loop-line.bus c.paint_line.new.bus _ (omega arith) c.paint_line.ensures c.loop-line.invariant
