@@ -5,8 +5,8 @@ pub mod any_dot;
 pub mod frames;
 pub mod laws;
 mod palette;
-mod reading;
 pub mod screen;
+mod screen_reading;
 mod shown;
 
 pub use screen::Screen;

@@ -1,4 +1,4 @@
-pub mod RunLemmas
+pub mod PlanRuns
 pub mod GlyphLemmas
 pub mod ReasonLemmas
 pub mod BoundLemmas

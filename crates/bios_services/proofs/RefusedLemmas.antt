@@ -25,7 +25,7 @@ use Rattle.bios_services.specs.GlyphLoads.{load_refusal, load_plan}
 use Rattle.bios_services.specs.Refusals.{refusal_in_mode, unknown_refusal}
 use Rattle.bios_services.specs.Tables.{table_plan, table_refusal}
 use Rattle.bios_services.specs.Service.{RefusedDoNothing, Answered, answer_with, call_plan, in_mode_plan, load_at, load_unless, load_in_mode_plan, plan_of, refuse, set_mode_plan, table_in_mode_plan, table_unless, unless}
-use Rattle.bios_services.proofs.RunLemmas.{run_bind}
+use Rattle.bios_services.proofs.PlanRuns.{run_bind}
 
 -- what a plan does where its answer is a refusal: nothing
 abbrev DoesNothing : {S : Type 0} → Meaning S → Plan Answered → BiosData → Type 0

@@ -13,7 +13,7 @@ pub mod Scroll
 pub mod Glyphs
 pub mod Drawing
 pub mod CellRuns
-pub mod Reading
+pub mod CharacterReading
 pub mod Teletype
 pub mod Strings
 pub mod Pixels

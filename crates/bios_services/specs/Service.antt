@@ -30,7 +30,7 @@ use Rattle.bios_services.specs.Cursor.{place_of, cursor_cell, move_cursor_plan, 
 use Rattle.bios_services.specs.Cells.{cell_address, read_cell_plan}
 use Rattle.bios_services.specs.Drawing.{cell_band, cell_row}
 use Rattle.bios_services.specs.CellRuns.{cell_run_plan}
-use Rattle.bios_services.specs.Reading.{read_character_plan}
+use Rattle.bios_services.specs.CharacterReading.{read_character_plan}
 use Rattle.bios_services.specs.Scroll.{scroll_up_plan, scroll_down_plan}
 use Rattle.bios_services.specs.Teletype.{teletype_plan}
 use Rattle.bios_services.specs.Pixels.{write_pixel_plan, read_pixel_plan}

@@ -6,8 +6,8 @@ ghost use Rattle.bios_services.specs.Bands.{IsBand, address_in, band_of, copy_li
 
 use crate::cells::page_address;
 use crate::cycles::{graphics, move_byte, put, sequencer};
-use crate::kind::{Kind, by_kind, column_bytes, kind_of, row_lines};
 use crate::filling::Filling;
+use crate::kind::{Kind, by_kind, column_bytes, kind_of, row_lines};
 use crate::video_registers::{ALL_BITS, ALL_PLANES, COPY_LATCHES, GRAPHICS_MODE, MAP_MASK, PLAIN};
 use bios_modes::Bda;
 use vga_card::Bus;
@@ -72,7 +72,7 @@ impl Band {
     }
 
     /// Copies a line of a row to another row.
-    #[tactic(auto, using(crate::proofs::RunLemmas::run_bind), unfolding(crate::specs::Bands::copy_line))]
+    #[tactic(auto, using(crate::proofs::PlanRuns::run_bind), unfolding(crate::specs::Bands::copy_line))]
     fn copy_line<B: Bus>(self, bus: &mut B, from: u32, to: u32, line: u32)
         requires band { IsBand self }
         requires from { from < reached_rows }
@@ -88,7 +88,7 @@ impl Band {
     }
 
     /// Copies a row to another.
-    #[tactic(auto, using(crate::proofs::RunLemmas::run_bind), unfolding(crate::specs::Bands::copy_row))]
+    #[tactic(auto, using(crate::proofs::PlanRuns::run_bind), unfolding(crate::specs::Bands::copy_row))]
     fn copy_row<B: Bus>(self, bus: &mut B, from: u32, to: u32)
         requires band { IsBand self }
         requires from { from < reached_rows }
@@ -101,7 +101,7 @@ impl Band {
     }
 
     /// Copies to the rows from one to another what stands n rows below, the highest first.
-    #[tactic(auto, using(crate::proofs::RunLemmas::run_bind), unfolding(crate::specs::Bands::raise_rows))]
+    #[tactic(auto, using(crate::proofs::PlanRuns::run_bind), unfolding(crate::specs::Bands::raise_rows))]
     fn raise_rows<B: Bus>(self, bus: &mut B, n: u32, top: u32, end: u32)
         requires band { IsBand self }
         requires end { end + n ≤ reached_rows }
@@ -113,7 +113,7 @@ impl Band {
     }
 
     /// Copies the rows from one to another to n rows below, the lowest first.
-    #[tactic(auto, using(crate::proofs::RunLemmas::run_bind), unfolding(crate::specs::Bands::lower_rows))]
+    #[tactic(auto, using(crate::proofs::PlanRuns::run_bind), unfolding(crate::specs::Bands::lower_rows))]
     fn lower_rows<B: Bus>(self, bus: &mut B, n: u32, top: u32, end: u32)
         requires band { IsBand self }
         requires end { end + n ≤ reached_rows }
@@ -126,7 +126,7 @@ impl Band {
     }
 
     /// Fills a line of a row.
-    #[tactic(auto, using(crate::proofs::RunLemmas::run_bind), unfolding(crate::specs::Bands::fill_line))]
+    #[tactic(auto, using(crate::proofs::PlanRuns::run_bind), unfolding(crate::specs::Bands::fill_line))]
     fn fill_line<B: Bus>(self, bus: &mut B, filling: Filling, row: u32, line: u32)
         requires band { IsBand self }
         requires row { row < reached_cells }
@@ -139,7 +139,7 @@ impl Band {
     }
 
     /// Fills a row.
-    #[tactic(auto, using(crate::proofs::RunLemmas::run_bind), unfolding(crate::specs::Bands::fill_row))]
+    #[tactic(auto, using(crate::proofs::PlanRuns::run_bind), unfolding(crate::specs::Bands::fill_row))]
     pub(crate) fn fill_row<B: Bus>(self, bus: &mut B, filling: Filling, row: u32)
         requires band { IsBand self }
         requires row { row < reached_cells }
@@ -151,7 +151,7 @@ impl Band {
     }
 
     /// Fills the rows from one to another.
-    #[tactic(auto, using(crate::proofs::RunLemmas::run_bind), unfolding(crate::specs::Bands::fill_rows))]
+    #[tactic(auto, using(crate::proofs::PlanRuns::run_bind), unfolding(crate::specs::Bands::fill_rows))]
     fn fill_rows<B: Bus>(self, bus: &mut B, filling: Filling, top: u32, end: u32)
         requires band { IsBand self }
         requires end { end ≤ reached_rows }
@@ -163,7 +163,7 @@ impl Band {
     }
 
     /// Fills the rows from one to another with an attribute or a colour.
-    #[tactic(auto, using(crate::proofs::RunLemmas::run_bind), unfolding(crate::specs::Bands::fill_plan))]
+    #[tactic(auto, using(crate::proofs::PlanRuns::run_bind), unfolding(crate::specs::Bands::fill_plan))]
     fn fill<B: Bus>(self, bus: &mut B, colour: u8, top: u32, end: u32)
         requires band { IsBand self }
         requires end { end ≤ reached_rows }
@@ -183,7 +183,7 @@ impl Band {
     }
 
     /// Scrolls rows up by n: so many of the last are filled then.
-    #[tactic(auto, using(crate::proofs::RunLemmas::run_bind), unfolding(crate::specs::Bands::up_plan))]
+    #[tactic(auto, using(crate::proofs::PlanRuns::run_bind), unfolding(crate::specs::Bands::up_plan))]
     pub(crate) fn up<B: Bus>(self, bus: &mut B, top: u32, height: u32, n: u32, colour: u8)
         requires band { IsBand self }
         requires rows { top + height ≤ reached_rows }
@@ -198,7 +198,7 @@ impl Band {
     }
 
     /// Scrolls rows down by n: so many of the first are filled then.
-    #[tactic(auto, using(crate::proofs::RunLemmas::run_bind), unfolding(crate::specs::Bands::down_plan))]
+    #[tactic(auto, using(crate::proofs::PlanRuns::run_bind), unfolding(crate::specs::Bands::down_plan))]
     pub(crate) fn down<B: Bus>(self, bus: &mut B, top: u32, height: u32, n: u32, colour: u8)
         requires band { IsBand self }
         requires rows { top + height ≤ reached_rows }

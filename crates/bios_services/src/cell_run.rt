@@ -4,9 +4,9 @@ ghost use Rattle.bios_services.specs.Plan.{run};
 ghost use Rattle.bios_services.specs.Bounds.{IsSet, pages_of};
 ghost use Rattle.bios_services.specs.CellRuns.{cell_run_of, cell_run_plan};
 
+use crate::colouring::Colouring;
 use crate::cursor::cursor_cell;
 use crate::drawing::write_characters;
-use crate::colouring::Colouring;
 use crate::regs::{Regs, high, low};
 use bios_modes::{Bda, Fonts};
 use vga_card::Bus;

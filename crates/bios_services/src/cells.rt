@@ -4,8 +4,8 @@ ghost use Rattle.bios_services.specs.Plan.{run};
 ghost use Rattle.bios_services.specs.Bounds.{IsSet, pages_of, reached_cells};
 ghost use Rattle.bios_services.specs.Cells.{page_base as page_base_of, page_address as page_address_of, cell_address as cell_address_of, cells_of, read_cell_plan, attribute_plan, write_cell_plan};
 
-use crate::cycles::{get, put};
 use crate::colouring::Colouring;
+use crate::cycles::{get, put};
 use bios_modes::{Bda, mode_row};
 use vga_card::Bus;
 
@@ -54,7 +54,7 @@ pub(crate) fn cells(bda: &Bda) -> u32
 }
 
 /// Reads the character of a cell as the low byte of a word, its attribute as the high one.
-#[tactic(auto, using(crate::proofs::RunLemmas::run_bind), unfolding(crate::specs::Cells::read_cell_plan))]
+#[tactic(auto, using(crate::proofs::PlanRuns::run_bind), unfolding(crate::specs::Cells::read_cell_plan))]
 pub(crate) fn read_cell<B: Bus>(bus: &mut B, address: u32) -> u16
     requires { address < 2 ^ 30 }
     ensures { (bus.new, result) ≡ run B.meaning (read_cell_plan address) bus.old }
@@ -74,7 +74,7 @@ fn write_attribute<B: Bus>(bus: &mut B, address: u32, colouring: Colouring)
 }
 
 /// Writes a character to a cell of text, and its attribute where it gets one.
-#[tactic(auto, using(crate::proofs::RunLemmas::run_bind), unfolding(crate::specs::Cells::write_cell_plan))]
+#[tactic(auto, using(crate::proofs::PlanRuns::run_bind), unfolding(crate::specs::Cells::write_cell_plan))]
 pub(crate) fn write_cell<B: Bus>(bus: &mut B, address: u32, character: u8, colouring: Colouring)
     requires { address < 2 ^ 30 }
     ensures { bus.new ≡ (run B.meaning (write_cell_plan address character colouring) bus.old).0 }

@@ -114,7 +114,7 @@ pub(crate) fn colour_refusal(service: ColourService, len: usize) -> Result<(), R
 }
 
 /// 15: answers red, green and blue of an entry of the DAC.
-#[tactic(auto, using(crate::proofs::RunLemmas::run_bind), unfolding(crate::specs::Colours::read_entry_plan))]
+#[tactic(auto, using(crate::proofs::PlanRuns::run_bind), unfolding(crate::specs::Colours::read_entry_plan))]
 fn read_entry<B: Bus>(bus: &mut B, entry: u8, regs: &mut Regs)
     ensures { (bus.new, regs.new) ≡ run B.meaning (read_entry_plan entry regs.old) bus.old }
 {
@@ -127,7 +127,7 @@ fn read_entry<B: Bus>(bus: &mut B, entry: u8, regs: &mut Regs)
 }
 
 /// 07 and 08: answers a register of the attribute controller.
-#[tactic(auto, using(crate::proofs::RunLemmas::run_bind), unfolding(crate::specs::Colours::read_register_in_bh))]
+#[tactic(auto, using(crate::proofs::PlanRuns::run_bind), unfolding(crate::specs::Colours::read_register_in_bh))]
 fn answer_register<B: Bus>(bus: &mut B, port: u16, register: u8, regs: &mut Regs)
     requires port { port < ports_end }
     requires register { register < 32 }
@@ -138,7 +138,7 @@ fn answer_register<B: Bus>(bus: &mut B, port: u16, register: u8, regs: &mut Regs
 }
 
 /// 19: answers the DAC's mask.
-#[tactic(auto, using(crate::proofs::RunLemmas::run_bind), unfolding(crate::specs::Colours::read_mask_in_bl))]
+#[tactic(auto, using(crate::proofs::PlanRuns::run_bind), unfolding(crate::specs::Colours::read_mask_in_bl))]
 fn answer_mask<B: Bus>(bus: &mut B, regs: &mut Regs)
     ensures { (bus.new, regs.new) ≡ run B.meaning (read_mask_in_bl regs.old) bus.old }
 {
@@ -147,7 +147,7 @@ fn answer_mask<B: Bus>(bus: &mut B, regs: &mut Regs)
 }
 
 /// Does what a subfunction does that is not refused.
-#[tactic(auto, using(crate::proofs::RunLemmas::run_bind), unfolding(crate::specs::Colours::colours_plan, crate::specs::Colours::colour_refusal))]
+#[tactic(auto, using(crate::proofs::PlanRuns::run_bind), unfolding(crate::specs::Colours::colours_plan, crate::specs::Colours::colour_refusal))]
 pub(crate) fn perform_colours<B: Bus>(
     bus: &mut B,
     port: u16,

@@ -29,7 +29,7 @@ pub(crate) fn cursor_cell(bda: &Bda, page: u8) -> u32
 }
 
 /// Writes a word to two registers of the CRT controller, the high byte to the first.
-#[tactic(auto, using(crate::proofs::RunLemmas::run_bind), unfolding(crate::specs::Cursor::word_plan))]
+#[tactic(auto, using(crate::proofs::PlanRuns::run_bind), unfolding(crate::specs::Cursor::word_plan))]
 pub(crate) fn write_word<B: Bus>(bus: &mut B, port: u16, i: u8, n: u16)
     requires port { port < ports_end }
     requires register { i < 255 }
@@ -51,7 +51,7 @@ fn cursor_address(bda: &Bda, page: u8) -> u16
 }
 
 /// Shows the cursor of a page where it stands, in text on the active page.
-#[tactic(auto, using(crate::proofs::RunLemmas::run_bind), unfolding(crate::specs::Cursor::cursor_plan))]
+#[tactic(auto, using(crate::proofs::PlanRuns::run_bind), unfolding(crate::specs::Cursor::cursor_plan))]
 pub(crate) fn show_cursor<B: Bus>(bus: &mut B, bda: &Bda, page: u8)
     requires data { IsSet bda.now }
     requires page { page < pages_of bda.now }
@@ -68,7 +68,7 @@ pub(crate) fn show_cursor<B: Bus>(bus: &mut B, bda: &Bda, page: u8)
 }
 
 /// Moves the cursor of a page to a place, and shows it there.
-#[tactic(auto, using(crate::proofs::RunLemmas::run_bind), unfolding(crate::specs::Cursor::move_cursor_plan))]
+#[tactic(auto, using(crate::proofs::PlanRuns::run_bind), unfolding(crate::specs::Cursor::move_cursor_plan))]
 pub(crate) fn move_cursor<B: Bus>(bus: &mut B, bda: &mut Bda, page: u8, place: u16)
     requires data { IsSet bda.old }
     requires page { page < pages_of bda.old }
@@ -80,7 +80,7 @@ pub(crate) fn move_cursor<B: Bus>(bus: &mut B, bda: &mut Bda, page: u8, place: u
 }
 
 /// Sets the cursor's first and last scan line.
-#[tactic(auto, using(crate::proofs::RunLemmas::run_bind), unfolding(crate::specs::Cursor::cursor_type_plan))]
+#[tactic(auto, using(crate::proofs::PlanRuns::run_bind), unfolding(crate::specs::Cursor::cursor_type_plan))]
 pub(crate) fn set_cursor_type<B: Bus>(bus: &mut B, bda: &mut Bda, cursor_type: u16)
     requires { IsSet bda.old }
     ensures answer { (bus.new, bda.new) ≡ run B.meaning (cursor_type_plan bda.old cursor_type) bus.old }
@@ -93,7 +93,7 @@ pub(crate) fn set_cursor_type<B: Bus>(bus: &mut B, bda: &mut Bda, cursor_type: u
 }
 
 /// Shows a page, with its cursor, and makes it the active one.
-#[tactic(auto, using(crate::proofs::RunLemmas::run_bind), unfolding(crate::specs::Cursor::page_plan))]
+#[tactic(auto, using(crate::proofs::PlanRuns::run_bind), unfolding(crate::specs::Cursor::page_plan))]
 pub(crate) fn show_page<B: Bus>(bus: &mut B, bda: &mut Bda, page: u8)
     requires data { IsSet bda.old }
     requires page { page < pages_of bda.old }

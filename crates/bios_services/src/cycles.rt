@@ -84,7 +84,7 @@ pub(crate) fn attribute<B: Bus>(bus: &mut B, i: u8, value: u8)
 }
 
 /// Writes registers 0, 1, .. behind an index port.
-#[tactic(auto, using(crate::proofs::RunLemmas::run_bind), unfolding(crate::specs::Cycles::group))]
+#[tactic(auto, using(crate::proofs::PlanRuns::run_bind), unfolding(crate::specs::Cycles::group))]
 pub(crate) fn group<B: Bus>(bus: &mut B, port: u16, values: &[u8])
     requires port { port < ports_end }
     requires few { length values.now ≤ 32 }
@@ -96,7 +96,7 @@ pub(crate) fn group<B: Bus>(bus: &mut B, port: u16, values: &[u8])
 }
 
 /// Writes registers 0, 1, .. of the attribute controller.
-#[tactic(auto, using(crate::proofs::RunLemmas::run_bind), unfolding(crate::specs::Cycles::attribute_group))]
+#[tactic(auto, using(crate::proofs::PlanRuns::run_bind), unfolding(crate::specs::Cycles::attribute_group))]
 pub(crate) fn attribute_group<B: Bus>(bus: &mut B, values: &[u8])
     requires { length values.now ≤ 32 }
     ensures { bus.new ≡ (run B.meaning (attribute_group_plan values.now) bus.old).0 }

@@ -8,7 +8,7 @@ use crate::video_registers::{DAC_DATA, DAC_WRITE_INDEX};
 use vga_card::Bus;
 
 /// 10: writes red, green and blue of an entry.
-#[tactic(auto, using(crate::proofs::RunLemmas::run_bind), unfolding(crate::specs::Dac::set_entry_plan))]
+#[tactic(auto, using(crate::proofs::PlanRuns::run_bind), unfolding(crate::specs::Dac::set_entry_plan))]
 pub(crate) fn set_entry<B: Bus>(bus: &mut B, entry: u8, red: u8, green: u8, blue: u8)
     ensures { bus.new ≡ (run B.meaning (set_entry_plan entry red green blue) bus.old).0 }
 {
@@ -19,7 +19,7 @@ pub(crate) fn set_entry<B: Bus>(bus: &mut B, entry: u8, red: u8, green: u8, blue
 }
 
 /// Writes bytes to the DAC's data.
-#[tactic(auto, using(crate::proofs::RunLemmas::run_bind), unfolding(crate::specs::Dac::components_plan))]
+#[tactic(auto, using(crate::proofs::PlanRuns::run_bind), unfolding(crate::specs::Dac::components_plan))]
 fn write_components<B: Bus>(bus: &mut B, block: &[u8])
     ensures { bus.new ≡ (run B.meaning (components_plan block.now) bus.old).0 }
 {
@@ -29,7 +29,7 @@ fn write_components<B: Bus>(bus: &mut B, block: &[u8])
 }
 
 /// 12: writes red, green and blue of each entry from one on.
-#[tactic(auto, using(crate::proofs::RunLemmas::run_bind), unfolding(crate::specs::Dac::set_entries_plan))]
+#[tactic(auto, using(crate::proofs::PlanRuns::run_bind), unfolding(crate::specs::Dac::set_entries_plan))]
 pub(crate) fn set_entries<B: Bus>(bus: &mut B, first: u8, block: &[u8])
     ensures { bus.new ≡ (run B.meaning (set_entries_plan first block.now) bus.old).0 }
 {

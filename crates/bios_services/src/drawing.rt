@@ -7,11 +7,11 @@ ghost use Rattle.bios_services.specs.Drawing.{cell_band as cell_band_of, put_gly
 
 use crate::band::Band;
 use crate::cells::{cell_address, write_cell};
-use crate::cycles::{get, graphics, put, sequencer};
-use crate::glyphs::glyph_line;
 use crate::colouring::Colouring;
-use crate::kind::{by_kind, kind_of};
+use crate::cycles::{get, graphics, put, sequencer};
 use crate::filling::Filling;
+use crate::glyphs::glyph_line;
+use crate::kind::{by_kind, kind_of};
 use crate::video_registers::{ALL_PLANES, DATA_ROTATE, MAP_MASK, REPLACE, XOR};
 use bios_modes::{Bda, Fonts};
 use vga_bits::is_set;
@@ -29,7 +29,7 @@ pub(crate) fn cell_band(bda: &Bda, page: u8, q: u32) -> Band
 }
 
 /// Writes a glyph to a cell of planes, line by line.
-#[tactic(auto, using(crate::proofs::RunLemmas::run_bind), unfolding(crate::specs::Drawing::put_glyph))]
+#[tactic(auto, using(crate::proofs::PlanRuns::run_bind), unfolding(crate::specs::Drawing::put_glyph))]
 fn put_glyph<B: Bus>(bus: &mut B, cell: Band, row: u32, fonts: &Fonts, character: u8)
     requires cell { IsBand cell }
     requires row { row < reached_cells }
@@ -50,7 +50,7 @@ fn put_over<B: Bus>(bus: &mut B, address: u32, dots: u8)
 }
 
 /// Writes a glyph to a cell of planes, each line after it was read.
-#[tactic(auto, using(crate::proofs::RunLemmas::run_bind), unfolding(crate::specs::Drawing::put_glyph_over))]
+#[tactic(auto, using(crate::proofs::PlanRuns::run_bind), unfolding(crate::specs::Drawing::put_glyph_over))]
 fn put_glyph_over<B: Bus>(bus: &mut B, cell: Band, row: u32, fonts: &Fonts, character: u8)
     requires cell { IsBand cell }
     requires row { row < reached_cells }
@@ -63,7 +63,7 @@ fn put_glyph_over<B: Bus>(bus: &mut B, cell: Band, row: u32, fonts: &Fonts, char
 }
 
 /// Draws a character in 16 colours.
-#[tactic(auto, using(crate::proofs::RunLemmas::run_bind), unfolding(crate::specs::Drawing::plain_plan))]
+#[tactic(auto, using(crate::proofs::PlanRuns::run_bind), unfolding(crate::specs::Drawing::plain_plan))]
 fn draw_plain<B: Bus>(bus: &mut B, cell: Band, row: u32, fonts: &Fonts, character: u8, colour: u8)
     requires cell { IsBand cell }
     requires row { row < reached_cells }
@@ -76,7 +76,7 @@ fn draw_plain<B: Bus>(bus: &mut B, cell: Band, row: u32, fonts: &Fonts, characte
 }
 
 /// Draws a character in 16 colours by XOR.
-#[tactic(auto, using(crate::proofs::RunLemmas::run_bind), unfolding(crate::specs::Drawing::xor_plan))]
+#[tactic(auto, using(crate::proofs::PlanRuns::run_bind), unfolding(crate::specs::Drawing::xor_plan))]
 fn draw_by_xor<B: Bus>(bus: &mut B, cell: Band, row: u32, fonts: &Fonts, character: u8, colour: u8)
     requires cell { IsBand cell }
     requires row { row < reached_cells }
@@ -112,7 +112,7 @@ fn dot(dots: u8, colour: u8, i: u32) -> u8
 }
 
 /// Draws a line of a glyph in 256 colours.
-#[tactic(auto, using(crate::proofs::RunLemmas::run_bind), unfolding(crate::specs::Drawing::put_dots))]
+#[tactic(auto, using(crate::proofs::PlanRuns::run_bind), unfolding(crate::specs::Drawing::put_dots))]
 fn put_dots<B: Bus>(bus: &mut B, cell: Band, row: u32, line: u32, dots: u8, colour: u8)
     requires cell { IsBand cell }
     requires row { row < reached_cells }
@@ -125,7 +125,7 @@ fn put_dots<B: Bus>(bus: &mut B, cell: Band, row: u32, line: u32, dots: u8, colo
 }
 
 /// Draws a character in 256 colours.
-#[tactic(auto, using(crate::proofs::RunLemmas::run_bind), unfolding(crate::specs::Drawing::packed_plan))]
+#[tactic(auto, using(crate::proofs::PlanRuns::run_bind), unfolding(crate::specs::Drawing::packed_plan))]
 fn draw_packed<B: Bus>(bus: &mut B, cell: Band, row: u32, fonts: &Fonts, character: u8, colour: u8)
     requires cell { IsBand cell }
     requires row { row < reached_cells }
@@ -164,7 +164,7 @@ pub(crate) fn write_character<B: Bus>(
 }
 
 /// Writes a character to n cells of a page from cell q on.
-#[tactic(auto, using(crate::proofs::RunLemmas::run_bind), unfolding(crate::specs::Drawing::characters_plan))]
+#[tactic(auto, using(crate::proofs::PlanRuns::run_bind), unfolding(crate::specs::Drawing::characters_plan))]
 pub(crate) fn write_characters<B: Bus>(
     bus: &mut B,
     fonts: &Fonts,

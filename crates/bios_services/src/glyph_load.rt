@@ -105,7 +105,7 @@ impl GlyphLoad {
     }
 
     /// Writes the lines of a character to plane 2.
-    #[tactic(auto, using(crate::proofs::RunLemmas::run_bind), unfolding(crate::specs::ModeSet::glyph_plan))]
+    #[tactic(auto, using(crate::proofs::PlanRuns::run_bind), unfolding(crate::specs::ModeSet::glyph_plan))]
     fn write_glyph<B: Bus>(self, bus: &mut B, fonts: &Fonts, block: &[u8], c: u16)
         requires there { AreThere self (length block.now) }
         requires first { self.first ≤ c }
@@ -122,7 +122,7 @@ impl GlyphLoad {
     }
 
     /// Writes the lines of all characters.
-    #[tactic(auto, using(crate::proofs::RunLemmas::run_bind), unfolding(crate::specs::ModeSet::glyphs_plan))]
+    #[tactic(auto, using(crate::proofs::PlanRuns::run_bind), unfolding(crate::specs::ModeSet::glyphs_plan))]
     fn write_glyphs<B: Bus>(self, bus: &mut B, fonts: &Fonts, block: &[u8])
         requires { AreThere self (length block.now) }
         ensures { bus.new ≡ (run B.meaning (glyphs_plan (loaded_line fonts.now self block.now) self.height self.count self.first) bus.old).0 }
@@ -133,7 +133,7 @@ impl GlyphLoad {
     }
 
     /// Writes the glyphs to plane 2, and reaches planes 0 and 1 again, in the window of this value of graphics register 6.
-    #[tactic(auto, using(crate::proofs::RunLemmas::run_bind), unfolding(crate::specs::ModeSet::font_plan))]
+    #[tactic(auto, using(crate::proofs::PlanRuns::run_bind), unfolding(crate::specs::ModeSet::font_plan))]
     fn write_font<B: Bus>(self, bus: &mut B, fonts: &Fonts, block: &[u8], window: u8)
         requires { AreThere self (length block.now) }
         ensures { bus.new ≡ (run B.meaning (font_plan (loaded_line fonts.now self block.now) self.height self.count self.first window) bus.old).0 }
@@ -157,7 +157,7 @@ impl GlyphLoad {
     }
 
     /// Writes the glyphs, and gives the CRT controller the values of the row of their height.
-    #[tactic(auto, using(crate::proofs::RunLemmas::run_bind), unfolding(crate::specs::GlyphLoads::load_plan))]
+    #[tactic(auto, using(crate::proofs::PlanRuns::run_bind), unfolding(crate::specs::GlyphLoads::load_plan))]
     pub(crate) fn write<B: Bus>(self, bus: &mut B, fonts: &Fonts, block: &[u8], row: &ModeRow)
         requires there { AreThere self (length block.now) }
         requires port { row.now.crtc_address < ports_end }

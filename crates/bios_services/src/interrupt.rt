@@ -15,13 +15,13 @@ ghost use Rattle.bios_services.specs.Service.{set_mode_plan, load_at, load_in_mo
 
 use crate::call::{Call, Service, decode};
 use crate::cells::{cell_address, read_cell};
+use crate::character_reading::read_character;
 use crate::colours::perform_colours;
 use crate::cursor::{cursor_cell, move_cursor, set_cursor_type, show_page};
 use crate::drawing::cell_band;
 use crate::glyph_load::GlyphLoad;
 use crate::mode_set;
 use crate::pixels::{read_pixel, write_pixel};
-use crate::reading::read_character;
 use crate::refusals::{page_named, refusal_in_mode, unknown_refusal};
 use crate::regs::{Regs, with_low};
 use crate::reply::{Reply, ServiceError, Table};
@@ -42,7 +42,7 @@ fn read_cursor(bda: &Bda, page: u8, regs: &mut Regs)
 }
 
 /// Answers the character of the cell at the cursor of a page, and in text its attribute.
-#[tactic(auto, using(crate::proofs::RunLemmas::run_bind), unfolding(crate::specs::Service::read_cell_service))]
+#[tactic(auto, using(crate::proofs::PlanRuns::run_bind), unfolding(crate::specs::Service::read_cell_service))]
 fn read_cursor_cell<B: Bus>(bus: &mut B, fonts: &Fonts, bda: &Bda, page: u8, regs: &mut Regs)
     requires data { IsSet bda.now }
     requires page { page < pages_of bda.now }
@@ -59,7 +59,7 @@ fn read_cursor_cell<B: Bus>(bus: &mut B, fonts: &Fonts, bda: &Bda, page: u8, reg
 }
 
 /// Answers the colour of a dot.
-#[tactic(auto, using(crate::proofs::RunLemmas::run_bind), unfolding(crate::specs::Service::read_pixel_service))]
+#[tactic(auto, using(crate::proofs::PlanRuns::run_bind), unfolding(crate::specs::Service::read_pixel_service))]
 fn read_pixel_colour<B: Bus>(bus: &mut B, bda: &Bda, page: u8, x: u16, y: u16, regs: &mut Regs)
     requires data { IsSet bda.now }
     requires page { page < pages_of bda.now }
@@ -99,7 +99,7 @@ fn read_display(regs: &mut Regs)
 }
 
 /// Does what a service does that is not refused.
-#[tactic(auto, using(crate::proofs::RunLemmas::run_bind), unfolding(crate::specs::Service::plan_of, crate::specs::Refusals::refusal_in_mode))]
+#[tactic(auto, using(crate::proofs::PlanRuns::run_bind), unfolding(crate::specs::Service::plan_of, crate::specs::Refusals::refusal_in_mode))]
 fn perform<B: Bus>(
     bus: &mut B,
     bda: &mut Bda,
@@ -179,7 +179,7 @@ fn answer_of(regs: Regs) -> Result<Reply, Refusal>
 }
 
 /// Sets a mode, where there is one of this number.
-#[tactic(auto, using(crate::proofs::RunLemmas::run_bind, crate::proofs::BoundLemmas::begins_valid), unfolding(crate::specs::Service::set_mode_plan))]
+#[tactic(auto, using(crate::proofs::PlanRuns::run_bind, crate::proofs::BoundLemmas::begins_valid), unfolding(crate::specs::Service::set_mode_plan))]
 fn set_mode<B: Bus>(
     bus: &mut B,
     bda: &mut Bda,
@@ -201,7 +201,7 @@ fn set_mode<B: Bus>(
 }
 
 /// Loads glyphs that are not refused but for their height, where there is a row of that.
-#[tactic(auto, using(crate::proofs::RunLemmas::run_bind, crate::proofs::BoundLemmas::begins_valid_at, crate::proofs::BoundLemmas::there_of, crate::proofs::BoundLemmas::port_small), unfolding(crate::specs::Service::load_at))]
+#[tactic(auto, using(crate::proofs::PlanRuns::run_bind, crate::proofs::BoundLemmas::begins_valid_at, crate::proofs::BoundLemmas::there_of, crate::proofs::BoundLemmas::port_small), unfolding(crate::specs::Service::load_at))]
 fn load_allowed<B: Bus>(
     bus: &mut B,
     bda: &mut Bda,
@@ -246,7 +246,7 @@ fn load_in_mode<B: Bus>(
 }
 
 /// Does a service that needs a mode, unless it is refused.
-#[tactic(auto, using(crate::proofs::RunLemmas::run_bind, crate::proofs::BoundLemmas::set_of_valid), unfolding(crate::specs::Service::in_mode_plan, crate::specs::Service::unless))]
+#[tactic(auto, using(crate::proofs::PlanRuns::run_bind, crate::proofs::BoundLemmas::set_of_valid), unfolding(crate::specs::Service::in_mode_plan, crate::specs::Service::unless))]
 fn in_mode<B: Bus>(
     bus: &mut B,
     bda: &mut Bda,
@@ -267,7 +267,7 @@ fn in_mode<B: Bus>(
 }
 
 /// Answers a table, unless that is refused.
-#[tactic(auto, using(crate::proofs::RunLemmas::run_bind, crate::proofs::BoundLemmas::set_of_valid), unfolding(crate::specs::Service::table_in_mode_plan, crate::specs::Service::table_unless))]
+#[tactic(auto, using(crate::proofs::PlanRuns::run_bind, crate::proofs::BoundLemmas::set_of_valid), unfolding(crate::specs::Service::table_in_mode_plan, crate::specs::Service::table_unless))]
 fn table_in_mode<B: Bus>(
     alloc: Global,
     bus: &mut B,

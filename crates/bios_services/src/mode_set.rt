@@ -20,7 +20,7 @@ const TEXT_LEN: u32 = 0x8000;
 const GRAPHICS_LEN: u32 = 0x10000;
 
 /// Writes all registers.
-#[tactic(auto, using(crate::proofs::RunLemmas::run_bind), unfolding(crate::specs::ModeSet::registers_plan))]
+#[tactic(auto, using(crate::proofs::PlanRuns::run_bind), unfolding(crate::specs::ModeSet::registers_plan))]
 fn write_registers<B: Bus>(bus: &mut B, row: &ModeRow)
     requires { row.now.crtc_address < ports_end }
     ensures { bus.new ≡ (run B.meaning (registers_plan row.now) bus.old).0 }
@@ -37,7 +37,7 @@ fn write_registers<B: Bus>(bus: &mut B, row: &ModeRow)
 }
 
 /// Writes red, green and blue of the DAC's next entry.
-#[tactic(auto, using(crate::proofs::RunLemmas::run_bind), unfolding(crate::specs::ModeSet::colour_plan))]
+#[tactic(auto, using(crate::proofs::PlanRuns::run_bind), unfolding(crate::specs::ModeSet::colour_plan))]
 fn write_colour<B: Bus>(bus: &mut B, colour: [u8; 3])
     ensures { bus.new ≡ (run B.meaning (colour_plan colour) bus.old).0 }
 {
@@ -47,7 +47,7 @@ fn write_colour<B: Bus>(bus: &mut B, colour: [u8; 3])
 }
 
 /// Writes the DAC's mask, and the first n entries of a mode's palette.
-#[tactic(auto, using(crate::proofs::RunLemmas::run_bind), unfolding(crate::specs::ModeSet::palette_plan))]
+#[tactic(auto, using(crate::proofs::PlanRuns::run_bind), unfolding(crate::specs::ModeSet::palette_plan))]
 fn write_palette<B: Bus>(bus: &mut B, mode: u8, n: u16)
     requires { n ≤ 256 }
     ensures { bus.new ≡ (run B.meaning (palette_plan mode n) bus.old).0 }
@@ -68,7 +68,7 @@ fn blank_byte(w: u32) -> u8
 }
 
 /// Writes n bytes of blank cells from an address on.
-#[tactic(auto, using(crate::proofs::RunLemmas::run_bind), unfolding(crate::specs::ModeSet::blank_plan))]
+#[tactic(auto, using(crate::proofs::PlanRuns::run_bind), unfolding(crate::specs::ModeSet::blank_plan))]
 fn write_blanks<B: Bus>(bus: &mut B, base: u32, n: u32)
     requires { base + n < 2 ^ 32 }
     ensures { bus.new ≡ (run B.meaning (blank_plan base n) bus.old).0 }
@@ -79,7 +79,7 @@ fn write_blanks<B: Bus>(bus: &mut B, base: u32, n: u32)
 }
 
 /// Writes n bytes of 0 to the memory of a graphics mode.
-#[tactic(auto, using(crate::proofs::RunLemmas::run_bind), unfolding(crate::specs::ModeSet::clear_plan))]
+#[tactic(auto, using(crate::proofs::PlanRuns::run_bind), unfolding(crate::specs::ModeSet::clear_plan))]
 fn clear<B: Bus>(bus: &mut B, n: u32)
     requires { n ≤ 65536 }
     ensures { bus.new ≡ (run B.meaning (clear_plan n) bus.old).0 }
@@ -90,7 +90,7 @@ fn clear<B: Bus>(bus: &mut B, n: u32)
 }
 
 /// Writes what a text mode has besides registers and palette.
-#[tactic(auto, using(crate::proofs::RunLemmas::run_bind), unfolding(crate::specs::ModeSet::text_plan))]
+#[tactic(auto, using(crate::proofs::PlanRuns::run_bind), unfolding(crate::specs::ModeSet::text_plan))]
 fn write_text<B: Bus>(bus: &mut B, row: &ModeRow, keeps: bool, fonts: &Fonts)
     requires { row.now.base < 2 ^ 20 }
     ensures { bus.new ≡ (run B.meaning (text_plan row.now keeps fonts.now.f16) bus.old).0 }
@@ -102,7 +102,7 @@ fn write_text<B: Bus>(bus: &mut B, row: &ModeRow, keeps: bool, fonts: &Fonts)
 }
 
 /// Writes what a mode has besides registers and palette.
-#[tactic(auto, using(crate::proofs::RunLemmas::run_bind), unfolding(crate::specs::ModeSet::memory_plan))]
+#[tactic(auto, using(crate::proofs::PlanRuns::run_bind), unfolding(crate::specs::ModeSet::memory_plan))]
 fn write_memory<B: Bus>(bus: &mut B, mode: u8, row: &ModeRow, keeps: bool, fonts: &Fonts)
     requires { row.now.base < 2 ^ 20 }
     ensures { bus.new ≡ (run B.meaning (memory_plan mode row.now keeps fonts.now.f16) bus.old).0 }
@@ -115,7 +115,7 @@ fn write_memory<B: Bus>(bus: &mut B, mode: u8, row: &ModeRow, keeps: bool, fonts
 }
 
 /// Sets a mode, and clears its memory unless it is kept.
-#[tactic(auto, using(crate::proofs::RunLemmas::run_bind), unfolding(crate::specs::ModeSet::mode_set_plan))]
+#[tactic(auto, using(crate::proofs::PlanRuns::run_bind), unfolding(crate::specs::ModeSet::mode_set_plan))]
 pub(crate) fn set_mode<B: Bus>(bus: &mut B, mode: u8, row: &ModeRow, keeps: bool, fonts: &Fonts)
     requires port { row.now.crtc_address < ports_end }
     requires base { row.now.base < 2 ^ 20 }

@@ -14,7 +14,7 @@ use vga_card::Bus;
 const PALETTE_LEN: usize = 16;
 
 /// 00 and 01: writes a register of the attribute controller.
-#[tactic(auto, using(crate::proofs::RunLemmas::run_bind), unfolding(crate::specs::Palette::set_register_plan))]
+#[tactic(auto, using(crate::proofs::PlanRuns::run_bind), unfolding(crate::specs::Palette::set_register_plan))]
 pub(crate) fn set_register<B: Bus>(bus: &mut B, port: u16, i: u8, value: u8)
     requires { port < ports_end }
     ensures { bus.new ≡ (run B.meaning (set_register_plan port i value) bus.old).0 }
@@ -25,7 +25,7 @@ pub(crate) fn set_register<B: Bus>(bus: &mut B, port: u16, i: u8, value: u8)
 }
 
 /// 02: writes the palette registers and the overscan colour, of 17 bytes.
-#[tactic(auto, using(crate::proofs::RunLemmas::run_bind), unfolding(crate::specs::Palette::set_palette_plan))]
+#[tactic(auto, using(crate::proofs::PlanRuns::run_bind), unfolding(crate::specs::Palette::set_palette_plan))]
 pub(crate) fn set_palette<B: Bus>(bus: &mut B, port: u16, block: &[u8])
     requires port { port < ports_end }
     requires whole { length block.now ≡ 17 }
@@ -39,7 +39,7 @@ pub(crate) fn set_palette<B: Bus>(bus: &mut B, port: u16, block: &[u8])
 }
 
 /// 03: makes bit 7 of attributes blink, or bright.
-#[tactic(auto, using(crate::proofs::RunLemmas::run_bind), unfolding(crate::specs::Palette::set_blinking_plan))]
+#[tactic(auto, using(crate::proofs::PlanRuns::run_bind), unfolding(crate::specs::Palette::set_blinking_plan))]
 pub(crate) fn set_blinking<B: Bus>(bus: &mut B, port: u16, blinking: u8)
     requires port { port < ports_end }
     requires blinking { blinking ≤ 1 }
@@ -53,7 +53,7 @@ pub(crate) fn set_blinking<B: Bus>(bus: &mut B, port: u16, blinking: u8)
 }
 
 /// Reads a register of the attribute controller, where its next write is an index.
-#[tactic(auto, using(crate::proofs::RunLemmas::run_bind), unfolding(crate::specs::Palette::register_plan))]
+#[tactic(auto, using(crate::proofs::PlanRuns::run_bind), unfolding(crate::specs::Palette::register_plan))]
 pub(crate) fn register<B: Bus>(bus: &mut B, port: u16, i: u8) -> u8
     requires port { port < ports_end }
     requires register { i < 32 }
@@ -66,7 +66,7 @@ pub(crate) fn register<B: Bus>(bus: &mut B, port: u16, i: u8) -> u8
 }
 
 /// 07 and 08: reads a register of the attribute controller.
-#[tactic(auto, using(crate::proofs::RunLemmas::run_bind), unfolding(crate::specs::Palette::read_register_plan))]
+#[tactic(auto, using(crate::proofs::PlanRuns::run_bind), unfolding(crate::specs::Palette::read_register_plan))]
 pub(crate) fn read_register<B: Bus>(bus: &mut B, port: u16, i: u8) -> u8
     requires port { port < ports_end }
     requires register { i < 32 }

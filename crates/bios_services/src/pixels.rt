@@ -56,7 +56,7 @@ fn set_function<B: Bus>(bus: &mut B, colour: u8, function: u8)
 }
 
 /// Writes a dot in 16 colours.
-#[tactic(auto, using(crate::proofs::RunLemmas::run_bind), unfolding(crate::specs::Pixels::write_dot_plan))]
+#[tactic(auto, using(crate::proofs::PlanRuns::run_bind), unfolding(crate::specs::Pixels::write_dot_plan))]
 fn write_dot<B: Bus>(bus: &mut B, address: u32, x: u16, colour: u8)
     ensures { bus.new ≡ (run B.meaning (write_dot_plan address x colour) bus.old).0 }
 {
@@ -87,7 +87,7 @@ pub(crate) fn write_pixel<B: Bus>(bus: &mut B, bda: &Bda, page: u8, x: u16, y: u
 }
 
 /// Reads the byte of a plane.
-#[tactic(auto, using(crate::proofs::RunLemmas::run_bind))]
+#[tactic(auto, using(crate::proofs::PlanRuns::run_bind))]
 fn plane_byte<B: Bus>(bus: &mut B, plane: u8, address: u32) -> u8
     ensures { (bus.new, result) ≡ run B.meaning (plane_byte_plan plane address) bus.old }
 {
@@ -105,7 +105,7 @@ fn bit(byte: u8, i: u32) -> u8
 }
 
 /// Reads a dot in 16 colours.
-#[tactic(auto, using(crate::proofs::RunLemmas::run_bind), unfolding(crate::specs::Pixels::read_dot_plan))]
+#[tactic(auto, using(crate::proofs::PlanRuns::run_bind), unfolding(crate::specs::Pixels::read_dot_plan))]
 fn read_dot<B: Bus>(bus: &mut B, address: u32, x: u16) -> u8
     ensures { (bus.new, result) ≡ run B.meaning (read_dot_plan address x) bus.old }
 {

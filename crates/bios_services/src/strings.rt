@@ -5,8 +5,8 @@ ghost use Rattle.bios_services.specs.Bounds.{IsSet, StaysInMode, pages_of};
 ghost use Rattle.bios_services.specs.Cursor.{row_of};
 ghost use Rattle.bios_services.specs.Strings.{string_of as string_of_regs, string_len, character_at, colouring_at, type_string_plan, string_plan};
 
-use crate::cursor::move_cursor;
 use crate::colouring::Colouring;
+use crate::cursor::move_cursor;
 use crate::regs::{Regs, high, low};
 use crate::teletype::type_character;
 use bios_modes::{Bda, Fonts};
@@ -85,7 +85,7 @@ impl StringCall {
     }
 
     /// Types the characters on a page, and answers the place behind them.
-    #[tactic(auto, using(crate::proofs::RunLemmas::run_bind), unfolding(crate::specs::Strings::type_string_plan))]
+    #[tactic(auto, using(crate::proofs::PlanRuns::run_bind), unfolding(crate::specs::Strings::type_string_plan))]
     fn type_all<B: Bus>(self, bus: &mut B, fonts: &Fonts, bda: &Bda, page: u8, block: &[u8]) -> u16
         requires data { IsSet bda.now }
         requires page { page < pages_of bda.now }
@@ -103,7 +103,7 @@ impl StringCall {
     }
 
     /// Types the string on a page, and moves the cursor behind it where that is asked.
-    #[tactic(auto, using(crate::proofs::RunLemmas::run_bind), unfolding(crate::specs::Strings::string_plan))]
+    #[tactic(auto, using(crate::proofs::PlanRuns::run_bind), unfolding(crate::specs::Strings::string_plan))]
     pub(crate) fn write<B: Bus>(
         self,
         bus: &mut B,

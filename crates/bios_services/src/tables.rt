@@ -46,7 +46,7 @@ fn palette_register(i: usize) -> u8
 }
 
 /// Reads the palette registers and the overscan colour, where the attribute controller's next write is an index.
-#[tactic(auto, using(crate::proofs::RunLemmas::run_bind), unfolding(crate::specs::Tables::registers_plan))]
+#[tactic(auto, using(crate::proofs::PlanRuns::run_bind), unfolding(crate::specs::Tables::registers_plan))]
 fn read_registers<B: Bus>(bus: &mut B, port: u16, values: &mut [u8])
     requires port { port < ports_end }
     requires whole { length values.old ≡ 17 }
@@ -58,7 +58,7 @@ fn read_registers<B: Bus>(bus: &mut B, port: u16, values: &mut [u8])
 }
 
 /// 09: reads the palette registers and the overscan colour.
-#[tactic(auto, using(crate::proofs::RunLemmas::run_bind), unfolding(crate::specs::Tables::read_palette_plan))]
+#[tactic(auto, using(crate::proofs::PlanRuns::run_bind), unfolding(crate::specs::Tables::read_palette_plan))]
 fn read_palette<B: Bus>(bus: &mut B, port: u16) -> [u8; PALETTE_BYTES]
     requires { port < ports_end }
     ensures { (bus.new, result) ≡ run B.meaning (read_palette_plan port) bus.old }
@@ -70,7 +70,7 @@ fn read_palette<B: Bus>(bus: &mut B, port: u16) -> [u8; PALETTE_BYTES]
 }
 
 /// Reads bytes from the DAC's data.
-#[tactic(auto, using(crate::proofs::RunLemmas::run_bind), unfolding(crate::specs::Tables::read_components_plan))]
+#[tactic(auto, using(crate::proofs::PlanRuns::run_bind), unfolding(crate::specs::Tables::read_components_plan))]
 fn read_components<B: Bus>(bus: &mut B, values: &mut Bytes)
     ensures { (bus.new, values.new) ≡ run B.meaning (read_components_plan (length values.old)) bus.old }
 {
@@ -82,7 +82,7 @@ fn read_components<B: Bus>(bus: &mut B, values: &mut Bytes)
 
 /// 17: reads red, green and blue of some entries from one on. The memory for them is taken before the
 /// first cycle; none is for no entries.
-#[tactic(auto, using(crate::proofs::RunLemmas::run_bind), unfolding(crate::specs::Tables::read_entries_plan, vga_bits::specs::Bytes::zeros))]
+#[tactic(auto, using(crate::proofs::PlanRuns::run_bind), unfolding(crate::specs::Tables::read_entries_plan, vga_bits::specs::Bytes::zeros))]
 fn read_entries<B: Bus>(
     alloc: Global,
     bus: &mut B,
@@ -101,7 +101,7 @@ fn read_entries<B: Bus>(
 }
 
 /// Does what a subfunction does that is not refused. Memory is taken for some entries of the DAC alone.
-#[tactic(auto, using(crate::proofs::RunLemmas::run_bind), unfolding(crate::specs::Tables::table_plan))]
+#[tactic(auto, using(crate::proofs::PlanRuns::run_bind), unfolding(crate::specs::Tables::table_plan))]
 pub(crate) fn read_table<B: Bus>(
     alloc: Global,
     bus: &mut B,

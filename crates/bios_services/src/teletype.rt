@@ -7,10 +7,10 @@ ghost use Rattle.bios_services.specs.Teletype.{line_feed_fill as line_feed_fill_
 
 use crate::band::Band;
 use crate::cells::cell_address;
+use crate::colouring::Colouring;
 use crate::cursor::{cell_number, move_cursor};
 use crate::cycles::get;
 use crate::drawing::write_character;
-use crate::colouring::Colouring;
 use bios_modes::{Bda, Fonts, is_text};
 use vga_card::Bus;
 
@@ -24,7 +24,7 @@ const LINE_FEED: u8 = 0x0A;
 const CARRIAGE_RETURN: u8 = 0x0D;
 
 /// What a new row is filled with: an attribute in text, and colour 0 in graphics.
-#[tactic(auto, using(crate::proofs::RunLemmas::run_bind), unfolding(crate::specs::Teletype::line_feed_fill))]
+#[tactic(auto, using(crate::proofs::PlanRuns::run_bind), unfolding(crate::specs::Teletype::line_feed_fill))]
 fn line_feed_fill<B: Bus>(bus: &mut B, bda: &Bda, page: u8, place: u16) -> u8
     requires data { IsSet bda.now }
     requires page { page < pages_of bda.now }
@@ -38,7 +38,7 @@ fn line_feed_fill<B: Bus>(bus: &mut B, bda: &Bda, page: u8, place: u16) -> u8
 }
 
 /// The place below one; on the last row the place itself, with the page a row up.
-#[tactic(auto, using(crate::proofs::RunLemmas::run_bind), unfolding(crate::specs::Teletype::line_feed_plan))]
+#[tactic(auto, using(crate::proofs::PlanRuns::run_bind), unfolding(crate::specs::Teletype::line_feed_plan))]
 fn line_feed<B: Bus>(bus: &mut B, bda: &Bda, page: u8, place: u16) -> u16
     requires data { IsSet bda.now }
     requires page { page < pages_of bda.now }
@@ -57,7 +57,7 @@ fn line_feed<B: Bus>(bus: &mut B, bda: &Bda, page: u8, place: u16) -> u16
 }
 
 /// The place behind one.
-#[tactic(auto, using(crate::proofs::RunLemmas::run_bind), unfolding(crate::specs::Teletype::cursor_advance_plan))]
+#[tactic(auto, using(crate::proofs::PlanRuns::run_bind), unfolding(crate::specs::Teletype::cursor_advance_plan))]
 fn cursor_advance<B: Bus>(bus: &mut B, bda: &Bda, page: u8, place: u16) -> u16
     requires data { IsSet bda.now }
     requires page { page < pages_of bda.now }
@@ -73,7 +73,7 @@ fn cursor_advance<B: Bus>(bus: &mut B, bda: &Bda, page: u8, place: u16) -> u16
 }
 
 /// Writes a character at a place, and answers the place behind.
-#[tactic(auto, using(crate::proofs::RunLemmas::run_bind), unfolding(crate::specs::Teletype::show_plan))]
+#[tactic(auto, using(crate::proofs::PlanRuns::run_bind), unfolding(crate::specs::Teletype::show_plan))]
 fn show<B: Bus>(
     bus: &mut B,
     fonts: &Fonts,
@@ -95,7 +95,7 @@ fn show<B: Bus>(
 }
 
 /// Types a character at a place, and answers the place afterwards.
-#[tactic(auto, using(crate::proofs::RunLemmas::run_bind), unfolding(crate::specs::Teletype::type_plan))]
+#[tactic(auto, using(crate::proofs::PlanRuns::run_bind), unfolding(crate::specs::Teletype::type_plan))]
 pub(crate) fn type_character<B: Bus>(
     bus: &mut B,
     fonts: &Fonts,
@@ -121,7 +121,7 @@ pub(crate) fn type_character<B: Bus>(
 }
 
 /// Types a character at the cursor of the active page, which then stands behind it.
-#[tactic(auto, using(crate::proofs::RunLemmas::run_bind), unfolding(crate::specs::Teletype::teletype_plan))]
+#[tactic(auto, using(crate::proofs::PlanRuns::run_bind), unfolding(crate::specs::Teletype::teletype_plan))]
 pub(crate) fn teletype<B: Bus>(bus: &mut B, fonts: &Fonts, bda: &mut Bda, character: u8, colour: u8)
     requires data { IsSet bda.old }
     requires row { row_of (place_of bda.old bda.old.page) ≤ bda.old.last_row }

@@ -5,14 +5,14 @@
 
 mod command_line;
 mod failure;
+mod input_files;
 mod job;
 mod lines;
-mod reading;
+mod output_files;
 mod scripts;
 mod status;
 mod words;
 mod words_error;
-mod writing;
 
 use failure::Failure;
 use job::Job;
@@ -24,21 +24,21 @@ use words_error::WordsError;
 
 /// Assembles the text at one path, and writes its binary form at another.
 fn assemble_file<R: Files + AllocGlobal>(rt: &R, text: &str, script: &str) -> Result<(), Fault> {
-    let bytes = scripts::assembled(rt.alloc(), &mut reading::open(rt, text)?)?;
-    writing::write_all(&mut writing::create(rt, script)?, bytes.as_slice())
+    let bytes = scripts::assembled(rt.alloc(), &mut input_files::open(rt, text)?)?;
+    output_files::write_all(&mut output_files::create(rt, script)?, bytes.as_slice())
 }
 
 /// Prints the script at a path.
 fn print_file<R: Files + Print + AllocGlobal>(rt: &R, script: &str) -> Result<(), Fault> {
     let alloc = rt.alloc();
-    let mut script = reading::open(rt, script)?;
-    let mut out = writing::buffered(alloc, io::writer(rt))?;
+    let mut script = input_files::open(rt, script)?;
+    let mut out = output_files::buffered(alloc, io::writer(rt))?;
     scripts::print_script(alloc, &mut script, &mut out)
 }
 
 /// The bytes of the font file at a path.
 fn fonts_at<R: Files + AllocGlobal>(rt: &R, path: &str) -> Result<Vec<u8>, Fault> {
-    reading::read_fonts(rt.alloc(), &mut reading::open(rt, path)?)
+    input_files::read_fonts(rt.alloc(), &mut input_files::open(rt, path)?)
 }
 
 /// Runs the script at one path over the font file at another.
@@ -50,8 +50,8 @@ fn run_file<R: Files + Print + AllocGlobal>(
 ) -> Result<(), Fault> {
     let alloc = rt.alloc();
     let fonts = fonts_at(rt, fonts)?;
-    let mut script = reading::open(rt, script)?;
-    let mut report = writing::buffered(alloc, io::writer(rt))?;
+    let mut script = input_files::open(rt, script)?;
+    let mut report = output_files::buffered(alloc, io::writer(rt))?;
     vga_run::run(alloc, &mut script, fonts.as_slice(), &mut report, until)
 }
 
@@ -64,8 +64,8 @@ fn run_text_file<R: Files + Print + AllocGlobal>(
 ) -> Result<(), Fault> {
     let alloc = rt.alloc();
     let fonts = fonts_at(rt, fonts)?;
-    let mut text = reading::open(rt, text)?;
-    let mut report = writing::buffered(alloc, io::writer(rt))?;
+    let mut text = input_files::open(rt, text)?;
+    let mut report = output_files::buffered(alloc, io::writer(rt))?;
     scripts::run_text(alloc, &mut text, fonts.as_slice(), &mut report, until)
 }
 

@@ -2,12 +2,12 @@
 ghost use Rattle.std.specs.Prelude.{◌≡◌, ◌≢◌, ◌⊎◌, ◌≤◌, ◌+◌, false, IfErr, Err};
 ghost use Rattle.vga_bits.specs.declared.fault.Fault.TheVariants.{WriteFault, OutOfMemory};
 ghost use Rattle.vga_bits.specs.Tracked.{inner_of, has_failed, is_write_fault, taken_of};
-ghost use Rattle.vga_bits.specs.Reading.{TakesAtMost, is_read_fault};
+ghost use Rattle.vga_bits.specs.LimitedReading.{TakesAtMost, is_read_fault};
 ghost use Rattle.bios_modes.specs.Fonts.{fonts_of};
 ghost use Rattle.vga_script.specs.Spelling.{script_limit};
 ghost use Rattle.vga.specs.Scripts.{Assembles, FindsScript, Prints, RunsText, StopsText};
 
-use super::writing::write_all;
+use super::output_files::write_all;
 use std::alloc::Global;
 use std::io::{Read, Write};
 use vga_bits::{Fault, Tracked};

@@ -5,7 +5,7 @@ use Rattle.std.specs.Io.KnownBytes.{Consumes}
 use Rattle.std.proofs.KnownBytes.{Consumes-trans}
 use Rattle.vga_bits.specs.declared.fault.Fault.{Fault}
 use Rattle.vga_bits.specs.declared.fault.Fault.TheVariants.{ReadFault, OutOfMemory}
-use Rattle.vga_bits.specs.Reading.{IsFront, ReadsFront, TakesAtMost, is_read_fault}
+use Rattle.vga_bits.specs.LimitedReading.{IsFront, ReadsFront, TakesAtMost, is_read_fault}
 
 -- the bytes so far, of which there are so many, are a front of what the reader had
 pub record Taken (old new : Option (List ℕ)) (failed : Bool) (before after : ℕ) (bytes : List ℕ) (count most : ℕ) : Type 0 where

@@ -4,7 +4,7 @@ pub mod Fault
 pub mod Four
 pub mod Hex
 pub mod Refusal
-pub mod Reading
+pub mod LimitedReading
 pub mod RegFile
 pub mod Tally
 pub mod Tracked

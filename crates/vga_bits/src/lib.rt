@@ -6,7 +6,7 @@
 pub mod bits;
 pub mod bytes;
 pub mod fault;
-pub mod reading;
+pub mod limited_reading;
 pub mod refusal;
 pub mod reg_file;
 pub mod tally;
@@ -16,7 +16,7 @@ pub mod tracked;
 pub use bits::is_set;
 pub use bytes::Bytes;
 pub use fault::{Fault, FaultName};
-pub use reading::read_front;
+pub use limited_reading::read_front;
 pub use refusal::Refusal;
 pub use reg_file::RegFile;
 pub use tally::Tally;

@@ -2,7 +2,7 @@ pub mod DumpLemmas
 pub mod NumberLemmas
 pub mod ReportLemmas
 pub mod TakenLemmas
-pub mod RunLemmas
+pub mod AnswerLemmas
 pub mod ScreenLemmas
 pub mod ServedLemmas
 pub mod StepLemmas

@@ -19,8 +19,8 @@ use Rattle.vga_show.specs.Latches.{latches_text}
 use Rattle.vga_show.specs.Plane.{plane_text}
 use Rattle.vga_show.specs.Bda.{bda_text}
 use Rattle.vga_show.specs.Cells.{cells_refusal, cells_text}
-use Rattle.vga_script.specs.declared.shown.Shown.{Shown}
-use Rattle.vga_script.specs.declared.shown.Shown.TheVariants as shown
+use Rattle.vga_script.specs.declared.dump_range.Shown.{Shown}
+use Rattle.vga_script.specs.declared.dump_range.Shown.TheVariants as shown
 use Rattle.vga_script.specs.declared.step.Step.{Step}
 use Rattle.vga_script.specs.declared.step.Step.TheVariants.{Out, OutWord, In, InWord, Put, PutWord, Get, GetWord, Int, Advance, Frame, Show}
 use Rattle.vga_run.specs.declared.machine.Machine.{Machine}

@@ -2,15 +2,15 @@
 #![tactic(auto)]
 
 mod answer;
-mod cells;
+mod cell_line;
 mod laws;
-mod line;
 pub mod machine;
 mod numbered_line;
 mod report;
 mod runs;
 mod screens;
 mod served;
+mod step_line;
 mod steps_report;
 
 pub use answer::Answer;

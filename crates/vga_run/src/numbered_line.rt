@@ -5,7 +5,7 @@ ghost use Rattle.vga_run.specs.Answer.{Plain};
 ghost use Rattle.vga_run.specs.Report.{line as line_of};
 
 use super::answer::Answer;
-use super::line::{Line, numbered, put_answer, put_number};
+use super::step_line::{Line, numbered, put_answer, put_number};
 use std::io::Write;
 use std::marker::Model;
 use vga_bits::{Fault, Tracked, write_whole};

@@ -8,17 +8,17 @@ ghost use Rattle.vga_run.specs.Step.{after_step, after_steps, dump_text, dump_re
 ghost use Rattle.vga_run.specs.Run.{WritesStep, WritesReport};
 ghost use Rattle.vga_script.specs.Step.{IsInRange, AreInRange};
 ghost use Rattle.vga_script.specs.declared.step.Step.TheVariants.{Int};
-ghost use Rattle.vga_script.specs.Shown.{IsShownInRange};
+ghost use Rattle.vga_script.specs.DumpRange.{IsShownInRange};
 ghost use Rattle.vga_run.specs.Report.{line as line_of, dump_or_refusal, picture_line as picture_line_of, last_dumps};
 ghost use Rattle.vga_show.specs.Ppm.{ppm};
 ghost use Rattle.bios_modes.specs.Valid.{IsValid};
 
 use super::answer::Answer;
-use super::cells::write_cells;
-use super::line::{Line, numbered, write_line};
+use super::cell_line::write_cells;
 use super::machine::Machine;
 use super::numbered_line::NumberedLine;
 use super::served::write_reply;
+use super::step_line::{Line, numbered, write_line};
 use bios_services::{Regs, ServiceError, int10};
 use std::alloc::Global;
 use std::io::Write;

@@ -2,7 +2,7 @@
 ghost use Rattle.std.specs.Prelude.{◌≡◌, ◌≢◌, ◌⊎◌, ◌≤◌, ◌+◌, length, false, IfErr, IfOk, None, Some, Err};
 ghost use Rattle.vga_bits.specs.declared.fault.Fault.TheVariants.{WriteFault, OutOfMemory};
 ghost use Rattle.vga_bits.specs.Tracked.{inner_of, has_failed, is_write_fault, taken_of};
-ghost use Rattle.vga_bits.specs.Reading.{TakesAtMost, is_read_fault};
+ghost use Rattle.vga_bits.specs.LimitedReading.{TakesAtMost, is_read_fault};
 ghost use Rattle.bios_modes.specs.Fonts.{file_len, fonts_of};
 ghost use Rattle.vga_script.specs.Item.{expanded};
 ghost use Rattle.vga_script.specs.Spelling.{script_limit};
@@ -83,7 +83,7 @@ pub fn run<R: Read, W: Write>(
 }
 
 /// What `run` does.
-#[tactic(auto, using(crate::proofs::RunLemmas::input_answers, crate::proofs::RunLemmas::input_stops, crate::proofs::RunLemmas::font_answers, crate::proofs::RunLemmas::unread_answers))]
+#[tactic(auto, using(crate::proofs::AnswerLemmas::input_answers, crate::proofs::AnswerLemmas::input_stops, crate::proofs::AnswerLemmas::font_answers, crate::proofs::AnswerLemmas::unread_answers))]
 fn run_steps<R: Read, W: Write>(
     alloc: Global,
     script: &mut Tracked<R>,
@@ -111,7 +111,7 @@ fn run_steps<R: Read, W: Write>(
 }
 
 /// Runs a script whose bytes are at hand, as `run` does. So its faults are those of `run` but `ReadFault`.
-#[tactic(auto, using(crate::proofs::RunLemmas::file_answers, crate::proofs::RunLemmas::font_answers))]
+#[tactic(auto, using(crate::proofs::AnswerLemmas::file_answers, crate::proofs::AnswerLemmas::font_answers))]
 pub fn run_bytes<W: Write>(
     alloc: Global,
     script: &[u8],
@@ -147,7 +147,7 @@ pub fn run_bytes<W: Write>(
 }
 
 /// Runs a script whose bytes are at hand over some fonts.
-#[tactic(auto, using(crate::proofs::RunLemmas::reports_of_steps, crate::proofs::RunLemmas::stops_of_steps, crate::proofs::RunLemmas::fault_answers))]
+#[tactic(auto, using(crate::proofs::AnswerLemmas::reports_of_steps, crate::proofs::AnswerLemmas::stops_of_steps, crate::proofs::AnswerLemmas::fault_answers))]
 fn run_bytes_over<W: Write>(
     alloc: Global,
     script: &[u8],
@@ -169,7 +169,7 @@ fn run_bytes_over<W: Write>(
 }
 
 /// Runs steps that are taken from the bytes of a script over some fonts.
-#[tactic(auto, using(crate::proofs::RunLemmas::report_answers, crate::proofs::RunLemmas::report_fails, crate::proofs::RunLemmas::report_stops))]
+#[tactic(auto, using(crate::proofs::AnswerLemmas::report_answers, crate::proofs::AnswerLemmas::report_fails, crate::proofs::AnswerLemmas::report_stops))]
 fn run_steps_over<W: Write>(
     alloc: Global,
     steps: Steps<'_>,
@@ -192,7 +192,7 @@ fn run_steps_over<W: Write>(
 
 /// Runs a script that was decoded or assembled, as `run` does. So its faults are `FontSize`, `WriteFault`
 /// and `OutOfMemory` alone.
-#[tactic(auto, using(crate::proofs::RunLemmas::steps_answers, crate::proofs::RunLemmas::font_runs))]
+#[tactic(auto, using(crate::proofs::AnswerLemmas::steps_answers, crate::proofs::AnswerLemmas::font_runs))]
 pub fn run_script<W: Write>(
     alloc: Global,
     script: &Script,

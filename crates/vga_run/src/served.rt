@@ -7,7 +7,7 @@ ghost use Rattle.bios_services.specs.Tables.{table_bytes};
 ghost use Rattle.vga_run.specs.Answer.{Served};
 ghost use Rattle.vga_run.specs.Report.{line, number_text, registers_text, table_text};
 
-use super::line::{Line, numbered};
+use super::step_line::{Line, numbered};
 use bios_services::{Regs, Reply};
 use std::io::Write;
 use vga_bits::{Fault, Tracked, write_whole};

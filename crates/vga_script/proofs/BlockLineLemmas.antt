@@ -8,7 +8,7 @@ use Rattle.vga_script.specs.declared.keyword.Keyword.{Keyword}
 use Rattle.vga_script.specs.declared.keyword.Keyword.TheVariants as keyword
 use Rattle.vga_script.specs.Words.{lowered}
 use Rattle.vga_script.specs.Text.{name_of, keyword_of, SpellsLine, SpellsRepeat, IsEnd, IsVersionTwo}
-use Rattle.vga_script.specs.Reading.{number_of}
+use Rattle.vga_script.specs.StepReading.{number_of}
 use Rattle.vga_script.proofs.NameLemmas.{named, unnamed}
 use Rattle.vga_script.proofs.OptionLemmas.{some_is}
 use Rattle.vga_script.proofs.NumberLemmas.{number_reads, spells_number}

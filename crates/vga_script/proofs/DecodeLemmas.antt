@@ -5,10 +5,10 @@ use Rattle.vga_bits.specs.declared.fault.Fault.TheVariants as fault
 use Rattle.byteorder.specs.Endian.{little_bytes, little_number}
 use Rattle.vga_script.proofs.FieldLemmas.{two_back}
 use Rattle.vga_script.specs.declared.step.Step.{Step}
-use Rattle.vga_script.specs.declared.shown.Shown.TheVariants as shown
+use Rattle.vga_script.specs.declared.dump_range.Shown.TheVariants as shown
 use Rattle.vga_script.specs.Item.{Item, Listing, listing, expanded, step_limit, steps_of, IsItemOf, Once}
 use Rattle.vga_script.specs.declared.version.Version.{Version}
-use Rattle.vga_script.specs.Shown.{IsShownInRange, kind_dac, kind_plane}
+use Rattle.vga_script.specs.DumpRange.{IsShownInRange, kind_dac, kind_plane}
 use Rattle.vga_script.specs.Spelling.{StartsWithStep, header, opcode_out, opcode_out_word, opcode_in, opcode_in_word, opcode_put, opcode_put_word, opcode_get, opcode_get_word, opcode_int, opcode_advance, opcode_show, item_spelling, StartsWithItem, SpellsItems, Spells}
 use Rattle.vga_script.specs.Decoding.{shown_len, fields_len, StartsOutOfRange, StartsWithBadStep, StartsWithCutStep, SpellsUpTo, IsItemFault, HasItemFault, IsSpellingFault}
 use Rattle.vga_script.proofs.ItemLemmas.{length-expanded-push}

@@ -1,6 +1,6 @@
 -- From a front that was not read to why not all bytes of a script were read.
 use Rattle.std.proofs.Common.{ℕ, Bool, List, Option, Err, refl, inl, inr}
-use Rattle.vga_bits.specs.Reading.{ReadsFront}
+use Rattle.vga_bits.specs.LimitedReading.{ReadsFront}
 use Rattle.vga_bits.specs.declared.fault.Fault.{Fault}
 use Rattle.vga_bits.specs.declared.fault.Fault.TheVariants.{ReadFault, OutOfMemory}
 use Rattle.vga_script.specs.Input.{IsReadingFault}

@@ -1,7 +1,7 @@
 -- Values that may not be there, and tests.
 use Rattle.std.proofs.Common.{◌≡◌, ℕ, ◌<◌, ◌≤◌, Bool, true, false, cond, ◌&&◌, nat_le, nat_lt, Option, Some, None, refl, sym, ◌∙◌, arith}
 use Rattle.std.proofs.lemmas.Bool.Decides.{nat_tests}
-use Rattle.vga_script.specs.Reading.{◌>>=◌}
+use Rattle.vga_script.specs.StepReading.{◌>>=◌}
 
 -- the value of a step that did not fail
 pub bind_ok : {A B : Type 0} (r : Option A) (f : A → Option B) (y : B) → (r >>= f) ≡ Some y → (x : A) × (r ≡ Some x) × (f x ≡ Some y)

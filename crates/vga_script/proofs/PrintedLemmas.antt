@@ -20,14 +20,14 @@ use Rattle.vga_script.specs.declared.keyword.Keyword.{Keyword}
 use Rattle.vga_script.specs.declared.keyword.Keyword.TheVariants as keyword
 use Rattle.vga_script.specs.declared.step.Step.{Step}
 use Rattle.vga_script.specs.declared.step.Step.TheVariants.{Out, OutWord, In, InWord, Put, PutWord, Get, GetWord, Int, Advance, Frame, Show}
-use Rattle.vga_script.specs.declared.shown.Shown.{Shown}
-use Rattle.vga_script.specs.declared.shown.Shown.TheVariants as shown
+use Rattle.vga_script.specs.declared.dump_range.Shown.{Shown}
+use Rattle.vga_script.specs.declared.dump_range.Shown.TheVariants as shown
 use Rattle.vga_script.specs.Words.{is_blank, is_semicolon, is_newline, has_bytes, words_in, words, lines, lowered, IsNumeral, IsHex}
 use Rattle.vga_script.specs.Text.{name_of, keyword_of, shown_name, SpellsHex, SpellsTwoHex, SpellsRegister, SpellsBlock, SpellsShown, SpellsFields, SpellsLine, SpellsLines, SpellsRepeat, IsEnd, IsVersionTwo, Group, IsGroup, SpellsGroups, SpellsText}
 use Rattle.vga_script.specs.Item.{Item, Once, Repeated, Listing, listing, expanded, step_limit, IsItemOf, AreItemsOf}
 use Rattle.vga_script.specs.declared.version.Version.{Version}
 use Rattle.vga_script.specs.declared.version.Version.TheVariants.{One, Two}
-use Rattle.vga_script.specs.Shown.{IsShownInRange}
+use Rattle.vga_script.specs.DumpRange.{IsShownInRange}
 use Rattle.vga_script.specs.Step.{IsBlock, IsInRange, AreInRange}
 use Rattle.vga_bits.specs.Hex.{hex, hex_digit}
 use Rattle.vga_script.specs.Printing.{port_text, address_text, block_words, shown_field_words, field_words, printed_words, line_of, printed_line, printed_steps, printed_item, version_line, printed}

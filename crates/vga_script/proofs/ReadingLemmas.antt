@@ -13,7 +13,7 @@ use Rattle.vga_script.specs.declared.keyword.Keyword.{Keyword}
 use Rattle.vga_script.specs.declared.keyword.Keyword.TheVariants as keyword
 use Rattle.vga_script.specs.Words.{lowered}
 use Rattle.vga_script.specs.Text.{name_of, keyword_of, SpellsFields, SpellsRegister, SpellsBytes, SpellsBlock}
-use Rattle.vga_script.specs.Reading.{◌>>=◌, hex_of, one_hex, two_hex, one_decimal, ended, register_at, decoded, bytes_of, digits_at, block_at, read_int, read_shown, read_step}
+use Rattle.vga_script.specs.StepReading.{◌>>=◌, hex_of, one_hex, two_hex, one_decimal, ended, register_at, decoded, bytes_of, digits_at, block_at, read_int, read_shown, read_step}
 use Rattle.vga_script.proofs.OptionLemmas.{bind_ok, guard_ok, and_ok, and_true, some_is, le_test, le_passes, lt_test, lt_passes}
 use Rattle.vga_script.proofs.NumberLemmas.{hex_below, hex_reads, spells_hex, one_hex_reads, spells_one_hex, two_hex_reads, spells_two_hex, one_decimal_reads, spells_one_decimal, ended_ok, then_words}
 use Rattle.vga_script.proofs.ShownLemmas.{shown_reads, spells_shown}

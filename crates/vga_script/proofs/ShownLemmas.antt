@@ -2,12 +2,12 @@
 use Rattle.std.proofs.Common.{◌≡◌, ℕ, ◌+◌, ◌≤◌, ◌↔◌, Bool, true, false, IsTrue, cond, ◌&&◌, nat_le, nat_lt, List, [], ◌∷◌, Option, Some, None, refl, sym, ◌∙◌, subst, arith, codes}
 use Rattle.std.specs.Str.{bytes_eq}
 use Rattle.std.proofs.lemmas.Slice.Eq.{bytes_eq-Decides}
-use Rattle.vga_script.specs.declared.shown.Shown.{Shown}
-use Rattle.vga_script.specs.declared.shown.Shown.TheVariants as shown
-use Rattle.vga_script.specs.Shown.{IsShownInRange}
+use Rattle.vga_script.specs.declared.dump_range.Shown.{Shown}
+use Rattle.vga_script.specs.declared.dump_range.Shown.TheVariants as shown
+use Rattle.vga_script.specs.DumpRange.{IsShownInRange}
 use Rattle.vga_script.specs.Words.{lowered}
 use Rattle.vga_script.specs.Text.{shown_name, SpellsShownFields, SpellsShown}
-use Rattle.vga_script.specs.Reading.{◌>>=◌, hex_at, one_hex, one_decimal, ended, alone, read_dac, read_plane, read_shown}
+use Rattle.vga_script.specs.StepReading.{◌>>=◌, hex_at, one_hex, one_decimal, ended, alone, read_dac, read_plane, read_shown}
 use Rattle.vga_script.proofs.OptionLemmas.{bind_ok, guard_ok, and_ok, and_true, some_is, le_test, le_passes, lt_test, lt_passes}
 use Rattle.vga_script.proofs.NumberLemmas.{hex_at_reads, spells_hex_at, one_hex_reads, spells_one_hex, one_decimal_reads, spells_one_decimal, ended_ok, then_words}
 

@@ -3,9 +3,9 @@ use Rattle.std.proofs.Common.{◌≡◌, ◌⊎◌, ℕ, ◌+◌, ◌<◌, ◌�
 use Rattle.byteorder.specs.Endian.{little_bytes, little_number}
 use Rattle.vga_script.specs.declared.step.Step.{Step}
 use Rattle.vga_script.specs.declared.step.Step.TheVariants.{Out, OutWord, In, InWord, Put, PutWord, Get, GetWord, Int, Advance, Frame, Show}
-use Rattle.vga_script.specs.declared.shown.Shown.{Shown}
-use Rattle.vga_script.specs.declared.shown.Shown.TheVariants as shown
-use Rattle.vga_script.specs.Shown.{shown_spelling}
+use Rattle.vga_script.specs.declared.dump_range.Shown.{Shown}
+use Rattle.vga_script.specs.declared.dump_range.Shown.TheVariants as shown
+use Rattle.vga_script.specs.DumpRange.{shown_spelling}
 use Rattle.vga_script.specs.Step.{IsInRange}
 use Rattle.vga_script.specs.Front.{step_of}
 use Rattle.vga_script.specs.Spelling.{opcode_out, opcode_out_word, opcode_in, opcode_in_word, opcode_put, opcode_put_word, opcode_get, opcode_get_word, opcode_int, opcode_advance, opcode_frame, opcode_show, spelling}

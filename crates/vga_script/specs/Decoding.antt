@@ -5,10 +5,10 @@ use Rattle.vga_bits.specs.declared.fault.Fault.{Fault}
 use Rattle.vga_bits.specs.declared.fault.Fault.TheVariants.{BadMagic, BadVersion, BadStep, Truncated, TooLong, TooMany}
 use Rattle.vga_script.specs.declared.step.Step.{Step}
 use Rattle.vga_script.specs.declared.step.Step.TheVariants.{Show}
-use Rattle.vga_script.specs.declared.shown.Shown.TheVariants as shown
+use Rattle.vga_script.specs.declared.dump_range.Shown.TheVariants as shown
 use Rattle.vga_script.specs.Item.{Item, Listing, expanded, step_limit, steps_of}
 use Rattle.vga_script.specs.declared.version.Version.{Version}
-use Rattle.vga_script.specs.Shown.{IsShownInRange, kind_registers, kind_dac, kind_beam, kind_latches, kind_plane, kind_bios_data, kind_cells}
+use Rattle.vga_script.specs.DumpRange.{IsShownInRange, kind_registers, kind_dac, kind_beam, kind_latches, kind_plane, kind_bios_data, kind_cells}
 use Rattle.vga_script.specs.Version.{version_byte, AllowsBlocks}
 use Rattle.vga_script.specs.Spelling.{script_limit, magic, opcode_out, opcode_out_word, opcode_in, opcode_in_word, opcode_put, opcode_put_word, opcode_get, opcode_get_word, opcode_int, opcode_advance, opcode_frame, opcode_show, opcode_repeat, opcode_end, spelling, SpellsSteps, Spells, StartsWithItem}
 

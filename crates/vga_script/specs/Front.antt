@@ -7,8 +7,8 @@ use Rattle.vga_script.specs.declared.version.Version.{Version}
 use Rattle.vga_script.specs.declared.version.Version.TheVariants.{One, Two}
 use Rattle.vga_script.specs.Version.{version_byte}
 use Rattle.vga_script.specs.Item.{Listing, listing, Item, Once, Repeated}
-use Rattle.vga_script.specs.declared.shown.Shown.TheVariants as shown
-use Rattle.vga_script.specs.Shown.{kind_registers, kind_dac, kind_beam, kind_latches, kind_plane, kind_bios_data, kind_cells}
+use Rattle.vga_script.specs.declared.dump_range.Shown.TheVariants as shown
+use Rattle.vga_script.specs.DumpRange.{kind_registers, kind_dac, kind_beam, kind_latches, kind_plane, kind_bios_data, kind_cells}
 use Rattle.vga_script.specs.Spelling.{opcode_out, opcode_out_word, opcode_in, opcode_in_word, opcode_put, opcode_put_word, opcode_get, opcode_get_word, opcode_int, opcode_advance, opcode_frame, opcode_show, opcode_repeat}
 
 -- a call of the BIOS whose block has this length, and what follows its block

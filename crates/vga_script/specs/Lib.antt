@@ -1,4 +1,4 @@
-pub mod Shown
+pub mod DumpRange
 pub mod Step
 pub mod Version
 pub mod Item
@@ -11,7 +11,7 @@ pub mod Body
 pub mod Words
 pub mod Text
 pub mod Assembling
-pub mod Reading
+pub mod StepReading
 pub mod Printing
 pub mod Script
 pub mod Examples

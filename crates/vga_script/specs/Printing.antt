@@ -8,8 +8,8 @@ use Rattle.vga_script.specs.declared.step.Step.TheVariants.{Out, OutWord, In, In
 use Rattle.vga_script.specs.Item.{Item, Once, Repeated, Listing}
 use Rattle.vga_script.specs.declared.version.Version.{Version}
 use Rattle.vga_script.specs.declared.version.Version.TheVariants.{One, Two}
-use Rattle.vga_script.specs.declared.shown.Shown.{Shown}
-use Rattle.vga_script.specs.declared.shown.Shown.TheVariants as shown
+use Rattle.vga_script.specs.declared.dump_range.Shown.{Shown}
+use Rattle.vga_script.specs.declared.dump_range.Shown.TheVariants as shown
 use Rattle.vga_script.specs.Text.{name_of, keyword_of, shown_name}
 
 -- the digits of a port, at least three

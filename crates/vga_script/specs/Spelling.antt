@@ -6,7 +6,7 @@ use Rattle.vga_script.specs.declared.step.Step.{Step}
 use Rattle.vga_script.specs.declared.step.Step.TheVariants.{Out, OutWord, In, InWord, Put, PutWord, Get, GetWord, Int, Advance, Frame, Show}
 use Rattle.vga_script.specs.Item.{Item, Once, Repeated, Listing, expanded, step_limit, IsItemOf}
 use Rattle.vga_script.specs.declared.version.Version.{Version}
-use Rattle.vga_script.specs.Shown.{shown_spelling}
+use Rattle.vga_script.specs.DumpRange.{shown_spelling}
 use Rattle.vga_script.specs.Step.{IsInRange}
 use Rattle.vga_script.specs.Version.{version_byte}
 

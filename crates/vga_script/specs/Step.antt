@@ -2,7 +2,7 @@
 use Rattle.std.specs.Prelude.{ℕ, ◌<◌, ◌^◌, List, length}
 use Rattle.std.specs.List.{AllByRecursion}
 use Rattle.vga_script.specs.declared.step.Step.{Step}
-use Rattle.vga_script.specs.Shown.{IsShownInRange}
+use Rattle.vga_script.specs.DumpRange.{IsShownInRange}
 use Rattle.vga_script.specs.declared.step.Step.TheVariants.{Out, OutWord, In, InWord, Put, PutWord, Get, GetWord, Int, Advance, Frame, Show}
 
 -- bytes, no more of them than two bytes can count

@@ -1,6 +1,6 @@
 //! Reading all the bytes of a script, or of its text.
 ghost use Rattle.std.specs.Prelude.{◌≡◌, ◌≤◌, ◌+◌, false, IfOk, IfErr};
-ghost use Rattle.vga_bits.specs.Reading.{TakesAtMost, is_read_fault};
+ghost use Rattle.vga_bits.specs.LimitedReading.{TakesAtMost, is_read_fault};
 ghost use Rattle.vga_bits.specs.Tracked.{inner_of, has_failed, taken_of};
 ghost use Rattle.vga_script.specs.Input.{IsInput, IsReadingFault};
 ghost use Rattle.vga_script.specs.Spelling.{script_limit};

@@ -5,24 +5,24 @@
 mod assembling;
 mod block;
 mod block_lines;
+mod dump_range;
 mod fields;
 mod input;
 mod items;
 mod judge;
 mod keyword;
 mod laws;
-mod line;
 mod numbers;
 mod opcode;
 mod output;
 mod place;
+mod printed_line;
 mod printing;
-mod reading;
 mod script;
-mod shown;
 mod spelled_item;
 mod step;
 mod step_bytes;
+mod step_reading;
 mod steps;
 mod version;
 mod words;
@@ -30,6 +30,7 @@ mod worked_examples;
 
 pub use assembling::assemble;
 pub use block::Block;
+pub use dump_range::Shown;
 pub use input::read_script;
 pub use laws::{
     one_fault, one_list, one_script, one_script_of_text, one_spelling, one_text_fault,
@@ -37,7 +38,6 @@ pub use laws::{
 };
 pub use printing::print;
 pub use script::{Script, decode, encode};
-pub use shown::Shown;
 pub use step::Step;
 pub use steps::Steps;
 pub use version::Version;

@@ -10,12 +10,12 @@ ghost use Rattle.vga_script.specs.Printing.{printed_line, printed_steps, version
 ghost use Rattle.vga_script.specs.Spelled.{HasBody, spelled_item};
 ghost use Rattle.vga_script.specs.Spelling.{SpellsItems, SpellsSteps, script_limit};
 
+use super::dump_range::Shown;
 use super::items::item_at;
-use super::line::{Line, push_address, push_port};
 use super::opcode::HEADER_LEN;
 use super::output::append;
+use super::printed_line::{Line, push_address, push_port};
 use super::script::Script;
-use super::shown::Shown;
 use super::spelled_item::SpelledItem;
 use super::step::Step;
 use super::step_bytes::step_at;

@@ -1,7 +1,7 @@
 //! One step of a script.
 
 use super::block::Block;
-use super::shown::Shown;
+use super::dump_range::Shown;
 
 /// One step of a script: a cycle of the processor, a call of the video BIOS, some dots of the clock,
 /// or a dump of the adapter. A call's block is left where it stands.

@@ -2,15 +2,15 @@
 ghost use Rattle.std.specs.Prelude.{◌≡◌, ◌<◌, ◌++◌, ◌∷◌, length, IfOk, IfErr, IsOkUnless, OnOk, Err};
 ghost use Rattle.byteorder.specs.Endian.{little_bytes};
 ghost use Rattle.vga_script.specs.Decoding.{StartsOutOfRange, StartsWithBadStep, StartsWithCutStep};
-ghost use Rattle.vga_script.specs.Shown.{kind_dac, kind_plane, shown_spelling};
+ghost use Rattle.vga_script.specs.DumpRange.{kind_dac, kind_plane, shown_spelling};
 ghost use Rattle.vga_script.specs.Spelling.{StartsWithStep, opcode_int, opcode_show, spelling};
 ghost use Rattle.vga_script.specs.Step.{IsInRange};
 
 use super::block::Block;
+use super::dump_range::Shown;
 use super::fields::{NoStep, block_at, u8_at, u16_at, u32_at};
 use super::opcode;
 use super::output::{append, append_u16, append_u32};
-use super::shown::Shown;
 use super::step::Step;
 use vga_bits::Fault;
 

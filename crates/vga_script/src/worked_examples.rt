@@ -10,7 +10,7 @@ ghost use Rattle.vga_script.specs.Script.{IsTextFault};
 ghost use Rattle.vga_script.specs.Spelling.{encoding, header, spelling, Spells};
 ghost use Rattle.vga_script.specs.Text.{SpellsText};
 
-use super::shown::Shown;
+use super::dump_range::Shown;
 use super::step::Step;
 use super::version::Version;
 use vga_bits::Fault;

@@ -9,16 +9,16 @@ mod hexadecimal;
 mod item;
 mod lines;
 mod picture;
+mod report_text;
 mod running;
 mod setting;
-mod shown;
 mod single_dots;
 
 use anyhow::{Context, Result, bail};
 use difference::{Difference, first_difference};
 use item::{Case, Form, Item};
+use report_text::shown_report;
 use setting::Setting;
-use shown::shown_report;
 use single_dots::{answers, by_single_dots};
 use std::alloc::Global;
 use std::process::ExitCode;

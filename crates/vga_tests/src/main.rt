@@ -7,7 +7,7 @@
 //! memory. So whoever refuses a growth by its number chooses the call that meets it.
 #![tactic(auto)]
 
-mod cells;
+mod cell_dumps;
 mod checks;
 mod counted_card;
 mod cycle_counts;
@@ -31,7 +31,7 @@ mod source;
 mod tracking;
 
 use anyhow::Result;
-use cells::check_cells;
+use cell_dumps::check_cells;
 use checks::Checks;
 use cycle_counts::check_cycle_counts;
 use dots::compare_dots;

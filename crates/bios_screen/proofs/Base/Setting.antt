@@ -5,8 +5,8 @@ use Rattle.std.proofs.lemmas.Bool.Decides.{nat_tests}
 use Rattle.vga_bits.specs.Four.{Four}
 use Rattle.vga_host.specs.Host.{HostState}
 use Rattle.vga_host.specs.Address.{is_decoded, window_offset}
-use Rattle.vga_host.specs.Write.{memory_after_put, after_put}
-use Rattle.vga_host.specs.Read.{loaded, read_byte, after_get}
+use Rattle.vga_host.specs.MemoryWrite.{memory_after_put, after_put}
+use Rattle.vga_host.specs.MemoryRead.{loaded, read_byte, after_get}
 use Rattle.vga_card.specs.Bus.{card_meaning}
 use Rattle.vga_card.specs.Card.{CardState}
 use Rattle.vga_card.specs.Cycles.{written_where, answered_where}

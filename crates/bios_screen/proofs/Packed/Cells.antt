@@ -17,7 +17,7 @@ use Rattle.bios_services.specs.Drawing.{cell_band, cell_row}
 use Rattle.bios_services.specs.Glyphs.{first_character}
 use Rattle.bios_modes.specs.Kinds.{kind_of}
 use Rattle.bios_services.specs.Plan.{Plan, run, get, gather, fold, Done, ◌>>=◌}
-use Rattle.bios_services.specs.Reading.{shift_dot, packed_line, line_plan, lines_plan, read_character_plan}
+use Rattle.bios_services.specs.CharacterReading.{shift_dot, packed_line, line_plan, lines_plan, read_character_plan}
 use Rattle.bios_screen.specs.Listing.{listing}
 use Rattle.bios_screen.specs.Screen.{Screen}
 use Rattle.bios_screen.specs.Shown.{packed_pixel, pixel_screen, shown}

@@ -15,7 +15,7 @@ use Rattle.bios_services.specs.Drawing.{cell_band, cell_row}
 use Rattle.bios_services.specs.Glyphs.{first_character}
 use Rattle.bios_modes.specs.Kinds.{is_text}
 use Rattle.bios_services.specs.Plan.{Plan, run, Done, ◌>>=◌}
-use Rattle.bios_services.specs.Reading.{read_character_plan}
+use Rattle.bios_services.specs.CharacterReading.{read_character_plan}
 use Rattle.bios_services.specs.Reasons.{◌or◌, no_page, outside_cells}
 use Rattle.bios_services.specs.Refusals.{page_among, page_named, refusal_in_mode}
 use Rattle.bios_services.specs.Registers.{with_low}

@@ -7,7 +7,7 @@ use Rattle.std.proofs.lemmas.Bool.Decides.{nat_tests}
 use Rattle.std.proofs.lemmas.Nat.Bits.{bit_at-lt}
 use Rattle.vga_bits.specs.Bits.{byte_of}
 use Rattle.vga_bits.specs.Four.{Four, of_plane}
-use Rattle.vga_host.specs.Write.{written_bit, combined_bit, written_byte}
+use Rattle.vga_host.specs.MemoryWrite.{written_bit, combined_bit, written_byte}
 use Rattle.bios_screen.proofs.Planar.Settings.{Hand, drawing, bare, stored}
 
 -- pixel i of a byte of each plane, the first as the highest bits

@@ -18,7 +18,7 @@ use Rattle.bios_services.specs.Drawing.{cell_band, cell_row}
 use Rattle.bios_services.specs.Glyphs.{first_character}
 use Rattle.bios_modes.specs.Kinds.{kind_of}
 use Rattle.bios_services.specs.Plan.{Plan, run, gather, Done, ◌>>=◌, ◌>>◌}
-use Rattle.bios_services.specs.Reading.{line_plan, lines_plan, read_character_plan}
+use Rattle.bios_services.specs.CharacterReading.{line_plan, lines_plan, read_character_plan}
 use Rattle.bios_screen.specs.Screen.{Screen}
 use Rattle.bios_screen.specs.Shown.{page_pixels, pixel_screen, shown}
 use Rattle.bios_screen.specs.Step.{pixel_of, cell_line}

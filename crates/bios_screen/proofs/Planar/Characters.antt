@@ -7,7 +7,7 @@ use Rattle.std.proofs.lemmas.Bool.Decides.{nat_tests}
 use Rattle.std.proofs.lemmas.Nat.Bits.{bit_at-lt}
 use Rattle.vga_bits.specs.Bits.{is_set, byte_of}
 use Rattle.vga_bits.specs.Four.{Four, four, of_plane}
-use Rattle.vga_host.specs.Write.{written_bit, combined_bit}
+use Rattle.vga_host.specs.MemoryWrite.{written_bit, combined_bit}
 use Rattle.vga_card.specs.Bus.{card_meaning}
 use Rattle.vga_card.specs.Card.{CardState}
 use Rattle.bios_services.specs.Cycles.{sequencer, graphics}

@@ -7,12 +7,12 @@ use Rattle.vga_bits.specs.Bits.{is_set, byte_of}
 use Rattle.vga_bits.specs.Four.{Four}
 use Rattle.vga_planes.specs.Planes.{bytes_at}
 use Rattle.vga_host.specs.Host.{HostState}
-use Rattle.vga_host.specs.Read.{read_bit, read_byte}
+use Rattle.vga_host.specs.MemoryRead.{read_bit, read_byte}
 use Rattle.vga_card.specs.Bus.{card_meaning}
 use Rattle.vga_card.specs.Card.{CardState}
 use Rattle.bios_modes.specs.declared.kind.Kind.TheVariants.{Planar}
 use Rattle.bios_services.specs.Plan.{Plan, run, gather, Done, ◌>>=◌}
-use Rattle.bios_services.specs.Reading.{line_plan}
+use Rattle.bios_services.specs.CharacterReading.{line_plan}
 use Rattle.bios_screen.specs.Listing.{listing}
 use Rattle.bios_screen.proofs.Base.Plans.{run_bind}
 use Rattle.bios_screen.proofs.Base.Kept.{KeepsBounds}

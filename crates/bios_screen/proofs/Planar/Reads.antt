@@ -7,7 +7,7 @@ use Rattle.vga_bits.proofs.BitLemmas.{byte_bits}
 use Rattle.vga_bits.specs.Four.{four}
 use Rattle.vga_planes.specs.Planes.{byte_at}
 use Rattle.vga_host.specs.Host.{HostState}
-use Rattle.vga_host.specs.Read.{read_bit, read_byte}
+use Rattle.vga_host.specs.MemoryRead.{read_bit, read_byte}
 use Rattle.vga_card.specs.Bounds.{IsCard}
 use Rattle.vga_card.specs.Bus.{card_meaning}
 use Rattle.vga_card.specs.Card.{CardState}

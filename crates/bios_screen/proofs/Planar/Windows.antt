@@ -6,7 +6,7 @@ use Rattle.vga_bits.specs.Four.{Four, of_plane}
 use Rattle.vga_bits.proofs.BitLemmas.{byte_bits}
 use Rattle.vga_bits.proofs.FourLemmas.{by_plane}
 use Rattle.vga_planes.specs.Planes.{bytes_at}
-use Rattle.vga_host.specs.Write.{written_bit, combined_bit}
+use Rattle.vga_host.specs.MemoryWrite.{written_bit, combined_bit}
 use Rattle.vga_card.specs.Bus.{card_meaning}
 use Rattle.vga_card.specs.Card.{CardState}
 use Rattle.bios_services.specs.declared.band.Band.{Band}

@@ -10,7 +10,7 @@ use Rattle.vga_bits.proofs.BitLemmas.{byte_bits}
 use Rattle.vga_bits.specs.Four.{Four}
 use Rattle.vga_host.specs.Host.{HostState}
 use Rattle.vga_host.specs.Address.{is_decoded, window_offset}
-use Rattle.vga_host.specs.Write.{written_bit, combined_bit, written_byte, memory_after_put}
+use Rattle.vga_host.specs.MemoryWrite.{written_bit, combined_bit, written_byte, memory_after_put}
 use Rattle.vga_card.specs.Bus.{card_meaning}
 use Rattle.vga_card.specs.Card.{CardState}
 use Rattle.bios_services.specs.Plan.{run, put}

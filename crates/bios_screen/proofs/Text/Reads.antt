@@ -8,7 +8,7 @@ use Rattle.vga_bits.specs.Four.{of_plane}
 use Rattle.vga_planes.specs.Planes.{bytes_at}
 use Rattle.vga_host.specs.Host.{HostState}
 use Rattle.vga_host.specs.Address.{plane_offset}
-use Rattle.vga_host.specs.Read.{read_bit, read_byte, loaded}
+use Rattle.vga_host.specs.MemoryRead.{read_bit, read_byte, loaded}
 use Rattle.vga_card.specs.Bus.{card_meaning}
 use Rattle.vga_card.specs.Card.{CardState}
 use Rattle.bios_services.specs.Plan.{run, get}

@@ -18,7 +18,7 @@ use Rattle.bios_services.specs.Cells.{page_base, cell_address, cells_of, read_ce
 use Rattle.bios_services.specs.Cursor.{cell_number, place_of, cursor_cell as cell_at_cursor}
 use Rattle.bios_services.specs.Drawing.{cell_band, cell_row, character_by, characters_plan}
 use Rattle.bios_services.specs.CellRuns.{cell_run_plan}
-use Rattle.bios_services.specs.Reading.{read_character_plan}
+use Rattle.bios_services.specs.CharacterReading.{read_character_plan}
 use Rattle.bios_services.specs.Registers.{with_low}
 use Rattle.bios_services.specs.Reasons.{◌or◌, no_page, outside_cells, past_cells}
 use Rattle.bios_services.specs.Refusals.{page_among, page_named, refusal_in_mode}

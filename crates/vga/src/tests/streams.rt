@@ -1,8 +1,8 @@
 //! Files and streams that fail, and how many calls a report takes.
 
-use crate::reading::open;
+use crate::input_files::open;
+use crate::output_files::{buffered, create};
 use crate::scripts::{assembled, print_script};
-use crate::writing::{buffered, create};
 use std::io;
 use std::io::{Read, Write};
 use std::test::Fail;

@@ -1,6 +1,6 @@
 use Rattle.std.proofs.Common.{slice_index, length, arith}
 use Rattle.bios_services.specs.Cycles.{attribute}
-use Rattle.bios_services.proofs.RunLemmas.{next_turn}
+use Rattle.bios_services.proofs.PlanRuns.{next_turn}
 use Rattle.bios_services.proofs.cycles.attribute_group.Goals as goal
 
 pub loop-i-preserved : goal.loop-i-preserved

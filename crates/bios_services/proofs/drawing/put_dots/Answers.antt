@@ -2,7 +2,7 @@ use Rattle.std.proofs.Common.{arith}
 use Rattle.bios_services.specs.Plan.{put}
 use Rattle.bios_services.specs.Bands.{address_in}
 use Rattle.bios_services.specs.Drawing.{dot_of}
-use Rattle.bios_services.proofs.RunLemmas.{next_turn}
+use Rattle.bios_services.proofs.PlanRuns.{next_turn}
 use Rattle.bios_services.proofs.drawing.put_dots.Goals as goal
 
 pub loop-i-preserved : goal.loop-i-preserved

@@ -1,6 +1,6 @@
 use Rattle.std.proofs.Common.{arith, ◌+◌}
 use Rattle.bios_services.specs.Drawing.{character_plan}
-use Rattle.bios_services.proofs.RunLemmas.{next_turn}
+use Rattle.bios_services.proofs.PlanRuns.{next_turn}
 use Rattle.bios_services.proofs.drawing.write_characters.Goals as goal
 
 pub loop-i-preserved : goal.loop-i-preserved

@@ -1,7 +1,7 @@
 use Rattle.std.proofs.Common.{◌∙◌, ap, ◌+◌, arith}
 use Rattle.bios_services.specs.Plan.{run, put}
 use Rattle.bios_services.specs.ModeSet.{blank_byte}
-use Rattle.bios_services.proofs.RunLemmas.{next_turn}
+use Rattle.bios_services.proofs.PlanRuns.{next_turn}
 use Rattle.bios_services.proofs.mode_set.write_blanks.Goals as goal
 
 pub loop-w-preserved : goal.loop-w-preserved

@@ -2,7 +2,7 @@ use Rattle.std.proofs.Common.{◌∙◌, ap, arith}
 use Rattle.bios_modes.specs.Palette.{dac_entry, palette_entry}
 use Rattle.bios_services.specs.Plan.{run}
 use Rattle.bios_services.specs.ModeSet.{colour_plan}
-use Rattle.bios_services.proofs.RunLemmas.{next_turn}
+use Rattle.bios_services.proofs.PlanRuns.{next_turn}
 use Rattle.bios_services.proofs.mode_set.write_palette.Goals as goal
 
 pub loop-i-preserved : goal.loop-i-preserved

@@ -1,7 +1,7 @@
 use Rattle.std.proofs.Common.{length, ap, ◌∙◌, arith}
 use Rattle.std.proofs.lemmas.List.{length-set}
 use Rattle.bios_services.specs.Plan.{inp}
-use Rattle.bios_services.proofs.RunLemmas.{next_read, all_read}
+use Rattle.bios_services.proofs.PlanRuns.{next_read, all_read}
 use Rattle.bios_services.proofs.tables.read_components.Goals as goal
 
 pub loop-i-preserved : goal.loop-i-preserved

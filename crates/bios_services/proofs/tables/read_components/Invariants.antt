@@ -1,7 +1,7 @@
 use Rattle.std.proofs.Common.{◌≡◌, ◌-◌, take, length}
 use Rattle.bios_services.specs.Plan.{run, gather, inp}
 use Rattle.bios_services.specs.Tables.{read_components_plan}
-use Rattle.bios_services.proofs.RunLemmas.{with_front}
+use Rattle.bios_services.proofs.PlanRuns.{with_front}
 use Rattle.bios_services.proofs.tables.read_components.Given as goal
 
 -- the bytes so far and those that are still to be read are all of them

@@ -2,7 +2,7 @@ use Rattle.std.proofs.Common.{◌∙◌, ap, arith}
 use Rattle.bios_services.specs.Plan.{run}
 use Rattle.bios_services.specs.Palette.{register_plan}
 use Rattle.bios_services.specs.Tables.{palette_register}
-use Rattle.bios_services.proofs.RunLemmas.{next_read, all_read}
+use Rattle.bios_services.proofs.PlanRuns.{next_read, all_read}
 use Rattle.bios_services.proofs.tables.read_registers.Goals as goal
 
 pub loop-i-preserved : goal.loop-i-preserved

@@ -2,7 +2,7 @@ use Rattle.std.proofs.Common.{◌≡◌, ◌-◌, take}
 use Rattle.bios_services.specs.Plan.{run, gather}
 use Rattle.bios_services.specs.Palette.{register_plan}
 use Rattle.bios_services.specs.Tables.{palette_register, registers_plan}
-use Rattle.bios_services.proofs.RunLemmas.{with_front}
+use Rattle.bios_services.proofs.PlanRuns.{with_front}
 use Rattle.bios_services.proofs.tables.read_registers.Given as goal
 
 -- the registers so far and those that are still to be read are all of them

@@ -1,4 +1,4 @@
-use Rattle.vga_run.proofs.RunLemmas.{runs_good_scripts}
+use Rattle.vga_run.proofs.AnswerLemmas.{runs_good_scripts}
 use Rattle.vga_run.proofs.DotRuns.{run_of_dots}
 use Rattle.vga_run.proofs.ScreenLemmas.{run_of_screens}
 use Rattle.vga_run.proofs.runs.run.Goals as goal

@@ -1,6 +1,6 @@
 use Rattle.std.proofs.Common.{Some}
 use Rattle.vga_bits.specs.Tracked.{inner_of}
-use Rattle.vga_run.proofs.RunLemmas.{file_answers}
+use Rattle.vga_run.proofs.AnswerLemmas.{file_answers}
 use Rattle.vga_run.proofs.DotRuns.{run_of_dots}
 use Rattle.vga_run.proofs.ScreenLemmas.{run_of_screens}
 use Rattle.vga_run.proofs.runs.run_bytes.Goals as goal

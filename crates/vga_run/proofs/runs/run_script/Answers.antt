@@ -2,7 +2,7 @@ use Rattle.std.proofs.Common.{subst}
 use Rattle.vga_bits.specs.Tracked.{inner_of}
 use Rattle.vga_script.specs.Step.{AreInRange}
 use Rattle.vga_script.specs.Item.{expanded}
-use Rattle.vga_run.proofs.RunLemmas.{steps_answers}
+use Rattle.vga_run.proofs.AnswerLemmas.{steps_answers}
 use Rattle.vga_run.proofs.DotRuns.{script_of_dots}
 use Rattle.vga_run.proofs.ScreenLemmas.{script_of_screens}
 use Rattle.vga_run.proofs.runs.run_script.Goals as goal

@@ -1,5 +1,5 @@
 use Rattle.std.proofs.Common.{◌≡◌, ◌≤◌, length}
-use Rattle.vga_script.specs.Reading.{number_from, number_of}
+use Rattle.vga_script.specs.StepReading.{number_from, number_of}
 use Rattle.vga_script.proofs.numbers.number.Given as goal
 
 -- the number so far and the digits that are left spell what the word spells

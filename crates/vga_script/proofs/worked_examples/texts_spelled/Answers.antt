@@ -5,7 +5,7 @@ use Rattle.vga_script.specs.declared.keyword.Keyword.TheVariants as keyword
 use Rattle.vga_script.specs.declared.version.Version.TheVariants.{One}
 use Rattle.vga_script.specs.Words.{words, lines}
 use Rattle.vga_script.specs.Text.{IsVersionTwo}
-use Rattle.vga_script.specs.Reading.{read_step, two_hex, hex_at, hex_of, number_of}
+use Rattle.vga_script.specs.StepReading.{read_step, two_hex, hex_at, hex_of, number_of}
 use Rattle.vga_script.proofs.OptionLemmas.{lt_test}
 use Rattle.vga_script.proofs.LineLemmas.{line_bad}
 use Rattle.vga_script.proofs.AssembleLemmas.{blank_none, not_two}

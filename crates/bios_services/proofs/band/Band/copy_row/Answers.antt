@@ -1,6 +1,6 @@
 use Rattle.std.proofs.Common.{arith}
 use Rattle.bios_services.specs.Bands.{copy_line}
-use Rattle.bios_services.proofs.RunLemmas.{next_turn}
+use Rattle.bios_services.proofs.PlanRuns.{next_turn}
 use Rattle.bios_services.proofs.band.Band.copy_row.Goals as goal
 
 pub loop-line-preserved : goal.loop-line-preserved

@@ -1,7 +1,7 @@
 use Rattle.std.proofs.Common.{arith}
 use Rattle.bios_services.specs.Plan.{put}
 use Rattle.bios_services.specs.Bands.{address_in, filling_byte}
-use Rattle.bios_services.proofs.RunLemmas.{next_turn}
+use Rattle.bios_services.proofs.PlanRuns.{next_turn}
 use Rattle.bios_services.proofs.band.Band.fill_line.Goals as goal
 
 pub loop-i-preserved : goal.loop-i-preserved

@@ -1,6 +1,6 @@
 use Rattle.std.proofs.Common.{arith}
 use Rattle.bios_services.specs.Bands.{fill_row}
-use Rattle.bios_services.proofs.RunLemmas.{next_turn}
+use Rattle.bios_services.proofs.PlanRuns.{next_turn}
 use Rattle.bios_services.proofs.band.Band.fill_rows.Goals as goal
 
 pub loop-row-preserved : goal.loop-row-preserved

@@ -1,7 +1,7 @@
 use Rattle.std.proofs.Common.{◌∙◌, ap, ◌+◌, ◌*◌, arith}
 use Rattle.bios_services.specs.Plan.{run, put}
 use Rattle.bios_services.specs.GlyphLoads.{loaded_line}
-use Rattle.bios_services.proofs.RunLemmas.{next_turn}
+use Rattle.bios_services.proofs.PlanRuns.{next_turn}
 use Rattle.bios_services.proofs.glyph_load.GlyphLoad.write_glyph.Goals as goal
 
 pub loop-r-preserved : goal.loop-r-preserved

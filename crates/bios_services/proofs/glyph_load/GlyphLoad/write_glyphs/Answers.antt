@@ -1,7 +1,7 @@
 use Rattle.std.proofs.Common.{arith, ◌+◌}
 use Rattle.bios_services.specs.ModeSet.{glyph_plan}
 use Rattle.bios_services.specs.GlyphLoads.{loaded_line}
-use Rattle.bios_services.proofs.RunLemmas.{next_turn}
+use Rattle.bios_services.proofs.PlanRuns.{next_turn}
 use Rattle.bios_services.proofs.glyph_load.GlyphLoad.write_glyphs.Goals as goal
 
 pub loop-c-preserved : goal.loop-c-preserved

@@ -3,7 +3,7 @@ use Rattle.bios_services.specs.declared.colouring.Colouring.{Colouring}
 use Rattle.bios_services.specs.Plan.{run}
 use Rattle.bios_services.specs.Teletype.{type_plan}
 use Rattle.bios_services.specs.Strings.{character_at, colouring_at}
-use Rattle.bios_services.proofs.RunLemmas.{next_answer}
+use Rattle.bios_services.proofs.PlanRuns.{next_answer}
 use Rattle.bios_services.proofs.strings.StringCall.type_all.Goals as goal
 
 pub loop-i-preserved : goal.loop-i-preserved

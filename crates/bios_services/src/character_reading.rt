@@ -1,0 +1,85 @@
+//! The character that stands at a cell of dots.
+ghost use Rattle.std.specs.Prelude.{◌≡◌, ◌<◌, ◌+◌, ◌^◌, length};
+ghost use Rattle.bios_services.specs.Bounds.{reached_cells};
+ghost use Rattle.bios_services.specs.Plan.{run};
+ghost use Rattle.bios_services.specs.Bands.{IsBand};
+ghost use Rattle.bios_services.specs.CharacterReading.{shift_dot as shift_dot_plan, packed_line as packed_line_plan, line_plan, lines_plan, read_character_plan};
+
+use crate::band::{Band, set_access};
+use crate::cycles::get;
+use crate::glyphs::first_character;
+use crate::kind::{Kind, by_kind};
+use crate::video_registers::{COMPARE_COLOURS, PLAIN};
+use bios_modes::Fonts;
+use vga_card::Bus;
+
+/// The most lines that a character has.
+const MOST_LINES: usize = 16;
+
+/// How many characters there are.
+const CHARACTERS: u16 = 256;
+
+/// Reads a dot of 256 colours, and shifts it into a line from the right, as 1 where it is not 0.
+#[tactic(auto, using(crate::proofs::PlanRuns::run_bind), unfolding(crate::specs::CharacterReading::shift_dot))]
+fn shift_dot<B: Bus>(bus: &mut B, address: u32, line: u8) -> u8
+    ensures { (bus.new, result) ≡ run B.meaning (shift_dot_plan address line) bus.old }
+{
+    let dot = if get(bus, address) == 0 { 0 } else { 1 };
+    ((2 * line as u16 + dot) % 256) as u8
+}
+
+/// Reads the line of eight dots at an address of 256 colours: a bit for each that is not 0.
+#[tactic(auto, using(crate::proofs::PlanRuns::run_bind), unfolding(crate::specs::CharacterReading::packed_line))]
+fn packed_line<B: Bus>(bus: &mut B, address: u32) -> u8
+    requires { address < 2 ^ 31 }
+    ensures { (bus.new, result) ≡ run B.meaning (packed_line_plan address) bus.old }
+{
+    let mut line = 0;
+    for i in 0..8 {
+        line = shift_dot(bus, address + i, line);
+    }
+    line
+}
+
+/// Reads which dots of a line of a cell are not 0.
+#[tactic(auto, using(crate::proofs::PlanRuns::run_bind), unfolding(crate::specs::CharacterReading::line_plan))]
+fn read_line<B: Bus>(bus: &mut B, kind: Kind, address: u32) -> u8
+    requires { address < 2 ^ 31 }
+    ensures { (bus.new, result) ≡ run B.meaning (line_plan kind address) bus.old }
+{
+    by_kind!(
+        kind,
+        Text => 0,
+        Planar => 255 - get(bus, address),
+        Packed => packed_line(bus, address),
+    )
+}
+
+/// Reads the lines of a cell.
+#[tactic(auto, using(crate::proofs::PlanRuns::run_bind), unfolding(crate::specs::CharacterReading::lines_plan))]
+fn read_lines<B: Bus>(bus: &mut B, cell: Band, row: u32, lines: &mut [u8])
+    requires cell { IsBand cell }
+    requires row { row < reached_cells }
+    requires count { length lines.old ≡ cell.lines }
+    ensures lines { (bus.new, lines.new) ≡ run B.meaning (lines_plan cell row) bus.old }
+    ensures count { length lines.new ≡ cell.lines }
+{
+    for r in 0..lines.len() {
+        lines[r] = read_line(bus, cell.kind, cell.address(row, r as u32, 0));
+    }
+}
+
+/// Reads the character whose glyph the dots of a cell are, and 0 where there is none.
+#[tactic(auto, using(crate::proofs::PlanRuns::run_bind), unfolding(crate::specs::CharacterReading::read_character_plan))]
+pub(crate) fn read_character<B: Bus>(bus: &mut B, cell: Band, row: u32, fonts: &Fonts) -> u8
+    requires cell { IsBand cell }
+    requires row { row < reached_cells }
+    ensures { (bus.new, result) ≡ run B.meaning (read_character_plan cell row fonts.now) bus.old }
+{
+    let mut room = [0u8; MOST_LINES];
+    let lines = &mut room[..cell.lines as usize];
+    set_access(bus, cell.kind, COMPARE_COLOURS);
+    read_lines(bus, cell, row, lines);
+    set_access(bus, cell.kind, PLAIN);
+    first_character(fonts, cell.lines, lines, CHARACTERS)
+}

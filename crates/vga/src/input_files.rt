@@ -1,0 +1,42 @@
+//! Files that are read.
+ghost use Rattle.std.specs.Prelude.{◌≡◌, ◌≤◌, ◌+◌, false, IfOk, IsOkUnless};
+ghost use Rattle.vga_bits.specs.Tracked.{inner_of, has_failed, taken_of};
+ghost use Rattle.vga_bits.specs.LimitedReading.{ReadsFront};
+
+use std::alloc::Global;
+use std::fs;
+use std::io::Read;
+use std::rt::Files;
+use vga_bits::{Fault, Tracked, read_front};
+
+/// One byte more than a font file has, so that one that is too long is told from a whole one.
+const FONTS_ROOM: usize = 9_729;
+
+/// The file at a path, opened for reading. None of its calls has failed.
+///
+/// # Errors
+///
+/// `ReadFault` where it cannot be opened.
+pub fn open<F: Files>(files: &F, path: &str) -> Result<Tracked<F::File>, Fault>
+    ensures sound { IfOk result (λ file. has_failed file ≡ false) }
+    ensures fault { IsOkUnless result Fault.ReadFault }
+{
+    match fs::open(files, path) {
+        Ok(file) => Ok(Tracked::new(file)),
+        Err(_) => Err(Fault::ReadFault),
+    }
+}
+
+/// The bytes of a font file: at most 9,729, which is one more than a font file has.
+///
+/// # Errors
+///
+/// `ReadFault` where the file fails in this call, and `OutOfMemory`.
+pub fn read_fonts<R: Read>(alloc: Global, file: &mut Tracked<R>) -> Result<Vec<u8>, Fault>
+    requires { has_failed file.old ≡ false }
+    ensures front { ReadsFront 9729 (R.remaining (inner_of file.old))
+        (R.remaining (inner_of file.new)) (has_failed file.new) result }
+    ensures counted { taken_of file.new ≤ taken_of file.old + 9729 }
+{
+    read_front(alloc, file, FONTS_ROOM)
+}

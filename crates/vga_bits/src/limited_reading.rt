@@ -1,0 +1,45 @@
+//! Reading up to a limit.
+ghost use Rattle.std.specs.Prelude.{◌≡◌, ◌≤◌, ◌+◌, false};
+ghost use Rattle.vga_bits.specs.Tracked.{inner_of, has_failed, taken_of};
+ghost use Rattle.vga_bits.specs.LimitedReading.{ReadsFront};
+
+use super::fault::Fault;
+use super::tracked::Tracked;
+use std::alloc::Global;
+use std::io::Read;
+
+/// How many bytes one call of the reader is asked for, at most.
+const PIECE_LEN: usize = 65_536;
+
+/// The first `most` bytes of a reader, or all where it has fewer. No further byte is taken from it.
+///
+/// # Errors
+///
+/// `ReadFault` where the reader fails in this call, and `OutOfMemory`.
+pub fn read_front<R: Read>(
+    alloc: Global,
+    reader: &mut Tracked<R>,
+    most: usize,
+) -> Result<Vec<u8>, Fault>
+    requires { has_failed reader.old ≡ false }
+    ensures front { ReadsFront most (R.remaining (inner_of reader.old))
+        (R.remaining (inner_of reader.new)) (has_failed reader.new) result }
+    ensures counted { taken_of reader.new ≤ taken_of reader.old + most }
+{
+    let mut bytes = Vec::new(alloc);
+    let mut buffer = [0u8; PIECE_LEN];
+    while bytes.len() < most {
+        let room = (most - bytes.len()).min(PIECE_LEN);
+        let piece = &mut buffer[..room];
+        match reader.read(piece) {
+            Ok(0) => return Ok(bytes),
+            Ok(n) => {
+                if bytes.extend_from_slice(&piece[..n]).is_err() {
+                    return Err(Fault::OutOfMemory);
+                }
+            }
+            Err(_) => return Err(Fault::ReadFault),
+        }
+    }
+    Ok(bytes)
+}

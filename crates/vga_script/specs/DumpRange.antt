@@ -1,0 +1,53 @@
+-- What a step shows: which part of the adapter, within which bounds, and its bytes.
+use Rattle.std.specs.Prelude.{ℕ, ◌<◌, ◌≤◌, ◌+◌, ◌^◌, List, [], ◌∷◌, ◌++◌}
+use Rattle.byteorder.specs.Endian.{little_bytes}
+use Rattle.vga_script.specs.declared.dump_range.Shown.{Shown}
+use Rattle.vga_script.specs.declared.dump_range.Shown.TheVariants as shown
+
+-- a DAC entry has an index of one byte, and of one of the four planes 1 to 256 bytes are shown, none past its end
+abbrev pub IsShownInRange : Shown → Type 0
+IsShownInRange shown.Registers = Unit {0}
+IsShownInRange (shown.Dac index) = index < 2 ^ 8
+IsShownInRange shown.Beam = Unit {0}
+IsShownInRange shown.Latches = Unit {0}
+IsShownInRange (shown.Plane plane offset count) = (plane < 4) × (0 < count) × (count ≤ 256) × (offset + count ≤ 2 ^ 16)
+IsShownInRange shown.BiosData = Unit {0}
+IsShownInRange shown.Cells = Unit {0}
+
+-- the kind of the registers
+abbrev pub kind_registers : ℕ
+kind_registers = 0x00
+
+-- the kind of an entry of the DAC
+abbrev pub kind_dac : ℕ
+kind_dac = 0x01
+
+-- the kind of the beam
+abbrev pub kind_beam : ℕ
+kind_beam = 0x02
+
+-- the kind of the latches
+abbrev pub kind_latches : ℕ
+kind_latches = 0x03
+
+-- the kind of bytes of a plane
+abbrev pub kind_plane : ℕ
+kind_plane = 0x04
+
+-- the kind of the BIOS data
+abbrev pub kind_bios_data : ℕ
+kind_bios_data = 0x05
+
+-- the kind of the cells of the active page
+abbrev pub kind_cells : ℕ
+kind_cells = 0x06
+
+-- the bytes of what is shown: its kind, and its fields, each with the low byte first
+abbrev pub shown_spelling : Shown → List ℕ
+shown_spelling shown.Registers = kind_registers ∷ []
+shown_spelling (shown.Dac index) = kind_dac ∷ index ∷ []
+shown_spelling shown.Beam = kind_beam ∷ []
+shown_spelling shown.Latches = kind_latches ∷ []
+shown_spelling (shown.Plane plane offset count) = kind_plane ∷ plane ∷ (little_bytes 2 offset ++ little_bytes 2 count)
+shown_spelling shown.BiosData = kind_bios_data ∷ []
+shown_spelling shown.Cells = kind_cells ∷ []

@@ -1,0 +1,421 @@
+//! Reading the words of a line.
+ghost use Rattle.std.specs.Prelude.{◌≡◌, ◌≤◌, IfOk, Some, take, drop, option_to_list, List, Err};
+ghost use Rattle.vga_script.specs.StepReading.{Gives, hex_of, hex_at, ended, one_hex, two_hex, one_decimal};
+ghost use Rattle.vga_script.specs.StepReading.{register_at, bytes_of, digits_at, block_at, read_int};
+ghost use Rattle.vga_script.specs.StepReading.{alone, read_dac, read_plane, read_shown, read_step};
+ghost use Rattle.vga_script.specs.Text.{SpellsLine};
+ghost use Rattle.vga_script.specs.Words.{lowered, words, words_in};
+ghost use Rattle.vga_script.specs.declared.step.Step.{Step};
+
+use super::block::Block;
+use super::dump_range::{MOST_SHOWN, Shown};
+use super::keyword::{Keyword, is_name};
+use super::numbers::number;
+use super::step::Step;
+use super::words::{before_comment, next_word};
+use hex::FromHexError;
+use std::alloc::Global;
+
+/// How many digits the longest block has.
+const MOST_DIGITS: usize = 131_070;
+
+/// Why words were not read.
+#[derive(Clone, Copy, PartialEq, Eq, Debug)]
+pub(crate) enum Unread {
+    /// They spell nothing of what was looked for.
+    Bad,
+    /// A request for memory was refused.
+    OutOfMemory,
+}
+
+/// The hexadecimal number, of at most so many digits and no larger than `most`, that a word spells.
+#[tactic(auto, unfolding(crate::specs::StepReading::hex_of))]
+fn hex_of(word: &[u8], digits: usize, most: u32) -> Result<u32, Unread>
+    ensures read { Gives (λ n. n) result (hex_of digits most word.now) }
+    ensures bound { IfOk result (λ n. n ≤ most) }
+{
+    if word.len() > digits {
+        return Err(Unread::Bad);
+    }
+    match number(word, 16, most) {
+        Some(n) => Ok(n),
+        None => Err(Unread::Bad),
+    }
+}
+
+/// The same of the first word, and what follows it.
+#[tactic(auto, unfolding(crate::specs::StepReading::hex_at))]
+fn hex_at(fields: &[u8], digits: usize, most: u32) -> Result<(u32, &[u8]), Unread>
+    ensures read { Gives (λ x. (x.0, words_in x.1.now)) result (hex_at digits most (words_in fields.now)) }
+    ensures bound { IfOk result (λ x. x.0 ≤ most) }
+{
+    let Some((word, rest)) = next_word(fields) else {
+        return Err(Unread::Bad);
+    };
+    let n = hex_of(word, digits, most)?;
+    Ok((n, rest))
+}
+
+/// That no word follows.
+#[tactic(auto, unfolding(crate::specs::StepReading::ended))]
+fn ended(rest: &[u8]) -> Result<(), Unread>
+    ensures { Gives (λ u. tt) result (ended (words_in rest.now)) }
+{
+    match next_word(rest) {
+        None => Ok(()),
+        Some(_) => Err(Unread::Bad),
+    }
+}
+
+/// One hexadecimal number, and no other word.
+#[tactic(auto, unfolding(crate::specs::StepReading::one_hex))]
+fn one_hex(fields: &[u8], digits: usize, most: u32) -> Result<u32, Unread>
+    ensures read { Gives (λ n. n) result (one_hex digits most (words_in fields.now)) }
+    ensures bound { IfOk result (λ n. n ≤ most) }
+{
+    let (n, rest) = hex_at(fields, digits, most)?;
+    ended(rest)?;
+    Ok(n)
+}
+
+/// Two hexadecimal numbers, each with its digits and bound, and no other word.
+#[tactic(auto, unfolding(crate::specs::StepReading::two_hex))]
+fn two_hex(
+    fields: &[u8],
+    digits: usize,
+    most: u32,
+    other_digits: usize,
+    other_most: u32,
+) -> Result<(u32, u32), Unread>
+    ensures read { Gives (λ x. (x.0, x.1)) result
+        (two_hex digits most other_digits other_most (words_in fields.now)) }
+    ensures first { IfOk result (λ x. x.0 ≤ most) }
+    ensures second { IfOk result (λ x. x.1 ≤ other_most) }
+{
+    let (n, rest) = hex_at(fields, digits, most)?;
+    let (m, rest) = hex_at(rest, other_digits, other_most)?;
+    ended(rest)?;
+    Ok((n, m))
+}
+
+/// One decimal number, no larger than `most`, and no other word.
+#[tactic(auto, unfolding(crate::specs::StepReading::one_decimal))]
+fn one_decimal(fields: &[u8], most: u32) -> Result<u32, Unread>
+    ensures read { Gives (λ n. n) result (one_decimal most (words_in fields.now)) }
+    ensures bound { IfOk result (λ n. n ≤ most) }
+{
+    let Some((word, rest)) = next_word(fields) else {
+        return Err(Unread::Bad);
+    };
+    let Some(n) = number(word, 10, most) else {
+        return Err(Unread::Bad);
+    };
+    ended(rest)?;
+    Ok(n)
+}
+
+/// The first three bytes of a word, and the others.
+#[tactic(auto, using(std::proofs::lemmas::List::take_min, std::proofs::lemmas::List::drop_min))]
+fn cut_name(word: &[u8]) -> (&[u8], &[u8])
+    ensures front { result.0.now ≡ take 3 word.now }
+    ensures rest { result.1.now ≡ drop 3 word.now }
+{
+    word.split_at(word.len().min(3))
+}
+
+/// The register of this name, with its equals sign, where the first word begins so; or 0.
+#[tactic(auto, unfolding(crate::specs::StepReading::register_at))]
+fn register_at<'a>(fields: &'a [u8], name: &[u8]) -> Result<(u16, &'a [u8]), Unread>
+    requires { lowered name.now ≡ name.now }
+    ensures { Gives (λ x. (x.0, words_in x.1.now)) result (register_at name.now (words_in fields.now)) }
+{
+    let Some((word, rest)) = next_word(fields) else {
+        return Ok((0, fields));
+    };
+    let (front, digits) = cut_name(word);
+    if !is_name(front, name) {
+        return Ok((0, fields));
+    }
+    let n = hex_of(digits, 4, 0xFFFF)?;
+    let n = n as u16;
+    Ok((n, rest))
+}
+
+/// The bytes that the digits of a block spell.
+#[tactic(auto, unfolding(crate::specs::StepReading::bytes_of))]
+fn bytes_of(alloc: Global, word: &[u8]) -> Result<Vec<u8>, Unread>
+    ensures { Gives (λ bytes. bytes.items) result (bytes_of word.now) }
+{
+    if word.is_empty() || word.len() > MOST_DIGITS {
+        return Err(Unread::Bad);
+    }
+    match hex::decode(alloc, word) {
+        Ok(bytes) => Ok(bytes),
+        Err(FromHexError::OutOfMemory) => Err(Unread::OutOfMemory),
+        Err(_) => Err(Unread::Bad),
+    }
+}
+
+/// The bytes that the digits behind a block's name spell, and no other word.
+#[tactic(auto, unfolding(crate::specs::StepReading::digits_at))]
+fn digits_at(alloc: Global, fields: &[u8]) -> Result<Vec<u8>, Unread>
+    ensures { Gives (λ bytes. bytes.items) result (digits_at (words_in fields.now)) }
+{
+    let Some((word, rest)) = next_word(fields) else {
+        return Err(Unread::Bad);
+    };
+    let block = bytes_of(alloc, word)?;
+    ended(rest)?;
+    Ok(block)
+}
+
+/// A block, or an empty one where there is none, and no other word.
+#[tactic(auto, unfolding(crate::specs::StepReading::block_at))]
+fn block_at(alloc: Global, fields: &[u8]) -> Result<Vec<u8>, Unread>
+    ensures { Gives (λ bytes. bytes.items) result (block_at (words_in fields.now)) }
+{
+    let Some((word, rest)) = next_word(fields) else {
+        return Ok(Vec::new(alloc));
+    };
+    if !is_name(word, b"block") {
+        return Err(Unread::Bad);
+    }
+    digits_at(alloc, rest)
+}
+
+/// A call of the BIOS, whose block is kept in `kept`.
+#[tactic(auto, unfolding(crate::specs::StepReading::read_int))]
+fn read_int<'a>(alloc: Global, kept: &'a mut Vec<u8>, fields: &[u8]) -> Result<Step<'a>, Unread>
+    ensures { Gives (λ step. step) result (read_int (words_in fields.now)) }
+{
+    let (ax, rest) = register_at(fields, b"ax=")?;
+    let (bx, rest) = register_at(rest, b"bx=")?;
+    let (cx, rest) = register_at(rest, b"cx=")?;
+    let (dx, rest) = register_at(rest, b"dx=")?;
+    *kept = block_at(alloc, rest)?;
+    let block = Block::of(kept.as_slice());
+    Ok(Step::Int {
+        ax,
+        bx,
+        cx,
+        dx,
+        block,
+    })
+}
+
+/// A write of a byte to a port.
+#[tactic(auto, unfolding(crate::specs::StepReading::read_step))]
+fn read_out(fields: &[u8]) -> Result<Step<'static>, Unread>
+    ensures { Gives (λ step. step) result (read_step Keyword.Out (words_in fields.now)) }
+{
+    let (port, value) = two_hex(fields, 4, 0xFFFF, 2, 0xFF)?;
+    let port = port as u16;
+    let value = value as u8;
+    Ok(Step::Out { port, value })
+}
+
+/// A write of a word to a port.
+#[tactic(auto, unfolding(crate::specs::StepReading::read_step))]
+fn read_out_word(fields: &[u8]) -> Result<Step<'static>, Unread>
+    ensures { Gives (λ step. step) result (read_step Keyword.OutWord (words_in fields.now)) }
+{
+    let (port, value) = two_hex(fields, 4, 0xFFFF, 4, 0xFFFF)?;
+    let port = port as u16;
+    let value = value as u16;
+    Ok(Step::OutWord { port, value })
+}
+
+/// A read of a byte from a port.
+#[tactic(auto, unfolding(crate::specs::StepReading::read_step))]
+fn read_in(fields: &[u8]) -> Result<Step<'static>, Unread>
+    ensures { Gives (λ step. step) result (read_step Keyword.In (words_in fields.now)) }
+{
+    let port = one_hex(fields, 4, 0xFFFF)?;
+    let port = port as u16;
+    Ok(Step::In { port })
+}
+
+/// A read of a word from a port.
+#[tactic(auto, unfolding(crate::specs::StepReading::read_step))]
+fn read_in_word(fields: &[u8]) -> Result<Step<'static>, Unread>
+    ensures { Gives (λ step. step) result (read_step Keyword.InWord (words_in fields.now)) }
+{
+    let port = one_hex(fields, 4, 0xFFFF)?;
+    let port = port as u16;
+    Ok(Step::InWord { port })
+}
+
+/// A write of a byte to an address.
+#[tactic(auto, unfolding(crate::specs::StepReading::read_step))]
+fn read_put(fields: &[u8]) -> Result<Step<'static>, Unread>
+    ensures { Gives (λ step. step) result (read_step Keyword.Put (words_in fields.now)) }
+{
+    let (address, value) = two_hex(fields, 8, 0xFFFF_FFFF, 2, 0xFF)?;
+    let value = value as u8;
+    Ok(Step::Put { address, value })
+}
+
+/// A write of a word to an address.
+#[tactic(auto, unfolding(crate::specs::StepReading::read_step))]
+fn read_put_word(fields: &[u8]) -> Result<Step<'static>, Unread>
+    ensures { Gives (λ step. step) result (read_step Keyword.PutWord (words_in fields.now)) }
+{
+    let (address, value) = two_hex(fields, 8, 0xFFFF_FFFF, 4, 0xFFFF)?;
+    let value = value as u16;
+    Ok(Step::PutWord { address, value })
+}
+
+/// A read of a byte from an address.
+#[tactic(auto, unfolding(crate::specs::StepReading::read_step))]
+fn read_get(fields: &[u8]) -> Result<Step<'static>, Unread>
+    ensures { Gives (λ step. step) result (read_step Keyword.Get (words_in fields.now)) }
+{
+    let address = one_hex(fields, 8, 0xFFFF_FFFF)?;
+    Ok(Step::Get { address })
+}
+
+/// A read of a word from an address.
+#[tactic(auto, unfolding(crate::specs::StepReading::read_step))]
+fn read_get_word(fields: &[u8]) -> Result<Step<'static>, Unread>
+    ensures { Gives (λ step. step) result (read_step Keyword.GetWord (words_in fields.now)) }
+{
+    let address = one_hex(fields, 8, 0xFFFF_FFFF)?;
+    Ok(Step::GetWord { address })
+}
+
+/// An advance of the clock.
+#[tactic(auto, unfolding(crate::specs::StepReading::read_step))]
+fn read_advance(fields: &[u8]) -> Result<Step<'static>, Unread>
+    ensures { Gives (λ step. step) result (read_step Keyword.Advance (words_in fields.now)) }
+{
+    let dots = one_decimal(fields, 0xFFFF_FFFF)?;
+    Ok(Step::Advance { dots })
+}
+
+/// A frame that is drawn.
+#[tactic(auto, unfolding(crate::specs::StepReading::read_step))]
+fn read_frame(fields: &[u8]) -> Result<Step<'static>, Unread>
+    ensures { Gives (λ step. step) result (read_step Keyword.Frame (words_in fields.now)) }
+{
+    ended(fields)?;
+    Ok(Step::Frame)
+}
+
+/// What is shown, and no other word.
+#[tactic(auto, unfolding(crate::specs::StepReading::alone))]
+fn alone(what: Shown, fields: &[u8]) -> Result<Shown, Unread>
+    ensures { Gives (λ shown. shown) result (alone what (words_in fields.now)) }
+{
+    ended(fields)?;
+    Ok(what)
+}
+
+/// An entry of the DAC.
+#[tactic(auto, unfolding(crate::specs::StepReading::read_dac))]
+fn read_dac(fields: &[u8]) -> Result<Shown, Unread>
+    ensures { Gives (λ what. what) result (read_dac (words_in fields.now)) }
+{
+    let index = one_hex(fields, 2, 0xFF)?;
+    let index = index as u8;
+    Ok(Shown::Dac { index })
+}
+
+/// Bytes of a plane.
+#[tactic(auto, unfolding(crate::specs::StepReading::read_plane), using(crate::proofs::ShownLemmas::tests_pass, crate::proofs::ShownLemmas::tests_fail))]
+fn read_plane(fields: &[u8]) -> Result<Shown, Unread>
+    ensures { Gives (λ what. what) result (read_plane (words_in fields.now)) }
+{
+    let (plane, rest) = hex_at(fields, 1, 3)?;
+    let (offset, rest) = hex_at(rest, 4, 0xFFFF)?;
+    let count = one_decimal(rest, MOST_SHOWN as u32)?;
+    let shown = Shown::Plane {
+        plane: plane as u8,
+        offset: offset as u16,
+        count: count as u16,
+    };
+    if !shown.is_in_range() {
+        return Err(Unread::Bad);
+    }
+    Ok(shown)
+}
+
+/// What is shown, by its name.
+#[tactic(auto, unfolding(crate::specs::StepReading::read_shown))]
+fn read_shown(fields: &[u8]) -> Result<Shown, Unread>
+    ensures { Gives (λ what. what) result (read_shown (words_in fields.now)) }
+{
+    let Some((name, rest)) = next_word(fields) else {
+        return Err(Unread::Bad);
+    };
+    if is_name(name, b"regs") {
+        return alone(Shown::Registers, rest);
+    }
+    if is_name(name, b"dac") {
+        return read_dac(rest);
+    }
+    if is_name(name, b"beam") {
+        return alone(Shown::Beam, rest);
+    }
+    if is_name(name, b"latches") {
+        return alone(Shown::Latches, rest);
+    }
+    if is_name(name, b"plane") {
+        return read_plane(rest);
+    }
+    if is_name(name, b"bda") {
+        return alone(Shown::BiosData, rest);
+    }
+    if is_name(name, b"cells") {
+        return alone(Shown::Cells, rest);
+    }
+    Err(Unread::Bad)
+}
+
+/// The step of this name that the words behind it spell. A block is kept in `kept`.
+#[tactic(auto, unfolding(crate::specs::StepReading::read_step))]
+fn read_step<'a>(
+    alloc: Global,
+    kept: &'a mut Vec<u8>,
+    keyword: Keyword,
+    fields: &[u8],
+) -> Result<Step<'a>, Unread>
+    ensures { Gives (λ step. step) result (read_step keyword (words_in fields.now)) }
+{
+    match keyword {
+        Keyword::Out => read_out(fields),
+        Keyword::OutWord => read_out_word(fields),
+        Keyword::In => read_in(fields),
+        Keyword::InWord => read_in_word(fields),
+        Keyword::Put => read_put(fields),
+        Keyword::PutWord => read_put_word(fields),
+        Keyword::Get => read_get(fields),
+        Keyword::GetWord => read_get_word(fields),
+        Keyword::Int => read_int(alloc, kept, fields),
+        Keyword::Advance => read_advance(fields),
+        Keyword::Frame => read_frame(fields),
+        Keyword::Show => {
+            let shown = read_shown(fields)?;
+            Ok(Step::Show { shown })
+        }
+    }
+}
+
+/// The step that a line spells, where it has a word. A block is kept in `kept`.
+#[tactic(auto, using(crate::proofs::LineLemmas::line_none, crate::proofs::LineLemmas::line_named, crate::proofs::LineLemmas::line_bad, crate::proofs::LineLemmas::line_unnamed))]
+pub(crate) fn step_of_line<'a>(
+    alloc: Global,
+    kept: &'a mut Vec<u8>,
+    line: &[u8],
+) -> Result<Option<Step<'a>>, Unread>
+    ensures found { IfOk result (λ step. SpellsLine (words line.now) (option_to_list step)) }
+    ensures bad { result ≡ Err Unread.Bad → (steps : List Step) → SpellsLine (words line.now) steps → ⊥ }
+{
+    let Some((name, fields)) = next_word(before_comment(line)) else {
+        return Ok(None);
+    };
+    let Some(keyword) = Keyword::of_word(name) else {
+        return Err(Unread::Bad);
+    };
+    let step = read_step(alloc, kept, keyword, fields)?;
+    Ok(Some(step))
+}
