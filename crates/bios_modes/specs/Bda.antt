@@ -1,5 +1,6 @@
 -- The data that the video BIOS keeps, by their offsets in its data area.
--- From the IBM PS/2 and PC BIOS Interface Technical Reference, "BIOS Data Area", "Video Control Data Area".
+-- From the IBM PS/2 and PC BIOS Interface Technical Reference, "BIOS Data Area", "Video Control
+-- Data Area".
 use Rattle.std.specs.Prelude.{ℕ, List, replicate}
 
 pub record BiosData : Type 0 where

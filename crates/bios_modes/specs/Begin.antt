@@ -4,7 +4,8 @@ use Rattle.std.specs.Prelude.{ℕ, replicate}
 use Rattle.bios_modes.specs.declared.modes.ModeRow.{ModeRow}
 use Rattle.bios_modes.specs.Bda.{BiosData}
 
--- the BIOS data after a mode is set: its constants, page 0, and the cursor in the upper left corner of each page
+-- the BIOS data after a mode is set: its constants, page 0, and the cursor in the upper left corner
+-- of each page
 abbrev pub data_of_mode : ℕ → ModeRow → BiosData
 data_of_mode mode row = record {
   mode = mode;

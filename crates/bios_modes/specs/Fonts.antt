@@ -1,6 +1,6 @@
 -- A font file: the glyphs of 256 characters in three heights.
--- From the IBM PS/2 and PC BIOS Interface Technical Reference, "Interrupt 10H - Video", "Character Generator"; the order of the
--- heights in the file is this adapter's choice.
+-- From the IBM PS/2 and PC BIOS Interface Technical Reference, "Interrupt 10H - Video", "Character
+-- Generator"; the order of the heights in the file is this adapter's choice.
 use Rattle.std.specs.Prelude.{ℕ, ◌≡◌, ◌≢◌, ◌*◌, List, length, take, drop, slice_index, ◌+◌}
 use Rattle.vga_bits.specs.declared.fault.Fault.{Fault}
 use Rattle.vga_bits.specs.declared.fault.Fault.TheVariants.{FontSize, OutOfMemory}
@@ -27,7 +27,11 @@ file_len = 9728
 unfoldable pub fonts_of : List ℕ → FontSet
 fonts_of file =
     let behind = drop (font_len 8) file in
-    record { f8 = take (font_len 8) file; f14 = take (font_len 14) behind; f16 = drop (font_len 14) behind }
+    record {
+      f8 = take (font_len 8) file;
+      f14 = take (font_len 14) behind;
+      f16 = drop (font_len 14) behind;
+    }
 
 -- why there are no fonts of a file: it has another length, or memory ran out
 abbrev pub IsFontFault : List ℕ → Fault → Type 0

@@ -1,6 +1,7 @@
 -- The text-height table: what the height of characters makes of a text mode.
--- From the IBM PS/2 and PC BIOS Interface Technical Reference, "Interrupt 10H - Video", (AH) = 11H, and the IBM PS/2 Hardware
--- Interface Technical Reference, Video Subsystems, "Alphanumeric Modes"; the values are this adapter's choice.
+-- From the IBM PS/2 and PC BIOS Interface Technical Reference, "Interrupt 10H - Video", (AH) = 11H,
+-- and the IBM PS/2 Hardware Interface Technical Reference, Video Subsystems, "Alphanumeric Modes";
+-- the values are this adapter's choice.
 use Rattle.std.specs.Prelude.{ℕ, ◌==◌, if◌then◌else◌, slice_set, Option, Some, None}
 use Rattle.bios_modes.specs.declared.heights.TextRow.{TextRow}
 use Rattle.bios_modes.specs.declared.kind.Kind.{Kind}
@@ -12,15 +13,42 @@ use Rattle.bios_modes.specs.Modes.{mode_row}
 
 -- characters of 8 scan lines, 50 rows on a page, underlined in this scan line
 abbrev pub fifty_rows : ℕ → TextRow
-fifty_rows underline = record { height = 8; last_row = 49; size = 0x2000; pages = 4; maximum_scan_line = 0x47; vertical_display_end = 0x8F; underline = underline; cursor_type = 0x0607 }
+fifty_rows underline = record {
+  height = 8;
+  last_row = 49;
+  size = 0x2000;
+  pages = 4;
+  maximum_scan_line = 0x47;
+  vertical_display_end = 0x8F;
+  underline = underline;
+  cursor_type = 0x0607;
+}
 
 -- characters of 14 scan lines, 28 rows on a page
 abbrev pub twenty_eight_rows : ℕ → TextRow
-twenty_eight_rows underline = record { height = 14; last_row = 27; size = 0x2000; pages = 4; maximum_scan_line = 0x4D; vertical_display_end = 0x87; underline = underline; cursor_type = 0x0B0C }
+twenty_eight_rows underline = record {
+  height = 14;
+  last_row = 27;
+  size = 0x2000;
+  pages = 4;
+  maximum_scan_line = 0x4D;
+  vertical_display_end = 0x87;
+  underline = underline;
+  cursor_type = 0x0B0C;
+}
 
 -- characters of 16 scan lines, 25 rows on a page
 abbrev pub twenty_five_rows : ℕ → TextRow
-twenty_five_rows underline = record { height = 16; last_row = 24; size = 0x1000; pages = 8; maximum_scan_line = 0x4F; vertical_display_end = 0x8F; underline = underline; cursor_type = 0x0D0E }
+twenty_five_rows underline = record {
+  height = 16;
+  last_row = 24;
+  size = 0x1000;
+  pages = 8;
+  maximum_scan_line = 0x4F;
+  vertical_display_end = 0x8F;
+  underline = underline;
+  cursor_type = 0x0D0E;
+}
 
 -- the rows of text in colour, which underlines in no scan line of a character
 abbrev pub colour_rows : ℕ → Option TextRow
@@ -43,7 +71,8 @@ abbrev pub if_row : {A : Type 0} → Option ModeRow → (ModeRow → Option A) �
 if_row None f = None
 if_row (Some row) f = f row
 
--- what a mode has with characters of this height, if it is one of text, and there are characters of this height
+-- what a mode has with characters of this height, if it is one of text, and there are characters of
+-- this height
 abbrev pub text_rows : Kind → Palette → ℕ → Option TextRow
 text_rows Text Monochrome height = monochrome_rows height
 text_rows Text _ height = colour_rows height
@@ -59,7 +88,8 @@ text_row mode height = if_row (mode_row mode) (λ row. text_row_in row height)
 -- a text mode with characters of another height
 abbrev pub with_text : ModeRow → TextRow → ModeRow
 with_text row text = record row {
-  crtc = slice_set (slice_set (slice_set row.crtc 0x09 text.maximum_scan_line) 0x12 text.vertical_display_end) 0x14 text.underline;
+  crtc = slice_set (slice_set (slice_set row.crtc 0x09 text.maximum_scan_line) 0x12
+      text.vertical_display_end) 0x14 text.underline;
   size = text.size;
   pages = text.pages;
   last_row = text.last_row;
@@ -71,7 +101,8 @@ abbrev pub with_height : ModeRow → Option TextRow → Option ModeRow
 with_height row None = None
 with_height row (Some text) = Some (with_text row text)
 
--- a mode with characters of this height: of text by the table; of graphics the mode's own, whatever the height is
+-- a mode with characters of this height: of text by the table; of graphics the mode's own, whatever
+-- the height is
 abbrev pub by_kind : Kind → ModeRow → ℕ → Option ModeRow
 by_kind Text row height = with_height row (text_row_in row height)
 by_kind Planar row height = Some row

@@ -1,5 +1,7 @@
--- The three ways in which modes use the memory: text, a bit of each plane for a dot, and a byte for a dot.
--- From the IBM PS/2 Hardware Interface Technical Reference, Video Subsystems, "Video Memory Organization".
+-- The three ways in which modes use the memory: text, a bit of each plane for a dot, and a byte for
+-- a dot.
+-- From the IBM PS/2 Hardware Interface Technical Reference, Video Subsystems, "Video Memory
+-- Organization".
 use Rattle.std.specs.Prelude.{ℕ, Bool, true, false, Option, Some, None}
 use Rattle.bios_modes.specs.declared.kind.Kind.{Kind}
 use Rattle.bios_modes.specs.declared.kind.Kind.TheVariants.{Text, Planar, Packed}

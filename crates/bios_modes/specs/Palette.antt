@@ -1,12 +1,14 @@
 -- The default palettes: the DAC entries that a mode sets.
--- From the IBM PS/2 and PC BIOS Interface Technical Reference, "Interrupt 10H - Video", "Default Palette"; the values are this
--- adapter's choice.
-use Rattle.std.specs.Prelude.{ℕ, Bool, ◌+◌, ◌-◌, ◌*◌, ◌/◌, ◌==◌, ◌&&◌, true, false, not, nat_lt, if◌then◌else◌, List, [], ◌∷◌, Option, Some, None}
+-- From the IBM PS/2 and PC BIOS Interface Technical Reference, "Interrupt 10H - Video", "Default
+-- Palette"; the values are this adapter's choice.
+use Rattle.std.specs.Prelude.{ℕ, Bool, ◌+◌, ◌-◌, ◌*◌, ◌/◌, ◌==◌, ◌&&◌, true, false, not, nat_lt}
+use Rattle.std.specs.Prelude.{if◌then◌else◌, List, [], ◌∷◌, Option, Some, None}
 use Rattle.std.specs.Int.{bit_at}
 use Rattle.vga_bits.specs.Bits.{is_set, field}
 use Rattle.bios_modes.specs.declared.modes.ModeRow.{ModeRow}
 use Rattle.bios_modes.specs.declared.palette.Palette.{Palette}
-use Rattle.bios_modes.specs.declared.palette.Palette.TheVariants.{Colours16, Colours64, Colours256, Monochrome}
+use Rattle.bios_modes.specs.declared.palette.Palette.TheVariants.{Colours16, Colours64, Colours256}
+use Rattle.bios_modes.specs.declared.palette.Palette.TheVariants.{Monochrome}
 use Rattle.bios_modes.specs.Modes.{mode_row}
 
 -- red, green and blue
@@ -21,7 +23,8 @@ component n strong weak = 0x2A * bit_at n strong + 0x15 * bit_at n weak
 abbrev pub of_six_bits : ℕ → List ℕ
 of_six_bits n = rgb (component n 2 5) (component n 1 4) (component n 0 3)
 
--- 16 colours of a bit for each component and a bright one, which stands at `bright`; the dark yellow is a brown
+-- 16 colours of a bit for each component and a bright one, which stands at `bright`; the dark
+-- yellow is a brown
 abbrev pub of_bright_bit : ℕ → ℕ → List ℕ
 of_bright_bit bright n =
     rgb (component n 2 bright)
@@ -36,7 +39,8 @@ grey level = rgb level level level
 abbrev pub of_intensity : ℕ → List ℕ
 of_intensity n = grey (if is_set n 3 then 0x2A + 0x15 * bit_at n 4 else 0)
 
--- 256 colours: 16 colours, 16 greys from black to white, and colours of three bits of red, three of green and two of blue
+-- 256 colours: 16 colours, 16 greys from black to white, and colours of three bits of red, three of
+-- green and two of blue
 abbrev pub of_byte : ℕ → List ℕ
 of_byte n =
     if nat_lt n 0x10 then of_bright_bit 3 n

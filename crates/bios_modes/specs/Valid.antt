@@ -1,6 +1,7 @@
--- When BIOS data are those of the adapter: all 0 before a mode is set, and after that the mode's own, in text those of the
--- height of characters.
--- From the IBM PS/2 and PC BIOS Interface Technical Reference, "BIOS Data Area", "Video Control Data Area".
+-- When BIOS data are those of the adapter: all 0 before a mode is set, and after that the mode's
+-- own, in text those of the height of characters.
+-- From the IBM PS/2 and PC BIOS Interface Technical Reference, "BIOS Data Area", "Video Control
+-- Data Area".
 use Rattle.std.specs.Prelude.{◌≡◌, ◌*◌, ◌<◌, ◌⊎◌, Option, Some, None}
 use Rattle.bios_modes.specs.declared.modes.ModeRow.{ModeRow}
 use Rattle.bios_modes.specs.Heights.{row_at}
@@ -20,6 +21,7 @@ abbrev pub Fits : Option ModeRow → BiosData → Type 0
 Fits None d = ⊥
 Fits (Some row) d = IsOf row d
 
--- the data are all 0, or those of their mode with characters of their height; the cursor's places and type may then be any
+-- the data are all 0, or those of their mode with characters of their height; the cursor's places
+-- and type may then be any
 abbrev pub IsValid : BiosData → Type 0
 IsValid d = (d ≡ power_on_data) ⊎ Fits (row_at d.mode d.height) d

@@ -32,7 +32,18 @@ impl Model for Bda {
 
     ghost Value = { BiosData };
 
-    ghost view = { λ d. record { mode = d.mode; columns = d.columns; size = d.size; start = d.start; cursor_places = d.cursor_places; cursor_type = d.cursor_type; page = d.page; crtc_address = d.crtc_address; last_row = d.last_row; height = d.height } };
+    ghost view = { λ d. record {
+      mode = d.mode;
+      columns = d.columns;
+      size = d.size;
+      start = d.start;
+      cursor_places = d.cursor_places;
+      cursor_type = d.cursor_type;
+      page = d.page;
+      crtc_address = d.crtc_address;
+      last_row = d.last_row;
+      height = d.height;
+    } };
 }
 
 impl Bda {
@@ -57,7 +68,8 @@ impl Bda {
         }
     }
 
-    /// The eight places of the cursor are words, whatever was written. The clause is for proofs: nothing runs.
+    /// The eight places of the cursor are words, whatever was written. The clause is for proofs:
+    /// nothing runs.
     pub fn bounds(&self)
         ensures { IsBda self.now }
     {
@@ -92,8 +104,8 @@ impl Bda {
         self.start
     }
 
-    /// The place of the cursor on a page, 0 to 7, with the row as its high byte and the column as its
-    /// low one; the eight stand at offset 50.
+    /// The place of the cursor on a page, 0 to 7, with the row as its high byte and the column as
+    /// its low one; the eight stand at offset 50.
     pub fn cursor_place(&self, page: usize) -> u16
         requires { page < 8 }
         ensures { result ≡ slice_index self.now.cursor_places page }
@@ -101,7 +113,8 @@ impl Bda {
         self.cursor_places[page]
     }
 
-    /// The first scan line of the cursor as the high byte and its last as the low one, at offset 60.
+    /// The first scan line of the cursor as the high byte and its last as the low one, at offset
+    /// 60.
     pub fn cursor_type(&self) -> u16
         ensures { result ≡ self.now.cursor_type }
     {

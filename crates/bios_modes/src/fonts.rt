@@ -32,12 +32,14 @@ impl Model for Fonts {
 }
 
 impl Fonts {
-    /// The fonts of a file: 2,048 bytes of the font with 8 rows, then 3,584 with 14, then 4,096 with 16.
+    /// The fonts of a file: 2,048 bytes of the font with 8 rows, then 3,584 with 14, then 4,096
+    /// with 16.
     ///
     /// It fails with `FontSize` where the file has not 9,728 bytes, and with `OutOfMemory`.
     #[tactic(auto, unfolding(crate::specs::Fonts::fonts_of))]
     pub fn from_bytes(alloc: Global, file: &[u8]) -> Result<Fonts, Fault>
-        ensures ok { IfOk result (λ fonts. (length file.now ≡ file_len) × (fonts ≡ fonts_of file.now)) }
+        ensures ok { IfOk result (λ fonts. (length file.now ≡ file_len)
+            × (fonts ≡ fonts_of file.now)) }
         ensures err { IfErr result (IsFontFault file.now) }
     {
         if file.len() != FILE_LEN {

@@ -1,21 +1,24 @@
 //! What the height of characters makes of a text mode.
 ghost use Rattle.std.specs.Prelude.{◌≡◌};
-ghost use Rattle.bios_modes.specs.Heights.{at_height, colour_rows, fifty_rows, monochrome_rows, row_at as row_at_of, text_row as text_row_of, text_row_in, twenty_eight_rows, twenty_five_rows, with_text};
+ghost use Rattle.bios_modes.specs.Heights.{at_height, colour_rows, fifty_rows, monochrome_rows};
+ghost use Rattle.bios_modes.specs.Heights.{row_at as row_at_of, text_row as text_row_of};
+ghost use Rattle.bios_modes.specs.Heights.{text_row_in, twenty_eight_rows, twenty_five_rows};
+ghost use Rattle.bios_modes.specs.Heights.{with_text};
 
 use super::kind::Kind;
 use super::modes::{ModeRow, mode_row};
 use super::palette::Palette;
 
-/// The registers of the CRT controller that the height of characters changes: the maximum scan line, the end of the
-/// vertical display, and the location of underlines.
+/// The registers of the CRT controller that the height of characters changes: the maximum scan
+/// line, the end of the vertical display, and the location of underlines.
 const MAXIMUM_SCAN_LINE: usize = 0x09;
 
 const VERTICAL_DISPLAY_END: usize = 0x12;
 
 const UNDERLINE: usize = 0x14;
 
-/// A row of the text-height table: what the BIOS data and the CRT controller hold in a text mode whose characters have
-/// so many scan lines.
+/// A row of the text-height table: what the BIOS data and the CRT controller hold in a text mode
+/// whose characters have so many scan lines.
 #[derive(Clone, Copy, PartialEq, Eq, Debug)]
 pub struct TextRow {
     /// How many scan lines a character has: 8, 14 or 16.
@@ -127,7 +130,8 @@ impl ModeRow {
         row
     }
 
-    /// What the mode has with characters of this height, if it is one of text, and there are characters of this height.
+    /// What the mode has with characters of this height, if it is one of text, and there are
+    /// characters of this height.
     fn text_row(&self, height: u8) -> Option<TextRow>
         ensures { result ≡ text_row_in self.now height }
     {
@@ -153,15 +157,16 @@ impl ModeRow {
     }
 }
 
-/// What a text mode, 3 or 7, has with characters of 8, 14 or 16 scan lines. There is no row of any other mode or height.
+/// What a text mode, 3 or 7, has with characters of 8, 14 or 16 scan lines. There is no row of any
+/// other mode or height.
 pub fn text_row(mode: u8, height: u8) -> Option<TextRow>
     ensures { result ≡ text_row_of mode height }
 {
     mode_row(mode)?.text_row(height)
 }
 
-/// The row of a mode whose characters have this height: of a text mode by the text-height table, if there is one; of a
-/// graphics mode its own, whatever the height is.
+/// The row of a mode whose characters have this height: of a text mode by the text-height table, if
+/// there is one; of a graphics mode its own, whatever the height is.
 pub fn row_at(mode: u8, height: u16) -> Option<ModeRow>
     ensures { result ≡ row_at_of mode height }
 {

@@ -1,6 +1,7 @@
 //! The three ways in which modes use the memory.
 ghost use Rattle.std.specs.Prelude.{◌≡◌};
-ghost use Rattle.bios_modes.specs.Kinds.{kind_of as kind_of_mode, is_text as is_text_mode, is_packed as is_packed_mode};
+ghost use Rattle.bios_modes.specs.Kinds.{kind_of as kind_of_mode, is_text as is_text_mode};
+ghost use Rattle.bios_modes.specs.Kinds.{is_packed as is_packed_mode};
 
 use super::modes::mode_row;
 
@@ -15,7 +16,8 @@ pub enum Kind {
     Packed,
 }
 
-/// How a mode uses the memory, by its row; a number that is no mode's is taken for one of 16 colours.
+/// How a mode uses the memory, by its row; a number that is no mode's is taken for one of 16
+/// colours.
 pub fn kind_of(mode: u8) -> Kind
     ensures { result ≡ kind_of_mode mode }
 {

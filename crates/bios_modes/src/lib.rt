@@ -1,4 +1,5 @@
-//! What the video BIOS knows of its modes: what each sets, its palette, the fonts, and the data that it keeps.
+//! What the video BIOS knows of its modes: what each sets, its palette, the fonts, and the data
+//! that it keeps.
 #![tactic(auto)]
 
 pub mod bda;

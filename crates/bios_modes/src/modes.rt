@@ -5,8 +5,9 @@ ghost use Rattle.bios_modes.specs.Modes.{mode_row as row_of};
 use super::kind::Kind;
 use super::palette::Palette;
 
-/// A mode's row of the mode table: the values of the adapter's registers, in the order of their numbers,
-/// what the BIOS data say of the mode, how it uses the memory, and the colours that it begins with.
+/// A mode's row of the mode table: the values of the adapter's registers, in the order of their
+/// numbers, what the BIOS data say of the mode, how it uses the memory, and the colours that it
+/// begins with.
 #[derive(Clone, Copy, PartialEq, Eq, Debug)]
 pub struct ModeRow {
     /// The miscellaneous output register.

@@ -1,7 +1,11 @@
 //! The default palettes.
 ghost use Rattle.std.specs.Prelude.{◌≡◌, ◌<◌, ◌≤◌};
 ghost use Rattle.std.specs.Int.{bit_at};
-ghost use Rattle.bios_modes.specs.Palette.{component as component_of, of_six_bits as six_bits_of, of_bright_bit as bright_bit_of, of_intensity as intensity_of, of_byte as byte_of, palette_entry, is_monochrome_mode, palette_of as palette_of_mode, dac_entry as entry_of};
+ghost use Rattle.bios_modes.specs.Palette.{component as component_of, of_six_bits as six_bits_of};
+ghost use Rattle.bios_modes.specs.Palette.{of_bright_bit as bright_bit_of};
+ghost use Rattle.bios_modes.specs.Palette.{of_intensity as intensity_of, of_byte as byte_of};
+ghost use Rattle.bios_modes.specs.Palette.{palette_entry, is_monochrome_mode};
+ghost use Rattle.bios_modes.specs.Palette.{palette_of as palette_of_mode, dac_entry as entry_of};
 
 use super::modes::mode_row;
 

@@ -1,4 +1,5 @@
--- A call on a plain screen: its reply or refusal, and the screen afterwards; and a call that wants memory.
+-- A call on a plain screen: its reply or refusal, and the screen afterwards; and a call that wants
+-- memory.
 -- From the IBM PS/2 and PC BIOS Interface Technical Reference, "Interrupt 10H - Video".
 use Rattle.std.specs.Prelude.{ℕ, ◌≡◌, ◌<◌, List, length, Option, Some, None, Result, Ok, Err}
 use Rattle.vga_bits.specs.declared.refusal.Refusal.{Refusal}
@@ -45,26 +46,38 @@ screen_unless None old new = new
 screen_unless (Some why) old new = old
 
 -- a call for a service replies as on the screen, leads to the next screen, and leaves the beam
-pub record IsCalled (service : Service) (fonts : FontSet) (r : Regs) (block : List ℕ) (c : CardState) (d : BiosData) (s : Screen) : Type 0 where
-  pub reply : (after_call fonts r block c d).1.0 ≡ reply_unless (refusal_on s service (length block)) (answer_on fonts s service r)
-  pub shows : shown (after_call fonts r block c d).0 (after_call fonts r block c d).1.1 ≡ Some (screen_unless (refusal_on s service (length block)) s (next fonts s service block))
+pub record IsCalled (service : Service) (fonts : FontSet) (r : Regs) (block : List ℕ)
+    (c : CardState) (d : BiosData) (s : Screen) : Type 0 where
+  pub reply : (after_call fonts r block c d).1.0 ≡ reply_unless
+      (refusal_on s service (length block)) (answer_on fonts s service r)
+  pub shows : shown (after_call fonts r block c d).0 (after_call fonts r block c d).1.1
+      ≡ Some (screen_unless (refusal_on s service (length block)) s (next fonts s service block))
   pub beam : (after_call fonts r block c d).0.crtc.beam ≡ c.crtc.beam
 
--- a call that loads glyphs replies with its registers, unless it is refused, leads to the screen with them, and leaves the beam
-pub record IsLoaded (load : GlyphLoad) (fonts : FontSet) (r : Regs) (block : List ℕ) (c : CardState) (d : BiosData) (s : Screen) : Type 0 where
-  pub reply : (after_call fonts r block c d).1.0 ≡ reply_unless (load_refusal_on s load (length block)) r
-  pub shows : shown (after_call fonts r block c d).0 (after_call fonts r block c d).1.1 ≡ Some (screen_unless (load_refusal_on s load (length block)) s (load_glyphs fonts s load block))
+-- a call that loads glyphs replies with its registers, unless it is refused, leads to the screen
+-- with them, and leaves the beam
+pub record IsLoaded (load : GlyphLoad) (fonts : FontSet) (r : Regs) (block : List ℕ) (c : CardState)
+    (d : BiosData) (s : Screen) : Type 0 where
+  pub reply : (after_call fonts r block c d).1.0 ≡ reply_unless
+      (load_refusal_on s load (length block)) r
+  pub shows : shown (after_call fonts r block c d).0 (after_call fonts r block c d).1.1
+      ≡ Some (screen_unless (load_refusal_on s load (length block)) s
+      (load_glyphs fonts s load block))
   pub beam : (after_call fonts r block c d).0.crtc.beam ≡ c.crtc.beam
 
 -- a call for a table replies with that of the screen, and leaves screen and beam
-pub record IsRead (service : TableService) (fonts : FontSet) (r : Regs) (block : List ℕ) (c : CardState) (d : BiosData) (s : Screen) : Type 0 where
-  pub reply : (after_call fonts r block c d).1.0 ≡ table_unless (table_refusal service) (table_answer s service) r
+pub record IsRead (service : TableService) (fonts : FontSet) (r : Regs) (block : List ℕ)
+    (c : CardState) (d : BiosData) (s : Screen) : Type 0 where
+  pub reply : (after_call fonts r block c d).1.0 ≡ table_unless (table_refusal service)
+      (table_answer s service) r
   pub shows : shown (after_call fonts r block c d).0 (after_call fonts r block c d).1.1 ≡ Some s
   pub beam : (after_call fonts r block c d).0.crtc.beam ≡ c.crtc.beam
 
 -- memory for a table is refused, and the call leaves this adapter and these data
-abbrev pub WantsMemory : FontSet → Regs → List ℕ → CardState → BiosData → CardState → BiosData → Type 0
-WantsMemory fonts r block c d y after = MayAnswer card_meaning (whole_service fonts d r block) c d (Err OutOfMemory) y after
+abbrev pub WantsMemory : FontSet → Regs → List ℕ → CardState → BiosData → CardState → BiosData →
+    Type 0
+WantsMemory fonts r block c d y after = MayAnswer card_meaning (whole_service fonts d r block) c d
+    (Err OutOfMemory) y after
 
 -- they show the screen as before, and the beam is where it was
 pub record IsLeft (c : CardState) (s : Screen) (y : CardState) (after : BiosData) : Type 0 where

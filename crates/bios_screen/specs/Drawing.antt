@@ -1,16 +1,20 @@
--- A plain screen and the dot that comes next: dots are taken one at a time, and services may come between them.
--- From the IBM PS/2 Hardware Interface Technical Reference, Video Subsystems, "CRT Controller Registers"; that the page of a frame
--- is taken at its first dot is this adapter's choice.
-use Rattle.std.specs.Prelude.{ℕ, zero, suc, ◌≡◌, ◌≢◌, ◌⊎◌, ◌+◌, ◌-◌, ◌*◌, ◌/◌, ◌%◌, ◌==◌, ◌&&◌, nat_lt, Bool, if◌then◌else◌, List, [], ◌++◌, Option, Some, None}
+-- A plain screen and the dot that comes next: dots are taken one at a time, and services may come
+-- between them.
+-- From the IBM PS/2 Hardware Interface Technical Reference, Video Subsystems, "CRT Controller
+-- Registers"; that the page of a frame is taken at its first dot is this adapter's choice.
+use Rattle.std.specs.Prelude.{ℕ, zero, suc, ◌≡◌, ◌≢◌, ◌⊎◌, ◌+◌, ◌-◌, ◌*◌, ◌/◌, ◌%◌, ◌==◌, ◌&&◌}
+use Rattle.std.specs.Prelude.{nat_lt, Bool, if◌then◌else◌, List, [], ◌++◌, Option, Some, None}
 use Rattle.bios_services.specs.declared.glyph_load.GlyphLoad.{GlyphLoad}
 use Rattle.bios_modes.specs.Kinds.{is_text}
 use Rattle.bios_modes.specs.Modes.{mode_row}
 use Rattle.bios_modes.specs.declared.modes.ModeRow.{ModeRow}
 use Rattle.bios_screen.specs.Screen.{Screen}
 use Rattle.bios_screen.specs.Loaded.{load_refusal_on}
-use Rattle.bios_screen.specs.Picture.{dot_at, lines_of, pixel_width, picture_width, picture_height, next_frame}
+use Rattle.bios_screen.specs.Picture.{dot_at, lines_of, pixel_width, picture_width, picture_height}
+use Rattle.bios_screen.specs.Picture.{next_frame}
 
--- how many columns of characters a mode has, by its row; a number that is no mode's is taken to have 80
+-- how many columns of characters a mode has, by its row; a number that is no mode's is taken to
+-- have 80
 abbrev pub columns_in : Option ModeRow → ℕ
 columns_in None = 80
 columns_in (Some row) = row.columns
@@ -18,8 +22,8 @@ columns_in (Some row) = row.columns
 abbrev pub columns_of : ℕ → ℕ
 columns_of mode = columns_in (mode_row mode)
 
--- how many dots a line of a mode has, and how many lines a frame has: the picture and what lies right of it, which is a quarter of
--- it, and below
+-- how many dots a line of a mode has, and how many lines a frame has: the picture and what lies
+-- right of it, which is a quarter of it, and below
 abbrev pub dots_a_line : ℕ → ℕ
 dots_a_line mode = if is_text mode then 900 else 10 * (pixel_width mode * columns_of mode)
 
@@ -30,8 +34,9 @@ lines_a_frame mode = if lines_of mode == 480 then 525 else 449
 unfoldable pub dots_a_frame : ℕ → ℕ
 dots_a_frame mode = lines_a_frame mode * dots_a_line mode
 
--- a screen; the number in its frame of the dot that comes next; the page that the frame shows; and its picture so far, red, green and
--- blue of each dot. At dot 0 page and picture are still those of the frame that ended.
+-- a screen; the number in its frame of the dot that comes next; the page that the frame shows; and
+-- its picture so far, red, green and blue of each dot. At dot 0 page and picture are still those of
+-- the frame that ended.
 pub record Drawing : Type 0 where
   pub screen : Screen
   pub dot : ℕ
@@ -45,12 +50,15 @@ page_shown b = if b.dot == 0 then b.screen.page else b.page
 abbrev pub so_far : Drawing → List ℕ
 so_far b = if b.dot == 0 then [] else b.picture
 
--- whether dot n of a frame is of the picture, and its colour where this page is shown: that of the screen as it stands
+-- whether dot n of a frame is of the picture, and its colour where this page is shown: that of the
+-- screen as it stands
 abbrev pub is_of_picture : Screen → ℕ → Bool
-is_of_picture s n = nat_lt (n % dots_a_line s.mode) (picture_width s) && nat_lt (n / dots_a_line s.mode) (picture_height s)
+is_of_picture s n = nat_lt (n % dots_a_line s.mode) (picture_width s)
+    && nat_lt (n / dots_a_line s.mode) (picture_height s)
 
 abbrev pub colour_of : Screen → ℕ → ℕ → List ℕ
-colour_of s page n = if is_of_picture s n then dot_at s page (n % dots_a_line s.mode) (n / dots_a_line s.mode) else []
+colour_of s page n = if is_of_picture s n then dot_at s page (n % dots_a_line s.mode)
+    (n / dots_a_line s.mode) else []
 
 abbrev pub is_last : Drawing → Bool
 is_last b = b.dot + 1 == dots_a_frame b.screen.mode

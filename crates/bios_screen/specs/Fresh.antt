@@ -1,6 +1,7 @@
 -- The screen that a clearing mode set leaves.
 -- From the IBM PS/2 and PC BIOS Interface Technical Reference, "Interrupt 10H - Video", (AH) = 00H.
-use Rattle.std.specs.Prelude.{ℕ, ◌+◌, ◌*◌, ◌/◌, if◌then◌else◌, List, [], replicate, take, slice_index}
+use Rattle.std.specs.Prelude.{ℕ, ◌+◌, ◌*◌, ◌/◌, if◌then◌else◌, List, [], replicate, take}
+use Rattle.std.specs.Prelude.{slice_index}
 use Rattle.vga_bits.specs.Bits.{is_set}
 use Rattle.bios_modes.specs.declared.modes.ModeRow.{ModeRow}
 use Rattle.bios_modes.specs.Palette.{dac_entry}
@@ -37,9 +38,16 @@ fresh_palette mode row = record {
 
 -- how its screen is cut that has so many cells from a page to the next
 abbrev pub fresh_layout : ModeRow → ℕ → Layout
-fresh_layout row distance = record { columns = row.columns; rows = row.last_row + 1; height = row.height; distance = distance; pages = row.pages }
+fresh_layout row distance = record {
+  columns = row.columns;
+  rows = row.last_row + 1;
+  height = row.height;
+  distance = distance;
+  pages = row.pages;
+}
 
--- these contents and glyphs, the cursors in the upper left corner, the mode's type and colours; the frame number stays
+-- these contents and glyphs, the cursors in the upper left corner, the mode's type and colours; the
+-- frame number stays
 abbrev pub fresh_by : ℕ → ModeRow → ℕ → Contents → List ℕ → ℕ → Screen
 fresh_by mode row distance contents glyphs frame = record {
   mode = mode;
@@ -57,11 +65,15 @@ fresh_by mode row distance contents glyphs frame = record {
 
 -- text: blank cells, and the font's glyphs
 abbrev pub fresh_text : ℕ → ModeRow → List ℕ → ℕ → Screen
-fresh_text mode row font frame = fresh_by mode row (row.size / 2) (Cells (blank_cells all_cells)) (font_bytes font 4096) frame
+fresh_text mode row font frame = fresh_by mode row (row.size / 2) (Cells (blank_cells all_cells))
+    (font_bytes font 4096) frame
 
 -- graphics: pages of pixels 0
 abbrev pub fresh_pixels : ℕ → ModeRow → ℕ → Screen
-fresh_pixels mode row frame = fresh_by mode row 0 (Pixels (replicate row.pages (blank_pixels (8 * row.columns * (row.height * (row.last_row + 1)))))) [] frame
+fresh_pixels mode row frame = fresh_by mode row 0 (Pixels
+    (replicate row.pages (blank_pixels (8 * row.columns * (row.height * (row.last_row + 1)))))) []
+    frame
 
 abbrev pub fresh_screen : ℕ → ModeRow → List ℕ → ℕ → Screen
-fresh_screen mode row font frame = if is_text mode then fresh_text mode row font frame else fresh_pixels mode row frame
+fresh_screen mode row font frame = if is_text mode then fresh_text mode row font frame
+    else fresh_pixels mode row frame

@@ -1,6 +1,7 @@
 -- Loading glyphs on a plain screen of text, with which the height of characters changes.
 -- From the IBM PS/2 and PC BIOS Interface Technical Reference, "Interrupt 10H - Video", (AH) = 11H.
-use Rattle.std.specs.Prelude.{ℕ, ◌+◌, ◌/◌, ◌%◌, ◌&&◌, nat_lt, nat_le, if◌then◌else◌, List, length, replicate, slice_index, Option, Some, None}
+use Rattle.std.specs.Prelude.{ℕ, ◌+◌, ◌/◌, ◌%◌, ◌&&◌, nat_lt, nat_le, if◌then◌else◌, List, length}
+use Rattle.std.specs.Prelude.{replicate, slice_index, Option, Some, None}
 use Rattle.vga_bits.specs.declared.refusal.Refusal.{Refusal}
 use Rattle.vga_bits.specs.declared.refusal.Refusal.TheVariants.{BadHeight}
 use Rattle.bios_modes.specs.declared.heights.TextRow.{TextRow}
@@ -19,20 +20,30 @@ height_refusal_on (Some text) = None
 
 -- why a load of glyphs is refused on a screen, with a block of this length
 abbrev pub load_refusal_on : Screen → GlyphLoad → ℕ → Option Refusal
-load_refusal_on s load len = load_refusal load s.mode len or height_refusal_on (text_row s.mode load.height)
+load_refusal_on s load len = load_refusal load s.mode len
+    or height_refusal_on (text_row s.mode load.height)
 
--- byte i of the glyphs, of which a character has sixteen: of a character that is loaded the first lines are new, and all else stays
+-- byte i of the glyphs, of which a character has sixteen: of a character that is loaded the first
+-- lines are new, and all else stays
 abbrev pub load_byte : FontSet → GlyphLoad → List ℕ → (ℕ → ℕ) → ℕ → ℕ
 load_byte fonts load block old i =
-    if nat_le load.first (i / 16) && (nat_lt (i / 16) (load.first + load.count) && nat_lt (i % 16) load.height)
+    if nat_le load.first (i / 16) && (nat_lt (i / 16) (load.first + load.count)
+    && nat_lt (i % 16) load.height)
     then loaded_line fonts load block (i / 16) (i % 16)
     else old i
 
 -- how a screen of text is cut with characters of another height
 abbrev pub layout_with : Layout → TextRow → Layout
-layout_with l text = record { columns = l.columns; rows = text.last_row + 1; height = text.height; distance = text.size / 2; pages = text.pages }
+layout_with l text = record {
+  columns = l.columns;
+  rows = text.last_row + 1;
+  height = text.height;
+  distance = text.size / 2;
+  pages = text.pages;
+}
 
--- the screen with them: its cells stay and are cut anew, the cursors stand in the upper left corner, and page 0 is active
+-- the screen with them: its cells stay and are cut anew, the cursors stand in the upper left
+-- corner, and page 0 is active
 abbrev pub load_at_height : Option TextRow → FontSet → Screen → GlyphLoad → List ℕ → Screen
 load_at_height None fonts s load block = s
 load_at_height (Some text) fonts s load block = record s {

@@ -1,9 +1,11 @@
 -- The parts of a plain screen that its readers answer.
-use Rattle.std.specs.Prelude.{ℕ, ◌≡◌, ◌+◌, ◌*◌, ◌≤◌, ◌&&◌, nat_lt, true, false, if◌then◌else◌, List, [], get_or, slice_index, Option, Some, None}
+use Rattle.std.specs.Prelude.{ℕ, ◌≡◌, ◌+◌, ◌*◌, ◌≤◌, ◌&&◌, nat_lt, true, false, if◌then◌else◌, List}
+use Rattle.std.specs.Prelude.{[], get_or, slice_index, Option, Some, None}
 use Rattle.bios_modes.specs.Kinds.{is_text}
 use Rattle.bios_services.specs.Cursor.{row_of, column_of}
 use Rattle.bios_screen.specs.Listing.{listing}
-use Rattle.bios_screen.specs.Screen.{Cell, Contents, Cells, Pixels, Layout, Screen, cell_of, page_start, cursor_place}
+use Rattle.bios_screen.specs.Screen.{Cell, Contents, Cells, Pixels, Layout, Screen, cell_of}
+use Rattle.bios_screen.specs.Screen.{page_start, cursor_place}
 
 -- cell k of text, and no cell of pixels
 abbrev pub text_cell : Contents → ℕ → Option Cell
@@ -25,13 +27,17 @@ page_pixel (Pixels pages) page k = Some (slice_index (get_or pages page []) k)
 -- the pixel of a page at column x of line y, where there is one: a character has eight columns
 abbrev pub pixel_at : Screen → ℕ → ℕ → ℕ → Option ℕ
 pixel_at s page x y =
-    if nat_lt page s.layout.pages && (nat_lt x (8 * s.layout.columns) && nat_lt y (s.layout.height * s.layout.rows))
+    if nat_lt page s.layout.pages && (nat_lt x (8 * s.layout.columns)
+    && nat_lt y (s.layout.height * s.layout.rows))
     then page_pixel s.contents page (8 * s.layout.columns * y + x)
     else None
 
 -- row and column of the cursor on one of eight pages
 abbrev pub cursor_at : Screen → ℕ → Option (ℕ × ℕ)
-cursor_at s page = if nat_lt page 8 then Some (row_of (cursor_place s page), column_of (cursor_place s page)) else None
+cursor_at s page = if nat_lt page 8 then Some (
+  row_of (cursor_place s page),
+  column_of (cursor_place s page),
+) else None
 
 -- the pixels of each page, where those of all pages stand in one list, n for each page
 unfoldable pub cut_pages : List ℕ → ℕ → ℕ → List (List ℕ)
@@ -43,9 +49,11 @@ pixel_count l = 8 * l.columns * (l.height * l.rows)
 
 -- the contents that a mode has
 abbrev pub contents_of : ℕ → Layout → List Cell → List ℕ → Contents
-contents_of mode l cells pixels = if is_text mode then Cells cells else Pixels (cut_pages pixels (pixel_count l) l.pages)
+contents_of mode l cells pixels = if is_text mode then Cells cells
+    else Pixels (cut_pages pixels (pixel_count l) l.pages)
 
--- in text the pages lie one after another within so many cells; in graphics there are as many pixels as the pages have
+-- in text the pages lie one after another within so many cells; in graphics there are as many
+-- pixels as the pages have
 pub record IsLaidOut (mode : ℕ) (l : Layout) (cell_number pixel_number : ℕ) : Type 0 where
   pub page : is_text mode ≡ true → l.columns * l.rows ≤ l.distance
   pub cells : is_text mode ≡ true → l.distance * l.pages ≤ cell_number

@@ -1,8 +1,11 @@
 -- The picture of a plain screen, dot by dot.
--- From the IBM PS/2 and PC BIOS Interface Technical Reference, "Interrupt 10H - Video", and the IBM PS/2 Hardware Interface
--- Technical Reference, Video Subsystems, "Alphanumeric Modes" and "All Points Addressable Modes"; at which frames characters and
--- cursor blink, and what comes first of underline, blink and cursor, is this adapter's choice.
-use Rattle.std.specs.Prelude.{ℕ, ◌+◌, ◌-◌, ◌*◌, ◌/◌, ◌%◌, ◌==◌, ◌&&◌, not, nat_lt, nat_le, Bool, true, false, if◌then◌else◌, List, [], ◌∷◌, slice_index, bit_and, Option, Some, None}
+-- From the IBM PS/2 and PC BIOS Interface Technical Reference, "Interrupt 10H - Video", and the IBM
+-- PS/2 Hardware Interface Technical Reference, Video Subsystems, "Alphanumeric Modes" and "All
+-- Points Addressable Modes"; at which frames characters and cursor blink, and what comes first of
+-- underline, blink and cursor, is this adapter's choice.
+use Rattle.std.specs.Prelude.{ℕ, ◌+◌, ◌-◌, ◌*◌, ◌/◌, ◌%◌, ◌==◌, ◌&&◌, not, nat_lt, nat_le, Bool}
+use Rattle.std.specs.Prelude.{true, false, if◌then◌else◌, List, [], ◌∷◌, slice_index, bit_and}
+use Rattle.std.specs.Prelude.{Option, Some, None}
 use Rattle.vga_bits.specs.Bits.{is_set, field}
 use Rattle.bios_modes.specs.Kinds.{is_text, is_packed}
 use Rattle.bios_modes.specs.Palette.{is_monochrome_mode}
@@ -16,28 +19,33 @@ use Rattle.bios_screen.specs.Step.{cell_on, pixel_of, pixel_number}
 abbrev pub glyph_row : Screen → ℕ → ℕ → ℕ
 glyph_row s character r = slice_index s.glyphs (16 * character + r)
 
--- whether dot i of a row is of its glyph: the leftmost dot is bit 7; the ninth repeats the eighth for the line-drawing
--- characters C0 to DF, and is else none
+-- whether dot i of a row is of its glyph: the leftmost dot is bit 7; the ninth repeats the eighth
+-- for the line-drawing characters C0 to DF, and is else none
 abbrev pub is_glyph_dot : ℕ → ℕ → ℕ → Bool
 is_glyph_dot character byte i =
-    if nat_lt i 8 then is_set byte (7 - i) else nat_le 0xC0 character && (nat_le character 0xDF && is_set byte 0)
+    if nat_lt i 8 then is_set byte (7 - i) else nat_le 0xC0 character
+    && (nat_le character 0xDF && is_set byte 0)
 
 -- the monochrome display underlines attributes of this pattern, in the last row of a character
 abbrev pub is_underlined : Screen → Cell → ℕ → Bool
-is_underlined s cell r = is_monochrome_mode s.mode && ((bit_and cell.1 0x77 == 1) && (r == s.layout.height - 1))
+is_underlined s cell r = is_monochrome_mode s.mode && ((bit_and cell.1 0x77 == 1)
+    && (r == s.layout.height - 1))
 
 -- where attributes blink, a cell whose attribute has bit 7 is gone in the second 16 of 32 frames
 abbrev pub is_blinked_away : Screen → Cell → Bool
 is_blinked_away s cell = s.is_blink && (is_set cell.1 7 && nat_le 16 s.frame)
 
--- the cursor of the active page is shown in its rows, unless bit 5 of its first row turns it off, in the first 8 of 16 frames;
+-- the cursor of the active page is shown in its rows, unless bit 5 of its first row turns it off,
+-- in the first 8 of 16 frames;
 -- k is the number of a cell, counted from the first cell of page 0
 abbrev pub is_cursor : Screen → ℕ → ℕ → Bool
 is_cursor s k r =
-    (k == cursor_cell s s.page) && (not (is_set (high s.cursor_type) 5) && (nat_le (field (high s.cursor_type) 4 0) r
+    (k == cursor_cell s s.page) && (not (is_set (high s.cursor_type) 5)
+    && (nat_le (field (high s.cursor_type) 4 0) r
     && (nat_le r (field (low s.cursor_type) 4 0) && nat_lt (s.frame % 16) 8)))
 
--- whether dot i of row r of cell k has the cell's foreground: of underline, blink and cursor the last that applies decides
+-- whether dot i of row r of cell k has the cell's foreground: of underline, blink and cursor the
+-- last that applies decides
 unfoldable pub is_foreground : Screen → ℕ → ℕ → ℕ → Bool
 is_foreground s k r i =
     if is_cursor s k r then true
@@ -51,23 +59,27 @@ background s cell = if s.is_blink then field cell.1 6 4 else field cell.1 7 4
 
 -- the four bits of dot i of row r of cell k
 unfoldable pub nibble : Screen → ℕ → ℕ → ℕ → ℕ
-nibble s k r i = if is_foreground s k r i then field (cell_on s k).1 3 0 else background s (cell_on s k)
+nibble s k r i = if is_foreground s k r i then field (cell_on s k).1 3 0
+    else background s (cell_on s k)
 
 -- red, green and blue of a number, which the mask cuts
 abbrev pub tint : Palette → ℕ → List ℕ
-tint p n = slice_index p.reds (bit_and n p.mask) ∷ slice_index p.greens (bit_and n p.mask) ∷ slice_index p.blues (bit_and n p.mask) ∷ []
+tint p n = slice_index p.reds (bit_and n p.mask) ∷ slice_index p.greens (bit_and n p.mask)
+    ∷ slice_index p.blues (bit_and n p.mask) ∷ []
 
 -- red, green and blue of four bits, which pick a value of the palette
 abbrev pub shade : Palette → ℕ → List ℕ
 shade p n = tint p (slice_index p.values n)
 
--- the cell at column x of line y of the picture of a page: a cell has nine dots, and the lines of a character
+-- the cell at column x of line y of the picture of a page: a cell has nine dots, and the lines of a
+-- character
 abbrev pub cell_shown : Screen → ℕ → ℕ → ℕ → ℕ
 cell_shown s page x y = page_start s page + (s.layout.columns * (y / s.layout.height) + x / 9)
 
 -- the colour of the dot of text at column x of line y, where this page is shown
 unfoldable pub text_dot : Screen → ℕ → ℕ → ℕ → List ℕ
-text_dot s page x y = shade s.palette (nibble s (cell_shown s page x y) (y % s.layout.height) (x % 9))
+text_dot s page x y = shade s.palette (nibble s (cell_shown s page x y) (y % s.layout.height)
+    (x % 9))
 
 -- ---- graphics
 
@@ -79,7 +91,8 @@ lines_in (Some row) = row.height * (row.last_row + 1)
 abbrev pub lines_of : ℕ → ℕ
 lines_of mode = lines_in (mode_row mode)
 
--- how many dots of a line a pixel takes, which is two where it is a byte; and how many lines, which is two where there are 200
+-- how many dots of a line a pixel takes, which is two where it is a byte; and how many lines, which
+-- is two where there are 200
 abbrev pub pixel_width : ℕ → ℕ
 pixel_width mode = if is_packed mode then 2 else 1
 
@@ -90,7 +103,8 @@ pixel_height mode = if lines_of mode == 200 then 2 else 1
 abbrev pub pixel_on : Screen → ℕ → ℕ → ℕ → ℕ
 pixel_on s page x y = pixel_of s page (pixel_number s x y)
 
--- the colour of the dot of a pixel: sixteen colours are values of the palette, and 256 are entries themselves
+-- the colour of the dot of a pixel: sixteen colours are values of the palette, and 256 are entries
+-- themselves
 unfoldable pub pixel_dot : Screen → ℕ → ℕ → ℕ → List ℕ
 pixel_dot s page x y =
     let pixel = pixel_on s page (x / pixel_width s.mode) (y / pixel_height s.mode) in
@@ -104,10 +118,12 @@ dot_at s page x y = if is_text s.mode then text_dot s page x y else pixel_dot s 
 
 -- how wide and how high the picture is; the overscan is no part of it
 abbrev pub picture_width : Screen → ℕ
-picture_width s = if is_text s.mode then 9 * s.layout.columns else pixel_width s.mode * (8 * s.layout.columns)
+picture_width s = if is_text s.mode then 9 * s.layout.columns
+    else pixel_width s.mode * (8 * s.layout.columns)
 
 abbrev pub picture_height : Screen → ℕ
-picture_height s = if is_text s.mode then s.layout.height * s.layout.rows else pixel_height s.mode * (s.layout.height * s.layout.rows)
+picture_height s = if is_text s.mode then s.layout.height * s.layout.rows
+    else pixel_height s.mode * (s.layout.height * s.layout.rows)
 
 -- the screen after a frame
 abbrev pub next_frame : Screen → Screen

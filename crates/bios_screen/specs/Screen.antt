@@ -7,13 +7,14 @@ use Rattle.bios_services.specs.Cursor.{row_of, column_of}
 abbrev pub Cell : Type 0
 Cell = ℕ × ℕ
 
--- what is on the screen: the cells of text, page after page, or the pixels of each page, row after row
+-- what is on the screen: the cells of text, page after page, or the pixels of each page, row after
+-- row
 pub data Contents : Type 0 where
   Cells : List Cell → Contents
   Pixels : List (List ℕ) → Contents
 
--- how the contents are cut: columns and rows of characters on a page, scan lines of a character, how many cells lead from
--- a page to the next, which is 0 for pixels, and how many pages there are
+-- how the contents are cut: columns and rows of characters on a page, scan lines of a character,
+-- how many cells lead from a page to the next, which is 0 for pixels, and how many pages there are
 pub record Layout : Type 0 where
   pub columns : ℕ
   pub rows : ℕ
@@ -21,7 +22,8 @@ pub record Layout : Type 0 where
   pub distance : ℕ
   pub pages : ℕ
 
--- the colours: sixteen values of a palette, red, green and blue of the entries that they name, and the mask of these names
+-- the colours: sixteen values of a palette, red, green and blue of the entries that they name, and
+-- the mask of these names
 pub record Palette : Type 0 where
   pub values : List ℕ
   pub reds : List ℕ
@@ -29,8 +31,9 @@ pub record Palette : Type 0 where
   pub blues : List ℕ
   pub mask : ℕ
 
--- the places of the cursor, one for each page, have the row as high byte and the column as low one; the cursor's type has
--- its first scan line as high byte and its last as low one; glyphs have sixteen bytes a character, top row first, and pixels have none
+-- the places of the cursor, one for each page, have the row as high byte and the column as low one;
+-- the cursor's type has its first scan line as high byte and its last as low one; glyphs have
+-- sixteen bytes a character, top row first, and pixels have none
 pub record Screen : Type 0 where
   pub mode : ℕ
   pub layout : Layout

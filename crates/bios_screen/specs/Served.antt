@@ -24,14 +24,20 @@ use Rattle.bios_screen.specs.Step.{refusal_on, next, answer_on}
 use Rattle.bios_screen.specs.Fresh.{fresh_screen}
 
 -- the adapter, and the registers and data that a service answers
-abbrev pub after_service : Service → FontSet → Regs → List ℕ → CardState → BiosData → CardState × Outcome
+abbrev pub after_service : Service → FontSet → Regs → List ℕ → CardState → BiosData → CardState
+    × Outcome
 after_service service fonts r block c d = run card_meaning (plan_of service fonts d r block) c
 
--- a service is refused as on the screen; one that is not answers as on the screen, leaves the next screen, and leaves the beam
-pub record IsServed (service : Service) (fonts : FontSet) (r : Regs) (block : List ℕ) (c : CardState) (d : BiosData) (s : Screen) : Type 0 where
+-- a service is refused as on the screen; one that is not answers as on the screen, leaves the next
+-- screen, and leaves the beam
+pub record IsServed (service : Service) (fonts : FontSet) (r : Regs) (block : List ℕ)
+    (c : CardState) (d : BiosData) (s : Screen) : Type 0 where
   pub refusal : refusal_in_mode service d (length block) ≡ refusal_on s service (length block)
-  pub answer : refusal_on s service (length block) ≡ None → (after_service service fonts r block c d).1.0 ≡ answer_on fonts s service r
-  pub shows : refusal_on s service (length block) ≡ None → shown (after_service service fonts r block c d).0 (after_service service fonts r block c d).1.1 ≡ Some (next fonts s service block)
+  pub answer : refusal_on s service (length block) ≡ None →
+      (after_service service fonts r block c d).1.0 ≡ answer_on fonts s service r
+  pub shows : refusal_on s service (length block) ≡ None →
+      shown (after_service service fonts r block c d).0
+      (after_service service fonts r block c d).1.1 ≡ Some (next fonts s service block)
   pub beam : (after_service service fonts r block c d).0.crtc.beam ≡ c.crtc.beam
 
 -- the overscan that a subfunction of function 10 sets is a byte
@@ -41,11 +47,15 @@ FitsBytes service = Unit {0}
 
 -- from every state that shows a screen the service leads to one that shows the next
 abbrev pub Serves : Service → Type 0
-Serves service = (fonts : FontSet) (r : Regs) (block : List ℕ) (c : CardState) (d : BiosData) (s : Screen) → AreBytes block → IsCard c → IsBda d → shown c d ≡ Some s → IsServed service fonts r block c d s
+Serves service = (fonts : FontSet) (r : Regs) (block : List ℕ) (c : CardState) (d : BiosData)
+    (s : Screen) → AreBytes block → IsCard c → IsBda d → shown c d ≡ Some s →
+    IsServed service fonts r block c d s
 
 -- from every state that shows a screen of text, whatever its arguments are
 abbrev pub ServesText : Service → Type 0
-ServesText service = (fonts : FontSet) (r : Regs) (block : List ℕ) (c : CardState) (d : BiosData) (s : Screen) → AreBytes block → IsCard c → IsBda d → shown c d ≡ Some s → is_text s.mode ≡ true → IsServed service fonts r block c d s
+ServesText service = (fonts : FontSet) (r : Regs) (block : List ℕ) (c : CardState) (d : BiosData)
+    (s : Screen) → AreBytes block → IsCard c → IsBda d → shown c d ≡ Some s →
+    is_text s.mode ≡ true → IsServed service fonts r block c d s
 
 -- ---- a clearing mode set
 
@@ -54,11 +64,15 @@ abbrev pub after_call : FontSet → Regs → List ℕ → CardState → BiosData
 after_call fonts r block c d = run card_meaning (whole_service fonts d r block) c
 
 -- the mode is set, the fresh screen is shown, and the beam stays where it is
-pub record IsFreshlySet (mode : ℕ) (row : ModeRow) (fonts : FontSet) (r : Regs) (block : List ℕ) (c : CardState) (d : BiosData) : Type 0 where
+pub record IsFreshlySet (mode : ℕ) (row : ModeRow) (fonts : FontSet) (r : Regs) (block : List ℕ)
+    (c : CardState) (d : BiosData) : Type 0 where
   pub answer : (after_call fonts r block c d).1.0 ≡ Ok (record { regs = r; table = Empty })
-  pub shows : shown (after_call fonts r block c d).0 (after_call fonts r block c d).1.1 ≡ Some (fresh_screen mode row fonts.f16 c.crtc.beam.frame)
+  pub shows : shown (after_call fonts r block c d).0 (after_call fonts r block c d).1.1
+      ≡ Some (fresh_screen mode row fonts.f16 c.crtc.beam.frame)
   pub beam : (after_call fonts r block c d).0.crtc.beam ≡ c.crtc.beam
 
 -- from every state, with any data, the call that sets the mode and clears the memory does so
 abbrev pub SetsFresh : ℕ → ModeRow → Type 0
-SetsFresh mode row = (fonts : FontSet) (r : Regs) (block : List ℕ) (c : CardState) (d : BiosData) → IsCard c → AreBytes fonts.f16 → call_of r ≡ Some (SetMode mode false) → IsFreshlySet mode row fonts r block c d
+SetsFresh mode row = (fonts : FontSet) (r : Regs) (block : List ℕ) (c : CardState) (d : BiosData) →
+    IsCard c → AreBytes fonts.f16 → call_of r ≡ Some (SetMode mode false) →
+    IsFreshlySet mode row fonts r block c d

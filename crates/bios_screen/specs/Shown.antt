@@ -1,7 +1,9 @@
--- Whether the adapter shows a screen, and which: a test of registers and BIOS data, and then a reading.
--- From the IBM PS/2 Hardware Interface Technical Reference, Video Subsystems, and the IBM PS/2 and PC BIOS Interface Technical
--- Reference, "BIOS Data Area".
-use Rattle.std.specs.Prelude.{ℕ, ◌+◌, ◌-◌, ◌*◌, ◌/◌, ◌%◌, ◌==◌, ◌&&◌, nat_lt, Bool, if◌then◌else◌, List, [], take, drop, slice_index, bit_and, Option, Some, None}
+-- Whether the adapter shows a screen, and which: a test of registers and BIOS data, and then a
+-- reading.
+-- From the IBM PS/2 Hardware Interface Technical Reference, Video Subsystems, and the IBM PS/2 and
+-- PC BIOS Interface Technical Reference, "BIOS Data Area".
+use Rattle.std.specs.Prelude.{ℕ, ◌+◌, ◌-◌, ◌*◌, ◌/◌, ◌%◌, ◌==◌, ◌&&◌, nat_lt, Bool, if◌then◌else◌}
+use Rattle.std.specs.Prelude.{List, [], take, drop, slice_index, bit_and, Option, Some, None}
 use Rattle.std.specs.Int.{bit_at}
 use Rattle.std.specs.Str.{bytes_eq}
 use Rattle.vga_bits.specs.Four.{Four}
@@ -22,9 +24,11 @@ use Rattle.bios_screen.specs.Screen.{Cell, Contents, Cells, Pixels, Layout, Pale
 
 -- the registers that memory cycles look at are the mode's
 abbrev pub shows_memory : ModeRow → CardState → Bool
-shows_memory row c = (c.misc == row.misc) && (bytes_eq c.host.seq row.sequencer && bytes_eq c.host.gfx row.graphics)
+shows_memory row c = (c.misc == row.misc) && (bytes_eq c.host.seq row.sequencer
+    && bytes_eq c.host.gfx row.graphics)
 
--- register i of the CRT controller for this cursor's type, start address and cursor location; all others are the mode's
+-- register i of the CRT controller for this cursor's type, start address and cursor location; all
+-- others are the mode's
 abbrev pub crtc_register : ModeRow → ℕ → ℕ → ℕ → ℕ → ℕ
 crtc_register row cursor_type start location i =
     if i == 0x0A then bit_and (cursor_type / 256) 0x3F
@@ -37,33 +41,41 @@ crtc_register row cursor_type start location i =
 
 -- all 25 of them
 abbrev pub crtc_registers : ModeRow → ℕ → ℕ → ℕ → List ℕ
-crtc_registers row cursor_type start location = listing (crtc_register row cursor_type start location) 0 25
+crtc_registers row cursor_type start location = listing
+    (crtc_register row cursor_type start location) 0 25
 
--- the cursor's location: in text that of the active page; in graphics no cursor is shown, and the location is what it is
+-- the cursor's location: in text that of the active page; in graphics no cursor is shown, and the
+-- location is what it is
 abbrev pub location_shown : BiosData → List ℕ → ℕ
-location_shown d registers = if is_text d.mode then cursor_address d d.page else 256 * slice_index registers 0x0E + slice_index registers 0x0F
+location_shown d registers = if is_text d.mode then cursor_address d d.page
+    else 256 * slice_index registers 0x0E + slice_index registers 0x0F
 
 -- as the data say: the active page is shown, with its cursor
 abbrev pub crtc_shown : ModeRow → BiosData → List ℕ → List ℕ
-crtc_shown row d registers = crtc_registers row d.cursor_type (start_address d d.page) (location_shown d registers)
+crtc_shown row d registers = crtc_registers row d.cursor_type (start_address d d.page)
+    (location_shown d registers)
 
--- the attribute controller shows its palette, and its registers from mode control on are the mode's, but blink, which is
--- bit 3 of mode control, and overscan
+-- the attribute controller shows its palette, and its registers from mode control on are the
+-- mode's, but blink, which is bit 3 of mode control, and overscan
 abbrev pub shows_attribute : ModeRow → AttrState → Bool
 shows_attribute row a =
-    is_palette_shown a && ((bit_and (slice_index a.registers 0x10) 0xF7 == bit_and (slice_index row.attribute 0x10) 0xF7)
+    is_palette_shown a && ((bit_and (slice_index a.registers 0x10) 0xF7
+    == bit_and (slice_index row.attribute 0x10) 0xF7)
     && bytes_eq (drop 0x12 a.registers) (drop 0x12 row.attribute))
 
 -- the data are those of the mode, and the page is one of its pages
 abbrev pub shows_data : ModeRow → BiosData → Bool
 shows_data row d =
-    (d.columns == row.columns) && ((d.size == row.size) && ((d.last_row == row.last_row) && ((d.height == row.height)
-    && ((d.crtc_address == row.crtc_address) && ((d.start == d.size * d.page) && nat_lt d.page row.pages)))))
+    (d.columns == row.columns) && ((d.size == row.size)
+    && ((d.last_row == row.last_row) && ((d.height == row.height)
+    && ((d.crtc_address == row.crtc_address) && ((d.start == d.size * d.page)
+    && nat_lt d.page row.pages)))))
 
 -- the adapter and the data show a screen
 unfoldable pub shows : ModeRow → CardState → BiosData → Bool
 shows row c d =
-    shows_memory row c && (shows_data row d && (bytes_eq c.crtc.registers (crtc_shown row d c.crtc.registers) && shows_attribute row c.attr))
+    shows_memory row c && (shows_data row d && (bytes_eq c.crtc.registers
+    (crtc_shown row d c.crtc.registers) && shows_attribute row c.attr))
 
 -- ---- the reading
 
@@ -83,20 +95,24 @@ glyph_byte plane2 i = slice_index plane2 (32 * (i / 16) + i % 16)
 unfoldable pub glyphs_in : List ℕ → ℕ → List ℕ
 glyphs_in plane2 n = listing (glyph_byte plane2) 0 n
 
--- pixel k of a page of 16 colours that begins at byte z: its bit p stands in plane p, eight pixels to a byte, the first as the
--- highest bit
+-- pixel k of a page of 16 colours that begins at byte z: its bit p stands in plane p, eight pixels
+-- to a byte, the first as the highest bit
 abbrev pub planar_pixel : Four (List ℕ) → ℕ → ℕ → ℕ
 planar_pixel memory z k =
-    bit_at (byte_at memory 0 (z + k / 8)) (7 - k % 8) + 2 * bit_at (byte_at memory 1 (z + k / 8)) (7 - k % 8)
-    + 4 * bit_at (byte_at memory 2 (z + k / 8)) (7 - k % 8) + 8 * bit_at (byte_at memory 3 (z + k / 8)) (7 - k % 8)
+    bit_at (byte_at memory 0 (z + k / 8)) (7 - k % 8)
+    + 2 * bit_at (byte_at memory 1 (z + k / 8)) (7 - k % 8)
+    + 4 * bit_at (byte_at memory 2 (z + k / 8)) (7 - k % 8)
+    + 8 * bit_at (byte_at memory 3 (z + k / 8)) (7 - k % 8)
 
--- pixel n of 256 colours is a byte: the two low bits of its number are its plane, and are cleared in its place there
+-- pixel n of 256 colours is a byte: the two low bits of its number are its plane, and are cleared
+-- in its place there
 abbrev pub packed_pixel : Four (List ℕ) → ℕ → ℕ
 packed_pixel memory n = byte_at memory (n % 4) (n / 4 * 4)
 
 -- pixel k of a page that begins at byte z
 abbrev pub pixel_in : ℕ → Four (List ℕ) → ℕ → ℕ → ℕ
-pixel_in mode memory z k = if is_packed mode then packed_pixel memory (z + k) else planar_pixel memory z k
+pixel_in mode memory z k = if is_packed mode then packed_pixel memory (z + k)
+    else planar_pixel memory z k
 
 -- the first n of them
 unfoldable pub pixels_in : ℕ → Four (List ℕ) → ℕ → ℕ → List ℕ
@@ -112,11 +128,23 @@ pixel_pages mode memory size n pages = listing (λ p. pixels_in mode memory (siz
 
 -- the palette's registers, the DAC's entries and its mask
 abbrev pub palette_in : CardState → Palette
-palette_in c = record { values = take 16 c.attr.registers; reds = c.dac.reds; greens = c.dac.greens; blues = c.dac.blues; mask = c.dac.mask }
+palette_in c = record {
+  values = take 16 c.attr.registers;
+  reds = c.dac.reds;
+  greens = c.dac.greens;
+  blues = c.dac.blues;
+  mask = c.dac.mask;
+}
 
 -- how a screen is cut that has so many cells from a page to the next
 abbrev pub layout_of : ModeRow → BiosData → ℕ → Layout
-layout_of row d distance = record { columns = d.columns; rows = d.last_row + 1; height = d.height; distance = distance; pages = row.pages }
+layout_of row d distance = record {
+  columns = d.columns;
+  rows = d.last_row + 1;
+  height = d.height;
+  distance = distance;
+  pages = row.pages;
+}
 
 -- the screen with these contents and glyphs
 abbrev pub screen_by : ModeRow → CardState → BiosData → ℕ → Contents → List ℕ → Screen
@@ -140,21 +168,25 @@ all_cells = 16384
 
 -- the text screen with these cells, of which each has two bytes of a page
 abbrev pub screen_with : ModeRow → CardState → BiosData → List Cell → Screen
-screen_with row c d cells = screen_by row c d (d.size / 2) (Cells cells) (glyphs_in c.host.memory.plane2 4096)
+screen_with row c d cells = screen_by row c d (d.size / 2) (Cells cells)
+    (glyphs_in c.host.memory.plane2 4096)
 
 -- the text screen
 abbrev pub text_screen : ModeRow → CardState → BiosData → Screen
-text_screen row c d = screen_with row c d (cells_in c.host.memory.plane0 c.host.memory.plane1 all_cells)
+text_screen row c d = screen_with row c d (cells_in c.host.memory.plane0 c.host.memory.plane1
+    all_cells)
 
 -- the screen of pixels
 abbrev pub pixel_screen : ModeRow → CardState → BiosData → Screen
-pixel_screen row c d = screen_by row c d 0 (Pixels (pixel_pages d.mode c.host.memory d.size (page_pixels d) row.pages)) []
+pixel_screen row c d = screen_by row c d 0 (Pixels (pixel_pages d.mode c.host.memory d.size
+    (page_pixels d) row.pages)) []
 
 -- the screen of the mode
 abbrev pub screen_of : ModeRow → CardState → BiosData → Screen
 screen_of row c d = if is_text d.mode then text_screen row c d else pixel_screen row c d
 
--- the screen that is shown, if there is one, where the mode has this row with characters of their height
+-- the screen that is shown, if there is one, where the mode has this row with characters of their
+-- height
 abbrev pub shown_by : Option ModeRow → CardState → BiosData → Option Screen
 shown_by None c d = None
 shown_by (Some row) c d = if shows row c d then Some (screen_of row c d) else None

@@ -1,6 +1,8 @@
 -- What a service does to a plain screen, what it answers, and why it is refused.
 -- From the IBM PS/2 and PC BIOS Interface Technical Reference, "Interrupt 10H - Video".
-use Rattle.std.specs.Prelude.{ℕ, zero, suc, ◌+◌, ◌-◌, ◌*◌, ◌/◌, ◌%◌, ◌==◌, ◌&&◌, ◌||◌, nat_lt, nat_le, Bool, not, if◌then◌else◌, List, [], length, get_or, set, slice_index, slice_set, bit_xor, min, Option, None}
+use Rattle.std.specs.Prelude.{ℕ, zero, suc, ◌+◌, ◌-◌, ◌*◌, ◌/◌, ◌%◌, ◌==◌, ◌&&◌, ◌||◌, nat_lt}
+use Rattle.std.specs.Prelude.{nat_le, Bool, not, if◌then◌else◌, List, [], length, get_or, set}
+use Rattle.std.specs.Prelude.{slice_index, slice_set, bit_xor, min, Option, None}
 use Rattle.vga_bits.specs.Bits.{is_set, byte_of}
 use Rattle.vga_bits.specs.declared.refusal.Refusal.{Refusal}
 use Rattle.bios_modes.specs.Fonts.{FontSet}
@@ -10,20 +12,27 @@ use Rattle.bios_services.specs.declared.scroll.Scroll.{Scroll}
 use Rattle.bios_services.specs.declared.cell_run.CellRun.{CellRun}
 use Rattle.bios_services.specs.declared.strings.StringCall.{StringCall}
 use Rattle.bios_services.specs.declared.call.Service.{Service}
-use Rattle.bios_services.specs.declared.call.Service.TheVariants.{SetCursorType, SetCursor, ReadCursor, SelectPage, ScrollUp, ScrollDown, ReadCell, WriteCells, WritePixel, ReadPixel, Teletype, ReadMode, Colours, ReadAdapter, WriteString, ReadDisplay}
+use Rattle.bios_services.specs.declared.call.Service.TheVariants.{SetCursorType, SetCursor}
+use Rattle.bios_services.specs.declared.call.Service.TheVariants.{ReadCursor, SelectPage, ScrollUp}
+use Rattle.bios_services.specs.declared.call.Service.TheVariants.{ScrollDown, ReadCell, WriteCells}
+use Rattle.bios_services.specs.declared.call.Service.TheVariants.{WritePixel, ReadPixel, Teletype}
+use Rattle.bios_services.specs.declared.call.Service.TheVariants.{ReadMode, Colours, ReadAdapter}
+use Rattle.bios_services.specs.declared.call.Service.TheVariants.{WriteString, ReadDisplay}
 use Rattle.bios_modes.specs.Kinds.{is_packed}
 use Rattle.bios_modes.specs.Palette.{is_monochrome_mode}
 use Rattle.bios_services.specs.Registers.{low, with_low}
 use Rattle.bios_services.specs.Teletype.{line_start, dots_in}
 use Rattle.bios_services.specs.Strings.{string_len, character_at, colouring_at}
 use Rattle.bios_services.specs.Colours.{colour_refusal}
-use Rattle.bios_services.specs.Reasons.{◌or◌, no_pixels, no_page, outside_cells, outside_page, outside_pixels, past_cells, wrong_block}
+use Rattle.bios_services.specs.Reasons.{◌or◌, no_pixels, no_page, outside_cells, outside_page}
+use Rattle.bios_services.specs.Reasons.{outside_pixels, past_cells, wrong_block}
 use Rattle.bios_services.specs.Refusals.{page_among}
 use Rattle.bios_services.specs.Cursor.{row_of, column_of}
 use Rattle.bios_services.specs.Glyphs.{glyph_line, first_character}
 use Rattle.bios_screen.specs.Listing.{listing}
 use Rattle.bios_screen.specs.Colours.{with_colours, colours_answer}
-use Rattle.bios_screen.specs.Screen.{Cell, Contents, Cells, Pixels, Screen, cell_of, page_cells, page_start, place_number, cursor_place, cursor_cell}
+use Rattle.bios_screen.specs.Screen.{Cell, Contents, Cells, Pixels, Screen, cell_of, page_cells}
+use Rattle.bios_screen.specs.Screen.{page_start, place_number, cursor_place, cursor_cell}
 
 -- ---- why a service is refused
 
@@ -58,7 +67,8 @@ refusal_on s (ReadPixel page x y) len =
     no_pixels s.mode
     or no_page s.layout.pages (page_meant s page)
     or outside_pixels (8 * s.layout.columns) (s.layout.height * s.layout.rows) x y
-refusal_on s (Teletype character colour) len = outside_page s.layout.rows s.layout.columns (cursor_place s s.page)
+refusal_on s (Teletype character colour) len = outside_page s.layout.rows s.layout.columns
+    (cursor_place s s.page)
 refusal_on s ReadMode len = None
 refusal_on s (Colours service) len = colour_refusal service len
 refusal_on s ReadAdapter len = None
@@ -88,12 +98,17 @@ with_cells s new = record s { contents = change_cells new s.contents }
 
 -- a character with an attribute; where none is given the cell keeps its own
 abbrev pub character_over : ℕ → Colouring → Cell → Cell
-character_over character colouring cell = (character, if colouring.is_attribute then colouring.colour else cell.1)
+character_over character colouring cell = (
+  character,
+  if colouring.is_attribute
+      then colouring.colour else cell.1,
+)
 
 -- count cells from the first on become a character, and all others stay
 abbrev pub write_characters : ℕ → ℕ → ℕ → Colouring → (ℕ → Cell) → ℕ → Cell
 write_characters first count character colouring old k =
-    if nat_le first k && nat_lt k (first + count) then character_over character colouring (old k) else old k
+    if nat_le first k && nat_lt k (first + count) then character_over character colouring (old k)
+    else old k
 
 -- row and column of cell k on a page
 abbrev pub row_on : Screen → ℕ → ℕ → ℕ
@@ -102,7 +117,8 @@ row_on s page k = (k - page_start s page) / s.layout.columns
 abbrev pub column_on : Screen → ℕ → ℕ → ℕ
 column_on s page k = (k - page_start s page) % s.layout.columns
 
--- how many rows and columns of a window are on a page, and by how many rows it goes: by all for 0 or for more than it has
+-- how many rows and columns of a window are on a page, and by how many rows it goes: by all for 0
+-- or for more than it has
 abbrev pub window_rows : Screen → Scroll → ℕ
 window_rows s w = min w.bottom (s.layout.rows - 1) + 1 - w.top
 
@@ -110,35 +126,43 @@ abbrev pub window_columns : Screen → Scroll → ℕ
 window_columns s w = min w.right (s.layout.columns - 1) + 1 - w.left
 
 abbrev pub window_lines : Screen → Scroll → ℕ
-window_lines s w = if (w.lines == 0) || nat_lt (window_rows s w) w.lines then window_rows s w else w.lines
+window_lines s w = if (w.lines == 0) || nat_lt (window_rows s w) w.lines then window_rows s w
+    else w.lines
 
 -- whether cell k is in a window of a page
 abbrev pub is_inside : Screen → ℕ → Scroll → ℕ → Bool
 is_inside s page w k =
-    nat_le (page_start s page) k && (nat_le w.top (row_on s page k) && (nat_lt (row_on s page k) (w.top + window_rows s w)
-    && (nat_le w.left (column_on s page k) && nat_lt (column_on s page k) (w.left + window_columns s w))))
+    nat_le (page_start s page) k && (nat_le w.top (row_on s page k)
+    && (nat_lt (row_on s page k) (w.top + window_rows s w)
+    && (nat_le w.left (column_on s page k) && nat_lt (column_on s page k)
+    (w.left + window_columns s w))))
 
 -- a blank with the window's attribute
 abbrev pub blank_of : Scroll → Cell
 blank_of w = (0x20, w.fill)
 
--- the window goes up: a cell takes what stood some rows below it, the last rows are blank, and all outside stays
+-- the window goes up: a cell takes what stood some rows below it, the last rows are blank, and all
+-- outside stays
 abbrev pub cells_up : Screen → ℕ → Scroll → (ℕ → Cell) → ℕ → Cell
 cells_up s page w old k =
     if is_inside s page w k
-    then (if nat_lt (row_on s page k + window_lines s w) (w.top + window_rows s w) then old (k + s.layout.columns * window_lines s w) else blank_of w)
+    then (if nat_lt (row_on s page k + window_lines s w) (w.top + window_rows s w)
+    then old (k + s.layout.columns * window_lines s w) else blank_of w)
     else old k
 
--- the window goes down: a cell takes what stood some rows above it, the first rows are blank, and all outside stays
+-- the window goes down: a cell takes what stood some rows above it, the first rows are blank, and
+-- all outside stays
 abbrev pub cells_down : Screen → ℕ → Scroll → (ℕ → Cell) → ℕ → Cell
 cells_down s page w old k =
     if is_inside s page w k
-    then (if nat_le (w.top + window_lines s w) (row_on s page k) then old (k - s.layout.columns * window_lines s w) else blank_of w)
+    then (if nat_le (w.top + window_lines s w) (row_on s page k)
+    then old (k - s.layout.columns * window_lines s w) else blank_of w)
     else old k
 
 -- ---- what it does to the pixels
 
--- the pixels of a screen, page after page; pixel k of a page; and the number of a pixel, counted along the lines of its page
+-- the pixels of a screen, page after page; pixel k of a page; and the number of a pixel, counted
+-- along the lines of its page
 abbrev pub pages_on : Contents → List (List ℕ)
 pages_on (Cells cells) = []
 pages_on (Pixels pages) = pages
@@ -152,20 +176,24 @@ pixel_number s x y = 8 * s.layout.columns * y + x
 -- a page drawn anew, each pixel given by its number and all the old ones
 abbrev pub change_pixels : ℕ → ((ℕ → ℕ) → ℕ → ℕ) → Contents → Contents
 change_pixels page new (Cells cells) = Cells cells
-change_pixels page new (Pixels pages) = Pixels (set pages page (listing (new (slice_index (get_or pages page []))) 0 (length (get_or pages page []))))
+change_pixels page new (Pixels pages) = Pixels (set pages page
+    (listing (new (slice_index (get_or pages page []))) 0 (length (get_or pages page []))))
 
 abbrev pub with_pixels : Screen → ℕ → ((ℕ → ℕ) → ℕ → ℕ) → Screen
 with_pixels s page new = record s { contents = change_pixels page new s.contents }
 
--- what a colour makes of a pixel: one of 256 stands there; of 16 the four low bits do, or by bit 7 their XOR with the pixel
+-- what a colour makes of a pixel: one of 256 stands there; of 16 the four low bits do, or by bit 7
+-- their XOR with the pixel
 abbrev pub colour_over : ℕ → ℕ → ℕ → ℕ
-colour_over mode colour old = if is_packed mode then colour else if is_set colour 7 then bit_xor old (colour % 16) else colour % 16
+colour_over mode colour old = if is_packed mode then colour else if is_set colour 7
+    then bit_xor old (colour % 16) else colour % 16
 
 -- one pixel changes, and all others stay
 abbrev pub change_pixel : ℕ → (ℕ → ℕ) → (ℕ → ℕ) → ℕ → ℕ
 change_pixel n change old k = if k == n then change (old k) else old k
 
--- the row and the column of characters in which pixel k of a page lies, of which each column has eight pixels
+-- the row and the column of characters in which pixel k of a page lies, of which each column has
+-- eight pixels
 abbrev pub pixel_row : Screen → ℕ → ℕ
 pixel_row s k = k / (8 * s.layout.columns) / s.layout.height
 
@@ -179,31 +207,38 @@ pixel_cell s k = s.layout.columns * pixel_row s k + pixel_column s k
 abbrev pub pixel_line : Screen → ℕ → ℕ
 pixel_line s k = k / (8 * s.layout.columns) % s.layout.height
 
--- what a character makes of a pixel where its glyph has a dot, and where it has none: that becomes 0, or by XOR stays
+-- what a character makes of a pixel where its glyph has a dot, and where it has none: that becomes
+-- 0, or by XOR stays
 abbrev pub glyph_pixel : ℕ → ℕ → Bool → ℕ → ℕ
-glyph_pixel mode colour is_dot old = if is_dot then colour_over mode colour old else if not (is_packed mode) && is_set colour 7 then old else 0
+glyph_pixel mode colour is_dot old = if is_dot then colour_over mode colour old
+    else if not (is_packed mode) && is_set colour 7 then old else 0
 
--- count cells from the first on get a character by the font of the mode's height, and all other pixels stay
+-- count cells from the first on get a character by the font of the mode's height, and all other
+-- pixels stay
 abbrev pub draw_characters : FontSet → Screen → ℕ → ℕ → ℕ → ℕ → (ℕ → ℕ) → ℕ → ℕ
 draw_characters fonts s first count character colour old k =
     if nat_le first (pixel_cell s k) && nat_lt (pixel_cell s k) (first + count)
-    then glyph_pixel s.mode colour (is_set (glyph_line fonts s.layout.height character (pixel_line s k)) (7 - k % 8)) (old k)
+    then glyph_pixel s.mode colour (is_set (glyph_line fonts s.layout.height character
+    (pixel_line s k)) (7 - k % 8)) (old k)
     else old k
 
 -- a character is written to count cells of a page from one on, to cells of text or as dots
 abbrev pub put_characters : FontSet → Screen → ℕ → ℕ → ℕ → ℕ → Colouring → Screen
 put_characters fonts s page first count character colouring =
-    with_pixels (with_cells s (write_characters (page_start s page + first) count character colouring)) page (draw_characters fonts s first count character colouring.colour)
+    with_pixels (with_cells s (write_characters (page_start s page + first) count character
+    colouring)) page (draw_characters fonts s first count character colouring.colour)
 
 -- it is written from the cursor of a page on
 abbrev pub write_at_cursor : FontSet → Screen → ℕ → CellRun → Screen
-write_at_cursor fonts s page cells = put_characters fonts s page (cursor_number s page) cells.count cells.character cells.colouring
+write_at_cursor fonts s page cells = put_characters fonts s page (cursor_number s page) cells.count
+    cells.character cells.colouring
 
 -- whether pixel k of a page is in a window
 abbrev pub has_pixel : Screen → Scroll → ℕ → Bool
 has_pixel s w k =
     nat_le w.top (pixel_row s k) && (nat_lt (pixel_row s k) (w.top + window_rows s w)
-    && (nat_le w.left (pixel_column s k) && nat_lt (pixel_column s k) (w.left + window_columns s w)))
+    && (nat_le w.left (pixel_column s k) && nat_lt (pixel_column s k)
+    (w.left + window_columns s w)))
 
 -- how many pixels lie between one and that so many rows of characters below it
 abbrev pub row_pixels : Screen → ℕ → ℕ
@@ -213,18 +248,22 @@ row_pixels s rows = 8 * s.layout.columns * (s.layout.height * rows)
 abbrev pub fill_pixel : ℕ → ℕ → ℕ
 fill_pixel mode colour = if is_packed mode then colour else colour % 16
 
--- the window goes up: a pixel takes what stood some rows of characters below it, the last rows get the colour, and all outside stays
+-- the window goes up: a pixel takes what stood some rows of characters below it, the last rows get
+-- the colour, and all outside stays
 abbrev pub pixels_up : Screen → Scroll → (ℕ → ℕ) → ℕ → ℕ
 pixels_up s w old k =
     if has_pixel s w k
-    then (if nat_lt (pixel_row s k + window_lines s w) (w.top + window_rows s w) then old (k + row_pixels s (window_lines s w)) else fill_pixel s.mode w.fill)
+    then (if nat_lt (pixel_row s k + window_lines s w) (w.top + window_rows s w)
+    then old (k + row_pixels s (window_lines s w)) else fill_pixel s.mode w.fill)
     else old k
 
--- the window goes down: a pixel takes what stood some rows of characters above it, the first rows get the colour, and all outside stays
+-- the window goes down: a pixel takes what stood some rows of characters above it, the first rows
+-- get the colour, and all outside stays
 abbrev pub pixels_down : Screen → Scroll → (ℕ → ℕ) → ℕ → ℕ
 pixels_down s w old k =
     if has_pixel s w k
-    then (if nat_le (w.top + window_lines s w) (pixel_row s k) then old (k - row_pixels s (window_lines s w)) else fill_pixel s.mode w.fill)
+    then (if nat_le (w.top + window_lines s w) (pixel_row s k)
+    then old (k - row_pixels s (window_lines s w)) else fill_pixel s.mode w.fill)
     else old k
 
 -- a window of a page goes up, or down, with its cells or its pixels
@@ -238,13 +277,23 @@ window_down s page w = with_pixels (with_cells s (cells_down s page w)) page (pi
 
 -- a whole page that goes up by a row, with this attribute for blanks, or this colour
 abbrev pub whole_page : Screen → ℕ → Scroll
-whole_page s colour = record { lines = 1; fill = colour; top = 0; left = 0; bottom = s.layout.rows - 1; right = s.layout.columns - 1 }
+whole_page s colour = record {
+  lines = 1;
+  fill = colour;
+  top = 0;
+  left = 0;
+  bottom = s.layout.rows - 1;
+  right = s.layout.columns - 1;
+}
 
--- the attribute in the last row of a page, at the column of a place; a page of pixels has none there, and that is colour 0
+-- the attribute in the last row of a page, at the column of a place; a page of pixels has none
+-- there, and that is colour 0
 abbrev pub last_colour : Screen → ℕ → ℕ → ℕ
-last_colour s page place = (cell_on s (page_start s page + (s.layout.columns * (s.layout.rows - 1) + column_of place))).1
+last_colour s page place = (cell_on s (page_start s page
+    + (s.layout.columns * (s.layout.rows - 1) + column_of place))).1
 
--- the row below a place; from the last row the page goes up instead, with a row blank in that attribute or colour
+-- the row below a place; from the last row the page goes up instead, with a row blank in that
+-- attribute or colour
 abbrev pub line_feed : Screen → ℕ → ℕ → Screen × ℕ
 line_feed s page place =
     if nat_lt (row_of place) (s.layout.rows - 1) then (s, place + 256)
@@ -258,10 +307,11 @@ cursor_advance s page place =
 
 -- a character at a place, and the place behind
 abbrev pub put_character : FontSet → Screen → ℕ → ℕ → ℕ → Colouring → Screen
-put_character fonts s page place character colouring = put_characters fonts s page (place_number s place) 1 character colouring
+put_character fonts s page place character colouring =
+    put_characters fonts s page (place_number s place) 1 character colouring
 
--- a character is typed at a place: a bell does nothing, a backspace goes a column back, a line feed a row down, a carriage
--- return to the first column; any other is shown
+-- a character is typed at a place: a bell does nothing, a backspace goes a column back, a line feed
+-- a row down, a carriage return to the first column; any other is shown
 unfoldable pub type_character : FontSet → Screen → ℕ → ℕ → ℕ → Colouring → Screen × ℕ
 type_character fonts s page place character colouring =
     if character == 0x07 then (s, place)
@@ -274,16 +324,20 @@ type_character fonts s page place character colouring =
 abbrev pub with_place : Screen → ℕ → ℕ → Screen
 with_place s page place = record s { places = slice_set s.places page place }
 
--- a character is typed at the cursor of the active page, which then stands behind it; a bell leaves it
+-- a character is typed at the cursor of the active page, which then stands behind it; a bell leaves
+-- it
 abbrev pub type_at_cursor : FontSet → Screen → ℕ → ℕ → Screen
 type_at_cursor fonts s character colour =
     let after = type_character fonts s s.page (cursor_place s s.page) character (dots_in colour) in
     if character == 0x07 then s else with_place after.0 s.page after.1
 
--- n characters of a string, from character i on, are typed one after another on a page, from a screen and a place on
+-- n characters of a string, from character i on, are typed one after another on a page, from a
+-- screen and a place on
 abbrev pub type_characters : FontSet → StringCall → List ℕ → ℕ → ℕ → ℕ → Screen × ℕ → Screen × ℕ
 type_characters fonts call block page zero i at = at
-type_characters fonts call block page (suc n) i at = type_characters fonts call block page n (i + 1) (type_character fonts at.0 page at.1 (character_at call block i) (colouring_at call block i))
+type_characters fonts call block page (suc n) i at =
+    type_characters fonts call block page n (i + 1)
+    (type_character fonts at.0 page at.1 (character_at call block i) (colouring_at call block i))
 
 -- a whole string is typed on a page, and the cursor goes behind it where that is asked
 abbrev pub type_string : FontSet → Screen → ℕ → StringCall → List ℕ → Screen
@@ -303,7 +357,8 @@ next fonts s (ScrollUp window) block = window_up s s.page window
 next fonts s (ScrollDown window) block = window_down s s.page window
 next fonts s (ReadCell page) block = s
 next fonts s (WriteCells cells) block = write_at_cursor fonts s (page_meant s cells.page) cells
-next fonts s (WritePixel page x y colour) block = with_pixels s (page_meant s page) (change_pixel (pixel_number s x y) (colour_over s.mode colour))
+next fonts s (WritePixel page x y colour) block = with_pixels s (page_meant s page)
+    (change_pixel (pixel_number s x y) (colour_over s.mode colour))
 next fonts s (ReadPixel page x y) block = s
 next fonts s (Teletype character colour) block = type_at_cursor fonts s character colour
 next fonts s ReadMode block = s
@@ -316,35 +371,56 @@ next fonts s ReadDisplay block = s
 abbrev pub cell_word : Screen → ℕ → ℕ
 cell_word s page = (cell_on s (cursor_cell s page)).0 + 256 * (cell_on s (cursor_cell s page)).1
 
--- line r of the cell q of a page of pixels as a byte: which of its eight pixels are not 0, the first as the highest bit
+-- line r of the cell q of a page of pixels as a byte: which of its eight pixels are not 0, the
+-- first as the highest bit
 abbrev pub cell_line : Screen → ℕ → ℕ → ℕ → ℕ
 cell_line s page q r =
-    byte_of (λ i. if pixel_of s page (8 * (s.layout.columns * (s.layout.height * (q / s.layout.columns) + r) + q % s.layout.columns) + (7 - i)) == 0 then 0 else 1)
+    byte_of (λ i. if pixel_of s page (8 * (s.layout.columns
+    * (s.layout.height * (q / s.layout.columns) + r) + q % s.layout.columns) + (7 - i)) == 0
+    then 0 else 1)
 
--- the first character whose glyph the pixels at the cursor of a page are, those that are not 0 as its dots, else 0
+-- the first character whose glyph the pixels at the cursor of a page are, those that are not 0 as
+-- its dots, else 0
 abbrev pub character_at_cursor : FontSet → Screen → ℕ → ℕ
-character_at_cursor fonts s page = first_character fonts s.layout.height (listing (cell_line s page (cursor_number s page)) 0 s.layout.height) 256
+character_at_cursor fonts s page = first_character fonts s.layout.height
+    (listing (cell_line s page (cursor_number s page)) 0 s.layout.height) 256
 
 -- a cell of text is answered in AX, and a character of pixels in AL
 abbrev pub cell_answer : Contents → FontSet → Screen → ℕ → Regs → Regs
 cell_answer (Cells cells) fonts s page r = record r { ax = cell_word s page }
-cell_answer (Pixels pages) fonts s page r = record r { ax = with_low r.ax (character_at_cursor fonts s page) }
+cell_answer (Pixels pages) fonts s page r = record r {
+  ax =
+      with_low r.ax (character_at_cursor fonts s page);
+}
 
 -- the registers that it answers
 unfoldable pub answer_on : FontSet → Screen → Service → Regs → Regs
 answer_on fonts s (SetCursorType cursor_type) r = r
 answer_on fonts s (SetCursor page place) r = r
-answer_on fonts s (ReadCursor page) r = record r { cx = s.cursor_type; dx = cursor_place s (page_meant s page) }
+answer_on fonts s (ReadCursor page) r = record r {
+  cx = s.cursor_type;
+  dx = cursor_place s (page_meant s page);
+}
 answer_on fonts s (SelectPage page) r = r
 answer_on fonts s (ScrollUp window) r = r
 answer_on fonts s (ScrollDown window) r = r
 answer_on fonts s (ReadCell page) r = cell_answer s.contents fonts s (page_meant s page) r
 answer_on fonts s (WriteCells cells) r = r
 answer_on fonts s (WritePixel page x y colour) r = r
-answer_on fonts s (ReadPixel page x y) r = record r { ax = with_low r.ax (pixel_of s (page_meant s page) (pixel_number s x y)) }
+answer_on fonts s (ReadPixel page x y) r = record r {
+  ax =
+      with_low r.ax (pixel_of s (page_meant s page) (pixel_number s x y));
+}
 answer_on fonts s (Teletype character colour) r = r
-answer_on fonts s ReadMode r = record r { ax = s.mode + 256 * s.layout.columns; bx = low r.bx + 256 * s.page }
+answer_on fonts s ReadMode r = record r {
+  ax = s.mode + 256 * s.layout.columns;
+  bx = low r.bx + 256 * s.page;
+}
 answer_on fonts s (Colours service) r = colours_answer s service r
-answer_on fonts s ReadAdapter r = record r { bx = (if is_monochrome_mode s.mode then 0x0103 else 0x0003); cx = 0x0009 }
+answer_on fonts s ReadAdapter r = record r {
+  bx = (if is_monochrome_mode s.mode then 0x0103
+      else 0x0003);
+  cx = 0x0009;
+}
 answer_on fonts s (WriteString call) r = r
 answer_on fonts s ReadDisplay r = record r { ax = 0x1A1A; bx = 0x0008 }

@@ -3,21 +3,25 @@ use Rattle.std.specs.Prelude.{ℕ, ◌≡◌, ◌+◌, ◌-◌, ◌<◌, ◌≤�
 use Rattle.bios_screen.specs.Screen.{Screen}
 use Rattle.bios_screen.specs.Picture.{dot_at, picture_width, picture_height, next_frame}
 use Rattle.bios_screen.specs.Raster.{join, picture_bytes}
-use Rattle.bios_screen.specs.Drawing.{Drawing, dots_a_line, lines_a_frame, dots_a_frame, page_shown, so_far, colour_of, take_dots, take_frame}
+use Rattle.bios_screen.specs.Drawing.{Drawing, dots_a_line, lines_a_frame, dots_a_frame, page_shown}
+use Rattle.bios_screen.specs.Drawing.{so_far, colour_of, take_dots, take_frame}
 
 -- the picture lies within the lines of a frame
 pub record FitsFrame (s : Screen) : Type 0 where
   pub narrow : picture_width s ≤ dots_a_line s.mode
   pub low : picture_height s ≤ lines_a_frame s.mode
 
--- a frame ends with the first dot, at least one, behind which dot 0 comes; it leaves the screen with the next frame's number, and
--- its picture is the one so far with the colours of the dots that were left
+-- a frame ends with the first dot, at least one, behind which dot 0 comes; it leaves the screen
+-- with the next frame's number, and its picture is the one so far with the colours of the dots that
+-- were left
 pub record IsFrameTaken (b : Drawing) : Type 0 where
   pub dot : (take_frame b).dot ≡ 0
   pub first : (m : ℕ) → 0 < m → m < dots_a_frame b.screen.mode - b.dot → ¬ ((take_dots m b).dot ≡ 0)
   pub screen : (take_frame b).screen ≡ next_frame b.screen
-  pub picture : (take_frame b).picture ≡ so_far b ++ join (λ i. colour_of b.screen (page_shown b) (b.dot + i)) (dots_a_frame b.screen.mode - b.dot)
+  pub picture : (take_frame b).picture ≡ so_far b ++ join (λ i.
+      colour_of b.screen (page_shown b) (b.dot + i)) (dots_a_frame b.screen.mode - b.dot)
 
 -- from dot 0 on it is the picture of the active page
 abbrev pub IsWhole : Drawing → Type 0
-IsWhole b = (take_frame b).picture ≡ picture_bytes (picture_width b.screen) (picture_height b.screen) (dot_at b.screen b.screen.page)
+IsWhole b = (take_frame b).picture ≡ picture_bytes (picture_width b.screen)
+    (picture_height b.screen) (dot_at b.screen b.screen.page)

@@ -1,4 +1,5 @@
-//! Laws of dots of plain screens, with services between them. Each is a contract, and nothing that runs.
+//! Laws of dots of plain screens, with services between them. Each is a contract, and nothing that
+//! runs.
 ghost use Rattle.std.specs.Prelude.{◌≡◌, ◌+◌, ◌<◌, ℕ, List, length, Some};
 ghost use Rattle.vga_crtc.specs.Raster.{IsFrameStart};
 ghost use Rattle.vga_card.specs.Bounds.{IsCard};
@@ -34,30 +35,38 @@ use vga_crtc::laws::{beam_at_dot, beam_goes_on, dots_split, frame_left, start_is
 
 /// A service that sets no mode leaves the mode of a screen, and how it is cut.
 pub fn services_keep_the_cut()
-    ensures mode { (fonts : FontSet) (s : Screen) (service : Service) (block : List ℕ) → (next fonts s service block).mode ≡ s.mode }
-    ensures layout { (fonts : FontSet) (s : Screen) (service : Service) (block : List ℕ) → (next fonts s service block).layout ≡ s.layout }
+    ensures mode { (fonts : FontSet) (s : Screen) (service : Service) (block : List ℕ) →
+        (next fonts s service block).mode ≡ s.mode }
+    ensures layout { (fonts : FontSet) (s : Screen) (service : Service) (block : List ℕ) →
+        (next fonts s service block).layout ≡ s.layout }
 {}
 
-/// Dots of a plain screen: they may be cut anywhere; a frame is the least number of them, at least one, that
-/// leads to dot 0, its picture is the one so far with the dots that were left, and a whole frame's is that
-/// of the active page.
+/// Dots of a plain screen: they may be cut anywhere; a frame is the least number of them, at least
+/// one, that leads to dot 0, its picture is the one so far with the dots that were left, and a
+/// whole frame's is that of the active page.
 pub fn frames_are_dots()
     ensures split { (m n : ℕ) (b : Drawing) → take_dots (m + n) b ≡ take_dots n (take_dots m b) }
     ensures frame { (b : Drawing) → b.dot < dots_a_frame b.screen.mode → IsFrameTaken b }
-    ensures whole { (b : Drawing) → FitsFrame b.screen → b.dot ≡ 0 → b.dot < dots_a_frame b.screen.mode → IsWhole b }
+    ensures whole { (b : Drawing) → FitsFrame b.screen → b.dot ≡ 0 →
+        b.dot < dots_a_frame b.screen.mode → IsWhole b }
 {}
 
-/// Dots of the frame under way join what is drawn of it, whatever that is, with the colours of the screen that
-/// is shown. Where the adapter follows a screen it follows it through any number of dots, and at the end of a frame
-/// answers the picture that they collected; dot 0 is the first dot of a frame, and there it follows each screen
-/// that it shows.
+/// Dots of the frame under way join what is drawn of it, whatever that is, with the colours of the
+/// screen that is shown. Where the adapter follows a screen it follows it through any number of
+/// dots, and at the end of a frame answers the picture that they collected; dot 0 is the first dot
+/// of a frame, and there it follows each screen that it shows.
 pub fn dots_follow_screens()
-    ensures begins { (c : CardState) (d : BiosData) (b : Drawing) → IsCard c → shown c d ≡ Some b.screen → b.dot ≡ 0 → IsFrameStart c.crtc.beam → Follows c d b }
-    ensures starts { (c : CardState) (d : BiosData) (b : Drawing) → Follows c d b → b.dot ≡ 0 → IsFrameStart c.crtc.beam }
-    ensures joins { (c : CardState) (d : BiosData) (s : Screen) (page n : ℕ) → IsCard c → shown c d ≡ Some s → page < s.layout.pages → n < dots_a_frame s.mode →
+    ensures begins { (c : CardState) (d : BiosData) (b : Drawing) → IsCard c →
+        shown c d ≡ Some b.screen → b.dot ≡ 0 → IsFrameStart c.crtc.beam → Follows c d b }
+    ensures starts { (c : CardState) (d : BiosData) (b : Drawing) → Follows c d b → b.dot ≡ 0 →
+        IsFrameStart c.crtc.beam }
+    ensures joins { (c : CardState) (d : BiosData) (s : Screen) (page n : ℕ) → IsCard c →
+        shown c d ≡ Some s → page < s.layout.pages → n < dots_a_frame s.mode →
         (n ≡ 0 → page ≡ s.page) → BeamIsAt c (start_address d page) n → RowsJoin c s page n }
-    ensures dots { (n : ℕ) (c : CardState) (d : BiosData) (b : Drawing) → IsCard c → Follows c d b → Follows (dots n c) d (take_dots n b) }
-    ensures frame { (c : CardState) (d : BiosData) (b : Drawing) → IsCard c → Follows c d b → EndsFrame c d b }
+    ensures dots { (n : ℕ) (c : CardState) (d : BiosData) (b : Drawing) → IsCard c → Follows c d b →
+        Follows (dots n c) d (take_dots n b) }
+    ensures frame { (c : CardState) (d : BiosData) (b : Drawing) → IsCard c → Follows c d b →
+        EndsFrame c d b }
 {
     dots_split();
     start_is_taken_once();
@@ -72,17 +81,31 @@ pub fn dots_follow_screens()
     bounds_stay();
 }
 
-/// Calls between any two dots that set no mode: the adapter follows the next screen. A load of glyphs is one at
-/// dot 0 of a frame, and where it is refused.
+/// Calls between any two dots that set no mode: the adapter follows the next screen. A load of
+/// glyphs is one at dot 0 of a frame, and where it is refused.
 pub fn calls_follow_screens()
-    ensures served { (service : Service) (fonts : FontSet) (r : Regs) (block : List ℕ) (c : CardState) (d : BiosData) (b : Drawing) →
-        IsCard c → IsBda d → AreWords r → AreBytes block → Follows c d b → call_of r ≡ Some (InMode service) →
-        Follows (after_call fonts r block c d).0 (after_call fonts r block c d).1.1 (record b { screen = screen_unless (refusal_on b.screen service (length block)) b.screen (next fonts b.screen service block) }) }
-    ensures loaded { (load : GlyphLoad) (fonts : FontSet) (r : Regs) (block : List ℕ) (c : CardState) (d : BiosData) (b : Drawing) →
-        IsCard c → AreBytes block → AreFonts fonts → Follows c d b → MayLoad b load (length block) → call_of r ≡ Some (LoadGlyphs load) →
-        Follows (after_call fonts r block c d).0 (after_call fonts r block c d).1.1 (record b { screen = screen_unless (load_refusal_on b.screen load (length block)) b.screen (load_glyphs fonts b.screen load block) }) }
-    ensures table { (service : TableService) (fonts : FontSet) (r : Regs) (block : List ℕ) (c : CardState) (d : BiosData) (b : Drawing) →
-        IsCard c → Follows c d b → call_of r ≡ Some (ReadTable service) → Follows (after_call fonts r block c d).0 (after_call fonts r block c d).1.1 b }
+    ensures served { (service : Service) (fonts : FontSet) (r : Regs) (block : List ℕ)
+        (c : CardState) (d : BiosData) (b : Drawing) →
+        IsCard c → IsBda d → AreWords r → AreBytes block → Follows c d b →
+        call_of r ≡ Some (InMode service) →
+        Follows (after_call fonts r block c d).0 (after_call fonts r block c d).1.1
+        (record b {
+          screen = screen_unless (refusal_on b.screen service (length block)) b.screen
+              (next fonts b.screen service block);
+        }) }
+    ensures loaded { (load : GlyphLoad) (fonts : FontSet) (r : Regs) (block : List ℕ)
+        (c : CardState) (d : BiosData) (b : Drawing) →
+        IsCard c → AreBytes block → AreFonts fonts → Follows c d b → MayLoad b load (length block) →
+        call_of r ≡ Some (LoadGlyphs load) →
+        Follows (after_call fonts r block c d).0 (after_call fonts r block c d).1.1
+        (record b {
+          screen = screen_unless (load_refusal_on b.screen load (length block))
+              b.screen (load_glyphs fonts b.screen load block);
+        }) }
+    ensures table { (service : TableService) (fonts : FontSet) (r : Regs) (block : List ℕ)
+        (c : CardState) (d : BiosData) (b : Drawing) →
+        IsCard c → Follows c d b → call_of r ≡ Some (ReadTable service) →
+        Follows (after_call fonts r block c d).0 (after_call fonts r block c d).1.1 b }
 {
     calls_keep_bounds();
     calls_lead_to_screens();

@@ -1,5 +1,5 @@
-//! Laws of plain screens, each of which is a contract, and nothing that runs: from a state that shows a
-//! screen a service leads to one that shows the next, with the screen's answer or refusal.
+//! Laws of plain screens, each of which is a contract, and nothing that runs: from a state that
+//! shows a screen a service leads to one that shows the next, with the screen's answer or refusal.
 ghost use Rattle.std.specs.Prelude.{ℕ, ◌≡◌, ◌<◌, Bool, true, List, Some, None, Err};
 ghost use Rattle.vga_bits.specs.declared.refusal.Refusal.TheVariants.{BadFunction, BadMode};
 ghost use Rattle.vga_card.specs.Bounds.{IsCard};
@@ -11,23 +11,34 @@ ghost use Rattle.bios_services.specs.declared.scroll.Scroll.{Scroll};
 ghost use Rattle.bios_services.specs.declared.cell_run.CellRun.{CellRun};
 ghost use Rattle.bios_services.specs.declared.strings.StringCall.{StringCall};
 ghost use Rattle.bios_services.specs.declared.colours.ColourService.{ColourService};
-ghost use Rattle.bios_services.specs.declared.call.Call.TheVariants.{SetMode, ReadTable, LoadGlyphs, InMode};
+ghost use Rattle.bios_services.specs.declared.call.Call.TheVariants.{SetMode, ReadTable};
+ghost use Rattle.bios_services.specs.declared.call.Call.TheVariants.{LoadGlyphs, InMode};
 ghost use Rattle.bios_services.specs.declared.tables.TableService.{TableService};
 ghost use Rattle.bios_services.specs.declared.glyph_load.GlyphLoad.{GlyphLoad};
 ghost use Rattle.bios_services.specs.declared.call.Service.{Service};
 ghost use Rattle.bios_services.specs.Calls.{call_of};
-ghost use Rattle.bios_services.specs.declared.call.Service.TheVariants.{SetCursorType, SetCursor, ReadCursor, SelectPage, ReadCell, WriteCells, ScrollUp, ScrollDown, WritePixel, ReadPixel, Teletype, WriteString, Colours, ReadMode, ReadAdapter, ReadDisplay};
-ghost use Rattle.bios_modes.specs.Modes.{mode_row, colour_text, monochrome_text, planes_320_by_200, planes_640_by_350, planes_640_by_480, bytes_320_by_200};
+ghost use Rattle.bios_services.specs.declared.call.Service.TheVariants.{SetCursorType, SetCursor};
+ghost use Rattle.bios_services.specs.declared.call.Service.TheVariants.{ReadCursor, SelectPage};
+ghost use Rattle.bios_services.specs.declared.call.Service.TheVariants.{ReadCell, WriteCells};
+ghost use Rattle.bios_services.specs.declared.call.Service.TheVariants.{ScrollUp, ScrollDown};
+ghost use Rattle.bios_services.specs.declared.call.Service.TheVariants.{WritePixel, ReadPixel};
+ghost use Rattle.bios_services.specs.declared.call.Service.TheVariants.{Teletype, WriteString};
+ghost use Rattle.bios_services.specs.declared.call.Service.TheVariants.{Colours, ReadMode};
+ghost use Rattle.bios_services.specs.declared.call.Service.TheVariants.{ReadAdapter, ReadDisplay};
+ghost use Rattle.bios_modes.specs.Modes.{mode_row, colour_text, monochrome_text, planes_320_by_200};
+ghost use Rattle.bios_modes.specs.Modes.{planes_640_by_350, planes_640_by_480, bytes_320_by_200};
 ghost use Rattle.bios_modes.specs.Bounds.{IsBda};
 ghost use Rattle.bios_screen.specs.Screen.{Screen};
 ghost use Rattle.bios_screen.specs.Shown.{shown};
 ghost use Rattle.bios_screen.specs.Served.{FitsBytes, Serves, ServesText, SetsFresh, after_call};
 ghost use Rattle.bios_modes.specs.Bounds.{AreBytes, AreFonts};
-ghost use Rattle.bios_screen.specs.Called.{AreWords, IsCalled, IsLoaded, IsRead, WantsMemory, IsLeft};
+ghost use Rattle.bios_screen.specs.Called.{AreWords, IsCalled, IsLoaded, IsRead, WantsMemory};
+ghost use Rattle.bios_screen.specs.Called.{IsLeft};
 
 use vga_card::laws::bounds_stay;
 
-/// Function 00, a mode set that clears the memory: from any state to one that shows the fresh screen.
+/// Function 00, a mode set that clears the memory: from any state to one that shows the fresh
+/// screen.
 pub fn mode_set_is_fresh()
     ensures colour { SetsFresh 0x03 colour_text }
     ensures monochrome { SetsFresh 0x07 monochrome_text }
@@ -54,10 +65,12 @@ pub fn cursor_is_served()
     ensures page { (page : ℕ) → Serves (SelectPage page) }
 {}
 
-/// Functions 08, 09 and 0A: the cell at the cursor is read, and cells from it on are written, in graphics as dots.
+/// Functions 08, 09 and 0A: the cell at the cursor is read, and cells from it on are written, in
+/// graphics as dots.
 pub fn cells_are_served()
     ensures read { (page : ℕ) → Serves (ReadCell page) }
-    ensures written { (cells : CellRun) → cells.character < 256 → cells.colouring.colour < 256 → Serves (WriteCells cells) }
+    ensures written { (cells : CellRun) → cells.character < 256 → cells.colouring.colour < 256 →
+        Serves (WriteCells cells) }
 {
     bounds_stay();
 }
@@ -70,9 +83,11 @@ pub fn windows_are_served()
     bounds_stay();
 }
 
-/// Functions 0E and 13: a character is typed at the cursor of the active page, and a string from a place on.
+/// Functions 0E and 13: a character is typed at the cursor of the active page, and a string from a
+/// place on.
 pub fn typing_is_served()
-    ensures character { (character colour : ℕ) → character < 256 → colour < 256 → Serves (Teletype character colour) }
+    ensures character { (character colour : ℕ) → character < 256 → colour < 256 →
+        Serves (Teletype character colour) }
     ensures string { (call : StringCall) → call.colour < 256 → Serves (WriteString call) }
 {
     bounds_stay();
@@ -97,23 +112,35 @@ pub fn dots_are_served()
     bounds_stay();
 }
 
-/// From every state that shows a screen a call for a service replies as on the screen, or is refused as
-/// there, and leads to a state that shows the next screen; so does a call that loads glyphs of text; a call for a
-/// table replies with that of the screen, and leaves it, as does one for which memory is refused; a call for no
-/// service, or for a mode that there is not, changes nothing.
+/// From every state that shows a screen a call for a service replies as on the screen, or is
+/// refused as there, and leads to a state that shows the next screen; so does a call that loads
+/// glyphs of text; a call for a table replies with that of the screen, and leaves it, as does one
+/// for which memory is refused; a call for no service, or for a mode that there is not, changes
+/// nothing.
 pub fn calls_lead_to_screens()
-    ensures served { (service : Service) (fonts : FontSet) (r : Regs) (block : List ℕ) (c : CardState) (d : BiosData) (s : Screen) →
-        IsCard c → IsBda d → AreWords r → AreBytes block → shown c d ≡ Some s → call_of r ≡ Some (InMode service) → IsCalled service fonts r block c d s }
-    ensures table { (service : TableService) (fonts : FontSet) (r : Regs) (block : List ℕ) (c : CardState) (d : BiosData) (s : Screen) →
-        IsCard c → shown c d ≡ Some s → call_of r ≡ Some (ReadTable service) → IsRead service fonts r block c d s }
-    ensures loaded { (load : GlyphLoad) (fonts : FontSet) (r : Regs) (block : List ℕ) (c : CardState) (d : BiosData) (s : Screen) →
-        IsCard c → AreBytes block → AreFonts fonts → shown c d ≡ Some s → call_of r ≡ Some (LoadGlyphs load) → IsLoaded load fonts r block c d s }
-    ensures memory { (fonts : FontSet) (r : Regs) (block : List ℕ) (c y : CardState) (d after : BiosData) (s : Screen) →
+    ensures served { (service : Service) (fonts : FontSet) (r : Regs) (block : List ℕ)
+        (c : CardState) (d : BiosData) (s : Screen) →
+        IsCard c → IsBda d → AreWords r → AreBytes block → shown c d ≡ Some s →
+        call_of r ≡ Some (InMode service) → IsCalled service fonts r block c d s }
+    ensures table { (service : TableService) (fonts : FontSet) (r : Regs) (block : List ℕ)
+        (c : CardState) (d : BiosData) (s : Screen) →
+        IsCard c → shown c d ≡ Some s → call_of r ≡ Some (ReadTable service) →
+        IsRead service fonts r block c d s }
+    ensures loaded { (load : GlyphLoad) (fonts : FontSet) (r : Regs) (block : List ℕ)
+        (c : CardState) (d : BiosData) (s : Screen) →
+        IsCard c → AreBytes block → AreFonts fonts → shown c d ≡ Some s →
+        call_of r ≡ Some (LoadGlyphs load) → IsLoaded load fonts r block c d s }
+    ensures memory { (fonts : FontSet) (r : Regs) (block : List ℕ) (c y : CardState)
+        (d after : BiosData) (s : Screen) →
         shown c d ≡ Some s → WantsMemory fonts r block c d y after → IsLeft c s y after }
-    ensures unknown { (fonts : FontSet) (r : Regs) (block : List ℕ) (c : CardState) (d : BiosData) (s : Screen) →
-        shown c d ≡ Some s → call_of r ≡ None → after_call fonts r block c d ≡ (c, (Err BadFunction, d)) }
-    ensures mode { (mode : ℕ) (keeps : Bool) (fonts : FontSet) (r : Regs) (block : List ℕ) (c : CardState) (d : BiosData) →
-        call_of r ≡ Some (SetMode mode keeps) → mode_row mode ≡ None → after_call fonts r block c d ≡ (c, (Err BadMode, d)) }
+    ensures unknown { (fonts : FontSet) (r : Regs) (block : List ℕ) (c : CardState) (d : BiosData)
+        (s : Screen) →
+        shown c d ≡ Some s → call_of r ≡ None → after_call fonts r block c d
+        ≡ (c, (Err BadFunction, d)) }
+    ensures mode { (mode : ℕ) (keeps : Bool) (fonts : FontSet) (r : Regs) (block : List ℕ)
+        (c : CardState) (d : BiosData) →
+        call_of r ≡ Some (SetMode mode keeps) → mode_row mode ≡ None →
+        after_call fonts r block c d ≡ (c, (Err BadMode, d)) }
 {
     bounds_stay();
 }

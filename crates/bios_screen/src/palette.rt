@@ -4,8 +4,8 @@ ghost use Rattle.std.specs.Prelude.{◌≡◌, take};
 use vga_attr::Attr;
 use vga_dac::Dac;
 
-/// Sixteen values of a palette, red, green and blue of the entries that they name, and the mask of these
-/// names.
+/// Sixteen values of a palette, red, green and blue of the entries that they name, and the mask of
+/// these names.
 #[derive(Clone, Copy)]
 pub(crate) struct Palette {
     pub(crate) values: [u8; 16],

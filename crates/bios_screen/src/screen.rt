@@ -6,8 +6,8 @@ use crate::palette::Palette;
 use bios_modes::is_text;
 use std::marker::Model;
 
-/// How a screen is cut: columns and rows of characters on a page, scan lines of a character, how many
-/// cells lead from a page to the next, which is 0 for pixels, and how many pages there are.
+/// How a screen is cut: columns and rows of characters on a page, scan lines of a character, how
+/// many cells lead from a page to the next, which is 0 for pixels, and how many pages there are.
 #[derive(Clone, Copy)]
 pub(crate) struct Layout {
     pub(crate) columns: u16,
@@ -19,8 +19,8 @@ pub(crate) struct Layout {
 
 /// A plain screen: what programs see that use the video BIOS alone.
 ///
-/// Contracts see one record: mode, layout, cells or pixels, places and type of the cursor, active page, palette,
-/// overscan, blinking, glyphs, and the frame's number modulo 32.
+/// Contracts see one record: mode, layout, cells or pixels, places and type of the cursor, active
+/// page, palette, overscan, blinking, glyphs, and the frame's number modulo 32.
 #[derive(Drop)]
 pub struct Screen {
     pub(crate) mode: u8,
@@ -48,23 +48,49 @@ impl Model for Screen {
 
     ghost view = { λ s. record {
       mode = s.mode;
-      layout = record { columns = s.layout.columns; rows = s.layout.rows; height = s.layout.height; distance = s.layout.distance; pages = s.layout.pages };
-      contents = contents_of s.mode (record { columns = s.layout.columns; rows = s.layout.rows; height = s.layout.height; distance = s.layout.distance; pages = s.layout.pages }) s.cells.items s.pixels.items;
+      layout = record {
+        columns = s.layout.columns;
+        rows = s.layout.rows;
+        height = s.layout.height;
+        distance = s.layout.distance;
+        pages = s.layout.pages;
+      };
+      contents = contents_of s.mode (record {
+        columns = s.layout.columns;
+        rows = s.layout.rows;
+        height = s.layout.height;
+        distance = s.layout.distance;
+        pages = s.layout.pages;
+      })
+          s.cells.items s.pixels.items;
       places = s.places;
       cursor_type = s.cursor_type;
       page = s.page;
-      palette = record { values = s.palette.values; reds = s.palette.reds; greens = s.palette.greens; blues = s.palette.blues; mask = s.palette.mask };
+      palette = record {
+        values = s.palette.values;
+        reds = s.palette.reds;
+        greens = s.palette.greens;
+        blues = s.palette.blues;
+        mask = s.palette.mask;
+      };
       overscan = s.overscan;
       is_blink = s.is_blink;
       glyphs = s.glyphs.items;
       frame = s.frame;
     } };
 
-    ghost invariant = { λ s. IsLaidOut s.mode (record { columns = s.layout.columns; rows = s.layout.rows; height = s.layout.height; distance = s.layout.distance; pages = s.layout.pages }) (vec_len s.cells) (vec_len s.pixels) };
+    ghost invariant = { λ s. IsLaidOut s.mode (record {
+      columns = s.layout.columns;
+      rows = s.layout.rows;
+      height = s.layout.height;
+      distance = s.layout.distance;
+      pages = s.layout.pages;
+    }) (vec_len s.cells) (vec_len s.pixels) };
 }
 
 impl Screen {
-    /// The character and the attribute of the cell at a row and a column of a page, where there is one:
+    /// The character and the attribute of the cell at a row and a column of a page, where there is
+    /// one:
     /// none in graphics.
     pub fn cell(&self, page: u8, row: u8, column: u8) -> Option<(u8, u8)>
         ensures { result ≡ cell_at self.now page row column }

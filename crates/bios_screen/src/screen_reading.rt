@@ -1,11 +1,14 @@
 //! Reading the screen that the adapter shows.
-ghost use Rattle.std.specs.Prelude.{◌≡◌, ◌+◌, ◌*◌, ◌/◌, ◌<◌, ◌≤◌, ◌++◌, true, false, vec_len, Some, IfOk, OnOk, IsOkUnless, IsTrue, if◌then◌else◌};
+ghost use Rattle.std.specs.Prelude.{◌≡◌, ◌+◌, ◌*◌, ◌/◌, ◌<◌, ◌≤◌, ◌++◌, true, false, vec_len, Some};
+ghost use Rattle.std.specs.Prelude.{IfOk, OnOk, IsOkUnless, IsTrue, if◌then◌else◌};
 ghost use Rattle.std.specs.Int.{bit_at};
 ghost use Rattle.vga_planes.specs.Planes.{byte_at};
 ghost use Rattle.bios_modes.specs.Heights.{row_at as row_at_of};
 ghost use Rattle.bios_modes.specs.Kinds.{is_packed as is_packed_of, is_text as is_text_of};
 ghost use Rattle.bios_screen.specs.Raster.{join};
-ghost use Rattle.bios_screen.specs.Shown.{cells_in, glyphs_in, planar_pixel, packed_pixel, pixels_in, page_pixels as page_pixels_of, text_screen, pixel_screen, shows, shown};
+ghost use Rattle.bios_screen.specs.Shown.{cells_in, glyphs_in, planar_pixel, packed_pixel};
+ghost use Rattle.bios_screen.specs.Shown.{pixels_in, page_pixels as page_pixels_of, text_screen};
+ghost use Rattle.bios_screen.specs.Shown.{pixel_screen, shows, shown};
 
 use crate::palette::Palette;
 use crate::screen::{Layout, Screen};
@@ -25,7 +28,8 @@ const GLYPH_BYTES: usize = 4_096;
 #[tactic(auto, using(crate::proofs::Shows::Reading::no_cells, crate::proofs::Shows::Reading::more_cells))]
 fn read_cells(alloc: Global, planes: &Planes, n: usize) -> Result<Vec<(u8, u8)>, Fault>
     requires { n ≤ 32768 }
-    ensures ok { IfOk result (λ cells. cells.items ≡ cells_in planes.now.plane0 planes.now.plane1 n) }
+    ensures ok { IfOk result (λ cells. cells.items ≡ cells_in planes.now.plane0 planes.now.plane1
+        n) }
     ensures len { IfOk result (λ cells. vec_len cells ≡ n) }
     ensures err { IsOkUnless result Fault.OutOfMemory }
 {
@@ -104,7 +108,8 @@ fn packed(planes: &Planes, n: u32) -> u8
 fn pixel(planes: &Planes, is_byte: bool, z: u32, k: u32) -> u8
     requires planar { z + k / 8 < 65536 }
     requires packed { IsTrue is_byte → z + k < 65536 }
-    ensures { result ≡ (if is_byte then packed_pixel planes.now (z + k) else planar_pixel planes.now z k) }
+    ensures { result ≡ (if is_byte then packed_pixel planes.now (z + k)
+        else planar_pixel planes.now z k) }
 {
     if is_byte {
         packed(planes, z + k)
@@ -118,7 +123,8 @@ fn pixel(planes: &Planes, is_byte: bool, z: u32, k: u32) -> u8
 fn read_page(planes: &Planes, mode: u8, z: u32, n: u32, pixels: &mut Vec<u8>) -> Result<(), Fault>
     requires planar { z + (n + 7) / 8 ≤ 65536 }
     requires packed { IsTrue (is_packed_of mode) → z + n ≤ 65536 }
-    ensures ok { OnOk result (pixels.new.items ≡ pixels.old.items ++ pixels_in mode planes.now z n) }
+    ensures ok { OnOk result (pixels.new.items ≡ pixels.old.items
+        ++ pixels_in mode planes.now z n) }
     ensures err { IsOkUnless result Fault.OutOfMemory }
 {
     let is_byte = is_packed(mode);
@@ -143,7 +149,8 @@ fn read_pixels(
     requires planar { size * pages ≤ 65536 }
     requires page { (n + 7) / 8 ≤ size }
     requires packed { IsTrue (is_packed_of mode) → n ≤ size }
-    ensures ok { IfOk result (λ pixels. pixels.items ≡ join (λ p. pixels_in mode planes.now (size * p) n) pages) }
+    ensures ok { IfOk result (λ pixels. pixels.items
+        ≡ join (λ p. pixels_in mode planes.now (size * p) n) pages) }
     ensures err { IsOkUnless result Fault.OutOfMemory }
 {
     let mut pixels = Vec::new(alloc);
@@ -164,7 +171,13 @@ fn page_pixels(bda: &Bda) -> u32
 
 /// How the screen is cut that has so many cells from a page to the next.
 fn layout_of(bda: &Bda, row: &ModeRow, distance: u16) -> Layout
-    ensures { result ≡ record { columns = bda.now.columns; rows = bda.now.last_row + 1; height = bda.now.height; distance = distance; pages = row.now.pages } }
+    ensures { result ≡ record {
+      columns = bda.now.columns;
+      rows = bda.now.last_row + 1;
+      height = bda.now.height;
+      distance = distance;
+      pages = row.now.pages;
+    } }
 {
     Layout {
         columns: bda.columns(),

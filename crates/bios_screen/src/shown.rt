@@ -3,7 +3,10 @@ ghost use Rattle.std.specs.Prelude.{◌≡◌, ◌≤◌, ◌<◌, ◌*◌, true
 ghost use Rattle.std.specs.Str.{bytes_eq};
 ghost use Rattle.bios_modes.specs.Heights.{row_at};
 ghost use Rattle.bios_services.specs.Cursor.{start_address};
-ghost use Rattle.bios_screen.specs.Shown.{shows_memory as shows_memory_of, shows_data as shows_data_of, shows_attribute as shows_attribute_of, shows, location_shown, crtc_shown};
+ghost use Rattle.bios_screen.specs.Shown.{shows_memory as shows_memory_of};
+ghost use Rattle.bios_screen.specs.Shown.{shows_data as shows_data_of};
+ghost use Rattle.bios_screen.specs.Shown.{shows_attribute as shows_attribute_of, shows};
+ghost use Rattle.bios_screen.specs.Shown.{location_shown, crtc_shown};
 
 use bios_modes::{Bda, ModeRow, is_text};
 use vga_attr::Attr;
@@ -151,8 +154,8 @@ fn row_behind_overscan(row: &ModeRow) -> [u8; 3]
     ]
 }
 
-/// Whether the attribute controller shows its palette, and its registers are the mode's but for blinking
-/// and overscan.
+/// Whether the attribute controller shows its palette, and its registers are the mode's but for
+/// blinking and overscan.
 fn shows_attribute(attr: &Attr, row: &ModeRow) -> bool
     ensures { result ≡ shows_attribute_of row.now attr.now }
 {

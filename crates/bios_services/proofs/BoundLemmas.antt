@@ -1,8 +1,10 @@
 -- How large the numbers of valid BIOS data are.
-use Rattle.std.proofs.Common.{◌≡◌, ◌≢◌, ℕ, ◌*◌, ◌<◌, ◌≤◌, ap, sym, refl, subst, mul-zero, ◌∙◌, arith, IfSome, Bool, true, false, if◌then◌else◌, Option, Some, None, inl, inr, ◌==◌}
+use Rattle.std.proofs.Common.{◌≡◌, ◌≢◌, ℕ, ◌*◌, ◌<◌, ◌≤◌, ap, sym, refl, subst, mul-zero, ◌∙◌, arith, IfSome, Bool, true, false, if◌then◌else◌, Option, Some}
+use Rattle.std.proofs.Common.{None, inl, inr, ◌==◌}
 use Rattle.bios_modes.specs.declared.modes.ModeRow.{ModeRow}
 use Rattle.bios_modes.specs.declared.heights.TextRow.{TextRow}
-use Rattle.bios_modes.specs.Heights.{fifty_rows, twenty_eight_rows, twenty_five_rows, colour_rows, monochrome_rows, with_text, with_height, if_row, at_height, row_at}
+use Rattle.bios_modes.specs.Heights.{fifty_rows, twenty_eight_rows, twenty_five_rows, colour_rows, monochrome_rows, with_text, with_height, if_row, at_height}
+use Rattle.bios_modes.specs.Heights.{row_at}
 use Rattle.bios_modes.specs.Modes.{mode_row, colour_text, monochrome_text, planes_320_by_200, planes_640_by_350, planes_640_by_480, bytes_320_by_200}
 use Rattle.bios_modes.specs.Bda.{BiosData}
 use Rattle.bios_modes.specs.Begin.{data_of_mode}
@@ -24,9 +26,11 @@ on_either P true px py = px
 on_either P false px py = py
 
 -- what holds of each row, and of none, holds of any mode's
-on_each_mode : (P : Option ModeRow → Type 0) (mode : ℕ) → P (Some colour_text) → P (Some monochrome_text) → P (Some planes_320_by_200) → P (Some planes_640_by_350) → P (Some planes_640_by_480) → P (Some bytes_320_by_200) → P None → P (mode_row mode)
+on_each_mode : (P : Option ModeRow → Type 0) (mode : ℕ) → P (Some colour_text) → P (Some monochrome_text) → P (Some planes_320_by_200) →
+    P (Some planes_640_by_350) → P (Some planes_640_by_480) → P (Some bytes_320_by_200) → P None → P (mode_row mode)
 on_each_mode P mode p3 p7 p0d p10 p12 p13 none =
-    on_either P (mode == 0x03) p3 (on_either P (mode == 0x07) p7 (on_either P (mode == 0x0D) p0d (on_either P (mode == 0x10) p10 (on_either P (mode == 0x12) p12 (on_either P (mode == 0x13) p13 none)))))
+    on_either P (mode == 0x03) p3 (on_either P (mode == 0x07) p7 (on_either P (mode == 0x0D) p0d
+    (on_either P (mode == 0x10) p10 (on_either P (mode == 0x12) p12 (on_either P (mode == 0x13) p13 none)))))
 
 -- the row of a mode with characters of a height
 abbrev sized : Option ModeRow → ℕ → Option ModeRow
@@ -37,21 +41,27 @@ pub base_small : (mode : ℕ) → page_base mode ≤ 0xB8000
 base_small mode = on_each_mode (λ x. base_in x ≤ 0xB8000) mode (omega arith) (omega arith) (omega arith) (omega arith) (omega arith) (omega arith) (omega arith)
 
 -- what holds of each row of mode 3, and of none, holds of that of any height
-on_colour : (P : Option ModeRow → Type 0) (height : ℕ) → P (Some (with_text colour_text (fifty_rows 0x1F))) → P (Some (with_text colour_text (twenty_eight_rows 0x1F))) → P (Some (with_text colour_text (twenty_five_rows 0x1F))) → P None → P (with_height colour_text (colour_rows height))
+on_colour : (P : Option ModeRow → Type 0) (height : ℕ) → P (Some (with_text colour_text (fifty_rows 0x1F))) →
+    P (Some (with_text colour_text (twenty_eight_rows 0x1F))) → P (Some (with_text colour_text (twenty_five_rows 0x1F))) → P None →
+    P (with_height colour_text (colour_rows height))
 on_colour P height p8 p14 p16 none =
     let Q : Option TextRow → Type 0 = λ text. P (with_height colour_text text) in
     on_either Q (height == 8) p8 (on_either Q (height == 14) p14 (on_either Q (height == 16) p16 none))
 
 -- and so it does of mode 7
-on_monochrome : (P : Option ModeRow → Type 0) (height : ℕ) → P (Some (with_text monochrome_text (fifty_rows 0x07))) → P (Some (with_text monochrome_text (twenty_eight_rows 0x0D))) → P (Some (with_text monochrome_text (twenty_five_rows 0x0F))) → P None → P (with_height monochrome_text (monochrome_rows height))
+on_monochrome : (P : Option ModeRow → Type 0) (height : ℕ) → P (Some (with_text monochrome_text (fifty_rows 0x07))) →
+    P (Some (with_text monochrome_text (twenty_eight_rows 0x0D))) → P (Some (with_text monochrome_text (twenty_five_rows 0x0F))) → P None →
+    P (with_height monochrome_text (monochrome_rows height))
 on_monochrome P height p8 p14 p16 none =
     let Q : Option TextRow → Type 0 = λ text. P (with_height monochrome_text text) in
     on_either Q (height == 8) p8 (on_either Q (height == 14) p14 (on_either Q (height == 16) p16 none))
 
 -- what holds of each row of text of any height, of each row of graphics, and of none, holds of that of any mode and height
 on_each_row : (P : Option ModeRow → Type 0) (mode height : ℕ)
-    → P (Some (with_text colour_text (fifty_rows 0x1F))) → P (Some (with_text colour_text (twenty_eight_rows 0x1F))) → P (Some (with_text colour_text (twenty_five_rows 0x1F)))
-    → P (Some (with_text monochrome_text (fifty_rows 0x07))) → P (Some (with_text monochrome_text (twenty_eight_rows 0x0D))) → P (Some (with_text monochrome_text (twenty_five_rows 0x0F)))
+    → P (Some (with_text colour_text (fifty_rows 0x1F))) → P (Some (with_text colour_text (twenty_eight_rows 0x1F))) →
+    P (Some (with_text colour_text (twenty_five_rows 0x1F)))
+    → P (Some (with_text monochrome_text (fifty_rows 0x07))) → P (Some (with_text monochrome_text (twenty_eight_rows 0x0D))) →
+    P (Some (with_text monochrome_text (twenty_five_rows 0x0F)))
     → P (Some planes_320_by_200) → P (Some planes_640_by_350) → P (Some planes_640_by_480) → P (Some bytes_320_by_200) → P None → P (row_at mode height)
 on_each_row P mode height c8 c14 c16 m8 m14 m16 p0d p10 p12 p13 none =
     on_each_mode (λ x. P (sized x height)) mode (on_colour P height c8 c14 c16 none) (on_monochrome P height m8 m14 m16 none) p0d p10 p12 p13 none
@@ -84,41 +94,125 @@ of_row row d s f =
     let columns = f.columns in let last_row = f.last_row in let high = f.height in let port = f.crtc_address in
     let size = ap (λ n. n * row.pages) f.size in
     let sc = s.some_columns in let c = s.columns in let r = s.rows in let h = s.height in let p = s.port in let m = s.memory in
-    record { some_columns = omega arith; columns = omega arith; rows = omega arith; height = omega arith; port = omega arith; pages = s.pages; page = f.page; start = f.start; memory = omega arith }
+    record {
+      some_columns = omega arith;
+      columns = omega arith;
+      rows = omega arith;
+      height = omega arith;
+      port = omega arith;
+      pages = s.pages;
+      page = f.page;
+      start = f.start;
+      memory = omega arith;
+    }
 
 small_text : Small colour_text
-small_text = record { some_columns = omega arith; columns = omega arith; rows = omega arith; height = omega arith; port = omega arith; pages = omega arith; memory = omega arith }
+small_text = record {
+  some_columns = omega arith;
+  columns = omega arith;
+  rows = omega arith;
+  height = omega arith;
+  port = omega arith;
+  pages = omega arith;
+  memory = omega arith;
+}
 
 small_monochrome : Small monochrome_text
-small_monochrome = record { some_columns = omega arith; columns = omega arith; rows = omega arith; height = omega arith; port = omega arith; pages = omega arith; memory = omega arith }
+small_monochrome = record {
+  some_columns = omega arith;
+  columns = omega arith;
+  rows = omega arith;
+  height = omega arith;
+  port = omega arith;
+  pages = omega arith;
+  memory = omega arith;
+}
 
 small_0d : Small planes_320_by_200
-small_0d = record { some_columns = omega arith; columns = omega arith; rows = omega arith; height = omega arith; port = omega arith; pages = omega arith; memory = omega arith }
+small_0d = record {
+  some_columns = omega arith;
+  columns = omega arith;
+  rows = omega arith;
+  height = omega arith;
+  port = omega arith;
+  pages = omega arith;
+  memory = omega arith;
+}
 
 small_10 : Small planes_640_by_350
-small_10 = record { some_columns = omega arith; columns = omega arith; rows = omega arith; height = omega arith; port = omega arith; pages = omega arith; memory = omega arith }
+small_10 = record {
+  some_columns = omega arith;
+  columns = omega arith;
+  rows = omega arith;
+  height = omega arith;
+  port = omega arith;
+  pages = omega arith;
+  memory = omega arith;
+}
 
 small_12 : Small planes_640_by_480
-small_12 = record { some_columns = omega arith; columns = omega arith; rows = omega arith; height = omega arith; port = omega arith; pages = omega arith; memory = omega arith }
+small_12 = record {
+  some_columns = omega arith;
+  columns = omega arith;
+  rows = omega arith;
+  height = omega arith;
+  port = omega arith;
+  pages = omega arith;
+  memory = omega arith;
+}
 
 small_13 : Small bytes_320_by_200
-small_13 = record { some_columns = omega arith; columns = omega arith; rows = omega arith; height = omega arith; port = omega arith; pages = omega arith; memory = omega arith }
+small_13 = record {
+  some_columns = omega arith;
+  columns = omega arith;
+  rows = omega arith;
+  height = omega arith;
+  port = omega arith;
+  pages = omega arith;
+  memory = omega arith;
+}
 
 small_fifty : (row : ModeRow) (underline : ℕ) → Small row → Small (with_text row (fifty_rows underline))
-small_fifty row underline s = record { some_columns = s.some_columns; columns = s.columns; rows = omega arith; height = omega arith; port = s.port; pages = omega arith; memory = omega arith }
+small_fifty row underline s = record {
+  some_columns = s.some_columns;
+  columns = s.columns;
+  rows = omega arith;
+  height = omega arith;
+  port = s.port;
+  pages = omega arith;
+  memory = omega arith;
+}
 
 small_twenty_eight : (row : ModeRow) (underline : ℕ) → Small row → Small (with_text row (twenty_eight_rows underline))
-small_twenty_eight row underline s = record { some_columns = s.some_columns; columns = s.columns; rows = omega arith; height = omega arith; port = s.port; pages = omega arith; memory = omega arith }
+small_twenty_eight row underline s = record {
+  some_columns = s.some_columns;
+  columns = s.columns;
+  rows = omega arith;
+  height = omega arith;
+  port = s.port;
+  pages = omega arith;
+  memory = omega arith;
+}
 
 small_twenty_five : (row : ModeRow) (underline : ℕ) → Small row → Small (with_text row (twenty_five_rows underline))
-small_twenty_five row underline s = record { some_columns = s.some_columns; columns = s.columns; rows = omega arith; height = omega arith; port = s.port; pages = omega arith; memory = omega arith }
+small_twenty_five row underline s = record {
+  some_columns = s.some_columns;
+  columns = s.columns;
+  rows = omega arith;
+  height = omega arith;
+  port = s.port;
+  pages = omega arith;
+  memory = omega arith;
+}
 
 -- what holds of small rows, and of none, holds of that of any mode and height
 on_small : (P : Option ModeRow → Type 0) (mode height : ℕ) → ((row : ModeRow) → Small row → P (Some row)) → P None → P (row_at mode height)
 on_small P mode height some none =
     on_each_row P mode height
-    (some _ (small_fifty colour_text 0x1F small_text)) (some _ (small_twenty_eight colour_text 0x1F small_text)) (some _ (small_twenty_five colour_text 0x1F small_text))
-    (some _ (small_fifty monochrome_text 0x07 small_monochrome)) (some _ (small_twenty_eight monochrome_text 0x0D small_monochrome)) (some _ (small_twenty_five monochrome_text 0x0F small_monochrome))
+    (some _ (small_fifty colour_text 0x1F small_text)) (some _ (small_twenty_eight colour_text 0x1F small_text))
+    (some _ (small_twenty_five colour_text 0x1F small_text))
+    (some _ (small_fifty monochrome_text 0x07 small_monochrome)) (some _ (small_twenty_eight monochrome_text 0x0D small_monochrome))
+    (some _ (small_twenty_five monochrome_text 0x0F small_monochrome))
     (some _ small_0d) (some _ small_10) (some _ small_12) (some _ small_13) none
 
 -- data that are those of their mode and height are small
@@ -126,7 +220,17 @@ bounds_of : (d : BiosData) → Fits (row_at d.mode d.height) d → Bounds (row_a
 bounds_of d = on_small (λ row. Fits row d → Bounds row d) d.mode d.height (λ row small. of_row row d small) (λ none. absurd none)
 
 set_of_bounds : (d : BiosData) → Bounds (row_at d.mode d.height) d → IsSet d
-set_of_bounds d b = record { some_columns = b.some_columns; columns = b.columns; rows = b.rows; height = b.height; port = b.port; pages = b.pages; page = b.page; start = b.start; memory = b.memory }
+set_of_bounds d b = record {
+  some_columns = b.some_columns;
+  columns = b.columns;
+  rows = b.rows;
+  height = b.height;
+  port = b.port;
+  pages = b.pages;
+  page = b.page;
+  start = b.start;
+  memory = b.memory;
+}
 
 -- valid data of a mode are small
 pub set_of_valid : (d : BiosData) → IsValid d → d.mode ≢ 0 → IsSet d
@@ -156,17 +260,32 @@ stays_valid old new (inr fits) set stays =
 
 -- the data that a mode begins with are those of its row
 begins_as : (row : ModeRow) (mode : ℕ) → 0 < row.pages → IsOf row (data_of_mode mode row)
-begins_as row mode some = record { columns = refl; size = refl; last_row = refl; height = refl; crtc_address = refl; page = some; start = sym (mul-zero row.size) }
+begins_as row mode some = record {
+  columns = refl;
+  size = refl;
+  last_row = refl;
+  height = refl;
+  crtc_address = refl;
+  page = some;
+  start = sym (mul-zero row.size);
+}
 
 -- what is said of each row that begins a mode: it has a page, and is the mode's at its own height
 abbrev BeginsAt : (ℕ → Option ModeRow) → ModeRow → Type 0
 BeginsAt rows row = (0 < row.pages) × (rows row.height ≡ Some row)
 
 colour_begins : (height : ℕ) → IfSome (with_height colour_text (colour_rows height)) (BeginsAt (λ h. with_height colour_text (colour_rows h)))
-colour_begins height = on_colour (λ x. IfSome x (BeginsAt (λ h. with_height colour_text (colour_rows h)))) height (omega arith, refl) (omega arith, refl) (omega arith, refl) tt
+colour_begins height = on_colour (λ x. IfSome x (BeginsAt (λ h. with_height colour_text (colour_rows h)))) height (omega arith, refl) (
+  omega arith,
+  refl,
+) (omega arith, refl) tt
 
-monochrome_begins : (height : ℕ) → IfSome (with_height monochrome_text (monochrome_rows height)) (BeginsAt (λ h. with_height monochrome_text (monochrome_rows h)))
-monochrome_begins height = on_monochrome (λ x. IfSome x (BeginsAt (λ h. with_height monochrome_text (monochrome_rows h)))) height (omega arith, refl) (omega arith, refl) (omega arith, refl) tt
+monochrome_begins : (height : ℕ) → IfSome (with_height monochrome_text (monochrome_rows height))
+    (BeginsAt (λ h. with_height monochrome_text (monochrome_rows h)))
+monochrome_begins height = on_monochrome (λ x. IfSome x (BeginsAt (λ h. with_height monochrome_text (monochrome_rows h)))) height (
+  omega arith,
+  refl,
+) (omega arith, refl) (omega arith, refl) tt
 
 -- each row of a mode and a height begins it
 all_begin : (mode height : ℕ) → IfSome (row_at mode height) (BeginsAt (row_at mode))
@@ -195,7 +314,8 @@ begins_valid mode row e =
 text_height : (mode height : ℕ) (row : ModeRow) → is_text mode ≡ true → row_at mode height ≡ Some row → height ≤ 16
 text_height mode height row =
     on_each_mode (λ x. is_text_kind (kind_in x) ≡ true → sized x height ≡ Some row → height ≤ 16) mode
-    (λ _ e. grind (arith, nat_tests)) (λ _ e. grind (arith, nat_tests)) (λ t _. absurd (cc)) (λ t _. absurd (cc)) (λ t _. absurd (cc)) (λ t _. absurd (cc)) (λ t _. absurd (cc))
+    (λ _ e. grind (arith, nat_tests)) (λ _ e. grind (arith, nat_tests)) (λ t _. absurd (cc)) (λ t _. absurd (cc)) (λ t _. absurd (cc)) (λ t _. absurd (cc))
+    (λ t _. absurd (cc))
 
 -- glyphs that are not refused, and whose height there is, are there
 pub there_of : (load : GlyphLoad) (mode len : ℕ) (row : ModeRow) → load_refusal load mode len ≡ None → row_at mode load.height ≡ Some row → AreThere load len
@@ -215,4 +335,5 @@ there_of load mode len row allowed e =
 
 -- the port of a row is small
 pub port_small : (mode height : ℕ) (row : ModeRow) → row_at mode height ≡ Some row → row.crtc_address < ports_end
-port_small mode height row e = subst (λ x. IfSome x (λ r. r.crtc_address < ports_end)) e (on_small (λ x. IfSome x (λ r. r.crtc_address < ports_end)) mode height (λ r small. small.port) tt)
+port_small mode height row e = subst (λ x. IfSome x (λ r. r.crtc_address < ports_end)) e
+    (on_small (λ x. IfSome x (λ r. r.crtc_address < ports_end)) mode height (λ r small. small.port) tt)

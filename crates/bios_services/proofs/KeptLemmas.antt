@@ -1,5 +1,6 @@
 -- What every call keeps: the adapter's bounds, and that BIOS data are valid and their places words.
-use Rattle.std.proofs.Common.{◌≡◌, ◌≢◌, ℕ, zero, suc, ◌+◌, ◌-◌, ◌<◌, ◌≤◌, inl, refl, ◌∙◌, arith, List, [], ◌∷◌, length, get_or, set, replicate, Option, Some, None, IfSome, Bool, true, false}
+use Rattle.std.proofs.Common.{◌≡◌, ◌≢◌, ℕ, zero, suc, ◌+◌, ◌-◌, ◌<◌, ◌≤◌, inl, refl, ◌∙◌, arith, List, [], ◌∷◌, length, get_or, set, replicate, Option, Some}
+use Rattle.std.proofs.Common.{None, IfSome, Bool, true, false}
 use Rattle.std.specs.Prelude.{◌==◌, ◌&&◌, nat_lt, if◌then◌else◌}
 use Rattle.std.proofs.lemmas.Bool.Decides.{nat_tests}
 use Rattle.std.proofs.lemmas.List.{length-set}
@@ -23,12 +24,14 @@ use Rattle.bios_services.specs.declared.glyph_load.GlyphLoad.{GlyphLoad}
 use Rattle.bios_services.specs.declared.call.Call.{Call}
 use Rattle.bios_services.specs.declared.call.Call.TheVariants.{SetMode, ReadTable, LoadGlyphs, InMode}
 use Rattle.bios_services.specs.declared.call.Service.{Service}
-use Rattle.bios_services.specs.declared.call.Service.TheVariants.{SetCursorType, SetCursor, ReadCursor, SelectPage, ScrollUp, ScrollDown, ReadCell, WriteCells, WritePixel, ReadPixel, Teletype, ReadMode, Colours, ReadAdapter, WriteString, ReadDisplay}
+use Rattle.bios_services.specs.declared.call.Service.TheVariants.{SetCursorType, SetCursor, ReadCursor, SelectPage, ScrollUp, ScrollDown, ReadCell, WriteCells}
+use Rattle.bios_services.specs.declared.call.Service.TheVariants.{WritePixel, ReadPixel, Teletype, ReadMode, Colours, ReadAdapter, WriteString, ReadDisplay}
 use Rattle.bios_services.specs.Plan.{Plan, Done, Write, Read, ◌>>=◌, ◌>>◌, run, byte_of, fold}
 use Rattle.bios_services.specs.Registers.{high, low}
 use Rattle.bios_services.specs.Bounds.{IsSet, pages_of}
 use Rattle.bios_services.specs.Data.{AreData}
-use Rattle.bios_services.specs.Cursor.{row_of, column_of, cell_number, place_of, with_place, with_page, start_address, word_plan, cursor_plan, move_cursor_plan, cursor_type_plan, page_plan}
+use Rattle.bios_services.specs.Cursor.{row_of, column_of, cell_number, place_of, with_place, with_page, start_address, word_plan, cursor_plan, move_cursor_plan}
+use Rattle.bios_services.specs.Cursor.{cursor_type_plan, page_plan}
 use Rattle.bios_services.specs.Bands.{band_of, up_plan}
 use Rattle.bios_services.specs.Drawing.{character_plan}
 use Rattle.bios_services.specs.CellRuns.{cell_run_plan}
@@ -44,7 +47,8 @@ use Rattle.bios_services.specs.GlyphLoads.{glyph_load_of, load_refusal, load_pla
 use Rattle.bios_services.specs.Refusals.{page_named, refusal_in_mode}
 use Rattle.bios_services.specs.declared.colours.ColourService.TheVariants.{ReadMask}
 use Rattle.bios_services.specs.Calls.{colours, colour_call_of, service_of, in_mode, call_of, glyphs_or}
-use Rattle.bios_services.specs.Service.{Outcome, Answered, answer_of, answer_with, call_plan, in_mode_plan, load_at, load_unless, load_in_mode_plan, plan_of, read_cell_service, read_pixel_service, service, set_mode_plan, table_in_mode_plan, table_unless, unless}
+use Rattle.bios_services.specs.Service.{Outcome, Answered, answer_of, answer_with, call_plan, in_mode_plan, load_at, load_unless, load_in_mode_plan, plan_of}
+use Rattle.bios_services.specs.Service.{read_cell_service, read_pixel_service, service, set_mode_plan, table_in_mode_plan, table_unless, unless}
 use Rattle.bios_services.proofs.ReasonLemmas.{neither, holds}
 use Rattle.bios_services.proofs.BoundLemmas.{set_of_valid, stays_valid, begins_valid, begins_valid_at}
 
@@ -71,7 +75,8 @@ plan_bounds law (Done a) c z = z
 plan_bounds law (Write place v rest) c z = plan_bounds law rest (card_write c place v).0 (write_bounds law c place v z)
 plan_bounds law (Read place rest) c z = plan_bounds law (rest (byte_of (card_read c place).1)) (card_read c place).0 (read_bounds law c place z)
 
-pub card_stays : KeepsBounds → (fonts : FontSet) (d : BiosData) (r : Regs) (block : List ℕ) (c : CardState) → IsCard c → IsCard (run card_meaning (service fonts d r block) c).0
+pub card_stays : KeepsBounds → (fonts : FontSet) (d : BiosData) (r : Regs) (block : List ℕ) (c : CardState) → IsCard c →
+    IsCard (run card_meaning (service fonts d r block) c).0
 card_stays law fonts d r block = plan_bounds law (service fonts d r block)
 
 -- ---- what holds of the answer of a plan, whatever bytes it reads
@@ -94,7 +99,8 @@ behind P (Write place v rest) f k = behind P rest f k
 behind P (Read place rest) f k = λ b. behind P (rest b) f k
 
 -- and where the first answers what the other needs
-behind_such : {A B : Type 0} (Q : A → Type 0) (P : B → Type 0) (p : Plan A) (f : A → Plan B) → Always Q p → ((a : A) → Q a → Always P (f a)) → Always P (p >>= f)
+behind_such : {A B : Type 0} (Q : A → Type 0) (P : B → Type 0) (p : Plan A) (f : A → Plan B) → Always Q p → ((a : A) → Q a → Always P (f a)) →
+    Always P (p >>= f)
 behind_such Q P (Done a) f h k = k a h
 behind_such Q P (Write place v rest) f h k = behind_such Q P rest f h k
 behind_such Q P (Read place rest) f h k = λ b. behind_such Q P (rest b) f (h b) k
@@ -135,14 +141,16 @@ back_near : (place : ℕ) (b : Bool) → IsNear place → IsNear (if b then plac
 back_near place true near = near
 back_near place false near = omega arith
 
-typed_near : (fonts : FontSet) (d : BiosData) (page place character : ℕ) (colouring : Colouring) → d.last_row < 50 → d.columns ≤ 80 → IsNear place → Always IsNear (type_plan fonts d page place character colouring)
+typed_near : (fonts : FontSet) (d : BiosData) (page place character : ℕ) (colouring : Colouring) → d.last_row < 50 → d.columns ≤ 80 → IsNear place →
+    Always IsNear (type_plan fonts d page place character colouring)
 unfolding type_plan show_plan
 typed_near fonts d page place character colouring few narrow near =
     on_if IsNear (character == 0x07) (Done place) _ (λ _. near)
     (λ _. on_if IsNear (character == 0x08) (Done (if column_of place == 0 then place else place - 1)) _ (λ _. back_near place (column_of place == 0) near)
     (λ _. on_if IsNear (character == 0x0A) (line_feed_plan d page place) _ (λ _. fed_near d page place few near)
     (λ _. on_if IsNear (character == 0x0D) (Done (line_start place)) _ (λ _. start_near place near)
-    (λ _. behind IsNear (character_plan fonts d page (cell_number d place) character colouring) (λ _. cursor_advance_plan d page place) (λ _. advanced_near d page place few narrow near)))))
+    (λ _. behind IsNear (character_plan fonts d page (cell_number d place) character colouring) (λ _. cursor_advance_plan d page place) (λ _.
+    advanced_near d page place few narrow near)))))
 
 -- ---- BIOS data
 
@@ -173,7 +181,16 @@ module _ (d : BiosData) (a : AreData d) (is : IsSet d) (unset : d.mode ≢ 0) wh
   -- a cursor at another place
   placed : (page place : ℕ) → place < 65536 → AreData (with_place d page place)
   placed page place l = record {
-    valid = stays_valid d (with_place d page place) a.valid unset (record { mode = refl; columns = refl; size = refl; last_row = refl; height = refl; crtc_address = refl; page = is.page; start = is.start });
+    valid = stays_valid d (with_place d page place) a.valid unset (record {
+      mode = refl;
+      columns = refl;
+      size = refl;
+      last_row = refl;
+      height = refl;
+      crtc_address = refl;
+      page = is.page;
+      start = is.start;
+    });
     words = record { places = length-set d.cursor_places page place ∙ a.words.places; words = set_words d.cursor_places page place l a.words.words };
   }
 
@@ -185,7 +202,16 @@ module _ (d : BiosData) (a : AreData d) (is : IsSet d) (unset : d.mode ≢ 0) wh
   typed_cursor : (cursor_type : ℕ) → Always AreData (cursor_type_plan d cursor_type)
   unfolding cursor_type_plan
   typed_cursor cursor_type = record {
-    valid = stays_valid d (record d { cursor_type = cursor_type }) a.valid unset (record { mode = refl; columns = refl; size = refl; last_row = refl; height = refl; crtc_address = refl; page = is.page; start = is.start });
+    valid = stays_valid d (record d { cursor_type = cursor_type }) a.valid unset (record {
+      mode = refl;
+      columns = refl;
+      size = refl;
+      last_row = refl;
+      height = refl;
+      crtc_address = refl;
+      page = is.page;
+      start = is.start;
+    });
     words = record { places = a.words.places; words = a.words.words };
   }
 
@@ -194,7 +220,16 @@ module _ (d : BiosData) (a : AreData d) (is : IsSet d) (unset : d.mode ≢ 0) wh
   unfolding page_plan
   paged page l =
       let after : AreData (with_page d page) = record {
-        valid = stays_valid d (with_page d page) a.valid unset (record { mode = refl; columns = refl; size = refl; last_row = refl; height = refl; crtc_address = refl; page = l; start = refl });
+        valid = stays_valid d (with_page d page) a.valid unset (record {
+          mode = refl;
+          columns = refl;
+          size = refl;
+          last_row = refl;
+          height = refl;
+          crtc_address = refl;
+          page = l;
+          start = refl;
+        });
         words = record { places = a.words.places; words = a.words.words };
       } in
       behind AreData (word_plan d.crtc_address 0x0C (start_address d page)) (λ _. cursor_plan (with_page d page) page >> Done (with_page d page))
@@ -253,29 +288,38 @@ FitsWords service = Unit {0}
 abbrev OutcomeKept : Outcome → Type 0
 OutcomeKept o = AreData o.1
 
-service_keeps : (asked_for : Service) (fonts : FontSet) (d : BiosData) (r : Regs) (block : List ℕ) → FitsWords asked_for → AreData d → IsSet d → d.mode ≢ 0 → refusal_in_mode asked_for d (length block) ≡ None
+service_keeps : (asked_for : Service) (fonts : FontSet) (d : BiosData) (r : Regs) (block : List ℕ) → FitsWords asked_for → AreData d → IsSet d → d.mode ≢ 0 →
+    refusal_in_mode asked_for d (length block) ≡ None
     → Always OutcomeKept (plan_of asked_for fonts d r block)
 unfolding plan_of refusal_in_mode
 service_keeps (SetCursorType cursor_type) fonts d r block fits a is unset h =
     behind_such AreData OutcomeKept (cursor_type_plan d cursor_type) (λ after. Done (r, after)) (typed_cursor d a is unset cursor_type) (λ after k. k)
 service_keeps (SetCursor page place) fonts d r block fits a is unset h =
-    behind_such AreData OutcomeKept (move_cursor_plan d (page_named d page) place) (λ after. Done (r, after)) (moved d a is unset (page_named d page) place fits) (λ after k. k)
+    behind_such AreData OutcomeKept (move_cursor_plan d (page_named d page) place) (λ after. Done (r, after))
+    (moved d a is unset (page_named d page) place fits) (λ after k. k)
 service_keeps (ReadCursor page) fonts d r block fits a is unset h = a
 service_keeps (SelectPage page) fonts d r block fits a is unset h =
     behind_such AreData OutcomeKept (page_plan d page) (λ after. Done (r, after)) (paged d a is unset page (page_allowed (pages_of d) page h)) (λ after k. k)
 service_keeps (ScrollUp scroll) fonts d r block fits a is unset h = behind OutcomeKept (scroll_up_plan d scroll) (λ _. Done (r, d)) (λ _. a)
 service_keeps (ScrollDown scroll) fonts d r block fits a is unset h = behind OutcomeKept (scroll_down_plan d scroll) (λ _. Done (r, d)) (λ _. a)
-service_keeps (ReadCell page) fonts d r block fits a is unset h = behind OutcomeKept (read_cell_service fonts (page_named d page) d r) (λ after. Done (after, d)) (λ _. a)
-service_keeps (WriteCells cells) fonts d r block fits a is unset h = behind OutcomeKept (cell_run_plan fonts d (page_named d cells.page) cells) (λ _. Done (r, d)) (λ _. a)
-service_keeps (WritePixel page x y colour) fonts d r block fits a is unset h = behind OutcomeKept (write_pixel_plan d (page_named d page) x y colour) (λ _. Done (r, d)) (λ _. a)
-service_keeps (ReadPixel page x y) fonts d r block fits a is unset h = behind OutcomeKept (read_pixel_service (page_named d page) x y d r) (λ after. Done (after, d)) (λ _. a)
+service_keeps (ReadCell page) fonts d r block fits a is unset h = behind OutcomeKept (read_cell_service fonts (page_named d page) d r) (λ after.
+    Done (after, d)) (λ _. a)
+service_keeps (WriteCells cells) fonts d r block fits a is unset h = behind OutcomeKept (cell_run_plan fonts d (page_named d cells.page) cells) (λ _.
+    Done (r, d)) (λ _. a)
+service_keeps (WritePixel page x y colour) fonts d r block fits a is unset h = behind OutcomeKept (write_pixel_plan d (page_named d page) x y colour) (λ _.
+    Done (r, d)) (λ _. a)
+service_keeps (ReadPixel page x y) fonts d r block fits a is unset h = behind OutcomeKept (read_pixel_service (page_named d page) x y d r) (λ after.
+    Done (after, d)) (λ _. a)
 service_keeps (Teletype character colour) fonts d r block fits a is unset h =
-    behind_such AreData OutcomeKept (teletype_plan fonts d character colour) (λ after. Done (r, after)) (typed d a is unset fonts character colour (inside_near d (place_of d d.page) is.rows h)) (λ after k. k)
+    behind_such AreData OutcomeKept (teletype_plan fonts d character colour) (λ after. Done (r, after))
+    (typed d a is unset fonts character colour (inside_near d (place_of d d.page) is.rows h)) (λ after k. k)
 service_keeps ReadMode fonts d r block fits a is unset h = a
-service_keeps (Colours asked_for) fonts d r block fits a is unset h = behind OutcomeKept (colours_plan asked_for d.crtc_address r block) (λ after. Done (after, d)) (λ _. a)
+service_keeps (Colours asked_for) fonts d r block fits a is unset h = behind OutcomeKept (colours_plan asked_for d.crtc_address r block) (λ after.
+    Done (after, d)) (λ _. a)
 service_keeps ReadAdapter fonts d r block fits a is unset h = a
 service_keeps (WriteString s) fonts d r block fits a is unset h =
-    behind_such AreData OutcomeKept (string_plan fonts d (page_named d s.page) s block) (λ after. Done (r, after)) (string d a is unset fonts (page_named d s.page) s block (string_near d s (length block) is.rows h)) (λ after k. k)
+    behind_such AreData OutcomeKept (string_plan fonts d (page_named d s.page) s block) (λ after. Done (r, after))
+    (string d a is unset fonts (page_named d s.page) s block (string_near d s (length block) is.rows h)) (λ after k. k)
 service_keeps ReadDisplay fonts d r block fits a is unset h = a
 
 -- ---- calls
@@ -287,10 +331,12 @@ AnswerKept x = AreData x.1
 mode_is_set : (mode : ℕ) → (mode == 0) ≡ false → mode ≢ 0
 mode_is_set mode e f = grind (arith, nat_tests)
 
-in_mode_keeps : (asked_for : Service) (fonts : FontSet) (d : BiosData) (r : Regs) (block : List ℕ) → FitsWords asked_for → AreData d → Always AnswerKept (in_mode_plan asked_for fonts d r block)
+in_mode_keeps : (asked_for : Service) (fonts : FontSet) (d : BiosData) (r : Regs) (block : List ℕ) → FitsWords asked_for → AreData d →
+    Always AnswerKept (in_mode_plan asked_for fonts d r block)
 unfolding in_mode_plan unless
 in_mode_keeps asked_for fonts d r block fits a =
-    on_if AnswerKept (d.mode == 0) _ (unless (refusal_in_mode asked_for d (length block)) asked_for fonts d r block) (λ _. a) (λ e. by_refusal (mode_is_set d.mode e) (refusal_in_mode asked_for d (length block)) refl)
+    on_if AnswerKept (d.mode == 0) _ (unless (refusal_in_mode asked_for d (length block)) asked_for fonts d r block) (λ _. a) (λ e.
+    by_refusal (mode_is_set d.mode e) (refusal_in_mode asked_for d (length block)) refl)
   where
     by_refusal : d.mode ≢ 0 → (x : Option Refusal) → refusal_in_mode asked_for d (length block) ≡ x → Always AnswerKept (unless x asked_for fonts d r block)
     by_refusal unset (Some why) e = a
@@ -307,20 +353,26 @@ table_keeps asked_for d r a =
     by_refusal (Some why) = a
     by_refusal None = behind AnswerKept (table_plan asked_for d.crtc_address) (λ table. Done (answer_with table r d)) (λ _. a)
 
-set_mode_keeps : (x : Option ModeRow) (mode : ℕ) (keeps : Bool) (fonts : FontSet) (d : BiosData) (r : Regs) → mode_row mode ≡ x → AreData d → Always AnswerKept (set_mode_plan x mode keeps fonts d r)
+set_mode_keeps : (x : Option ModeRow) (mode : ℕ) (keeps : Bool) (fonts : FontSet) (d : BiosData) (r : Regs) → mode_row mode ≡ x → AreData d →
+    Always AnswerKept (set_mode_plan x mode keeps fonts d r)
 unfolding set_mode_plan
 set_mode_keeps None mode keeps fonts d r e a = a
-set_mode_keeps (Some row) mode keeps fonts d r e a = behind AnswerKept (mode_set_plan mode row keeps fonts) (λ _. Done (answer_of r (data_of_mode mode row))) (λ _. begun mode row e)
+set_mode_keeps (Some row) mode keeps fonts d r e a = behind AnswerKept (mode_set_plan mode row keeps fonts) (λ _. Done (answer_of r (data_of_mode mode row)))
+    (λ _. begun mode row e)
 
-load_keeps : (x : Option ModeRow) (load : GlyphLoad) (fonts : FontSet) (d : BiosData) (r : Regs) (block : List ℕ) → row_at d.mode load.height ≡ x → AreData d → Always AnswerKept (load_at x load fonts d r block)
+load_keeps : (x : Option ModeRow) (load : GlyphLoad) (fonts : FontSet) (d : BiosData) (r : Regs) (block : List ℕ) → row_at d.mode load.height ≡ x → AreData d →
+    Always AnswerKept (load_at x load fonts d r block)
 unfolding load_at
 load_keeps None load fonts d r block e a = a
-load_keeps (Some row) load fonts d r block e a = behind AnswerKept (load_plan fonts load block row) (λ _. Done (answer_of r (data_of_mode d.mode row))) (λ _. begun_at d.mode load.height row e)
+load_keeps (Some row) load fonts d r block e a = behind AnswerKept (load_plan fonts load block row) (λ _. Done (answer_of r (data_of_mode d.mode row))) (λ _.
+    begun_at d.mode load.height row e)
 
-load_in_mode_keeps : (load : GlyphLoad) (fonts : FontSet) (d : BiosData) (r : Regs) (block : List ℕ) → AreData d → Always AnswerKept (load_in_mode_plan load fonts d r block)
+load_in_mode_keeps : (load : GlyphLoad) (fonts : FontSet) (d : BiosData) (r : Regs) (block : List ℕ) → AreData d →
+    Always AnswerKept (load_in_mode_plan load fonts d r block)
 unfolding load_in_mode_plan load_unless
 load_in_mode_keeps load fonts d r block a =
-    on_if AnswerKept (d.mode == 0) _ (load_unless (load_refusal load d.mode (length block)) load fonts d r block) (λ _. a) (λ _. by_refusal (load_refusal load d.mode (length block)))
+    on_if AnswerKept (d.mode == 0) _ (load_unless (load_refusal load d.mode (length block)) load fonts d r block) (λ _. a) (λ _.
+    by_refusal (load_refusal load d.mode (length block)))
   where
     by_refusal : (x : Option Refusal) → Always AnswerKept (load_unless x load fonts d r block)
     by_refusal (Some why) = a
@@ -331,7 +383,8 @@ abbrev CallFits : Option Call → Type 0
 CallFits (Some (InMode asked_for)) = FitsWords asked_for
 CallFits call = Unit {0}
 
-asked_keeps : (call : Option Call) (fonts : FontSet) (d : BiosData) (r : Regs) (block : List ℕ) → CallFits call → AreData d → Always AnswerKept (call_plan call fonts d r block)
+asked_keeps : (call : Option Call) (fonts : FontSet) (d : BiosData) (r : Regs) (block : List ℕ) → CallFits call → AreData d →
+    Always AnswerKept (call_plan call fonts d r block)
 asked_keeps None fonts d r block fits a = a
 asked_keeps (Some (SetMode mode keeps)) fonts d r block fits a = set_mode_keeps (mode_row mode) mode keeps fonts d r refl a
 asked_keeps (Some (ReadTable asked_for)) fonts d r block fits a = table_keeps asked_for d r a
@@ -399,5 +452,6 @@ call_fits r l =
     glyphs_or_fits (Some load) x f = tt
 
 -- so a call keeps BIOS data valid, and their places words
-pub data_stay : (fonts : FontSet) (d : BiosData) (r : Regs) (block : List ℕ) (c : CardState) → r.dx < 65536 → AreData d → AreData (run card_meaning (service fonts d r block) c).1.1
+pub data_stay : (fonts : FontSet) (d : BiosData) (r : Regs) (block : List ℕ) (c : CardState) → r.dx < 65536 → AreData d →
+    AreData (run card_meaning (service fonts d r block) c).1.1
 data_stay fonts d r block c l a = always_runs AnswerKept card_meaning (service fonts d r block) c (asked_keeps (call_of r) fonts d r block (call_fits r l) a)

@@ -11,17 +11,20 @@ run_bind m (Write place v rest) f s = run_bind m rest f (m.write s place v).0
 run_bind m (Read place rest) f s = let r = m.read s place in run_bind m (rest (byte_of r.1)) f r.0
 
 -- the first of some turns, and then the others
-pub run_each : {S : Type 0} (m : Meaning S) (f : ℕ → Plan (Unit {0})) (i e : ℕ) (s : S) → i < e → run m (each f (e - i) i) s ≡ run m (each f (e - (i + 1)) (i + 1)) (run m (f i) s).0
+pub run_each : {S : Type 0} (m : Meaning S) (f : ℕ → Plan (Unit {0})) (i e : ℕ) (s : S) → i < e →
+    run m (each f (e - i) i) s ≡ run m (each f (e - (i + 1)) (i + 1)) (run m (f i) s).0
 run_each m f i e s h =
     let n : e - i ≡ suc (e - (i + 1)) = omega arith in
     ap (λ k. run m (each f k i) s) n ∙ run_bind m (f i) (λ _. each f (e - (i + 1)) (i + 1)) s
 
 -- a loop's step: what the turns from i on leave at s, those from i + 1 on leave at what turn i left
-pub next_turn : {S : Type 0} (m : Meaning S) (f : ℕ → Plan (Unit {0})) (i e : ℕ) (s t : S) (r : S × Unit {0}) → i < e → t ≡ (run m (f i) s).0 → run m (each f (e - i) i) s ≡ r → run m (each f (e - (i + 1)) (i + 1)) t ≡ r
+pub next_turn : {S : Type 0} (m : Meaning S) (f : ℕ → Plan (Unit {0})) (i e : ℕ) (s t : S) (r : S × Unit {0}) → i < e → t ≡ (run m (f i) s).0 →
+    run m (each f (e - i) i) s ≡ r → run m (each f (e - (i + 1)) (i + 1)) t ≡ r
 next_turn m f i e s t r h now before = ap (run m (each f (e - (i + 1)) (i + 1))) now ∙ sym (run_each m f i e s h) ∙ before
 
 -- a descending loop's step: what the turns below i leave at s, those below i - 1 leave at what turn i - 1 left
-pub next_down : {S : Type 0} (m : Meaning S) (f : ℕ → Plan (Unit {0})) (b i : ℕ) (s t : S) (r : S × Unit {0}) → b < i → t ≡ (run m (f (i - 1)) s).0 → run m (each_down f (i - b) b) s ≡ r → run m (each_down f (i - 1 - b) b) t ≡ r
+pub next_down : {S : Type 0} (m : Meaning S) (f : ℕ → Plan (Unit {0})) (b i : ℕ) (s t : S) (r : S × Unit {0}) → b < i → t ≡ (run m (f (i - 1)) s).0 →
+    run m (each_down f (i - b) b) s ≡ r → run m (each_down f (i - 1 - b) b) t ≡ r
 next_down m f b i s t r h now before =
     let n : i - b ≡ suc (i - 1 - b) = omega arith in
     let k : b + (i - 1 - b) ≡ i - 1 = omega arith in
@@ -31,7 +34,8 @@ next_down m f b i s t r h now before =
 
 -- a step of a loop that goes on with an answer: what the turns from i on leave and answer at s and x, those from i + 1 on do at
 -- what turn i left and answered
-pub next_answer : {S : Type 0} (m : Meaning S) (f : ℕ → ℕ → Plan ℕ) (i e : ℕ) (s t : S) (x y : ℕ) (r : S × ℕ) → i < e → (t, y) ≡ run m (f i x) s → run m (fold f (e - i) i x) s ≡ r → run m (fold f (e - (i + 1)) (i + 1) y) t ≡ r
+pub next_answer : {S : Type 0} (m : Meaning S) (f : ℕ → ℕ → Plan ℕ) (i e : ℕ) (s t : S) (x y : ℕ) (r : S × ℕ) → i < e → (t, y) ≡ run m (f i x) s →
+    run m (fold f (e - i) i x) s ≡ r → run m (fold f (e - (i + 1)) (i + 1) y) t ≡ r
 next_answer {S} m f i e s t x y r h now before =
     let n : e - i ≡ suc (e - (i + 1)) = omega arith in
     ap (λ (p : S × ℕ). run m (fold f (e - (i + 1)) (i + 1) p.1) p.0) now
@@ -39,7 +43,8 @@ next_answer {S} m f i e s t x y r h now before =
     ∙ before
 
 -- the first read, and then the others
-gather_more : {S : Type 0} (m : Meaning S) (f : ℕ → Plan ℕ) (i e : ℕ) (s t : S) (x : ℕ) → i < e → (t, x) ≡ run m (f i) s → run m (gather f (e - i) i) s ≡ (let r = run m (gather f (e - (i + 1)) (i + 1)) t in (r.0, x ∷ r.1))
+gather_more : {S : Type 0} (m : Meaning S) (f : ℕ → Plan ℕ) (i e : ℕ) (s t : S) (x : ℕ) → i < e → (t, x) ≡ run m (f i) s →
+    run m (gather f (e - i) i) s ≡ (let r = run m (gather f (e - (i + 1)) (i + 1)) t in (r.0, x ∷ r.1))
 gather_more {S} m f i e s t x h now =
     let n : e - i ≡ suc (e - (i + 1)) = omega arith in
     let g : Plan (List ℕ) = gather f (e - (i + 1)) (i + 1) in
@@ -53,7 +58,9 @@ abbrev pub with_front : {S : Type 0} → List ℕ → S × List ℕ → S × Lis
 with_front front r = (r.0, front ++ r.1)
 
 -- a step of a loop that reads into the places of a list
-pub next_read : {S : Type 0} (m : Meaning S) (f : ℕ → Plan ℕ) (i e : ℕ) (s t : S) (x : ℕ) (into : List ℕ) (r : S × List ℕ) → i < e → i < length into → (t, x) ≡ run m (f i) s → with_front (take i into) (run m (gather f (e - i) i) s) ≡ r → with_front (take (i + 1) (set into i x)) (run m (gather f (e - (i + 1)) (i + 1)) t) ≡ r
+pub next_read : {S : Type 0} (m : Meaning S) (f : ℕ → Plan ℕ) (i e : ℕ) (s t : S) (x : ℕ) (into : List ℕ) (r : S × List ℕ) → i < e → i < length into →
+    (t, x) ≡ run m (f i) s → with_front (take i into) (run m (gather f (e - i) i) s) ≡ r →
+    with_front (take (i + 1) (set into i x)) (run m (gather f (e - (i + 1)) (i + 1)) t) ≡ r
 next_read {S} m f i e s t x into r h l now before =
     let rest = run m (gather f (e - (i + 1)) (i + 1)) t in
     ap (λ xs. with_front xs rest) (take_more_set into i x l)
@@ -62,7 +69,8 @@ next_read {S} m f i e s t x into r h l now before =
     ∙ before
 
 -- the end of such a loop: the list is what was read
-pub all_read : {S : Type 0} (m : Meaning S) (f : ℕ → Plan ℕ) (i e : ℕ) (s : S) (into : List ℕ) (r : S × List ℕ) → e ≤ i → length into ≡ e → with_front (take i into) (run m (gather f (e - i) i) s) ≡ r → (s, into) ≡ r
+pub all_read : {S : Type 0} (m : Meaning S) (f : ℕ → Plan ℕ) (i e : ℕ) (s : S) (into : List ℕ) (r : S × List ℕ) → e ≤ i → length into ≡ e →
+    with_front (take i into) (run m (gather f (e - i) i) s) ≡ r → (s, into) ≡ r
 all_read {S} m f i e s into r h l before =
     let n : e - i ≡ 0 = omega arith in
     let all = take_all i into (omega arith) in

@@ -24,7 +24,8 @@ use Rattle.bios_services.specs.ModeSet.{mode_set_plan}
 use Rattle.bios_services.specs.GlyphLoads.{load_refusal, load_plan}
 use Rattle.bios_services.specs.Refusals.{refusal_in_mode, unknown_refusal}
 use Rattle.bios_services.specs.Tables.{table_plan, table_refusal}
-use Rattle.bios_services.specs.Service.{RefusedDoNothing, Answered, answer_with, call_plan, in_mode_plan, load_at, load_unless, load_in_mode_plan, plan_of, refuse, set_mode_plan, table_in_mode_plan, table_unless, unless}
+use Rattle.bios_services.specs.Service.{RefusedDoNothing, Answered, answer_with, call_plan, in_mode_plan, load_at, load_unless, load_in_mode_plan, plan_of}
+use Rattle.bios_services.specs.Service.{refuse, set_mode_plan, table_in_mode_plan, table_unless, unless}
 use Rattle.bios_services.proofs.PlanRuns.{run_bind}
 
 -- what a plan does where its answer is a refusal: nothing
@@ -43,54 +44,65 @@ answer_is_none {S} m p table regs after d s e is =
     let wrong = ap (λ (x : S × Answered). x.1.0) (sym whole) ∙ is in
     absurd (cc)
 
-set_mode_does_nothing : {S : Type 0} (m : Meaning S) (row : Option ModeRow) (mode : ℕ) (keeps : Bool) (fonts : FontSet) (d : BiosData) (r : Regs) → DoesNothing m (set_mode_plan row mode keeps fonts d r) d
+set_mode_does_nothing : {S : Type 0} (m : Meaning S) (row : Option ModeRow) (mode : ℕ) (keeps : Bool) (fonts : FontSet) (d : BiosData) (r : Regs) →
+    DoesNothing m (set_mode_plan row mode keeps fonts d r) d
 unfolding set_mode_plan
 set_mode_does_nothing m None mode keeps fonts d r = refusal_does_nothing m BadMode d
-set_mode_does_nothing m (Some row) mode keeps fonts d r = answer_is_none m (mode_set_plan mode row keeps fonts) (λ _. Empty) (λ _. r) (λ _. data_of_mode mode row) d
+set_mode_does_nothing m (Some row) mode keeps fonts d r = answer_is_none m (mode_set_plan mode row keeps fonts) (λ _. Empty) (λ _. r) (λ _.
+    data_of_mode mode row) d
 
-unless_does_nothing : {S : Type 0} (m : Meaning S) (why : Option Refusal) (asked_for : Service) (fonts : FontSet) (d : BiosData) (r : Regs) (block : List ℕ) → DoesNothing m (unless why asked_for fonts d r block) d
+unless_does_nothing : {S : Type 0} (m : Meaning S) (why : Option Refusal) (asked_for : Service) (fonts : FontSet) (d : BiosData) (r : Regs) (block : List ℕ) →
+    DoesNothing m (unless why asked_for fonts d r block) d
 unfolding unless
 unless_does_nothing m (Some why) asked_for fonts d r block = refusal_does_nothing m why d
 unless_does_nothing m None asked_for fonts d r block = answer_is_none m (plan_of asked_for fonts d r block) (λ _. Empty) (λ o. o.0) (λ o. o.1) d
 
-if_does_nothing : {S : Type 0} (m : Meaning S) (unset : Bool) (p : Plan Answered) (d : BiosData) → DoesNothing m p d → DoesNothing m (if unset then refuse NoMode d else p) d
+if_does_nothing : {S : Type 0} (m : Meaning S) (unset : Bool) (p : Plan Answered) (d : BiosData) → DoesNothing m p d →
+    DoesNothing m (if unset then refuse NoMode d else p) d
 if_does_nothing m true p d h = refusal_does_nothing m NoMode d
 if_does_nothing m false p d h = h
 
-in_mode_does_nothing : {S : Type 0} (m : Meaning S) (asked_for : Service) (fonts : FontSet) (d : BiosData) (r : Regs) (block : List ℕ) → DoesNothing m (in_mode_plan asked_for fonts d r block) d
+in_mode_does_nothing : {S : Type 0} (m : Meaning S) (asked_for : Service) (fonts : FontSet) (d : BiosData) (r : Regs) (block : List ℕ) →
+    DoesNothing m (in_mode_plan asked_for fonts d r block) d
 unfolding in_mode_plan
 in_mode_does_nothing m asked_for fonts d r block =
     let why = refusal_in_mode asked_for d (length block) in
     if_does_nothing m (d.mode == 0) (unless why asked_for fonts d r block) d (unless_does_nothing m why asked_for fonts d r block)
 
-table_does_nothing : {S : Type 0} (m : Meaning S) (why : Option Refusal) (asked_for : TableService) (d : BiosData) (r : Regs) → DoesNothing m (table_unless why asked_for d r) d
+table_does_nothing : {S : Type 0} (m : Meaning S) (why : Option Refusal) (asked_for : TableService) (d : BiosData) (r : Regs) →
+    DoesNothing m (table_unless why asked_for d r) d
 unfolding table_unless
 table_does_nothing m (Some why) asked_for d r = refusal_does_nothing m why d
 table_does_nothing m None asked_for d r = answer_is_none m (table_plan asked_for d.crtc_address) (λ table. table) (λ _. r) (λ _. d) d
 
-table_in_mode_does_nothing : {S : Type 0} (m : Meaning S) (asked_for : TableService) (d : BiosData) (r : Regs) → DoesNothing m (table_in_mode_plan asked_for d r) d
+table_in_mode_does_nothing : {S : Type 0} (m : Meaning S) (asked_for : TableService) (d : BiosData) (r : Regs) →
+    DoesNothing m (table_in_mode_plan asked_for d r) d
 unfolding table_in_mode_plan
 table_in_mode_does_nothing m asked_for d r =
     let why = table_refusal asked_for in
     if_does_nothing m (d.mode == 0) (table_unless why asked_for d r) d (table_does_nothing m why asked_for d r)
 
-load_does_nothing : {S : Type 0} (m : Meaning S) (row : Option ModeRow) (load : GlyphLoad) (fonts : FontSet) (d : BiosData) (r : Regs) (block : List ℕ) → DoesNothing m (load_at row load fonts d r block) d
+load_does_nothing : {S : Type 0} (m : Meaning S) (row : Option ModeRow) (load : GlyphLoad) (fonts : FontSet) (d : BiosData) (r : Regs) (block : List ℕ) →
+    DoesNothing m (load_at row load fonts d r block) d
 unfolding load_at
 load_does_nothing m None load fonts d r block = refusal_does_nothing m BadHeight d
 load_does_nothing m (Some row) load fonts d r block = answer_is_none m (load_plan fonts load block row) (λ _. Empty) (λ _. r) (λ _. data_of_mode d.mode row) d
 
-load_unless_does_nothing : {S : Type 0} (m : Meaning S) (why : Option Refusal) (load : GlyphLoad) (fonts : FontSet) (d : BiosData) (r : Regs) (block : List ℕ) → DoesNothing m (load_unless why load fonts d r block) d
+load_unless_does_nothing : {S : Type 0} (m : Meaning S) (why : Option Refusal) (load : GlyphLoad) (fonts : FontSet) (d : BiosData) (r : Regs) (block : List ℕ) →
+    DoesNothing m (load_unless why load fonts d r block) d
 unfolding load_unless
 load_unless_does_nothing m (Some why) load fonts d r block = refusal_does_nothing m why d
 load_unless_does_nothing m None load fonts d r block = load_does_nothing m (row_at d.mode load.height) load fonts d r block
 
-load_in_mode_does_nothing : {S : Type 0} (m : Meaning S) (load : GlyphLoad) (fonts : FontSet) (d : BiosData) (r : Regs) (block : List ℕ) → DoesNothing m (load_in_mode_plan load fonts d r block) d
+load_in_mode_does_nothing : {S : Type 0} (m : Meaning S) (load : GlyphLoad) (fonts : FontSet) (d : BiosData) (r : Regs) (block : List ℕ) →
+    DoesNothing m (load_in_mode_plan load fonts d r block) d
 unfolding load_in_mode_plan
 load_in_mode_does_nothing m load fonts d r block =
     let why = load_refusal load d.mode (length block) in
     if_does_nothing m (d.mode == 0) (load_unless why load fonts d r block) d (load_unless_does_nothing m why load fonts d r block)
 
-asked_does_nothing : {S : Type 0} (m : Meaning S) (call : Option Call) (fonts : FontSet) (d : BiosData) (r : Regs) (block : List ℕ) → DoesNothing m (call_plan call fonts d r block) d
+asked_does_nothing : {S : Type 0} (m : Meaning S) (call : Option Call) (fonts : FontSet) (d : BiosData) (r : Regs) (block : List ℕ) →
+    DoesNothing m (call_plan call fonts d r block) d
 asked_does_nothing m None fonts d r block = refusal_does_nothing m (unknown_refusal d) d
 asked_does_nothing m (Some (SetMode mode keeps)) fonts d r block = set_mode_does_nothing m (mode_row mode) mode keeps fonts d r
 asked_does_nothing m (Some (ReadTable asked_for)) fonts d r block = table_in_mode_does_nothing m asked_for d r

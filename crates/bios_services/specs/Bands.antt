@@ -1,5 +1,6 @@
 -- Some columns of a page, as bytes of its lines: rows that are copied, and rows that are filled.
--- From the IBM PS/2 and PC BIOS Interface Technical Reference, "Interrupt 10H - Video", (AH) = 06H and 07H.
+-- From the IBM PS/2 and PC BIOS Interface Technical Reference, "Interrupt 10H - Video", (AH) = 06H
+-- and 07H.
 use Rattle.std.specs.Prelude.{ℕ, ◌+◌, ◌-◌, ◌*◌, ◌%◌, ◌^◌, ◌<◌, ◌≤◌, ◌==◌, if◌then◌else◌, min}
 use Rattle.bios_modes.specs.Bda.{BiosData}
 use Rattle.bios_modes.specs.declared.kind.Kind.{Kind}
@@ -11,13 +12,16 @@ use Rattle.bios_services.specs.Cycles.{sequencer, graphics}
 use Rattle.bios_modes.specs.Kinds.{kind_of}
 use Rattle.bios_services.specs.Kinds.{column_bytes, row_lines}
 use Rattle.bios_services.specs.Cells.{page_address}
-use Rattle.bios_services.specs.VideoRegisters.{map_mask, all_planes, graphics_mode, copy_latches, plain_access, all_bits}
+use Rattle.bios_services.specs.VideoRegisters.{map_mask, all_planes, graphics_mode, copy_latches}
+use Rattle.bios_services.specs.VideoRegisters.{plain_access, all_bits}
 
 -- the address of a byte of a line of a row of characters
 abbrev pub address_in : Band → ℕ → ℕ → ℕ → ℕ
-address_in band row line byte = band.start + band.pitch * (band.lines * row + line) + band.left + byte
+address_in band row line byte = band.start + band.pitch * (band.lines * row + line) + band.left
+    + byte
 
--- a band whose bytes the adapter may have: a column of dots has eight, there are 80 columns, and a corner is a byte
+-- a band whose bytes the adapter may have: a column of dots has eight, there are 80 columns, and a
+-- corner is a byte
 pub record IsBand (band : Band) : Type 0 where
   pub start : band.start < 2 ^ 20
   pub pitch : band.pitch ≤ 8 * 80
@@ -40,7 +44,8 @@ band_of d page left right =
 
 -- a line of a row is copied to another row, byte by byte
 unfoldable pub copy_line : Band → ℕ → ℕ → ℕ → Plan (Unit {0})
-copy_line band from to line = each (λ i. move (address_in band from line i) (address_in band to line i)) band.width 0
+copy_line band from to line = each (λ i. move (address_in band from line i)
+    (address_in band to line i)) band.width 0
 
 -- a row is copied to another, line by line
 unfoldable pub copy_row : Band → ℕ → ℕ → Plan (Unit {0})
@@ -67,7 +72,8 @@ filling_byte filling i = if i % 2 == 0 then filling.even else filling.odd
 
 -- a line of a row is filled, a row is, and count rows from row `top` on are
 unfoldable pub fill_line : Band → Filling → ℕ → ℕ → Plan (Unit {0})
-fill_line band filling row line = each (λ i. put (address_in band row line i) (filling_byte filling i)) band.width 0
+fill_line band filling row line = each (λ i. put (address_in band row line i)
+    (filling_byte filling i)) band.width 0
 
 unfoldable pub fill_row : Band → Filling → ℕ → Plan (Unit {0})
 fill_row band filling row = each (fill_line band filling row) band.lines 0
@@ -81,7 +87,8 @@ access_plan Text mode = Done tt
 access_plan Planar mode = graphics graphics_mode mode
 access_plan Packed mode = Done tt
 
--- count rows from row `top` on get one attribute, or one colour, which goes to the planes of its bits
+-- count rows from row `top` on get one attribute, or one colour, which goes to the planes of its
+-- bits
 unfoldable pub fill_plan : Kind → Band → ℕ → ℕ → ℕ → Plan (Unit {0})
 fill_plan Text band colour top count = fill_rows band (blank colour) top count
 fill_plan Planar band colour top count = do
@@ -91,7 +98,8 @@ fill_plan Planar band colour top count = do
   sequencer map_mask all_planes
 fill_plan Packed band colour top count = fill_rows band (plain colour) top count
 
--- height rows from row `top` on go up by n, and the last n are filled; planes are copied through the latches
+-- height rows from row `top` on go up by n, and the last n are filled; planes are copied through
+-- the latches
 unfoldable pub up_plan : Band → ℕ → ℕ → ℕ → ℕ → Plan (Unit {0})
 up_plan band top height n colour = do
   access_plan band.kind copy_latches

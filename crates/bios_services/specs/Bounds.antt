@@ -40,7 +40,8 @@ pub record IsSet (d : BiosData) : Type 0 where
   pub start : d.start ≡ d.size * d.page
   pub memory : d.size * pages_of d ≤ 65536
 
--- what a service in a mode leaves of the BIOS data: the mode's constants stay, and the page is one of its pages
+-- what a service in a mode leaves of the BIOS data: the mode's constants stay, and the page is one
+-- of its pages
 pub record StaysInMode (old new : BiosData) : Type 0 where
   pub mode : new.mode ≡ old.mode
   pub columns : new.columns ≡ old.columns

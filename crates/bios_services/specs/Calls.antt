@@ -1,24 +1,45 @@
 -- Which service the registers ask for.
--- From the IBM PS/2 and PC BIOS Interface Technical Reference, "Interrupt 10H - Video": AH has the function.
-use Rattle.std.specs.Prelude.{true, false, ◌%◌, ◌==◌, ◌&&◌, nat_lt, nat_le, if◌then◌else◌, Option, Some, None}
+-- From the IBM PS/2 and PC BIOS Interface Technical Reference, "Interrupt 10H - Video": AH has the
+-- function.
+use Rattle.std.specs.Prelude.{true, false, ◌%◌, ◌==◌, ◌&&◌, nat_lt, nat_le, if◌then◌else◌, Option}
+use Rattle.std.specs.Prelude.{Some, None}
 use Rattle.bios_services.specs.declared.regs.Regs.{Regs}
 use Rattle.bios_services.specs.declared.scroll.Scroll.{Scroll}
 use Rattle.bios_services.specs.declared.colours.ColourService.{ColourService}
-use Rattle.bios_services.specs.declared.colours.ColourService.TheVariants.{SetRegister, SetOverscan, SetPalette, SetBlinking, ReadRegister, ReadOverscan, SetEntry, SetEntries, ReadEntry, SetMask, ReadMask}
+use Rattle.bios_services.specs.declared.colours.ColourService.TheVariants.{SetRegister, SetOverscan}
+use Rattle.bios_services.specs.declared.colours.ColourService.TheVariants.{SetPalette, SetBlinking}
+use Rattle.bios_services.specs.declared.colours.ColourService.TheVariants.{ReadRegister}
+use Rattle.bios_services.specs.declared.colours.ColourService.TheVariants.{ReadOverscan, SetEntry}
+use Rattle.bios_services.specs.declared.colours.ColourService.TheVariants.{SetEntries, ReadEntry}
+use Rattle.bios_services.specs.declared.colours.ColourService.TheVariants.{SetMask, ReadMask}
 use Rattle.bios_services.specs.declared.tables.TableService.TheVariants.{ReadPalette, ReadEntries}
 use Rattle.bios_services.specs.declared.glyph_load.GlyphLoad.{GlyphLoad}
 use Rattle.bios_services.specs.declared.call.Call.{Call}
-use Rattle.bios_services.specs.declared.call.Call.TheVariants.{SetMode, ReadTable, LoadGlyphs, InMode}
+use Rattle.bios_services.specs.declared.call.Call.TheVariants.{SetMode, ReadTable, LoadGlyphs}
+use Rattle.bios_services.specs.declared.call.Call.TheVariants.{InMode}
 use Rattle.bios_services.specs.declared.call.Service.{Service}
-use Rattle.bios_services.specs.declared.call.Service.TheVariants.{SetCursorType, SetCursor, ReadCursor, SelectPage, ScrollUp, ScrollDown, ReadCell, WriteCells, WritePixel, ReadPixel, Teletype, ReadMode, Colours, ReadAdapter, WriteString, ReadDisplay}
+use Rattle.bios_services.specs.declared.call.Service.TheVariants.{SetCursorType, SetCursor}
+use Rattle.bios_services.specs.declared.call.Service.TheVariants.{ReadCursor, SelectPage, ScrollUp}
+use Rattle.bios_services.specs.declared.call.Service.TheVariants.{ScrollDown, ReadCell, WriteCells}
+use Rattle.bios_services.specs.declared.call.Service.TheVariants.{WritePixel, ReadPixel, Teletype}
+use Rattle.bios_services.specs.declared.call.Service.TheVariants.{ReadMode, Colours, ReadAdapter}
+use Rattle.bios_services.specs.declared.call.Service.TheVariants.{WriteString, ReadDisplay}
 use Rattle.bios_services.specs.Registers.{high, low}
 use Rattle.bios_services.specs.CellRuns.{cell_run_of}
 use Rattle.bios_services.specs.Strings.{string_of}
 use Rattle.bios_services.specs.GlyphLoads.{glyph_load_of}
 
--- the window of functions 06 and 07: AL rows, BH the attribute or colour of new rows, CX the upper left corner, DX the lower right one
+-- the window of functions 06 and 07: AL rows, BH the attribute or colour of new rows, CX the upper
+-- left corner, DX the lower right one
 abbrev pub scroll_of : Regs → Scroll
-scroll_of r = record { lines = low r.ax; fill = high r.bx; top = high r.cx; left = low r.cx; bottom = high r.dx; right = low r.dx }
+scroll_of r = record {
+  lines = low r.ax;
+  fill = high r.bx;
+  top = high r.cx;
+  left = low r.cx;
+  bottom = high r.dx;
+  right = low r.dx;
+}
 
 -- the service that needs a mode, by its function
 abbrev pub service_of : Regs → Option Service
@@ -78,7 +99,8 @@ abbrev pub glyphs_or : Option GlyphLoad → Option Call → Option Call
 glyphs_or None call = call
 glyphs_or (Some load) call = Some (LoadGlyphs load)
 
--- what a call asks for; function 00 sets the mode of the low seven bits of AL, and bit 7 keeps the memory
+-- what a call asks for; function 00 sets the mode of the low seven bits of AL, and bit 7 keeps the
+-- memory
 abbrev pub call_of : Regs → Option Call
 call_of r =
     if high r.ax == 0x00 then Some (SetMode (low r.ax % 128) (nat_le 128 (low r.ax)))

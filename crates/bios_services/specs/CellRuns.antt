@@ -1,5 +1,6 @@
 -- Writing a character to some cells: functions 09 and 0A.
--- From the IBM PS/2 and PC BIOS Interface Technical Reference, "Interrupt 10H - Video", (AH) = 09H and 0AH.
+-- From the IBM PS/2 and PC BIOS Interface Technical Reference, "Interrupt 10H - Video", (AH) = 09H
+-- and 0AH.
 use Rattle.std.specs.Prelude.{ℕ, Bool}
 use Rattle.bios_modes.specs.Bda.{BiosData}
 use Rattle.bios_modes.specs.Fonts.{FontSet}
@@ -10,8 +11,8 @@ use Rattle.bios_services.specs.Registers.{high, low}
 use Rattle.bios_services.specs.Cursor.{cursor_cell}
 use Rattle.bios_services.specs.Drawing.{characters_plan}
 
--- the cells that the registers name: BH the page, AL the character, CX how many; BL is the colour, which text takes as attribute
--- or does not
+-- the cells that the registers name: BH the page, AL the character, CX how many; BL is the colour,
+-- which text takes as attribute or does not
 abbrev pub cell_run_of : Regs → Bool → CellRun
 cell_run_of r is_attribute = record {
   page = high r.bx;
@@ -22,4 +23,5 @@ cell_run_of r is_attribute = record {
 
 -- the character goes to each of these cells, from the cursor of a page on
 abbrev pub cell_run_plan : FontSet → BiosData → ℕ → CellRun → Plan (Unit {0})
-cell_run_plan fonts d page cells = characters_plan fonts d page (cursor_cell d page) cells.character cells.colouring cells.count
+cell_run_plan fonts d page cells = characters_plan fonts d page (cursor_cell d page) cells.character
+    cells.colouring cells.count

@@ -1,5 +1,6 @@
 -- Cells of characters: where they stand in memory, and how text is read and written.
--- From the IBM PS/2 and PC BIOS Interface Technical Reference, "Interrupt 10H - Video", (AH) = 08H to 0AH.
+-- From the IBM PS/2 and PC BIOS Interface Technical Reference, "Interrupt 10H - Video", (AH) = 08H
+-- to 0AH.
 use Rattle.std.specs.Prelude.{ℕ, ◌+◌, ◌*◌, if◌then◌else◌, Option, Some, None}
 use Rattle.bios_modes.specs.declared.modes.ModeRow.{ModeRow}
 use Rattle.bios_modes.specs.Bda.{BiosData}
@@ -7,7 +8,8 @@ use Rattle.bios_modes.specs.Modes.{mode_row}
 use Rattle.bios_services.specs.declared.colouring.Colouring.{Colouring}
 use Rattle.bios_services.specs.Plan.{Plan, Done, ◌>>=◌, ◌>>◌, put, get}
 
--- where the pages of a mode begin, by its row; those of a number that is no mode's, where pages of graphics do
+-- where the pages of a mode begin, by its row; those of a number that is no mode's, where pages of
+-- graphics do
 abbrev pub base_in : Option ModeRow → ℕ
 base_in None = 0xA0000
 base_in (Some row) = row.base
@@ -36,7 +38,8 @@ read_cell_plan address = do
 
 -- a colour, where it is to be the cell's attribute
 abbrev pub attribute_plan : ℕ → Colouring → Plan (Unit {0})
-attribute_plan address colouring = if colouring.is_attribute then put address colouring.colour else Done tt
+attribute_plan address colouring = if colouring.is_attribute then put address colouring.colour
+    else Done tt
 
 -- a character in a cell of text, and then its attribute, where it gets one
 unfoldable pub write_cell_plan : ℕ → ℕ → Colouring → Plan (Unit {0})

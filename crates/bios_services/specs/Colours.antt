@@ -1,15 +1,21 @@
 -- Function 10: why a subfunction is refused, and what it does and answers in registers.
--- From the IBM PS/2 and PC BIOS Interface Technical Reference, "Interrupt 10H - Video", (AH) = 10H; the refusals are this adapter's
--- choice.
+-- From the IBM PS/2 and PC BIOS Interface Technical Reference, "Interrupt 10H - Video", (AH) = 10H;
+-- the refusals are this adapter's choice.
 use Rattle.std.specs.Prelude.{ℕ, Bool, ◌+◌, ◌*◌, ◌&&◌, nat_lt, nat_le, Option, None, List}
 use Rattle.vga_bits.specs.declared.refusal.Refusal.{Refusal}
 use Rattle.vga_bits.specs.declared.refusal.Refusal.TheVariants.{BadRegister}
 use Rattle.bios_services.specs.declared.regs.Regs.{Regs}
 use Rattle.bios_services.specs.declared.colours.ColourService.{ColourService}
-use Rattle.bios_services.specs.declared.colours.ColourService.TheVariants.{SetRegister, SetOverscan, SetPalette, SetBlinking, ReadRegister, ReadOverscan, SetEntry, SetEntries, ReadEntry, SetMask, ReadMask}
+use Rattle.bios_services.specs.declared.colours.ColourService.TheVariants.{SetRegister, SetOverscan}
+use Rattle.bios_services.specs.declared.colours.ColourService.TheVariants.{SetPalette, SetBlinking}
+use Rattle.bios_services.specs.declared.colours.ColourService.TheVariants.{ReadRegister}
+use Rattle.bios_services.specs.declared.colours.ColourService.TheVariants.{ReadOverscan, SetEntry}
+use Rattle.bios_services.specs.declared.colours.ColourService.TheVariants.{SetEntries, ReadEntry}
+use Rattle.bios_services.specs.declared.colours.ColourService.TheVariants.{SetMask, ReadMask}
 use Rattle.bios_services.specs.Plan.{Plan, Done, ◌>>=◌, ◌>>◌, out, inp}
 use Rattle.bios_services.specs.Registers.{with_high, with_low}
-use Rattle.bios_services.specs.Palette.{set_register_plan, set_palette_plan, set_blinking_plan, read_register_plan}
+use Rattle.bios_services.specs.Palette.{set_register_plan, set_palette_plan, set_blinking_plan}
+use Rattle.bios_services.specs.Palette.{read_register_plan}
 use Rattle.bios_services.specs.Dac.{set_entry_plan, set_entries_plan}
 use Rattle.bios_services.specs.Reasons.{◌or◌, refuse_unless, wrong_block}
 use Rattle.bios_services.specs.VideoRegisters.{dac_mask, dac_read_index, dac_data}
@@ -64,15 +70,18 @@ read_mask_in_bl r = do
   mask ← inp dac_mask
   Done (record r { bx = with_low r.bx mask })
 
--- what a subfunction does and answers that is not refused; the CRT controller's index is at this port
+-- what a subfunction does and answers that is not refused; the CRT controller's index is at this
+-- port
 unfoldable pub colours_plan : ColourService → ℕ → Regs → List ℕ → Plan Regs
-colours_plan (SetRegister register value) port r block = set_register_plan port register value >> Done r
+colours_plan (SetRegister register value) port r block = set_register_plan port register value
+    >> Done r
 colours_plan (SetOverscan value) port r block = set_register_plan port 0x11 value >> Done r
 colours_plan SetPalette port r block = set_palette_plan port block >> Done r
 colours_plan (SetBlinking blinking) port r block = set_blinking_plan port blinking >> Done r
 colours_plan (ReadRegister register) port r block = read_register_in_bh port register r
 colours_plan ReadOverscan port r block = read_register_in_bh port 0x11 r
-colours_plan (SetEntry entry red green blue) port r block = set_entry_plan entry red green blue >> Done r
+colours_plan (SetEntry entry red green blue) port r block = set_entry_plan entry red green blue
+    >> Done r
 colours_plan (SetEntries first count) port r block = set_entries_plan first block >> Done r
 colours_plan (ReadEntry entry) port r block = read_entry_plan entry r
 colours_plan (SetMask mask) port r block = out dac_mask mask >> Done r

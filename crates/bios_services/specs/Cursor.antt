@@ -1,11 +1,13 @@
 -- The cursor and the pages: where a cursor stands, and the registers that show it.
--- From the IBM PS/2 and PC BIOS Interface Technical Reference, "Interrupt 10H - Video", (AH) = 01H, 02H, 03H and 05H.
+-- From the IBM PS/2 and PC BIOS Interface Technical Reference, "Interrupt 10H - Video", (AH) = 01H,
+-- 02H, 03H and 05H.
 use Rattle.std.specs.Prelude.{ℕ, ◌+◌, ◌*◌, ◌/◌, ◌%◌, ◌==◌, if◌then◌else◌, slice_index, slice_set}
 use Rattle.bios_modes.specs.Bda.{BiosData}
 use Rattle.bios_services.specs.Plan.{Plan, Done, ◌>>◌}
 use Rattle.bios_services.specs.Cycles.{crtc}
 use Rattle.bios_modes.specs.Kinds.{is_text}
-use Rattle.bios_services.specs.VideoRegisters.{cursor_start, cursor_end, start_address_high, cursor_address_high}
+use Rattle.bios_services.specs.VideoRegisters.{cursor_start, cursor_end, start_address_high}
+use Rattle.bios_services.specs.VideoRegisters.{cursor_address_high}
 
 -- the row and the column of a place, its high and its low byte
 abbrev pub row_of : ℕ → ℕ
@@ -39,7 +41,8 @@ cursor_address d page = d.size * page / 2 + cell_number d (place_of d page)
 -- the cursor is shown where it stands, in text on the active page; otherwise nothing is done
 unfoldable pub cursor_plan : BiosData → ℕ → Plan (Unit {0})
 cursor_plan d page =
-    if is_text d.mode then (if page == d.page then word_plan d.crtc_address cursor_address_high (cursor_address d page) else Done tt) else Done tt
+    if is_text d.mode then (if page == d.page then word_plan d.crtc_address cursor_address_high
+    (cursor_address d page) else Done tt) else Done tt
 
 -- the cursor of a page at another place
 abbrev pub with_place : BiosData → ℕ → ℕ → BiosData
@@ -59,7 +62,8 @@ move_cursor_plan d page place = do
   cursor_plan (with_place d page place) page
   Done (with_place d page place)
 
--- the scan lines from which the cursor is drawn and to which it is, the high and the low byte of its type
+-- the scan lines from which the cursor is drawn and to which it is, the high and the low byte of
+-- its type
 unfoldable pub cursor_type_plan : BiosData → ℕ → Plan BiosData
 cursor_type_plan d cursor_type = do
   crtc d.crtc_address cursor_start (cursor_type / 256)

@@ -1,8 +1,10 @@
 -- The cycles that services are made of: registers behind an index, and the palette's source.
--- From the IBM PS/2 Hardware Interface Technical Reference, Video Subsystems, "Video Subsystem Registers".
+-- From the IBM PS/2 Hardware Interface Technical Reference, Video Subsystems, "Video Subsystem
+-- Registers".
 use Rattle.std.specs.Prelude.{ℕ, ◌+◌, List, length, slice_index}
 use Rattle.bios_services.specs.Plan.{Plan, Done, ◌>>◌, out, inp, each}
-use Rattle.bios_services.specs.VideoRegisters.{attribute_port, sequencer_port, graphics_port, palette_shown}
+use Rattle.bios_services.specs.VideoRegisters.{attribute_port, sequencer_port, graphics_port}
+use Rattle.bios_services.specs.VideoRegisters.{palette_shown}
 
 -- the register i behind an index port, whose data port is the next
 abbrev pub indexed : ℕ → ℕ → ℕ → Plan (Unit {0})
@@ -34,8 +36,8 @@ group port values = each (λ i. indexed port i (slice_index values i)) (length v
 unfoldable pub attribute_group : List ℕ → Plan (Unit {0})
 attribute_group values = each (λ i. attribute i (slice_index values i)) (length values) 0
 
--- the read of input status 1 after which the next write to the attribute controller is an index; the CRT controller's index
--- is at this port
+-- the read of input status 1 after which the next write to the attribute controller is an index;
+-- the CRT controller's index is at this port
 abbrev pub expect_index : ℕ → Plan ℕ
 expect_index port = inp (port + 6)
 

@@ -1,6 +1,6 @@
 -- Characters at cells of a page in any mode.
--- From the IBM PS/2 and PC BIOS Interface Technical Reference, "Interrupt 10H - Video", (AH) = 09H and 0AH; the order of the cycles
--- is this adapter's choice.
+-- From the IBM PS/2 and PC BIOS Interface Technical Reference, "Interrupt 10H - Video", (AH) = 09H
+-- and 0AH; the order of the cycles is this adapter's choice.
 use Rattle.std.specs.Prelude.{ℕ, ◌+◌, ◌-◌, ◌/◌, ◌%◌, if◌then◌else◌}
 use Rattle.vga_bits.specs.Bits.{is_set}
 use Rattle.bios_modes.specs.Bda.{BiosData}
@@ -26,7 +26,8 @@ cell_row d q = q / d.columns
 
 -- a glyph in a cell of planes, line by line
 unfoldable pub put_glyph : Band → ℕ → FontSet → ℕ → Plan (Unit {0})
-put_glyph cell row fonts character = each (λ r. put (address_in cell row r 0) (glyph_line fonts cell.lines character r)) cell.lines 0
+put_glyph cell row fonts character = each (λ r. put (address_in cell row r 0)
+    (glyph_line fonts cell.lines character r)) cell.lines 0
 
 -- the same where each line is read first, so that the latches hold what it is combined with
 abbrev pub put_over : ℕ → ℕ → Plan (Unit {0})
@@ -35,7 +36,8 @@ put_over address dots = do
   put address dots
 
 unfoldable pub put_glyph_over : Band → ℕ → FontSet → ℕ → Plan (Unit {0})
-put_glyph_over cell row fonts character = each (λ r. put_over (address_in cell row r 0) (glyph_line fonts cell.lines character r)) cell.lines 0
+put_glyph_over cell row fonts character = each (λ r.
+    put_over (address_in cell row r 0) (glyph_line fonts cell.lines character r)) cell.lines 0
 
 -- a character in 16 colours: the cell is blanked, and the planes of the colour get the glyph
 unfoldable pub plain_plan : Band → ℕ → FontSet → ℕ → ℕ → Plan (Unit {0})
@@ -57,7 +59,8 @@ xor_plan cell row fonts character colour = do
 -- a character in 16 colours; bit 7 of the colour asks for XOR
 unfoldable pub planar_plan : Band → ℕ → FontSet → ℕ → ℕ → Plan (Unit {0})
 planar_plan cell row fonts character colour =
-    if is_set colour 7 then xor_plan cell row fonts character colour else plain_plan cell row fonts character colour
+    if is_set colour 7 then xor_plan cell row fonts character colour
+    else plain_plan cell row fonts character colour
 
 -- dot i of a line of a glyph in 256 colours
 abbrev pub dot_of : ℕ → ℕ → ℕ → ℕ
@@ -65,20 +68,27 @@ dot_of dots colour i = if is_set dots (7 - i) then colour else 0
 
 -- a line of a glyph in 256 colours, dot by dot, and a character, line by line
 unfoldable pub put_dots : Band → ℕ → ℕ → ℕ → ℕ → Plan (Unit {0})
-put_dots cell row line dots colour = each (λ i. put (address_in cell row line i) (dot_of dots colour i)) 8 0
+put_dots cell row line dots colour = each (λ i. put (address_in cell row line i)
+    (dot_of dots colour i)) 8 0
 
 unfoldable pub packed_plan : Band → ℕ → FontSet → ℕ → ℕ → Plan (Unit {0})
-packed_plan cell row fonts character colour = each (λ r. put_dots cell row r (glyph_line fonts cell.lines character r) colour) cell.lines 0
+packed_plan cell row fonts character colour = each (λ r.
+    put_dots cell row r (glyph_line fonts cell.lines character r) colour) cell.lines 0
 
 -- a character at cell q of a page, by how the mode uses the memory
 unfoldable pub character_by : Kind → FontSet → BiosData → ℕ → ℕ → ℕ → Colouring → Plan (Unit {0})
-character_by Text fonts d page q character colouring = write_cell_plan (cell_address d page q) character colouring
-character_by Planar fonts d page q character colouring = planar_plan (cell_band d page q) (cell_row d q) fonts character colouring.colour
-character_by Packed fonts d page q character colouring = packed_plan (cell_band d page q) (cell_row d q) fonts character colouring.colour
+character_by Text fonts d page q character colouring =
+    write_cell_plan (cell_address d page q) character colouring
+character_by Planar fonts d page q character colouring =
+    planar_plan (cell_band d page q) (cell_row d q) fonts character colouring.colour
+character_by Packed fonts d page q character colouring =
+    packed_plan (cell_band d page q) (cell_row d q) fonts character colouring.colour
 
 abbrev pub character_plan : FontSet → BiosData → ℕ → ℕ → ℕ → Colouring → Plan (Unit {0})
-character_plan fonts d page q character colouring = character_by (kind_of d.mode) fonts d page q character colouring
+character_plan fonts d page q character colouring =
+    character_by (kind_of d.mode) fonts d page q character colouring
 
 -- a character at n cells from cell q on
 unfoldable pub characters_plan : FontSet → BiosData → ℕ → ℕ → ℕ → Colouring → ℕ → Plan (Unit {0})
-characters_plan fonts d page q character colouring n = each (λ i. character_plan fonts d page (q + i) character colouring) n 0
+characters_plan fonts d page q character colouring n =
+    each (λ i. character_plan fonts d page (q + i) character colouring) n 0

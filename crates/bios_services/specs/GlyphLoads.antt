@@ -1,7 +1,8 @@
 -- Loading glyphs of text, with which the height of characters changes: function 11.
--- From the IBM PS/2 and PC BIOS Interface Technical Reference, "Interrupt 10H - Video", (AH) = 11H; the refusals and the order of
--- the cycles are this adapter's choice.
-use Rattle.std.specs.Prelude.{ℕ, ◌≡◌, ◌≤◌, ◌+◌, ◌-◌, ◌*◌, ◌==◌, ◌&&◌, nat_le, true, false, if◌then◌else◌, List, slice_index, Option, Some, None}
+-- From the IBM PS/2 and PC BIOS Interface Technical Reference, "Interrupt 10H - Video", (AH) = 11H;
+-- the refusals and the order of the cycles are this adapter's choice.
+use Rattle.std.specs.Prelude.{ℕ, ◌≡◌, ◌≤◌, ◌+◌, ◌-◌, ◌*◌, ◌==◌, ◌&&◌, nat_le, true, false}
+use Rattle.std.specs.Prelude.{if◌then◌else◌, List, slice_index, Option, Some, None}
 use Rattle.vga_bits.specs.declared.refusal.Refusal.{Refusal}
 use Rattle.vga_bits.specs.declared.refusal.Refusal.TheVariants.{WrongKind, CountPast}
 use Rattle.bios_modes.specs.declared.modes.ModeRow.{ModeRow}
@@ -16,17 +17,24 @@ use Rattle.bios_services.specs.ModeSet.{font_plan}
 use Rattle.bios_services.specs.Cursor.{word_plan}
 use Rattle.bios_services.specs.Glyphs.{glyph_line}
 use Rattle.bios_services.specs.Reasons.{◌or◌, refuse_unless, wrong_block}
-use Rattle.bios_services.specs.VideoRegisters.{miscellaneous, maximum_scan_line, cursor_start, vertical_display_end, underline_location, start_address_high, cursor_address_high}
+use Rattle.bios_services.specs.VideoRegisters.{miscellaneous, maximum_scan_line, cursor_start}
+use Rattle.bios_services.specs.VideoRegisters.{vertical_display_end, underline_location}
+use Rattle.bios_services.specs.VideoRegisters.{start_address_high, cursor_address_high}
 
 -- all characters of the font of this height
 abbrev pub whole_font : ℕ → GlyphLoad
 whole_font height = record { height = height; first = 0; count = 256; is_block = false }
 
--- what AL names: 10 the glyphs of the block, BH scan lines each, for CX characters from DX on; 11, 12 and 14 a font of 14, 8
--- and 16 scan lines
+-- what AL names: 10 the glyphs of the block, BH scan lines each, for CX characters from DX on; 11,
+-- 12 and 14 a font of 14, 8 and 16 scan lines
 abbrev pub load_of : Regs → ℕ → Option GlyphLoad
 load_of r al =
-    if al == 0x10 then Some (record { height = high r.bx; first = r.dx; count = r.cx; is_block = true })
+    if al == 0x10 then Some (record {
+      height = high r.bx;
+      first = r.dx;
+      count = r.cx;
+      is_block = true;
+    })
     else if al == 0x11 then Some (whole_font 14)
     else if al == 0x12 then Some (whole_font 8)
     else if al == 0x14 then Some (whole_font 16)
@@ -40,7 +48,8 @@ glyph_load_of r = if (high r.ax == 0x11) && (low r.bx == 0x00) then load_of r (l
 abbrev pub glyphs_len : GlyphLoad → ℕ
 glyphs_len load = load.height * load.count
 
--- glyphs that there are: no higher than the highest font, of characters up to FF, and whole in a block of this length
+-- glyphs that there are: no higher than the highest font, of characters up to FF, and whole in a
+-- block of this length
 pub record AreThere (load : GlyphLoad) (len : ℕ) : Type 0 where
   pub height : load.height ≤ 16
   pub last : load.first + load.count ≤ 256
@@ -56,13 +65,15 @@ load_refusal load mode len =
 -- scan line r of character c: a byte of the block, or of the font
 abbrev pub loaded_line : FontSet → GlyphLoad → List ℕ → ℕ → ℕ → ℕ
 loaded_line fonts load block c r =
-    if load.is_block then slice_index block (load.height * (c - load.first) + r) else glyph_line fonts load.height c r
+    if load.is_block then slice_index block (load.height * (c - load.first) + r)
+    else glyph_line fonts load.height c r
 
--- the glyphs go to plane 2; and the CRT controller gets the height, the cursor and the display of a page's rows, from page 0 on,
--- with the cursor in its upper left corner
+-- the glyphs go to plane 2; and the CRT controller gets the height, the cursor and the display of a
+-- page's rows, from page 0 on, with the cursor in its upper left corner
 unfoldable pub load_plan : FontSet → GlyphLoad → List ℕ → ModeRow → Plan (Unit {0})
 load_plan fonts load block row = do
-  font_plan (loaded_line fonts load block) load.height load.count load.first (slice_index row.graphics miscellaneous)
+  font_plan (loaded_line fonts load block) load.height load.count load.first
+      (slice_index row.graphics miscellaneous)
   crtc row.crtc_address maximum_scan_line (slice_index row.crtc maximum_scan_line)
   word_plan row.crtc_address cursor_start row.cursor_type
   crtc row.crtc_address vertical_display_end (slice_index row.crtc vertical_display_end)

@@ -1,6 +1,9 @@
--- The glyphs of characters: their lines in the font of the mode's height, and the character that has some lines.
--- From the IBM PS/2 and PC BIOS Interface Technical Reference, "Interrupt 10H - Video", "Character Generator" and (AH) = 08H.
-use Rattle.std.specs.Prelude.{ℕ, Bool, true, zero, suc, ◌+◌, ◌==◌, ◌&&◌, if◌then◌else◌, List, slice_index}
+-- The glyphs of characters: their lines in the font of the mode's height, and the character that
+-- has some lines.
+-- From the IBM PS/2 and PC BIOS Interface Technical Reference, "Interrupt 10H - Video", "Character
+-- Generator" and (AH) = 08H.
+use Rattle.std.specs.Prelude.{ℕ, Bool, true, zero, suc, ◌+◌, ◌==◌, ◌&&◌, if◌then◌else◌, List}
+use Rattle.std.specs.Prelude.{slice_index}
 use Rattle.bios_modes.specs.Fonts.{FontSet, glyph_row}
 
 -- line r of a character in the font of this height, bit 7 the leftmost dot
@@ -22,7 +25,8 @@ first_of test (suc n) i = if test i then i else first_of test n (i + 1)
 
 -- whether a character's glyph is these lines
 unfoldable pub has_lines : FontSet → ℕ → List ℕ → ℕ → Bool
-has_lines fonts height lines character = all_of (λ r. glyph_line fonts height character r == slice_index lines r) height 0
+has_lines fonts height lines character = all_of (λ r.
+    glyph_line fonts height character r == slice_index lines r) height 0
 
 -- the first of n characters whose glyph is these lines, else 0
 unfoldable pub first_character : FontSet → ℕ → List ℕ → ℕ → ℕ

@@ -1,10 +1,12 @@
 -- How much of the memory characters take, by how a mode uses it.
--- From the IBM PS/2 Hardware Interface Technical Reference, Video Subsystems, "Video Memory Organization".
+-- From the IBM PS/2 Hardware Interface Technical Reference, Video Subsystems, "Video Memory
+-- Organization".
 use Rattle.std.specs.Prelude.{ℕ}
 use Rattle.bios_modes.specs.declared.kind.Kind.{Kind}
 use Rattle.bios_modes.specs.declared.kind.Kind.TheVariants.{Text, Planar, Packed}
 
--- how many bytes of a line a column of characters takes: a character and its attribute, eight dots of a plane, or eight dots
+-- how many bytes of a line a column of characters takes: a character and its attribute, eight dots
+-- of a plane, or eight dots
 abbrev pub column_bytes : Kind → ℕ
 column_bytes Text = 2
 column_bytes Planar = 1

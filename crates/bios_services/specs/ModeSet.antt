@@ -1,21 +1,30 @@
--- Setting a mode: every register, the palette, the font of a text mode, and the memory; and the BIOS data afterwards.
--- From the IBM PS/2 and PC BIOS Interface Technical Reference, "Interrupt 10H - Video", (AH) = 00H; the order of the cycles is
--- this adapter's choice.
-use Rattle.std.specs.Prelude.{ℕ, ◌+◌, ◌*◌, ◌%◌, ◌==◌, if◌then◌else◌, Bool, List, slice_index, bit_and}
+-- Setting a mode: every register, the palette, the font of a text mode, and the memory; and the
+-- BIOS data afterwards.
+-- From the IBM PS/2 and PC BIOS Interface Technical Reference, "Interrupt 10H - Video", (AH) = 00H;
+-- the order of the cycles is this adapter's choice.
+use Rattle.std.specs.Prelude.{ℕ, ◌+◌, ◌*◌, ◌%◌, ◌==◌, if◌then◌else◌, Bool, List, slice_index}
+use Rattle.std.specs.Prelude.{bit_and}
 use Rattle.bios_modes.specs.declared.modes.ModeRow.{ModeRow}
 use Rattle.bios_modes.specs.Kinds.{is_text}
 use Rattle.bios_modes.specs.Palette.{dac_entry}
 use Rattle.bios_modes.specs.Fonts.{FontSet, glyph_row}
 use Rattle.bios_services.specs.Plan.{Plan, Done, ◌>>◌, out, put, each}
-use Rattle.bios_services.specs.Cycles.{sequencer, graphics, crtc, group, attribute_group, expect_index, show_palette}
-use Rattle.bios_services.specs.VideoRegisters.{miscellaneous_output, sequencer_port, graphics_port, dac_mask, dac_write_index, dac_data, all_bits, vertical_retrace_end, map_mask, glyph_plane, text_planes, memory_mode, all_addresses, odd_and_even_addresses, graphics_mode, plain_access, odd_and_even_access, miscellaneous, window_at_a0000}
+use Rattle.bios_services.specs.Cycles.{sequencer, graphics, crtc, group, attribute_group}
+use Rattle.bios_services.specs.Cycles.{expect_index, show_palette}
+use Rattle.bios_services.specs.VideoRegisters.{miscellaneous_output, sequencer_port, graphics_port}
+use Rattle.bios_services.specs.VideoRegisters.{dac_mask, dac_write_index, dac_data, all_bits}
+use Rattle.bios_services.specs.VideoRegisters.{vertical_retrace_end, map_mask, glyph_plane}
+use Rattle.bios_services.specs.VideoRegisters.{text_planes, memory_mode, all_addresses}
+use Rattle.bios_services.specs.VideoRegisters.{odd_and_even_addresses, graphics_mode, plain_access}
+use Rattle.bios_services.specs.VideoRegisters.{odd_and_even_access, miscellaneous, window_at_a0000}
 
 -- all registers; first those of the CRT controller are unprotected
 unfoldable pub registers_plan : ModeRow → Plan (Unit {0})
 registers_plan row = do
   out miscellaneous_output row.misc
   group sequencer_port row.sequencer
-  crtc row.crtc_address vertical_retrace_end (bit_and (slice_index row.crtc vertical_retrace_end) 0x7F)
+  crtc row.crtc_address vertical_retrace_end (bit_and (slice_index row.crtc vertical_retrace_end)
+      0x7F)
   group row.crtc_address row.crtc
   group graphics_port row.graphics
   expect_index row.crtc_address
@@ -44,7 +53,8 @@ glyph_plan line height c = each (λ r. put (0xA0000 + 32 * c + r) (line c r)) he
 unfoldable pub glyphs_plan : (ℕ → ℕ → ℕ) → ℕ → ℕ → ℕ → Plan (Unit {0})
 glyphs_plan line height n first = each (glyph_plan line height) n first
 
--- plane 2 is reached at A0000 alone, and then planes 0 and 1 again where graphics register 6 has this value
+-- plane 2 is reached at A0000 alone, and then planes 0 and 1 again where graphics register 6 has
+-- this value
 unfoldable pub font_plan : (ℕ → ℕ → ℕ) → ℕ → ℕ → ℕ → ℕ → Plan (Unit {0})
 font_plan line height n first window = do
   sequencer map_mask glyph_plane

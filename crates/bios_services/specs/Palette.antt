@@ -3,10 +3,11 @@
 use Rattle.std.specs.Prelude.{ℕ, ◌+◌, ◌*◌, List, take, slice_index, bit_and, bit_or}
 use Rattle.bios_services.specs.Plan.{Plan, Done, ◌>>=◌, ◌>>◌, out, inp}
 use Rattle.bios_services.specs.Cycles.{attribute, attribute_group, expect_index, show_palette}
-use Rattle.bios_services.specs.VideoRegisters.{attribute_port, attribute_data, palette_shown, mode_control, not_blinking, overscan}
+use Rattle.bios_services.specs.VideoRegisters.{attribute_port, attribute_data, palette_shown}
+use Rattle.bios_services.specs.VideoRegisters.{mode_control, not_blinking, overscan}
 
--- 00, and 01 with register 11: a register of the attribute controller, whose next write is made an index first; the palette is
--- shown again
+-- 00, and 01 with register 11: a register of the attribute controller, whose next write is made an
+-- index first; the palette is shown again
 unfoldable pub set_register_plan : ℕ → ℕ → ℕ → Plan (Unit {0})
 set_register_plan port i value = do
   expect_index port
@@ -30,7 +31,8 @@ set_blinking_plan port blinking = do
   out attribute_port (bit_or (bit_and control not_blinking) (8 * blinking))
   show_palette port
 
--- what register i of the attribute controller holds, where its next write is an index, and is again afterwards
+-- what register i of the attribute controller holds, where its next write is an index, and is again
+-- afterwards
 unfoldable pub register_plan : ℕ → ℕ → Plan ℕ
 register_plan port i = do
   out attribute_port (palette_shown + i)

@@ -1,6 +1,6 @@
 -- Writing and reading one dot.
--- From the IBM PS/2 and PC BIOS Interface Technical Reference, "Interrupt 10H - Video", (AH) = 0CH and 0DH; the order of the cycles
--- is this adapter's choice.
+-- From the IBM PS/2 and PC BIOS Interface Technical Reference, "Interrupt 10H - Video", (AH) = 0CH
+-- and 0DH; the order of the cycles is this adapter's choice.
 use Rattle.std.specs.Prelude.{ℕ, ◌+◌, ◌-◌, ◌*◌, ◌/◌, ◌%◌, ◌^◌, if◌then◌else◌}
 use Rattle.std.specs.Int.{bit_at}
 use Rattle.vga_bits.specs.Bits.{is_set}
@@ -9,7 +9,9 @@ use Rattle.bios_modes.specs.Kinds.{is_packed}
 use Rattle.bios_services.specs.Plan.{Plan, Done, ◌>>=◌, ◌>>◌, put, get}
 use Rattle.bios_services.specs.Cycles.{graphics}
 use Rattle.bios_services.specs.Cells.{page_address}
-use Rattle.bios_services.specs.VideoRegisters.{data_rotate, bit_mask, xor, replace, graphics_mode, write_colour, plain_access, all_bits, read_map_select}
+use Rattle.bios_services.specs.VideoRegisters.{data_rotate, bit_mask, xor, replace, graphics_mode}
+use Rattle.bios_services.specs.VideoRegisters.{write_colour, plain_access, all_bits}
+use Rattle.bios_services.specs.VideoRegisters.{read_map_select}
 
 -- how many dots a graphics mode has across, and down
 abbrev pub dots_across : BiosData → ℕ
@@ -20,7 +22,8 @@ dots_down d = d.height * (d.last_row + 1)
 
 -- the address of a dot: 256 colours have a byte for each, 16 a byte of each plane for eight
 abbrev pub pixel_address : BiosData → ℕ → ℕ → ℕ → ℕ
-pixel_address d page x y = page_address d page + (if is_packed d.mode then dots_across d * y + x else d.columns * y + x / 8)
+pixel_address d page x y = page_address d page + (if is_packed d.mode then dots_across d * y + x
+    else d.columns * y + x / 8)
 
 -- the function of planes, where bit 7 of a colour asks for XOR
 abbrev pub function_plan : ℕ → ℕ → Plan (Unit {0})
@@ -41,7 +44,8 @@ write_dot_plan address x colour = do
 -- 0C: a dot at a column and a line of a page
 unfoldable pub write_pixel_plan : BiosData → ℕ → ℕ → ℕ → ℕ → Plan (Unit {0})
 write_pixel_plan d page x y colour =
-    if is_packed d.mode then put (pixel_address d page x y) colour else write_dot_plan (pixel_address d page x y) x colour
+    if is_packed d.mode then put (pixel_address d page x y) colour
+    else write_dot_plan (pixel_address d page x y) x colour
 
 -- the byte of a plane, whose number is put into read map select
 abbrev pub plane_byte : ℕ → ℕ → Plan ℕ
@@ -57,9 +61,11 @@ read_dot_plan address x = do
   b2 ← plane_byte 2 address
   b3 ← plane_byte 3 address
   graphics read_map_select 0
-  Done (bit_at b0 (7 - x % 8) + 2 * bit_at b1 (7 - x % 8) + 4 * bit_at b2 (7 - x % 8) + 8 * bit_at b3 (7 - x % 8))
+  Done (bit_at b0 (7 - x % 8) + 2 * bit_at b1 (7 - x % 8) + 4 * bit_at b2 (7 - x % 8)
+      + 8 * bit_at b3 (7 - x % 8))
 
 -- 0D: the colour of a dot
 unfoldable pub read_pixel_plan : BiosData → ℕ → ℕ → ℕ → Plan ℕ
 read_pixel_plan d page x y =
-    if is_packed d.mode then get (pixel_address d page x y) else read_dot_plan (pixel_address d page x y) x
+    if is_packed d.mode then get (pixel_address d page x y)
+    else read_dot_plan (pixel_address d page x y) x

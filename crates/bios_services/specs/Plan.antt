@@ -1,4 +1,5 @@
--- The plan of a service: its cycles in order, of which later ones may depend on the bytes that were read.
+-- The plan of a service: its cycles in order, of which later ones may depend on the bytes that were
+-- read.
 use Rattle.std.specs.Prelude.{ℕ, zero, suc, ◌+◌, List, [], ◌∷◌, Result, Ok, Err}
 use Rattle.vga_bits.specs.declared.refusal.Refusal.{Refusal}
 use Rattle.vga_card.specs.Bus.{Meaning, Place, AtPort, AtAddress}

@@ -1,8 +1,12 @@
--- Reasons why a service is refused, over numbers alone: of the BIOS data and of a plain screen the same is said.
--- From the IBM PS/2 and PC BIOS Interface Technical Reference, "Interrupt 10H - Video"; the refusals are this adapter's choice.
-use Rattle.std.specs.Prelude.{ℕ, Bool, ◌+◌, ◌==◌, ◌&&◌, nat_lt, nat_le, not, if◌then◌else◌, Option, Some, None, Result, Ok, Err}
+-- Reasons why a service is refused, over numbers alone: of the BIOS data and of a plain screen the
+-- same is said.
+-- From the IBM PS/2 and PC BIOS Interface Technical Reference, "Interrupt 10H - Video"; the
+-- refusals are this adapter's choice.
+use Rattle.std.specs.Prelude.{ℕ, Bool, ◌+◌, ◌==◌, ◌&&◌, nat_lt, nat_le, not, if◌then◌else◌, Option}
+use Rattle.std.specs.Prelude.{Some, None, Result, Ok, Err}
 use Rattle.vga_bits.specs.declared.refusal.Refusal.{Refusal}
-use Rattle.vga_bits.specs.declared.refusal.Refusal.TheVariants.{WrongKind, BadPage, Outside, CountPast, BadBlock}
+use Rattle.vga_bits.specs.declared.refusal.Refusal.TheVariants.{WrongKind, BadPage, Outside}
+use Rattle.vga_bits.specs.declared.refusal.Refusal.TheVariants.{CountPast, BadBlock}
 use Rattle.bios_modes.specs.Kinds.{is_text}
 use Rattle.bios_services.specs.Cursor.{row_of, column_of}
 
@@ -35,7 +39,8 @@ outside_cells cells first = refuse_unless (nat_lt first cells) Outside
 
 -- the page has no such row or column
 abbrev pub outside_page : ℕ → ℕ → ℕ → Option Refusal
-outside_page rows columns place = refuse_unless (nat_lt (row_of place) rows && nat_lt (column_of place) columns) Outside
+outside_page rows columns place = refuse_unless (nat_lt (row_of place) rows
+    && nat_lt (column_of place) columns) Outside
 
 -- a pixel is none of a page
 abbrev pub outside_pixels : ℕ → ℕ → ℕ → ℕ → Option Refusal

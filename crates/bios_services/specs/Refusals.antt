@@ -1,18 +1,25 @@
 -- Why a service is refused: of its reasons the first, in the order of their numbers.
--- From the IBM PS/2 and PC BIOS Interface Technical Reference, "Interrupt 10H - Video"; the refusals are this adapter's choice.
+-- From the IBM PS/2 and PC BIOS Interface Technical Reference, "Interrupt 10H - Video"; the
+-- refusals are this adapter's choice.
 use Rattle.std.specs.Prelude.{ℕ, ◌+◌, ◌==◌, if◌then◌else◌, Option, None}
 use Rattle.vga_bits.specs.declared.refusal.Refusal.{Refusal}
 use Rattle.vga_bits.specs.declared.refusal.Refusal.TheVariants.{NoMode, BadFunction}
 use Rattle.bios_modes.specs.Bda.{BiosData}
 use Rattle.bios_services.specs.declared.call.Service.{Service}
-use Rattle.bios_services.specs.declared.call.Service.TheVariants.{SetCursorType, SetCursor, ReadCursor, SelectPage, ScrollUp, ScrollDown, ReadCell, WriteCells, WritePixel, ReadPixel, Teletype, ReadMode, Colours, ReadAdapter, WriteString, ReadDisplay}
+use Rattle.bios_services.specs.declared.call.Service.TheVariants.{SetCursorType, SetCursor}
+use Rattle.bios_services.specs.declared.call.Service.TheVariants.{ReadCursor, SelectPage, ScrollUp}
+use Rattle.bios_services.specs.declared.call.Service.TheVariants.{ScrollDown, ReadCell, WriteCells}
+use Rattle.bios_services.specs.declared.call.Service.TheVariants.{WritePixel, ReadPixel, Teletype}
+use Rattle.bios_services.specs.declared.call.Service.TheVariants.{ReadMode, Colours, ReadAdapter}
+use Rattle.bios_services.specs.declared.call.Service.TheVariants.{WriteString, ReadDisplay}
 use Rattle.bios_services.specs.Bounds.{pages_of}
 use Rattle.bios_services.specs.Cursor.{cursor_cell, place_of}
 use Rattle.bios_services.specs.Cells.{cells_of}
 use Rattle.bios_services.specs.Pixels.{dots_across, dots_down}
 use Rattle.bios_services.specs.Strings.{string_len}
 use Rattle.bios_services.specs.Colours.{colour_refusal}
-use Rattle.bios_services.specs.Reasons.{◌or◌, no_pixels, no_page, outside_cells, outside_page, outside_pixels, past_cells, wrong_block}
+use Rattle.bios_services.specs.Reasons.{◌or◌, no_pixels, no_page, outside_cells, outside_page}
+use Rattle.bios_services.specs.Reasons.{outside_pixels, past_cells, wrong_block}
 
 -- the page that is meant among so many; where there is one page, that is meant whatever is named
 abbrev pub page_among : ℕ → ℕ → ℕ
@@ -45,7 +52,8 @@ refusal_in_mode (ReadPixel page x y) d len =
     no_pixels d.mode
     or no_page (pages_of d) (page_named d page)
     or outside_pixels (dots_across d) (dots_down d) x y
-refusal_in_mode (Teletype character colour) d len = outside_page (d.last_row + 1) d.columns (place_of d d.page)
+refusal_in_mode (Teletype character colour) d len =
+    outside_page (d.last_row + 1) d.columns (place_of d d.page)
 refusal_in_mode ReadMode d len = None
 refusal_in_mode (Colours service) d len = colour_refusal service len
 refusal_in_mode ReadAdapter d len = None

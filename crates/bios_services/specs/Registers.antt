@@ -1,5 +1,6 @@
 -- The registers of a call by their bytes.
--- From the IBM PS/2 and PC BIOS Interface Technical Reference, "Interrupt 10H - Video": AH and AL are the bytes of AX.
+-- From the IBM PS/2 and PC BIOS Interface Technical Reference, "Interrupt 10H - Video": AH and AL
+-- are the bytes of AX.
 use Rattle.std.specs.Prelude.{ℕ, ◌+◌, ◌*◌, ◌/◌, ◌%◌}
 
 -- the high byte of a register, and its low byte

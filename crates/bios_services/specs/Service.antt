@@ -1,6 +1,7 @@
 -- A service whole: its cycles, the registers that it answers, and the BIOS data afterwards.
 -- From the IBM PS/2 and PC BIOS Interface Technical Reference, "Interrupt 10H - Video".
-use Rattle.std.specs.Prelude.{ℕ, ◌≡◌, ◌+◌, ◌*◌, ◌==◌, ◌&&◌, nat_lt, if◌then◌else◌, Bool, false, Option, Some, None, List, length, Result, Ok, Err}
+use Rattle.std.specs.Prelude.{ℕ, ◌≡◌, ◌+◌, ◌*◌, ◌==◌, ◌&&◌, nat_lt, if◌then◌else◌, Bool, false}
+use Rattle.std.specs.Prelude.{Option, Some, None, List, length, Result, Ok, Err}
 use Rattle.vga_bits.specs.declared.refusal.Refusal.{Refusal}
 use Rattle.vga_card.specs.Bus.{Meaning}
 use Rattle.bios_modes.specs.declared.modes.ModeRow.{ModeRow}
@@ -20,13 +21,20 @@ use Rattle.bios_services.specs.declared.reply.ServiceError.TheVariants.{Refused,
 use Rattle.bios_services.specs.declared.tables.TableService.{TableService}
 use Rattle.bios_services.specs.declared.glyph_load.GlyphLoad.{GlyphLoad}
 use Rattle.bios_services.specs.declared.call.Call.{Call}
-use Rattle.bios_services.specs.declared.call.Call.TheVariants.{SetMode, ReadTable, LoadGlyphs, InMode}
+use Rattle.bios_services.specs.declared.call.Call.TheVariants.{SetMode, ReadTable, LoadGlyphs}
+use Rattle.bios_services.specs.declared.call.Call.TheVariants.{InMode}
 use Rattle.bios_services.specs.declared.call.Service.{Service}
-use Rattle.bios_services.specs.declared.call.Service.TheVariants.{SetCursorType, SetCursor, ReadCursor, SelectPage, ScrollUp, ScrollDown, ReadCell, WriteCells, WritePixel, ReadPixel, Teletype, ReadMode, Colours, ReadAdapter, WriteString, ReadDisplay}
+use Rattle.bios_services.specs.declared.call.Service.TheVariants.{SetCursorType, SetCursor}
+use Rattle.bios_services.specs.declared.call.Service.TheVariants.{ReadCursor, SelectPage, ScrollUp}
+use Rattle.bios_services.specs.declared.call.Service.TheVariants.{ScrollDown, ReadCell, WriteCells}
+use Rattle.bios_services.specs.declared.call.Service.TheVariants.{WritePixel, ReadPixel, Teletype}
+use Rattle.bios_services.specs.declared.call.Service.TheVariants.{ReadMode, Colours, ReadAdapter}
+use Rattle.bios_services.specs.declared.call.Service.TheVariants.{WriteString, ReadDisplay}
 use Rattle.bios_services.specs.Plan.{Plan, Done, ◌>>=◌, ◌>>◌, run}
 use Rattle.bios_modes.specs.Kinds.{is_text}
 use Rattle.bios_services.specs.ModeSet.{mode_set_plan}
-use Rattle.bios_services.specs.Cursor.{place_of, cursor_cell, move_cursor_plan, cursor_type_plan, page_plan}
+use Rattle.bios_services.specs.Cursor.{place_of, cursor_cell, move_cursor_plan, cursor_type_plan}
+use Rattle.bios_services.specs.Cursor.{page_plan}
 use Rattle.bios_services.specs.Cells.{cell_address, read_cell_plan}
 use Rattle.bios_services.specs.Drawing.{cell_band, cell_row}
 use Rattle.bios_services.specs.CellRuns.{cell_run_plan}
@@ -71,9 +79,13 @@ read_cursor_of d page r = record r { cx = d.cursor_type; dx = place_of d page }
 abbrev pub read_mode_of : BiosData → Regs → Regs
 read_mode_of d r = record r { ax = d.mode + 256 * d.columns; bx = low r.bx + 256 * d.page }
 
--- whether the mode is monochrome, and the memory of the adapter, as high and low byte of BX; its switches in CX
+-- whether the mode is monochrome, and the memory of the adapter, as high and low byte of BX; its
+-- switches in CX
 abbrev pub read_adapter_of : BiosData → Regs → Regs
-read_adapter_of d r = record r { bx = (if is_monochrome_mode d.mode then 0x0103 else 0x0003); cx = 0x0009 }
+read_adapter_of d r = record r {
+  bx = (if is_monochrome_mode d.mode then 0x0103 else 0x0003);
+  cx = 0x0009;
+}
 
 -- the function is there, and the display is a VGA's in colour
 abbrev pub read_display_of : Regs → Regs
@@ -81,21 +93,30 @@ read_display_of r = record r { ax = 0x1A1A; bx = 0x0008 }
 
 -- what a service answers, and does, that is not refused
 unfoldable pub plan_of : Service → FontSet → BiosData → Regs → List ℕ → Plan Outcome
-plan_of (SetCursorType cursor_type) fonts d r block = cursor_type_plan d cursor_type >>= λ after. Done (r, after)
-plan_of (SetCursor page place) fonts d r block = move_cursor_plan d (page_named d page) place >>= λ after. Done (r, after)
+plan_of (SetCursorType cursor_type) fonts d r block = cursor_type_plan d cursor_type
+    >>= λ after. Done (r, after)
+plan_of (SetCursor page place) fonts d r block = move_cursor_plan d (page_named d page) place
+    >>= λ after. Done (r, after)
 plan_of (ReadCursor page) fonts d r block = Done (read_cursor_of d (page_named d page) r, d)
 plan_of (SelectPage page) fonts d r block = page_plan d page >>= λ after. Done (r, after)
 plan_of (ScrollUp scroll) fonts d r block = scroll_up_plan d scroll >> Done (r, d)
 plan_of (ScrollDown scroll) fonts d r block = scroll_down_plan d scroll >> Done (r, d)
-plan_of (ReadCell page) fonts d r block = read_cell_service fonts (page_named d page) d r >>= λ after. Done (after, d)
-plan_of (WriteCells cells) fonts d r block = cell_run_plan fonts d (page_named d cells.page) cells >> Done (r, d)
-plan_of (WritePixel page x y colour) fonts d r block = write_pixel_plan d (page_named d page) x y colour >> Done (r, d)
-plan_of (ReadPixel page x y) fonts d r block = read_pixel_service (page_named d page) x y d r >>= λ after. Done (after, d)
-plan_of (Teletype character colour) fonts d r block = teletype_plan fonts d character colour >>= λ after. Done (r, after)
+plan_of (ReadCell page) fonts d r block = read_cell_service fonts (page_named d page) d r
+    >>= λ after. Done (after, d)
+plan_of (WriteCells cells) fonts d r block = cell_run_plan fonts d (page_named d cells.page) cells
+    >> Done (r, d)
+plan_of (WritePixel page x y colour) fonts d r block =
+    write_pixel_plan d (page_named d page) x y colour >> Done (r, d)
+plan_of (ReadPixel page x y) fonts d r block = read_pixel_service (page_named d page) x y d r
+    >>= λ after. Done (after, d)
+plan_of (Teletype character colour) fonts d r block = teletype_plan fonts d character colour
+    >>= λ after. Done (r, after)
 plan_of ReadMode fonts d r block = Done (read_mode_of d r, d)
-plan_of (Colours service) fonts d r block = colours_plan service d.crtc_address r block >>= λ after. Done (after, d)
+plan_of (Colours service) fonts d r block = colours_plan service d.crtc_address r block
+    >>= λ after. Done (after, d)
 plan_of ReadAdapter fonts d r block = Done (read_adapter_of d r, d)
-plan_of (WriteString s) fonts d r block = string_plan fonts d (page_named d s.page) s block >>= λ after. Done (r, after)
+plan_of (WriteString s) fonts d r block = string_plan fonts d (page_named d s.page) s block
+    >>= λ after. Done (r, after)
 plan_of ReadDisplay fonts d r block = Done (read_display_of r, d)
 
 -- what a call answers, and the BIOS data after it
@@ -121,7 +142,8 @@ set_mode_plan (Some row) mode keeps fonts d r = do
   Done (answer_of r (data_of_mode mode row))
 
 -- a service in a mode, or why it is refused
-unfoldable pub unless : Option Refusal → Service → FontSet → BiosData → Regs → List ℕ → Plan Answered
+unfoldable pub unless : Option Refusal → Service → FontSet → BiosData → Regs → List ℕ →
+    Plan Answered
 unless (Some why) service fonts d r block = refuse why d
 unless None service fonts d r block = do
   outcome ← plan_of service fonts d r block
@@ -129,7 +151,8 @@ unless None service fonts d r block = do
 
 -- a service that needs a mode
 unfoldable pub in_mode_plan : Service → FontSet → BiosData → Regs → List ℕ → Plan Answered
-in_mode_plan service fonts d r block = if d.mode == 0 then refuse NoMode d else unless (refusal_in_mode service d (length block)) service fonts d r block
+in_mode_plan service fonts d r block = if d.mode == 0 then refuse NoMode d
+    else unless (refusal_in_mode service d (length block)) service fonts d r block
 
 -- a table in a mode, or why it is refused
 unfoldable pub table_unless : Option Refusal → TableService → BiosData → Regs → Plan Answered
@@ -140,28 +163,33 @@ table_unless None service d r = do
 
 -- a table, which needs a mode
 unfoldable pub table_in_mode_plan : TableService → BiosData → Regs → Plan Answered
-table_in_mode_plan service d r = if d.mode == 0 then refuse NoMode d else table_unless (table_refusal service) service d r
+table_in_mode_plan service d r = if d.mode == 0 then refuse NoMode d
+    else table_unless (table_refusal service) service d r
 
 -- glyphs in a mode of text, where there is a row of their height
-unfoldable pub load_at : Option ModeRow → GlyphLoad → FontSet → BiosData → Regs → List ℕ → Plan Answered
+unfoldable pub load_at : Option ModeRow → GlyphLoad → FontSet → BiosData → Regs → List ℕ →
+    Plan Answered
 load_at None load fonts d r block = refuse BadHeight d
 load_at (Some row) load fonts d r block = do
   load_plan fonts load block row
   Done (answer_of r (data_of_mode d.mode row))
 
 -- or why they are refused
-unfoldable pub load_unless : Option Refusal → GlyphLoad → FontSet → BiosData → Regs → List ℕ → Plan Answered
+unfoldable pub load_unless : Option Refusal → GlyphLoad → FontSet → BiosData → Regs → List ℕ →
+    Plan Answered
 load_unless (Some why) load fonts d r block = refuse why d
 load_unless None load fonts d r block = load_at (row_at d.mode load.height) load fonts d r block
 
 -- glyphs, which need a mode
 unfoldable pub load_in_mode_plan : GlyphLoad → FontSet → BiosData → Regs → List ℕ → Plan Answered
-load_in_mode_plan load fonts d r block = if d.mode == 0 then refuse NoMode d else load_unless (load_refusal load d.mode (length block)) load fonts d r block
+load_in_mode_plan load fonts d r block = if d.mode == 0 then refuse NoMode d
+    else load_unless (load_refusal load d.mode (length block)) load fonts d r block
 
 -- what a call asks for
 abbrev pub call_plan : Option Call → FontSet → BiosData → Regs → List ℕ → Plan Answered
 call_plan None fonts d r block = refuse (unknown_refusal d) d
-call_plan (Some (SetMode mode keeps)) fonts d r block = set_mode_plan (mode_row mode) mode keeps fonts d r
+call_plan (Some (SetMode mode keeps)) fonts d r block =
+    set_mode_plan (mode_row mode) mode keeps fonts d r
 call_plan (Some (ReadTable service)) fonts d r block = table_in_mode_plan service d r
 call_plan (Some (LoadGlyphs load)) fonts d r block = load_in_mode_plan load fonts d r block
 call_plan (Some (InMode service)) fonts d r block = in_mode_plan service fonts d r block
@@ -170,19 +198,24 @@ call_plan (Some (InMode service)) fonts d r block = in_mode_plan service fonts d
 abbrev pub service : FontSet → BiosData → Regs → List ℕ → Plan Answered
 service fonts d r block = call_plan (call_of r) fonts d r block
 
--- whether a call takes memory, which it does before its first cycle: one for a table that takes some, in any mode
+-- whether a call takes memory, which it does before its first cycle: one for a table that takes
+-- some, in any mode
 abbrev pub takes_memory : Option Call → BiosData → Bool
 takes_memory (Some (ReadTable service)) d = nat_lt 0 d.mode && table_takes_memory service
 takes_memory _ d = false
 
--- What a call answers and leaves that asks for this plan, where the bus was s and is t, and the BIOS data were d and are `after`:
+-- What a call answers and leaves that asks for this plan, where the bus was s and is t, and the
+-- BIOS data were d and are `after`:
 -- what the plan does; or there was no memory, and nothing has changed.
-abbrev pub Serves : {S : Type 0} → Meaning S → Plan Answered → S → BiosData → Result Reply ServiceError → S → BiosData → Type 0
+abbrev pub Serves : {S : Type 0} → Meaning S → Plan Answered → S → BiosData →
+    Result Reply ServiceError → S → BiosData → Type 0
 Serves m plan s d (Ok reply) t after = (t, (Ok reply, after)) ≡ run m plan s
 Serves m plan s d (Err (Refused why)) t after = (t, (Err why, after)) ≡ run m plan s
 Serves m plan s d (Err OutOfMemory) t after = (t ≡ s) × (after ≡ d)
 
 -- on this bus a service that is refused leaves bus and BIOS data
 abbrev pub RefusedDoNothing : {S : Type 0} → Meaning S → Type 0
-RefusedDoNothing {S} m = (fonts : FontSet) (d : BiosData) (r : Regs) (block : List ℕ) (s : S) (e : Refusal)
-    → (run m (service fonts d r block) s).1.0 ≡ Err e → run m (service fonts d r block) s ≡ (s, (Err e, d))
+RefusedDoNothing {S} m = (fonts : FontSet) (d : BiosData) (r : Regs) (block : List ℕ) (s : S)
+    (e : Refusal)
+    → (run m (service fonts d r block) s).1.0 ≡ Err e →
+    run m (service fonts d r block) s ≡ (s, (Err e, d))

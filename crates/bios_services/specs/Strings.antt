@@ -1,6 +1,7 @@
 -- Typing a string: function 13.
 -- From the IBM PS/2 and PC BIOS Interface Technical Reference, "Interrupt 10H - Video", (AH) = 13H.
-use Rattle.std.specs.Prelude.{ℕ, ◌+◌, ◌*◌, ◌%◌, ◌==◌, nat_le, true, if◌then◌else◌, List, slice_index}
+use Rattle.std.specs.Prelude.{ℕ, ◌+◌, ◌*◌, ◌%◌, ◌==◌, nat_le, true, if◌then◌else◌, List}
+use Rattle.std.specs.Prelude.{slice_index}
 use Rattle.bios_modes.specs.Bda.{BiosData}
 use Rattle.bios_modes.specs.Fonts.{FontSet}
 use Rattle.bios_services.specs.declared.regs.Regs.{Regs}
@@ -11,7 +12,8 @@ use Rattle.bios_services.specs.Registers.{high, low}
 use Rattle.bios_services.specs.Cursor.{move_cursor_plan}
 use Rattle.bios_services.specs.Teletype.{type_plan}
 
--- the string that the registers name: AL 02 and 03 have an attribute behind each character, AL 01 and 03 move the cursor
+-- the string that the registers name: AL 02 and 03 have an attribute behind each character, AL 01
+-- and 03 move the cursor
 abbrev pub string_of : Regs → StringCall
 string_of r = record {
   page = high r.bx;
@@ -34,12 +36,17 @@ abbrev pub character_at : StringCall → List ℕ → ℕ → ℕ
 character_at s block i = slice_index block (stride s * i)
 
 abbrev pub colouring_at : StringCall → List ℕ → ℕ → Colouring
-colouring_at s block i = record { colour = (if s.has_attributes then slice_index block (2 * i + 1) else s.colour); is_attribute = true }
+colouring_at s block i = record {
+  colour = (if s.has_attributes then slice_index block (2 * i + 1)
+      else s.colour);
+  is_attribute = true;
+}
 
 -- the characters are typed one after another on a page; the answer is the place behind the last
 unfoldable pub type_string_plan : FontSet → BiosData → ℕ → StringCall → List ℕ → Plan ℕ
 type_string_plan fonts d page s block =
-    fold (λ i place. type_plan fonts d page place (character_at s block i) (colouring_at s block i)) s.count 0 s.place
+    fold (λ i place. type_plan fonts d page place (character_at s block i) (colouring_at s block i))
+    s.count 0 s.place
 
 -- a string is typed on a page, and the cursor moved behind it where that is asked
 unfoldable pub string_plan : FontSet → BiosData → ℕ → StringCall → List ℕ → Plan BiosData

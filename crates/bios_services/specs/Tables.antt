@@ -1,7 +1,8 @@
 -- Tables that function 10 answers in the caller's memory: subfunctions 09 and 17.
--- From the IBM PS/2 and PC BIOS Interface Technical Reference, "Interrupt 10H - Video", (AH) = 10H; the order of the cycles and the
--- refusals are this adapter's choice.
-use Rattle.std.specs.Prelude.{ℕ, Bool, false, ◌*◌, ◌==◌, ◌&&◌, nat_lt, if◌then◌else◌, Option, None, List, []}
+-- From the IBM PS/2 and PC BIOS Interface Technical Reference, "Interrupt 10H - Video", (AH) = 10H;
+-- the order of the cycles and the refusals are this adapter's choice.
+use Rattle.std.specs.Prelude.{ℕ, Bool, false, ◌*◌, ◌==◌, ◌&&◌, nat_lt, if◌then◌else◌, Option, None}
+use Rattle.std.specs.Prelude.{List, []}
 use Rattle.vga_bits.specs.declared.refusal.Refusal.{Refusal}
 use Rattle.bios_services.specs.declared.reply.Table.{Table}
 use Rattle.bios_services.specs.declared.reply.Table.TheVariants.{Empty, Palette, Dac}
@@ -23,7 +24,8 @@ abbrev pub table_takes_memory : TableService → Bool
 table_takes_memory ReadPalette = false
 table_takes_memory (ReadEntries first count) = has_entries first count && nat_lt 0 count
 
--- the register whose value is byte i of the palette: the 16 palette registers, and then the overscan colour
+-- the register whose value is byte i of the palette: the 16 palette registers, and then the
+-- overscan colour
 abbrev pub palette_register : ℕ → ℕ
 palette_register i = if i == 16 then 0x11 else i
 
@@ -45,10 +47,12 @@ read_entries_plan first count = do
   out dac_read_index first
   read_components_plan (3 * count)
 
--- what a subfunction does and answers that is not refused; the CRT controller's index is at this port
+-- what a subfunction does and answers that is not refused; the CRT controller's index is at this
+-- port
 unfoldable pub table_plan : TableService → ℕ → Plan Table
 table_plan ReadPalette port = read_palette_plan port >>= λ values. Done (Palette values)
-table_plan (ReadEntries first count) port = read_entries_plan first count >>= λ values. Done (Dac values)
+table_plan (ReadEntries first count) port = read_entries_plan first count
+    >>= λ values. Done (Dac values)
 
 -- the bytes of a table
 abbrev pub table_bytes : Table → List ℕ

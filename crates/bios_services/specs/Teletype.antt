@@ -15,10 +15,12 @@ use Rattle.bios_services.specs.Drawing.{character_plan}
 abbrev pub line_start : ℕ → ℕ
 line_start place = 256 * row_of place
 
--- what a new row is filled with: in text the attribute of the last row at this column, in graphics colour 0
+-- what a new row is filled with: in text the attribute of the last row at this column, in graphics
+-- colour 0
 unfoldable pub line_feed_fill : BiosData → ℕ → ℕ → Plan ℕ
 line_feed_fill d page place =
-    if is_text d.mode then get (cell_address d page (d.columns * d.last_row + column_of place) + 1) else Done 0
+    if is_text d.mode then get (cell_address d page (d.columns * d.last_row + column_of place) + 1)
+    else Done 0
 
 -- the place below; on the last row the place stays, and the page goes up by a row
 unfoldable pub line_feed_plan : BiosData → ℕ → ℕ → Plan ℕ
@@ -43,8 +45,9 @@ show_plan fonts d page place character colouring = do
   character_plan fonts d page (cell_number d place) character colouring
   cursor_advance_plan d page place
 
--- a character is typed at a place, and the answer is the place afterwards: a bell does nothing, a backspace goes a column
--- back, a line feed a row down, a carriage return to the first column; any other is shown
+-- a character is typed at a place, and the answer is the place afterwards: a bell does nothing, a
+-- backspace goes a column back, a line feed a row down, a carriage return to the first column; any
+-- other is shown
 unfoldable pub type_plan : FontSet → BiosData → ℕ → ℕ → ℕ → Colouring → Plan ℕ
 type_plan fonts d page place character colouring =
     if character == 0x07 then Done place
@@ -57,7 +60,8 @@ type_plan fonts d page place character colouring =
 abbrev pub dots_in : ℕ → Colouring
 dots_in colour = record { colour = colour; is_attribute = false }
 
--- a character is typed at the cursor of the active page, which then stands behind it; a bell leaves it
+-- a character is typed at the cursor of the active page, which then stands behind it; a bell leaves
+-- it
 unfoldable pub teletype_plan : FontSet → BiosData → ℕ → ℕ → Plan BiosData
 teletype_plan fonts d character colour =
     if character == 0x07 then Done d

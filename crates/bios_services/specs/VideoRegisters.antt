@@ -1,6 +1,7 @@
 -- The adapter's registers that services write by name, and what they write there.
--- From the IBM PS/2 Hardware Interface Technical Reference, Video Subsystems, "Sequencer Registers", "Graphics Controller
--- Registers", "CRT Controller Registers" and "Attribute Controller Registers".
+-- From the IBM PS/2 Hardware Interface Technical Reference, Video Subsystems, "Sequencer
+-- Registers", "Graphics Controller Registers", "CRT Controller Registers" and "Attribute Controller
+-- Registers".
 use Rattle.std.specs.Prelude.{ℕ}
 
 -- the attribute controller's port of indexes and of writes, and that of reads
@@ -34,7 +35,8 @@ dac_write_index = 0x3C8
 abbrev pub dac_data : ℕ
 dac_data = 0x3C9
 
--- the sequencer's register of the planes that are written: all four, those of text, or that of glyphs
+-- the sequencer's register of the planes that are written: all four, those of text, or that of
+-- glyphs
 abbrev pub map_mask : ℕ
 map_mask = 0x02
 
@@ -47,7 +49,8 @@ text_planes = 0x03
 abbrev pub glyph_plane : ℕ
 glyph_plane = 0x04
 
--- the sequencer's register of how addresses reach planes: all alike, or even ones and odd ones apart
+-- the sequencer's register of how addresses reach planes: all alike, or even ones and odd ones
+-- apart
 abbrev pub memory_mode : ℕ
 memory_mode = 0x04
 
@@ -75,7 +78,8 @@ read_map_select = 0x04
 abbrev pub graphics_mode : ℕ
 graphics_mode = 0x05
 
--- write mode 0 and read mode 0, with which all is plain; and the same where even and odd addresses go apart
+-- write mode 0 and read mode 0, with which all is plain; and the same where even and odd addresses
+-- go apart
 abbrev pub plain_access : ℕ
 plain_access = 0x00
 
@@ -94,7 +98,8 @@ write_colour = 0x02
 abbrev pub compare_colours : ℕ
 compare_colours = 0x08
 
--- the graphics controller's register of the memory's window, and the one of 64 KiB at A0000 with planes apart
+-- the graphics controller's register of the memory's window, and the one of 64 KiB at A0000 with
+-- planes apart
 abbrev pub miscellaneous : ℕ
 miscellaneous = 0x06
 
@@ -108,9 +113,10 @@ bit_mask = 0x08
 abbrev pub all_bits : ℕ
 all_bits = 0xFF
 
--- the CRT controller's registers of the height of characters, the cursor's first and last scan line, the start address and the
--- cursor's address, each a high byte and then a low one, the vertical retrace's end, whose bit 7 protects others, the end of the
--- display, and the scan line of underlines
+-- the CRT controller's registers of the height of characters, the cursor's first and last scan
+-- line, the start address and the cursor's address, each a high byte and then a low one, the
+-- vertical retrace's end, whose bit 7 protects others, the end of the display, and the scan line of
+-- underlines
 abbrev pub maximum_scan_line : ℕ
 maximum_scan_line = 0x09
 
@@ -139,11 +145,13 @@ underline_location = 0x14
 abbrev pub overscan : ℕ
 overscan = 0x11
 
--- the attribute controller's palette address source, which is put beside an index: the palette is shown
+-- the attribute controller's palette address source, which is put beside an index: the palette is
+-- shown
 abbrev pub palette_shown : ℕ
 palette_shown = 0x20
 
--- the attribute controller's mode control register, and all bits of it but the one that makes attributes blink
+-- the attribute controller's mode control register, and all bits of it but the one that makes
+-- attributes blink
 abbrev pub mode_control : ℕ
 mode_control = 0x10
 

@@ -2,7 +2,13 @@
 ghost use Rattle.std.specs.Prelude.{◌≡◌, ◌<◌, ◌≤◌, ◌+◌, ◌-◌, ◌*◌, ◌^◌};
 ghost use Rattle.bios_services.specs.Plan.{run};
 ghost use Rattle.bios_services.specs.Bounds.{IsSet, pages_of, reached_cells, reached_rows};
-ghost use Rattle.bios_services.specs.Bands.{IsBand, address_in, band_of, copy_line as copy_line_plan, copy_row as copy_row_plan, raise_rows as raise_rows_plan, lower_rows as lower_rows_plan, fill_line as fill_line_plan, fill_row as fill_row_plan, fill_rows as fill_rows_plan, access_plan, fill_plan, up_plan, down_plan};
+ghost use Rattle.bios_services.specs.Bands.{IsBand, address_in, band_of};
+ghost use Rattle.bios_services.specs.Bands.{copy_line as copy_line_plan, copy_row as copy_row_plan};
+ghost use Rattle.bios_services.specs.Bands.{raise_rows as raise_rows_plan};
+ghost use Rattle.bios_services.specs.Bands.{lower_rows as lower_rows_plan};
+ghost use Rattle.bios_services.specs.Bands.{fill_line as fill_line_plan, fill_row as fill_row_plan};
+ghost use Rattle.bios_services.specs.Bands.{fill_rows as fill_rows_plan, access_plan, fill_plan};
+ghost use Rattle.bios_services.specs.Bands.{up_plan, down_plan};
 
 use crate::cells::page_address;
 use crate::cycles::{graphics, move_byte, put, sequencer};
@@ -155,7 +161,8 @@ impl Band {
     fn fill_rows<B: Bus>(self, bus: &mut B, filling: Filling, top: u32, end: u32)
         requires band { IsBand self }
         requires end { end ≤ reached_rows }
-        ensures { bus.new ≡ (run B.meaning (fill_rows_plan self filling top (end - top)) bus.old).0 }
+        ensures { bus.new ≡ (run B.meaning (fill_rows_plan self filling top (end - top))
+            bus.old).0 }
     {
         for row in top..end {
             self.fill_row(bus, filling, row);
@@ -167,7 +174,8 @@ impl Band {
     fn fill<B: Bus>(self, bus: &mut B, colour: u8, top: u32, end: u32)
         requires band { IsBand self }
         requires end { end ≤ reached_rows }
-        ensures { bus.new ≡ (run B.meaning (fill_plan self.kind self colour top (end - top)) bus.old).0 }
+        ensures { bus.new ≡ (run B.meaning (fill_plan self.kind self colour top (end - top))
+            bus.old).0 }
     {
         by_kind!(
             self.kind,

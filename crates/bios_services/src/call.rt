@@ -1,6 +1,8 @@
 //! Which service the registers ask for.
 ghost use Rattle.std.specs.Prelude.{◌≡◌};
-ghost use Rattle.bios_services.specs.Calls.{scroll_of as scroll_of_regs, colour_call_of as colour_call_of_regs, service_of as service_of_regs, call_of};
+ghost use Rattle.bios_services.specs.Calls.{scroll_of as scroll_of_regs};
+ghost use Rattle.bios_services.specs.Calls.{colour_call_of as colour_call_of_regs};
+ghost use Rattle.bios_services.specs.Calls.{service_of as service_of_regs, call_of};
 
 use crate::cell_run::CellRun;
 use crate::colours::ColourService;
@@ -13,7 +15,8 @@ use crate::tables::TableService;
 /// What a call asks for.
 #[derive(Clone, Copy)]
 pub enum Call {
-    /// 00: sets a mode, and keeps the memory where bit 7 of AL is 1. It needs no mode to be set before.
+    /// 00: sets a mode, and keeps the memory where bit 7 of AL is 1. It needs no mode to be set
+    /// before.
     SetMode { mode: u8, keeps: bool },
     /// 10 with AL = 09 or 17: answers a table.
     ReadTable(TableService),
@@ -55,7 +58,8 @@ pub enum Service {
     ReadCell {
         page: u8,
     },
-    /// 09 and 0A: writes a character to some cells from the cursor on; in text 09 writes the attribute too.
+    /// 09 and 0A: writes a character to some cells from the cursor on; in text 09 writes the
+    /// attribute too.
     WriteCells(CellRun),
     /// 0C: writes a dot.
     WritePixel {

@@ -2,7 +2,10 @@
 ghost use Rattle.std.specs.Prelude.{◌≡◌, ◌<◌, ◌≤◌, ◌+◌, ◌*◌, ◌^◌};
 ghost use Rattle.bios_services.specs.Plan.{run};
 ghost use Rattle.bios_services.specs.Bounds.{IsSet, pages_of, reached_cells};
-ghost use Rattle.bios_services.specs.Cells.{page_base as page_base_of, page_address as page_address_of, cell_address as cell_address_of, cells_of, read_cell_plan, attribute_plan, write_cell_plan};
+ghost use Rattle.bios_services.specs.Cells.{page_base as page_base_of};
+ghost use Rattle.bios_services.specs.Cells.{page_address as page_address_of};
+ghost use Rattle.bios_services.specs.Cells.{cell_address as cell_address_of, cells_of};
+ghost use Rattle.bios_services.specs.Cells.{read_cell_plan, attribute_plan, write_cell_plan};
 
 use crate::colouring::Colouring;
 use crate::cycles::{get, put};

@@ -3,7 +3,9 @@ ghost use Rattle.std.specs.Prelude.{◌≡◌, ◌<◌, ◌+◌, ◌^◌, length
 ghost use Rattle.bios_services.specs.Bounds.{reached_cells};
 ghost use Rattle.bios_services.specs.Plan.{run};
 ghost use Rattle.bios_services.specs.Bands.{IsBand};
-ghost use Rattle.bios_services.specs.CharacterReading.{shift_dot as shift_dot_plan, packed_line as packed_line_plan, line_plan, lines_plan, read_character_plan};
+ghost use Rattle.bios_services.specs.CharacterReading.{shift_dot as shift_dot_plan};
+ghost use Rattle.bios_services.specs.CharacterReading.{packed_line as packed_line_plan, line_plan};
+ghost use Rattle.bios_services.specs.CharacterReading.{lines_plan, read_character_plan};
 
 use crate::band::{Band, set_access};
 use crate::cycles::get;

@@ -3,7 +3,10 @@ ghost use Rattle.std.specs.Prelude.{◌≡◌, ◌<◌, None, length};
 ghost use Rattle.bios_services.specs.Bounds.{ports_end};
 ghost use Rattle.bios_services.specs.Plan.{run};
 ghost use Rattle.bios_services.specs.Reasons.{reason_of};
-ghost use Rattle.bios_services.specs.Colours.{no_register as no_register_of, no_entry as no_entry_of, no_entries as no_entries_of, colour_refusal as colour_refusal_of, read_entry_plan, read_register_in_bh, read_mask_in_bl, colours_plan};
+ghost use Rattle.bios_services.specs.Colours.{no_register as no_register_of};
+ghost use Rattle.bios_services.specs.Colours.{no_entry as no_entry_of, no_entries as no_entries_of};
+ghost use Rattle.bios_services.specs.Colours.{colour_refusal as colour_refusal_of, read_entry_plan};
+ghost use Rattle.bios_services.specs.Colours.{read_register_in_bh, read_mask_in_bl, colours_plan};
 
 use crate::cycles::{inp, out};
 use crate::dac::{set_entries, set_entry};
@@ -131,7 +134,8 @@ fn read_entry<B: Bus>(bus: &mut B, entry: u8, regs: &mut Regs)
 fn answer_register<B: Bus>(bus: &mut B, port: u16, register: u8, regs: &mut Regs)
     requires port { port < ports_end }
     requires register { register < 32 }
-    ensures { (bus.new, regs.new) ≡ run B.meaning (read_register_in_bh port register regs.old) bus.old }
+    ensures { (bus.new, regs.new) ≡ run B.meaning (read_register_in_bh port register regs.old)
+        bus.old }
 {
     let value = read_register(bus, port, register);
     regs.bx = with_high(regs.bx, value);
@@ -157,7 +161,8 @@ pub(crate) fn perform_colours<B: Bus>(
 )
     requires port { port < ports_end }
     requires allowed { colour_refusal_of service (length block.now) ≡ None }
-    ensures { (bus.new, regs.new) ≡ run B.meaning (colours_plan service port regs.old block.now) bus.old }
+    ensures { (bus.new, regs.new) ≡ run B.meaning (colours_plan service port regs.old block.now)
+        bus.old }
 {
     match service {
         ColourService::SetRegister { register, value } => set_register(bus, port, register, value),

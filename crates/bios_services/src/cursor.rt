@@ -1,8 +1,12 @@
 //! The cursor and the pages.
 ghost use Rattle.std.specs.Prelude.{◌≡◌, ◌<◌, ◌≤◌, ◌+◌, ◌*◌, ◌/◌};
 ghost use Rattle.bios_services.specs.Plan.{run};
-ghost use Rattle.bios_services.specs.Bounds.{IsSet, StaysInMode, pages_of, furthest_cell, ports_end};
-ghost use Rattle.bios_services.specs.Cursor.{cell_number as cell_number_of, cursor_cell as cursor_cell_of, word_plan, cursor_address as cursor_address_of, cursor_plan, move_cursor_plan, cursor_type_plan, page_plan};
+ghost use Rattle.bios_services.specs.Bounds.{IsSet, StaysInMode, pages_of, furthest_cell};
+ghost use Rattle.bios_services.specs.Bounds.{ports_end};
+ghost use Rattle.bios_services.specs.Cursor.{cell_number as cell_number_of};
+ghost use Rattle.bios_services.specs.Cursor.{cursor_cell as cursor_cell_of, word_plan};
+ghost use Rattle.bios_services.specs.Cursor.{cursor_address as cursor_address_of, cursor_plan};
+ghost use Rattle.bios_services.specs.Cursor.{move_cursor_plan, cursor_type_plan, page_plan};
 
 use crate::cycles::indexed;
 use crate::video_registers::{CURSOR_ADDRESS, CURSOR_END, CURSOR_START, START_ADDRESS};
@@ -72,7 +76,8 @@ pub(crate) fn show_cursor<B: Bus>(bus: &mut B, bda: &Bda, page: u8)
 pub(crate) fn move_cursor<B: Bus>(bus: &mut B, bda: &mut Bda, page: u8, place: u16)
     requires data { IsSet bda.old }
     requires page { page < pages_of bda.old }
-    ensures answer { (bus.new, bda.new) ≡ run B.meaning (move_cursor_plan bda.old page place) bus.old }
+    ensures answer { (bus.new, bda.new) ≡ run B.meaning (move_cursor_plan bda.old page place)
+        bus.old }
     ensures stays { StaysInMode bda.old bda.new }
 {
     bda.set_cursor_place(page as usize, place);
@@ -83,7 +88,8 @@ pub(crate) fn move_cursor<B: Bus>(bus: &mut B, bda: &mut Bda, page: u8, place: u
 #[tactic(auto, using(crate::proofs::PlanRuns::run_bind), unfolding(crate::specs::Cursor::cursor_type_plan))]
 pub(crate) fn set_cursor_type<B: Bus>(bus: &mut B, bda: &mut Bda, cursor_type: u16)
     requires { IsSet bda.old }
-    ensures answer { (bus.new, bda.new) ≡ run B.meaning (cursor_type_plan bda.old cursor_type) bus.old }
+    ensures answer { (bus.new, bda.new) ≡ run B.meaning (cursor_type_plan bda.old cursor_type)
+        bus.old }
     ensures stays { StaysInMode bda.old bda.new }
 {
     let port = bda.crtc_address();

@@ -1,8 +1,14 @@
 //! The cycles that services are made of. A refused write does nothing, and a refused read gives FF.
 ghost use Rattle.std.specs.Prelude.{◌≡◌, ◌<◌, ◌≤◌, length};
 ghost use Rattle.bios_services.specs.Bounds.{ports_end};
-ghost use Rattle.bios_services.specs.Plan.{run, out as out_plan, put as put_plan, inp as inp_plan, get as get_plan, move as move_plan};
-ghost use Rattle.bios_services.specs.Cycles.{indexed as indexed_plan, sequencer as sequencer_plan, graphics as graphics_plan, attribute as attribute_plan, group as group_plan, attribute_group as attribute_group_plan, expect_index as expect_index_plan, show_palette as show_palette_plan};
+ghost use Rattle.bios_services.specs.Plan.{run, out as out_plan, put as put_plan, inp as inp_plan};
+ghost use Rattle.bios_services.specs.Plan.{get as get_plan, move as move_plan};
+ghost use Rattle.bios_services.specs.Cycles.{indexed as indexed_plan, sequencer as sequencer_plan};
+ghost use Rattle.bios_services.specs.Cycles.{graphics as graphics_plan};
+ghost use Rattle.bios_services.specs.Cycles.{attribute as attribute_plan, group as group_plan};
+ghost use Rattle.bios_services.specs.Cycles.{attribute_group as attribute_group_plan};
+ghost use Rattle.bios_services.specs.Cycles.{expect_index as expect_index_plan};
+ghost use Rattle.bios_services.specs.Cycles.{show_palette as show_palette_plan};
 
 use crate::video_registers::{ATTRIBUTE, GRAPHICS, PALETTE_SHOWN, SEQUENCER};
 use vga_card::Bus;

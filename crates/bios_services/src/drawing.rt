@@ -3,7 +3,13 @@ ghost use Rattle.std.specs.Prelude.{◌≡◌, ◌<◌, ◌≤◌, ◌+◌};
 ghost use Rattle.bios_services.specs.Plan.{run};
 ghost use Rattle.bios_services.specs.Bounds.{IsSet, pages_of, reached_cells};
 ghost use Rattle.bios_services.specs.Bands.{IsBand};
-ghost use Rattle.bios_services.specs.Drawing.{cell_band as cell_band_of, put_glyph as put_glyph_plan, put_over as put_over_plan, put_glyph_over as put_glyph_over_plan, plain_plan, xor_plan, planar_plan, dot_of, put_dots as put_dots_plan, packed_plan, character_plan, characters_plan};
+ghost use Rattle.bios_services.specs.Drawing.{cell_band as cell_band_of};
+ghost use Rattle.bios_services.specs.Drawing.{put_glyph as put_glyph_plan};
+ghost use Rattle.bios_services.specs.Drawing.{put_over as put_over_plan};
+ghost use Rattle.bios_services.specs.Drawing.{put_glyph_over as put_glyph_over_plan, plain_plan};
+ghost use Rattle.bios_services.specs.Drawing.{xor_plan, planar_plan, dot_of};
+ghost use Rattle.bios_services.specs.Drawing.{put_dots as put_dots_plan, packed_plan};
+ghost use Rattle.bios_services.specs.Drawing.{character_plan, characters_plan};
 
 use crate::band::Band;
 use crate::cells::{cell_address, write_cell};
@@ -54,7 +60,8 @@ fn put_over<B: Bus>(bus: &mut B, address: u32, dots: u8)
 fn put_glyph_over<B: Bus>(bus: &mut B, cell: Band, row: u32, fonts: &Fonts, character: u8)
     requires cell { IsBand cell }
     requires row { row < reached_cells }
-    ensures { bus.new ≡ (run B.meaning (put_glyph_over_plan cell row fonts.now character) bus.old).0 }
+    ensures { bus.new ≡ (run B.meaning (put_glyph_over_plan cell row fonts.now character)
+        bus.old).0 }
 {
     for r in 0..cell.lines {
         let dots = glyph_line(fonts, cell.lines, character, r);
@@ -94,7 +101,8 @@ fn draw_by_xor<B: Bus>(bus: &mut B, cell: Band, row: u32, fonts: &Fonts, charact
 fn draw_planar<B: Bus>(bus: &mut B, cell: Band, row: u32, fonts: &Fonts, character: u8, colour: u8)
     requires cell { IsBand cell }
     requires row { row < reached_cells }
-    ensures { bus.new ≡ (run B.meaning (planar_plan cell row fonts.now character colour) bus.old).0 }
+    ensures { bus.new ≡ (run B.meaning (planar_plan cell row fonts.now character colour)
+        bus.old).0 }
 {
     if is_set(colour, 7) {
         draw_by_xor(bus, cell, row, fonts, character, colour);
@@ -129,7 +137,8 @@ fn put_dots<B: Bus>(bus: &mut B, cell: Band, row: u32, line: u32, dots: u8, colo
 fn draw_packed<B: Bus>(bus: &mut B, cell: Band, row: u32, fonts: &Fonts, character: u8, colour: u8)
     requires cell { IsBand cell }
     requires row { row < reached_cells }
-    ensures { bus.new ≡ (run B.meaning (packed_plan cell row fonts.now character colour) bus.old).0 }
+    ensures { bus.new ≡ (run B.meaning (packed_plan cell row fonts.now character colour)
+        bus.old).0 }
 {
     for r in 0..cell.lines {
         let dots = glyph_line(fonts, cell.lines, character, r);
@@ -151,7 +160,8 @@ pub(crate) fn write_character<B: Bus>(
     requires data { IsSet bda.now }
     requires page { page < pages_of bda.now }
     requires cell { q < reached_cells }
-    ensures { bus.new ≡ (run B.meaning (character_plan fonts.now bda.now page q character colouring) bus.old).0 }
+    ensures { bus.new ≡ (run B.meaning (character_plan fonts.now bda.now page q character colouring)
+        bus.old).0 }
 {
     let row = q / bda.columns() as u32;
     let colour = colouring.colour;
@@ -178,7 +188,8 @@ pub(crate) fn write_characters<B: Bus>(
     requires data { IsSet bda.now }
     requires page { page < pages_of bda.now }
     requires cells { q + n ≤ reached_cells }
-    ensures { bus.new ≡ (run B.meaning (characters_plan fonts.now bda.now page q character colouring n) bus.old).0 }
+    ensures { bus.new ≡ (run B.meaning (characters_plan fonts.now bda.now page q character colouring
+        n) bus.old).0 }
 {
     for i in 0..n {
         write_character(bus, fonts, bda, page, q + i, character, colouring);

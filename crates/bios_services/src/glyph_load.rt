@@ -5,7 +5,8 @@ ghost use Rattle.bios_services.specs.Bounds.{ports_end};
 ghost use Rattle.bios_services.specs.Plan.{run};
 ghost use Rattle.bios_services.specs.ModeSet.{font_plan, glyph_plan, glyphs_plan};
 ghost use Rattle.bios_services.specs.Reasons.{reason_of};
-ghost use Rattle.bios_services.specs.GlyphLoads.{AreThere, whole_font, glyph_load_of, glyphs_len, load_refusal, loaded_line, load_plan};
+ghost use Rattle.bios_services.specs.GlyphLoads.{AreThere, whole_font, glyph_load_of, glyphs_len};
+ghost use Rattle.bios_services.specs.GlyphLoads.{load_refusal, loaded_line, load_plan};
 
 use crate::cells::GRAPHICS_BASE;
 use crate::cursor::write_word;
@@ -77,7 +78,8 @@ impl GlyphLoad {
         self.height as usize * self.count as usize
     }
 
-    /// Refuses the glyphs in a mode, with a block of this length, for the first reason that there is.
+    /// Refuses the glyphs in a mode, with a block of this length, for the first reason that there
+    /// is.
     pub(crate) fn refusal(self, mode: u8, len: usize) -> Result<(), Refusal>
         ensures { reason_of result ≡ load_refusal self mode len }
     {
@@ -110,7 +112,8 @@ impl GlyphLoad {
         requires there { AreThere self (length block.now) }
         requires first { self.first ≤ c }
         requires last { c < self.first + self.count }
-        ensures { bus.new ≡ (run B.meaning (glyph_plan (loaded_line fonts.now self block.now) self.height c) bus.old).0 }
+        ensures { bus.new ≡ (run B.meaning (glyph_plan (loaded_line fonts.now self block.now)
+            self.height c) bus.old).0 }
     {
         for r in 0..self.height {
             put(
@@ -125,18 +128,21 @@ impl GlyphLoad {
     #[tactic(auto, using(crate::proofs::PlanRuns::run_bind), unfolding(crate::specs::ModeSet::glyphs_plan))]
     fn write_glyphs<B: Bus>(self, bus: &mut B, fonts: &Fonts, block: &[u8])
         requires { AreThere self (length block.now) }
-        ensures { bus.new ≡ (run B.meaning (glyphs_plan (loaded_line fonts.now self block.now) self.height self.count self.first) bus.old).0 }
+        ensures { bus.new ≡ (run B.meaning (glyphs_plan (loaded_line fonts.now self block.now)
+            self.height self.count self.first) bus.old).0 }
     {
         for c in self.first..self.first + self.count {
             self.write_glyph(bus, fonts, block, c);
         }
     }
 
-    /// Writes the glyphs to plane 2, and reaches planes 0 and 1 again, in the window of this value of graphics register 6.
+    /// Writes the glyphs to plane 2, and reaches planes 0 and 1 again, in the window of this value
+    /// of graphics register 6.
     #[tactic(auto, using(crate::proofs::PlanRuns::run_bind), unfolding(crate::specs::ModeSet::font_plan))]
     fn write_font<B: Bus>(self, bus: &mut B, fonts: &Fonts, block: &[u8], window: u8)
         requires { AreThere self (length block.now) }
-        ensures { bus.new ≡ (run B.meaning (font_plan (loaded_line fonts.now self block.now) self.height self.count self.first window) bus.old).0 }
+        ensures { bus.new ≡ (run B.meaning (font_plan (loaded_line fonts.now self block.now)
+            self.height self.count self.first window) bus.old).0 }
     {
         sequencer(bus, MAP_MASK, GLYPH_PLANE);
         sequencer(bus, MEMORY_MODE, ALL_ADDRESSES);
@@ -151,7 +157,8 @@ impl GlyphLoad {
 
     /// Writes the font of 16 scan lines, as a mode set does.
     pub(crate) fn write_font_of_16<B: Bus>(bus: &mut B, fonts: &Fonts, window: u8)
-        ensures { bus.new ≡ (run B.meaning (font_plan (glyph_row 16 fonts.now.f16) 16 256 0 window) bus.old).0 }
+        ensures { bus.new ≡ (run B.meaning (font_plan (glyph_row 16 fonts.now.f16) 16 256 0 window)
+            bus.old).0 }
     {
         GlyphLoad::whole_font(16).write_font(bus, fonts, &[], window);
     }

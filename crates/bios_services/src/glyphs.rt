@@ -1,6 +1,8 @@
 //! The glyphs of characters in the font of the mode's height.
 ghost use Rattle.std.specs.Prelude.{◌≡◌, ◌<◌, ◌≤◌, length};
-ghost use Rattle.bios_services.specs.Glyphs.{glyph_line as glyph_line_of, has_lines as has_lines_of, first_character as first_character_of};
+ghost use Rattle.bios_services.specs.Glyphs.{glyph_line as glyph_line_of};
+ghost use Rattle.bios_services.specs.Glyphs.{has_lines as has_lines_of};
+ghost use Rattle.bios_services.specs.Glyphs.{first_character as first_character_of};
 
 use bios_modes::Fonts;
 

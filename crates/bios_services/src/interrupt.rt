@@ -11,7 +11,11 @@ ghost use Rattle.bios_services.specs.GlyphLoads.{load_refusal};
 ghost use Rattle.bios_services.specs.declared.reply.Table.TheVariants.{Empty};
 ghost use Rattle.bios_services.specs.declared.reply.ServiceError.TheVariants.{OutOfMemory};
 ghost use Rattle.bios_services.specs.declared.call.Call.TheVariants.{ReadTable};
-ghost use Rattle.bios_services.specs.Service.{set_mode_plan, load_at, load_in_mode_plan, in_mode_plan, read_cursor_of, read_mode_of, read_adapter_of, read_display_of, read_cell_service, read_pixel_service, plan_of, table_in_mode_plan, service, takes_memory, Serves};
+ghost use Rattle.bios_services.specs.Service.{set_mode_plan, load_at, load_in_mode_plan};
+ghost use Rattle.bios_services.specs.Service.{in_mode_plan, read_cursor_of, read_mode_of};
+ghost use Rattle.bios_services.specs.Service.{read_adapter_of, read_display_of, read_cell_service};
+ghost use Rattle.bios_services.specs.Service.{read_pixel_service, plan_of, table_in_mode_plan};
+ghost use Rattle.bios_services.specs.Service.{service, takes_memory, Serves};
 
 use crate::call::{Call, Service, decode};
 use crate::cells::{cell_address, read_cell};
@@ -46,7 +50,8 @@ fn read_cursor(bda: &Bda, page: u8, regs: &mut Regs)
 fn read_cursor_cell<B: Bus>(bus: &mut B, fonts: &Fonts, bda: &Bda, page: u8, regs: &mut Regs)
     requires data { IsSet bda.now }
     requires page { page < pages_of bda.now }
-    ensures { (bus.new, regs.new) ≡ run B.meaning (read_cell_service fonts.now page bda.now regs.old) bus.old }
+    ensures { (bus.new, regs.new) ≡ run B.meaning (read_cell_service fonts.now page bda.now
+        regs.old) bus.old }
 {
     let q = cursor_cell(bda, page);
     if is_text(bda.mode()) {
@@ -63,7 +68,8 @@ fn read_cursor_cell<B: Bus>(bus: &mut B, fonts: &Fonts, bda: &Bda, page: u8, reg
 fn read_pixel_colour<B: Bus>(bus: &mut B, bda: &Bda, page: u8, x: u16, y: u16, regs: &mut Regs)
     requires data { IsSet bda.now }
     requires page { page < pages_of bda.now }
-    ensures { (bus.new, regs.new) ≡ run B.meaning (read_pixel_service page x y bda.now regs.old) bus.old }
+    ensures { (bus.new, regs.new) ≡ run B.meaning (read_pixel_service page x y bda.now regs.old)
+        bus.old }
 {
     let colour = read_pixel(bus, bda, page, x, y);
     regs.ax = with_low(regs.ax, colour);
@@ -110,7 +116,8 @@ fn perform<B: Bus>(
 )
     requires allowed { refusal_in_mode_of service bda.old (length block.now) ≡ None }
     requires data { IsSet bda.old }
-    ensures answer { (bus.new, (regs.new, bda.new)) ≡ run B.meaning (plan_of service fonts.now bda.old regs.old block.now) bus.old }
+    ensures answer { (bus.new, (regs.new, bda.new))
+        ≡ run B.meaning (plan_of service fonts.now bda.old regs.old block.now) bus.old }
     ensures stays { StaysInMode bda.old bda.new }
 {
     match service {
@@ -160,7 +167,8 @@ fn perform_allowed<B: Bus>(
     requires allowed { refusal_in_mode_of service bda.old (length block.now) ≡ None }
     requires valid { IsValid bda.old }
     requires set { bda.old.mode ≢ 0 }
-    ensures answer { (bus.new, (result, bda.new)) ≡ run B.meaning (plan_of service fonts.now bda.old regs block.now) bus.old }
+    ensures answer { (bus.new, (result, bda.new)) ≡ run B.meaning
+        (plan_of service fonts.now bda.old regs block.now) bus.old }
     ensures valid { IsValid bda.new }
 {
     let mut answer = regs;
@@ -189,7 +197,8 @@ fn set_mode<B: Bus>(
     regs: Regs,
 ) -> Result<Reply, Refusal>
     requires { IsValid bda.old }
-    ensures answer { (bus.new, (result, bda.new)) ≡ run B.meaning (set_mode_plan (mode_row_of mode) mode keeps fonts.now bda.old regs) bus.old }
+    ensures answer { (bus.new, (result, bda.new)) ≡ run B.meaning
+        (set_mode_plan (mode_row_of mode) mode keeps fonts.now bda.old regs) bus.old }
     ensures valid { IsValid bda.new }
 {
     let Some(row) = mode_row(mode) else {
@@ -212,7 +221,9 @@ fn load_allowed<B: Bus>(
 ) -> Result<Reply, Refusal>
     requires valid { IsValid bda.old }
     requires allowed { load_refusal load bda.old.mode (length block.now) ≡ None }
-    ensures answer { (bus.new, (result, bda.new)) ≡ run B.meaning (load_at (row_at_of bda.old.mode load.height) load fonts.now bda.old regs block.now) bus.old }
+    ensures answer { (bus.new, (result, bda.new)) ≡ run B.meaning
+        (load_at (row_at_of bda.old.mode load.height) load fonts.now bda.old regs block.now)
+        bus.old }
     ensures valid { IsValid bda.new }
 {
     let mode = bda.mode();
@@ -235,7 +246,8 @@ fn load_in_mode<B: Bus>(
     block: &[u8],
 ) -> Result<Reply, Refusal>
     requires { IsValid bda.old }
-    ensures answer { (bus.new, (result, bda.new)) ≡ run B.meaning (load_in_mode_plan load fonts.now bda.old regs block.now) bus.old }
+    ensures answer { (bus.new, (result, bda.new)) ≡ run B.meaning
+        (load_in_mode_plan load fonts.now bda.old regs block.now) bus.old }
     ensures valid { IsValid bda.new }
 {
     if bda.mode() == 0 {
@@ -256,7 +268,8 @@ fn in_mode<B: Bus>(
     block: &[u8],
 ) -> Result<Reply, Refusal>
     requires { IsValid bda.old }
-    ensures answer { (bus.new, (result, bda.new)) ≡ run B.meaning (in_mode_plan service fonts.now bda.old regs block.now) bus.old }
+    ensures answer { (bus.new, (result, bda.new)) ≡ run B.meaning
+        (in_mode_plan service fonts.now bda.old regs block.now) bus.old }
     ensures valid { IsValid bda.new }
 {
     if bda.mode() == 0 {
@@ -276,8 +289,10 @@ fn table_in_mode<B: Bus>(
     regs: Regs,
 ) -> Result<Reply, ServiceError>
     requires { IsValid bda.now }
-    ensures answer { Serves B.meaning (table_in_mode_plan service bda.now regs) bus.old bda.now result bus.new bda.now }
-    ensures memory { result ≡ Err OutOfMemory → takes_memory (Some (ReadTable service)) bda.now ≡ true }
+    ensures answer { Serves B.meaning (table_in_mode_plan service bda.now regs) bus.old bda.now
+        result bus.new bda.now }
+    ensures memory { result ≡ Err OutOfMemory → takes_memory (Some (ReadTable service)) bda.now
+        ≡ true }
 {
     if bda.mode() == 0 {
         return Err(ServiceError::Refused(Refusal::NoMode));
@@ -293,13 +308,16 @@ fn table_in_mode<B: Bus>(
 
 /// Does the service that the registers ask for, as cycles over a bus.
 ///
-/// Registers that a service does not answer stay as they are handed in. A service is refused by name, and
-/// then has no cycle and leaves the BIOS data: `NoMode` before a mode is set, `BadFunction`, `BadMode`,
-/// `WrongKind`, `BadPage`, `Outside`, `CountPast`, `BadRegister`, `BadBlock` or `BadHeight`; of several the first is answered. Within a service a cycle that the
-/// bus refuses does nothing, or gives FF (hexadecimal). The BIOS data must be valid, and are so afterwards.
+/// Registers that a service does not answer stay as they are handed in. A service is refused by
+/// name, and then has no cycle and leaves the BIOS data: `NoMode` before a mode is set,
+/// `BadFunction`, `BadMode`,
+/// `WrongKind`, `BadPage`, `Outside`, `CountPast`, `BadRegister`, `BadBlock` or `BadHeight`; of
+/// several the first is answered. Within a service a cycle that the bus refuses does nothing, or
+/// gives FF (hexadecimal). The BIOS data must be valid, and are so afterwards.
 ///
-/// Function 10 with AL = 17 alone, which answers CX entries of the DAC as a table, takes memory, before its first
-/// cycle; where CX is 0 it takes none. Where memory is refused, the answer is `OutOfMemory`, and nothing has changed.
+/// Function 10 with AL = 17 alone, which answers CX entries of the DAC as a table, takes memory,
+/// before its first cycle; where CX is 0 it takes none. Where memory is refused, the answer is
+/// `OutOfMemory`, and nothing has changed.
 pub fn int10<B: Bus>(
     alloc: Global,
     bus: &mut B,
@@ -309,8 +327,10 @@ pub fn int10<B: Bus>(
     block: &[u8],
 ) -> Result<Reply, ServiceError>
     requires { IsValid bda.old }
-    // The cycles of the service in order, its answer, and the BIOS data afterwards; or no memory, and nothing.
-    ensures answer { Serves B.meaning (service fonts.now bda.old regs block.now) bus.old bda.old result bus.new bda.new }
+    // The cycles of the service in order, its answer, and the BIOS data afterwards; or no memory,
+    // and nothing.
+    ensures answer { Serves B.meaning (service fonts.now bda.old regs block.now) bus.old bda.old
+        result bus.new bda.new }
     // Some entries of the DAC as a table alone take memory.
     ensures memory { result ≡ Err OutOfMemory → takes_memory (call_of regs) bda.old ≡ true }
     ensures valid { IsValid bda.new }

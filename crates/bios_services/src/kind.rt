@@ -1,10 +1,12 @@
 //! What hangs on how a mode uses the memory.
 ghost use Rattle.std.specs.Prelude.{◌≡◌, ◌≤◌};
-ghost use Rattle.bios_services.specs.Kinds.{column_bytes as column_bytes_of, row_lines as row_lines_of};
+ghost use Rattle.bios_services.specs.Kinds.{column_bytes as column_bytes_of};
+ghost use Rattle.bios_services.specs.Kinds.{row_lines as row_lines_of};
 
 pub(crate) use bios_modes::{Kind, kind_of};
 
-/// What stands for text, for 16 colours and for 256 colours, by the kind. Each arm says for what it stands.
+/// What stands for text, for 16 colours and for 256 colours, by the kind. Each arm says for what it
+/// stands.
 macro_rules! by_kind {
     ($kind:expr, Text => $text:expr, Planar => $planar:expr, Packed => $packed:expr $(,)?) => {
         match $kind {

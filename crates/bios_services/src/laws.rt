@@ -18,8 +18,8 @@ pub fn refused_services_do_nothing<B: Bus>()
     ensures { RefusedDoNothing B.meaning }
 {}
 
-/// BIOS data are valid, with words as places of the cursor, at power-on and after every call; and each part of
-/// the adapter holds what it can after one.
+/// BIOS data are valid, with words as places of the cursor, at power-on and after every call; and
+/// each part of the adapter holds what it can after one.
 pub fn calls_keep_bounds()
     ensures first { AreData power_on_data }
     ensures card { (fonts : FontSet) (d : BiosData) (r : Regs) (block : List ℕ) (c : CardState) →

@@ -2,7 +2,9 @@
 ghost use Rattle.std.specs.Prelude.{◌≡◌, ◌<◌, ◌≤◌, ◌+◌, ◌*◌, ◌^◌, if◌then◌else◌};
 ghost use Rattle.bios_services.specs.Bounds.{ports_end};
 ghost use Rattle.bios_services.specs.Plan.{run};
-ghost use Rattle.bios_services.specs.ModeSet.{registers_plan, colour_plan, palette_plan, blank_byte as blank_byte_of, blank_plan, clear_plan, text_plan, memory_plan, mode_set_plan};
+ghost use Rattle.bios_services.specs.ModeSet.{registers_plan, colour_plan, palette_plan};
+ghost use Rattle.bios_services.specs.ModeSet.{blank_byte as blank_byte_of, blank_plan, clear_plan};
+ghost use Rattle.bios_services.specs.ModeSet.{text_plan, memory_plan, mode_set_plan};
 
 use crate::cells::GRAPHICS_BASE;
 use crate::cycles::{attribute_group, expect_index, group, indexed, out, put, show_palette};

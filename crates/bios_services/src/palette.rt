@@ -2,7 +2,8 @@
 ghost use Rattle.std.specs.Prelude.{◌≡◌, ◌<◌, ◌≤◌, length};
 ghost use Rattle.bios_services.specs.Bounds.{ports_end};
 ghost use Rattle.bios_services.specs.Plan.{run};
-ghost use Rattle.bios_services.specs.Palette.{set_register_plan, set_palette_plan, set_blinking_plan, register_plan, read_register_plan};
+ghost use Rattle.bios_services.specs.Palette.{set_register_plan, set_palette_plan};
+ghost use Rattle.bios_services.specs.Palette.{set_blinking_plan, register_plan, read_register_plan};
 
 use crate::cycles::{attribute, attribute_group, expect_index, inp, out, show_palette};
 use crate::video_registers::{

@@ -4,7 +4,12 @@ ghost use Rattle.std.specs.Int.{bit_at};
 ghost use Rattle.bios_modes.specs.Kinds.{is_packed as is_packed_mode};
 ghost use Rattle.bios_services.specs.Plan.{run};
 ghost use Rattle.bios_services.specs.Bounds.{IsSet, pages_of};
-ghost use Rattle.bios_services.specs.Pixels.{dots_across as dots_across_of, dots_down as dots_down_of, pixel_address as pixel_address_of, function_plan, write_dot_plan, write_pixel_plan, plane_byte as plane_byte_plan, read_dot_plan, read_pixel_plan};
+ghost use Rattle.bios_services.specs.Pixels.{dots_across as dots_across_of};
+ghost use Rattle.bios_services.specs.Pixels.{dots_down as dots_down_of};
+ghost use Rattle.bios_services.specs.Pixels.{pixel_address as pixel_address_of, function_plan};
+ghost use Rattle.bios_services.specs.Pixels.{write_dot_plan, write_pixel_plan};
+ghost use Rattle.bios_services.specs.Pixels.{plane_byte as plane_byte_plan, read_dot_plan};
+ghost use Rattle.bios_services.specs.Pixels.{read_pixel_plan};
 
 use crate::cells::page_address;
 use crate::cycles::{get, graphics, put};

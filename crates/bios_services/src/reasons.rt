@@ -1,6 +1,12 @@
 //! Reasons why a service is refused, over numbers alone.
 ghost use Rattle.std.specs.Prelude.{◌≡◌};
-ghost use Rattle.bios_services.specs.Reasons.{reason_of, refuse_unless as refuse_unless_of, no_pixels as no_pixels_of, no_page as no_page_of, outside_cells as outside_cells_of, outside_page as outside_page_of, outside_pixels as outside_pixels_of, past_cells as past_cells_of, wrong_block as wrong_block_of};
+ghost use Rattle.bios_services.specs.Reasons.{reason_of, refuse_unless as refuse_unless_of};
+ghost use Rattle.bios_services.specs.Reasons.{no_pixels as no_pixels_of, no_page as no_page_of};
+ghost use Rattle.bios_services.specs.Reasons.{outside_cells as outside_cells_of};
+ghost use Rattle.bios_services.specs.Reasons.{outside_page as outside_page_of};
+ghost use Rattle.bios_services.specs.Reasons.{outside_pixels as outside_pixels_of};
+ghost use Rattle.bios_services.specs.Reasons.{past_cells as past_cells_of};
+ghost use Rattle.bios_services.specs.Reasons.{wrong_block as wrong_block_of};
 
 use bios_modes::is_text;
 use vga_bits::Refusal;

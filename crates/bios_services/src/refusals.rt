@@ -2,7 +2,9 @@
 ghost use Rattle.std.specs.Prelude.{◌≡◌};
 ghost use Rattle.bios_services.specs.Bounds.{IsSet, pages_of};
 ghost use Rattle.bios_services.specs.Reasons.{reason_of};
-ghost use Rattle.bios_services.specs.Refusals.{page_named as page_named_of, refusal_in_mode as refusal_in_mode_of, unknown_refusal as unknown_refusal_of};
+ghost use Rattle.bios_services.specs.Refusals.{page_named as page_named_of};
+ghost use Rattle.bios_services.specs.Refusals.{refusal_in_mode as refusal_in_mode_of};
+ghost use Rattle.bios_services.specs.Refusals.{unknown_refusal as unknown_refusal_of};
 
 use crate::call::Service;
 use crate::cells::cells;

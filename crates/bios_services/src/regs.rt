@@ -1,6 +1,7 @@
 //! The registers of a call.
 ghost use Rattle.std.specs.Prelude.{◌≡◌};
-ghost use Rattle.bios_services.specs.Registers.{high as high_of, low as low_of, with_high as with_high_of, with_low as with_low_of};
+ghost use Rattle.bios_services.specs.Registers.{high as high_of, low as low_of};
+ghost use Rattle.bios_services.specs.Registers.{with_high as with_high_of, with_low as with_low_of};
 
 /// The registers that a caller hands in, and those that a service answers.
 #[derive(Clone, Copy, PartialEq, Eq, Debug)]

@@ -2,13 +2,15 @@
 ghost use Rattle.std.specs.Prelude.{◌≡◌, ◌≤◌};
 ghost use Rattle.bios_services.specs.Plan.{run};
 ghost use Rattle.bios_services.specs.Bounds.{IsSet};
-ghost use Rattle.bios_services.specs.Scroll.{has_cells as has_cells_of, height_of, lines_of, scroll_up_plan, scroll_down_plan};
+ghost use Rattle.bios_services.specs.Scroll.{has_cells as has_cells_of, height_of, lines_of};
+ghost use Rattle.bios_services.specs.Scroll.{scroll_up_plan, scroll_down_plan};
 
 use crate::band::Band;
 use bios_modes::Bda;
 use vga_card::Bus;
 
-/// A scroll that is asked for: by how many rows, with which attribute or colour for new rows, and the window's corners.
+/// A scroll that is asked for: by how many rows, with which attribute or colour for new rows, and
+/// the window's corners.
 #[derive(Clone, Copy)]
 pub struct Scroll {
     pub lines: u8,

@@ -3,7 +3,9 @@ ghost use Rattle.std.specs.Prelude.{◌≡◌, ◌<◌, ◌≤◌, length};
 ghost use Rattle.bios_services.specs.Plan.{run};
 ghost use Rattle.bios_services.specs.Bounds.{IsSet, StaysInMode, pages_of};
 ghost use Rattle.bios_services.specs.Cursor.{row_of};
-ghost use Rattle.bios_services.specs.Strings.{string_of as string_of_regs, string_len, character_at, colouring_at, type_string_plan, string_plan};
+ghost use Rattle.bios_services.specs.Strings.{string_of as string_of_regs, string_len};
+ghost use Rattle.bios_services.specs.Strings.{character_at, colouring_at, type_string_plan};
+ghost use Rattle.bios_services.specs.Strings.{string_plan};
 
 use crate::colouring::Colouring;
 use crate::cursor::move_cursor;
@@ -91,7 +93,8 @@ impl StringCall {
         requires page { page < pages_of bda.now }
         requires row { row_of self.place ≤ bda.now.last_row }
         requires whole { length block.now ≡ string_len self }
-        ensures { (bus.new, result) ≡ run B.meaning (type_string_plan fonts.now bda.now page self block.now) bus.old }
+        ensures { (bus.new, result) ≡ run B.meaning
+            (type_string_plan fonts.now bda.now page self block.now) bus.old }
     {
         let mut place = self.place;
         for i in 0..self.count {
@@ -116,7 +119,8 @@ impl StringCall {
         requires page { page < pages_of bda.old }
         requires row { row_of self.place ≤ bda.old.last_row }
         requires whole { length block.now ≡ string_len self }
-        ensures answer { (bus.new, bda.new) ≡ run B.meaning (string_plan fonts.now bda.old page self block.now) bus.old }
+        ensures answer { (bus.new, bda.new) ≡ run B.meaning
+            (string_plan fonts.now bda.old page self block.now) bus.old }
         ensures stays { StaysInMode bda.old bda.new }
     {
         let place = self.type_all(bus, fonts, bda, page, block);

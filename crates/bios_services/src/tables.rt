@@ -3,7 +3,11 @@ ghost use Rattle.std.specs.Prelude.{◌≡◌, ◌<◌, IfOk, OnErr, None, lengt
 ghost use Rattle.bios_services.specs.Bounds.{ports_end};
 ghost use Rattle.bios_services.specs.Plan.{run};
 ghost use Rattle.bios_services.specs.Reasons.{reason_of};
-ghost use Rattle.bios_services.specs.Tables.{table_refusal as table_refusal_of, palette_register as palette_register_of, registers_plan, read_palette_plan, read_components_plan, read_entries_plan, table_plan, table_takes_memory};
+ghost use Rattle.bios_services.specs.Tables.{table_refusal as table_refusal_of};
+ghost use Rattle.bios_services.specs.Tables.{palette_register as palette_register_of};
+ghost use Rattle.bios_services.specs.Tables.{registers_plan, read_palette_plan};
+ghost use Rattle.bios_services.specs.Tables.{read_components_plan, read_entries_plan, table_plan};
+ghost use Rattle.bios_services.specs.Tables.{table_takes_memory};
 
 use crate::colours::no_entries;
 use crate::cycles::{expect_index, inp, out};
@@ -45,7 +49,8 @@ fn palette_register(i: usize) -> u8
     if i == 16 { OVERSCAN } else { i as u8 }
 }
 
-/// Reads the palette registers and the overscan colour, where the attribute controller's next write is an index.
+/// Reads the palette registers and the overscan colour, where the attribute controller's next write
+/// is an index.
 #[tactic(auto, using(crate::proofs::PlanRuns::run_bind), unfolding(crate::specs::Tables::registers_plan))]
 fn read_registers<B: Bus>(bus: &mut B, port: u16, values: &mut [u8])
     requires port { port < ports_end }
@@ -72,7 +77,8 @@ fn read_palette<B: Bus>(bus: &mut B, port: u16) -> [u8; PALETTE_BYTES]
 /// Reads bytes from the DAC's data.
 #[tactic(auto, using(crate::proofs::PlanRuns::run_bind), unfolding(crate::specs::Tables::read_components_plan))]
 fn read_components<B: Bus>(bus: &mut B, values: &mut Bytes)
-    ensures { (bus.new, values.new) ≡ run B.meaning (read_components_plan (length values.old)) bus.old }
+    ensures { (bus.new, values.new) ≡ run B.meaning (read_components_plan (length values.old))
+        bus.old }
 {
     for i in 0..values.as_slice().len() {
         let value = inp(bus, DAC_DATA);
@@ -80,8 +86,8 @@ fn read_components<B: Bus>(bus: &mut B, values: &mut Bytes)
     }
 }
 
-/// 17: reads red, green and blue of some entries from one on. The memory for them is taken before the
-/// first cycle; none is for no entries.
+/// 17: reads red, green and blue of some entries from one on. The memory for them is taken before
+/// the first cycle; none is for no entries.
 #[tactic(auto, using(crate::proofs::PlanRuns::run_bind), unfolding(crate::specs::Tables::read_entries_plan, vga_bits::specs::Bytes::zeros))]
 fn read_entries<B: Bus>(
     alloc: Global,
@@ -89,7 +95,8 @@ fn read_entries<B: Bus>(
     first: u8,
     count: u16,
 ) -> Result<Bytes, AllocError>
-    ensures ok { IfOk result (λ values. (bus.new, values) ≡ run B.meaning (read_entries_plan first count) bus.old) }
+    ensures ok { IfOk result (λ values. (bus.new, values)
+        ≡ run B.meaning (read_entries_plan first count) bus.old) }
     ensures err { OnErr result ((bus.new ≡ bus.old) × (0 < count)) }
 {
     let Ok(mut values) = Bytes::zeros(alloc, 3 * count as usize) else {
@@ -100,7 +107,8 @@ fn read_entries<B: Bus>(
     Ok(values)
 }
 
-/// Does what a subfunction does that is not refused. Memory is taken for some entries of the DAC alone.
+/// Does what a subfunction does that is not refused. Memory is taken for some entries of the DAC
+/// alone.
 #[tactic(auto, using(crate::proofs::PlanRuns::run_bind), unfolding(crate::specs::Tables::table_plan))]
 pub(crate) fn read_table<B: Bus>(
     alloc: Global,
@@ -110,7 +118,8 @@ pub(crate) fn read_table<B: Bus>(
 ) -> Result<Table, AllocError>
     requires port { port < ports_end }
     requires allowed { table_refusal_of service ≡ None }
-    ensures ok { IfOk result (λ table. (bus.new, table) ≡ run B.meaning (table_plan service port) bus.old) }
+    ensures ok { IfOk result (λ table. (bus.new, table)
+        ≡ run B.meaning (table_plan service port) bus.old) }
     ensures err { OnErr result ((bus.new ≡ bus.old) × (table_takes_memory service ≡ true)) }
 {
     match service {

@@ -3,7 +3,9 @@ ghost use Rattle.std.specs.Prelude.{◌≡◌, ◌<◌, ◌≤◌, ◌+◌, ◌*
 ghost use Rattle.bios_services.specs.Plan.{run};
 ghost use Rattle.bios_services.specs.Bounds.{IsSet, StaysInMode, pages_of};
 ghost use Rattle.bios_services.specs.Cursor.{row_of, place_of};
-ghost use Rattle.bios_services.specs.Teletype.{line_feed_fill as line_feed_fill_plan, line_feed_plan, cursor_advance_plan, show_plan, type_plan, teletype_plan};
+ghost use Rattle.bios_services.specs.Teletype.{line_feed_fill as line_feed_fill_plan};
+ghost use Rattle.bios_services.specs.Teletype.{line_feed_plan, cursor_advance_plan, show_plan};
+ghost use Rattle.bios_services.specs.Teletype.{type_plan, teletype_plan};
 
 use crate::band::Band;
 use crate::cells::cell_address;
@@ -62,7 +64,8 @@ fn cursor_advance<B: Bus>(bus: &mut B, bda: &Bda, page: u8, place: u16) -> u16
     requires data { IsSet bda.now }
     requires page { page < pages_of bda.now }
     requires row { row_of place ≤ bda.now.last_row }
-    ensures place { (bus.new, result) ≡ run B.meaning (cursor_advance_plan bda.now page place) bus.old }
+    ensures place { (bus.new, result) ≡ run B.meaning (cursor_advance_plan bda.now page place)
+        bus.old }
     ensures row { row_of result ≤ bda.now.last_row }
 {
     if place % 256 + 1 < bda.columns() {
@@ -86,7 +89,8 @@ fn show<B: Bus>(
     requires data { IsSet bda.now }
     requires page { page < pages_of bda.now }
     requires row { row_of place ≤ bda.now.last_row }
-    ensures place { (bus.new, result) ≡ run B.meaning (show_plan fonts.now bda.now page place character colouring) bus.old }
+    ensures place { (bus.new, result) ≡ run B.meaning
+        (show_plan fonts.now bda.now page place character colouring) bus.old }
     ensures row { row_of result ≤ bda.now.last_row }
 {
     let q = cell_number(bda, place);
@@ -108,7 +112,8 @@ pub(crate) fn type_character<B: Bus>(
     requires data { IsSet bda.now }
     requires page { page < pages_of bda.now }
     requires row { row_of place ≤ bda.now.last_row }
-    ensures place { (bus.new, result) ≡ run B.meaning (type_plan fonts.now bda.now page place character colouring) bus.old }
+    ensures place { (bus.new, result) ≡ run B.meaning
+        (type_plan fonts.now bda.now page place character colouring) bus.old }
     ensures row { row_of result ≤ bda.now.last_row }
 {
     match character {
@@ -125,7 +130,8 @@ pub(crate) fn type_character<B: Bus>(
 pub(crate) fn teletype<B: Bus>(bus: &mut B, fonts: &Fonts, bda: &mut Bda, character: u8, colour: u8)
     requires data { IsSet bda.old }
     requires row { row_of (place_of bda.old bda.old.page) ≤ bda.old.last_row }
-    ensures answer { (bus.new, bda.new) ≡ run B.meaning (teletype_plan fonts.now bda.old character colour) bus.old }
+    ensures answer { (bus.new, bda.new) ≡ run B.meaning
+        (teletype_plan fonts.now bda.old character colour) bus.old }
     ensures stays { StaysInMode bda.old bda.new }
 {
     if character == BELL {

@@ -32,14 +32,16 @@ pub(crate) const TEXT_PLANES: u8 = 0x03;
 
 pub(crate) const GLYPH_PLANE: u8 = 0x04;
 
-/// The sequencer's register of how addresses reach planes: all alike, or even ones and odd ones apart.
+/// The sequencer's register of how addresses reach planes: all alike, or even ones and odd ones
+/// apart.
 pub(crate) const MEMORY_MODE: u8 = 0x04;
 
 pub(crate) const ALL_ADDRESSES: u8 = 0x06;
 
 pub(crate) const ODD_AND_EVEN_ADDRESSES: u8 = 0x02;
 
-/// The graphics controller's register of the function that combines what is written with the latches.
+/// The graphics controller's register of the function that combines what is written with the
+/// latches.
 pub(crate) const DATA_ROTATE: u8 = 0x03;
 
 pub(crate) const REPLACE: u8 = 0x00;
@@ -52,7 +54,8 @@ pub(crate) const READ_MAP_SELECT: u8 = 0x04;
 /// The graphics controller's register of write and read modes.
 pub(crate) const GRAPHICS_MODE: u8 = 0x05;
 
-/// Write mode 0 and read mode 0, with which all is plain; and the same where even and odd addresses go apart.
+/// Write mode 0 and read mode 0, with which all is plain; and the same where even and odd addresses
+/// go apart.
 pub(crate) const PLAIN: u8 = 0x00;
 
 pub(crate) const PLAIN_ODD_AND_EVEN: u8 = 0x10;
@@ -66,7 +69,8 @@ pub(crate) const WRITE_COLOUR: u8 = 0x02;
 /// Read mode 1: planes are compared with a colour.
 pub(crate) const COMPARE_COLOURS: u8 = 0x08;
 
-/// The graphics controller's register of the memory's window, and the one of 64 KiB at A0000 with planes apart.
+/// The graphics controller's register of the memory's window, and the one of 64 KiB at A0000 with
+/// planes apart.
 pub(crate) const MISCELLANEOUS: u8 = 0x06;
 
 pub(crate) const WINDOW_AT_A0000: u8 = 0x04;
@@ -84,8 +88,8 @@ pub(crate) const CURSOR_START: u8 = 0x0A;
 
 pub(crate) const CURSOR_END: u8 = 0x0B;
 
-/// The CRT controller's registers of the start address and of the cursor's address: a high byte each, and a low one in
-/// the next.
+/// The CRT controller's registers of the start address and of the cursor's address: a high byte
+/// each, and a low one in the next.
 pub(crate) const START_ADDRESS: u8 = 0x0C;
 
 pub(crate) const CURSOR_ADDRESS: u8 = 0x0E;
@@ -101,10 +105,12 @@ pub(crate) const UNDERLINE_LOCATION: u8 = 0x14;
 /// The attribute controller's overscan register, behind its 16 palette registers.
 pub(crate) const OVERSCAN: u8 = 0x11;
 
-/// The attribute controller's palette address source, which is put beside an index: the palette is shown.
+/// The attribute controller's palette address source, which is put beside an index: the palette is
+/// shown.
 pub(crate) const PALETTE_SHOWN: u8 = 0x20;
 
-/// The attribute controller's mode control register, and all bits of it but the one that makes attributes blink.
+/// The attribute controller's mode control register, and all bits of it but the one that makes
+/// attributes blink.
 pub(crate) const MODE_CONTROL: u8 = 0x10;
 
 pub(crate) const NOT_BLINKING: u8 = 0xF7;

@@ -1,5 +1,6 @@
 -- What parsing a word as a number says of the number of steps that the word names.
-use Rattle.std.proofs.Common.{◌≡◌, ◌≢◌, ◌∷◌, [], ℕ, ◌<◌, ◌^◌, ◌==◌, Bool, Some, None, Result, Ok, Err, true, false, not, nat_lt, slice_index, refl, sym, ap, subst, if◌then◌else◌}
+use Rattle.std.proofs.Common.{◌≡◌, ◌≢◌, ◌∷◌, [], ℕ, ◌<◌, ◌^◌, ◌==◌, Bool, Some, None, Result, Ok, Err, true, false, not, nat_lt, slice_index, refl, sym, ap}
+use Rattle.std.proofs.Common.{subst, if◌then◌else◌}
 use Rattle.std.proofs.lemmas.Bool.{eqb-true, ltb-true, lt-ltb}
 use Rattle.std.specs.List.{list_all}
 use Rattle.std.specs.Char.{digit_value}
@@ -53,7 +54,8 @@ signed_count word plus = go word (is_count word) refl plus
         absurd (plus_is_none (subst (λ (d : ℕ). nat_lt (digit_value d) 10 ≡ true) (eqb-true byte 43 plus) (first_is_digit byte rest is)))
 
 -- another names what it is parsed as
-pub unsigned_count : {E : Type 0} (word : Text) (r : Result ℕ E) → (slice_index word 0 == 43) ≡ false → ParsesUnsigned 32 10 word r → result_ok r ≡ count_of word
+pub unsigned_count : {E : Type 0} (word : Text) (r : Result ℕ E) → (slice_index word 0 == 43) ≡ false → ParsesUnsigned 32 10 word r →
+    result_ok r ≡ count_of word
 unsigned_count word (Ok n) unsigned parsed =
     let plain : without_leading_plus word ≡ word = rw unsigned refl in
     let counts : is_count word ≡ true = count_back word (subst (λ w. IsNumeral 10 w × (digits_value 10 w < 2 ^ 32)) plain parsed.0) in
@@ -94,4 +96,5 @@ count_is_plain (byte ∷ rest) n named = go (byte == 45) refl
   where
     go : (b : Bool) → (byte == 45) ≡ b → (byte == 45) ≡ false
     go false is = is
-    go true is = absurd (hyphen_is_none (subst (λ (d : ℕ). nat_lt (digit_value d) 10 ≡ true) (eqb-true byte 45 is) (first_is_digit byte rest (names_count (byte ∷ rest) n named))))
+    go true is = absurd (hyphen_is_none (subst (λ (d : ℕ). nat_lt (digit_value d) 10 ≡ true) (eqb-true byte 45 is)
+        (first_is_digit byte rest (names_count (byte ∷ rest) n named))))

@@ -1,10 +1,12 @@
 -- The words of a command, where no path begins with a hyphen, ask for a job of these paths and this number of steps.
-use Rattle.std.proofs.Common.{◌≡◌, ◌∙◌, ℕ, List, [], ◌∷◌, Option, Some, None, IfSome, Result, Ok, Err, MatchResult, true, false, inl, inr, refl, sym, ap, fold, subst, codes}
+use Rattle.std.proofs.Common.{◌≡◌, ◌∙◌, ℕ, List, [], ◌∷◌, Option, Some, None, IfSome, Result, Ok, Err, MatchResult, true, false, inl, inr, refl, sym, ap, fold}
+use Rattle.std.proofs.Common.{subst, codes}
 use Rattle.std.specs.Str.{bytes_eq}
 use Rattle.clap.specs.Lexer.{long_of, short_of}
 use Rattle.clap.specs.Simple.{built_leaf, inherited, marked_built, on_top, with_leaf_noted}
 use Rattle.clap.specs.Words.{Row, Rule, Shape, Text, fault_of, first_of, kind_of}
-use Rattle.clap.specs.Walk.{after_step, Held, Walk, Waiting, idle, option, positional, plain_word, settled, word_met, finished, walk, walked, nothing_held, walk_from}
+use Rattle.clap.specs.Walk.{after_step, Held, Walk, Waiting, idle, option, positional, plain_word, settled, word_met, finished, walk, walked, nothing_held}
+use Rattle.clap.specs.Walk.{walk_from}
 use Rattle.clap.specs.Faults.{check_fault, defaults_fault, settle_fault, step_fault, turn_fault, walk_fault, word_fault}
 use Rattle.clap.specs.Kinds.{IsAmong, Kinds, or_else}
 use Rattle.clap.specs.declared.builder.value_parser.Reading.TheVariants.{AsWritten}
@@ -12,7 +14,8 @@ use Rattle.clap.specs.declared.parser.matches.ValueSource.TheVariants.{CommandLi
 use Rattle.clap.proofs.OnLiterals.{clap_on_literals}
 use Rattle.vga.specs.CommandLine.{asm_command, command_line, dis_command, go_command, run_command}
 use Rattle.vga.specs.Job.{Request, request_of, asm, dis, run, go}
-use Rattle.vga.specs.Words.{HasPlainPaths, JobAnswers, NamesPaths, asked, asm_asked, bad_count, begins_with_hyphen, count_of, dis_asked, go_asked, is_bad_count, run_asked, until_in, until_words, words_of}
+use Rattle.vga.specs.Words.{HasPlainPaths, JobAnswers, NamesPaths, asked, asm_asked, bad_count, begins_with_hyphen, count_of, dis_asked, go_asked, is_bad_count}
+use Rattle.vga.specs.Words.{run_asked, until_in, until_words, words_of}
 use Rattle.vga.proofs.CountLemmas.{count_is_plain, good_count}
 use Rattle.vga_bits.specs.declared.fault.Fault.TheVariants.{OutOfMemory}
 use Rattle.vga.specs.declared.failure.Failure.{Failure}
@@ -111,7 +114,8 @@ first_walked goes path plain = ap (λ met. after_step (rules goes) path begun me
 -- a path at a place where the walk waits for nothing passes, where the command takes one there
 step_passes : (shape : Shape) (position : ℕ) (path : Text) (held : Held) → begins_with_hyphen path ≡ false
     → step_fault shape position (plain_word shape.rules idle path held).0 (plain_word shape.rules idle path held).1 ≡ []
-    → or_else (word_fault shape [] false idle path held) (step_fault shape position (word_met shape.rules [] false idle position path held).0 (word_met shape.rules [] false idle position path held).1) ≡ []
+    → or_else (word_fault shape [] false idle path held) (step_fault shape position (word_met shape.rules [] false idle position path held).0
+    (word_met shape.rules [] false idle position path held).1) ≡ []
 step_passes shape position path held plain passes =
     let met = word_met shape.rules [] false idle position path held in
     ap (λ k. or_else k (step_fault shape position met.0 met.1)) (path_passes shape idle path held plain)
@@ -133,7 +137,8 @@ after_second text script = record begun {
   position = 3;
 }
 
-second_walked : (text script : Text) → begins_with_hyphen script ≡ false → walked (rules assembles) [] (after_first (codes "TEXT") text) script ≡ after_second text script
+second_walked : (text script : Text) → begins_with_hyphen script ≡ false → walked (rules assembles) [] (after_first (codes "TEXT") text) script
+    ≡ after_second text script
 unfolding clap_on_literals
 second_walked text script plain =
     let before = after_first (codes "TEXT") text in
@@ -170,7 +175,8 @@ after_fonts id path fonts = record begun {
   position = 2;
 }
 
-flag_walked : (runner : Runner) (path : Text) → walked (rules (command_of runner)) [] (after_first (id_of runner) path) (codes "--fonts") ≡ after_flag (id_of runner) path
+flag_walked : (runner : Runner) (path : Text) → walked (rules (command_of runner)) [] (after_first (id_of runner) path) (codes "--fonts")
+    ≡ after_flag (id_of runner) path
 unfolding clap_on_literals
 flag_walked of_script path = refl
 flag_walked of_text path = refl
@@ -190,7 +196,8 @@ unfolding clap_on_literals
 flag_passes of_script path = refl
 flag_passes of_text path = refl
 
-fonts_pass : (runner : Runner) (path fonts : Text) → begins_with_hyphen fonts ≡ false → turn_fault (built (command_of runner)) [] (after_flag (id_of runner) path) fonts ≡ []
+fonts_pass : (runner : Runner) (path fonts : Text) → begins_with_hyphen fonts ≡ false →
+    turn_fault (built (command_of runner)) [] (after_flag (id_of runner) path) fonts ≡ []
 unfolding clap_on_literals
 fonts_pass of_script path fonts plain =
     let waiting = option (codes "fonts") in
@@ -305,7 +312,8 @@ last_walked runner path fonts (Some n) count is =
 
 runner_walked : (runner : Runner) (path fonts : Text) (until : Option ℕ) (count : Text) → begins_with_hyphen path ≡ false → begins_with_hyphen fonts ≡ false
     → IfSome until (λ n. count_of count ≡ Some n)
-    → walk (rules (command_of runner)) [] nothing_held (path ∷ codes "--fonts" ∷ fonts ∷ until_words until count) ≡ runner_ended (id_of runner) path fonts until count
+    → walk (rules (command_of runner)) [] nothing_held (path ∷ codes "--fonts" ∷ fonts ∷ until_words until count)
+    ≡ runner_ended (id_of runner) path fonts until count
 runner_walked runner path fonts until count plain_path plain_fonts is =
     let rs = rules (command_of runner) in
     ap (λ w. walk_on rs (walked rs [] (walked rs [] w (codes "--fonts")) fonts) (until_words until count)) (first_walked (command_of runner) path plain_path)
@@ -313,8 +321,10 @@ runner_walked runner path fonts until count plain_path plain_fonts is =
     ∙ ap (λ w. walk_on rs w (until_words until count)) (fonts_walked runner path fonts plain_fonts)
     ∙ last_walked runner path fonts until count is
 
-words_walked : (request : Request) (count : Text) → IsSound request count → walk (rules (command_for request)) [] nothing_held (words_after request count) ≡ ended request count
-words_walked (asm text script) count (plain, is) = ap (λ w. walked (rules assembles) [] w script) (first_walked assembles text plain.0) ∙ second_walked text script plain.1
+words_walked : (request : Request) (count : Text) → IsSound request count → walk (rules (command_for request)) [] nothing_held (words_after request count)
+    ≡ ended request count
+words_walked (asm text script) count (plain, is) = ap (λ w. walked (rules assembles) [] w script) (first_walked assembles text plain.0)
+    ∙ second_walked text script plain.1
 words_walked (dis script) count (plain, is) = first_walked prints script plain
 words_walked (run script fonts until) count (plain, is) = runner_walked of_script script fonts until count plain.0 plain.1 is
 words_walked (go text fonts until) count (plain, is) = runner_walked of_text text fonts until count plain.0 plain.1 is
@@ -334,8 +344,10 @@ last_passes runner path fonts (Some n) count is =
     let command = command_of runner in
     let id = id_of runner in
     let plain = count_is_plain count n is in
-    turn_passed (built command) (after_fonts id path fonts) (after_until id path fonts) (codes "--until") (count ∷ []) (until_passes runner path fonts) (until_walked runner path fonts)
-    ∙ turn_passed (built command) (after_until id path fonts) (after_count id path fonts count) count [] (count_passes runner path fonts count plain) (count_walked runner path fonts count plain)
+    turn_passed (built command) (after_fonts id path fonts) (after_until id path fonts) (codes "--until") (count ∷ []) (until_passes runner path fonts)
+    (until_walked runner path fonts)
+    ∙ turn_passed (built command) (after_until id path fonts) (after_count id path fonts count) count [] (count_passes runner path fonts count plain)
+    (count_walked runner path fonts count plain)
 
 runner_passes : (runner : Runner) (path fonts : Text) (until : Option ℕ) (count : Text) → begins_with_hyphen path ≡ false → begins_with_hyphen fonts ≡ false
     → IfSome until (λ n. count_of count ≡ Some n)
@@ -344,9 +356,12 @@ runner_passes runner path fonts until count plain_path plain_fonts is =
     let command = command_of runner in
     let id = id_of runner in
     let last = until_words until count in
-    turn_passed (built command) begun (after_first id path) path (codes "--fonts" ∷ fonts ∷ last) (first_passes command path plain_path) (first_walked command path plain_path)
-    ∙ turn_passed (built command) (after_first id path) (after_flag id path) (codes "--fonts") (fonts ∷ last) (flag_passes runner path) (flag_walked runner path)
-    ∙ turn_passed (built command) (after_flag id path) (after_fonts id path fonts) fonts last (fonts_pass runner path fonts plain_fonts) (fonts_walked runner path fonts plain_fonts)
+    turn_passed (built command) begun (after_first id path) path (codes "--fonts" ∷ fonts ∷ last) (first_passes command path plain_path)
+    (first_walked command path plain_path)
+    ∙ turn_passed (built command) (after_first id path) (after_flag id path) (codes "--fonts") (fonts ∷ last) (flag_passes runner path)
+    (flag_walked runner path)
+    ∙ turn_passed (built command) (after_flag id path) (after_fonts id path fonts) fonts last (fonts_pass runner path fonts plain_fonts)
+    (fonts_walked runner path fonts plain_fonts)
     ∙ last_passes runner path fonts until count is
 
 words_pass : (request : Request) (count : Text) → IsSound request count → walk_fault (built (command_for request)) [] begun (words_after request count) ≡ []
@@ -355,7 +370,8 @@ words_pass (asm text script) count (plain, is) =
     let middle = after_first (codes "TEXT") text in
     turn_passed (built assembles) begun middle text (script ∷ []) (first_passes assembles text plain.0) (first_walked assembles text plain.0)
     ∙ turn_passed (built assembles) middle (after_second text script) script [] (second_passes text script plain.1) (second_walked text script plain.1)
-words_pass (dis script) count (plain, is) = turn_passed (built prints) begun (after_first (codes "BIN") script) script [] (first_passes prints script plain) (first_walked prints script plain)
+words_pass (dis script) count (plain, is) = turn_passed (built prints) begun (after_first (codes "BIN") script) script [] (first_passes prints script plain)
+    (first_walked prints script plain)
 words_pass (run script fonts until) count (plain, is) = runner_passes of_script script fonts until count plain.0 plain.1 is
 words_pass (go text fonts until) count (plain, is) = runner_passes of_text text fonts until count plain.0 plain.1 is
 
@@ -372,7 +388,8 @@ asked_by goes rows = go_asked rows
 abbrev rows_behind : Request → Text → List Row
 rows_behind request count = finished (rules (command_for request)) (walk (rules (command_for request)) [] nothing_held (words_after request count)).held
 
-command_met : (program : Text) (request : Request) (count : Text) → asked (program ∷ words_of request count) ≡ asked_by (command_for request) (rows_behind request count)
+command_met : (program : Text) (request : Request) (count : Text) → asked (program ∷ words_of request count)
+    ≡ asked_by (command_for request) (rows_behind request count)
 unfolding clap_on_literals
 command_met program (asm text script) count = refl
 command_met program (dis script) count = refl
@@ -381,7 +398,8 @@ command_met program (run script fonts (Some n)) count = refl
 command_met program (go text fonts None) count = refl
 command_met program (go text fonts (Some n)) count = refl
 
-count_met : (program : Text) (request : Request) (count : Text) → bad_count (program ∷ words_of request count) ≡ is_bad_count (first_of (codes "until") (rows_behind request count))
+count_met : (program : Text) (request : Request) (count : Text) → bad_count (program ∷ words_of request count)
+    ≡ is_bad_count (first_of (codes "until") (rows_behind request count))
 unfolding clap_on_literals
 count_met program (asm text script) count = refl
 count_met program (dis script) count = refl
@@ -394,7 +412,8 @@ count_met program (go text fonts (Some n)) count = refl
 abbrev ended_rows : Request → Text → List Row
 ended_rows request count = finished (rules (command_for request)) (ended request count).held
 
-ended_asks : (request : Request) (count : Text) → IfSome (until_in request) (λ n. count_of count ≡ Some n) → asked_by (command_for request) (ended_rows request count) ≡ Some request
+ended_asks : (request : Request) (count : Text) → IfSome (until_in request) (λ n. count_of count ≡ Some n) →
+    asked_by (command_for request) (ended_rows request count) ≡ Some request
 unfolding clap_on_literals
 ended_asks (asm text script) count is = refl
 ended_asks (dis script) count is = refl
@@ -403,7 +422,8 @@ ended_asks (run script fonts (Some n)) count is = ap (λ (u : Option ℕ). Some 
 ended_asks (go text fonts None) count is = refl
 ended_asks (go text fonts (Some n)) count is = ap (λ (u : Option ℕ). Some (go text fonts u)) is
 
-ended_counts : (request : Request) (count : Text) → IfSome (until_in request) (λ n. count_of count ≡ Some n) → is_bad_count (first_of (codes "until") (ended_rows request count)) ≡ false
+ended_counts : (request : Request) (count : Text) → IfSome (until_in request) (λ n. count_of count ≡ Some n) →
+    is_bad_count (first_of (codes "until") (ended_rows request count)) ≡ false
 unfolding clap_on_literals
 ended_counts (asm text script) count is = refl
 ended_counts (dis script) count is = refl
@@ -433,7 +453,8 @@ command_fault command amiss held = or_else amiss (or_else [] (or_else (settle_fa
 
 -- the command line finds nothing amiss but in the use of the command
 amiss_in_command : (program : Text) (request : Request) (count : Text) → fault_of command_line (program ∷ words_of request count)
-    ≡ or_else (command_fault (command_for request) (walk_fault (built (command_for request)) [] begun (words_after request count)) (walk (rules (command_for request)) [] nothing_held (words_after request count)).held) []
+    ≡ or_else (command_fault (command_for request) (walk_fault (built (command_for request)) [] begun (words_after request count))
+    (walk (rules (command_for request)) [] nothing_held (words_after request count)).held) []
 unfolding clap_on_literals
 amiss_in_command program (asm text script) count = refl
 amiss_in_command program (dis script) count = refl
@@ -466,7 +487,8 @@ request_passes program request count sound =
 pub names_paths : (words : List Text) (result : Result Job Failure) → JobAnswers words result → NamesPaths words result
 names_paths words result answer program request count are plain is =
     let sound : IsSound request count = (plain, is) in
-    go_on result (subst (λ (ws : List Text). JobAnswers ws result) are answer) (request_asked program request count sound) (request_counts program request count sound)
+    go_on result (subst (λ (ws : List Text). JobAnswers ws result) are answer) (request_asked program request count sound)
+    (request_counts program request count sound)
     (request_passes program request count sound)
   where
     go_on : (r : Result Job Failure) → JobAnswers (program ∷ words_of request count) r → asked (program ∷ words_of request count) ≡ Some request

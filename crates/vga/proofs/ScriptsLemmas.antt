@@ -3,7 +3,8 @@ use Rattle.std.proofs.Common.{◌≡◌, ◌⊎◌, inl, inr, ℕ, Bool, false, 
 use Rattle.std.specs.declared.alloc.Global.{Global}
 use Rattle.vga_bits.specs.Tracked.{Writes, is_write_fault}
 use Rattle.vga_bits.specs.declared.fault.Fault.{Fault}
-use Rattle.vga_bits.specs.declared.fault.Fault.TheVariants.{FontSize, BadMagic, BadVersion, BadStep, Truncated, TooLong, BadLine, WriteFault, OutOfMemory, TooMany}
+use Rattle.vga_bits.specs.declared.fault.Fault.TheVariants.{FontSize, BadMagic, BadVersion, BadStep, Truncated, TooLong, BadLine, WriteFault, OutOfMemory}
+use Rattle.vga_bits.specs.declared.fault.Fault.TheVariants.{TooMany}
 use Rattle.vga_script.specs.Item.{Listing, expanded}
 use Rattle.vga_script.specs.Decoding.{IsFault, IsSpellingFault}
 use Rattle.vga_script.specs.Input.{IsInput, IsReadingFault}
@@ -32,7 +33,8 @@ bad_text input text (BadLine n) read (inr (short, bad)) = (text, read, bad)
 bad_text input text _ read (inr bad) = absurd bad
 
 -- a text that is assembled
-pub good_text : (input : Option (List ℕ)) (text : List ℕ) (script : Listing) → IsInput input text → SpellsText text script → IsScript script → FindsScript input (Ok script)
+pub good_text : (input : Option (List ℕ)) (text : List ℕ) (script : Listing) → IsInput input text → SpellsText text script → IsScript script →
+    FindsScript input (Ok script)
 good_text input text script read spelled good = (text, read, spelled, good)
 
 -- and its bytes
@@ -44,18 +46,21 @@ assembled input script (Err f) found are only = subst (λ (x : Fault). Assembles
 -- ---- a text that is run
 
 -- a text that is not assembled
-pub not_run : (until : Option ℕ) (file : List ℕ) (input before after : Option (List ℕ)) (f : Fault) → FindsScript input (Err f) → RunsText until file input before after (Err f)
+pub not_run : (until : Option ℕ) (file : List ℕ) (input before after : Option (List ℕ)) (f : Fault) → FindsScript input (Err f) →
+    RunsText until file input before after (Err f)
 not_run until file input before after FontSize h = absurd h
 not_run until file input before after WriteFault h = absurd h
 not_run until file input before after f h = h
 
 -- the writer has no part in it
-pub no_write_fault : (input : Option (List ℕ)) (failed : Bool) (f : Fault) → FindsScript input (Err f) → failed ≡ false → failed ≡ is_write_fault {A = Unit} (Err f)
+pub no_write_fault : (input : Option (List ℕ)) (failed : Bool) (f : Fault) → FindsScript input (Err f) → failed ≡ false →
+    failed ≡ is_write_fault {A = Unit} (Err f)
 no_write_fault input failed WriteFault h sound = absurd h
 no_write_fault input failed _ h sound = sound
 
 -- a text whose script is run
-pub script_is_run : (until : Option ℕ) (file : List ℕ) (input before after : Option (List ℕ)) (script : Listing) (result : Result Unit Fault) → FindsScript input (Ok script)
+pub script_is_run : (until : Option ℕ) (file : List ℕ) (input before after : Option (List ℕ)) (script : Listing) (result : Result Unit Fault) →
+    FindsScript input (Ok script)
     → RunsScript until file (expanded script.items) before after result → RunsText until file input before after result
 script_is_run until file input before after script (Ok u) found (size, written) = (size, (script, found, written))
 script_is_run until file input before after script (Err WriteFault) found (size, written) = (size, (script, found, written))
@@ -77,7 +82,8 @@ unread_script input before after f (inr (inl (is, long))) = subst (λ (x : Fault
 unread_script input before after f (inr (inr is)) = subst (λ (x : Fault). Prints input before after (Err x)) (sym is) tt
 
 -- bytes that spell no script
-unspelled : (input before after : Option (List ℕ)) (bytes : List ℕ) (f : Fault) → IsInput input bytes → IsSpellingFault bytes f → Prints input before after (Err f)
+unspelled : (input before after : Option (List ℕ)) (bytes : List ℕ) (f : Fault) → IsInput input bytes → IsSpellingFault bytes f →
+    Prints input before after (Err f)
 unspelled input before after bytes BadMagic read bad = (bytes, read, bad)
 unspelled input before after bytes BadVersion read bad = (bytes, read, bad)
 unspelled input before after bytes (BadStep at) read bad = (bytes, read, bad)
@@ -85,7 +91,8 @@ unspelled input before after bytes (Truncated at) read bad = (bytes, read, bad)
 unspelled input before after bytes (TooMany at) read bad = (bytes, read, bad)
 unspelled input before after bytes _ read bad = absurd bad
 
-pub bad_script : (input before after : Option (List ℕ)) (bytes : List ℕ) (f : Fault) → IsInput input bytes → (f ≡ OutOfMemory) ⊎ IsFault bytes f → Prints input before after (Err f)
+pub bad_script : (input before after : Option (List ℕ)) (bytes : List ℕ) (f : Fault) → IsInput input bytes → (f ≡ OutOfMemory) ⊎ IsFault bytes f →
+    Prints input before after (Err f)
 bad_script input before after bytes f read (inl is) = subst (λ (x : Fault). Prints input before after (Err x)) (sym is) tt
 bad_script input before after bytes f read (inr (inl (is, long))) = let short = read.1 in absurd (omega arith)
 bad_script input before after bytes f read (inr (inr (short, bad))) = unspelled input before after bytes f read bad

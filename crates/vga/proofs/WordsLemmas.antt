@@ -1,7 +1,9 @@
 -- From the matches of the command line to the job that they ask for.
-use Rattle.std.proofs.Common.{◌≡◌, ◌≢◌, ◌∙◌, List, [], Option, Some, None, Result, Ok, Err, Bool, true, false, IsErrAnd, if◌then◌else◌, refl, sym, inl, inr, ap, subst, option_map, codes}
+use Rattle.std.proofs.Common.{◌≡◌, ◌≢◌, ◌∙◌, List, [], Option, Some, None, Result, Ok, Err, Bool, true, false, IsErrAnd, if◌then◌else◌, refl, sym, inl, inr, ap}
+use Rattle.std.proofs.Common.{subst, option_map, codes}
 use Rattle.std.proofs.lemmas.Result.{err_from_is_err_and}
-use Rattle.clap.specs.Words.{App, HasKind, HasMatchesOf, Row, Text, fault_of, first_of, first_value, is_simple, is_simple_and_free, kind_of, rows_of, subcommand_of, subcommand_name_of, subcommand_rows_of}
+use Rattle.clap.specs.Words.{App, HasKind, HasMatchesOf, Row, Text, fault_of, first_of, first_value, is_simple, is_simple_and_free, kind_of, rows_of}
+use Rattle.clap.specs.Words.{subcommand_of, subcommand_name_of, subcommand_rows_of}
 use Rattle.clap.specs.declared.error.Error.{Error}
 use Rattle.clap.specs.declared.error.kind.ErrorKind.TheVariants as kind
 use Rattle.clap.specs.declared.parser.matches.ArgMatches.{ArgMatches}
@@ -27,12 +29,14 @@ pair_of None f g a b first second = cc
 pair_of (Some x) f g a b first second = cc
 
 -- where the command has this name, what is asked for is what its own matches ask for
-pub command_is_asked : (m : ArgMatches) (name wanted : Text) (rows : List Row) → Some name ≡ subcommand_name_of m → Some rows ≡ option_map (λ p. p.1) (subcommand_rows_of m)
+pub command_is_asked : (m : ArgMatches) (name wanted : Text) (rows : List Row) → Some name ≡ subcommand_name_of m →
+    Some rows ≡ option_map (λ p. p.1) (subcommand_rows_of m)
     → name ≡ wanted → asked_of (subcommand_rows_of m) ≡ asked_of (Some (wanted, rows))
 command_is_asked m name wanted rows named has is = ap asked_of (pair_of _ _ _ name rows named has ∙ ap (λ (n : Text). Some (n, rows)) is)
 
 -- and its word for the number of steps is judged by them
-pub rows_are_judged : (o : Option (Text × List Row)) (rows : List Row) → Some rows ≡ option_map (λ p. p.1) o → is_bad_count (first_of (codes "until") rows) ≡ has_bad_count o
+pub rows_are_judged : (o : Option (Text × List Row)) (rows : List Row) → Some rows ≡ option_map (λ p. p.1) o →
+    is_bad_count (first_of (codes "until") rows) ≡ has_bad_count o
 rows_are_judged None rows has = cc
 rows_are_judged (Some command) rows has = let same : rows ≡ command.1 = cc in ap (λ (r : List Row). is_bad_count (first_of (codes "until") r)) same
 
@@ -50,7 +54,8 @@ is_plain = refl
 pub refusal_answers : (app : App) (words : List Text) (error : Error) (result : Result Job Failure) → app ≡ command_line
     → (is_simple_and_free app ≡ true → HasKind (fault_of app words) error) → IsErrAnd result (λ f. f ≡ failure_of error) → JobAnswers words result
 refusal_answers app words error result ours kinds is =
-    let has : HasKind (fault_of command_line words) error = subst (λ (a : App). is_simple_and_free a ≡ true → HasKind (fault_of a words) error) ours kinds is_known in
+    let has : HasKind (fault_of command_line words) error = subst (λ (a : App). is_simple_and_free a ≡ true →
+    HasKind (fault_of a words) error) ours kinds is_known in
     let exit = err_from_is_err_and result is in
     rw (exit.1, exit.2) (go (is_out_of_memory (kind_of error)) refl has)
   where
@@ -62,11 +67,13 @@ refusal_answers app words error result ours kinds is =
         (other, elim has [ inl same ↦ absurd (other same) | inr among ↦ inl among ])
 
 -- where the parser gives matches, it finds nothing amiss with the words
-nothing_amiss : (app : App) (words : List Text) → app ≡ command_line → (is_simple_and_free app ≡ true → fault_of app words ≡ []) → fault_of command_line words ≡ []
+nothing_amiss : (app : App) (words : List Text) → app ≡ command_line → (is_simple_and_free app ≡ true → fault_of app words ≡ []) →
+    fault_of command_line words ≡ []
 nothing_amiss app words ours kinds = subst (λ (a : App). is_simple_and_free a ≡ true → fault_of a words ≡ []) ours kinds is_known
 
 -- and the matches are those of the words
-are_met : (app : App) (words : List Text) (m : ArgMatches) → app ≡ command_line → HasMatchesOf app words m → subcommand_rows_of m ≡ subcommand_of command_line words
+are_met : (app : App) (words : List Text) (m : ArgMatches) → app ≡ command_line → HasMatchesOf app words m →
+    subcommand_rows_of m ≡ subcommand_of command_line words
 are_met app words m ours matches = (subst (λ (a : App). HasMatchesOf a words m) ours matches is_plain).1
 
 -- what `job` answers where the number of steps is none
@@ -77,7 +84,10 @@ bad_count_answers app words m failure ours kinds matches bad refuses =
     go failure (nothing_amiss app words ours kinds) (ap has_bad_count (sym (are_met app words m ours matches)) ∙ bad) refuses
   where
     go : (f : Failure) → fault_of command_line words ≡ [] → bad_count words ≡ true → RefusesCount f → JobAnswers words (Err f)
-    go (Words (Refused error)) passes bad refuses = ((λ same. let no : kind.OutOfMemory ≡ kind.ValueValidation = sym same ∙ refuses in cc), inr (passes, bad, refuses))
+    go (Words (Refused error)) passes bad refuses = (
+      (λ same. let no : kind.OutOfMemory ≡ kind.ValueValidation = sym same ∙ refuses in cc),
+      inr (passes, bad, refuses),
+    )
     go (Words Missing) passes bad refuses = absurd refuses
     go (Fault fault) passes bad refuses = refuses
 

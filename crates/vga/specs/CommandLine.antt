@@ -9,7 +9,11 @@ path_argument id = record (new_rule id) { required = true }
 
 -- the font file, which follows `--fonts`
 abbrev pub fonts_argument : Rule
-fonts_argument = record (new_rule (codes "fonts")) { long = Some (codes "fonts"); value_names = 1; required = true }
+fonts_argument = record (new_rule (codes "fonts")) {
+  long = Some (codes "fonts");
+  value_names = 1;
+  required = true;
+}
 
 -- how many steps are run, which follows `--until`
 abbrev pub until_argument : Rule
@@ -17,7 +21,10 @@ until_argument = record (new_rule (codes "until")) { long = Some (codes "until")
 
 -- `asm TEXT BIN`
 abbrev pub asm_command : Shape
-asm_command = record (new_shape (codes "asm")) { rules = path_argument (codes "TEXT") ∷ path_argument (codes "BIN") ∷ [] }
+asm_command = record (new_shape (codes "asm")) {
+  rules =
+      path_argument (codes "TEXT") ∷ path_argument (codes "BIN") ∷ [];
+}
 
 -- `dis BIN`
 abbrev pub dis_command : Shape
@@ -25,11 +32,17 @@ dis_command = record (new_shape (codes "dis")) { rules = path_argument (codes "B
 
 -- `run BIN --fonts FILE`, which `--until N` may follow
 abbrev pub run_command : Shape
-run_command = record (new_shape (codes "run")) { rules = path_argument (codes "BIN") ∷ fonts_argument ∷ until_argument ∷ [] }
+run_command = record (new_shape (codes "run")) {
+  rules =
+      path_argument (codes "BIN") ∷ fonts_argument ∷ until_argument ∷ [];
+}
 
 -- `go TEXT --fonts FILE`, which `--until N` may follow
 abbrev pub go_command : Shape
-go_command = record (new_shape (codes "go")) { rules = path_argument (codes "TEXT") ∷ fonts_argument ∷ until_argument ∷ [] }
+go_command = record (new_shape (codes "go")) {
+  rules =
+      path_argument (codes "TEXT") ∷ fonts_argument ∷ until_argument ∷ [];
+}
 
 -- `vga` itself, behind which a command has to stand
 abbrev pub program : Shape
@@ -41,4 +54,8 @@ converting_line = record { top = program; subs = asm_command ∷ dis_command ∷
 
 -- `vga` and a command
 abbrev pub command_line : App
-command_line = record { top = program; subs = asm_command ∷ dis_command ∷ run_command ∷ go_command ∷ [] }
+command_line = record {
+  top = program;
+  subs = asm_command ∷ dis_command ∷ run_command ∷ go_command
+      ∷ [];
+}

@@ -4,8 +4,9 @@ use Rattle.clap.specs.Words.{Text}
 use Rattle.vga.specs.declared.job.Job.{Job}
 use Rattle.vga.specs.declared.job.Job.TheVariants as job
 
--- A job as texts. `asm` has the paths of a text and of a script, `dis` that of a script, `run` those of a script and of a
--- font file, and `go` those of a text and of a font file; `run` and `go` may have a number of steps to stop after.
+-- A job as texts. `asm` has the paths of a text and of a script, `dis` that of a script, `run`
+-- those of a script and of a font file, and `go` those of a text and of a font file; `run` and `go`
+-- may have a number of steps to stop after.
 pub data Request : Type 0 where
   asm : Text → Text → Request
   dis : Text → Request

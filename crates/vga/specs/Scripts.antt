@@ -1,10 +1,12 @@
--- What the commands make of a script, or of a text that spells one, by what the reader holds, where it tells.
+-- What the commands make of a script, or of a text that spells one, by what the reader holds, where
+-- it tells.
 use Rattle.std.specs.Prelude.{ℕ, ⊤, ◌≡◌, ◌≢◌, ◌⊎◌, List, length, Option, Result, Ok, Err, Vec}
 use Rattle.std.specs.declared.alloc.Global.{Global}
 use Rattle.std.specs.Io.KnownBytes.{Appends}
 use Rattle.vga_bits.specs.Tracked.{AppendsFront}
 use Rattle.vga_bits.specs.declared.fault.Fault.{Fault}
-use Rattle.vga_bits.specs.declared.fault.Fault.TheVariants.{FontSize, TooLong, BadLine, ReadFault, WriteFault, OutOfMemory}
+use Rattle.vga_bits.specs.declared.fault.Fault.TheVariants.{FontSize, TooLong, BadLine, ReadFault}
+use Rattle.vga_bits.specs.declared.fault.Fault.TheVariants.{WriteFault, OutOfMemory}
 use Rattle.vga_script.specs.Item.{Listing, expanded}
 use Rattle.vga_script.specs.Input.{InputHasFault, InputSpells, InputSpellsText, IsInput, IsTooLong}
 use Rattle.vga_script.specs.Printing.{printed}
@@ -15,10 +17,11 @@ use Rattle.vga_run.specs.Report.{report_of, steps_until}
 use Rattle.vga_run.specs.Run.{StopsSteps}
 use Rattle.bios_modes.specs.Fonts.{FontSet, file_len, fonts_of}
 
--- Why a text is not assembled: it or its script has too many bytes, or this is its first bad line; or the reader failed, or
--- memory ran out.
+-- Why a text is not assembled: it or its script has too many bytes, or this is its first bad line;
+-- or the reader failed, or memory ran out.
 abbrev pub IsAssemblingFault : Option (List ℕ) → Fault → Type 0
-IsAssemblingFault input TooLong = IsTooLong input ⊎ ((text : List ℕ) × IsInput input text × SpellsTooLong text)
+IsAssemblingFault input TooLong = IsTooLong input ⊎ ((text : List ℕ) × IsInput input text
+    × SpellsTooLong text)
 IsAssemblingFault input (BadLine n) = (text : List ℕ) × IsInput input text × IsBadLine text n
 IsAssemblingFault input ReadFault = ⊤
 IsAssemblingFault input OutOfMemory = ⊤
@@ -31,28 +34,42 @@ FindsScript input (Err fault) = IsAssemblingFault input fault
 
 -- What assembling answers: the bytes of the script that the text spells, or why there are none.
 abbrev pub Assembles : Option (List ℕ) → Result (Vec ℕ Global) Fault → Type 0
-Assembles input (Ok bytes) = (script : Listing) × InputSpellsText input script × (bytes.items ≡ encoding script)
+Assembles input (Ok bytes) = (script : Listing) × InputSpellsText input script
+    × (bytes.items ≡ encoding script)
 Assembles input (Err fault) = IsAssemblingFault input fault
 
--- What printing a script as text answers, over a writer that holds what is before and after: it has written the printed text
--- of the script, or a front of it where the writer fails; or the first fault of the bytes.
+-- What printing a script as text answers, over a writer that holds what is before and after: it has
+-- written the printed text of the script, or a front of it where the writer fails; or the first
+-- fault of the bytes.
 abbrev pub Prints : Option (List ℕ) → Option (List ℕ) → Option (List ℕ) → Result Unit Fault → Type 0
-Prints input before after (Ok done) = (script : Listing) × InputSpells input script × Appends before after (printed script)
-Prints input before after (Err WriteFault) = (script : Listing) × InputSpells input script × AppendsFront before after (printed script)
+Prints input before after (Ok done) = (script : Listing) × InputSpells input script
+    × Appends before after (printed script)
+Prints input before after (Err WriteFault) = (script : Listing) × InputSpells input script
+    × AppendsFront before after (printed script)
 Prints input before after (Err TooLong) = IsTooLong input
 Prints input before after (Err ReadFault) = ⊤
 Prints input before after (Err OutOfMemory) = ⊤
 Prints input before after (Err fault) = InputHasFault input fault
 
--- What running a text answers that is stopped after so many steps, or not, over a font file, and a writer that
--- holds what is before and after: it has written the report of the script that the text spells, or a front of it where the
--- writer fails; or why the text is not assembled; or the fault of the fonts, which is judged after the text.
-abbrev pub RunsText : Option ℕ → List ℕ → Option (List ℕ) → Option (List ℕ) → Option (List ℕ) → Result Unit Fault → Type 0
-RunsText until file input before after (Ok done) = (length file ≡ file_len) × ((script : Listing) × InputSpellsText input script × Appends before after (report_of (fonts_of file) (steps_until until (expanded script.items))))
-RunsText until file input before after (Err WriteFault) = (length file ≡ file_len) × ((script : Listing) × InputSpellsText input script × AppendsFront before after (report_of (fonts_of file) (steps_until until (expanded script.items))))
-RunsText until file input before after (Err FontSize) = (length file ≢ file_len) × ((script : Listing) × InputSpellsText input script)
+-- What running a text answers that is stopped after so many steps, or not, over a font file, and a
+-- writer that holds what is before and after: it has written the report of the script that the text
+-- spells, or a front of it where the writer fails; or why the text is not assembled; or the fault
+-- of the fonts, which is judged after the text.
+abbrev pub RunsText : Option ℕ → List ℕ → Option (List ℕ) → Option (List ℕ) → Option (List ℕ) →
+    Result Unit Fault → Type 0
+RunsText until file input before after (Ok done) = (length file ≡ file_len)
+    × ((script : Listing) × InputSpellsText input script
+    × Appends before after (report_of (fonts_of file) (steps_until until (expanded script.items))))
+RunsText until file input before after (Err WriteFault) = (length file ≡ file_len)
+    × ((script : Listing) × InputSpellsText input script
+    × AppendsFront before after (report_of (fonts_of file)
+    (steps_until until (expanded script.items))))
+RunsText until file input before after (Err FontSize) = (length file ≢ file_len)
+    × ((script : Listing) × InputSpellsText input script)
 RunsText until file input before after (Err fault) = IsAssemblingFault input fault
 
 -- where memory runs out in the run of the script that a text spells
-abbrev pub StopsText : Option ℕ → FontSet → Option (List ℕ) → Option (List ℕ) → Option (List ℕ) → Type 0
-StopsText until fonts input before after = (script : Listing) × InputSpellsText input script × StopsSteps until fonts (expanded script.items) before after
+abbrev pub StopsText : Option ℕ → FontSet → Option (List ℕ) → Option (List ℕ) → Option (List ℕ) →
+    Type 0
+StopsText until fonts input before after = (script : Listing) × InputSpellsText input script
+    × StopsSteps until fonts (expanded script.items) before after

@@ -1,5 +1,7 @@
 -- The job that words on the program's command line ask for.
-use Rattle.std.specs.Prelude.{ℕ, ◌≡◌, ◌≢◌, ◌==◌, ◌⊎◌, ◌^◌, ◌&&◌, ◌∷◌, [], List, Bool, true, false, not, nat_lt, Option, Some, None, IfSome, option_and_then, Result, Ok, Err, MatchResult, codes, if◌then◌else◌}
+use Rattle.std.specs.Prelude.{ℕ, ◌≡◌, ◌≢◌, ◌==◌, ◌⊎◌, ◌^◌, ◌&&◌, ◌∷◌, [], List, Bool, true, false}
+use Rattle.std.specs.Prelude.{not, nat_lt, Option, Some, None, IfSome, option_and_then, Result, Ok}
+use Rattle.std.specs.Prelude.{Err, MatchResult, codes, if◌then◌else◌}
 use Rattle.std.specs.Str.{bytes_eq}
 use Rattle.std.specs.Str.Parse.{digits_value}
 use Rattle.clap.specs.Words.{Row, Text, fault_of, first_of, kind_of, subcommand_of}
@@ -47,11 +49,13 @@ until_asked rows = option_and_then count_of (first_of (codes "until") rows)
 
 -- what the matches of `run` ask for
 abbrev pub run_asked : List Row → Option Request
-run_asked rows = of_two (λ script fonts. run script fonts (until_asked rows)) (first_of (codes "BIN") rows) (first_of (codes "fonts") rows)
+run_asked rows = of_two (λ script fonts. run script fonts (until_asked rows))
+    (first_of (codes "BIN") rows) (first_of (codes "fonts") rows)
 
 -- what the matches of `go` ask for
 abbrev pub go_asked : List Row → Option Request
-go_asked rows = of_two (λ text fonts. go text fonts (until_asked rows)) (first_of (codes "TEXT") rows) (first_of (codes "fonts") rows)
+go_asked rows = of_two (λ text fonts. go text fonts (until_asked rows))
+    (first_of (codes "TEXT") rows) (first_of (codes "fonts") rows)
 
 -- what a command and its matches ask for, if no path is lacking
 abbrev pub asked_of : Option (Text × List Row) → Option Request
@@ -87,22 +91,27 @@ RefusesCount (Words (Refused error)) = kind_of error ≡ kind.ValueValidation
 RefusesCount (Words Missing) = ⊥
 RefusesCount (Fault fault) = fault ≡ OutOfMemory
 
--- Words are refused with an error of this kind: the command line finds this fault in them; or it finds none, and their word
--- for the number of steps names none.
+-- Words are refused with an error of this kind: the command line finds this fault in them; or it
+-- finds none, and their word for the number of steps names none.
 abbrev pub Refuses : List Text → ErrorKind → Type 0
-Refuses words found = IsAmong found (fault_of command_line words) ⊎ ((fault_of command_line words ≡ []) × (bad_count words ≡ true) × (found ≡ kind.ValueValidation))
+Refuses words found = IsAmong found (fault_of command_line words)
+    ⊎ ((fault_of command_line words ≡ []) × (bad_count words ≡ true)
+    × (found ≡ kind.ValueValidation))
 
 -- the job that is asked for, or that none is
 abbrev pub Finds : Option Request → Result Job Failure → Type 0
 Finds request (Ok job) = request ≡ Some (request_of job)
 Finds request (Err failure) = (request ≡ None) × (failure ≡ Words Missing)
 
--- What `job` answers for words: the job that they ask for; or that they are refused; or that they are not, and lack a command
--- or a path; or that memory ran out.
+-- What `job` answers for words: the job that they ask for; or that they are refused; or that they
+-- are not, and lack a command or a path; or that memory ran out.
 abbrev pub JobAnswers : List Text → Result Job Failure → Type 0
-JobAnswers words (Ok job) = (fault_of command_line words ≡ []) × (bad_count words ≡ false) × (asked words ≡ Some (request_of job))
-JobAnswers words (Err (Words (Refused error))) = (kind_of error ≢ kind.OutOfMemory) × Refuses words (kind_of error)
-JobAnswers words (Err (Words Missing)) = (fault_of command_line words ≡ []) × (bad_count words ≡ false) × (asked words ≡ None)
+JobAnswers words (Ok job) = (fault_of command_line words ≡ []) × (bad_count words ≡ false)
+    × (asked words ≡ Some (request_of job))
+JobAnswers words (Err (Words (Refused error))) = (kind_of error ≢ kind.OutOfMemory)
+    × Refuses words (kind_of error)
+JobAnswers words (Err (Words Missing)) = (fault_of command_line words ≡ [])
+    × (bad_count words ≡ false) × (asked words ≡ None)
 JobAnswers words (Err (Fault fault)) = fault ≡ OutOfMemory
 
 -- the word may be a flag
@@ -119,8 +128,10 @@ until_words (Some n) count = codes "--until" ∷ count ∷ []
 abbrev pub words_of : Request → Text → List Text
 words_of (asm text script) count = codes "asm" ∷ text ∷ script ∷ []
 words_of (dis script) count = codes "dis" ∷ script ∷ []
-words_of (run script fonts until) count = codes "run" ∷ script ∷ codes "--fonts" ∷ fonts ∷ until_words until count
-words_of (go text fonts until) count = codes "go" ∷ text ∷ codes "--fonts" ∷ fonts ∷ until_words until count
+words_of (run script fonts until) count = codes "run" ∷ script ∷ codes "--fonts" ∷ fonts
+    ∷ until_words until count
+words_of (go text fonts until) count = codes "go" ∷ text ∷ codes "--fonts" ∷ fonts
+    ∷ until_words until count
 
 -- after how many steps a request asks to stop
 abbrev pub until_in : Request → Option ℕ
@@ -131,15 +142,19 @@ until_in (go text fonts until) = until
 
 -- no path of a request begins with a hyphen
 abbrev pub HasPlainPaths : Request → Type 0
-HasPlainPaths (asm text script) = (begins_with_hyphen text ≡ false) × (begins_with_hyphen script ≡ false)
+HasPlainPaths (asm text script) = (begins_with_hyphen text ≡ false)
+    × (begins_with_hyphen script ≡ false)
 HasPlainPaths (dis script) = begins_with_hyphen script ≡ false
-HasPlainPaths (run script fonts until) = (begins_with_hyphen script ≡ false) × (begins_with_hyphen fonts ≡ false)
-HasPlainPaths (go text fonts until) = (begins_with_hyphen text ≡ false) × (begins_with_hyphen fonts ≡ false)
+HasPlainPaths (run script fonts until) = (begins_with_hyphen script ≡ false)
+    × (begins_with_hyphen fonts ≡ false)
+HasPlainPaths (go text fonts until) = (begins_with_hyphen text ≡ false)
+    × (begins_with_hyphen fonts ≡ false)
 
--- The words of a request, behind the program's name, are answered by a job of this very command, these very paths and this
--- very number of steps, unless memory runs out.
+-- The words of a request, behind the program's name, are answered by a job of this very command,
+-- these very paths and this very number of steps, unless memory runs out.
 abbrev pub NamesPaths : List Text → Result Job Failure → Type 0
 NamesPaths words result =
-    (program : Text) (request : Request) (count : Text) → words ≡ program ∷ words_of request count → HasPlainPaths request
+    (program : Text) (request : Request) (count : Text) → words ≡ program ∷ words_of request count →
+    HasPlainPaths request
     → IfSome (until_in request) (λ n. count_of count ≡ Some n)
     → MatchResult result (λ job. request_of job ≡ request) (λ failure. failure ≡ Fault OutOfMemory)

@@ -2,7 +2,9 @@
 ghost use Rattle.std.specs.Prelude.{◌≡◌, IfOk, false};
 ghost use Rattle.clap.specs.Words.{app_of, rule_of, shape_of};
 ghost use Rattle.clap.specs.declared.builder.command.Command.TheViews.{out-Command as fields_of};
-ghost use Rattle.vga.specs.CommandLine.{asm_command, command_line, converting_line, dis_command, fonts_argument, go_command, path_argument, run_command, until_argument};
+ghost use Rattle.vga.specs.CommandLine.{asm_command, command_line, converting_line, dis_command};
+ghost use Rattle.vga.specs.CommandLine.{fonts_argument, go_command, path_argument, run_command};
+ghost use Rattle.vga.specs.CommandLine.{until_argument};
 
 use clap::{Arg, Command};
 use std::alloc::{AllocError, Global};

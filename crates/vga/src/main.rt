@@ -1,6 +1,6 @@
-//! Scripts for a VGA adapter: `vga asm TEXT BIN` assembles one from its text, `vga dis BIN` prints one
-//! as text, and `vga run BIN --fonts FILE` and `vga go TEXT --fonts FILE` run one, or so many of its
-//! first steps, and write the report on standard output.
+//! Scripts for a VGA adapter: `vga asm TEXT BIN` assembles one from its text, `vga dis BIN` prints
+//! one as text, and `vga run BIN --fonts FILE` and `vga go TEXT --fonts FILE` run one, or so many
+//! of its first steps, and write the report on standard output.
 #![tactic(auto)]
 
 mod command_line;
@@ -95,7 +95,8 @@ fn explain<R: Print + Eprint>(rt: &R, failure: &Failure) -> io::Result<()> {
     }
 }
 
-/// Does the job that the words of the command line name, or writes why it was not done; and its status.
+/// Does the job that the words of the command line name, or writes why it was not done; and its
+/// status.
 fn status_of_job<R: Env + Files + Print + Eprint + AllocGlobal>(rt: &R) -> u8 {
     let outcome = do_job(rt);
     if let Err(failure) = &outcome {

@@ -17,7 +17,8 @@ use vga_script::{Script, assemble, decode, encode, print, read_script};
 ///
 /// # Errors
 ///
-/// `ReadFault` where the reader fails, `TooLong` and `BadLine` as `assemble` says, and `OutOfMemory`.
+/// `ReadFault` where the reader fails, `TooLong` and `BadLine` as `assemble` says, and
+/// `OutOfMemory`.
 #[tactic(auto, using(crate::proofs::ScriptsLemmas::unread_text, crate::proofs::ScriptsLemmas::bad_text, crate::proofs::ScriptsLemmas::good_text))]
 fn script_of_text<R: Read>(alloc: Global, text: &mut Tracked<R>) -> Result<Script, Fault>
     requires { has_failed text.old ≡ false }
@@ -35,7 +36,8 @@ fn script_of_text<R: Read>(alloc: Global, text: &mut Tracked<R>) -> Result<Scrip
 ///
 /// # Errors
 ///
-/// `ReadFault` where the reader fails, `TooLong` and `BadLine` as `assemble` says, and `OutOfMemory`.
+/// `ReadFault` where the reader fails, `TooLong` and `BadLine` as `assemble` says, and
+/// `OutOfMemory`.
 #[tactic(auto, using(crate::proofs::ScriptsLemmas::assembled))]
 pub fn assembled<R: Read>(alloc: Global, text: &mut Tracked<R>) -> Result<Vec<u8>, Fault>
     requires { has_failed text.old ≡ false }
@@ -49,13 +51,14 @@ pub fn assembled<R: Read>(alloc: Global, text: &mut Tracked<R>) -> Result<Vec<u8
     encode(alloc, &script)
 }
 
-/// Writes the printed text of a script, and flushes the writer. At most 16,777,217 bytes of the script
-/// are read.
+/// Writes the printed text of a script, and flushes the writer. At most 16,777,217 bytes of the
+/// script are read.
 ///
 /// # Errors
 ///
-/// `ReadFault` where the reader fails, the faults of the bytes as `decode` says, `WriteFault` where the
-/// writer fails, and `OutOfMemory`. Each but `WriteFault` comes before the first byte is written.
+/// `ReadFault` where the reader fails, the faults of the bytes as `decode` says, `WriteFault` where
+/// the writer fails, and `OutOfMemory`. Each but `WriteFault` comes before the first byte is
+/// written.
 #[tactic(auto, using(crate::proofs::ScriptsLemmas::unread_script, crate::proofs::ScriptsLemmas::bad_script, crate::proofs::ScriptsLemmas::unprinted_script, crate::proofs::ScriptsLemmas::good_script))]
 pub fn print_script<R: Read, W: Write>(
     alloc: Global,
@@ -79,13 +82,13 @@ pub fn print_script<R: Read, W: Write>(
     write_all(out, text.as_slice())
 }
 
-/// Runs the script that a text spells, writes its report, and flushes the writer. At most 16,777,217
-/// bytes of the text are read. `until` is that of `vga_run::run_script`.
+/// Runs the script that a text spells, writes its report, and flushes the writer. At most
+/// 16,777,217 bytes of the text are read. `until` is that of `vga_run::run_script`.
 ///
 /// # Errors
 ///
-/// `ReadFault` where the reader fails, `TooLong` and `BadLine` as `assemble` says, and `OutOfMemory`; then
-/// the faults of `vga_run::run_script`.
+/// `ReadFault` where the reader fails, `TooLong` and `BadLine` as `assemble` says, and
+/// `OutOfMemory`; then the faults of `vga_run::run_script`.
 #[tactic(auto, using(crate::proofs::ScriptsLemmas::not_run, crate::proofs::ScriptsLemmas::no_write_fault, crate::proofs::ScriptsLemmas::script_is_run, crate::proofs::ScriptsLemmas::script_stops))]
 pub fn run_text<R: Read, W: Write>(
     alloc: Global,
@@ -104,7 +107,8 @@ pub fn run_text<R: Read, W: Write>(
         (R.remaining (inner_of text.new)) }
     ensures counted { taken_of text.new ≤ taken_of text.old + (script_limit + 1) }
     ensures unwritten { IfErr result (λ e. e ≢ WriteFault → e ≢ OutOfMemory → out.new ≡ out.old) }
-    ensures stopped { result ≡ Err OutOfMemory → (out.new ≡ out.old) ⊎ StopsText until (fonts_of fonts.now) (R.remaining (inner_of text.old))
+    ensures stopped { result ≡ Err OutOfMemory → (out.new ≡ out.old)
+        ⊎ StopsText until (fonts_of fonts.now) (R.remaining (inner_of text.old))
         (W.contents (inner_of out.old)) (W.contents (inner_of out.new)) }
 {
     let script = script_of_text(alloc, text)?;

@@ -1,4 +1,5 @@
-//! The words of the command line, the help, the lines of failures, and the program over a runtime in memory.
+//! The words of the command line, the help, the lines of failures, and the program over a runtime
+//! in memory.
 
 mod desk;
 mod edge;

@@ -3,7 +3,9 @@ ghost use Rattle.std.specs.Prelude.{◌≡◌, ◌==◌, codes, map, slice_index
 ghost use Rattle.std.specs.IoError.{error_kind};
 ghost use Rattle.clap.specs.Words.{first_of, found_of, rows_of, subcommand_rows_of};
 ghost use Rattle.vga.specs.Failure.{unread_failure};
-ghost use Rattle.vga.specs.Words.{Finds, JobAnswers, NamesPaths, RefusesCount, asked_of, asm_asked, count_of, dis_asked, go_asked, has_bad_count, is_bad_count, run_asked, until_asked};
+ghost use Rattle.vga.specs.Words.{Finds, JobAnswers, NamesPaths, RefusesCount, asked_of, asm_asked};
+ghost use Rattle.vga.specs.Words.{count_of, dis_asked, go_asked, has_bad_count, is_bad_count};
+ghost use Rattle.vga.specs.Words.{run_asked, until_asked};
 
 use super::command_line::command_line;
 use super::failure::Failure;
@@ -26,8 +28,8 @@ fn has_plus(word: &str) -> bool
     word.as_bytes().first() == Some(&b'+')
 }
 
-/// The number of steps that a word names, which is digits alone. A plus is none, though numbers may have
-/// one.
+/// The number of steps that a word names, which is digits alone. A plus is none, though numbers may
+/// have one.
 fn count_of(word: &str) -> Option<u32>
     ensures { result ≡ count_of word.now }
 {
@@ -171,7 +173,8 @@ fn parsed_job<'a>(alloc: Global, words: &'a [String]) -> Result<Job<'a>, Failure
 /// # Errors
 ///
 /// `Failure::Words` where the command line refuses the words, asks for help to be shown, or lacks a
-/// command or a path, and where the word behind `--until` is not digits alone or is above 4,294,967,295.
+/// command or a path, and where the word behind `--until` is not digits alone or is above
+/// 4,294,967,295.
 /// `Failure::Fault` where memory runs out, and for no other fault.
 pub fn job<'a>(alloc: Global, words: &'a [String]) -> Result<Job<'a>, Failure>
     // The job that the words ask for, or why there is none.

@@ -1,7 +1,9 @@
 -- The attribute controller: registers, index, and the flip-flop of its port.
--- From the IBM PS/2 Hardware Interface Technical Reference, Video Subsystems, "Attribute Controller Registers"; which
--- reserved bits a register keeps, and what the palette address source does to writes, is this adapter's choice.
-use Rattle.std.specs.Prelude.{ℕ, ◌≡◌, ◌<◌, ◌&&◌, nat_lt, if◌then◌else◌, Bool, true, false, List, [], ◌∷◌, length, replicate, slice_index, slice_set, bit_and}
+-- From the IBM PS/2 Hardware Interface Technical Reference, Video Subsystems, "Attribute Controller
+-- Registers"; which reserved bits a register keeps, and what the palette address source does to
+-- writes, is this adapter's choice.
+use Rattle.std.specs.Prelude.{ℕ, ◌≡◌, ◌<◌, ◌&&◌, nat_lt, if◌then◌else◌, Bool, true, false, List, []}
+use Rattle.std.specs.Prelude.{◌∷◌, length, replicate, slice_index, slice_set, bit_and}
 use Rattle.vga_bits.specs.Bits.{is_set, field}
 use Rattle.vga_bits.specs.RegFile.{AreKept}
 
@@ -14,14 +16,16 @@ pub record AttrState : Type 0 where
 abbrev pub power_on_attr : AttrState
 power_on_attr = record { registers = replicate 21 0; index = 0; is_data = false }
 
--- the bits that the registers keep: the sixteen of the palette, mode control, overscan, colour plane enable,
--- horizontal panning, colour select
+-- the bits that the registers keep: the sixteen of the palette, mode control, overscan, colour
+-- plane enable, horizontal panning, colour select
 abbrev pub attr_masks : List ℕ
 attr_masks =
-    0x3F ∷ 0x3F ∷ 0x3F ∷ 0x3F ∷ 0x3F ∷ 0x3F ∷ 0x3F ∷ 0x3F ∷ 0x3F ∷ 0x3F ∷ 0x3F ∷ 0x3F ∷ 0x3F ∷ 0x3F ∷ 0x3F ∷ 0x3F
+    0x3F ∷ 0x3F ∷ 0x3F ∷ 0x3F ∷ 0x3F ∷ 0x3F ∷ 0x3F ∷ 0x3F ∷ 0x3F ∷ 0x3F ∷ 0x3F ∷ 0x3F ∷ 0x3F ∷ 0x3F
+    ∷ 0x3F ∷ 0x3F
     ∷ 0xEF ∷ 0xFF ∷ 0x3F ∷ 0x0F ∷ 0x0F ∷ []
 
--- what the registers hold, whatever was written: 21 of them with the bits that each keeps, six in the palette's
+-- what the registers hold, whatever was written: 21 of them with the bits that each keeps, six in
+-- the palette's
 pub record IsAttr (a : AttrState) : Type 0 where
   pub size : length a.registers ≡ 21
   pub kept : AreKept attr_masks a.registers
@@ -31,7 +35,8 @@ pub record IsAttr (a : AttrState) : Type 0 where
 abbrev pub register_of : AttrState → ℕ
 register_of a = field a.index 4 0
 
--- whether the palette address source keeps a register from writes: a palette register, while the source is 1
+-- whether the palette address source keeps a register from writes: a palette register, while the
+-- source is 1
 abbrev pub is_locked : AttrState → ℕ → Bool
 is_locked a i = nat_lt i 16 && is_set a.index 5
 
@@ -45,7 +50,8 @@ registers_after a v =
     if is_locked a (register_of a) then a.registers
     else slice_set a.registers (register_of a) (bit_and v (slice_index attr_masks (register_of a)))
 
--- the attribute controller after a write: data for the register of the index, or a new index; the next write is the other
+-- the attribute controller after a write: data for the register of the index, or a new index; the
+-- next write is the other
 abbrev pub after_write : AttrState → ℕ → AttrState
 after_write a v =
     if a.is_data then record a { registers = registers_after a v; is_data = false }

@@ -22,8 +22,8 @@ const PALETTE_REGISTERS: u8 = 16;
 
 /// The attribute controller.
 ///
-/// Contracts see one record: the registers, the index with the palette address source, and whether the
-/// next write is data.
+/// Contracts see one record: the registers, the index with the palette address source, and whether
+/// the next write is data.
 #[derive(Drop)]
 pub struct Attr {
     registers: RegFile<21>,
@@ -38,16 +38,23 @@ impl Model for Attr {
 
     ghost Value = { AttrState };
 
-    ghost view = { λ a. record { registers = a.registers.values; index = a.index; is_data = a.is_data } };
+    ghost view = { λ a. record {
+      registers = a.registers.values;
+      index = a.index;
+      is_data = a.is_data;
+    } };
 
     ghost invariant = { λ a. a.registers.masks ≡ MASKS };
 }
 
 impl Attr {
-    ghost use Rattle.vga_attr.specs.Attr.{power_on_attr, register_of, is_refused_write, registers_after};
-    ghost use Rattle.vga_attr.specs.Attr.{after_write, is_refused_read, register_value, after_reset, IsAttr};
+    ghost use Rattle.vga_attr.specs.Attr.{power_on_attr, register_of, is_refused_write};
+    ghost use Rattle.vga_attr.specs.Attr.{registers_after};
+    ghost use Rattle.vga_attr.specs.Attr.{after_write, is_refused_read, register_value};
+    ghost use Rattle.vga_attr.specs.Attr.{after_reset, IsAttr};
 
-    /// The attribute controller at power-on: registers and index are 0, and the next write is an index.
+    /// The attribute controller at power-on: registers and index are 0, and the next write is an
+    /// index.
     pub fn new() -> Attr
         ensures { result ≡ power_on_attr }
     {
@@ -58,8 +65,8 @@ impl Attr {
         }
     }
 
-    /// Each register holds the bits that it keeps alone, whatever was written: a palette register six. The
-    /// clause is for proofs: nothing runs.
+    /// Each register holds the bits that it keeps alone, whatever was written: a palette register
+    /// six. The clause is for proofs: nothing runs.
     #[tactic(auto, using(crate::proofs::PaletteLemmas::palette_small))]
     pub fn bounds(&self)
         ensures { IsAttr self.now }
@@ -77,7 +84,10 @@ impl Attr {
     /// Writes data for the register of the index, where there is one and it is not locked.
     fn write_data(&mut self, v: u8) -> Result<(), Refusal>
         ensures refused { IsErr result ↔ IsTrue (is_refused_read self.old) }
-        ensures ok { OnOk result (self.new ≡ record self.old { registers = registers_after self.old v }) }
+        ensures ok { OnOk result (self.new ≡ record self.old {
+          registers =
+              registers_after self.old v;
+        }) }
         ensures err { IfErr result (λ e. (e ≡ Refusal.NotInProfile) × (self.new ≡ self.old)) }
     {
         let i = self.register();
@@ -90,8 +100,9 @@ impl Attr {
         Ok(())
     }
 
-    /// Writes a byte to the port: an index and data in turn. Data for a palette register changes nothing
-    /// while the palette address source is 1. Data for a register that does not exist is refused with
+    /// Writes a byte to the port: an index and data in turn. Data for a palette register changes
+    /// nothing while the palette address source is 1. Data for a register that does not exist is
+    /// refused with
     /// `NotInProfile`, and then changes nothing: the next write is data still.
     pub fn write(&mut self, v: u8) -> Result<(), Refusal>
         ensures refused { IsErr result ↔ IsTrue (is_refused_write self.old) }

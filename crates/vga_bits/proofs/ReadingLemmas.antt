@@ -1,5 +1,6 @@
 -- Reading piece by piece, up to a limit, and what the front that was read says of the whole.
-use Rattle.std.proofs.Common.{◌≡◌, ◌∙◌, ℕ, ◌+◌, ◌<◌, ◌≤◌, min, Bool, false, List, ◌++◌, length, take, Option, Some, None, IfSome, Err, arith, ap, sym, length-append}
+use Rattle.std.proofs.Common.{◌≡◌, ◌∙◌, ℕ, ◌+◌, ◌<◌, ◌≤◌, min, Bool, false, List, ◌++◌, length, take, Option, Some, None, IfSome, Err, arith, ap, sym}
+use Rattle.std.proofs.Common.{length-append}
 use Rattle.std.proofs.lemmas.List.{length-take, take_all}
 use Rattle.std.specs.Io.KnownBytes.{Consumes}
 use Rattle.std.proofs.KnownBytes.{Consumes-trans}
@@ -16,7 +17,8 @@ pub record Taken (old new : Option (List ℕ)) (failed : Bool) (before after : �
   pub bound : after ≤ before + count
 
 -- a piece that finds no memory has been taken all the same
-pub piece_taken : (old mid new : Option (List ℕ)) (failed : Bool) (before after : ℕ) (bytes piece : List ℕ) (count most : ℕ) → Taken old mid failed before after bytes count most
+pub piece_taken : (old mid new : Option (List ℕ)) (failed : Bool) (before after : ℕ) (bytes piece : List ℕ) (count most : ℕ) →
+    Taken old mid failed before after bytes count most
     → Consumes mid new piece → count + length piece ≤ most → TakesAtMost most old new
 piece_taken old mid new failed before after bytes piece count most so_far read few =
     (bytes ++ piece, Consumes-trans old mid new bytes piece so_far.taken read, omega (arith, length-append bytes piece, so_far.counted))
@@ -37,7 +39,8 @@ front_is_all n None bytes front short = tt
 front_is_all n (Some all) bytes front short = front_whole n all bytes front short
 
 -- and where they are many, the reader had as many or more
-pub front_is_long : (n most : ℕ) (input : Option (List ℕ)) (bytes : List ℕ) → IsFront n input bytes → most < length bytes → IfSome input (λ all. most < length all)
+pub front_is_long : (n most : ℕ) (input : Option (List ℕ)) (bytes : List ℕ) → IsFront n input bytes → most < length bytes →
+    IfSome input (λ all. most < length all)
 front_is_long n most None bytes front long = tt
 front_is_long n most (Some all) bytes front long = let e = front_short n all bytes front in omega arith
 
@@ -51,7 +54,8 @@ unread_failed A most old new failed OutOfMemory h = h.0
 unread_failed A most old new failed _ h = absurd h
 
 -- and no more was taken than the front
-pub unread_taken : (most : ℕ) (old new : Option (List ℕ)) (failed : Bool) (fault : Fault) → ReadsFront most old new failed (Err fault) → TakesAtMost most old new
+pub unread_taken : (most : ℕ) (old new : Option (List ℕ)) (failed : Bool) (fault : Fault) → ReadsFront most old new failed (Err fault) →
+    TakesAtMost most old new
 unread_taken most old new failed ReadFault h = h.1
 unread_taken most old new failed OutOfMemory h = h.1
 unread_taken most old new failed _ h = absurd h

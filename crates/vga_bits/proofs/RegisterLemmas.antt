@@ -18,7 +18,8 @@ masked_twice : (v m : ℕ) → bit_and (bit_and v m) m ≡ bit_and v m
 masked_twice v m = and_assoc m v m ∙ ap (bit_and v) (and_self m)
 
 kept_at : (masks values : List ℕ) (i v j : ℕ) → bit_and (slice_index values j) (slice_index masks j) ≡ slice_index values j
-    → bit_and (slice_index (slice_set values i (bit_and v (slice_index masks i))) j) (slice_index masks j) ≡ slice_index (slice_set values i (bit_and v (slice_index masks i))) j
+    → bit_and (slice_index (slice_set values i (bit_and v (slice_index masks i))) j) (slice_index masks j)
+    ≡ slice_index (slice_set values i (bit_and v (slice_index masks i))) j
 kept_at masks [] i v j e = e
 kept_at [] (x ∷ values) zero v zero e = masked_twice v 0
 kept_at (m ∷ masks) (x ∷ values) zero v zero e = masked_twice v m

@@ -1,5 +1,6 @@
 -- Words of four planes by their bytes and their bits.
-use Rattle.std.proofs.Common.{true, not, ◌&&◌, ◌||◌, w8, ◌≡◌, ℕ, zero, suc, ◌+◌, ◌-◌, ◌*◌, ◌/◌, ◌%◌, ◌^◌, ◌<◌, arith, refl, sym, ap, ap₂, ◌∙◌, bit_and, bit_or, bit_xor, ◌==◌, if◌then◌else◌, w32, min, max}
+use Rattle.std.proofs.Common.{true, not, ◌&&◌, ◌||◌, w8, ◌≡◌, ℕ, zero, suc, ◌+◌, ◌-◌, ◌*◌, ◌/◌, ◌%◌, ◌^◌, ◌<◌, arith, refl, sym, ap, ap₂, ◌∙◌, bit_and, bit_or}
+use Rattle.std.proofs.Common.{bit_xor, ◌==◌, if◌then◌else◌, w32, min, max}
 use Rattle.std.proofs.lemmas.Bool.{agree_below_at, eqb-true}
 use Rattle.std.proofs.lemmas.Bool.Decides.{nat_tests}
 use Rattle.std.specs.Int.{bit_at}
@@ -120,7 +121,8 @@ word_bit_filled s p i plane within =
 -- ---- tests of all planes at once
 
 -- the bits of `(a ^ b) & m` tell where the two differ in the planes of the mask
-pub word_bit_differing : (a b m p i : ℕ) → word_bit (bit_and (bit_xor a b) m) p i ≡ (if not (word_bit m p i == 1) || (word_bit a p i == word_bit b p i) then 0 else 1)
+pub word_bit_differing : (a b m p i : ℕ) → word_bit (bit_and (bit_xor a b) m) p i
+    ≡ (if not (word_bit m p i == 1) || (word_bit a p i == word_bit b p i) then 0 else 1)
 word_bit_differing a b m p i =
     let both = word_bit_and (bit_xor a b) m p i in
     let either = word_bit_xor a b p i in
@@ -138,7 +140,8 @@ folded_bits x a b c d fa fb fc fd e = grind (arith, nat_tests)
 
 -- the complement of `h | h >> 8`, where h is `w | w >> 16`, tells which bits are 0 in all four planes
 pub word_bit_folded : (w h i : ℕ) → i < 8 → h ≡ bit_or w (w / 2 ^ 16)
-    → bit_at (255 - bit_or h (h / 2 ^ 8) % 256) i ≡ (if (word_bit w 0 i == 0) && ((word_bit w 1 i == 0) && ((word_bit w 2 i == 0) && (word_bit w 3 i == 0))) then 1 else 0)
+    → bit_at (255 - bit_or h (h / 2 ^ 8) % 256) i ≡ (if (word_bit w 0 i == 0) && ((word_bit w 1 i == 0) && ((word_bit w 2 i == 0) && (word_bit w 3 i == 0)))
+    then 1 else 0)
 unfolding word_bit
 word_bit_folded w h i within half =
     let complement = bit_at_not w8 (bit_or h (h / 2 ^ 8) % 256) i (omega arith) within in

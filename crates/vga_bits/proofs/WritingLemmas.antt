@@ -1,5 +1,6 @@
 -- A loop that writes bytes in pieces, and one text after another.
-use Rattle.std.proofs.Common.{arith, ◌||◌, ◌&&◌, ◌==◌, nat_lt, ◌≡◌, ℕ, Bool, false, List, [], ◌∷◌, ◌++◌, Option, Some, None, Result, Ok, Err, refl, sym, ap, ◌∙◌, append_assoc, append-nil, take, drop, subst, take-append-drop}
+use Rattle.std.proofs.Common.{arith, ◌||◌, ◌&&◌, ◌==◌, nat_lt, ◌≡◌, ℕ, Bool, false, List, [], ◌∷◌, ◌++◌, Option, Some, None, Result, Ok, Err, refl, sym, ap}
+use Rattle.std.proofs.Common.{◌∙◌, append_assoc, append-nil, take, drop, subst, take-append-drop}
 use Rattle.std.proofs.lemmas.Bool.Decides.{nat_tests}
 use Rattle.std.specs.Io.KnownBytes.{Appends, Keeps}
 use Rattle.std.proofs.KnownBytes.{Appends-nil, Appends-trans, Appends-kept}
@@ -28,11 +29,19 @@ written_more old mid new was failed all rest n w a e = record {
 pub written_all : (old new : Option (List ℕ)) (failed : Bool) (all rest : List ℕ) → Written old new failed all rest → rest ≡ [] → Appends old new all
 written_all old new failed all rest w e = subst (Appends old new) (sym (w.whole ∙ ap (λ l. w.done ++ l) e ∙ append-nil w.done)) w.appended
 
-pub written_front : (old mid new : Option (List ℕ)) (failed : Bool) (all rest : List ℕ) → Written old mid failed all rest → Keeps mid new → AppendsFront old new all
+pub written_front : (old mid new : Option (List ℕ)) (failed : Bool) (all rest : List ℕ) → Written old mid failed all rest → Keeps mid new →
+    AppendsFront old new all
 written_front old mid new failed all rest w k = (w.done, rest, w.whole, Appends-kept old mid new w.done w.appended k)
 
-pub written_front_nothing : (old mid new : Option (List ℕ)) (failed : Bool) (all rest : List ℕ) → Written old mid failed all rest → Appends mid new [] → AppendsFront old new all
-written_front_nothing old mid new failed all rest w a = (w.done, rest, w.whole, subst (Appends old new) (append-nil w.done) (Appends-trans old mid new w.done [] w.appended a))
+pub written_front_nothing : (old mid new : Option (List ℕ)) (failed : Bool) (all rest : List ℕ) → Written old mid failed all rest → Appends mid new [] →
+    AppendsFront old new all
+written_front_nothing old mid new failed all rest w a = (
+  w.done,
+  rest,
+  w.whole,
+  subst (Appends old new) (append-nil w.done)
+      (Appends-trans old mid new w.done [] w.appended a),
+)
 
 -- a write that takes some bytes has not failed
 pub took_some : (was now : Bool) (n len : ℕ) → now ≡ (was || ((n == 0) && nat_lt 0 len)) → was ≡ false → (n ≡ 0 → ⊥) → now ≡ false
@@ -61,7 +70,9 @@ kept_is_nothing (Some x) None k = absurd k
 kept_is_nothing (Some x) (Some y) k = k ∙ sym (append-nil x)
 
 -- behind some bytes a call writes nothing more
-pub writes_more : {U : Type 0} (old mid new : Option (List ℕ)) (failed : Bool) (result : Result U Fault) (bytes : List ℕ) → Appends old mid bytes → Writes mid new failed result [] → Writes old new failed result bytes
+pub writes_more : {U : Type 0} (old mid new : Option (List ℕ)) (failed : Bool) (result : Result U Fault) (bytes : List ℕ) → Appends old mid bytes →
+    Writes mid new failed result [] → Writes old new failed result bytes
 writes_more old mid new failed (Ok u) bytes a w = (subst (Appends old new) (append-nil bytes) (Appends-trans old mid new bytes [] a w.0), w.1)
-writes_more old mid new failed (Err e) bytes a (is, bad, ([], back, parts, more)) = (is, bad, (bytes ++ [], [], sym (simp append-nil), Appends-trans old mid new bytes [] a more))
+writes_more old mid new failed (Err e) bytes a (is, bad, ([], back, parts, more)) =
+    (is, bad, (bytes ++ [], [], sym (simp append-nil), Appends-trans old mid new bytes [] a more))
 writes_more old mid new failed (Err e) bytes a (is, bad, (x ∷ front, back, parts, more)) = absurd (cc)

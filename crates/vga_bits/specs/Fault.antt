@@ -1,7 +1,9 @@
 -- The names of faults, as the program prints them.
 use Rattle.std.specs.Prelude.{ℕ, List, ◌++◌, codes, decimal}
 use Rattle.vga_bits.specs.declared.fault.Fault.{Fault}
-use Rattle.vga_bits.specs.declared.fault.Fault.TheVariants.{FontSize, BadMagic, BadVersion, BadStep, Truncated, TooLong, BadLine, ReadFault, WriteFault, OutOfMemory, TooMany}
+use Rattle.vga_bits.specs.declared.fault.Fault.TheVariants.{FontSize, BadMagic, BadVersion, BadStep}
+use Rattle.vga_bits.specs.declared.fault.Fault.TheVariants.{Truncated, TooLong, BadLine, ReadFault}
+use Rattle.vga_bits.specs.declared.fault.Fault.TheVariants.{WriteFault, OutOfMemory, TooMany}
 
 -- a fault's number and name, and its place in decimal
 abbrev pub fault_name : Fault → List ℕ

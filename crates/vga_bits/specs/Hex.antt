@@ -1,5 +1,6 @@
 -- Numbers in hexadecimal.
-use Rattle.std.specs.Prelude.{ℕ, zero, suc, ◌+◌, ◌/◌, ◌%◌, nat_lt, if◌then◌else◌, List, [], ◌∷◌, ◌++◌}
+use Rattle.std.specs.Prelude.{ℕ, zero, suc, ◌+◌, ◌/◌, ◌%◌, nat_lt, if◌then◌else◌, List, [], ◌∷◌}
+use Rattle.std.specs.Prelude.{◌++◌}
 
 -- a digit below 16, in upper case: 0 to 9, and A to F
 abbrev pub hex_digit : ℕ → ℕ

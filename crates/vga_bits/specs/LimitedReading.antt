@@ -1,5 +1,6 @@
 -- Reading up to a limit, where the reader tells its bytes, as one over memory does.
-use Rattle.std.specs.Prelude.{ℕ, ◌≡◌, ◌≤◌, Bool, true, false, List, length, take, Option, IfSome, Result, Ok, Err, Vec}
+use Rattle.std.specs.Prelude.{ℕ, ◌≡◌, ◌≤◌, Bool, true, false, List, length, take, Option, IfSome}
+use Rattle.std.specs.Prelude.{Result, Ok, Err, Vec}
 use Rattle.std.specs.declared.alloc.Global.{Global}
 use Rattle.std.specs.Io.KnownBytes.{Consumes}
 use Rattle.vga_bits.specs.declared.fault.Fault.{Fault}
@@ -13,11 +14,14 @@ TakesAtMost n old new = (bytes : List ℕ) × Consumes old new bytes × (length 
 abbrev pub IsFront : ℕ → Option (List ℕ) → List ℕ → Type 0
 IsFront most input bytes = IfSome input (λ all. bytes ≡ take most all)
 
--- What reading the first `most` bytes answers, over a reader that has these bytes before and after: those bytes, which
--- alone were taken; a fault, where the reader has failed; or that memory ran out, where it has not.
-abbrev pub ReadsFront : ℕ → Option (List ℕ) → Option (List ℕ) → Bool → Result (Vec ℕ Global) Fault → Type 0
+-- What reading the first `most` bytes answers, over a reader that has these bytes before and after:
+-- those bytes, which alone were taken; a fault, where the reader has failed; or that memory ran
+-- out, where it has not.
+abbrev pub ReadsFront : ℕ → Option (List ℕ) → Option (List ℕ) → Bool → Result (Vec ℕ Global) Fault →
+    Type 0
 ReadsFront most old new failed (Ok bytes) =
-    (length bytes.items ≤ most) × IsFront most old bytes.items × Consumes old new bytes.items × (failed ≡ false)
+    (length bytes.items ≤ most) × IsFront most old bytes.items × Consumes old new bytes.items
+    × (failed ≡ false)
 ReadsFront most old new failed (Err ReadFault) = (failed ≡ true) × TakesAtMost most old new
 ReadsFront most old new failed (Err OutOfMemory) = (failed ≡ false) × TakesAtMost most old new
 ReadsFront most old new failed (Err _) = ⊥

@@ -1,7 +1,11 @@
 -- The names of refusals, as a report has them.
 use Rattle.std.specs.Prelude.{ℕ, List, codes}
 use Rattle.vga_bits.specs.declared.refusal.Refusal.{Refusal}
-use Rattle.vga_bits.specs.declared.refusal.Refusal.TheVariants.{NotDecoded, NotInProfile, NoMode, BadFunction, BadMode, WrongKind, BadPage, Outside, CountPast, BadRegister, BadBlock, TooFar, BadHeight}
+use Rattle.vga_bits.specs.declared.refusal.Refusal.TheVariants.{NotDecoded, NotInProfile, NoMode}
+use Rattle.vga_bits.specs.declared.refusal.Refusal.TheVariants.{BadFunction, BadMode, WrongKind}
+use Rattle.vga_bits.specs.declared.refusal.Refusal.TheVariants.{BadPage, Outside, CountPast}
+use Rattle.vga_bits.specs.declared.refusal.Refusal.TheVariants.{BadRegister, BadBlock, TooFar}
+use Rattle.vga_bits.specs.declared.refusal.Refusal.TheVariants.{BadHeight}
 
 -- a refusal's number and name
 abbrev pub refusal_name : Refusal → List ℕ

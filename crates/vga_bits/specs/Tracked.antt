@@ -1,5 +1,6 @@
 -- What contracts see of a reader or a writer that remembers a failure, and how much was read.
-use Rattle.std.specs.Prelude.{ℕ, ◌+◌, ◌-◌, ◌^◌, min, ◌==◌, ◌&&◌, nat_lt, length, Bool, true, false, List, ◌++◌, ◌≡◌, Option, Result, Ok, Err}
+use Rattle.std.specs.Prelude.{ℕ, ◌+◌, ◌-◌, ◌^◌, min, ◌==◌, ◌&&◌, nat_lt, length, Bool, true, false}
+use Rattle.std.specs.Prelude.{List, ◌++◌, ◌≡◌, Option, Result, Ok, Err}
 use Rattle.std.specs.Io.KnownBytes.{Appends}
 use Rattle.vga_bits.specs.declared.tracked.Tracked.{Tracked}
 use Rattle.vga_bits.specs.declared.fault.Fault.{Fault}
@@ -22,19 +23,24 @@ abbrev pub taken_after : {E : Type 0} → ℕ → Result ℕ E → ℕ
 taken_after taken (Ok n) = min (taken + n) (2 ^ 64 - 1)
 taken_after taken (Err e) = taken
 
--- whether a write of some bytes with this answer failed: by an error, or by taking none of some bytes
+-- whether a write of some bytes with this answer failed: by an error, or by taking none of some
+-- bytes
 abbrev pub write_fails : {E : Type 0} → Result ℕ E → List ℕ → Bool
 write_fails (Ok n) bytes = (n == 0) && nat_lt 0 (length bytes)
 write_fails (Err e) bytes = true
 
 -- the bytes of a writer, where it tells them, have grown by a front of these
 abbrev pub AppendsFront : Option (List ℕ) → Option (List ℕ) → List ℕ → Type 0
-AppendsFront old new bytes = (front : List ℕ) × (back : List ℕ) × (bytes ≡ front ++ back) × Appends old new front
+AppendsFront old new bytes = (front : List ℕ) × (back : List ℕ) × (bytes ≡ front ++ back)
+    × Appends old new front
 
--- what a call that writes bytes answers: it has written them all, or the writer has failed and has a front of them
-abbrev pub Writes : {U : Type 0} → Option (List ℕ) → Option (List ℕ) → Bool → Result U Fault → List ℕ → Type 0
+-- what a call that writes bytes answers: it has written them all, or the writer has failed and has
+-- a front of them
+abbrev pub Writes : {U : Type 0} → Option (List ℕ) → Option (List ℕ) → Bool → Result U Fault →
+    List ℕ → Type 0
 Writes old new failed (Ok u) bytes = Appends old new bytes × (failed ≡ false)
-Writes old new failed (Err e) bytes = (e ≡ WriteFault) × (failed ≡ true) × AppendsFront old new bytes
+Writes old new failed (Err e) bytes = (e ≡ WriteFault) × (failed ≡ true)
+    × AppendsFront old new bytes
 
 -- the answer is WriteFault
 abbrev pub is_write_fault : {A : Type 0} → Result A Fault → Bool

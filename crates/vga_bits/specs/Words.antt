@@ -1,4 +1,5 @@
--- Four bytes, one for each plane, as one word of 32 bits: bits 8p + 7 to 8p are the byte of plane p.
+-- Four bytes, one for each plane, as one word of 32 bits: bits 8p + 7 to 8p are the byte of plane
+-- p.
 use Rattle.std.specs.Prelude.{ℕ, ◌+◌, ◌*◌, ◌/◌, ◌%◌, ◌^◌, ◌<◌, ◌≡◌}
 use Rattle.std.proofs.Common.{arith}
 use Rattle.std.specs.Int.{bit_at}

@@ -6,8 +6,8 @@ use super::fault::Fault;
 use std::alloc::Global;
 use std::marker::Model;
 
-/// Some bytes, which contracts see as their list. No bytes take no memory, and the others stand apart, so that a
-/// list of steps, of which few have a block, is short.
+/// Some bytes, which contracts see as their list. No bytes take no memory, and the others stand
+/// apart, so that a list of steps, of which few have a block, is short.
 #[derive(Drop)]
 pub struct Bytes {
     items: Option<Box<Vec<u8>>>,

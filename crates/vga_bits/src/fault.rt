@@ -6,8 +6,8 @@ use arrayvec::ArrayString;
 use itoa::Buffer;
 use thiserror::Error;
 
-/// Why a run ends before its script does. Those that stand before `WriteFault`, and `TooMany`, come before
-/// the first byte of a report.
+/// Why a run ends before its script does. Those that stand before `WriteFault`, and `TooMany`, come
+/// before the first byte of a report.
 #[derive(Clone, Copy, PartialEq, Eq, Debug, Error)]
 #[error("{}", self.name())]
 pub enum Fault {
@@ -31,7 +31,8 @@ pub enum Fault {
     WriteFault,
     /// A request for memory was refused.
     OutOfMemory,
-    /// With the step or the block at this offset of the script, in bytes, it means more than 16,777,216 steps.
+    /// With the step or the block at this offset of the script, in bytes, it means more than
+    /// 16,777,216 steps.
     TooMany(usize),
 }
 

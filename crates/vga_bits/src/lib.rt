@@ -1,6 +1,6 @@
-//! What every part of the adapter shares: bits and registers under write masks, bytes that are seen as
-//! a list, text and its digits, the names of refusals and faults, readers and writers that remember a
-//! failure, and how many comparisons passed and failed.
+//! What every part of the adapter shares: bits and registers under write masks, bytes that are seen
+//! as a list, text and its digits, the names of refusals and faults, readers and writers that
+//! remember a failure, and how many comparisons passed and failed.
 #![tactic(auto)]
 
 pub mod bits;

@@ -1,5 +1,6 @@
 //! A group of registers, each of which keeps the bits of its mask.
-ghost use Rattle.std.specs.Prelude.{◌≡◌, ◌<◌, ◌≤◌, length, slice_index, slice_set, replicate, bit_and};
+ghost use Rattle.std.specs.Prelude.{◌≡◌, ◌<◌, ◌≤◌, length, slice_index, slice_set, replicate};
+ghost use Rattle.std.specs.Prelude.{bit_and};
 ghost use Rattle.vga_bits.specs.Bits.{is_set as is_set_of, field as field_of};
 
 use super::bits::is_set;
@@ -52,14 +53,15 @@ impl<const N: usize> RegFile<N> {
     pub fn write(&mut self, i: usize, v: u8)
         requires { i < N }
         ensures masks { self.new.masks ≡ self.old.masks }
-        ensures values { self.new.values ≡ slice_set self.old.values i (bit_and v (slice_index self.old.masks i)) }
+        ensures values { self.new.values ≡ slice_set self.old.values i
+            (bit_and v (slice_index self.old.masks i)) }
     {
         let register = &mut self.values[i];
         *register = v & self.masks[i];
     }
 
-    /// There are N registers, and each holds bits of its mask alone, whatever was written. The clause is
-    /// for proofs: nothing runs.
+    /// There are N registers, and each holds bits of its mask alone, whatever was written. The
+    /// clause is for proofs: nothing runs.
     pub fn bounds(&self)
         ensures count { length self.now.values ≡ N }
         ensures kept { AreKept self.now.masks self.now.values }
@@ -76,7 +78,8 @@ impl<const N: usize> RegFile<N> {
         is_set(self.read(i), b)
     }
 
-    /// Bits `hi` to `lo` of register `i` as a number, where `lo` is at most `hi` and `hi` at most 7.
+    /// Bits `hi` to `lo` of register `i` as a number, where `lo` is at most `hi` and `hi` at most
+    /// 7.
     #[tactic(auto, using(crate::proofs::BitLemmas::field_mask))]
     pub fn field(&self, i: usize, hi: u32, lo: u32) -> u8
         requires register { i < N }

@@ -25,8 +25,10 @@ impl Tally {
 
     /// Counts a comparison.
     pub fn count(&mut self, has_passed: bool)
-        ensures passed { self.new.passed ≡ (if has_passed then one_more self.old.passed else self.old.passed) }
-        ensures failed { self.new.failed ≡ (if has_passed then self.old.failed else one_more self.old.failed) }
+        ensures passed { self.new.passed ≡ (if has_passed then one_more self.old.passed
+            else self.old.passed) }
+        ensures failed { self.new.failed ≡ (if has_passed then self.old.failed
+            else one_more self.old.failed) }
     {
         if has_passed {
             self.passed = self.passed.saturating_add(1);

@@ -74,8 +74,8 @@ impl<const ROOM: usize> TextBuffer<ROOM> {
         self.bytes.as_mut_slice()[i] = value;
     }
 
-    /// Keeps the first `at` bytes, and puts some bytes in the place of the others, for which there is room. As many
-    /// as there were are written over.
+    /// Keeps the first `at` bytes, and puts some bytes in the place of the others, for which there
+    /// is room. As many as there were are written over.
     #[inline(always)]
     pub fn replace_end(&mut self, at: usize, text: &[u8])
         requires within { at ≤ length self.old }

@@ -2,16 +2,18 @@
 ghost use Rattle.std.specs.Prelude.{◌≡◌, ◌||◌, [], is_err, false};
 ghost use Rattle.std.specs.Io.{ReadsAtMost, WritesAtMost};
 ghost use Rattle.std.specs.Io.KnownBytes.{ReadConsumes, WriteAppends, Keeps};
-ghost use Rattle.vga_bits.specs.Tracked.{inner_of, has_failed, taken_after, taken_of, write_fails, Writes};
+ghost use Rattle.vga_bits.specs.Tracked.{inner_of, has_failed, taken_after, taken_of, write_fails};
+ghost use Rattle.vga_bits.specs.Tracked.{Writes};
 
 use super::fault::Fault;
 use std::io;
 use std::io::{Read, Write};
 
-/// A reader or a writer that knows whether one of its calls has failed, and how many bytes were read of it.
+/// A reader or a writer that knows whether one of its calls has failed, and how many bytes were
+/// read of it.
 ///
-/// Contracts see three things of it: the reader or writer itself, whether a call has failed, and how many
-/// bytes its reads have given.
+/// Contracts see three things of it: the reader or writer itself, whether a call has failed, and
+/// how many bytes its reads have given.
 #[derive(Drop)]
 pub struct Tracked<T> {
     inner: T,
@@ -53,7 +55,8 @@ impl<T> Tracked<T> {
         *has_failed
     }
 
-    /// How many bytes its reads have given. More than 18,446,744,073,709,551,615 are counted as so many.
+    /// How many bytes its reads have given. More than 18,446,744,073,709,551,615 are counted as so
+    /// many.
     pub fn taken(&self) -> u64
         ensures { result ≡ taken_of self.now }
     {
@@ -66,7 +69,8 @@ impl<T: Read> Read for Tracked<T> {
 
     fn read(&mut self, buf: &mut [u8]) -> io::Result<usize>
         ensures bound { ReadsAtMost result buf.new }
-        ensures bytes { ReadConsumes (T.remaining (inner_of self.old)) (T.remaining (inner_of self.new)) result buf.new }
+        ensures bytes { ReadConsumes (T.remaining (inner_of self.old))
+            (T.remaining (inner_of self.new)) result buf.new }
         ensures failed { has_failed self.new ≡ (has_failed self.old || is_err result) }
         ensures taken { taken_of self.new ≡ taken_after (taken_of self.old) result }
     {
@@ -84,7 +88,8 @@ impl<T: Write> Write for Tracked<T> {
 
     fn write(&mut self, buf: &[u8]) -> io::Result<usize>
         ensures bound { WritesAtMost result buf.now }
-        ensures bytes { WriteAppends (T.contents (inner_of self.old)) (T.contents (inner_of self.new)) result buf.now }
+        ensures bytes { WriteAppends (T.contents (inner_of self.old))
+            (T.contents (inner_of self.new)) result buf.now }
         ensures failed { has_failed self.new ≡ (has_failed self.old || write_fails result buf.now) }
     {
         let answer = self.inner.write(buf);
@@ -108,12 +113,13 @@ impl<T: Write> Write for Tracked<T> {
     }
 }
 
-/// Writes all the bytes, by as many calls as the writer needs. It fails, with `WriteFault`, only where
-/// the writer does, which then has a front of the bytes.
+/// Writes all the bytes, by as many calls as the writer needs. It fails, with `WriteFault`, only
+/// where the writer does, which then has a front of the bytes.
 #[tactic(auto, using(crate::proofs::WritingLemmas::written_none, crate::proofs::WritingLemmas::written_more, crate::proofs::WritingLemmas::written_all, crate::proofs::WritingLemmas::written_front, crate::proofs::WritingLemmas::written_front_nothing))]
 pub fn write_whole<W: Write>(out: &mut Tracked<W>, bytes: &[u8]) -> Result<(), Fault>
     requires { has_failed out.old ≡ false }
-    ensures { Writes (W.contents (inner_of out.old)) (W.contents (inner_of out.new)) (has_failed out.new) result bytes.now }
+    ensures { Writes (W.contents (inner_of out.old)) (W.contents (inner_of out.new))
+        (has_failed out.new) result bytes.now }
 {
     let mut rest = bytes;
     while !rest.is_empty() {

@@ -1,5 +1,6 @@
 -- Cycles and dots leave each part within its bounds.
-use Rattle.std.proofs.Common.{◌≡◌, ◌≢◌, ℕ, zero, suc, ◌+◌, ◌/◌, ◌%◌, ◌^◌, ◌<◌, ◌≤◌, ⊎_elim, refl, ap, ◌∙◌, arith, List, length, Bool, true, false, Option, Some, None, Result, Ok, Err}
+use Rattle.std.proofs.Common.{◌≡◌, ◌≢◌, ℕ, zero, suc, ◌+◌, ◌/◌, ◌%◌, ◌^◌, ◌<◌, ◌≤◌, ⊎_elim, refl, ap, ◌∙◌, arith, List, length, Bool, true, false, Option, Some}
+use Rattle.std.proofs.Common.{None, Result, Ok, Err}
 use Rattle.std.specs.Prelude.{slice_index, slice_set, nat_lt, ◌==◌, ◌&&◌, not, if◌then◌else◌, min, max, bit_and, replicate}
 use Rattle.std.specs.Int.{bit_at}
 use Rattle.std.proofs.lemmas.Bool.{cases_eq, cases_lt, ltb-true}
@@ -32,10 +33,13 @@ use Rattle.vga_dac.specs.declared.component.Component.{Component}
 use Rattle.vga_dac.specs.declared.component.Component.TheVariants.{Red, Green, Blue}
 use Rattle.vga_dac.specs.Dac.{DacState, taken, after_read, IsDac}
 use Rattle.vga_card.specs.declared.port.Port.{Port}
-use Rattle.vga_card.specs.declared.port.Port.TheVariants.{Attribute, AttributeRegister, MiscellaneousWrite, SubsystemEnable, SequencerIndex, SequencerData, DacMask, DacReadIndex, DacWriteIndex, DacData, FeatureControl, MiscellaneousRead, GraphicsIndex, GraphicsData, CrtcIndex, CrtcData, InputStatus1}
+use Rattle.vga_card.specs.declared.port.Port.TheVariants.{Attribute, AttributeRegister, MiscellaneousWrite, SubsystemEnable, SequencerIndex, SequencerData}
+use Rattle.vga_card.specs.declared.port.Port.TheVariants.{DacMask, DacReadIndex, DacWriteIndex, DacData, FeatureControl, MiscellaneousRead, GraphicsIndex}
+use Rattle.vga_card.specs.declared.port.Port.TheVariants.{GraphicsData, CrtcIndex, CrtcData, InputStatus1}
 use Rattle.vga_card.specs.Card.{CardState, power_on_card}
 use Rattle.vga_card.specs.Port.{port_of}
-use Rattle.vga_card.specs.Cycles.{Written, Answered, written_unless, answered_unless, written_where, answered_where, out_at, inp_at, out_cycle, inp_cycle, put_cycle, get_cycle}
+use Rattle.vga_card.specs.Cycles.{Written, Answered, written_unless, answered_unless, written_where, answered_where, out_at, inp_at, out_cycle, inp_cycle}
+use Rattle.vga_card.specs.Cycles.{put_cycle, get_cycle}
 use Rattle.vga_card.specs.Words.{both_written, both_read, out_bytes, inp_bytes, out_word_cycle, inp_word_cycle, put_word_cycle, get_word_cycle}
 use Rattle.vga_card.specs.Dots.{character_width, dot, dots}
 use Rattle.vga_card.specs.Bounds.{IsCard}
@@ -62,7 +66,8 @@ sum_small : (x y : ℕ) → (x + y) % 2 < 2
 sum_small x y = omega arith
 
 combined_small : (f d l : ℕ) → d < 2 → l < 2 → combined_by f d l < 2
-combined_small f d l h k = if_small (f == 0) _ _ 2 h (if_small (f == 1) _ _ 2 (min_small d l 2 h) (if_small (f == 2) _ _ 2 (max_small d l 2 h k) (sum_small d l)))
+combined_small f d l h k = if_small (f == 0) _ _ 2 h (if_small (f == 1) _ _ 2 (min_small d l 2 h)
+    (if_small (f == 2) _ _ 2 (max_small d l 2 h k) (sum_small d l)))
 
 data_small : (h : HostState) (b p i : ℕ) → data_bit h b p i < 2
 data_small h b p i =
@@ -83,7 +88,8 @@ if_length : (t : Bool) (x y : List ℕ) (n : ℕ) → length x ≡ n → length 
 if_length true x y n h k = h
 if_length false x y n h k = k
 
-bytes_kept : (t : Bool) (plane : List ℕ) (a x : ℕ) → x < 256 → ((i : ℕ) → slice_index plane i < 256) → (i : ℕ) → slice_index (if t then slice_set plane a x else plane) i < 256
+bytes_kept : (t : Bool) (plane : List ℕ) (a x : ℕ) → x < 256 → ((i : ℕ) → slice_index plane i < 256) → (i : ℕ) →
+    slice_index (if t then slice_set plane a x else plane) i < 256
 bytes_kept false plane a x l h i = h i
 bytes_kept true plane a x l h i = ⊎_elim
     (λ (e : i ≡ a). ⊎_elim
@@ -97,12 +103,16 @@ memory_kept : (h : HostState) (w v : ℕ) → IsMemory h.memory → IsMemory (me
 memory_kept h w v z =
     let m = memory_after_put h w v in
     let size_of : (p : ℕ) → p < 4 → length (plane_after h w v p) ≡ 65536 = λ p l.
-    if_length (is_reached h w p) (slice_set (of_plane h.memory p) (plane_offset h w) (written_byte h v p)) (of_plane h.memory p) 65536 (length-set (of_plane h.memory p) (plane_offset h w) _ ∙ z.size p l) (z.size p l) in
+    if_length (is_reached h w p) (slice_set (of_plane h.memory p) (plane_offset h w) (written_byte h v p)) (of_plane h.memory p) 65536
+    (length-set (of_plane h.memory p) (plane_offset h w) _ ∙ z.size p l) (z.size p l) in
     let bytes_of : (p : ℕ) → p < 4 → (i : ℕ) → slice_index (plane_after h w v p) i < 256 = λ p l.
-    bytes_kept (is_reached h w p) (of_plane h.memory p) (plane_offset h w) (written_byte h v p) (byte_small (λ i. written_bit h v p i) (written_small h v p)) (z.bytes p l) in
+    bytes_kept (is_reached h w p) (of_plane h.memory p) (plane_offset h w) (written_byte h v p) (byte_small (λ i. written_bit h v p i) (written_small h v p))
+    (z.bytes p l) in
     record {
-      size = by_plane (λ p. length (of_plane m p) ≡ 65536) (size_of 0 (omega arith)) (size_of 1 (omega arith)) (size_of 2 (omega arith)) (size_of 3 (omega arith));
-      bytes = by_plane (λ p. (i : ℕ) → byte_at m p i < 256) (bytes_of 0 (omega arith)) (bytes_of 1 (omega arith)) (bytes_of 2 (omega arith)) (bytes_of 3 (omega arith));
+      size = by_plane (λ p. length (of_plane m p) ≡ 65536) (size_of 0 (omega arith)) (size_of 1 (omega arith)) (size_of 2 (omega arith))
+          (size_of 3 (omega arith));
+      bytes = by_plane (λ p. (i : ℕ) → byte_at m p i < 256) (bytes_of 0 (omega arith)) (bytes_of 1 (omega arith)) (bytes_of 2 (omega arith))
+          (bytes_of 3 (omega arith));
     }
 
 -- ---- the host path
@@ -113,7 +123,8 @@ host_put h w v z = record { memory = memory_kept h w v z.memory; latches = z.lat
 host_get : (h : HostState) (a : ℕ) → IsHost h → IsHost (record h { latches = bytes_at h.memory a })
 host_get h a z = record {
   memory = z.memory;
-  latches = by_plane (λ p. of_plane (bytes_at h.memory a) p < 256) (z.memory.bytes 0 (omega arith) a) (z.memory.bytes 1 (omega arith) a) (z.memory.bytes 2 (omega arith) a) (z.memory.bytes 3 (omega arith) a);
+  latches = by_plane (λ p. of_plane (bytes_at h.memory a) p < 256) (z.memory.bytes 0 (omega arith) a) (z.memory.bytes 1 (omega arith) a)
+      (z.memory.bytes 2 (omega arith) a) (z.memory.bytes 3 (omega arith) a);
   seq_size = z.seq_size;
   seq = z.seq;
   gfx_size = z.gfx_size;
@@ -127,10 +138,24 @@ host_gfx_index : (h : HostState) (i : ℕ) → IsHost h → IsHost (record h { g
 host_gfx_index h i z = record { memory = z.memory; latches = z.latches; seq_size = z.seq_size; seq = z.seq; gfx_size = z.gfx_size; gfx = z.gfx }
 
 host_seq : (h : HostState) (i v : ℕ) → IsHost h → IsHost (record h { seq = slice_set h.seq i (bit_and v (slice_index seq_masks i)) })
-host_seq h i v z = record { memory = z.memory; latches = z.latches; seq_size = length-set h.seq i _ ∙ z.seq_size; seq = kept_set seq_masks h.seq i v z.seq; gfx_size = z.gfx_size; gfx = z.gfx }
+host_seq h i v z = record {
+  memory = z.memory;
+  latches = z.latches;
+  seq_size = length-set h.seq i _ ∙ z.seq_size;
+  seq = kept_set seq_masks h.seq i v z.seq;
+  gfx_size = z.gfx_size;
+  gfx = z.gfx;
+}
 
 host_gfx : (h : HostState) (i v : ℕ) → IsHost h → IsHost (record h { gfx = slice_set h.gfx i (bit_and v (slice_index gfx_masks i)) })
-host_gfx h i v z = record { memory = z.memory; latches = z.latches; seq_size = z.seq_size; seq = z.seq; gfx_size = length-set h.gfx i _ ∙ z.gfx_size; gfx = kept_set gfx_masks h.gfx i v z.gfx }
+host_gfx h i v z = record {
+  memory = z.memory;
+  latches = z.latches;
+  seq_size = z.seq_size;
+  seq = z.seq;
+  gfx_size = length-set h.gfx i _ ∙ z.gfx_size;
+  gfx = kept_set gfx_masks h.gfx i v z.gfx;
+}
 
 host_at_power_on : IsHost (power_on_host zero_planes)
 unfolding zeros
@@ -159,7 +184,8 @@ crtc_set : (c : CrtcState) (i v : ℕ) → IsCrtc c → IsCrtc (record c { regis
 crtc_set c i v z = record { size = length-set c.registers i _ ∙ z.size; kept = kept_set kept_bits c.registers i v z.kept; beam = z.beam }
 
 overflow_small : (c : CrtcState) (v : ℕ) → protected_overflow c v < 256
-overflow_small c v = or_of_8 (bit_and (overflow c.registers) 0xEF) (bit_and v 0x10) (omega (arith, and_le_r (overflow c.registers) 0xEF)) (omega (arith, and_le_r v 0x10))
+overflow_small c v = or_of_8 (bit_and (overflow c.registers) 0xEF) (bit_and v 0x10) (omega (arith, and_le_r (overflow c.registers) 0xEF))
+    (omega (arith, and_le_r v 0x10))
 
 whole_byte : (v : ℕ) → v < 256 → bit_and v 0xFF ≡ v
 whole_byte v l = omega (arith, and_mask v 8)
@@ -209,7 +235,8 @@ started_within r b z =
 
 row_within : (r : List ℕ) (b : Beam) → IsBeam b → IsBeam (next_row r b)
 row_within r b z =
-    let top : IsBeam (record b { base = 0; scan = 0; half = false; split = true }) = record { frame = z.frame; line = z.line; character = z.character; dot = z.dot; scan = omega arith } in
+    let top : IsBeam (record b { base = 0; scan = 0; half = false; split = true }) =
+    record { frame = z.frame; line = z.line; character = z.character; dot = z.dot; scan = omega arith } in
     let half : IsBeam (record b { half = true }) = record { frame = z.frame; line = z.line; character = z.character; dot = z.dot; scan = z.scan } in
     if_beam (b.line == line_compare r) _ _ top (if_beam (is_double_scan r && not b.half) _ _ half
     (where_below b.scan (maximum_scan_line r) _ _
@@ -219,7 +246,13 @@ row_within r b z =
 line_within : (r : List ℕ) (b : Beam) → AreKept kept_bits r → IsBeam b → IsBeam (next_line r b)
 line_within r b are z =
     let begun : Beam = record b { character = 0; dot = 0 } in
-    let y : IsBeam (next_row r begun) = row_within r begun (record { frame = z.frame; line = z.line; character = omega arith; dot = omega arith; scan = z.scan }) in
+    let y : IsBeam (next_row r begun) = row_within r begun (record {
+      frame = z.frame;
+      line = z.line;
+      character = omega arith;
+      dot = omega arith;
+      scan = z.scan;
+    }) in
     where_below (b.line + 1) (lines r) _ _
     (λ l. record { frame = y.frame; line = omega (arith, l, few_lines r are); character = y.character; dot = y.dot; scan = y.scan })
     (record { frame = omega arith; line = omega arith; character = omega arith; dot = omega arith; scan = omega arith })
@@ -247,14 +280,22 @@ attr_write a v z =
     let i = register_of a in
     if_attr a.is_data _ _ (by_lock (is_locked a i)) (record { size = z.size; kept = z.kept; palette = z.palette })
   where
-    by_lock : (t : Bool) → IsAttr (record a { registers = if t then a.registers else slice_set a.registers (register_of a) (bit_and v (slice_index attr_masks (register_of a))); is_data = false })
+    by_lock : (t : Bool) → IsAttr (record a {
+      registers = if t then a.registers else slice_set a.registers (register_of a)
+          (bit_and v (slice_index attr_masks (register_of a)));
+      is_data = false;
+    })
     by_lock true = attr_kept _ z.size z.kept
     by_lock false = attr_kept _ (length-set a.registers (register_of a) _ ∙ z.size) (kept_set attr_masks a.registers (register_of a) v z.kept)
 
 dac_taken : (d : DacState) (k : Component) (v : ℕ) → IsDac d → IsDac (taken d k v)
 dac_taken d Red v z = record { reds = z.reds; greens = z.greens; blues = z.blues }
 dac_taken d Green v z = record { reds = z.reds; greens = z.greens; blues = z.blues }
-dac_taken d Blue v z = record { reds = length-set d.reds d.index _ ∙ z.reds; greens = length-set d.greens d.index _ ∙ z.greens; blues = length-set d.blues d.index _ ∙ z.blues }
+dac_taken d Blue v z = record {
+  reds = length-set d.reds d.index _ ∙ z.reds;
+  greens = length-set d.greens d.index _ ∙ z.greens;
+  blues = length-set d.blues d.index _ ∙ z.blues;
+}
 
 -- ---- cycles of a byte
 
@@ -339,7 +380,8 @@ read_within false c x v z y = z
 
 pub put_bounds : (c : CardState) (address v : ℕ) → IsCard c → IsCard (put_cycle c address v).0
 put_bounds c address v z =
-    written_within (is_decoded c.host c.misc address) c _ z (with_host c (after_put c.host address v) (host_put c.host (window_offset c.host address) v z.host) z)
+    written_within (is_decoded c.host c.misc address) c _ z (with_host c (after_put c.host address v) (host_put c.host (window_offset c.host address) v z.host)
+    z)
 
 pub get_bounds : (c : CardState) (address : ℕ) → IsCard c → IsCard (get_cycle c address).0
 get_bounds c address z =
@@ -404,7 +446,11 @@ dot_bounds : (c : CardState) → IsCard c → IsCard (dot c)
 unfolding dot after_dot
 dot_bounds c z = record {
   host = z.host;
-  crtc = record { size = z.crtc.size; kept = z.crtc.kept; beam = dot_within (character_width c) c.crtc.registers c.crtc.beam (narrow _) z.crtc.kept z.crtc.beam };
+  crtc = record {
+    size = z.crtc.size;
+    kept = z.crtc.kept;
+    beam = dot_within (character_width c) c.crtc.registers c.crtc.beam (narrow _) z.crtc.kept z.crtc.beam;
+  };
   attr = z.attr;
   dac = z.dac;
 }

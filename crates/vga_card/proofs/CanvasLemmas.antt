@@ -1,8 +1,10 @@
 -- Dots in a buffer, one more or a line more.
-use Rattle.std.proofs.Common.{◌≡◌, ◌≢◌, ℕ, zero, suc, ◌+◌, ◌*◌, ◌<◌, ◌≤◌, ⊎_elim, refl, sym, ap, ◌∙◌, arith, List, [], ◌∷◌, ◌++◌, length, replicate, take, drop, append_assoc, length-append, slice_index, take-add}
+use Rattle.std.proofs.Common.{◌≡◌, ◌≢◌, ℕ, zero, suc, ◌+◌, ◌*◌, ◌<◌, ◌≤◌, ⊎_elim, refl, sym, ap, ◌∙◌, arith, List, [], ◌∷◌, ◌++◌, length, replicate, take, drop}
+use Rattle.std.proofs.Common.{append_assoc, length-append, slice_index, take-add}
 use Rattle.std.specs.Prelude.{slice_set}
 use Rattle.std.proofs.lemmas.Bool.{cases_eq}
-use Rattle.std.proofs.lemmas.List.{length-set, get_or-set_same, get_or-set_other, append-nil, length-replicate, replicate-append-replicate, take-append-le, take-take, drop-append-le, take_all, length-drop}
+use Rattle.std.proofs.lemmas.List.{length-set, get_or-set_same, get_or-set_other, append-nil, length-replicate, replicate-append-replicate, take-append-le}
+use Rattle.std.proofs.lemmas.List.{take-take, drop-append-le, take_all, length-drop}
 use Rattle.vga_bits.specs.Bytes.{zeros}
 use Rattle.vga_dots.specs.Display.{DisplayState}
 use Rattle.vga_dots.specs.Line.{shown_characters, IsLineDrawn}
@@ -18,7 +20,8 @@ no_lines u [] h = refl
 no_lines u (w ∷ ws) h = ap (λ n. replicate n u ++ lines_from (u + 1) ws) (h 0) ∙ no_lines (u + 1) ws (λ j. h (suc j))
 
 -- n dots more on the last line
-lines_more : (u i n : ℕ) (ws : List ℕ) → i < length ws → ((j : ℕ) → i < j → slice_index ws j ≡ 0) → lines_from u (slice_set ws i (slice_index ws i + n)) ≡ lines_from u ws ++ replicate n (u + i)
+lines_more : (u i n : ℕ) (ws : List ℕ) → i < length ws → ((j : ℕ) → i < j → slice_index ws j ≡ 0) →
+    lines_from u (slice_set ws i (slice_index ws i + n)) ≡ lines_from u ws ++ replicate n (u + i)
 unfolding lines_from
 lines_more u i n [] l h = absurd (omega arith)
 lines_more u zero n (w ∷ ws) l h =
@@ -55,7 +58,9 @@ dots-append (v ∷ vs) us bs cs e =
     ∙ ap (λ (dots : List Dot). here (take 3 bs) ∷ dots) (dots-append vs us (drop 3 bs) cs (omega (arith, e, length-drop 3 bs)))
 
 -- one dot more on line v
-pub stored_more : (ws buffer colour : List ℕ) (v : ℕ) → v < length ws → ((j : ℕ) → v < j → slice_index ws j ≡ 0) → length buffer ≡ 3 * length (lines_from 0 ws) → length colour ≡ 3 → stored_dots (slice_set ws v (slice_index ws v + 1)) (buffer ++ colour) ≡ stored_dots ws buffer ++ (record { line = v; colour = colour }) ∷ []
+pub stored_more : (ws buffer colour : List ℕ) (v : ℕ) → v < length ws → ((j : ℕ) → v < j → slice_index ws j ≡ 0) →
+    length buffer ≡ 3 * length (lines_from 0 ws) → length colour ≡ 3 → stored_dots (slice_set ws v (slice_index ws v + 1)) (buffer ++ colour)
+    ≡ stored_dots ws buffer ++ (record { line = v; colour = colour }) ∷ []
 unfolding dots_from
 stored_more ws buffer colour v l h e three =
     let z : 0 + v ≡ v = omega arith in
@@ -80,7 +85,9 @@ pub record HasRoom (ws : List ℕ) (line v n : ℕ) : Type 0 where
   pub beside : v ≡ line → slice_index ws line + n ≤ widest
 
 -- a canvas shows whether it has room for one dot more
-pub room_shown : (canvas : CanvasState) (dots : List Dot) (ws : List ℕ) (line v : ℕ) → record { dots = dots; line = line; width = slice_index ws line } ≡ canvas → v < 1024 → canvas.line ≤ v → (v ≡ canvas.line → canvas.width < widest) → HasRoom ws line v 1
+pub room_shown : (canvas : CanvasState) (dots : List Dot) (ws : List ℕ) (line v : ℕ) →
+    record { dots = dots; line = line; width = slice_index ws line } ≡ canvas → v < 1024 → canvas.line ≤ v → (v ≡ canvas.line → canvas.width < widest) →
+    HasRoom ws line v 1
 room_shown canvas dots ws line v shown inside after room =
     let last = ap (λ (s : CanvasState). s.line) shown in
     record {
@@ -91,7 +98,8 @@ room_shown canvas dots ws line v shown inside after room =
     }
 
 -- the width of a line before n dots more
-width_before : (capacity : ℕ) (buffer ws : List ℕ) (line v n : ℕ) → IsCanvas capacity buffer ws line → HasRoom ws line v n → (slice_index ws v + n ≤ widest) × (length (lines_from 0 ws) + n ≤ widest * v + (slice_index ws v + n))
+width_before : (capacity : ℕ) (buffer ws : List ℕ) (line v n : ℕ) → IsCanvas capacity buffer ws line → HasRoom ws line v n → (slice_index ws v + n ≤ widest)
+    × (length (lines_from 0 ws) + n ≤ widest * v + (slice_index ws v + n))
 width_before capacity buffer ws line v n is room =
     ⊎_elim
     (λ (same : v ≡ line).
@@ -109,7 +117,8 @@ bytes_fit capacity buffer ws line v n is room =
     let before = width_before capacity buffer ws line v n is room in
     omega (arith, before.0, before.1, room.inside, is.counted, is.room)
 
-narrow_stays : (ws : List ℕ) (v n : ℕ) → v < length ws → n ≤ widest → ((j : ℕ) → slice_index ws j ≤ widest) → (j : ℕ) → slice_index (slice_set ws v n) j ≤ widest
+narrow_stays : (ws : List ℕ) (v n : ℕ) → v < length ws → n ≤ widest → ((j : ℕ) → slice_index ws j ≤ widest) → (j : ℕ) →
+    slice_index (slice_set ws v n) j ≤ widest
 narrow_stays ws v n l few h j =
     ⊎_elim
     (λ (same : j ≡ v). omega (arith, ap (slice_index (slice_set ws v n)) same, get_or-set_same ws v n 0 l, few))
@@ -117,13 +126,15 @@ narrow_stays ws v n l few h j =
     (cases_eq j v)
 
 -- n dots more on line v, and what is true of the canvas then
-pub canvas_more : (capacity : ℕ) (buffer colours ws : List ℕ) (line v n : ℕ) → IsCanvas capacity buffer ws line → HasRoom ws line v n → length colours ≡ 3 * n → IsCanvas capacity (buffer ++ colours) (slice_set ws v (slice_index ws v + n)) v
+pub canvas_more : (capacity : ℕ) (buffer colours ws : List ℕ) (line v n : ℕ) → IsCanvas capacity buffer ws line → HasRoom ws line v n → length colours ≡ 3 * n →
+    IsCanvas capacity (buffer ++ colours) (slice_set ws v (slice_index ws v + n)) v
 canvas_more capacity buffer colours ws line v n is room e =
     let within : v < length ws = omega (arith, is.lines, room.inside) in
     let before = width_before capacity buffer ws line v n is room in
     let wider = slice_set ws v (slice_index ws v + n) in
     let count : length (lines_from 0 wider) ≡ length (lines_from 0 ws) + n =
-    ap length (lines_more 0 v n ws within (λ j k. is.later j (omega (arith, room.after)))) ∙ length-append (lines_from 0 ws) (replicate n (0 + v)) ∙ ap (λ k. length (lines_from 0 ws) + k) (length-replicate n (0 + v)) in
+    ap length (lines_more 0 v n ws within (λ j k. is.later j (omega (arith, room.after)))) ∙ length-append (lines_from 0 ws) (replicate n (0 + v))
+    ∙ ap (λ k. length (lines_from 0 ws) + k) (length-replicate n (0 + v)) in
     record {
       room = is.room;
       lines = length-set ws v (slice_index ws v + n) ∙ is.lines;
@@ -135,7 +146,8 @@ canvas_more capacity buffer colours ws line v n is room e =
     }
 
 -- an empty canvas
-pub empty_canvas : (capacity : ℕ) (ws : List ℕ) (line : ℕ) → 7077888 ≤ capacity → length ws ≡ 1024 → line < 1024 → ((j : ℕ) → slice_index ws j ≡ 0) → IsCanvas capacity [] ws line
+pub empty_canvas : (capacity : ℕ) (ws : List ℕ) (line : ℕ) → 7077888 ≤ capacity → length ws ≡ 1024 → line < 1024 → ((j : ℕ) → slice_index ws j ≡ 0) →
+    IsCanvas capacity [] ws line
 empty_canvas capacity ws line r l i h =
     let none = ap length (no_lines 0 ws h) in
     record {
@@ -152,14 +164,17 @@ empty_dots : (buffer ws : List ℕ) → ((j : ℕ) → slice_index ws j ≡ 0) �
 unfolding dots_from
 empty_dots buffer ws h = ap (λ x. dots_from x buffer) (no_lines 0 ws h)
 
-pub shows_none : (buffer ws : List ℕ) → ((j : ℕ) → slice_index ws j ≡ 0) → record { dots = stored_dots ws buffer; line = 0; width = slice_index ws 0 } ≡ blank_canvas
-shows_none buffer ws h = ap (λ (dots : List Dot). record { dots = dots; line = 0; width = slice_index ws 0 }) (empty_dots buffer ws h) ∙ ap (λ (n : ℕ). record { dots = []; line = 0; width = n }) (h 0)
+pub shows_none : (buffer ws : List ℕ) → ((j : ℕ) → slice_index ws j ≡ 0) → record { dots = stored_dots ws buffer; line = 0; width = slice_index ws 0 }
+    ≡ blank_canvas
+shows_none buffer ws h = ap (λ (dots : List Dot). record { dots = dots; line = 0; width = slice_index ws 0 }) (empty_dots buffer ws h)
+    ∙ ap (λ (n : ℕ). record { dots = []; line = 0; width = n }) (h 0)
 
 pub blank : (n : ℕ) (ws : List ℕ) → ws ≡ zeros n → (j : ℕ) → slice_index ws j ≡ 0
 blank n ws e j = ap (λ x. slice_index x j) e ∙ zeros_at n j
 
 -- n dots more on line v, by the bytes of a row
-pub stored_line : (ws buffer colours : List ℕ) (v n : ℕ) → v < length ws → ((j : ℕ) → v < j → slice_index ws j ≡ 0) → length buffer ≡ 3 * length (lines_from 0 ws)
+pub stored_line : (ws buffer colours : List ℕ) (v n : ℕ) → v < length ws → ((j : ℕ) → v < j → slice_index ws j ≡ 0) →
+    length buffer ≡ 3 * length (lines_from 0 ws)
     → stored_dots (slice_set ws v (slice_index ws v + n)) (buffer ++ colours) ≡ stored_dots ws buffer ++ dots_from (replicate n v) colours
 stored_line ws buffer colours v n l h e =
     let z : 0 + v ≡ v = omega arith in
@@ -168,7 +183,9 @@ stored_line ws buffer colours v n l h e =
     ∙ ap (λ k. stored_dots ws buffer ++ dots_from (replicate n k) colours) z
 
 -- a canvas shows whether it has room for n dots more
-pub line_shown : (canvas : CanvasState) (dots : List Dot) (ws : List ℕ) (line v n : ℕ) → record { dots = dots; line = line; width = slice_index ws line } ≡ canvas → v < highest → canvas.line ≤ v → n ≤ widest → (v ≡ canvas.line → canvas.width + n ≤ widest) → HasRoom ws line v n
+pub line_shown : (canvas : CanvasState) (dots : List Dot) (ws : List ℕ) (line v n : ℕ) →
+    record { dots = dots; line = line; width = slice_index ws line } ≡ canvas → v < highest → canvas.line ≤ v → n ≤ widest →
+    (v ≡ canvas.line → canvas.width + n ≤ widest) → HasRoom ws line v n
 line_shown canvas dots ws line v n shown inside after few room =
     let last = ap (λ (s : CanvasState). s.line) shown in
     record {
@@ -192,7 +209,8 @@ roomier capacity more buffer ws line l is = record {
 
 -- a line that was drawn behind the bytes that a longer buffer has in use
 pub line_appended : (cw : ℕ) (d : DisplayState) (old mid new : List ℕ) (used len : ℕ) → used ≤ length old → len ≡ 3 * (shown_characters d.crtc.registers * cw)
-    → take (length old) mid ≡ old → used + len ≤ length new → take used new ≡ take used mid → IsLineDrawn cw (shown_characters d.crtc.registers) d (drop used mid) (drop used new)
+    → take (length old) mid ≡ old → used + len ≤ length new → take used new ≡ take used mid →
+    IsLineDrawn cw (shown_characters d.crtc.registers) d (drop used mid) (drop used new)
     → IsLineAppended cw d (take used old) (take (used + len) new)
 line_appended cw d old mid new used len within count longer room front drawn =
     let kept : take used new ≡ take used old = front ∙ sym (take-take used (length old) mid within) ∙ ap (take used) longer in

@@ -7,10 +7,13 @@ use Rattle.vga_host.specs.Ports.{is_refused_out, is_refused_inp}
 use Rattle.vga_crtc.specs.Ports.{is_refused_out as is_refused_crtc, is_refused_inp as is_refused_crtc_inp}
 use Rattle.vga_attr.specs.Attr.{is_refused_write, is_refused_read}
 use Rattle.vga_card.specs.declared.port.Port.{Port}
-use Rattle.vga_card.specs.declared.port.Port.TheVariants.{Attribute, AttributeRegister, MiscellaneousWrite, SubsystemEnable, SequencerIndex, SequencerData, DacMask, DacReadIndex, DacWriteIndex, DacData, FeatureControl, MiscellaneousRead, GraphicsIndex, GraphicsData, CrtcIndex, CrtcData, InputStatus1}
+use Rattle.vga_card.specs.declared.port.Port.TheVariants.{Attribute, AttributeRegister, MiscellaneousWrite, SubsystemEnable, SequencerIndex, SequencerData}
+use Rattle.vga_card.specs.declared.port.Port.TheVariants.{DacMask, DacReadIndex, DacWriteIndex, DacData, FeatureControl, MiscellaneousRead, GraphicsIndex}
+use Rattle.vga_card.specs.declared.port.Port.TheVariants.{GraphicsData, CrtcIndex, CrtcData, InputStatus1}
 use Rattle.vga_card.specs.Card.{CardState}
 use Rattle.vga_card.specs.Port.{port_of}
-use Rattle.vga_card.specs.Cycles.{Written, Answered, written_unless, answered_unless, written_where, answered_where, out_at, inp_at, out_cycle, inp_cycle, put_cycle, get_cycle}
+use Rattle.vga_card.specs.Cycles.{Written, Answered, written_unless, answered_unless, written_where, answered_where, out_at, inp_at, out_cycle, inp_cycle}
+use Rattle.vga_card.specs.Cycles.{put_cycle, get_cycle}
 use Rattle.vga_card.specs.Words.{both_written, both_read, out_word_cycle, inp_word_cycle, put_word_cycle, get_word_cycle}
 
 -- ---- a byte
@@ -87,23 +90,27 @@ get_drawn c address = answered_where_kept (is_decoded c.host c.misc address) c _
 
 -- ---- a word
 
-both_written_kept : (old : CardState) (first : Result Unit Refusal) (second : Written) → second.0.drawn ≡ old.drawn → (both_written old first second).0.drawn ≡ old.drawn
+both_written_kept : (old : CardState) (first : Result Unit Refusal) (second : Written) → second.0.drawn ≡ old.drawn →
+    (both_written old first second).0.drawn ≡ old.drawn
 both_written_kept old (Ok u) (new, Ok w) e = e
 both_written_kept old (Ok u) (new, Err g) e = refl
 both_written_kept old (Err f) (new, Ok w) e = refl
 both_written_kept old (Err f) (new, Err g) e = refl
 
-both_read_kept : (old : CardState) (first : Result ℕ Refusal) (second : Answered) → second.0.drawn ≡ old.drawn → (both_read old first second).0.drawn ≡ old.drawn
+both_read_kept : (old : CardState) (first : Result ℕ Refusal) (second : Answered) → second.0.drawn ≡ old.drawn →
+    (both_read old first second).0.drawn ≡ old.drawn
 both_read_kept old (Ok low) (new, Ok high) e = e
 both_read_kept old (Ok low) (new, Err g) e = refl
 both_read_kept old (Err f) (new, Ok high) e = refl
 both_read_kept old (Err f) (new, Err g) e = refl
 
-written_past : (last : Bool) (old : CardState) (w : Written) (e : Refusal) → w.0.drawn ≡ old.drawn → (let x : Written = (if last then (old, Err e) else w) in x).0.drawn ≡ old.drawn
+written_past : (last : Bool) (old : CardState) (w : Written) (e : Refusal) → w.0.drawn ≡ old.drawn →
+    (let x : Written = (if last then (old, Err e) else w) in x).0.drawn ≡ old.drawn
 written_past true old w e kept = refl
 written_past false old w e kept = kept
 
-read_past : (last : Bool) (old : CardState) (a : Answered) (e : Refusal) → a.0.drawn ≡ old.drawn → (let x : Answered = (if last then (old, Err e) else a) in x).0.drawn ≡ old.drawn
+read_past : (last : Bool) (old : CardState) (a : Answered) (e : Refusal) → a.0.drawn ≡ old.drawn →
+    (let x : Answered = (if last then (old, Err e) else a) in x).0.drawn ≡ old.drawn
 read_past true old a e kept = refl
 read_past false old a e kept = kept
 
@@ -111,7 +118,8 @@ pub out_word_drawn : (c : CardState) (port v : ℕ) → (out_word_cycle c port v
 out_word_drawn c port v =
     let first = out_cycle c port (v % 256) in
     let second = out_cycle first.0 (port + 1) (v / 256) in
-    written_past (port == 0xFFFF) c (both_written c first.1 second) _ (both_written_kept c first.1 second (out_drawn first.0 (port + 1) (v / 256) ∙ out_drawn c port (v % 256)))
+    written_past (port == 0xFFFF) c (both_written c first.1 second) _ (both_written_kept c first.1 second (out_drawn first.0 (port + 1) (v / 256)
+    ∙ out_drawn c port (v % 256)))
 
 pub inp_word_drawn : (c : CardState) (port : ℕ) → (inp_word_cycle c port).0.drawn ≡ c.drawn
 inp_word_drawn c port =
@@ -123,7 +131,8 @@ pub put_word_drawn : (c : CardState) (address v : ℕ) → (put_word_cycle c add
 put_word_drawn c address v =
     let first = put_cycle c address (v % 256) in
     let second = put_cycle first.0 (address + 1) (v / 256) in
-    written_past (address == 0xFFFFFFFF) c (both_written c first.1 second) _ (both_written_kept c first.1 second (put_drawn first.0 (address + 1) (v / 256) ∙ put_drawn c address (v % 256)))
+    written_past (address == 0xFFFFFFFF) c (both_written c first.1 second) _ (both_written_kept c first.1 second (put_drawn first.0 (address + 1) (v / 256)
+    ∙ put_drawn c address (v % 256)))
 
 pub get_word_drawn : (c : CardState) (address : ℕ) → (get_word_cycle c address).0.drawn ≡ c.drawn
 get_word_drawn c address =

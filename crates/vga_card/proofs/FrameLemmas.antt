@@ -1,5 +1,6 @@
 -- Frames: their end, and what is drawn on the way.
-use Rattle.std.proofs.Common.{◌≡◌, ℕ, zero, suc, ◌+◌, ◌-◌, ◌<◌, ◌≤◌, ⊎_elim, refl, sym, ap, subst, ◌∙◌, arith, Bool, true, false, List, [], ◌∷◌, ◌++◌, append_assoc, length, replicate, Some, None}
+use Rattle.std.proofs.Common.{◌≡◌, ℕ, zero, suc, ◌+◌, ◌-◌, ◌<◌, ◌≤◌, ⊎_elim, refl, sym, ap, subst, ◌∙◌, arith, Bool, true, false, List, [], ◌∷◌, ◌++◌}
+use Rattle.std.proofs.Common.{append_assoc, length, replicate, Some, None}
 use Rattle.std.specs.Prelude.{if◌then◌else◌, ◌==◌, ◌&&◌}
 use Rattle.std.proofs.lemmas.Bool.Decides.{nat_tests}
 use Rattle.std.proofs.lemmas.Bool.{cases_order}
@@ -85,7 +86,8 @@ frame_left ends_at c n within =
     (λ (here : n + left ≡ all). here)
     (⊎_elim
     (λ (before : n + left < all). absurd (ends.first (n + left) (omega (arith, later.some)) before (subst IsFrameStart (sym (at left)) later.there)))
-    (λ (beyond : all < n + left). absurd (later.first (all - n) (omega arith) (omega arith) (subst IsFrameStart (ap (λ k. (dots k c).crtc.beam) (sym whole) ∙ at (all - n)) ends.there))))
+    (λ (beyond : all < n + left). absurd (later.first (all - n) (omega arith) (omega arith)
+    (subst IsFrameStart (ap (λ k. (dots k c).crtc.beam) (sym whole) ∙ at (all - n)) ends.there))))
     (cases_order (n + left) all)
 
 -- a frame goes on after some of its dots
@@ -127,7 +129,8 @@ draws_more ends_at c (suc n) hi =
     let ends = frame_ends_first ends_at c in
     let e : suc (suc n) ≡ suc n + 1 = omega arith in
     let d = dots (suc n) c in
-    let away : is_first_dot d.crtc.beam ≡ false = is_away (is_first_dot d.crtc.beam) (λ h. ends.first (suc n) (omega arith) (omega arith) (start_is d.crtc.beam h)) in
+    let away : is_first_dot d.crtc.beam ≡ false = is_away (is_first_dot d.crtc.beam) (λ h.
+    ends.first (suc n) (omega arith) (omega arith) (start_is d.crtc.beam h)) in
     ap (λ k. (dots k c).drawn) e ∙ ap (λ (x : CardState). x.drawn) (dots_more (suc n) c) ∙ dot_drawn d
     ∙ ap (λ v. (if v then [] else d.drawn) ++ display_dot d.host (after_start d.crtc) d.attr d.dac) away
     ∙ ap (λ x. d.drawn ++ x) (joins (suc n) c)
@@ -150,7 +153,8 @@ positive_widths : (w h : ℕ) → positive (replicate h (suc w)) ≡ replicate h
 positive_widths w zero = refl
 positive_widths w (suc h) = ap (λ x. suc w ∷ x) (positive_widths w h)
 
-pub regular_shape : (width height : ℕ) (drawn : List Dot) → 0 < width → 0 < height → lines_of drawn ≡ lines_from 0 (replicate height width) → shape drawn ≡ Some (record { width = width; height = height })
+pub regular_shape : (width height : ℕ) (drawn : List Dot) → 0 < width → 0 < height → lines_of drawn ≡ lines_from 0 (replicate height width) →
+    shape drawn ≡ Some (record { width = width; height = height })
 regular_shape zero height drawn p q e = absurd (omega arith)
 regular_shape (suc w) zero drawn p q e = absurd (omega arith)
 regular_shape (suc w) (suc h) drawn p q e =

@@ -24,7 +24,8 @@ abbrev pub DotsBegin : Type 0
 DotsBegin = (cw : ℕ) (r : List ℕ) (n : ℕ) (b : Beam) → 0 < n → beam_dots cw r n b ≡ beam_dots cw r n (started r b)
 
 abbrev pub BeamInLine : Type 0
-BeamInLine = (cw : ℕ) (r : List ℕ) (b : Beam) (n : ℕ) → IsLineStart b → 0 < cw → n < line_length cw r → started r (beam_dots cw r n b) ≡ in_line cw (started r b) n
+BeamInLine = (cw : ℕ) (r : List ℕ) (b : Beam) (n : ℕ) → IsLineStart b → 0 < cw → n < line_length cw r →
+    started r (beam_dots cw r n b) ≡ in_line cw (started r b) n
 
 abbrev pub LineCounts : Type 0
 LineCounts = (cw : ℕ) (r : List ℕ) (b : Beam) → IsLineStart b → 0 < cw → dots_in_line cw r b ≡ line_length cw r
@@ -56,7 +57,8 @@ module _ (stays : StartStays) (begin : DotsBegin) (places : BeamInLine) (counts 
       ∙ collect_same (display_dot_at c) (λ i. display_dot c.host (placed (after_start c.crtc) (i / w) (i % w)) c.attr c.dac) (characters r * w)
       (λ i l. ap (λ (x : Beam). display_dot c.host (record c.crtc { beam = x }) c.attr c.dac) (places w r b i start some l))
 
-  same_beam : (cw : ℕ) (c new : CrtcState) → 0 < cw → IsLineStart c.beam → IsLineTaken cw (after_start c) new → new ≡ after_dots c cw (dots_in_line cw c.registers c.beam)
+  same_beam : (cw : ℕ) (c new : CrtcState) → 0 < cw → IsLineStart c.beam → IsLineTaken cw (after_start c) new →
+      new ≡ after_dots c cw (dots_in_line cw c.registers c.beam)
   unfolding after_start after_dots
   same_beam cw c new some start line =
       let r = c.registers in
@@ -67,17 +69,20 @@ module _ (stays : StartStays) (begin : DotsBegin) (places : BeamInLine) (counts 
       line.taken ∙ ap (λ m. record c { beam = beam_dots cw r m s }) e ∙ ap (λ (b : Beam). record c { beam = b }) (sym (begin cw r n c.beam more))
 
   -- a whole line, from the parts that it changes
-  pub line_is : (c : CardState) (crtc : CrtcState) (drawn : List Dot) → IsLineStart c.crtc.beam → IsLineTaken (character_width c) (after_start c.crtc) crtc → drawn ≡ fresh c ++ line_dots (started_display c)
+  pub line_is : (c : CardState) (crtc : CrtcState) (drawn : List Dot) → IsLineStart c.crtc.beam → IsLineTaken (character_width c) (after_start c.crtc) crtc →
+      drawn ≡ fresh c ++ line_dots (started_display c)
       → record c { crtc = crtc; drawn = drawn } ≡ dots (line_count c) c
   line_is c crtc drawn start moves draws =
       let n = line_count c in
       let count = few_dots c in
       ap (λ (x : CrtcState). record c { crtc = x; drawn = drawn }) (same_beam (character_width c) c.crtc crtc (wide _) start moves)
-      ∙ ap (λ (x : List Dot). record c { crtc = after_dots c.crtc (character_width c) n; drawn = x }) (draws ∙ ap (λ x. fresh c ++ x) (sym (line_places c start)) ∙ sym (dots_are_places frames c n count.0 count.1))
+      ∙ ap (λ (x : List Dot). record c { crtc = after_dots c.crtc (character_width c) n; drawn = x }) (draws
+      ∙ ap (λ x. fresh c ++ x) (sym (line_places c start)) ∙ sym (dots_are_places frames c n count.0 count.1))
       ∙ sym (dots_keep n c)
 
 -- after a line nothing is drawn of the beam's
-pub line_moves : StartStays → LineMoves → (cw : ℕ) (old new : CrtcState) (line width : ℕ) → IsLineTaken cw old new → line ≤ old.beam.line → IsDrawnTo new.beam 0 (fresh_count new.beam line) (fresh_count new.beam width)
+pub line_moves : StartStays → LineMoves → (cw : ℕ) (old new : CrtcState) (line width : ℕ) → IsLineTaken cw old new → line ≤ old.beam.line →
+    IsDrawnTo new.beam 0 (fresh_count new.beam line) (fresh_count new.beam width)
 unfolding after_dots
 line_moves stays leads cw old new line width taken below =
     let r = old.registers in
@@ -92,7 +97,8 @@ line_moves stays leads cw old new line width taken below =
     (λ (start : IsFrameStart (next_line r s)). absurd (elsewhere m away (subst IsFrameStart (sym e) start)))
     (leads r s))
 
-pub line_went : (left line : ℕ) (s new r : CardState) → line ≤ left → line ≡ line_count s → new ≡ dots (line_count s) s → dots left s ≡ r → dots (left - line) new ≡ r
+pub line_went : (left line : ℕ) (s new r : CardState) → line ≤ left → line ≡ line_count s → new ≡ dots (line_count s) s → dots left s ≡ r →
+    dots (left - line) new ≡ r
 line_went left line s new r l e n h =
     let z : line + (left - line) ≡ left = omega arith in
     ap (dots (left - line)) (n ∙ ap (λ i. dots i s) (sym e)) ∙ sym (dots_split line (left - line) s) ∙ ap (λ i. dots i s) z ∙ h

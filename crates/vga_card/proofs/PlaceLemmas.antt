@@ -18,7 +18,8 @@ StartStays = (r : List ℕ) (b : Beam) → IsSamePlace b (started r b)
 abbrev pub DotMoves : Type 0
 DotMoves = (cw : ℕ) (r : List ℕ) (b : Beam) → IsNextPlace cw r b (dot cw r b)
 
-pub drawn_started : StartStays → (crtc : CrtcState) (more line width : ℕ) → IsDrawnTo crtc.beam more line width → IsDrawnTo (after_start crtc).beam more line width
+pub drawn_started : StartStays → (crtc : CrtcState) (more line width : ℕ) → IsDrawnTo crtc.beam more line width →
+    IsDrawnTo (after_start crtc).beam more line width
 unfolding after_start
 drawn_started stays crtc more line width is =
     let place = stays crtc.registers crtc.beam in
@@ -27,7 +28,8 @@ drawn_started stays crtc more line width is =
       few = λ e. omega (arith, is.few (e ∙ place.line), place.character, place.dot);
     }
 
-drawn_unstarted : StartStays → (crtc : CrtcState) (more line width : ℕ) → IsDrawnTo (after_start crtc).beam more line width → IsDrawnTo crtc.beam more line width
+drawn_unstarted : StartStays → (crtc : CrtcState) (more line width : ℕ) → IsDrawnTo (after_start crtc).beam more line width →
+    IsDrawnTo crtc.beam more line width
 unfolding after_start
 drawn_unstarted stays crtc more line width is =
     let place = stays crtc.registers crtc.beam in
@@ -48,7 +50,8 @@ pub elsewhere : (b : Beam) → is_first_dot b ≡ false → ¬ IsFrameStart b
 elsewhere b away start = let here = is_first b start in absurd (cc)
 
 -- one dot more is drawn, and the beam moves past it
-drawn_moves : (cw : ℕ) (r : List ℕ) (b m : Beam) (line width : ℕ) → b.dot < 9 → IsNextPlace cw r b m → IsDrawnTo b 1 line width → is_first_dot m ≡ false → IsDrawnTo m 0 line width
+drawn_moves : (cw : ℕ) (r : List ℕ) (b m : Beam) (line width : ℕ) → b.dot < 9 → IsNextPlace cw r b m → IsDrawnTo b 1 line width → is_first_dot m ≡ false →
+    IsDrawnTo m 0 line width
 drawn_moves cw r b m line width within next is away =
     ⊎_elim
     (λ (a : IsNextDot cw b m). record { below = omega (arith, a.line, is.below); few = λ e. omega (arith, is.few (e ∙ a.line), a.character, a.dot) })
@@ -59,7 +62,8 @@ drawn_moves cw r b m line width within next is away =
     (λ (start : IsFrameStart m). absurd (elsewhere m away start))))
     next
 
-pub card_moves : StartStays → DotMoves → (crtc : CrtcState) (cw line width : ℕ) → crtc.beam.dot < 9 → IsDrawnTo (after_start crtc).beam 1 line width → IsDrawnTo (after_dot crtc cw).beam 0 (fresh_count (after_dot crtc cw).beam line) (fresh_count (after_dot crtc cw).beam width)
+pub card_moves : StartStays → DotMoves → (crtc : CrtcState) (cw line width : ℕ) → crtc.beam.dot < 9 → IsDrawnTo (after_start crtc).beam 1 line width →
+    IsDrawnTo (after_dot crtc cw).beam 0 (fresh_count (after_dot crtc cw).beam line) (fresh_count (after_dot crtc cw).beam width)
 unfolding after_dot
 card_moves stays moves crtc cw line width within is =
     let r = crtc.registers in
@@ -78,8 +82,10 @@ out_keeps crtc false v = refl
 out_keeps crtc true v =
     let written : CrtcState = record crtc { registers = slice_set crtc.registers crtc.index (bit_and v (slice_index kept_bits crtc.index)) } in
     let overflowed : CrtcState = record crtc { registers = slice_set crtc.registers 7 (protected_overflow crtc v) } in
-    kept_if (not (is_write_protected crtc)) crtc written (if crtc.index == 7 then overflowed else crtc) refl (kept_if (crtc.index == 7) crtc overflowed crtc refl refl)
+    kept_if (not (is_write_protected crtc)) crtc written (if crtc.index == 7 then overflowed
+    else crtc) refl (kept_if (crtc.index == 7) crtc overflowed crtc refl refl)
 
-pub beam_kept : (crtc new : CrtcState) (at_data : Bool) (v : ℕ) (answer : Result (Unit {0}) Refusal) → OnOk answer (new ≡ after_out crtc at_data v) → IfErr answer (λ e. (e ≡ NotInProfile) × (new ≡ crtc)) → new.beam ≡ crtc.beam
+pub beam_kept : (crtc new : CrtcState) (at_data : Bool) (v : ℕ) (answer : Result (Unit {0}) Refusal) → OnOk answer (new ≡ after_out crtc at_data v) →
+    IfErr answer (λ e. (e ≡ NotInProfile) × (new ≡ crtc)) → new.beam ≡ crtc.beam
 beam_kept crtc new at_data v (Ok u) done refused = ap (λ (c : CrtcState). c.beam) done ∙ out_keeps crtc at_data v
 beam_kept crtc new at_data v (Err e) done refused = ap (λ (c : CrtcState). c.beam) refused.1

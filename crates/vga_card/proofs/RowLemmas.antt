@@ -1,5 +1,6 @@
 -- A whole line is its dots, one at a time.
-use Rattle.std.proofs.Common.{◌≡◌, ℕ, zero, suc, ◌+◌, ◌-◌, ◌*◌, ◌/◌, ◌%◌, ◌<◌, ◌≤◌, ⊎_elim, refl, sym, ap, ◌∙◌, arith, Bool, true, false, List, [], ◌∷◌, ◌++◌, length, replicate, take, drop, slice_index}
+use Rattle.std.proofs.Common.{◌≡◌, ℕ, zero, suc, ◌+◌, ◌-◌, ◌*◌, ◌/◌, ◌%◌, ◌<◌, ◌≤◌, ⊎_elim, refl, sym, ap, ◌∙◌, arith, Bool, true, false, List, [], ◌∷◌, ◌++◌}
+use Rattle.std.proofs.Common.{length, replicate, take, drop, slice_index}
 use Rattle.std.specs.Prelude.{if◌then◌else◌, ◌&&◌, nat_le, bit_and}
 use Rattle.std.proofs.lemmas.Bool.{cases_lt, le-leb, lt-leb}
 use Rattle.std.proofs.lemmas.Bool.Decides.{nat_tests}
@@ -34,7 +35,8 @@ pub collect_none : (f : ℕ → List Dot) (m n : ℕ) → ((i : ℕ) → m ≤ i
 collect_none f m zero h = let z : m + 0 ≡ m = omega arith in ap (collect f) z
 collect_none f m (suc n) h =
     let z : m + suc n ≡ suc (m + n) = omega arith in
-    ap (collect f) z ∙ ap (λ x. collect f (m + n) ++ x) (h (m + n) (omega arith) (omega arith)) ∙ append-nil (collect f (m + n)) ∙ collect_none f m n (λ i lo hi. h i lo (omega arith))
+    ap (collect f) z ∙ ap (λ x. collect f (m + n) ++ x) (h (m + n) (omega arith) (omega arith)) ∙ append-nil (collect f (m + n))
+    ∙ collect_none f m n (λ i lo hi. h i lo (omega arith))
 
 dots_cut : (vs us bs : List ℕ) → dots_from (vs ++ us) bs ≡ dots_from vs bs ++ dots_from us (drop (3 * length vs) bs)
 unfolding dots_from
@@ -86,31 +88,38 @@ shown_dot : (d : DisplayState) (x k : ℕ) → x ≤ horizontal_display_end d.cr
 unfolding display_dot
 shown_dot d x k in_line in_frame =
     let dots : List Dot = record { line = d.crtc.beam.line; colour = dot_colour d.host (placed d.crtc x k) d.attr d.dac } ∷ [] in
-    ap (λ v. if v && nat_le d.crtc.beam.line (vertical_display_end d.crtc.registers) then dots else []) (le-leb x (horizontal_display_end d.crtc.registers) in_line)
+    ap (λ v. if v && nat_le d.crtc.beam.line (vertical_display_end d.crtc.registers) then dots
+    else []) (le-leb x (horizontal_display_end d.crtc.registers) in_line)
     ∙ ap (λ v. if v then dots else []) (le-leb d.crtc.beam.line (vertical_display_end d.crtc.registers) in_frame)
 
 hidden_dot : (d : DisplayState) (x k : ℕ) → horizontal_display_end d.crtc.registers < x → display_dot d.host (placed d.crtc x k) d.attr d.dac ≡ []
 unfolding display_dot
 hidden_dot d x k past =
     let dots : List Dot = record { line = d.crtc.beam.line; colour = dot_colour d.host (placed d.crtc x k) d.attr d.dac } ∷ [] in
-    ap (λ v. if v && nat_le d.crtc.beam.line (vertical_display_end d.crtc.registers) then dots else []) (lt-leb x (horizontal_display_end d.crtc.registers) past)
+    ap (λ v. if v && nat_le d.crtc.beam.line (vertical_display_end d.crtc.registers) then dots
+    else []) (lt-leb x (horizontal_display_end d.crtc.registers) past)
 
 and_false : (v : Bool) (dots : List Dot) → (if v && false then dots else []) ≡ []
 and_false true dots = refl
 and_false false dots = refl
 
-hidden_line_dot : (d : DisplayState) (x k : ℕ) → vertical_display_end d.crtc.registers < d.crtc.beam.line → display_dot d.host (placed d.crtc x k) d.attr d.dac ≡ []
+hidden_line_dot : (d : DisplayState) (x k : ℕ) → vertical_display_end d.crtc.registers < d.crtc.beam.line →
+    display_dot d.host (placed d.crtc x k) d.attr d.dac ≡ []
 unfolding display_dot
 hidden_line_dot d x k past =
     let dots : List Dot = record { line = d.crtc.beam.line; colour = dot_colour d.host (placed d.crtc x k) d.attr d.dac } ∷ [] in
-    ap (λ v. if nat_le x (horizontal_display_end d.crtc.registers) && v then dots else []) (lt-leb d.crtc.beam.line (vertical_display_end d.crtc.registers) past)
+    ap (λ v. if nat_le x (horizontal_display_end d.crtc.registers) && v then dots
+    else []) (lt-leb d.crtc.beam.line (vertical_display_end d.crtc.registers) past)
     ∙ and_false (nat_le x (horizontal_display_end d.crtc.registers)) dots
 
-three_of : (v : Bool) (x y z : ℕ) → (if v then 0 ∷ 0 ∷ 0 ∷ [] else x ∷ y ∷ z ∷ []) ≡ slice_index (if v then 0 ∷ 0 ∷ 0 ∷ [] else x ∷ y ∷ z ∷ []) 0 ∷ slice_index (if v then 0 ∷ 0 ∷ 0 ∷ [] else x ∷ y ∷ z ∷ []) 1 ∷ slice_index (if v then 0 ∷ 0 ∷ 0 ∷ [] else x ∷ y ∷ z ∷ []) 2 ∷ []
+three_of : (v : Bool) (x y z : ℕ) → (if v then 0 ∷ 0 ∷ 0 ∷ [] else x ∷ y ∷ z ∷ [])
+    ≡ slice_index (if v then 0 ∷ 0 ∷ 0 ∷ [] else x ∷ y ∷ z ∷ []) 0 ∷ slice_index (if v then 0 ∷ 0 ∷ 0 ∷ [] else x ∷ y ∷ z ∷ []) 1 ∷ slice_index (if v
+    then 0 ∷ 0 ∷ 0 ∷ [] else x ∷ y ∷ z ∷ []) 2 ∷ []
 three_of true x y z = refl
 three_of false x y z = refl
 
-three_bytes : (h : HostState) (c : CrtcState) (a : AttrState) (d : DacState) → dot_colour h c a d ≡ slice_index (dot_colour h c a d) 0 ∷ slice_index (dot_colour h c a d) 1 ∷ slice_index (dot_colour h c a d) 2 ∷ []
+three_bytes : (h : HostState) (c : CrtcState) (a : AttrState) (d : DacState) → dot_colour h c a d
+    ≡ slice_index (dot_colour h c a d) 0 ∷ slice_index (dot_colour h c a d) 1 ∷ slice_index (dot_colour h c a d) 2 ∷ []
 unfolding dot_colour
 three_bytes h c a d =
     let n = bit_and (colour_number h c a) d.mask in
@@ -132,7 +141,8 @@ module _ (d : DisplayState) (cw : ℕ) (wide : cw ≡ host_width d.host) (some :
   hidden_line past = by_width ∙ none (characters d.crtc.registers * cw) (λ i l. hidden_line_dot d (i / cw) (i % cw) past)
 
   -- a line that is displayed has those that are drawn
-  pub shown_line : (row old : List ℕ) → d.crtc.beam.line ≤ vertical_display_end d.crtc.registers → IsLineDrawn cw (shown_characters d.crtc.registers) d old row → 3 * (shown_characters d.crtc.registers * cw) ≤ length row
+  pub shown_line : (row old : List ℕ) → d.crtc.beam.line ≤ vertical_display_end d.crtc.registers →
+      IsLineDrawn cw (shown_characters d.crtc.registers) d old row → 3 * (shown_characters d.crtc.registers * cw) ≤ length row
       → line_dots d ≡ dots_from (replicate (shown_characters d.crtc.registers * cw) d.crtc.beam.line) (take (3 * (shown_characters d.crtc.registers * cw)) row)
   shown_line row old in_frame drawn room =
       let r = d.crtc.registers in
@@ -156,13 +166,17 @@ module _ (d : DisplayState) (cw : ℕ) (wide : cw ≡ host_width d.host) (some :
       let k = mod_below i cw some in
       let colour = dot_colour d.host (placed d.crtc (i / cw) (i % cw)) d.attr d.dac in
       shown_dot d (i / cw) (i % cw) (omega (arith, x)) in_frame
-      ∙ ap (λ (q : List ℕ). (record { line = d.crtc.beam.line; colour = q }) ∷ []) (sym (three_are (3 * i) bytes colour (omega (arith, long)) (three_bytes d.host (placed d.crtc (i / cw) (i % cw)) d.attr d.dac)
-      (λ j lj. get_or-take (3 * m) row (3 * i + j) 0 (omega arith) ∙ ap (λ q. slice_index row (3 * q + j)) (sym (at i)) ∙ drawn.inside (i / cw) (i % cw) j x k lj))))
+      ∙ ap (λ (q : List ℕ). (record { line = d.crtc.beam.line; colour = q }) ∷ [])
+      (sym (three_are (3 * i) bytes colour (omega (arith, long)) (three_bytes d.host (placed d.crtc (i / cw) (i % cw)) d.attr d.dac)
+      (λ j lj. get_or-take (3 * m) row (3 * i + j) 0 (omega arith) ∙ ap (λ q. slice_index row (3 * q + j)) (sym (at i))
+      ∙ drawn.inside (i / cw) (i % cw) j x k lj))))
       ∙ collect_row d.crtc.beam.line bytes m
 
 -- so its dots are those of n dots of line v in that row
-pub appended_line : (d : DisplayState) (cw n v : ℕ) (row old : List ℕ) → cw ≡ host_width d.host → 0 < cw → d.crtc.beam.line ≤ vertical_display_end d.crtc.registers
-    → n ≡ shown_characters d.crtc.registers * cw → v ≡ d.crtc.beam.line → IsLineDrawn cw (shown_characters d.crtc.registers) d old row → 3 * (shown_characters d.crtc.registers * cw) ≤ length row
+pub appended_line : (d : DisplayState) (cw n v : ℕ) (row old : List ℕ) → cw ≡ host_width d.host → 0 < cw →
+    d.crtc.beam.line ≤ vertical_display_end d.crtc.registers
+    → n ≡ shown_characters d.crtc.registers * cw → v ≡ d.crtc.beam.line → IsLineDrawn cw (shown_characters d.crtc.registers) d old row →
+    3 * (shown_characters d.crtc.registers * cw) ≤ length row
     → dots_from (replicate n v) (take (3 * (shown_characters d.crtc.registers * cw)) row) ≡ line_dots d
 appended_line d cw n v row old wide some in_frame count line drawn long =
     let m = shown_characters d.crtc.registers * cw in

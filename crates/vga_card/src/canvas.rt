@@ -1,6 +1,7 @@
 //! The dots that were drawn of the frame under way.
 ghost use Rattle.std.specs.Prelude.{◌≡◌, ℕ, ◌+◌, ◌*◌, ◌<◌, ◌≤◌, [], ◌∷◌, ◌++◌, length};
-ghost use Rattle.std.specs.Prelude.{slice_index, take, drop, replicate, vec_len, vec_capacity, IfOk, IfSome, IsOkUnless};
+ghost use Rattle.std.specs.Prelude.{slice_index, take, drop, replicate, vec_len, vec_capacity};
+ghost use Rattle.std.specs.Prelude.{IfOk, IfSome, IsOkUnless};
 ghost use Rattle.vga_bits.specs.Bytes.{zeros};
 ghost use Rattle.vga_host.specs.Fields.{character_width};
 ghost use Rattle.vga_crtc.specs.Fields.{vertical_display_end};
@@ -23,14 +24,15 @@ const WIDEST: usize = 2_304;
 /// How many lines of a frame can have a dot.
 const HIGHEST: usize = 1_024;
 
-/// The dots in order in one buffer, three bytes each, and how many of them each line has. The buffer
-/// keeps its memory when it is cleared.
+/// The dots in order in one buffer, three bytes each, and how many of them each line has. The
+/// buffer keeps its memory when it is cleared.
 ///
 /// Contracts see the list of the dots, the last line with one, and how many that line has.
 #[derive(Drop)]
 pub(crate) struct Canvas {
     buffer: Vec<u8>,
-    /// How many bytes of the buffer the dots have. Those behind them tell nothing, and are written over.
+    /// How many bytes of the buffer the dots have. Those behind them tell nothing, and are written
+    /// over.
     used: usize,
     widths: Vec<u32>,
     line: u16,
@@ -42,9 +44,14 @@ impl Model for Canvas {
 
     ghost Value = { CanvasState };
 
-    ghost view = { λ c. record { dots = stored_dots c.widths.items (take c.used c.buffer.items); line = c.line; width = slice_index c.widths.items c.line } };
+    ghost view = { λ c. record {
+      dots = stored_dots c.widths.items (take c.used c.buffer.items);
+      line = c.line;
+      width = slice_index c.widths.items c.line;
+    } };
 
-    ghost invariant = { λ c. (c.used ≤ length c.buffer.items) × IsCanvas (vec_capacity c.buffer) (take c.used c.buffer.items) c.widths.items c.line };
+    ghost invariant = { λ c. (c.used ≤ length c.buffer.items)
+        × IsCanvas (vec_capacity c.buffer) (take c.used c.buffer.items) c.widths.items c.line };
 }
 
 /// No bytes, with room for so many.
@@ -109,24 +116,28 @@ fn lengthen(buffer: &mut Vec<u8>, len: usize)
     }
 }
 
-/// Writes the displayed dots of the beam's line, three bytes each, over those bytes that stand from `at` on.
+/// Writes the displayed dots of the beam's line, three bytes each, over those bytes that stand from
+/// `at` on.
 fn draw_at<const CW: usize>(display: &Display<'_>, bytes: &mut [u8], at: usize)
     requires width { CW ≡ character_width display.now.host }
     requires room { at + 3 * (shown_characters display.now.crtc.registers * CW) ≤ length bytes.old }
     ensures front { take at bytes.new ≡ take at bytes.old }
-    ensures drawn { IsLineDrawn CW (shown_characters display.now.crtc.registers) display.now (drop at bytes.old) (drop at bytes.new) }
+    ensures drawn { IsLineDrawn CW (shown_characters display.now.crtc.registers) display.now
+        (drop at bytes.old) (drop at bytes.new) }
 {
     draw_line::<CW>(display, &mut bytes[at..]);
 }
 
-/// Puts the displayed dots of the beam's line, three bytes each, behind the first `used` bytes of a buffer, which has
-/// memory for them. They are drawn where they stay: a row that is copied takes as long again.
+/// Puts the displayed dots of the beam's line, three bytes each, behind the first `used` bytes of a
+/// buffer, which has memory for them. They are drawn where they stay: a row that is copied takes as
+/// long again.
 fn put_line<const CW: usize>(display: &Display<'_>, buffer: &mut Vec<u8>, used: usize, len: usize)
     requires width { CW ≡ character_width display.now.host }
     requires len { len ≡ 3 * (shown_characters display.now.crtc.registers * CW) }
     requires used { used ≤ length buffer.old.items }
     requires room { used + len ≤ vec_capacity buffer.old }
-    ensures line { IsLineAppended CW display.now (take used buffer.old.items) (take (used + len) buffer.new.items) }
+    ensures line { IsLineAppended CW display.now (take used buffer.old.items)
+        (take (used + len) buffer.new.items) }
     ensures len { used + len ≤ length buffer.new.items }
     ensures capacity { vec_capacity buffer.old ≤ vec_capacity buffer.new }
 {
@@ -151,13 +162,14 @@ impl Canvas {
         })
     }
 
-    /// Adds a dot, in red, green and blue, to the last line or to one after it. A line is below 1,024
-    /// and has at most 2,304 dots.
+    /// Adds a dot, in red, green and blue, to the last line or to one after it. A line is below
+    /// 1,024 and has at most 2,304 dots.
     pub(crate) fn add(&mut self, line: u16, colour: [u8; 3])
         requires lines { line < highest }
         requires after { self.old.line ≤ line }
         requires room { line ≡ self.old.line → self.old.width < widest }
-        ensures dots { self.new.dots ≡ self.old.dots ++ (record { line = line; colour = colour }) ∷ [] }
+        ensures dots { self.new.dots ≡ self.old.dots
+            ++ (record { line = line; colour = colour }) ∷ [] }
         ensures line { self.new.line ≡ line }
         ensures width { self.new.width ≡ width_with self.old line }
     {
@@ -169,16 +181,18 @@ impl Canvas {
         self.line = line;
     }
 
-    /// Adds the displayed dots of the beam's line, `count` characters of `CW` dots each, to the last line or to one
-    /// after it. A line is below 1,024 and has at most 2,304 dots.
+    /// Adds the displayed dots of the beam's line, `count` characters of `CW` dots each, to the
+    /// last line or to one after it. A line is below 1,024 and has at most 2,304 dots.
     pub(crate) fn add_line<const CW: usize>(&mut self, display: &Display<'_>, count: usize)
         requires width { CW ≡ character_width display.now.host }
         requires count { count ≡ shown_characters display.now.crtc.registers }
-        requires shown { display.now.crtc.beam.line ≤ vertical_display_end display.now.crtc.registers }
+        requires shown { display.now.crtc.beam.line
+            ≤ vertical_display_end display.now.crtc.registers }
         requires lines { display.now.crtc.beam.line < highest }
         requires after { self.old.line ≤ display.now.crtc.beam.line }
         requires few { count * CW ≤ widest }
-        requires room { display.now.crtc.beam.line ≡ self.old.line → self.old.width + count * CW ≤ widest }
+        requires room { display.now.crtc.beam.line ≡ self.old.line →
+            self.old.width + count * CW ≤ widest }
         ensures dots { self.new.dots ≡ self.old.dots ++ line_dots display.now }
         ensures line { self.new.line ≡ display.now.crtc.beam.line }
     {

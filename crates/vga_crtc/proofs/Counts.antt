@@ -6,11 +6,13 @@ use Rattle.vga_crtc.specs.Raster.{dots_in_line, dots_in_frame, line_dots, beam_a
 use Rattle.vga_crtc.proofs.Frames.{place_of}
 
 -- the dots before a place and those from it on, where a lines, e characters and z dots follow it
-all_dots : (a e z v c k : ℕ) → v * ((c + 1 + e) * (k + 1 + z)) + (c * (k + 1 + z) + k) + (a * ((c + 1 + e) * (k + 1 + z)) + (e * (k + 1 + z) + z + 1)) ≡ (v + 1 + a) * ((c + 1 + e) * (k + 1 + z))
+all_dots : (a e z v c k : ℕ) → v * ((c + 1 + e) * (k + 1 + z)) + (c * (k + 1 + z) + k) + (a * ((c + 1 + e) * (k + 1 + z)) + (e * (k + 1 + z) + z + 1))
+    ≡ (v + 1 + a) * ((c + 1 + e) * (k + 1 + z))
 all_dots a e z v c k = omega arith
 
 -- the same, of l lines of n characters of w dots
-left_at : (w n l v c k : ℕ) → k < w → c < n → v < l → v * (n * w) + (c * w + k) + ((l - (v + 1)) * (n * w) + ((n - (c + 1)) * w + (w - (k + 1)) + 1)) ≡ l * (n * w)
+left_at : (w n l v c k : ℕ) → k < w → c < n → v < l → v * (n * w) + (c * w + k) + ((l - (v + 1)) * (n * w) + ((n - (c + 1)) * w + (w - (k + 1)) + 1))
+    ≡ l * (n * w)
 left_at w n l v c k in_character in_line in_frame =
     let a = l - (v + 1) in
     let e = n - (c + 1) in
@@ -24,7 +26,8 @@ left_at w n l v c k in_character in_line in_frame =
     ∙ ap (λ i. (v + 1 + a) * (i * (k + 1 + z))) all_characters ∙ ap (λ i. (v + 1 + a) * (n * i)) all_dots_of_one ∙ ap (λ i. i * (n * w)) all_lines
 
 -- from dot n on the dots to the next frame are all but n
-pub frame_left : (cw : ℕ) (r : List ℕ) (start f n : ℕ) → 0 < cw → n < lines r * line_dots cw r → n + dots_in_frame cw r (beam_at cw r start f n) ≡ lines r * line_dots cw r
+pub frame_left : (cw : ℕ) (r : List ℕ) (start f n : ℕ) → 0 < cw → n < lines r * line_dots cw r →
+    n + dots_in_frame cw r (beam_at cw r start f n) ≡ lines r * line_dots cw r
 unfolding dots_in_frame dots_in_line
 frame_left cw r start f n some in_frame =
     let line = line_dots cw r in

@@ -5,7 +5,8 @@ use Rattle.vga_crtc.specs.declared.beam.Beam.{Beam}
 use Rattle.vga_crtc.specs.Crtc.{CrtcState, first_dot}
 use Rattle.vga_crtc.specs.Beam.{characters, lines, started, next_line, moved, dot, dots, after_dots}
 use Rattle.vga_crtc.specs.Raster.{dots_in_line, dots_in_frame, IsLineStart, IsFrameStart, LineEnds, FrameEnds, IsLineTaken}
-use Rattle.vga_crtc.proofs.Moves.{character_ended, moved_in, moved_out, next_character, last_character, frame_follows, next_line_start, next_in_frame, not_started, started_again, started_place}
+use Rattle.vga_crtc.proofs.Moves.{character_ended, moved_in, moved_out, next_character, last_character, frame_follows, next_line_start, next_in_frame}
+use Rattle.vga_crtc.proofs.Moves.{not_started, started_again, started_place}
 use Rattle.vga_crtc.proofs.Dots.{dots_one, dots_split, dots_started}
 
 -- n dots lead from old to new, and no place between them is such a place
@@ -37,7 +38,8 @@ module _ (P : Beam → Type 0) (cw : ℕ) (r : List ℕ) where
       }
 
 -- up to the end of a character
-pub to_character_end : (cw : ℕ) (r : List ℕ) (j : ℕ) (b : Beam) → j ≡ cw - (b.dot + 1) → started r b ≡ b → Leads IsLineStart cw r (j + 1) b (character_ended r b)
+pub to_character_end : (cw : ℕ) (r : List ℕ) (j : ℕ) (b : Beam) → j ≡ cw - (b.dot + 1) → started r b ≡ b →
+    Leads IsLineStart cw r (j + 1) b (character_ended r b)
 to_character_end cw r zero b left taken = one_dot IsLineStart cw r b (character_ended r b) (ap (moved cw r) taken ∙ moved_out cw r b (omega arith))
 to_character_end cw r (suc j) b left taken =
     let next : Beam = record b { dot = b.dot + 1 } in
@@ -47,7 +49,8 @@ to_character_end cw r (suc j) b left taken =
     (then_leads IsLineStart cw r b next (character_ended r b) 1 (j + 1) first (λ (start : IsLineStart next). absurd (omega (arith, start.dot))) rest)
 
 -- up to the end of a line
-to_line_end : (cw : ℕ) (r : List ℕ) (i : ℕ) (b : Beam) → 0 < cw → i ≡ characters r - (b.character + 1) → started r b ≡ b → Leads IsLineStart cw r (i * cw + (cw - (b.dot + 1)) + 1) b (next_line r b)
+to_line_end : (cw : ℕ) (r : List ℕ) (i : ℕ) (b : Beam) → 0 < cw → i ≡ characters r - (b.character + 1) → started r b ≡ b →
+    Leads IsLineStart cw r (i * cw + (cw - (b.dot + 1)) + 1) b (next_line r b)
 to_line_end cw r zero b some left taken =
     let j = cw - (b.dot + 1) in
     let e : j + 1 ≡ 0 * cw + j + 1 = omega arith in
@@ -60,7 +63,8 @@ to_line_end cw r (suc i) b some left taken =
     let rest = to_line_end cw r i next some (omega arith) (not_started r next (inr (inl (omega arith)))) in
     let e : (j + 1) + (i * cw + (cw - (0 + 1)) + 1) ≡ suc i * cw + j + 1 = omega arith in
     counted IsLineStart cw r b (next_line r b) ((j + 1) + (i * cw + (cw - (0 + 1)) + 1)) (suc i * cw + j + 1) e
-    (then_leads IsLineStart cw r b next (next_line r b) (j + 1) (i * cw + (cw - (0 + 1)) + 1) first (λ (start : IsLineStart next). absurd (omega (arith, start.character))) rest)
+    (then_leads IsLineStart cw r b next (next_line r b) (j + 1) (i * cw + (cw - (0 + 1)) + 1) first
+    (λ (start : IsLineStart next). absurd (omega (arith, start.character))) rest)
 
 -- the line of the dots that are left, from a beam with the start taken
 pub whole_line : (cw : ℕ) (r : List ℕ) (b : Beam) → 0 < cw → started r b ≡ b → Leads IsLineStart cw r (dots_in_line cw r b) b (next_line r b)
@@ -103,14 +107,16 @@ line_ends cw r b some =
     }
 
 -- the dots of a line, taken
-pub line_taken : (cw : ℕ) (old new : CrtcState) → (cw ≡ 8) ⊎ (cw ≡ 9) → new ≡ after_dots old cw (dots_in_line cw old.registers old.beam) → IsLineTaken cw old new
+pub line_taken : (cw : ℕ) (old new : CrtcState) → (cw ≡ 8) ⊎ (cw ≡ 9) → new ≡ after_dots old cw (dots_in_line cw old.registers old.beam) →
+    IsLineTaken cw old new
 line_taken cw old new width taken = record {
   taken = taken;
   ends = line_ends cw old.registers old.beam (omega arith);
 }
 
 -- the next line, come to at once
-pub line_left : (cw : ℕ) (old : CrtcState) (b : Beam) → (cw ≡ 8) ⊎ (cw ≡ 9) → b ≡ next_line old.registers (started old.registers old.beam) → IsLineTaken cw old (record old { beam = b })
+pub line_left : (cw : ℕ) (old : CrtcState) (b : Beam) → (cw ≡ 8) ⊎ (cw ≡ 9) → b ≡ next_line old.registers (started old.registers old.beam) →
+    IsLineTaken cw old (record old { beam = b })
 unfolding after_dots
 line_left cw old b width e =
     let ends = line_ends cw old.registers old.beam (omega arith) in
@@ -138,7 +144,8 @@ from_line_start cw r b start some =
     ∙ whole_product (characters r) cw (omega arith) some
 
 -- up to the end of a frame, which is i lines after this one
-to_frame_end : (cw : ℕ) (r : List ℕ) (i : ℕ) (b : Beam) → 0 < cw → i ≡ lines r - (b.line + 1) → started r b ≡ b → Leads IsFrameStart cw r (i * (characters r * cw) + dots_in_line cw r b) b (first_dot ((b.frame + 1) % 32))
+to_frame_end : (cw : ℕ) (r : List ℕ) (i : ℕ) (b : Beam) → 0 < cw → i ≡ lines r - (b.line + 1) → started r b ≡ b →
+    Leads IsFrameStart cw r (i * (characters r * cw) + dots_in_line cw r b) b (first_dot ((b.frame + 1) % 32))
 to_frame_end cw r zero b some left taken =
     let n = dots_in_line cw r b in
     let e : n ≡ 0 * (characters r * cw) + n = omega arith in
@@ -156,7 +163,8 @@ to_frame_end cw r (suc i) b some left taken =
     let e : n + (i * line + dots_in_line cw r next) ≡ suc i * line + n = omega (arith, full) in
     subst (λ f. Leads IsFrameStart cw r (suc i * line + n) b (first_dot ((f + 1) % 32))) place.1
     (counted IsFrameStart cw r b (first_dot ((next.frame + 1) % 32)) (n + (i * line + dots_in_line cw r next)) (suc i * line + n) e
-    (then_leads IsFrameStart cw r b next (first_dot ((next.frame + 1) % 32)) n (i * line + dots_in_line cw r next) first (λ (start : IsFrameStart next). absurd (omega (arith, start.line, below))) rest))
+    (then_leads IsFrameStart cw r b next (first_dot ((next.frame + 1) % 32)) n (i * line + dots_in_line cw r next) first
+    (λ (start : IsFrameStart next). absurd (omega (arith, start.line, below))) rest))
 
 pub same_frame_count : (cw : ℕ) (r : List ℕ) (b : Beam) → dots_in_frame cw r (started r b) ≡ dots_in_frame cw r b
 unfolding dots_in_frame

@@ -50,7 +50,8 @@ start_first cw r zero b = ap (started r) (dots_none cw r b) ∙ sym (started_aga
 start_first cw r (suc n) b = ap (started r) (dots_started cw r (suc n) b (omega arith))
 
 -- the beam at dot n of a line, whatever the start
-pub beam_in_line : (cw : ℕ) (r : List ℕ) (b : Beam) (n : ℕ) → IsLineStart b → 0 < cw → n < line_dots cw r → started r (dots cw r n b) ≡ in_line cw (started r b) n
+pub beam_in_line : (cw : ℕ) (r : List ℕ) (b : Beam) (n : ℕ) → IsLineStart b → 0 < cw → n < line_dots cw r →
+    started r (dots cw r n b) ≡ in_line cw (started r b) n
 beam_in_line cw r b n start some within =
     let s : Beam = started r b in
     let place = started_place r b in

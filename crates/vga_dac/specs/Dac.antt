@@ -1,7 +1,9 @@
 -- The DAC: its entries, and the sequence of bytes that writes and reads them.
--- From the IBM PS/2 Hardware Interface Technical Reference, Video Subsystems, "Video Digital-to-Analog Converter".
+-- From the IBM PS/2 Hardware Interface Technical Reference, Video Subsystems, "Video
+-- Digital-to-Analog Converter".
 -- That there is one index and one counter for both directions is this adapter's choice.
-use Rattle.std.specs.Prelude.{ℕ, ◌≡◌, ◌+◌, ◌%◌, List, [], ◌∷◌, length, slice_index, slice_set, bit_and}
+use Rattle.std.specs.Prelude.{ℕ, ◌≡◌, ◌+◌, ◌%◌, List, [], ◌∷◌, length, slice_index, slice_set}
+use Rattle.std.specs.Prelude.{bit_and}
 use Rattle.vga_bits.specs.Bytes.{zeros}
 use Rattle.vga_dac.specs.declared.component.Component.{Component}
 use Rattle.vga_dac.specs.declared.component.Component.TheVariants.{Red, Green, Blue}
@@ -18,7 +20,16 @@ pub record DacState : Type 0 where
 
 -- the DAC at power-on: all is 0, but the mask is FF
 abbrev pub power_on_dac : DacState
-power_on_dac = record { reds = zeros 256; greens = zeros 256; blues = zeros 256; index = 0; component = Red; waiting_red = 0; waiting_green = 0; mask = 0xFF }
+power_on_dac = record {
+  reds = zeros 256;
+  greens = zeros 256;
+  blues = zeros 256;
+  index = 0;
+  component = Red;
+  waiting_red = 0;
+  waiting_green = 0;
+  mask = 0xFF;
+}
 
 -- a list of 256 values for each component
 pub record IsDac (d : DacState) : Type 0 where
@@ -58,9 +69,13 @@ read_value d = component_of d d.component d.index
 
 -- what a byte moves: the counter, and after blue the index
 abbrev pub after_read : DacState → DacState
-after_read d = record d { component = next_component d.component; index = next_index d.component d.index }
+after_read d = record d {
+  component = next_component d.component;
+  index = next_index d.component d.index;
+}
 
--- what a value does where it is this component: red and green wait, and blue stores the three in the entry
+-- what a value does where it is this component: red and green wait, and blue stores the three in
+-- the entry
 abbrev pub taken : DacState → Component → ℕ → DacState
 taken d Red value = record d { waiting_red = value }
 taken d Green value = record d { waiting_green = value }

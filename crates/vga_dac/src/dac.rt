@@ -12,8 +12,8 @@ const ENTRIES: usize = 256;
 
 /// The DAC: what a colour's number means.
 ///
-/// Contracts see one record: a list of 256 values for each component, the index, the component that the
-/// next byte is, the red and green that wait, and the mask.
+/// Contracts see one record: a list of 256 values for each component, the index, the component that
+/// the next byte is, the red and green that wait, and the mask.
 #[derive(Drop)]
 pub struct Dac {
     reds: [u8; 256],
@@ -31,7 +31,16 @@ impl Model for Dac {
 
     ghost Value = { DacState };
 
-    ghost view = { λ d. record { reds = d.reds; greens = d.greens; blues = d.blues; index = d.index; component = d.component; waiting_red = d.waiting_red; waiting_green = d.waiting_green; mask = d.mask } };
+    ghost view = { λ d. record {
+      reds = d.reds;
+      greens = d.greens;
+      blues = d.blues;
+      index = d.index;
+      component = d.component;
+      waiting_red = d.waiting_red;
+      waiting_green = d.waiting_green;
+      mask = d.mask;
+    } };
 }
 
 ghost use Rattle.vga_bits.specs.Bytes.{zeros as zeros_of};
@@ -45,7 +54,8 @@ fn zeros<const N: usize>() -> [u8; N]
 }
 
 impl Dac {
-    ghost use Rattle.vga_dac.specs.Dac.{power_on_dac, after_index, after_write, read_value, after_read, entry_of};
+    ghost use Rattle.vga_dac.specs.Dac.{power_on_dac, after_index, after_write, read_value};
+    ghost use Rattle.vga_dac.specs.Dac.{after_read, entry_of};
     ghost use Rattle.vga_dac.specs.Dac.{IsDac};
 
     /// The DAC at power-on: all entries black, the index 0, red next, nothing waiting, the mask FF.
@@ -103,8 +113,8 @@ impl Dac {
         self.component = self.component.next();
     }
 
-    /// Writes the next component, of which six bits are kept. Red and green wait; blue stores all three
-    /// in the entry of the index.
+    /// Writes the next component, of which six bits are kept. Red and green wait; blue stores all
+    /// three in the entry of the index.
     pub fn write_component(&mut self, v: u8)
         ensures { self.new ≡ after_write self.old v }
     {

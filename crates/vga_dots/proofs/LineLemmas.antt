@@ -31,37 +31,44 @@ distribute false false false true a d n1 n2 n3 n4 = refl
 distribute false false false false a d n1 n2 n3 n4 = refl
 
 -- the colour of a dot of the line, by where it comes from
-line_source : (d : DisplayState) (x k : ℕ) → dot_colour d.host (placed d.crtc x k) d.attr d.dac ≡ source_colour d (source_at (placed d.crtc x k) (character_width d.host) (k + panned d.host d.crtc d.attr))
-unfolding dot_colour colour_number nibble source_dot panned source_colour text_nibble is_foreground is_underlined is_blinked_away is_cursor_at planar_nibble packed_byte
+line_source : (d : DisplayState) (x k : ℕ) → dot_colour d.host (placed d.crtc x k) d.attr d.dac
+    ≡ source_colour d (source_at (placed d.crtc x k) (character_width d.host) (k + panned d.host d.crtc d.attr))
+unfolding dot_colour colour_number nibble source_dot panned source_colour text_nibble is_foreground is_underlined is_blinked_away is_cursor_at planar_nibble
+    packed_byte
 line_source d x k =
     let s : SourceDot = source_at (placed d.crtc x k) (character_width d.host) (k + panned d.host d.crtc d.attr) in
-    distribute (is_screen_off d.host) (not (is_palette_shown d.attr)) (is_256_colours d.host) (is_graphics d.host) d.attr d.dac (overscan d.attr) (packed_byte d.host d.crtc s) (planar_nibble d.host d.crtc s) (text_nibble d.host d.crtc d.attr s)
+    distribute (is_screen_off d.host) (not (is_palette_shown d.attr)) (is_256_colours d.host) (is_graphics d.host) d.attr d.dac (overscan d.attr)
+    (packed_byte d.host d.crtc s) (planar_nibble d.host d.crtc s) (text_nibble d.host d.crtc d.attr s)
 
 module _ (cw : ℕ) (d : DisplayState) (wide : cw ≡ character_width d.host) where
   abbrev chosen : ℕ → ℕ → Bool → List ℕ
   chosen x i v = source_colour d (if v then dot_of (counter_of d.crtc x) i else dot_of (counter_of d.crtc (x + 1)) (i - character_width d.host))
 
   -- a dot that panning leaves in its character
-  dot_here : (x k : ℕ) → k + panned d.host d.crtc d.attr < cw → unpanned_colour d x (k + panned d.host d.crtc d.attr) ≡ dot_colour d.host (placed d.crtc x k) d.attr d.dac
+  dot_here : (x k : ℕ) → k + panned d.host d.crtc d.attr < cw → unpanned_colour d x (k + panned d.host d.crtc d.attr)
+      ≡ dot_colour d.host (placed d.crtc x k) d.attr d.dac
   dot_here x k l =
       let i = k + panned d.host d.crtc d.attr in
       sym (line_source d x k ∙ ap (chosen x i) (ap (nat_lt i) (sym wide) ∙ lt-ltb i cw l))
 
   -- a dot that it takes from the next one
-  dot_next : (x k : ℕ) → cw ≤ k + panned d.host d.crtc d.attr → unpanned_colour d (x + 1) (k + panned d.host d.crtc d.attr - cw) ≡ dot_colour d.host (placed d.crtc x k) d.attr d.dac
+  dot_next : (x k : ℕ) → cw ≤ k + panned d.host d.crtc d.attr → unpanned_colour d (x + 1) (k + panned d.host d.crtc d.attr - cw)
+      ≡ dot_colour d.host (placed d.crtc x k) d.attr d.dac
   dot_next x k l =
       let i = k + panned d.host d.crtc d.attr in
       ap (λ w. unpanned_colour d (x + 1) (i - w)) wide ∙ sym (line_source d x k ∙ ap (chosen x i) (ap (nat_lt i) (sym wide) ∙ le-ltb i cw l))
 
   -- a line of one colour, which is that of each dot wherever it comes from
-  pub line_filled : (n : ℕ) (colour row0 row1 : List ℕ) → AreCharactersPut cw n (λ x i. colour) row0 row1 → ((s : SourceDot) → colour ≡ source_colour d s) → IsLineDrawn cw n d row0 row1
+  pub line_filled : (n : ℕ) (colour row0 row1 : List ℕ) → AreCharactersPut cw n (λ x i. colour) row0 row1 → ((s : SourceDot) → colour ≡ source_colour d s) →
+      IsLineDrawn cw n d row0 row1
   line_filled n colour row0 row1 put same = record {
     inside = λ x k j lx lk lj. put.inside x k j lx lk lj ∙ ap (λ q. slice_index q j) (same _ ∙ sym (line_source d x k));
     outside = put.outside;
   }
 
   -- characters as they are, where there is no panning
-  pub line_unpanned : (n : ℕ) (row0 row1 : List ℕ) → panned d.host d.crtc d.attr ≡ 0 → AreCharactersPut cw n (unpanned_colour d) row0 row1 → IsLineDrawn cw n d row0 row1
+  pub line_unpanned : (n : ℕ) (row0 row1 : List ℕ) → panned d.host d.crtc d.attr ≡ 0 → AreCharactersPut cw n (unpanned_colour d) row0 row1 →
+      IsLineDrawn cw n d row0 row1
   line_unpanned n row0 row1 none put = record {
     inside = λ x k j lx lk lj.
         let z : k ≡ k + panned d.host d.crtc d.attr = omega (arith, none) in
@@ -70,7 +77,8 @@ module _ (cw : ℕ) (d : DisplayState) (wide : cw ≡ character_width d.host) wh
   }
 
   -- one character more than the line has, from the first dot that is shown on
-  pub line_panned : (n p : ℕ) (blank drawn row0 row1 : List ℕ) → p ≡ panned d.host d.crtc d.attr → p ≤ cw → AreCharactersPut cw (n + 1) (unpanned_colour d) blank drawn
+  pub line_panned : (n p : ℕ) (blank drawn row0 row1 : List ℕ) → p ≡ panned d.host d.crtc d.attr → p ≤ cw →
+      AreCharactersPut cw (n + 1) (unpanned_colour d) blank drawn
       → AreDotsPut (n * cw) 0 (λ i. dot_in drawn (p + i)) row0 row1 → IsLineDrawn cw n d row0 row1
   line_panned n p blank drawn row0 row1 by few put copied = record {
     inside = λ x k j lx lk lj.

@@ -5,7 +5,8 @@ use Rattle.std.proofs.lemmas.Nat.{row_fits}
 use Rattle.vga_dots.specs.Row.{dot_in, IsDotPut, AreDotsPut, AreCharactersPut}
 
 -- one dot more
-pub dots_more : (n at : ℕ) (f : ℕ → List ℕ) (row0 row1 row2 colour : List ℕ) → AreDotsPut n at f row0 row1 → IsDotPut row1 row2 (at + n) colour → colour ≡ f n → AreDotsPut (n + 1) at f row0 row2
+pub dots_more : (n at : ℕ) (f : ℕ → List ℕ) (row0 row1 row2 colour : List ℕ) → AreDotsPut n at f row0 row1 → IsDotPut row1 row2 (at + n) colour → colour ≡ f n →
+    AreDotsPut (n + 1) at f row0 row2
 dots_more n at f row0 row1 row2 colour before now e = record {
   inside = λ i j li lj. ⊎_elim
       (λ (l : i < n). now.outside (3 * (at + i) + j) (inl (omega arith)) ∙ before.inside i j l lj)
@@ -13,7 +14,8 @@ dots_more n at f row0 row1 row2 colour before now e = record {
       let z : i ≡ n = omega arith in
       ap (λ q. slice_index row2 (3 * (at + q) + j)) z ∙ now.inside j lj ∙ ap (λ q. slice_index q j) e ∙ ap (λ q. slice_index (f q) j) (sym z))
       (cases_lt i n);
-  outside = λ k o. now.outside k (⊎_elim (λ l. inl (omega arith)) (λ l. inr (omega arith)) o) ∙ before.outside k (⊎_elim (λ l. inl (omega arith)) (λ l. inr (omega arith)) o);
+  outside = λ k o. now.outside k (⊎_elim (λ l. inl (omega arith)) (λ l. inr (omega arith)) o)
+      ∙ before.outside k (⊎_elim (λ l. inl (omega arith)) (λ l. inr (omega arith)) o);
 }
 
 -- the same colours by another rule
@@ -24,7 +26,8 @@ dots_alike n at f g row0 row1 put same = record {
 }
 
 -- one character more
-pub characters_more : (cw n : ℕ) (f : ℕ → ℕ → List ℕ) (row0 row1 row2 : List ℕ) → AreCharactersPut cw n f row0 row1 → AreDotsPut cw (n * cw) (f n) row1 row2 → AreCharactersPut cw (n + 1) f row0 row2
+pub characters_more : (cw n : ℕ) (f : ℕ → ℕ → List ℕ) (row0 row1 row2 : List ℕ) → AreCharactersPut cw n f row0 row1 → AreDotsPut cw (n * cw) (f n) row1 row2 →
+    AreCharactersPut cw (n + 1) f row0 row2
 characters_more cw n f row0 row1 row2 before now = record {
   inside = λ x i j lx li lj. ⊎_elim
       (λ (l : x < n).

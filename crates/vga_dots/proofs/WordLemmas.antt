@@ -24,8 +24,10 @@ alone b (suc i) = 0
 -- each byte of `x & 01010101` is its lowest bit
 masked_bit : (x p i : ℕ) → p < 4 → i < 8 → word_bit (bit_and x 16843009) p i ≡ alone (word_bit x p 0) i
 unfolding alone word_bit
-masked_bit x p zero plane within = word_bit_and x 16843009 p 0 ∙ min_one (word_bit x p 0) _ (word_bit_lt x p 0) (word_bit_spread 1 p 0 (omega arith) plane within)
-masked_bit x p (suc i) plane within = word_bit_and x 16843009 p (suc i) ∙ min_none (word_bit x p (suc i)) _ (word_bit_spread 1 p (suc i) (omega arith) plane within ∙ bit_at-suc 1 i ∙ bit_at-zero i)
+masked_bit x p zero plane within = word_bit_and x 16843009 p 0 ∙ min_one (word_bit x p 0) _ (word_bit_lt x p 0)
+    (word_bit_spread 1 p 0 (omega arith) plane within)
+masked_bit x p (suc i) plane within = word_bit_and x 16843009 p (suc i) ∙ min_none (word_bit x p (suc i)) _
+    (word_bit_spread 1 p (suc i) (omega arith) plane within ∙ bit_at-suc 1 i ∙ bit_at-zero i)
 
 byte_alone : (b : ℕ) → byte_of (alone b) ≡ b
 unfolding byte_of alone
@@ -33,7 +35,8 @@ byte_alone b = omega arith
 
 masked_byte : (x p : ℕ) → p < 4 → byte_in p (bit_and x 16843009) ≡ word_bit x p 0
 masked_byte x p plane =
-    byte_from_bits _ (alone (word_bit x p 0)) (byte_below p (bit_and x 16843009)) (λ i within. sym (word_bit_byte (bit_and x 16843009) p i within) ∙ masked_bit x p i plane within)
+    byte_from_bits _ (alone (word_bit x p 0)) (byte_below p (bit_and x 16843009)) (λ i within. sym (word_bit_byte (bit_and x 16843009) p i within)
+    ∙ masked_bit x p i plane within)
     ∙ byte_alone (word_bit x p 0)
 
 -- four bits that stand apart, brought together by a product

@@ -7,7 +7,8 @@ use Rattle.vga_attr.specs.Attr.{AttrState}
 use Rattle.vga_attr.specs.Fields.{is_palette_shown}
 use Rattle.vga_dac.specs.Dac.{DacState}
 
--- what a picture is drawn from: the registers and the memory, the beam, the palette, and the colours
+-- what a picture is drawn from: the registers and the memory, the beam, the palette, and the
+-- colours
 pub record DisplayState : Type 0 where
   pub host : HostState
   pub crtc : CrtcState

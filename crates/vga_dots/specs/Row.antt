@@ -4,11 +4,13 @@ use Rattle.vga_bits.specs.Words.{word_bit}
 
 -- the three bytes of dot n
 abbrev pub dot_in : List ℕ → ℕ → List ℕ
-dot_in row n = slice_index row (3 * n) ∷ slice_index row (3 * n + 1) ∷ slice_index row (3 * n + 2) ∷ []
+dot_in row n = slice_index row (3 * n) ∷ slice_index row (3 * n + 1) ∷ slice_index row (3 * n + 2)
+    ∷ []
 
 -- bit i of each plane of a word, the first plane lowest
 abbrev pub nibble_of : ℕ → ℕ → ℕ
-nibble_of word i = word_bit word 0 i + 2 * word_bit word 1 i + 4 * word_bit word 2 i + 8 * word_bit word 3 i
+nibble_of word i = word_bit word 0 i + 2 * word_bit word 1 i + 4 * word_bit word 2 i
+    + 8 * word_bit word 3 i
 
 -- a dot has this colour, and the other bytes stay
 pub record IsDotPut (old new : List ℕ) (at : ℕ) (colour : List ℕ) : Type 0 where
@@ -20,8 +22,9 @@ pub record AreDotsPut (n at : ℕ) (f : ℕ → List ℕ) (old new : List ℕ) :
   pub inside : (i j : ℕ) → i < n → j < 3 → slice_index new (3 * (at + i) + j) ≡ slice_index (f i) j
   pub outside : (k : ℕ) → (k < 3 * at) ⊎ (3 * (at + n) ≤ k) → slice_index new k ≡ slice_index old k
 
--- n characters from the first dot on, cw dots each, have at dot i of character x the colour f x i, and the other bytes
--- stay
+-- n characters from the first dot on, cw dots each, have at dot i of character x the colour f x i,
+-- and the other bytes stay
 pub record AreCharactersPut (cw n : ℕ) (f : ℕ → ℕ → List ℕ) (old new : List ℕ) : Type 0 where
-  pub inside : (x i j : ℕ) → x < n → i < cw → j < 3 → slice_index new (3 * (x * cw + i) + j) ≡ slice_index (f x i) j
+  pub inside : (x i j : ℕ) → x < n → i < cw → j < 3 →
+      slice_index new (3 * (x * cw + i) + j) ≡ slice_index (f x i) j
   pub outside : (k : ℕ) → 3 * (n * cw) ≤ k → slice_index new k ≡ slice_index old k

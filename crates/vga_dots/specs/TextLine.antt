@@ -1,19 +1,21 @@
 -- What the beam's line decides for all characters of text alike.
--- From the IBM PS/2 Hardware Interface Technical Reference, Video Subsystems, "Cursor Start Register", "Attribute Mode
--- Control Register", "Underline Location Register" and "Character Map Select Register".
+-- From the IBM PS/2 Hardware Interface Technical Reference, Video Subsystems, "Cursor Start
+-- Register", "Attribute Mode Control Register", "Underline Location Register" and "Character Map
+-- Select Register".
 use Rattle.std.specs.Prelude.{◌≤◌, ◌+◌, ◌%◌, ◌==◌, ◌&&◌, not, nat_lt, nat_le}
 use Rattle.vga_host.specs.Host.{HostState}
 use Rattle.vga_host.specs.Fields.{character_map_a, character_map_b}
 use Rattle.vga_crtc.specs.Crtc.{CrtcState}
-use Rattle.vga_crtc.specs.Fields.{cursor_start, is_cursor_off, cursor_end, cursor_location, underline_location}
+use Rattle.vga_crtc.specs.Fields.{cursor_start, is_cursor_off, cursor_end, cursor_location}
+use Rattle.vga_crtc.specs.Fields.{underline_location}
 use Rattle.vga_attr.specs.Attr.{AttrState}
 use Rattle.vga_attr.specs.Fields.{is_monochrome, is_line_graphics, is_blink}
 use Rattle.vga_dots.specs.declared.text_line.TextLine.{TextLine}
 use Rattle.vga_dots.specs.Text.{map_start}
 
--- what the registers and the beam's line and frame tell of every character: where the cursor is and whether this line has
--- it, whether blinking characters are away, whether this is the line under underlined ones, where the glyphs' rows begin,
--- and two bits of mode control
+-- what the registers and the beam's line and frame tell of every character: where the cursor is and
+-- whether this line has it, whether blinking characters are away, whether this is the line under
+-- underlined ones, where the glyphs' rows begin, and two bits of mode control
 unfoldable pub text_line : HostState → CrtcState → AttrState → TextLine
 text_line h c a = record {
   cursor = cursor_location c.registers;

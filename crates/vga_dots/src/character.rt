@@ -62,7 +62,8 @@ fn shade_in(table: &Shades, n: u8) -> [u8; 3]
 #[inline(always)]
 fn glyph_dots(attr: &Attr, line: &TextLine, character: u8, row: u8) -> u16
     requires line { line.now.is_line_graphics ≡ is_line_graphics attr.now }
-    ensures dots { (i : ℕ) → i < 9 → is_set result (8 - i) ≡ is_dot_of_glyph attr.now character row i }
+    ensures dots { (i : ℕ) → i < 9 → is_set result (8 - i)
+        ≡ is_dot_of_glyph attr.now character row i }
     ensures nine { result < 512 }
 {
     if line.has_ninth_dot(character, row) {
@@ -77,7 +78,8 @@ fn glyph_dots(attr: &Attr, line: &TextLine, character: u8, row: u8) -> u16
 fn lit_dots(display: &Display<'_>, line: &TextLine, counter: u16, cell: Cell) -> u16
     requires line { line.now ≡ text_line display.now.host display.now.crtc display.now.attr }
     requires glyphs { HasGlyphs line.now }
-    ensures dots { (i : ℕ) → i < 9 → is_set result (8 - i) ≡ is_foreground display.now.host display.now.crtc display.now.attr (dot_of counter i) cell }
+    ensures dots { (i : ℕ) → i < 9 → is_set result (8 - i)
+        ≡ is_foreground display.now.host display.now.crtc display.now.attr (dot_of counter i) cell }
     ensures nine { result < 512 }
 {
     if line.has_cursor_at(counter) {
@@ -103,7 +105,8 @@ pub(crate) trait Characters<const CW: usize> {
         requires draws { draws self.now display.now }
         requires room { 3 * (at + CW) ≤ length row.old }
         requires width { CW < 10 }
-        ensures { AreDotsPut CW at (λ i. source_colour display.now (dot_of counter i)) row.old row.new };
+        ensures { AreDotsPut CW at (λ i. source_colour display.now (dot_of counter i)) row.old
+            row.new };
 }
 
 /// Characters of text, with what is looked up once for a line.

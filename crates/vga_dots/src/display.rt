@@ -27,13 +27,23 @@ impl<'a> Model for Display<'a> {
 
     ghost Value = { DisplayState };
 
-    ghost view = { λ d. record { host = d.host.now; crtc = d.crtc.now; attr = d.attr.now; dac = d.dac.now } };
+    ghost view = { λ d. record {
+      host = d.host.now;
+      crtc = d.crtc.now;
+      attr = d.attr.now;
+      dac = d.dac.now;
+    } };
 }
 
 impl<'a> Display<'a> {
     /// The parts together.
     pub fn new(host: &'a Host, crtc: &'a Crtc, attr: &'a Attr, dac: &'a Dac) -> Display<'a>
-        ensures { result ≡ record { host = host.now; crtc = crtc.now; attr = attr.now; dac = dac.now } }
+        ensures { result ≡ record {
+          host = host.now;
+          crtc = crtc.now;
+          attr = attr.now;
+          dac = dac.now;
+        } }
     {
         Display {
             host,

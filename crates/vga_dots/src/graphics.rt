@@ -1,7 +1,9 @@
 //! Graphics: the four bits, or the byte, of a dot from the planes.
 ghost use Rattle.std.specs.Prelude.{◌≡◌, ◌<◌};
 ghost use Rattle.std.specs.Int.{bit_at};
-ghost use Rattle.vga_dots.specs.Graphics.{plane_bits as bits_of_planes, planar_nibble as nibble_of_planes, packed_byte as byte_of_planes};
+ghost use Rattle.vga_dots.specs.Graphics.{plane_bits as bits_of_planes};
+ghost use Rattle.vga_dots.specs.Graphics.{planar_nibble as nibble_of_planes};
+ghost use Rattle.vga_dots.specs.Graphics.{packed_byte as byte_of_planes};
 
 use crate::display::Display;
 use crate::source_dot::SourceDot;

@@ -4,7 +4,8 @@ ghost use Rattle.vga_host.specs.Fields.{character_width};
 ghost use Rattle.vga_dots.specs.SourceDot.{panned as panned_dots};
 ghost use Rattle.vga_dots.specs.Display.{ShowsMemory};
 ghost use Rattle.vga_dots.specs.Row.{AreCharactersPut};
-ghost use Rattle.vga_dots.specs.Line.{shown_characters as characters_shown, unpanned_colour, IsLineDrawn};
+ghost use Rattle.vga_dots.specs.Line.{shown_characters as characters_shown, unpanned_colour};
+ghost use Rattle.vga_dots.specs.Line.{IsLineDrawn};
 
 use crate::character::{Characters, PackedCharacters, PlanarCharacters, TextCharacters, masked};
 use crate::colour::BLACK;
@@ -61,8 +62,8 @@ fn draw_characters<const CW: usize>(display: &Display<'_>, count: usize, row: &m
     }
 }
 
-/// Draws the first characters of the beam's line, which shows memory panned by so many dots: what is panned out on the
-/// left is drawn beside the row, and one character more on the right.
+/// Draws the first characters of the beam's line, which shows memory panned by so many dots: what
+/// is panned out on the left is drawn beside the row, and one character more on the right.
 fn draw_panned<const CW: usize>(display: &Display<'_>, count: usize, panned: usize, row: &mut [u8])
     requires memory { ShowsMemory display.now }
     requires count { count ≤ 256 }
@@ -94,12 +95,13 @@ fn draw_shown<const CW: usize>(display: &Display<'_>, count: usize, row: &mut [u
 }
 
 /// Writes red, green and blue of each displayed dot of the beam's line, from its first dot on: as
-/// `dot_colour` has them with the beam there. No other byte of the row changes. A character is `CW` dots
-/// wide. Where a frame begins, its start is to be taken first (`Crtc::take_start`).
+/// `dot_colour` has them with the beam there. No other byte of the row changes. A character is `CW`
+/// dots wide. Where a frame begins, its start is to be taken first (`Crtc::take_start`).
 pub fn draw_line<const CW: usize>(display: &Display<'_>, row: &mut [u8])
     requires width { CW ≡ character_width display.now.host }
     requires room { 3 * (characters_shown display.now.crtc.registers * CW) ≤ length row.old }
-    ensures { IsLineDrawn CW (characters_shown display.now.crtc.registers) display.now row.old row.new }
+    ensures { IsLineDrawn CW (characters_shown display.now.crtc.registers) display.now row.old
+        row.new }
 {
     let count = shown_characters(display.crtc().fields()) as usize;
     if display.host().is_screen_off() {

@@ -1,5 +1,6 @@
 //! Dots in a row of bytes: red, green and blue of each in turn.
-ghost use Rattle.std.specs.Prelude.{◌≡◌, ◌+◌, ◌-◌, ◌*◌, ◌/◌, ◌<◌, ◌≤◌, if◌then◌else◌, length, [], nat_lt, slice_index_or};
+ghost use Rattle.std.specs.Prelude.{◌≡◌, ◌+◌, ◌-◌, ◌*◌, ◌/◌, ◌<◌, ◌≤◌, if◌then◌else◌, length, []};
+ghost use Rattle.std.specs.Prelude.{nat_lt, slice_index_or};
 ghost use Rattle.vga_bits.specs.Bits.{is_set as is_set_of};
 ghost use Rattle.vga_dots.specs.Row.{nibble_of, dot_in, IsDotPut, AreDotsPut, AreCharactersPut};
 
@@ -36,8 +37,8 @@ pub(crate) fn copy_dots(row: &mut [u8], dots: &[u8], first: usize, count: usize)
     row[..3 * count].copy_from_slice(&dots[3 * first..3 * (first + count)]);
 }
 
-/// Whether dot `i` of a line of a glyph is lit, of which bit 8 of `lit` is the leftmost dot. Eight dots are
-/// looked up in a byte, since a processor tests more bytes at once than words.
+/// Whether dot `i` of a line of a glyph is lit, of which bit 8 of `lit` is the leftmost dot. Eight
+/// dots are looked up in a byte, since a processor tests more bytes at once than words.
 fn is_dot_lit(lit: u16, i: usize) -> bool
     requires dots { lit < 512 }
     requires dot { i < 9 }
@@ -93,7 +94,8 @@ fn put_lit<const CW: usize>(row: &mut [u8], at: usize, lit: u16, fore: [u8; 3], 
     }
 }
 
-/// Writes the dots of a line of a glyph: in the one colour where `lit` has a bit, and in the other elsewhere.
+/// Writes the dots of a line of a glyph: in the one colour where `lit` has a bit, and in the other
+/// elsewhere.
 /// Most of a page of text is blank, so that is not looked up dot by dot.
 #[inline(always)]
 pub(crate) fn put_glyph<const CW: usize>(
@@ -115,8 +117,8 @@ pub(crate) fn put_glyph<const CW: usize>(
     }
 }
 
-/// Bit `place`, 0 to 7, of each plane of a word as one number, the first plane lowest: the four bits stand
-/// apart, and a product brings them together in its highest byte.
+/// Bit `place`, 0 to 7, of each plane of a word as one number, the first plane lowest: the four
+/// bits stand apart, and a product brings them together in its highest byte.
 fn nibble(word: u32, place: u32) -> u8
     requires { place < 8 }
     ensures value { result ≡ nibble_of word place }
@@ -139,7 +141,8 @@ fn plane_dot(word: u32, i: usize) -> u8
 pub(crate) fn put_planes<const CW: usize>(row: &mut [u8], at: usize, word: u32, table: &Shades)
     requires room { 3 * (at + CW) ≤ length row.old }
     requires width { CW < 10 }
-    ensures { AreDotsPut CW at (λ i. slice_index_or table.now (if nat_lt i 8 then nibble_of word (7 - i) else 0) []) row.old row.new }
+    ensures { AreDotsPut CW at (λ i. slice_index_or table.now (if nat_lt i 8
+        then nibble_of word (7 - i) else 0) []) row.old row.new }
 {
     for i in 0..CW {
         put_dot(row, at + i, table[plane_dot(word, i) as usize]);

@@ -1,6 +1,7 @@
 //! Where the dot at the beam comes from.
 ghost use Rattle.std.specs.Prelude.{◌≡◌, ◌<◌};
-ghost use Rattle.vga_dots.specs.SourceDot.{panned as panned_dots, source_dot, fetch_address as fetch_address_of};
+ghost use Rattle.vga_dots.specs.SourceDot.{panned as panned_dots, source_dot};
+ghost use Rattle.vga_dots.specs.SourceDot.{fetch_address as fetch_address_of};
 
 use crate::display::Display;
 use vga_crtc::Registers;

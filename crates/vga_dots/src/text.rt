@@ -3,9 +3,12 @@ ghost use Rattle.std.specs.Prelude.{◌≡◌, ◌<◌, if◌then◌else◌};
 ghost use Rattle.vga_bits.specs.Bits.{field};
 ghost use Rattle.vga_dots.specs.Text.{cell_at as cell_of_place, map_start as start_of_map};
 ghost use Rattle.vga_dots.specs.Text.{character_map as map_of_cell, glyph_row as row_of_glyph};
-ghost use Rattle.vga_dots.specs.Text.{is_glyph_dot as is_dot_of_glyph, is_underlined as is_underlined_cell};
-ghost use Rattle.vga_dots.specs.Text.{is_blinked_away as is_blinked_cell, is_cursor_at as is_cursor_of};
-ghost use Rattle.vga_dots.specs.Text.{is_foreground as is_foreground_dot, background as background_of};
+ghost use Rattle.vga_dots.specs.Text.{is_glyph_dot as is_dot_of_glyph};
+ghost use Rattle.vga_dots.specs.Text.{is_underlined as is_underlined_cell};
+ghost use Rattle.vga_dots.specs.Text.{is_blinked_away as is_blinked_cell};
+ghost use Rattle.vga_dots.specs.Text.{is_cursor_at as is_cursor_of};
+ghost use Rattle.vga_dots.specs.Text.{is_foreground as is_foreground_dot};
+ghost use Rattle.vga_dots.specs.Text.{background as background_of};
 ghost use Rattle.vga_dots.specs.Text.{cell_nibble as nibble_of_cell, text_nibble as nibble_of_text};
 
 use crate::display::Display;
@@ -125,7 +128,8 @@ pub(crate) fn is_cursor_at(crtc: &Crtc, counter: u16) -> bool
 /// Whether a dot has its cell's foreground: by cursor, blink and underline, or else by the glyph.
 #[tactic(auto, unfolding(crate::specs::Text::is_foreground))]
 fn is_foreground(display: &Display<'_>, source: SourceDot, cell: Cell) -> bool
-    ensures { result ≡ is_foreground_dot display.now.host display.now.crtc display.now.attr source cell }
+    ensures { result ≡ is_foreground_dot display.now.host display.now.crtc display.now.attr source
+        cell }
 {
     if is_cursor_at(display.crtc(), source.counter) {
         true
@@ -141,7 +145,8 @@ fn is_foreground(display: &Display<'_>, source: SourceDot, cell: Cell) -> bool
 
 /// The four bits of a cell's background, or three where bit 7 of attributes blinks.
 pub(crate) fn background_bits(cell: Cell, is_blink: bool) -> u8
-    ensures value { result ≡ (if is_blink then field cell.attribute 6 4 else field cell.attribute 7 4) }
+    ensures value { result ≡ (if is_blink then field cell.attribute 6 4
+        else field cell.attribute 7 4) }
     ensures small { result < 16 }
 {
     if is_blink {
@@ -160,7 +165,8 @@ fn background(attr: &Attr, cell: Cell) -> u8
 
 /// The four bits of a dot of a cell.
 fn cell_nibble(display: &Display<'_>, source: SourceDot, cell: Cell) -> u8
-    ensures { result ≡ nibble_of_cell display.now.host display.now.crtc display.now.attr source cell }
+    ensures { result ≡ nibble_of_cell display.now.host display.now.crtc display.now.attr source
+        cell }
 {
     if is_foreground(display, source, cell) {
         cell.attribute % 16

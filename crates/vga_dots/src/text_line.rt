@@ -1,5 +1,6 @@
 //! What is looked up once for a line of text.
-ghost use Rattle.std.specs.Prelude.{◌≡◌, ◌+◌, ◌*◌, ◌%◌, ◌<◌, ◌==◌, ◌&&◌, not, nat_le, nat_lt, bit_and, if◌then◌else◌};
+ghost use Rattle.std.specs.Prelude.{◌≡◌, ◌+◌, ◌*◌, ◌%◌, ◌<◌, ◌==◌, ◌&&◌, not, nat_le, nat_lt};
+ghost use Rattle.std.specs.Prelude.{bit_and, if◌then◌else◌};
 ghost use Rattle.vga_bits.specs.Bits.{is_set as is_set_of, field};
 ghost use Rattle.vga_crtc.specs.Fields.{is_cursor_off, cursor_start, cursor_end};
 ghost use Rattle.vga_dots.specs.TextLine.{text_line, HasGlyphs};
@@ -9,8 +10,8 @@ use crate::text::{Cell, GLYPH_BYTES, UNDERLINE_BITS, background_bits, map_start}
 use vga_bits::is_set;
 use vga_crtc::Crtc;
 
-/// What the beam's line decides for all characters of text alike. A character is drawn by these, and the
-/// registers are not looked at again.
+/// What the beam's line decides for all characters of text alike. A character is drawn by these,
+/// and the registers are not looked at again.
 #[derive(Clone, Copy)]
 pub struct TextLine {
     /// The counter of the cursor.
@@ -33,7 +34,10 @@ pub struct TextLine {
 
 /// Whether the beam's line has the cursor, in the beam's frame.
 fn has_cursor(crtc: &Crtc) -> bool
-    ensures { result ≡ (not (is_cursor_off crtc.now.registers) && nat_le (cursor_start crtc.now.registers) crtc.now.beam.scan && nat_le crtc.now.beam.scan (cursor_end crtc.now.registers) && nat_lt (crtc.now.beam.frame % 16) 8) }
+    ensures { result ≡ (not (is_cursor_off crtc.now.registers)
+        && nat_le (cursor_start crtc.now.registers) crtc.now.beam.scan
+        && nat_le crtc.now.beam.scan (cursor_end crtc.now.registers)
+        && nat_lt (crtc.now.beam.frame % 16) 8) }
 {
     let registers = crtc.fields();
     let beam = crtc.beam();
@@ -90,7 +94,8 @@ impl TextLine {
     /// Where the row of a cell's glyph stands in its plane.
     pub(crate) fn glyph_place(&self, cell: Cell) -> u16
         requires { HasGlyphs self.now }
-        ensures { result ≡ (if is_set_of cell.attribute 3 then self.now.map_a else self.now.map_b) + 32 * cell.character }
+        ensures { result ≡ (if is_set_of cell.attribute 3 then self.now.map_a else self.now.map_b)
+            + 32 * cell.character }
     {
         let map = if is_set(cell.attribute, 3) {
             self.map_a
@@ -102,14 +107,16 @@ impl TextLine {
 
     /// Whether a row of a character's glyph has a ninth dot.
     pub(crate) fn has_ninth_dot(&self, character: u8, row: u8) -> bool
-        ensures { result ≡ (self.now.is_line_graphics && nat_le 0xC0 character && nat_le character 0xDF && is_set_of row 0) }
+        ensures { result ≡ (self.now.is_line_graphics && nat_le 0xC0 character
+            && nat_le character 0xDF && is_set_of row 0) }
     {
         self.is_line_graphics && 0xC0 <= character && character <= 0xDF && is_set(row, 0)
     }
 
     /// The four bits of a cell's background.
     pub(crate) fn background(&self, cell: Cell) -> u8
-        ensures value { result ≡ (if self.now.is_blink then field cell.attribute 6 4 else field cell.attribute 7 4) }
+        ensures value { result ≡ (if self.now.is_blink then field cell.attribute 6 4
+            else field cell.attribute 7 4) }
         ensures small { result < 16 }
     {
         background_bits(cell, self.is_blink)

@@ -1,4 +1,5 @@
-//! The data path of a write and of a read that compares: eight bits, or the four bytes of a word, at once.
+//! The data path of a write and of a read that compares: eight bits, or the four bytes of a word,
+//! at once.
 ghost use Rattle.std.specs.Prelude.{◌≡◌, ◌==◌, ◌+◌, ◌%◌, ◌<◌, ◌&&◌, ℕ, if◌then◌else◌};
 ghost use Rattle.std.specs.Int.{bit_at};
 ghost use Rattle.vga_bits.specs.Words.{word_bit};
@@ -17,7 +18,8 @@ pub(crate) fn rotated(v: u8, by: u8) -> u8
 #[tactic(auto, using(vga_bits::proofs::WordLemmas::word_bit_and, vga_bits::proofs::WordLemmas::word_bit_or, vga_bits::proofs::WordLemmas::word_bit_xor))]
 pub(crate) fn combined(function: u8, source: u32, latch: u32) -> u32
     requires { function < 4 }
-    ensures { (p i : ℕ) → word_bit result p i ≡ combined_by function (word_bit source p i) (word_bit latch p i) }
+    ensures { (p i : ℕ) → word_bit result p i ≡ combined_by function (word_bit source p i)
+        (word_bit latch p i) }
 {
     match function {
         0 => source,
@@ -30,7 +32,9 @@ pub(crate) fn combined(function: u8, source: u32, latch: u32) -> u32
 /// The bits that are 0 in all four planes.
 #[tactic(auto, using(vga_bits::proofs::WordLemmas::word_bit_folded))]
 pub(crate) fn clear_in_all(word: u32) -> u8
-    ensures { (i : ℕ) → i < 8 → bit_at result i ≡ (if (word_bit word 0 i == 0) && ((word_bit word 1 i == 0) && ((word_bit word 2 i == 0) && (word_bit word 3 i == 0))) then 1 else 0) }
+    ensures { (i : ℕ) → i < 8 → bit_at result i ≡ (if (word_bit word 0 i == 0)
+        && ((word_bit word 1 i == 0) && ((word_bit word 2 i == 0) && (word_bit word 3 i == 0)))
+        then 1 else 0) }
 {
     let half = word | (word >> 16);
     let all = half | (half >> 8);

@@ -1,6 +1,7 @@
 //! What the scripts begin with.
 
-/// What a script begins with: a mode set, and the part of function 11 that then gives text another height, if any does.
+/// What a script begins with: a mode set, and the part of function 11 that then gives text another
+/// height, if any does.
 #[derive(Clone, Copy)]
 pub struct Beginning {
     pub mode: u8,

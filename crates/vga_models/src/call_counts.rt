@@ -1,5 +1,5 @@
-//! How often each function ended in each way in each mode, in text with characters of each height, and which ways have
-//! to be met.
+//! How often each function ended in each way in each mode, in text with characters of each height,
+//! and which ways have to be met.
 ghost use Rattle.std.specs.Prelude.{◌≡◌, ◌<◌};
 
 use crate::plain_modes::{HEIGHTS, Kind, MODES, PlainMode};
@@ -105,7 +105,8 @@ const REFUSED: [(u8, u8, Refusal); 30] = [
     (0x1A, 0, Refusal::BadFunction),
 ];
 
-/// Functions and parts that are accepted in text with characters of each height, to whom it matters how the cells are cut.
+/// Functions and parts that are accepted in text with characters of each height, to whom it matters
+/// how the cells are cut.
 const ACCEPTED_AT_HEIGHT: [(u8, u8); 17] = [
     (0x00, 0),
     (0x02, 0),
@@ -146,7 +147,8 @@ const BLOCK_REFUSALS: [Refusal; 3] = [Refusal::CountPast, Refusal::BadBlock, Ref
 /// Functions that are refused where BH names a page that is not there, in modes of several pages.
 const PAGED: [u8; 6] = [0x02, 0x03, 0x08, 0x09, 0x0A, 0x13];
 
-/// The part of a function, where it has parts: those of strings and of glyphs that are not there are one.
+/// The part of a function, where it has parts: those of strings and of glyphs that are not there
+/// are one.
 fn part_of(regs: Regs) -> u8 {
     let al = low(regs.ax);
     match high(regs.ax) {
@@ -350,8 +352,8 @@ impl CallCounts {
         }
     }
 
-    /// The first function, with its part, that was not met often in each way that it has in each mode, of calls that set no
-    /// mode and load no glyphs of text.
+    /// The first function, with its part, that was not met often in each way that it has in each
+    /// mode, of calls that set no mode and load no glyphs of text.
     pub fn seldom_within_frames(&self) -> Option<(u8, u8)> {
         for mode in MODES {
             let seldom = self.seldom_in(mode);
@@ -362,7 +364,8 @@ impl CallCounts {
         None
     }
 
-    /// The first function, with its part, that was not met often in each way that it has in each mode.
+    /// The first function, with its part, that was not met often in each way that it has in each
+    /// mode.
     pub fn seldom(&self) -> Option<(u8, u8)> {
         for mode in MODES {
             let seldom = self

@@ -1,6 +1,6 @@
-//! The adapter and its services against the plain screen, dot by dot: pseudo-random scripts of services, advances and
-//! frames in all six modes, of text with characters of each height, with services between any two dots. Modes are set and
-//! glyphs loaded at the first dot of a frame.
+//! The adapter and its services against the plain screen, dot by dot: pseudo-random scripts of
+//! services, advances and frames in all six modes, of text with characters of each height, with
+//! services between any two dots. Modes are set and glyphs loaded at the first dot of a frame.
 ghost use Rattle.std.specs.Prelude.{◌≡◌, ◌<◌};
 
 use crate::beginning::{BEGINNINGS, Beginning};
@@ -19,8 +19,8 @@ use rand_pcg::Pcg32;
 use std::alloc::Global;
 use vga_bits::Refusal;
 
-/// How many scripts have each beginning, how many frames each has that are ended by a frame, and how many services each
-/// of these.
+/// How many scripts have each beginning, how many frames each has that are ended by a frame, and
+/// how many services each of these.
 const SCRIPTS: u32 = 2;
 
 const FRAMES: u32 = 10;
@@ -36,8 +36,8 @@ const FRAMES_TO_READ: u32 = 5;
 /// By how many dots an advance goes on at the most.
 const MOST_DOTS: u32 = 16_777_216;
 
-/// By how many dots to go on where so many are left of the frame: mostly by few, at times to its end or just before or
-/// behind it, seldom over up to three frames, or too far.
+/// By how many dots to go on where so many are left of the frame: mostly by few, at times to its
+/// end or just before or behind it, seldom over up to three frames, or too far.
 fn next_dots(random: &mut Pcg32, mode: PlainMode, left: u32) -> u32 {
     let line = mode.line_dots as u32;
     match next_below(random, 128) {
@@ -100,7 +100,8 @@ impl CutFrames<'_> {
         self.advance_difference(left)
     }
 
-    /// Does a service on both. One that sets a mode or loads glyphs is done at the first dot of a frame.
+    /// Does a service on both. One that sets a mode or loads glyphs is done at the first dot of a
+    /// frame.
     fn service_difference(
         &mut self,
         random: &mut Pcg32,
@@ -135,7 +136,8 @@ impl CutFrames<'_> {
         self.service_difference(random, &call)
     }
 
-    /// Some services and advances. The screen that is then shown is read, and the frame taken to its end.
+    /// Some services and advances. The screen that is then shown is read, and the frame taken to
+    /// its end.
     fn next_frame(&mut self, random: &mut Pcg32, is_read: bool) -> Result<Option<Difference>> {
         for _ in 0..SERVICES {
             let difference = self.next_difference(random)?;
@@ -181,7 +183,8 @@ impl CutFrames<'_> {
         Ok(None)
     }
 
-    /// So many scripts of each beginning, up to the first difference, and whether all was met that is to be.
+    /// So many scripts of each beginning, up to the first difference, and whether all was met that
+    /// is to be.
     fn scripts(&mut self, random: &mut Pcg32) -> Result<Option<Difference>> {
         for _ in 0..SCRIPTS {
             let difference = self.round(random)?;

@@ -1,6 +1,6 @@
-//! Compares the adapter and its services with a slow model of the plain screen, on pseudo-random services and
-//! frames, whole ones and frames that are cut at any dot, and prints how each comparison ended. The exit status is 1
-//! where any differs.
+//! Compares the adapter and its services with a slow model of the plain screen, on pseudo-random
+//! services and frames, whole ones and frames that are cut at any dot, and prints how each
+//! comparison ended. The exit status is 1 where any differs.
 #![tactic(auto)]
 
 mod beginning;

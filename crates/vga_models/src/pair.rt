@@ -29,7 +29,8 @@ pub struct Pair<'a> {
 }
 
 impl<'a> Pair<'a> {
-    /// An adapter at power-on, over the bytes of a font file, and a plain screen that its first mode set replaces.
+    /// An adapter at power-on, over the bytes of a font file, and a plain screen that its first
+    /// mode set replaces.
     pub fn new(alloc: Global, font: &'a [u8]) -> Result<Pair<'a>> {
         Ok(Pair {
             alloc,

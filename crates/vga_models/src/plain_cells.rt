@@ -1,5 +1,5 @@
-//! The cells of a screen of text once more: one list, which the height of characters cuts into pages. A page shows
-//! the first of its cells, row after row, and the others are kept.
+//! The cells of a screen of text once more: one list, which the height of characters cuts into
+//! pages. A page shows the first of its cells, row after row, and the others are kept.
 ghost use Rattle.std.specs.Prelude.{◌≡◌, ◌<◌};
 
 use crate::plain_screen::{Cell, Place, PlainScreen, Way, Window};
@@ -30,7 +30,8 @@ impl PlainScreen<'_> {
         }
     }
 
-    /// Shows a character in the cell at a place of a page, with an attribute or with that which the cell has.
+    /// Shows a character in the cell at a place of a page, with an attribute or with that which the
+    /// cell has.
     pub fn show_cell(&mut self, page: u8, at: Place, character: u8, attribute: Option<u8>) {
         if let Some(old) = self.cell(page, at) {
             let attribute = attribute.unwrap_or(old.attribute);
@@ -45,7 +46,8 @@ impl PlainScreen<'_> {
         }
     }
 
-    /// Moves the rows of a window of a page by so many, and blanks those that are left in an attribute; by 0 all.
+    /// Moves the rows of a window of a page by so many, and blanks those that are left in an
+    /// attribute; by 0 all.
     pub fn scroll_cells(
         &mut self,
         page: u8,

@@ -41,7 +41,8 @@ impl PlainDrawing {
         self.picture.as_slice()
     }
 
-    /// Takes a dot: its colour joins the picture, and behind the last one the screen has the next frame's number.
+    /// Takes a dot: its colour joins the picture, and behind the last one the screen has the next
+    /// frame's number.
     fn take_dot(&mut self, screen: &mut PlainScreen<'_>) -> Result<(), AllocError> {
         if self.dot == 0 {
             self.page = screen.page;

@@ -1,5 +1,5 @@
-//! How glyphs are loaded on a plain screen of text, with which its characters get another height: docs/SCREENS.md
-//! once more.
+//! How glyphs are loaded on a plain screen of text, with which its characters get another height:
+//! docs/SCREENS.md once more.
 ghost use Rattle.std.specs.Prelude.{◌≡◌, ◌<◌};
 
 use crate::plain_glyphs::font_row;
@@ -45,7 +45,8 @@ impl PlainScreen<'_> {
         glyph
     }
 
-    /// Loads glyphs, and cuts the cells anew by their height: page 0 is active, and each cursor is in the corner.
+    /// Loads glyphs, and cuts the cells anew by their height: page 0 is active, and each cursor is
+    /// in the corner.
     pub fn load_glyphs(&mut self, regs: Regs, block: &[u8]) {
         let Some(mode) = with_height(self.mode, loaded_height(regs)) else {
             return;

@@ -1,6 +1,6 @@
-//! The six modes once more: how each cuts its screen, text by the height of its characters, and the colours that it
-//! begins with. It was written from docs/MODES.md and docs/SERVICES.md, and nothing is shared with the crates that are
-//! tested.
+//! The six modes once more: how each cuts its screen, text by the height of its characters, and the
+//! colours that it begins with. It was written from docs/MODES.md and docs/SERVICES.md, and nothing
+//! is shared with the crates that are tested.
 ghost use Rattle.std.specs.Prelude.{◌<◌, ◌≤◌};
 
 /// What stands at the places of a screen.
@@ -162,7 +162,8 @@ pub fn plain_mode(number: u8) -> Option<PlainMode> {
 /// The heights that characters of text can have.
 pub const HEIGHTS: [u8; 3] = [8, 14, 16];
 
-/// What text has with characters of a height: rows and pages, how far apart the pages are, and the cursor's lines.
+/// What text has with characters of a height: rows and pages, how far apart the pages are, and the
+/// cursor's lines.
 #[derive(Clone, Copy)]
 struct TextCut {
     height: u8,
@@ -218,8 +219,8 @@ fn where_set(n: u8, i: u8, v: u8) -> u8
     if (n >> i) & 1 == 1 { v } else { 0 }
 }
 
-/// Red, green and blue by bits 2 to 0, and brighter where bit `bright` is 1; but colour 6 is brown where it
-/// is not.
+/// Red, green and blue by bits 2 to 0, and brighter where bit `bright` is 1; but colour 6 is brown
+/// where it is not.
 fn bright_colour(n: u8, bright: u8) -> [u8; 3]
     requires { bright < 8 }
 {

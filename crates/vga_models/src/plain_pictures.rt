@@ -218,7 +218,8 @@ impl PlainScreen<'_> {
         self.mode.distance as u32 * page as u32 + self.cell_number(at)
     }
 
-    /// The colour of a dot of the cells of a page, where a cell is there. The cursor of the active page may stand on it.
+    /// The colour of a dot of the cells of a page, where a cell is there. The cursor of the active
+    /// page may stand on it.
     fn text_dot(&self, page: u8, x: u32, y: u32) -> Option<u8> {
         let height = self.mode.height.max(1) as u32;
         let row = u8::try_from(y / height).ok()?;

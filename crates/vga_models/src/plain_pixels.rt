@@ -1,4 +1,5 @@
-//! The pixels of a screen of graphics once more: pages of rows of characters, which are lines of pixels.
+//! The pixels of a screen of graphics once more: pages of rows of characters, which are lines of
+//! pixels.
 ghost use Rattle.std.specs.Prelude.{◌≡◌, ◌<◌};
 
 use crate::plain_glyphs::font_row;
@@ -120,7 +121,8 @@ impl PlainScreen<'_> {
         0
     }
 
-    /// Moves the rows of a window of a page by so many, and blanks those that are left in a colour; by 0 all.
+    /// Moves the rows of a window of a page by so many, and blanks those that are left in a colour;
+    /// by 0 all.
     pub fn scroll_pixels(
         &mut self,
         page: u8,

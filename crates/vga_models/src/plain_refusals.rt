@@ -118,8 +118,8 @@ impl PlainScreen<'_> {
         }
     }
 
-    /// Whether the cells that are to be written go past the page's last, or the characters whose glyphs are to be
-    /// loaded past FF.
+    /// Whether the cells that are to be written go past the page's last, or the characters whose
+    /// glyphs are to be loaded past FF.
     fn is_count_past(&self, regs: Regs) -> bool {
         let place = self.place(self.page_of(regs));
         let count = regs.cx as u32;
@@ -130,7 +130,8 @@ impl PlainScreen<'_> {
         }
     }
 
-    /// Whether the call is for a screen of the other kind: for pixels in text, or for glyphs in graphics.
+    /// Whether the call is for a screen of the other kind: for pixels in text, or for glyphs in
+    /// graphics.
     fn is_wrong_kind(&self, regs: Regs) -> bool {
         match high(regs.ax) {
             0x0C | 0x0D => self.is_text(),
@@ -169,7 +170,8 @@ impl PlainScreen<'_> {
     }
 }
 
-/// Whether the registers name no palette register or entry of the DAC, or a blinking that is neither.
+/// Whether the registers name no palette register or entry of the DAC, or a blinking that is
+/// neither.
 fn is_bad_register(regs: Regs) -> bool {
     let first = regs.bx as u32;
     if high(regs.ax) != 0x10 {

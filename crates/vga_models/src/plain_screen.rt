@@ -1,5 +1,6 @@
-//! The plain screen once more: what it is, and what a mode set leaves. It was written from docs/SCREENS.md, and
-//! nothing is shared with the crates that are tested but the registers of a call and the refusals.
+//! The plain screen once more: what it is, and what a mode set leaves. It was written from
+//! docs/SCREENS.md, and nothing is shared with the crates that are tested but the registers of a
+//! call and the refusals.
 ghost use Rattle.std.specs.Prelude.{◌≡◌, ◌<◌};
 
 use crate::plain_glyphs::{Glyphs, tall_glyphs};
@@ -56,8 +57,8 @@ pub enum Way {
 }
 
 impl Window {
-    /// The row of the window that one of its rows takes its places from, where the rows move by so many; by 0 all are
-    /// left blank.
+    /// The row of the window that one of its rows takes its places from, where the rows move by so
+    /// many; by 0 all are left blank.
     pub fn source(self, way: Way, by: u8, row: u8) -> Option<u8> {
         match way {
             _ if by == 0 => None,

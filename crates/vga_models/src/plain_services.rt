@@ -116,8 +116,8 @@ impl PlainScreen<'_> {
         Ok(())
     }
 
-    /// Types a string: each character with its own attribute or colour where AL has bit 1, and the cursor goes
-    /// behind it where AL has bit 0.
+    /// Types a string: each character with its own attribute or colour where AL has bit 1, and the
+    /// cursor goes behind it where AL has bit 0.
     fn type_string(&mut self, regs: Regs, block: &[u8]) -> Result<(), AllocError> {
         let page = self.page_of(regs);
         let has_colours = low(regs.ax) & 2 == 2;

@@ -1,12 +1,13 @@
-//! How characters are shown and typed on a plain screen, and how its rows move: docs/SCREENS.md once more.
+//! How characters are shown and typed on a plain screen, and how its rows move: docs/SCREENS.md
+//! once more.
 ghost use Rattle.std.specs.Prelude.{◌≡◌, ◌<◌};
 
 use crate::plain_screen::{Place, PlainScreen, Way, Window};
 use std::alloc::AllocError;
 
 impl PlainScreen<'_> {
-    /// Shows a character at a place of a page: in text in the cell with an attribute, or with that which the cell
-    /// has; in graphics as its glyph in a colour.
+    /// Shows a character at a place of a page: in text in the cell with an attribute, or with that
+    /// which the cell has; in graphics as its glyph in a colour.
     pub fn show(&mut self, page: u8, at: Place, character: u8, colour: u8, keeps: bool) {
         if self.is_text() {
             self.show_cell(page, at, character, if keeps { None } else { Some(colour) });
@@ -15,7 +16,8 @@ impl PlainScreen<'_> {
         }
     }
 
-    /// Moves the rows of a window of a page by so many, and blanks those that are left in an attribute or a colour;
+    /// Moves the rows of a window of a page by so many, and blanks those that are left in an
+    /// attribute or a colour;
     /// by 0 all.
     pub fn scroll(
         &mut self,

@@ -1,5 +1,5 @@
-//! Pseudo-random calls of the video BIOS: mostly with arguments that a mode has, often at its edges, and
-//! some that it refuses.
+//! Pseudo-random calls of the video BIOS: mostly with arguments that a mode has, often at its
+//! edges, and some that it refuses.
 ghost use Rattle.std.specs.Prelude.{◌≡◌, ◌<◌};
 
 use crate::plain_modes::{HEIGHTS, MODES, PlainMode};
@@ -277,8 +277,8 @@ fn next_glyph_count(random: &mut Pcg32) -> u16 {
     }
 }
 
-/// The character of the first of so many glyphs: often such that the last is FF, or just past it, or such that a sum of
-/// 16 bits would be 0.
+/// The character of the first of so many glyphs: often such that the last is FF, or just past it,
+/// or such that a sum of 16 bits would be 0.
 fn next_first_character(random: &mut Pcg32, count: u16) -> u16 {
     let past = 0x100u16.saturating_sub(count);
     match next_below(random, 10) {
@@ -312,7 +312,8 @@ fn block_glyph_call(alloc: Global, random: &mut Pcg32, map: u8) -> Result<Random
     })
 }
 
-/// A call that loads glyphs, mostly into the map that there is. Of a font it may have a block, which is not looked at.
+/// A call that loads glyphs, mostly into the map that there is. Of a font it may have a block,
+/// which is not looked at.
 fn glyph_call(alloc: Global, random: &mut Pcg32) -> Result<RandomCall, AllocError> {
     let map = if is_one_in(random, 5) {
         next_byte(random)
@@ -393,7 +394,8 @@ fn plain_call(random: &mut Pcg32, mode: PlainMode, active: u8, ah: u8) -> Regs {
     }
 }
 
-/// The next call on a screen of a mode, in text as the height of its characters cuts it, with this active page.
+/// The next call on a screen of a mode, in text as the height of its characters cuts it, with this
+/// active page.
 pub fn next_call(
     alloc: Global,
     random: &mut Pcg32,

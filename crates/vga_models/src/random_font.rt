@@ -5,7 +5,8 @@ use crate::random_numbers::next_byte;
 use rand_pcg::Pcg32;
 use std::alloc::{AllocError, Global};
 
-/// The number that a character's glyph is made from. Those of 81 to FF that are odd have the glyphs of 01 to 7F.
+/// The number that a character's glyph is made from. Those of 81 to FF that are odd have the glyphs
+/// of 01 to 7F.
 fn glyph_number(character: u8) -> u8 {
     if character & 0x81 == 0x81 {
         character & 0x7F

@@ -1,6 +1,6 @@
-//! The adapter and its services against the plain screen, on pseudo-random scripts of services and whole frames
-//! in all six modes, of text with characters of each height: every answer, every refusal, every picture, and screens that
-//! are read.
+//! The adapter and its services against the plain screen, on pseudo-random scripts of services and
+//! whole frames in all six modes, of text with characters of each height: every answer, every
+//! refusal, every picture, and screens that are read.
 ghost use Rattle.std.specs.Prelude.{◌≡◌, ◌<◌};
 
 use crate::beginning::{BEGINNINGS, Beginning};
@@ -13,7 +13,8 @@ use anyhow::Result;
 use rand_pcg::Pcg32;
 use std::alloc::Global;
 
-/// How many scripts have each beginning, how many frames each has, and how many services each frame.
+/// How many scripts have each beginning, how many frames each has, and how many services each
+/// frame.
 const SCRIPTS: u32 = 4;
 
 const FRAMES: u32 = 40;
@@ -84,7 +85,8 @@ impl WholeFrames<'_> {
         Ok(None)
     }
 
-    /// So many scripts of each beginning, up to the first difference, and whether all was met often.
+    /// So many scripts of each beginning, up to the first difference, and whether all was met
+    /// often.
     fn scripts(&mut self, random: &mut Pcg32) -> Result<Option<Difference>> {
         for _ in 0..SCRIPTS {
             let difference = self.round(random)?;

@@ -1,5 +1,6 @@
 -- Planes in words.
-use Rattle.std.proofs.Common.{Bool, true, false, ◌≡◌, ℕ, zero, suc, ◌<◌, arith, refl, sym, ap, ◌∙◌, ◌==◌, if◌then◌else◌, cond, List, [], ◌∷◌, length, map, set, get_or, replicate}
+use Rattle.std.proofs.Common.{Bool, true, false, ◌≡◌, ℕ, zero, suc, ◌<◌, arith, refl, sym, ap, ◌∙◌, ◌==◌, if◌then◌else◌, cond, List, [], ◌∷◌, length, map, set}
+use Rattle.std.proofs.Common.{get_or, replicate}
 use Rattle.std.specs.Prelude.{slice_set}
 use Rattle.std.specs.Int.{bit_at}
 use Rattle.std.proofs.lemmas.Nat.Bits.{bit_at-lt}
@@ -65,7 +66,8 @@ set_or false xs o v = set-get_or xs o 0
 
 module _ (ws : List ℕ) (o old r source s : ℕ) (within : o < length ws) (was : old ≡ get_or ws o 0)
     (bits : (p i : ℕ) → p < 4 → i < 8 → word_bit r p i ≡ (if bit_at s p == 0 then word_bit old p i else word_bit source p i)) where
-  plane_stored : (p : ℕ) → p < 4 → map (byte_in p) (set ws o r) ≡ (if is_set s p then slice_set (map (byte_in p) ws) o (byte_in p source) else map (byte_in p) ws)
+  plane_stored : (p : ℕ) → p < 4 → map (byte_in p) (set ws o r) ≡ (if is_set s p then slice_set (map (byte_in p) ws) o (byte_in p source)
+      else map (byte_in p) ws)
   plane_stored p plane =
       map-set (byte_in p) ws o r
       ∙ ap (set (map (byte_in p) ws) o) (byte_chosen (bit_at s p) (bit_at-lt s p) r source old p (λ i h. bits p i plane h)

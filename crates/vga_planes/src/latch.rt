@@ -53,7 +53,8 @@ impl Latch {
     #[tactic(auto, using(vga_bits::proofs::WordLemmas::word_bit_plane))]
     pub fn word(&self) -> u32
         ensures bytes { bytes_of result ≡ self.now }
-        ensures bits { (p i : ℕ) → p < 4 → i < 8 → word_bit result p i ≡ bit_at (of_plane self.now p) i }
+        ensures bits { (p i : ℕ) → p < 4 → i < 8 → word_bit result p i
+            ≡ bit_at (of_plane self.now p) i }
     {
         self.word
     }

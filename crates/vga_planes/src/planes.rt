@@ -60,7 +60,8 @@ impl Planes {
         Ok(Planes { words })
     }
 
-    /// Each plane has 65,536 bytes, and each of them is below 256. The clause is for proofs: nothing runs.
+    /// Each plane has 65,536 bytes, and each of them is below 256. The clause is for proofs:
+    /// nothing runs.
     pub fn bounds(&self)
         ensures { IsMemory self.now }
     {

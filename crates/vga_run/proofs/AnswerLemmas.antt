@@ -1,7 +1,8 @@
 -- What a run answers, from what its parts answer.
 use Rattle.std.proofs.Common.{◌≡◌, ◌∙◌, inl, inr, ℕ, ◌<◌, ◌≤◌, Bool, List, length, Option, None, Some, IfSome, Result, Ok, Err, arith, refl, sym, ap, subst}
 use Rattle.vga_bits.specs.declared.fault.Fault.{Fault}
-use Rattle.vga_bits.specs.declared.fault.Fault.TheVariants.{FontSize, BadMagic, BadVersion, BadStep, Truncated, TooLong, ReadFault, WriteFault, OutOfMemory, TooMany}
+use Rattle.vga_bits.specs.declared.fault.Fault.TheVariants.{FontSize, BadMagic, BadVersion, BadStep, Truncated, TooLong, ReadFault, WriteFault, OutOfMemory}
+use Rattle.vga_bits.specs.declared.fault.Fault.TheVariants.{TooMany}
 use Rattle.bios_modes.specs.Fonts.{FontSet, IsFontFault, file_len, fonts_of}
 use Rattle.vga_script.specs.declared.step.Step.{Step}
 use Rattle.vga_script.specs.Item.{Listing}
@@ -20,8 +21,10 @@ use Rattle.vga_script.specs.Decoding.{IsSpellingFault, IsFault}
 pub report_answers : (until : Option ℕ) (fonts : FontSet) (steps : List Step) (before after : Option (List ℕ)) (failed : Bool) (result : Result Unit Fault)
     → WritesReport before after failed result (power_on_machine fonts) 1 (steps_until until steps) → ReportsSteps until fonts steps before after result
 report_answers until fonts steps before after failed (Ok u) w = w.0
-report_answers until fonts steps before after failed (Err e) (inl (is, bad, front)) = subst (λ (f : Fault). ReportsSteps until fonts steps before after (Err f)) (sym is) front
-report_answers until fonts steps before after failed (Err e) (inr (is, sound, stops)) = subst (λ (f : Fault). ReportsSteps until fonts steps before after (Err f)) (sym is) tt
+report_answers until fonts steps before after failed (Err e) (inl (is, bad, front)) =
+    subst (λ (f : Fault). ReportsSteps until fonts steps before after (Err f)) (sym is) front
+report_answers until fonts steps before after failed (Err e) (inr (is, sound, stops)) =
+    subst (λ (f : Fault). ReportsSteps until fonts steps before after (Err f)) (sym is) tt
 
 pub report_fails : (before after : Option (List ℕ)) (failed : Bool) (result : Result Unit Fault) (machine : Machine) (n : ℕ) (steps : List Step)
     → WritesReport before after failed result machine n steps → failed ≡ is_write_fault result
@@ -42,7 +45,8 @@ stops_of_steps until fonts bytes before after steps few spelled stops = (steps, 
 
 -- what the run of a script answers is the answer for bytes that spell it
 pub reports_of_steps : (until : Option ℕ) (fonts : FontSet) (bytes : List ℕ) (before after : Option (List ℕ)) (result : Result Unit Fault) (steps : List Step)
-    → length bytes ≤ script_limit → SpellsExpanded bytes steps → ReportsSteps until fonts steps before after result → Reports until fonts (Some bytes) before after result
+    → length bytes ≤ script_limit → SpellsExpanded bytes steps → ReportsSteps until fonts steps before after result →
+    Reports until fonts (Some bytes) before after result
 reports_of_steps until fonts bytes before after (Ok u) steps few spelled written = (steps, (bytes, (refl, few), spelled), written)
 reports_of_steps until fonts bytes before after (Err WriteFault) steps few spelled written = (steps, (bytes, (refl, few), spelled), written)
 reports_of_steps until fonts bytes before after (Err OutOfMemory) steps few spelled h = tt
@@ -82,7 +86,8 @@ input_reports until fonts input before after bytes (Err _) read (others, same, b
 
 pub input_stops : (until : Option ℕ) (fonts : FontSet) (input before after : Option (List ℕ)) (bytes : List ℕ)
     → IsInput input bytes → StopsRun until fonts (Some bytes) before after → StopsRun until fonts input before after
-input_stops until fonts input before after bytes read (steps, (others, same, spelled), stops) = (steps, (others, read_bytes input bytes others read same, spelled), stops)
+input_stops until fonts input before after bytes read (steps, (others, same, spelled), stops) =
+    (steps, (others, read_bytes input bytes others read same, spelled), stops)
 
 -- what a run over the fonts of a file answers is what one over the file does
 of_file : (until : Option ℕ) (file : List ℕ) (input before after : Option (List ℕ)) (result : Result Unit Fault)
@@ -97,7 +102,8 @@ file_answers until file fonts input before after result (size, are) h =
     of_file until file input before after result size (subst (λ (f : FontSet). Reports until f input before after result) are h)
 
 pub input_answers : (until : Option ℕ) (file : List ℕ) (fonts : FontSet) (input before after : Option (List ℕ)) (bytes : List ℕ) (result : Result Unit Fault)
-    → (length file ≡ file_len) × (fonts ≡ fonts_of file) → IsInput input bytes → Reports until fonts (Some bytes) before after result → RunAnswers until file input before after result
+    → (length file ≡ file_len) × (fonts ≡ fonts_of file) → IsInput input bytes → Reports until fonts (Some bytes) before after result →
+    RunAnswers until file input before after result
 input_answers until file fonts input before after bytes result (size, are) read h =
     file_answers until file fonts input before after result (size, are) (input_reports until fonts input before after bytes result read h)
 
@@ -114,20 +120,24 @@ steps_answers until file fonts steps before after result (size, are) h =
     script_of_file until file steps before after result size (subst (λ (f : FontSet). ReportsSteps until f steps before after result) are h)
 
 -- no fonts, no run
-pub font_runs : (until : Option ℕ) (file : List ℕ) (steps : List Step) (before after : Option (List ℕ)) (f : Fault) → IsFontFault file f → RunsScript until file steps before after (Err f)
+pub font_runs : (until : Option ℕ) (file : List ℕ) (steps : List Step) (before after : Option (List ℕ)) (f : Fault) → IsFontFault file f →
+    RunsScript until file steps before after (Err f)
 font_runs until file steps before after FontSize bad = bad
 font_runs until file steps before after OutOfMemory size = (size, tt)
 font_runs until file steps before after _ bad = absurd bad
 
-pub font_answers : (until : Option ℕ) (file : List ℕ) (input before after : Option (List ℕ)) (f : Fault) → IsFontFault file f → RunAnswers until file input before after (Err f)
+pub font_answers : (until : Option ℕ) (file : List ℕ) (input before after : Option (List ℕ)) (f : Fault) → IsFontFault file f →
+    RunAnswers until file input before after (Err f)
 font_answers until file input before after FontSize bad = bad
 font_answers until file input before after OutOfMemory size = (size, tt)
 font_answers until file input before after _ bad = absurd bad
 
 -- an unread input
-pub unread_answers : (until : Option ℕ) (file : List ℕ) (input before after : Option (List ℕ)) (f : Fault) → length file ≡ file_len → IsReadingFault input f → RunAnswers until file input before after (Err f)
+pub unread_answers : (until : Option ℕ) (file : List ℕ) (input before after : Option (List ℕ)) (f : Fault) → length file ≡ file_len → IsReadingFault input f →
+    RunAnswers until file input before after (Err f)
 unread_answers until file input before after f size (inl is) = subst (λ (x : Fault). RunAnswers until file input before after (Err x)) (sym is) (size, tt)
-unread_answers until file input before after f size (inr (inl (is, long))) = subst (λ (x : Fault). RunAnswers until file input before after (Err x)) (sym is) (size, long)
+unread_answers until file input before after f size (inr (inl (is, long))) = subst (λ (x : Fault). RunAnswers until file input before after (Err x)) (sym is)
+    (size, long)
 unread_answers until file input before after f size (inr (inr is)) = subst (λ (x : Fault). RunAnswers until file input before after (Err x)) (sym is) (size, tt)
 
 -- the law that no bytes that spell a script have a fault but that they are too long
@@ -135,15 +145,18 @@ abbrev pub NoFault : Type 0
 NoFault = (bytes : List ℕ) (script : Listing) (fault : Fault) → Spells bytes script → IsFault bytes fault → fault ≡ TooLong
 
 -- so an input that spells a script has no fault
-no_input_fault : NoFault → (input : Option (List ℕ)) (f : Fault) (bytes : List ℕ) (steps : List Step) → input ≡ Some bytes → SpellsExpanded bytes steps → InputHasFault input f → ⊥
+no_input_fault : NoFault → (input : Option (List ℕ)) (f : Fault) (bytes : List ℕ) (steps : List Step) → input ≡ Some bytes → SpellsExpanded bytes steps →
+    InputHasFault input f → ⊥
 no_input_fault law input f bytes steps e (script, spelled, means) (others, read, bad) =
     let same : bytes ≡ others = subst (λ (i : Option (List ℕ)). IfSome i (λ all. all ≡ others)) e read.0 in
     let long = law others script f (subst (λ (l : List ℕ). Spells l script) same spelled) (inr (read.1, bad)) in
     subst (IsSpellingFault others) long bad
 
 -- so a script is run, unless memory runs out or a stream fails
-pub runs_good_scripts : NoFault → (until : Option ℕ) (file : List ℕ) (input before after : Option (List ℕ)) (read_failed write_failed : Bool) (result : Result Unit Fault)
-    → RunAnswers until file input before after result → read_failed ≡ is_read_fault result → write_failed ≡ is_write_fault result → RunsGoodScripts file input read_failed write_failed result
+pub runs_good_scripts : NoFault → (until : Option ℕ) (file : List ℕ) (input before after : Option (List ℕ)) (read_failed write_failed : Bool)
+    (result : Result Unit Fault)
+    → RunAnswers until file input before after result → read_failed ≡ is_read_fault result → write_failed ≡ is_write_fault result →
+    RunsGoodScripts file input read_failed write_failed result
 runs_good_scripts law until file input before after rf wf (Ok u) h er ew = λ bytes steps size e few spelled r w. tt
 runs_good_scripts law until file input before after rf wf (Err FontSize) h er ew = λ bytes steps size e few spelled r w. absurd (h size)
 runs_good_scripts law until file input before after rf wf (Err ReadFault) h er ew = λ bytes steps size e few spelled r w. absurd (cc)
@@ -151,4 +164,5 @@ runs_good_scripts law until file input before after rf wf (Err TooLong) h er ew 
     let many : 16777216 < length bytes = subst (λ (i : Option (List ℕ)). IfSome i (λ all. 16777216 < length all)) e h.1 in absurd (omega arith)
 runs_good_scripts law until file input before after rf wf (Err WriteFault) h er ew = λ bytes steps size e few spelled r w. absurd (cc)
 runs_good_scripts law until file input before after rf wf (Err OutOfMemory) h er ew = λ bytes steps size e few spelled r w. refl
-runs_good_scripts law until file input before after rf wf (Err f) h er ew = λ bytes steps size e few spelled r w. absurd (no_input_fault law input f bytes steps e spelled h.1)
+runs_good_scripts law until file input before after rf wf (Err f) h er ew = λ bytes steps size e few spelled r w.
+    absurd (no_input_fault law input f bytes steps e spelled h.1)

@@ -1,5 +1,6 @@
 -- Why the report of services, dots and frames is the plain screen's.
-use Rattle.std.proofs.Common.{◌≡◌, ◌∙◌, inl, inr, ℕ, ◌+◌, Bool, true, false, List, [], ◌∷◌, ◌++◌, Option, Some, None, Result, Ok, Err, if◌then◌else◌, arith, refl, sym, ap, subst}
+use Rattle.std.proofs.Common.{◌≡◌, ◌∙◌, inl, inr, ℕ, ◌+◌, Bool, true, false, List, [], ◌∷◌, ◌++◌, Option, Some, None, Result, Ok, Err, if◌then◌else◌, arith}
+use Rattle.std.proofs.Common.{refl, sym, ap, subst}
 use Rattle.std.specs.Prelude.{nat_le, length}
 use Rattle.vga_bits.specs.declared.refusal.Refusal.{Refusal}
 use Rattle.vga_bits.specs.declared.refusal.Refusal.TheVariants.{BadFunction, BadMode, TooFar}
@@ -53,10 +54,12 @@ pub record Laws : Type 0 where
   pub screens : ScreenLaws
   pub served : (asked_for : Service) (fonts : FontSet) (r : Regs) (block : List ℕ) (c : CardState) (d : BiosData) (b : Drawing)
       → IsCard c → IsBda d → AreWords r → AreBytes block → Follows c d b → call_of r ≡ Some (InMode asked_for)
-      → Follows (after_call fonts r block c d).0 (after_call fonts r block c d).1.1 (record b { screen = screen_unless (refusal_on b.screen asked_for (length block)) b.screen (next fonts b.screen asked_for block) })
+      → Follows (after_call fonts r block c d).0 (after_call fonts r block c d).1.1
+      (record b { screen = screen_unless (refusal_on b.screen asked_for (length block)) b.screen (next fonts b.screen asked_for block) })
   pub loads : (load : GlyphLoad) (fonts : FontSet) (r : Regs) (block : List ℕ) (c : CardState) (d : BiosData) (b : Drawing)
       → IsCard c → AreBytes block → AreFonts fonts → Follows c d b → MayLoad b load (length block) → call_of r ≡ Some (LoadGlyphs load)
-      → Follows (after_call fonts r block c d).0 (after_call fonts r block c d).1.1 (record b { screen = screen_unless (load_refusal_on b.screen load (length block)) b.screen (load_glyphs fonts b.screen load block) })
+      → Follows (after_call fonts r block c d).0 (after_call fonts r block c d).1.1
+      (record b { screen = screen_unless (load_refusal_on b.screen load (length block)) b.screen (load_glyphs fonts b.screen load block) })
   pub table : (asked_for : TableService) (fonts : FontSet) (r : Regs) (block : List ℕ) (c : CardState) (d : BiosData) (b : Drawing)
       → IsCard c → Follows c d b → call_of r ≡ Some (ReadTable asked_for) → Follows (after_call fonts r block c d).0 (after_call fonts r block c d).1.1 b
   pub begins : (c : CardState) (d : BiosData) (b : Drawing) → IsCard c → shown c d ≡ Some b.screen → b.dot ≡ 0 → IsFrameStart c.crtc.beam → Follows c d b
@@ -72,7 +75,8 @@ record CallFollows (x : CardState × Answered) (to : Screen × Result Reply Refu
   follows : Follows x.0 x.1.1 (record b { screen = to.0 })
 
 -- a call that is refused and does nothing
-refused_follows : (x : CardState × Answered) (why : Refusal) (c : CardState) (d : BiosData) (b : Drawing) → x ≡ (c, (Err why, d)) → Follows c d b → CallFollows x (b.screen, Err why) b
+refused_follows : (x : CardState × Answered) (why : Refusal) (c : CardState) (d : BiosData) (b : Drawing) → x ≡ (c, (Err why, d)) → Follows c d b →
+    CallFollows x (b.screen, Err why) b
 refused_follows x why c d b e is = record {
   reply = ap (λ (y : CardState × Answered). y.1.0) e;
   follows = subst (λ (y : CardState × Answered). Follows y.0 y.1.1 b) (sym e) is;
@@ -80,7 +84,8 @@ refused_follows x why c d b e is = record {
 
 -- a mode set that clears the memory, at dot 0
 set_follows : Laws → (mode : ℕ) (keeps : Bool) (fonts : FontSet) (r : Regs) (block : List ℕ) (c : CardState) (d : BiosData) (b : Drawing)
-    → Clears (Some (SetMode mode keeps)) → call_of r ≡ Some (SetMode mode keeps) → AreFonts fonts → IsCard c → b.screen.frame ≡ c.crtc.beam.frame → b.dot ≡ 0 → IsFrameStart c.crtc.beam
+    → Clears (Some (SetMode mode keeps)) → call_of r ≡ Some (SetMode mode keeps) → AreFonts fonts → IsCard c → b.screen.frame ≡ c.crtc.beam.frame → b.dot ≡ 0 →
+    IsFrameStart c.crtc.beam
     → CallFollows (after_call fonts r block c d) (set_on (mode_row mode) mode fonts r b.screen) b
 set_follows law mode keeps fonts r block c d b (has, clears) e glyphs z number zeroth start =
     let h = row_of_mode law.screens mode has in
@@ -90,7 +95,8 @@ set_follows law mode keeps fonts r block c d b (has, clears) e glyphs z number z
     let there : IsFrameStart y.crtc.beam = subst IsFrameStart (sym f.beam) start in
     let fresh : CallFollows (after_call fonts r block c d) (set_on (Some h.row) mode fonts r b.screen) b = record {
       reply = f.answer;
-      follows = law.begins y (after_call fonts r block c d).1.1 (record b { screen = t }) (law.screens.card fonts d r block c z) (f.shows ∙ ap (λ (n : ℕ). Some (fresh_screen mode h.row fonts.f16 n)) (sym number)) zeroth there;
+      follows = law.begins y (after_call fonts r block c d).1.1 (record b { screen = t }) (law.screens.card fonts d r block c z) (f.shows
+          ∙ ap (λ (n : ℕ). Some (fresh_screen mode h.row fonts.f16 n)) (sym number)) zeroth there;
     } in
     subst (λ (row : Option ModeRow). CallFollows (after_call fonts r block c d) (set_on row mode fonts r b.screen) b) (sym h.is) fresh
 
@@ -101,12 +107,14 @@ record Stands (fonts : FontSet) (m : Machine) (b : Drawing) : Type 0 where
   same : m.fonts ≡ fonts
   follows : Follows m.card m.bda b
 
-call_follows : Laws → (call : Option Call) (fonts : FontSet) (r : Regs) (block : List ℕ) (m : Machine) (b : Drawing) → call_of r ≡ call → StaysAt b (length block) call → AreWords r → AreBytes block → AreFonts fonts → Stands fonts m b
+call_follows : Laws → (call : Option Call) (fonts : FontSet) (r : Regs) (block : List ℕ) (m : Machine) (b : Drawing) → call_of r ≡ call →
+    StaysAt b (length block) call → AreWords r → AreBytes block → AreFonts fonts → Stands fonts m b
     → CallFollows (after_call fonts r block m.card m.bda) (called_on call fonts r block b.screen) b
 call_follows law None fonts r block m b e stays words bytes glyphs is =
     refused_follows _ BadFunction m.card m.bda b (law.screens.unknown fonts r block m.card m.bda b.screen is.follows.shows e) is.follows
 call_follows law (Some (SetMode mode keeps)) fonts r block m b e (inl (clears, zeroth)) words bytes glyphs is =
-    set_follows law mode keeps fonts r block m.card m.bda b clears e glyphs is.card (frame_shown m.card m.bda b.screen is.follows.shows) zeroth (law.starts m.card m.bda b is.follows zeroth)
+    set_follows law mode keeps fonts r block m.card m.bda b clears e glyphs is.card (frame_shown m.card m.bda b.screen is.follows.shows) zeroth
+    (law.starts m.card m.bda b is.follows zeroth)
 call_follows law (Some (SetMode mode keeps)) fonts r block m b e (inr none) words bytes glyphs is =
     let left = refused_follows _ BadMode m.card m.bda b (law.screens.no_mode mode keeps fonts r block m.card m.bda e none) is.follows in
     subst (λ (row : Option ModeRow). CallFollows (after_call fonts r block m.card m.bda) (set_on row mode fonts r b.screen) b) (sym none) left
@@ -131,12 +139,22 @@ record StepFollows (fonts : FontSet) (m : Machine) (b : Drawing) (step : Step) :
   stands : Stands fonts (after_step m step) (drawing_after fonts b step)
 
 -- dots, or more than one step may take
-advanced : Laws → (few : Bool) (fonts : FontSet) (m : Machine) (b : Drawing) (count : ℕ) → Stands fonts m b → (let w : Written = (if few then (dots count m.card, Ok tt) else (m.card, Err TooFar)) in
+advanced : Laws → (few : Bool) (fonts : FontSet) (m : Machine) (b : Drawing) (count : ℕ) → Stands fonts m b →
+    (let w : Written = (if few then (dots count m.card, Ok tt) else (m.card, Err TooFar)) in
     (Plain (of_write w.1) ≡ Plain (if few then Done else Refused TooFar)) × Stands fonts (record m { card = w.0 }) (if few then take_dots count b else b))
-advanced law true fonts m b count is = (refl, record { card = law.screens.dots count m.card is.card; bda = is.bda; same = is.same; follows = law.dots_follow count m.card m.bda b is.card is.follows })
+advanced law true fonts m b count is = (
+  refl,
+  record {
+    card = law.screens.dots count m.card is.card;
+    bda = is.bda;
+    same = is.same;
+    follows = law.dots_follow count m.card m.bda b is.card is.follows;
+  },
+)
 advanced law false fonts m b count is = (refl, is)
 
-step_follows : Laws → (fonts : FontSet) (m : Machine) (b : Drawing) (step : Step) → AreFonts fonts → IsInRange step → IsOfDots b step → Stands fonts m b → StepFollows fonts m b step
+step_follows : Laws → (fonts : FontSet) (m : Machine) (b : Drawing) (step : Step) → AreFonts fonts → IsInRange step → IsOfDots b step → Stands fonts m b →
+    StepFollows fonts m b step
 unfolding answer_to after_step reply_to drawing_after called
 step_follows law fonts m b (Int ax bx cx dx block) glyphs (ha, hb, hc, hd, (short, all)) stays is =
     let r = registers_of ax bx cx dx in
@@ -158,20 +176,23 @@ step_follows law fonts m b (Advance count) glyphs range stays is =
 step_follows law fonts m b Frame glyphs range stays is =
     let f = law.frame_follows m.card m.bda b is.card is.follows in
     record {
-      answer = ap (λ x. of_shape x (bytes_of (frame m.card).drawn)) f.size ∙ ap (λ bytes. of_shape (Some (record { width = picture_width b.screen; height = picture_height b.screen })) bytes) f.bytes;
+      answer = ap (λ x. of_shape x (bytes_of (frame m.card).drawn)) f.size ∙ ap (λ bytes.
+          of_shape (Some (record { width = picture_width b.screen; height = picture_height b.screen })) bytes) f.bytes;
       stands = record { card = law.screens.dots (frame_count m.card) m.card is.card; bda = is.bda; same = is.same; follows = f.follows };
     }
 step_follows law fonts m b step glyphs range stays is = absurd stays
 
 -- ---- all steps
 
-reports_from : Laws → (fonts : FontSet) (m : Machine) (b : Drawing) (n : ℕ) (steps : List Step) → AreFonts fonts → AreInRange steps → AllOfDots fonts b steps → Stands fonts m b
+reports_from : Laws → (fonts : FontSet) (m : Machine) (b : Drawing) (n : ℕ) (steps : List Step) → AreFonts fonts → AreInRange steps → AllOfDots fonts b steps →
+    Stands fonts m b
     → report_from m n steps ≡ dot_report_from fonts b n steps
 reports_from law fonts m b n [] glyphs range all is = refl
 reports_from law fonts m b n (step ∷ steps) glyphs range all is =
     let l = step_follows law fonts m b step glyphs range.0 all.0 is in
     ap (λ a. line n a ++ report_from (after_step m step) (n + 1) steps) l.answer
-    ∙ ap (λ (rest : List ℕ). line n (reply_to fonts b step) ++ rest) (reports_from law fonts (after_step m step) (drawing_after fonts b step) (n + 1) steps glyphs range.1 all.1 l.stands)
+    ∙ ap (λ (rest : List ℕ). line n (reply_to fonts b step) ++ rest) (reports_from law fonts (after_step m step) (drawing_after fonts b step) (n + 1) steps
+    glyphs range.1 all.1 l.stands)
 
 -- the first step sets a mode
 first_follows : Laws → (call : Option Call) (fonts : FontSet) (r : Regs) (block : List ℕ) → call_of r ≡ call → Clears call → AreFonts fonts
@@ -181,9 +202,11 @@ first_follows law (Some (ReadTable asked_for)) fonts r block e clears glyphs = a
 first_follows law (Some (LoadGlyphs load)) fonts r block e clears glyphs = absurd clears
 first_follows law (Some (InMode asked_for)) fonts r block e clears glyphs = absurd clears
 first_follows law (Some (SetMode mode keeps)) fonts r block e clears glyphs =
-    set_follows law mode keeps fonts r block power_on_card power_on_data (power_on_drawing fonts) clears e glyphs law.screens.first_card refl refl (record { line = refl; character = refl; dot = refl })
+    set_follows law mode keeps fonts r block power_on_card power_on_data (power_on_drawing fonts) clears e glyphs law.screens.first_card refl refl
+    (record { line = refl; character = refl; dot = refl })
 
-pub reports_dots : Laws → (fonts : FontSet) (steps : List Step) → AreFonts fonts → AreInRange steps → AreOfDots fonts steps → report_of fonts steps ≡ dot_report fonts steps
+pub reports_dots : Laws → (fonts : FontSet) (steps : List Step) → AreFonts fonts → AreInRange steps → AreOfDots fonts steps →
+    report_of fonts steps ≡ dot_report fonts steps
 unfolding answer_to after_step reply_to drawing_after called
 reports_dots law fonts [] glyphs range all = absurd all
 reports_dots law fonts (Int ax bx cx dx block ∷ steps) glyphs ((ha, hb, hc, hd, is_block), range) (clears, all) =
@@ -199,5 +222,6 @@ reports_dots law fonts (Int ax bx cx dx block ∷ steps) glyphs ((ha, hb, hc, hd
       follows = f.follows;
     } in
     ap (λ a. line 1 (of_service a) ++ report_from (after_step m step) 2 steps) f.reply
-    ∙ ap (λ (rest : List ℕ). line 1 (reply_to fonts b step) ++ rest) (reports_from law fonts (after_step m step) (drawing_after fonts b step) 2 steps glyphs range all.1 stands)
+    ∙ ap (λ (rest : List ℕ). line 1 (reply_to fonts b step) ++ rest) (reports_from law fonts (after_step m step) (drawing_after fonts b step) 2 steps glyphs
+    range all.1 stands)
 reports_dots law fonts (step ∷ steps) glyphs range all = absurd all

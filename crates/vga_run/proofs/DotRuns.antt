@@ -1,5 +1,6 @@
 -- Why runs of services, dots and frames write the plain screen's report, and that whole frames are such.
-use Rattle.std.proofs.Common.{◌≡◌, inl, inr, ℕ, ◌*◌, ◌<◌, ◌==◌, Bool, true, false, List, [], ◌∷◌, length, Option, Some, None, Result, Ok, Err, if◌then◌else◌, arith, refl, ap, subst, ◌∙◌}
+use Rattle.std.proofs.Common.{◌≡◌, inl, inr, ℕ, ◌*◌, ◌<◌, ◌==◌, Bool, true, false, List, [], ◌∷◌, length, Option, Some, None, Result, Ok, Err, if◌then◌else◌}
+use Rattle.std.proofs.Common.{arith, refl, ap, subst, ◌∙◌}
 use Rattle.std.specs.List.{AllByRecursion}
 use Rattle.std.specs.Io.KnownBytes.{Appends}
 use Rattle.vga_bits.specs.Tracked.{AppendsFront}
@@ -29,9 +30,11 @@ use Rattle.bios_screen.specs.Picture.{lines_in}
 
 -- the law of the reports
 abbrev pub ReportsAlike : Type 0
-ReportsAlike = (fonts : FontSet) (steps : List Step) → AreFonts fonts → AreInRange steps → AreOfDots fonts steps → report_of fonts steps ≡ dot_report fonts steps
+ReportsAlike = (fonts : FontSet) (steps : List Step) → AreFonts fonts → AreInRange steps → AreOfDots fonts steps →
+    report_of fonts steps ≡ dot_report fonts steps
 
-steps_of_dots : ReportsAlike → (until : Option ℕ) (fonts : FontSet) (steps : List Step) (before after : Option (List ℕ)) (result : Result Unit Fault) → AreFonts fonts → AreInRange steps
+steps_of_dots : ReportsAlike → (until : Option ℕ) (fonts : FontSet) (steps : List Step) (before after : Option (List ℕ)) (result : Result Unit Fault) →
+    AreFonts fonts → AreInRange steps
     → until ≡ None → AreOfDots fonts steps → ReportsSteps until fonts steps before after result → ReportsDots fonts steps before after result
 steps_of_dots law until fonts steps before after (Ok u) glyphs range whole of w =
     subst (Appends before after) (ap (λ (n : Option ℕ). report_of fonts (steps_until n steps)) whole ∙ law fonts steps glyphs range of) w
@@ -39,14 +42,18 @@ steps_of_dots law until fonts steps before after (Err WriteFault) glyphs range w
     subst (AppendsFront before after) (ap (λ (n : Option ℕ). report_of fonts (steps_until n steps)) whole ∙ law fonts steps glyphs range of) w
 steps_of_dots law until fonts steps before after (Err _) glyphs range whole of w = tt
 
-pub script_of_dots : ReportsAlike → (until : Option ℕ) (file : List ℕ) (steps : List Step) (before after : Option (List ℕ)) (result : Result Unit Fault) → AreBytes file → AreInRange steps
+pub script_of_dots : ReportsAlike → (until : Option ℕ) (file : List ℕ) (steps : List Step) (before after : Option (List ℕ)) (result : Result Unit Fault) →
+    AreBytes file → AreInRange steps
     → RunsScript until file steps before after result → until ≡ None → AreOfDots (fonts_of file) steps → ReportsDots (fonts_of file) steps before after result
 script_of_dots law until file steps before after (Err FontSize) bytes range w whole of = tt
-script_of_dots law until file steps before after (Ok u) bytes range w whole of = steps_of_dots law until (fonts_of file) steps before after (Ok u) (glyph_bytes file bytes) range whole of w.1
-script_of_dots law until file steps before after (Err WriteFault) bytes range w whole of = steps_of_dots law until (fonts_of file) steps before after (Err WriteFault) (glyph_bytes file bytes) range whole of w.1
+script_of_dots law until file steps before after (Ok u) bytes range w whole of = steps_of_dots law until (fonts_of file) steps before after (Ok u)
+    (glyph_bytes file bytes) range whole of w.1
+script_of_dots law until file steps before after (Err WriteFault) bytes range w whole of =
+    steps_of_dots law until (fonts_of file) steps before after (Err WriteFault) (glyph_bytes file bytes) range whole of w.1
 script_of_dots law until file steps before after (Err _) bytes range w whole of = tt
 
-pub run_of_dots : ReportsAlike → OneList → StepsFit → (until : Option ℕ) (file : List ℕ) (input before after : Option (List ℕ)) (result : Result Unit Fault) → AreBytes file
+pub run_of_dots : ReportsAlike → OneList → StepsFit → (until : Option ℕ) (file : List ℕ) (input before after : Option (List ℕ)) (result : Result Unit Fault) →
+    AreBytes file
     → RunAnswers until file input before after result → RunsDots until file input before after result
 run_of_dots law one fit until file input before after (Ok u) glyphs (size, (found, (read, is, others), w)) =
     λ bytes steps whole e spelled of.
@@ -106,8 +113,11 @@ clears_at b len (Some (InMode service)) e clears = absurd clears
 all_of_dots : FramesEnd → (fonts : FontSet) (b : Drawing) (steps : List Step) → b.dot ≡ 0 → AllByRecursion IsOfScreens steps → AllOfDots fonts b steps
 unfolding drawing_after
 all_of_dots law fonts b [] e all = tt
-all_of_dots law fonts b (Int ax bx cx dx block ∷ steps) e all =
-    (stays_at b (length block) (call_of (registers_of ax bx cx dx)) e all.0, all_of_dots law fonts (drawing_after fonts b (Int ax bx cx dx block)) steps e all.1)
+all_of_dots law fonts b (Int ax bx cx dx block ∷ steps) e all = (
+  stays_at b (length block) (call_of (registers_of ax bx cx dx)) e all.0,
+  all_of_dots law fonts (drawing_after fonts b (Int ax bx cx dx block)) steps e
+      all.1,
+)
 all_of_dots law fonts b (Frame ∷ steps) e all =
     let some = some_dots b.screen.mode in
     (tt, all_of_dots law fonts (take_frame b) steps (law b (omega arith)).dot all.1)
@@ -116,6 +126,11 @@ all_of_dots law fonts b (step ∷ steps) e all = absurd all.0
 pub screens_are_dots : FramesEnd → (fonts : FontSet) (steps : List Step) → AreOfScreens steps → AreOfDots fonts steps
 unfolding drawing_after
 screens_are_dots law fonts [] all = absurd all
-screens_are_dots law fonts (Int ax bx cx dx block ∷ steps) (clears, all) =
-    (clears, (clears_at (power_on_drawing fonts) (length block) (call_of (registers_of ax bx cx dx)) refl clears, all_of_dots law fonts (drawing_after fonts (power_on_drawing fonts) (Int ax bx cx dx block)) steps refl all))
+screens_are_dots law fonts (Int ax bx cx dx block ∷ steps) (clears, all) = (
+  clears,
+  (
+    clears_at (power_on_drawing fonts) (length block) (call_of (registers_of ax bx cx dx)) refl clears,
+    all_of_dots law fonts (drawing_after fonts (power_on_drawing fonts) (Int ax bx cx dx block)) steps refl all,
+  ),
+)
 screens_are_dots law fonts (step ∷ steps) all = absurd all

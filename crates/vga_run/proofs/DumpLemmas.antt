@@ -21,13 +21,17 @@ dump_line n (Some why) text = append_assoc (decimal n) (codes " ") (refusal_name
 
 -- behind its number a call writes the rest
 pub writes_dump : {U : Type 0} (old mid new : Option (List ℕ)) (failed : Bool) (result : Result U Fault) (n : ℕ) (refusal : Option Refusal) (text : List ℕ)
-    → Appends old mid (number_text n) → Writes mid new failed result (dump_or_refusal refusal text) → Writes old new failed result (line n (of_dump refusal text))
+    → Appends old mid (number_text n) → Writes mid new failed result (dump_or_refusal refusal text) →
+    Writes old new failed result (line n (of_dump refusal text))
 writes_dump {U} old mid new failed result n refusal text a w =
-    subst (Writes {U = U} old new failed result) (dump_line n refusal text) (writes_after {U = U} old mid new failed result (number_text n) (dump_or_refusal refusal text) a w)
+    subst (Writes {U = U} old new failed result) (dump_line n refusal text) (writes_after {U = U} old mid new failed result (number_text n)
+    (dump_or_refusal refusal text) a w)
 
 -- a front of its number is a front of the line
-pub front_of_dump : (old new : Option (List ℕ)) (n : ℕ) (refusal : Option Refusal) (text : List ℕ) → AppendsFront old new (number_text n) → AppendsFront old new (line n (of_dump refusal text))
-front_of_dump old new n refusal text a = subst (AppendsFront old new) (dump_line n refusal text) (front_of_more old new (number_text n) (dump_or_refusal refusal text) a)
+pub front_of_dump : (old new : Option (List ℕ)) (n : ℕ) (refusal : Option Refusal) (text : List ℕ) → AppendsFront old new (number_text n) →
+    AppendsFront old new (line n (of_dump refusal text))
+front_of_dump old new n refusal text a = subst (AppendsFront old new) (dump_line n refusal text)
+    (front_of_more old new (number_text n) (dump_or_refusal refusal text) a)
 
 -- ---- cells
 
@@ -38,13 +42,15 @@ cells_are_written old new None card bda is a = a
 cells_are_written old new (Some why) card bda is a = absurd (cc)
 
 -- and cells that are not: nothing is written before the name of the refusal
-pub cells_are_refused : (old mid new : Option (List ℕ)) (failed : Bool) (result : Result Unit Fault) (refusal : Option Refusal) (why : Refusal) (card : CardState) (bda : BiosData)
+pub cells_are_refused : (old mid new : Option (List ℕ)) (failed : Bool) (result : Result Unit Fault) (refusal : Option Refusal) (why : Refusal)
+    (card : CardState) (bda : BiosData)
     → Err why ≡ cells_answer refusal → Appends old mid (cells_text refusal card bda) → Writes mid new failed result (refusal_name why ++ codes "\n")
     → Writes old new failed result (dump_or_refusal refusal (cells_text refusal card bda))
 cells_are_refused old mid new failed result None why card bda is a w = absurd (cc)
 cells_are_refused old mid new failed result (Some other) why card bda is a w =
     let same : why ≡ other = cc in
-    subst (λ (r : Refusal). Writes {U = Unit} old new failed result (refusal_name r ++ codes "\n")) same (writes_after {U = Unit} old mid new failed result [] (refusal_name why ++ codes "\n") a w)
+    subst (λ (r : Refusal). Writes {U = Unit} old new failed result (refusal_name r ++ codes "\n")) same
+    (writes_after {U = Unit} old mid new failed result [] (refusal_name why ++ codes "\n") a w)
 
 -- a front of the cells is one of what the dump answers
 pub front_of_cells : (old new : Option (List ℕ)) (refusal : Option Refusal) (card : CardState) (bda : BiosData)

@@ -1,5 +1,6 @@
 -- Numbers of steps that are counted up in decimal.
-use Rattle.std.proofs.Common.{◌≡◌, ℕ, ◌+◌, ◌-◌, ◌/◌, ◌%◌, ◌^◌, ◌<◌, ◌≤◌, List, [], ◌∷◌, ◌++◌, length, take, drop, refl, sym, ◌∙◌, ap, inl, inr, arith, length-append, take-append-drop}
+use Rattle.std.proofs.Common.{◌≡◌, ℕ, ◌+◌, ◌-◌, ◌/◌, ◌%◌, ◌^◌, ◌<◌, ◌≤◌, List, [], ◌∷◌, ◌++◌, length, take, drop, refl, sym, ◌∙◌, ap, inl, inr, arith}
+use Rattle.std.proofs.Common.{length-append, take-append-drop}
 use Rattle.std.specs.Prelude.{decimal, codes, slice_set}
 use Rattle.std.proofs.lemmas.Bool.{cases_lt}
 use Rattle.std.proofs.lemmas.Fmt.{decimal_step, decimal_digit, decimal_nonempty, length-decimal-le}
@@ -74,7 +75,8 @@ number_counted text new front n h small low e =
     let at : front - 2 ≡ i = omega arith in
     let parts : text ≡ (digits ++ codes " ") ++ rest = sym (take-append-drop front text) ∙ ap (λ (l : List ℕ). l ++ rest) h.is in
     let counted : slice_set digits i v ≡ decimal (n + 1) =
-    sym (take_all (i + 1) (slice_set digits i v) (omega (arith, length-set digits i v))) ∙ take_more_set digits i v (omega arith) ∙ sym (decimal_counted n small low) in
+    sym (take_all (i + 1) (slice_set digits i v) (omega (arith, length-set digits i v))) ∙ take_more_set digits i v (omega arith)
+    ∙ sym (decimal_counted n small low) in
     let long : length (decimal (n + 1)) ≡ length digits = ap length (sym counted) ∙ length-set digits i v in
     let whole : new ≡ number_text (n + 1) ++ rest =
     e ∙ ap (λ (k : ℕ). slice_set text k v) at ∙ ap (λ (l : List ℕ). slice_set l i v) parts
@@ -83,6 +85,7 @@ number_counted text new front n h small low e =
     ∙ ap (λ (l : List ℕ). (l ++ codes " ") ++ rest) counted in
     let front_len : front ≡ length (number_text (n + 1)) = omega (arith, len, long, length-append (decimal (n + 1)) (codes " ")) in
     record {
-      is = ap (take front) whole ∙ take-append-le front (number_text (n + 1)) rest (omega (arith, front_len)) ∙ take_all front (number_text (n + 1)) (omega (arith, front_len));
+      is = ap (take front) whole ∙ take-append-le front (number_text (n + 1)) rest (omega (arith, front_len))
+          ∙ take_all front (number_text (n + 1)) (omega (arith, front_len));
       whole = front_len;
     }

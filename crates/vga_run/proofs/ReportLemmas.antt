@@ -1,5 +1,6 @@
 -- Writing a report, line by line.
-use Rattle.std.proofs.Common.{◌≡◌, inl, inr, ℕ, zero, suc, ◌+◌, ◌<◌, ◌≤◌, Bool, false, List, [], ◌∷◌, ◌++◌, length, get_or, take, drop, Option, Result, Ok, Err, arith, refl, sym, ap, ◌∙◌, subst, append_assoc, append-nil, add-one, drop-cons, take-append-drop, codes}
+use Rattle.std.proofs.Common.{◌≡◌, inl, inr, ℕ, zero, suc, ◌+◌, ◌<◌, ◌≤◌, Bool, false, List, [], ◌∷◌, ◌++◌, length, get_or, take, drop, Option, Result, Ok, Err}
+use Rattle.std.proofs.Common.{arith, refl, sym, ap, ◌∙◌, subst, append_assoc, append-nil, add-one, drop-cons, take-append-drop, codes}
 use Rattle.std.proofs.Math.Seq.{take-suc}
 use Rattle.std.proofs.lemmas.List.{take_all, length-take-le}
 use Rattle.std.specs.Io.KnownBytes.{Appends}
@@ -8,7 +9,8 @@ use Rattle.vga_bits.specs.Tracked.{AppendsFront, Writes}
 use Rattle.vga_bits.specs.declared.fault.Fault.{Fault}
 use Rattle.vga_bits.specs.Refusal.{refusal_name}
 use Rattle.vga_bits.specs.declared.refusal.Refusal.{Refusal}
-use Rattle.vga_bits.specs.declared.refusal.Refusal.TheVariants.{NotDecoded, NotInProfile, NoMode, BadFunction, BadMode, WrongKind, BadPage, Outside, CountPast, BadRegister, BadBlock, TooFar, BadHeight}
+use Rattle.vga_bits.specs.declared.refusal.Refusal.TheVariants.{NotDecoded, NotInProfile, NoMode, BadFunction, BadMode, WrongKind, BadPage, Outside, CountPast}
+use Rattle.vga_bits.specs.declared.refusal.Refusal.TheVariants.{BadRegister, BadBlock, TooFar, BadHeight}
 use Rattle.bios_services.specs.declared.reply.Reply.{Reply as ServiceReply}
 use Rattle.vga_script.specs.declared.step.Step.{Step}
 use Rattle.vga_script.specs.declared.step.Step.TheVariants.{Int}
@@ -55,24 +57,29 @@ step_is_written before after failed (Err e) machine n step w = inl w
 
 -- what interrupt 10 answers and leaves
 abbrev pub Answers : Machine → ℕ → ℕ → ℕ → ℕ → List ℕ → Result ServiceReply ServiceError → CardState → BiosData → Type 0
-Answers m ax bx cx dx block result next bios = Serves card_meaning (asked_service m.fonts m.bda (record { ax = ax; bx = bx; cx = cx; dx = dx }) block) m.card m.bda result next bios
+Answers m ax bx cx dx block result next bios = Serves card_meaning (asked_service m.fonts m.bda (record { ax = ax; bx = bx; cx = cx; dx = dx }) block) m.card
+    m.bda result next bios
 
 -- and so is what one answers that writes the line of a service
-pub reply_is_written : (before after : Option (List ℕ)) (failed : Bool) (result : Result Unit Fault) (machine : Machine) (n ax bx cx dx : ℕ) (block : List ℕ) (next : CardState) (bios : BiosData) (reply : ServiceReply)
+pub reply_is_written : (before after : Option (List ℕ)) (failed : Bool) (result : Result Unit Fault) (machine : Machine) (n ax bx cx dx : ℕ) (block : List ℕ)
+    (next : CardState) (bios : BiosData) (reply : ServiceReply)
     → (next, (Ok reply, bios)) ≡ called machine ax bx cx dx block → Writes before after failed result (line n (Served reply.regs (table_bytes reply.table)))
     → WritesStep before after failed result machine n (Int ax bx cx dx block)
 unfolding answer_to
 reply_is_written before after failed result machine n ax bx cx dx block next bios reply is w =
-    step_is_written before after failed result machine n (Int ax bx cx dx block) (subst (λ (c : CardState × Answered). Writes before after failed result (line n (of_service c.1.0))) is w)
+    step_is_written before after failed result machine n (Int ax bx cx dx block) (subst
+    (λ (c : CardState × Answered). Writes before after failed result (line n (of_service c.1.0))) is w)
 
-pub refusal_is_written : (before after : Option (List ℕ)) (failed : Bool) (result : Result Unit Fault) (machine : Machine) (n ax bx cx dx : ℕ) (block : List ℕ) (next : CardState) (bios : BiosData) (error : ServiceError) (why : Refusal)
+pub refusal_is_written : (before after : Option (List ℕ)) (failed : Bool) (result : Result Unit Fault) (machine : Machine) (n ax bx cx dx : ℕ) (block : List ℕ)
+    (next : CardState) (bios : BiosData) (error : ServiceError) (why : Refusal)
     → error ≡ service.Refused why → Answers machine ax bx cx dx block (Err error) next bios → Writes before after failed result (line n (Plain (Refused why)))
     → WritesStep before after failed result machine n (Int ax bx cx dx block)
 unfolding answer_to called
 refusal_is_written before after failed result machine n ax bx cx dx block next bios (service.Refused other) why e is w =
     let same : other ≡ why = cc in
     step_is_written before after failed result machine n (Int ax bx cx dx block)
-    (subst (λ (c : CardState × Answered). Writes before after failed result (line n (of_service c.1.0))) is (subst (λ (r : Refusal). Writes before after failed result (line n (Plain (Refused r)))) (sym same) w))
+    (subst (λ (c : CardState × Answered). Writes before after failed result (line n (of_service c.1.0))) is
+    (subst (λ (r : Refusal). Writes before after failed result (line n (Plain (Refused r)))) (sym same) w))
 refusal_is_written before after failed result machine n ax bx cx dx block next bios service.OutOfMemory why e is w = absurd (cc)
 
 -- ---- some steps and others
@@ -83,7 +90,8 @@ state_joined machine [] others = refl
 state_joined machine (step ∷ steps) others = state_joined (after_step machine step) steps others
 
 -- the report of some steps and others is that of the first, and that of the others from where they lead
-report_joined : (machine : Machine) (n : ℕ) (steps others : List Step) → report_from machine n (steps ++ others) ≡ report_from machine n steps ++ report_from (after_steps machine steps) (n + length steps) others
+report_joined : (machine : Machine) (n : ℕ) (steps others : List Step) → report_from machine n (steps ++ others) ≡ report_from machine n steps
+    ++ report_from (after_steps machine steps) (n + length steps) others
 report_joined machine n [] others = let same : n ≡ n + 0 = omega arith in ap (λ (k : ℕ). report_from machine k others) same
 report_joined machine n (step ∷ steps) others =
     let here = line n (answer_to machine step) in
@@ -94,17 +102,21 @@ report_joined machine n (step ∷ steps) others =
     ∙ ap (λ (k : ℕ). (here ++ report_from later (n + 1) steps) ++ report_from (after_steps later steps) k others) same
 
 -- a front of the lines of some steps is one of those of more
-front_of_steps : (old new : Option (List ℕ)) (machine : Machine) (n : ℕ) (steps others : List Step) → AppendsFront old new (report_from machine n steps) → AppendsFront old new (report_from machine n (steps ++ others))
+front_of_steps : (old new : Option (List ℕ)) (machine : Machine) (n : ℕ) (steps others : List Step) → AppendsFront old new (report_from machine n steps) →
+    AppendsFront old new (report_from machine n (steps ++ others))
 front_of_steps old new machine n steps others a =
-    subst (AppendsFront old new) (sym (report_joined machine n steps others)) (front_of_more old new (report_from machine n steps) (report_from (after_steps machine steps) (n + length steps) others) a)
+    subst (AppendsFront old new) (sym (report_joined machine n steps others)) (front_of_more old new (report_from machine n steps)
+    (report_from (after_steps machine steps) (n + length steps) others) a)
 
 -- a front of what is written behind some bytes is, with these, one of both
-pub front_behind : (old mid new : Option (List ℕ)) (first second : List ℕ) → Appends old mid first → AppendsFront mid new second → AppendsFront old new (first ++ second)
+pub front_behind : (old mid new : Option (List ℕ)) (first second : List ℕ) → Appends old mid first → AppendsFront mid new second →
+    AppendsFront old new (first ++ second)
 front_behind old mid new first second a (front, back, parts, more) =
     (first ++ front, back, ap (λ (l : List ℕ). first ++ l) parts ∙ simp append_assoc, Appends-trans old mid new first front a more)
 
 -- memory that runs out among some steps runs out among more
-stops_in_front : (old new : Option (List ℕ)) (machine : Machine) (n : ℕ) (steps others : List Step) → StopsIn machine n steps old new → StopsIn machine n (steps ++ others) old new
+stops_in_front : (old new : Option (List ℕ)) (machine : Machine) (n : ℕ) (steps others : List Step) → StopsIn machine n steps old new →
+    StopsIn machine n (steps ++ others) old new
 stops_in_front old new machine n steps others (done, step, rest, parts, takes, a) =
     (done, step, rest ++ others, ap (λ (l : List Step). l ++ others) parts ∙ append_assoc done (step ∷ rest) others, takes, a)
 
@@ -118,7 +130,8 @@ stops_behind old mid new machine n steps others a (done, step, rest, parts, take
       rest,
       ap (λ (l : List Step). steps ++ l) parts ∙ sym (append_assoc steps done (step ∷ rest)),
       subst (λ (m : Machine). TakesMemory m step) (sym (state_joined machine steps done)) takes,
-      subst (Appends old new) (sym (report_joined machine n steps done)) (Appends-trans old mid new (report_from machine n steps) (report_from next (n + length steps) done) a more),
+      subst (Appends old new) (sym (report_joined machine n steps done)) (Appends-trans old mid new (report_from machine n steps)
+          (report_from next (n + length steps) done) a more),
     )
 
 -- so what ends the first steps early ends them all
@@ -136,15 +149,23 @@ others_behind old mid new failed (Ok u) machine n steps others a (more, sound) =
     (subst (Appends old new) (sym (report_joined machine n steps others)) (Appends-trans old mid new (report_from machine n steps) rest a more), sound)
 others_behind old mid new failed (Err e) machine n steps others a (inl (is, bad, front)) =
     let rest = report_from (after_steps machine steps) (n + length steps) others in
-    inl (is, bad, subst (AppendsFront old new) (sym (report_joined machine n steps others)) (front_behind old mid new (report_from machine n steps) rest a front))
-others_behind old mid new failed (Err e) machine n steps others a (inr (is, sound, stops)) = inr (is, sound, stops_behind old mid new machine n steps others a stops)
+    inl (
+      is,
+      bad,
+      subst (AppendsFront old new) (sym (report_joined machine n steps others))
+          (front_behind old mid new (report_from machine n steps) rest a front),
+    )
+others_behind old mid new failed (Err e) machine n steps others a (inr (is, sound, stops)) =
+    inr (is, sound, stops_behind old mid new machine n steps others a stops)
 
 pub writes_others : (old mid new : Option (List ℕ)) (failed : Bool) (result : Result Unit Fault) (machine next : Machine) (n k : ℕ) (steps others : List Step)
     → next ≡ after_steps machine steps → k ≡ n + length steps → Appends old mid (report_from machine n steps) → WritesReport mid new failed result next k others
     → WritesReport old new failed result machine n (steps ++ others)
 writes_others old mid new failed result machine next n k steps others state number a w =
-    let from : WritesReport mid new failed result (after_steps machine steps) k others = subst (λ (m : Machine). WritesReport mid new failed result m k others) state w in
-    others_behind old mid new failed result machine n steps others a (subst (λ (j : ℕ). WritesReport mid new failed result (after_steps machine steps) j others) number from)
+    let from : WritesReport mid new failed result (after_steps machine steps) k others =
+    subst (λ (m : Machine). WritesReport mid new failed result m k others) state w in
+    others_behind old mid new failed result machine n steps others a (subst (λ (j : ℕ). WritesReport mid new failed result (after_steps machine steps) j others)
+    number from)
 
 -- ---- one step after another
 
@@ -175,7 +196,8 @@ line_alone start machine first steps i step within state =
     ∙ sym (append-nil (line (first + length (take i steps)) (answer_to (after_steps start (take i steps)) step)))
 
 -- so the lines up to step i and its own are those of the steps up to this one
-lines_to : (start machine : Machine) (first : ℕ) (steps : List Step) (i : ℕ) (d step : Step) → i < length steps → step ≡ get_or steps i d → machine ≡ after_steps start (take i steps)
+lines_to : (start machine : Machine) (first : ℕ) (steps : List Step) (i : ℕ) (d step : Step) → i < length steps → step ≡ get_or steps i d →
+    machine ≡ after_steps start (take i steps)
     → report_from start first (take i steps) ++ line (first + i) (answer_to machine step) ≡ report_from start first (take (i + 1) steps)
 lines_to start machine first steps i d step within is state =
     ap (λ (l : List ℕ). report_from start first (take i steps) ++ l) (line_alone start machine first steps i step within state)
@@ -183,7 +205,8 @@ lines_to start machine first steps i d step within is state =
     ∙ ap (report_from start first) (sym (items_to steps i d step within is))
 
 -- no step yet
-pub reported_none : (old : Option (List ℕ)) (failed : Bool) (start : Machine) (first : ℕ) (steps : List Step) → failed ≡ false → IsValid start.bda → Reported old old failed start start first steps 0
+pub reported_none : (old : Option (List ℕ)) (failed : Bool) (start : Machine) (first : ℕ) (steps : List Step) → failed ≡ false → IsValid start.bda →
+    Reported old old failed start start first steps 0
 reported_none old failed start first steps e v = record { state = refl; appended = Appends-nil old; sound = e; valid = v }
 
 -- one more step
@@ -194,8 +217,10 @@ reported_more old mid new was failed start machine next first steps i n d step h
     let here = line (first + i) (answer_to machine step) in
     let more = subst (λ k. Appends mid new (line k (answer_to machine step))) number a in
     record {
-      state = en ∙ ap (λ (m : Machine). after_step m step) h.state ∙ sym (state_joined start (take i steps) (step ∷ [])) ∙ ap (after_steps start) (sym (items_to steps i d step within is));
-      appended = subst (Appends old new) (lines_to start machine first steps i d step within is h.state) (Appends-trans old mid new (report_from start first (take i steps)) here h.appended more);
+      state = en ∙ ap (λ (m : Machine). after_step m step) h.state ∙ sym (state_joined start (take i steps) (step ∷ []))
+          ∙ ap (after_steps start) (sym (items_to steps i d step within is));
+      appended = subst (Appends old new) (lines_to start machine first steps i d step within is h.state)
+          (Appends-trans old mid new (report_from start first (take i steps)) here h.appended more);
       sound = e;
       valid = v;
     }
@@ -207,8 +232,10 @@ reported_front : (old mid new : Option (List ℕ)) (was : Bool) (start machine :
 reported_front old mid new was start machine first steps i d step h within is a =
     let lines = report_from start first (take i steps) in
     let here = line (first + i) (answer_to machine step) in
-    let front = subst (AppendsFront old new) (lines_to start machine first steps i d step within is h.state) (front_behind old mid new lines here h.appended a) in
-    subst (λ (l : List Step). AppendsFront old new (report_from start first l)) (take-append-drop (i + 1) steps) (front_of_steps old new start first (take (i + 1) steps) (drop (i + 1) steps) front)
+    let front = subst (AppendsFront old new) (lines_to start machine first steps i d step within is h.state)
+    (front_behind old mid new lines here h.appended a) in
+    subst (λ (l : List Step). AppendsFront old new (report_from start first l)) (take-append-drop (i + 1) steps)
+    (front_of_steps old new start first (take (i + 1) steps) (drop (i + 1) steps) front)
 
 -- what ends one more step early ends them all
 err_reported : (old mid new : Option (List ℕ)) (was failed : Bool) (e : Fault) (start machine : Machine) (first : ℕ) (steps : List Step) (i : ℕ) (d step : Step)
@@ -230,15 +257,18 @@ err_reported old mid new was failed e start machine first steps i d step h withi
       ),
     )
 
-pub reported_err : (old mid new : Option (List ℕ)) (was failed : Bool) (e : Fault) (start machine : Machine) (first : ℕ) (steps : List Step) (i n : ℕ) (d step : Step)
+pub reported_err : (old mid new : Option (List ℕ)) (was failed : Bool) (e : Fault) (start machine : Machine) (first : ℕ) (steps : List Step) (i n : ℕ)
+    (d step : Step)
     → Reported old mid was start machine first steps i → n ≡ first + i → i < length steps → step ≡ get_or steps i d
     → WritesStep mid new failed (Err e) machine n step → WritesReport old new failed (Err e) start first steps
 reported_err old mid new was failed e start machine first steps i n d step h number within is w =
-    err_reported old mid new was failed e start machine first steps i d step h within is (subst (λ k. WritesStep mid new failed (Err e) machine k step) number w)
+    err_reported old mid new was failed e start machine first steps i d step h within is
+    (subst (λ k. WritesStep mid new failed (Err e) machine k step) number w)
 
 -- all steps
 pub reported_all : (old new : Option (List ℕ)) (failed : Bool) (start machine : Machine) (first : ℕ) (steps : List Step) (i : ℕ)
-    → Reported old new failed start machine first steps i → length steps ≤ i → Appends old new (report_from start first steps) × (machine ≡ after_steps start steps)
+    → Reported old new failed start machine first steps i → length steps ≤ i → Appends old new (report_from start first steps)
+    × (machine ≡ after_steps start steps)
 reported_all old new failed start machine first steps i h past =
     let all : take i steps ≡ steps = take_all i steps past in
     (subst (λ (l : List Step). Appends old new (report_from start first l)) all h.appended, h.state ∙ ap (after_steps start) all)

@@ -1,5 +1,6 @@
 -- Why the report of services and whole frames is the plain screen's.
-use Rattle.std.proofs.Common.{◌≡◌, ◌≢◌, ◌∙◌, inl, inr, ℕ, zero, suc, ◌+◌, ◌^◌, ◌<◌, ◌==◌, Bool, true, false, List, [], ◌∷◌, ◌++◌, take, drop, Option, Some, None, IfSome, Result, Ok, Err, if◌then◌else◌, arith, refl, sym, ap, subst}
+use Rattle.std.proofs.Common.{◌≡◌, ◌≢◌, ◌∙◌, inl, inr, ℕ, zero, suc, ◌+◌, ◌^◌, ◌<◌, ◌==◌, Bool, true, false, List, [], ◌∷◌, ◌++◌, take, drop, Option, Some}
+use Rattle.std.proofs.Common.{None, IfSome, Result, Ok, Err, if◌then◌else◌, arith, refl, sym, ap, subst}
 use Rattle.std.specs.Prelude.{slice_index}
 use Rattle.std.specs.List.{AllByRecursion}
 use Rattle.std.specs.Io.KnownBytes.{Appends}
@@ -52,7 +53,8 @@ use Rattle.vga_run.specs.Answer.{Served, of_service, of_shape}
 use Rattle.vga_run.specs.Step.{answer_to, after_step, called}
 use Rattle.vga_run.specs.Report.{line, report_from, report_of, steps_until}
 use Rattle.vga_run.specs.Run.{RunAnswers, ReportsSteps, RunsScript}
-use Rattle.vga_run.specs.ScreenReport.{Clears, StaysOnScreens, registers_of, IsOfScreens, AreOfScreens, set_on, called_on, reply_on, screen_after, screen_report_from, set_report, first_report, screen_report, ReportsScreens, RunsScreens}
+use Rattle.vga_run.specs.ScreenReport.{Clears, StaysOnScreens, registers_of, IsOfScreens, AreOfScreens, set_on, called_on, reply_on, screen_after}
+use Rattle.vga_run.specs.ScreenReport.{screen_report_from, set_report, first_report, screen_report, ReportsScreens, RunsScreens}
 
 -- the laws of the crates below
 pub record Laws : Type 0 where
@@ -60,14 +62,16 @@ pub record Laws : Type 0 where
   pub first_data : AreData power_on_data
   pub dots : (n : ℕ) (c : CardState) → IsCard c → IsCard (dots n c)
   pub card : (fonts : FontSet) (d : BiosData) (r : Regs) (block : List ℕ) (c : CardState) → IsCard c → IsCard (run card_meaning (service fonts d r block) c).0
-  pub bda : (fonts : FontSet) (d : BiosData) (r : Regs) (block : List ℕ) (c : CardState) → r.dx < 65536 → AreData d → AreData (run card_meaning (service fonts d r block) c).1.1
+  pub bda : (fonts : FontSet) (d : BiosData) (r : Regs) (block : List ℕ) (c : CardState) → r.dx < 65536 → AreData d →
+      AreData (run card_meaning (service fonts d r block) c).1.1
   pub served : (asked_for : Service) (fonts : FontSet) (r : Regs) (block : List ℕ) (c : CardState) (d : BiosData) (s : Screen)
       → IsCard c → IsBda d → AreWords r → AreBytes block → shown c d ≡ Some s → call_of r ≡ Some (InMode asked_for) → IsCalled asked_for fonts r block c d s
   pub table : (asked_for : TableService) (fonts : FontSet) (r : Regs) (block : List ℕ) (c : CardState) (d : BiosData) (s : Screen)
       → IsCard c → shown c d ≡ Some s → call_of r ≡ Some (ReadTable asked_for) → IsRead asked_for fonts r block c d s
   pub loaded : (load : GlyphLoad) (fonts : FontSet) (r : Regs) (block : List ℕ) (c : CardState) (d : BiosData) (s : Screen)
       → IsCard c → AreBytes block → AreFonts fonts → shown c d ≡ Some s → call_of r ≡ Some (LoadGlyphs load) → IsLoaded load fonts r block c d s
-  pub unknown : (fonts : FontSet) (r : Regs) (block : List ℕ) (c : CardState) (d : BiosData) (s : Screen) → shown c d ≡ Some s → call_of r ≡ None → after_call fonts r block c d ≡ (c, (Err BadFunction, d))
+  pub unknown : (fonts : FontSet) (r : Regs) (block : List ℕ) (c : CardState) (d : BiosData) (s : Screen) → shown c d ≡ Some s → call_of r ≡ None →
+      after_call fonts r block c d ≡ (c, (Err BadFunction, d))
   pub no_mode : (mode : ℕ) (keeps : Bool) (fonts : FontSet) (r : Regs) (block : List ℕ) (c : CardState) (d : BiosData)
       → call_of r ≡ Some (SetMode mode keeps) → mode_row mode ≡ None → after_call fonts r block c d ≡ (c, (Err BadMode, d))
   pub colour : SetsFresh 0x03 colour_text
@@ -90,16 +94,24 @@ same_mode : (mode known : ℕ) → (mode == known) ≡ true → known ≡ mode
 same_mode mode known e = grind (arith, nat_tests)
 
 pub row_of_mode : Laws → (mode : ℕ) → mode_row mode ≢ None → HasRow mode
-row_of_mode law mode there = by_tests (mode == 0x03) (mode == 0x07) (mode == 0x0D) (mode == 0x10) (mode == 0x12) (mode == 0x13) refl refl refl refl refl refl there
+row_of_mode law mode there = by_tests (mode == 0x03) (mode == 0x07) (mode == 0x0D) (mode == 0x10) (mode == 0x12) (mode == 0x13) refl refl refl refl refl refl
+    there
   where
-    by_tests : (a b f g i j : Bool) → (mode == 0x03) ≡ a → (mode == 0x07) ≡ b → (mode == 0x0D) ≡ f → (mode == 0x10) ≡ g → (mode == 0x12) ≡ i → (mode == 0x13) ≡ j
-        → (let x : Option ModeRow = (if a then Some colour_text else if b then Some monochrome_text else if f then Some planes_320_by_200 else if g then Some planes_640_by_350 else if i then Some planes_640_by_480 else if j then Some bytes_320_by_200 else None) in x) ≢ None → HasRow mode
+    by_tests : (a b f g i j : Bool) → (mode == 0x03) ≡ a → (mode == 0x07) ≡ b → (mode == 0x0D) ≡ f → (mode == 0x10) ≡ g → (mode == 0x12) ≡ i →
+        (mode == 0x13) ≡ j
+        → (let x : Option ModeRow = (if a then Some colour_text else if b then Some monochrome_text else if f then Some planes_320_by_200 else if g
+        then Some planes_640_by_350 else if i then Some planes_640_by_480 else if j then Some bytes_320_by_200 else None) in x) ≢ None → HasRow mode
     by_tests true b f g i j ea eb ef eg ei ej some = subst HasRow (same_mode mode 0x03 ea) (record { row = colour_text; is = refl; fresh = law.colour })
-    by_tests false true f g i j ea eb ef eg ei ej some = subst HasRow (same_mode mode 0x07 eb) (record { row = monochrome_text; is = refl; fresh = law.monochrome })
-    by_tests false false true g i j ea eb ef eg ei ej some = subst HasRow (same_mode mode 0x0D ef) (record { row = planes_320_by_200; is = refl; fresh = law.planes_320_by_200 })
-    by_tests false false false true i j ea eb ef eg ei ej some = subst HasRow (same_mode mode 0x10 eg) (record { row = planes_640_by_350; is = refl; fresh = law.planes_640_by_350 })
-    by_tests false false false false true j ea eb ef eg ei ej some = subst HasRow (same_mode mode 0x12 ei) (record { row = planes_640_by_480; is = refl; fresh = law.planes_640_by_480 })
-    by_tests false false false false false true ea eb ef eg ei ej some = subst HasRow (same_mode mode 0x13 ej) (record { row = bytes_320_by_200; is = refl; fresh = law.bytes_320_by_200 })
+    by_tests false true f g i j ea eb ef eg ei ej some = subst HasRow (same_mode mode 0x07 eb)
+        (record { row = monochrome_text; is = refl; fresh = law.monochrome })
+    by_tests false false true g i j ea eb ef eg ei ej some = subst HasRow (same_mode mode 0x0D ef)
+        (record { row = planes_320_by_200; is = refl; fresh = law.planes_320_by_200 })
+    by_tests false false false true i j ea eb ef eg ei ej some = subst HasRow (same_mode mode 0x10 eg)
+        (record { row = planes_640_by_350; is = refl; fresh = law.planes_640_by_350 })
+    by_tests false false false false true j ea eb ef eg ei ej some = subst HasRow (same_mode mode 0x12 ei)
+        (record { row = planes_640_by_480; is = refl; fresh = law.planes_640_by_480 })
+    by_tests false false false false false true ea eb ef eg ei ej some = subst HasRow (same_mode mode 0x13 ej)
+        (record { row = bytes_320_by_200; is = refl; fresh = law.bytes_320_by_200 })
     by_tests false false false false false false ea eb ef eg ei ej some = absurd (some refl)
 
 -- ---- numbers
@@ -127,7 +139,11 @@ pub glyph_bytes : (file : List ℕ) → AreBytes file → AreFonts (fonts_of fil
 unfolding fonts_of
 glyph_bytes file bytes =
     let behind = dropped_bytes (font_len 8) file bytes in
-    record { f8 = taken_bytes (font_len 8) file bytes; f14 = taken_bytes (font_len 14) (drop (font_len 8) file) behind; f16 = dropped_bytes (font_len 14) (drop (font_len 8) file) behind }
+    record {
+      f8 = taken_bytes (font_len 8) file bytes;
+      f14 = taken_bytes (font_len 14) (drop (font_len 8) file) behind;
+      f16 = dropped_bytes (font_len 14) (drop (font_len 8) file) behind;
+    }
 
 -- ---- one step
 
@@ -165,7 +181,8 @@ record CallLeads (x : CardState × Answered) (to : Screen × Result Reply Refusa
   beam : x.0.crtc.beam ≡ c.crtc.beam
 
 -- a call that is refused and does nothing
-refused_leads : (x : CardState × Answered) (why : Refusal) (c : CardState) (d : BiosData) (s : Screen) → x ≡ (c, (Err why, d)) → shown c d ≡ Some s → CallLeads x (s, Err why) c
+refused_leads : (x : CardState × Answered) (why : Refusal) (c : CardState) (d : BiosData) (s : Screen) → x ≡ (c, (Err why, d)) → shown c d ≡ Some s →
+    CallLeads x (s, Err why) c
 refused_leads x why c d s e shows = record {
   reply = ap (λ (y : CardState × Answered). y.1.0) e;
   shows = ap (λ (y : CardState × Answered). shown y.0 y.1.1) e ∙ shows;
@@ -174,7 +191,8 @@ refused_leads x why c d s e shows = record {
 
 -- a mode set that clears the memory
 set_leads : Laws → (mode : ℕ) (keeps : Bool) (fonts : FontSet) (r : Regs) (block : List ℕ) (c : CardState) (d : BiosData) (s : Screen)
-    → Clears (Some (SetMode mode keeps)) → call_of r ≡ Some (SetMode mode keeps) → AreFonts fonts → IsCard c → s.frame ≡ c.crtc.beam.frame → CallLeads (after_call fonts r block c d) (set_on (mode_row mode) mode fonts r s) c
+    → Clears (Some (SetMode mode keeps)) → call_of r ≡ Some (SetMode mode keeps) → AreFonts fonts → IsCard c → s.frame ≡ c.crtc.beam.frame →
+    CallLeads (after_call fonts r block c d) (set_on (mode_row mode) mode fonts r s) c
 set_leads law mode keeps fonts r block c d s (has, clears) e glyphs z number =
     let h = row_of_mode law mode has in
     let f = h.fresh fonts r block c d z glyphs.f16 (e ∙ ap (λ (k : Bool). let call : Option Call = Some (SetMode mode k) in call) clears) in
@@ -185,9 +203,11 @@ set_leads law mode keeps fonts r block c d s (has, clears) e glyphs z number =
     } in
     subst (λ (row : Option ModeRow). CallLeads (after_call fonts r block c d) (set_on row mode fonts r s) c) (sym h.is) fresh
 
-call_leads : Laws → (call : Option Call) (fonts : FontSet) (r : Regs) (block : List ℕ) (m : Machine) (s : Screen) → call_of r ≡ call → StaysOnScreens call → AreWords r → AreBytes block → AreFonts fonts → Stands fonts m s
+call_leads : Laws → (call : Option Call) (fonts : FontSet) (r : Regs) (block : List ℕ) (m : Machine) (s : Screen) → call_of r ≡ call → StaysOnScreens call →
+    AreWords r → AreBytes block → AreFonts fonts → Stands fonts m s
     → CallLeads (after_call fonts r block m.card m.bda) (called_on call fonts r block s) m.card
-call_leads law None fonts r block m s e stays words bytes glyphs is = refused_leads _ BadFunction m.card m.bda s (law.unknown fonts r block m.card m.bda s is.shows e) is.shows
+call_leads law None fonts r block m s e stays words bytes glyphs is = refused_leads _ BadFunction m.card m.bda s
+    (law.unknown fonts r block m.card m.bda s is.shows e) is.shows
 call_leads law (Some (SetMode mode keeps)) fonts r block m s e (inl clears) words bytes glyphs is =
     set_leads law mode keeps fonts r block m.card m.bda s clears e glyphs is.card (frame_shown m.card m.bda s is.shows)
 call_leads law (Some (SetMode mode keeps)) fonts r block m s e (inr none) words bytes glyphs is =
@@ -209,8 +229,10 @@ record StepLeads (fonts : FontSet) (m : Machine) (s : Screen) (step : Step) : Ty
   stands : Stands fonts (after_step m step) (screen_after fonts s step)
 
 -- a call leaves the machine within its bounds
-call_stands : Laws → (fonts : FontSet) (ax bx cx dx : ℕ) (block : List ℕ) (m : Machine) (s : Screen) → dx < 65536 → IsCard m.card → AreData m.bda → m.fonts ≡ fonts → IsFrameStart m.card.crtc.beam
-    → (let x = after_call m.fonts (registers_of ax bx cx dx) block m.card m.bda in shown x.0 x.1.1) ≡ Some s → (after_call m.fonts (registers_of ax bx cx dx) block m.card m.bda).0.crtc.beam ≡ m.card.crtc.beam
+call_stands : Laws → (fonts : FontSet) (ax bx cx dx : ℕ) (block : List ℕ) (m : Machine) (s : Screen) → dx < 65536 → IsCard m.card → AreData m.bda →
+    m.fonts ≡ fonts → IsFrameStart m.card.crtc.beam
+    → (let x = after_call m.fonts (registers_of ax bx cx dx) block m.card m.bda in shown x.0 x.1.1) ≡ Some s →
+    (after_call m.fonts (registers_of ax bx cx dx) block m.card m.bda).0.crtc.beam ≡ m.card.crtc.beam
     → Stands fonts (after_step m (Int ax bx cx dx block)) s
 unfolding after_step called
 call_stands law fonts ax bx cx dx block m s small z a same start shows beam = record {
@@ -222,11 +244,13 @@ call_stands law fonts ax bx cx dx block m s small z a same start shows beam = re
 }
 
 -- and so does a frame
-frame_stands : Laws → (fonts : FontSet) (m : Machine) (s : Screen) → Stands fonts m s → IsFramed m.card m.bda s → Stands fonts (after_step m Frame) (screen_after fonts s Frame)
+frame_stands : Laws → (fonts : FontSet) (m : Machine) (s : Screen) → Stands fonts m s → IsFramed m.card m.bda s →
+    Stands fonts (after_step m Frame) (screen_after fonts s Frame)
 unfolding after_step screen_after
 frame_stands law fonts m s is f = record { card = law.dots (frame_count m.card) m.card is.card; bda = is.bda; same = is.same; shows = f.next; start = f.start }
 
-step_leads : Laws → (fonts : FontSet) (m : Machine) (s : Screen) (step : Step) → AreFonts fonts → IsInRange step → IsOfScreens step → Stands fonts m s → StepLeads fonts m s step
+step_leads : Laws → (fonts : FontSet) (m : Machine) (s : Screen) (step : Step) → AreFonts fonts → IsInRange step → IsOfScreens step → Stands fonts m s →
+    StepLeads fonts m s step
 unfolding answer_to reply_on screen_after called
 step_leads law fonts m s (Int ax bx cx dx block) glyphs (ha, hb, hc, hd, (short, all)) stays is =
     let r = registers_of ax bx cx dx in
@@ -235,28 +259,34 @@ step_leads law fonts m s (Int ax bx cx dx block) glyphs (ha, hb, hc, hd, (short,
     let here = subst (λ (f : FontSet). CallLeads (after_call f r block m.card m.bda) (called_on (call_of r) fonts r block s) m.card) (sym is.same) l in
     record {
       answer = ap of_service here.reply;
-      stands = call_stands law fonts ax bx cx dx block m (called_on (call_of r) fonts r block s).0 words.dx is.card is.bda is.same is.start here.shows here.beam;
+      stands = call_stands law fonts ax bx cx dx block m (called_on (call_of r) fonts r block s).0 words.dx is.card is.bda is.same is.start here.shows
+          here.beam;
     }
 step_leads law fonts m s Frame glyphs range stays is =
     let f = law.framed m.card m.bda s is.card is.shows is.start in record {
-      answer = ap (λ x. of_shape x (bytes_of (frame m.card).drawn)) f.size ∙ ap (λ bytes. of_shape (Some (record { width = picture_width s; height = picture_height s })) bytes) f.colours;
+      answer = ap (λ x. of_shape x (bytes_of (frame m.card).drawn)) f.size ∙ ap (λ bytes.
+          of_shape (Some (record { width = picture_width s; height = picture_height s })) bytes) f.colours;
       stands = frame_stands law fonts m s is f;
     }
 step_leads law fonts m s step glyphs range stays is = absurd stays
 
 -- ---- all steps
 
-reports_from : Laws → (fonts : FontSet) (m : Machine) (s : Screen) (n : ℕ) (steps : List Step) → AreFonts fonts → AreInRange steps → AllByRecursion IsOfScreens steps → Stands fonts m s
+reports_from : Laws → (fonts : FontSet) (m : Machine) (s : Screen) (n : ℕ) (steps : List Step) → AreFonts fonts → AreInRange steps →
+    AllByRecursion IsOfScreens steps → Stands fonts m s
     → report_from m n steps ≡ screen_report_from fonts s n steps
 reports_from law fonts m s n [] glyphs range all is = refl
 reports_from law fonts m s n (step ∷ steps) glyphs range all is =
     let l = step_leads law fonts m s step glyphs range.0 all.0 is in
     ap (λ a. line n a ++ report_from (after_step m step) (n + 1) steps) l.answer
-    ∙ ap (λ (rest : List ℕ). line n (reply_on fonts s step) ++ rest) (reports_from law fonts (after_step m step) (screen_after fonts s step) (n + 1) steps glyphs range.1 all.1 l.stands)
+    ∙ ap (λ (rest : List ℕ). line n (reply_on fonts s step) ++ rest) (reports_from law fonts (after_step m step) (screen_after fonts s step) (n + 1) steps
+    glyphs range.1 all.1 l.stands)
 
 -- a step that is to set a mode does, and the others go on from the fresh screen
-first_reports : Laws → (call : Option Call) (fonts : FontSet) (ax bx cx dx : ℕ) (block : List ℕ) (steps : List Step) → call_of (registers_of ax bx cx dx) ≡ call → Clears call → dx < 65536 → AreFonts fonts
-    → AreInRange steps → AllByRecursion IsOfScreens steps → report_of fonts (Int ax bx cx dx block ∷ steps) ≡ first_report call fonts (registers_of ax bx cx dx) steps
+first_reports : Laws → (call : Option Call) (fonts : FontSet) (ax bx cx dx : ℕ) (block : List ℕ) (steps : List Step) →
+    call_of (registers_of ax bx cx dx) ≡ call → Clears call → dx < 65536 → AreFonts fonts
+    → AreInRange steps → AllByRecursion IsOfScreens steps → report_of fonts (Int ax bx cx dx block ∷ steps)
+    ≡ first_report call fonts (registers_of ax bx cx dx) steps
 unfolding answer_to called
 first_reports law None fonts ax bx cx dx block steps e clears small glyphs range all = absurd clears
 first_reports law (Some (ReadTable asked_for)) fonts ax bx cx dx block steps e clears small glyphs range all = absurd clears
@@ -267,14 +297,17 @@ first_reports law (Some (SetMode mode keeps)) fonts ax bx cx dx block steps e (h
     let m = power_on_machine fonts in
     let step : Step = Int ax bx cx dx block in
     let h = row_of_mode law mode has in
-    let f = h.fresh fonts r block power_on_card power_on_data law.first_card glyphs.f16 (e ∙ ap (λ (k : Bool). let call : Option Call = Some (SetMode mode k) in call) clears) in
+    let f = h.fresh fonts r block power_on_card power_on_data law.first_card glyphs.f16 (e
+    ∙ ap (λ (k : Bool). let call : Option Call = Some (SetMode mode k) in call) clears) in
     let s = fresh_screen mode h.row fonts.f16 0 in
-    let is = call_stands law fonts ax bx cx dx block m s small law.first_card law.first_data refl (record { line = refl; character = refl; dot = refl }) f.shows f.beam in
+    let is = call_stands law fonts ax bx cx dx block m s small law.first_card law.first_data refl (record { line = refl; character = refl; dot = refl }) f.shows
+    f.beam in
     ap (λ a. line 1 (of_service a) ++ report_from (after_step m step) 2 steps) f.answer
     ∙ ap (λ (rest : List ℕ). line 1 (Served r []) ++ rest) (reports_from law fonts (after_step m step) s 2 steps glyphs range all is)
     ∙ sym (ap (λ (row : Option ModeRow). set_report row mode fonts r steps) h.is)
 
-pub reports_screens : Laws → (fonts : FontSet) (steps : List Step) → AreFonts fonts → AreInRange steps → AreOfScreens steps → report_of fonts steps ≡ screen_report fonts steps
+pub reports_screens : Laws → (fonts : FontSet) (steps : List Step) → AreFonts fonts → AreInRange steps → AreOfScreens steps →
+    report_of fonts steps ≡ screen_report fonts steps
 reports_screens law fonts [] glyphs range all = absurd all
 reports_screens law fonts (Int ax bx cx dx block ∷ steps) glyphs ((ha, hb, hc, hd, is_block), range) (clears, all) =
     first_reports law (call_of (registers_of ax bx cx dx)) fonts ax bx cx dx block steps refl clears (omega arith) glyphs range all
@@ -284,14 +317,16 @@ reports_screens law fonts (step ∷ steps) glyphs range all = absurd all
 
 -- the law that this is
 abbrev pub ReportsAlike : Type 0
-ReportsAlike = (fonts : FontSet) (steps : List Step) → AreFonts fonts → AreInRange steps → AreOfScreens steps → report_of fonts steps ≡ screen_report fonts steps
+ReportsAlike = (fonts : FontSet) (steps : List Step) → AreFonts fonts → AreInRange steps → AreOfScreens steps →
+    report_of fonts steps ≡ screen_report fonts steps
 
 -- the law that no bytes mean two lists of steps
 abbrev pub OneList : Type 0
 OneList = (bytes : List ℕ) (first second : List Step) → SpellsExpanded bytes first → SpellsExpanded bytes second → first ≡ second
 
 -- what the run of steps of screens writes is the plain screen's report
-pub steps_of_screens : ReportsAlike → (until : Option ℕ) (fonts : FontSet) (steps : List Step) (before after : Option (List ℕ)) (result : Result Unit Fault) → AreFonts fonts → AreInRange steps
+pub steps_of_screens : ReportsAlike → (until : Option ℕ) (fonts : FontSet) (steps : List Step) (before after : Option (List ℕ)) (result : Result Unit Fault) →
+    AreFonts fonts → AreInRange steps
     → until ≡ None → AreOfScreens steps → ReportsSteps until fonts steps before after result → ReportsScreens fonts steps before after result
 steps_of_screens law until fonts steps before after (Ok u) glyphs range whole of w =
     subst (Appends before after) (ap (λ (n : Option ℕ). report_of fonts (steps_until n steps)) whole ∙ law fonts steps glyphs range of) w
@@ -299,15 +334,19 @@ steps_of_screens law until fonts steps before after (Err WriteFault) glyphs rang
     subst (AppendsFront before after) (ap (λ (n : Option ℕ). report_of fonts (steps_until n steps)) whole ∙ law fonts steps glyphs range of) w
 steps_of_screens law until fonts steps before after (Err _) glyphs range whole of w = tt
 
-pub script_of_screens : ReportsAlike → (until : Option ℕ) (file : List ℕ) (steps : List Step) (before after : Option (List ℕ)) (result : Result Unit Fault) → AreBytes file → AreInRange steps
+pub script_of_screens : ReportsAlike → (until : Option ℕ) (file : List ℕ) (steps : List Step) (before after : Option (List ℕ)) (result : Result Unit Fault) →
+    AreBytes file → AreInRange steps
     → RunsScript until file steps before after result → until ≡ None → AreOfScreens steps → ReportsScreens (fonts_of file) steps before after result
 script_of_screens law until file steps before after (Err FontSize) bytes range w whole of = tt
-script_of_screens law until file steps before after (Ok u) bytes range w whole of = steps_of_screens law until (fonts_of file) steps before after (Ok u) (glyph_bytes file bytes) range whole of w.1
-script_of_screens law until file steps before after (Err WriteFault) bytes range w whole of = steps_of_screens law until (fonts_of file) steps before after (Err WriteFault) (glyph_bytes file bytes) range whole of w.1
+script_of_screens law until file steps before after (Ok u) bytes range w whole of =
+    steps_of_screens law until (fonts_of file) steps before after (Ok u) (glyph_bytes file bytes) range whole of w.1
+script_of_screens law until file steps before after (Err WriteFault) bytes range w whole of =
+    steps_of_screens law until (fonts_of file) steps before after (Err WriteFault) (glyph_bytes file bytes) range whole of w.1
 script_of_screens law until file steps before after (Err _) bytes range w whole of = tt
 
 -- the steps of an input are those that its bytes mean
-pub input_script : OneList → (input : Option (List ℕ)) (bytes read : List ℕ) (steps found : List Step) → input ≡ Some bytes → IfSome input (λ all. all ≡ read) → SpellsExpanded bytes steps → SpellsExpanded read found → found ≡ steps
+pub input_script : OneList → (input : Option (List ℕ)) (bytes read : List ℕ) (steps found : List Step) → input ≡ Some bytes → IfSome input (λ all. all ≡ read) →
+    SpellsExpanded bytes steps → SpellsExpanded read found → found ≡ steps
 input_script law input bytes read steps found e is spelled others =
     let same : bytes ≡ read = subst (λ (i : Option (List ℕ)). IfSome i (λ all. all ≡ read)) e is in
     law read found steps others (subst (λ (l : List ℕ). SpellsExpanded l steps) same spelled)
@@ -316,7 +355,8 @@ input_script law input bytes read steps found e is spelled others =
 abbrev pub StepsFit : Type 0
 StepsFit = (bytes : List ℕ) (steps : List Step) → SpellsExpanded bytes steps → AreInRange steps
 
-pub run_of_screens : ReportsAlike → OneList → StepsFit → (until : Option ℕ) (file : List ℕ) (input before after : Option (List ℕ)) (result : Result Unit Fault) → AreBytes file
+pub run_of_screens : ReportsAlike → OneList → StepsFit → (until : Option ℕ) (file : List ℕ) (input before after : Option (List ℕ))
+    (result : Result Unit Fault) → AreBytes file
     → RunAnswers until file input before after result → RunsScreens until file input before after result
 run_of_screens law one fit until file input before after (Ok u) glyphs (size, (found, (read, is, others), w)) =
     λ bytes steps whole e spelled of.

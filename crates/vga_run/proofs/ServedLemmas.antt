@@ -30,9 +30,11 @@ pub digits_front : (old mid new : Option (List ℕ)) (bytes : List ℕ) (i d byt
 digits_front old mid new bytes i d byte within is a more =
     let rest = digits (drop (i + 1) bytes) in
     let front = subst (AppendsFront old new) (digits_to bytes i d byte within is) (front_behind old mid new (digits (take i bytes)) (hex_byte byte) a more) in
-    let whole : digits (take (i + 1) bytes) ++ rest ≡ digits bytes = sym (flat_map-append hex_byte (take (i + 1) bytes) (drop (i + 1) bytes)) ∙ ap digits (take-append-drop (i + 1) bytes) in
+    let whole : digits (take (i + 1) bytes) ++ rest ≡ digits bytes = sym (flat_map-append hex_byte (take (i + 1) bytes) (drop (i + 1) bytes))
+    ∙ ap digits (take-append-drop (i + 1) bytes) in
     subst (AppendsFront old new) whole (front_of_more old new (digits (take (i + 1) bytes)) rest front)
 
 -- all bytes
-pub digits_all : (old new : Option (List ℕ)) (bytes : List ℕ) (i : ℕ) → length bytes ≤ i → Appends old new (digits (take i bytes)) → Appends old new (digits bytes)
+pub digits_all : (old new : Option (List ℕ)) (bytes : List ℕ) (i : ℕ) → length bytes ≤ i → Appends old new (digits (take i bytes)) →
+    Appends old new (digits bytes)
 digits_all old new bytes i past a = subst (λ (l : List ℕ). Appends old new (digits l)) (take_all i bytes past) a

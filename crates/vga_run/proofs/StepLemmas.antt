@@ -82,19 +82,27 @@ answered_frame None bytes answer is = cc
 answered_frame (Some s) bytes answer is = cc
 
 -- a step whose answer is a refusal
-pub refused_step : RefusedCyclesChangeNothing → RefusedServicesDoNothing → (m : Machine) (step : Step) (refusal : Refusal) → answer_to m step ≡ Plain (Refused refusal) → after_step m step ≡ m
+pub refused_step : RefusedCyclesChangeNothing → RefusedServicesDoNothing → (m : Machine) (step : Step) (refusal : Refusal) →
+    answer_to m step ≡ Plain (Refused refusal) → after_step m step ≡ m
 unfolding answer_to after_step called
 refused_step law services m (Out port v) refusal is = refused_write m (out_cycle m.card port v).0 (out_cycle m.card port v).1 refusal (law.out m.card port v) is
-refused_step law services m (OutWord port v) refusal is = refused_write m (out_word_cycle m.card port v).0 (out_word_cycle m.card port v).1 refusal (law.out_word m.card port v) is
+refused_step law services m (OutWord port v) refusal is = refused_write m (out_word_cycle m.card port v).0 (out_word_cycle m.card port v).1 refusal
+    (law.out_word m.card port v) is
 refused_step law services m (In port) refusal is = refused_byte m (inp_cycle m.card port).0 (inp_cycle m.card port).1 refusal (law.inp m.card port) is
-refused_step law services m (InWord port) refusal is = refused_word m (inp_word_cycle m.card port).0 (inp_word_cycle m.card port).1 refusal (law.inp_word m.card port) is
-refused_step law services m (Put address v) refusal is = refused_write m (put_cycle m.card address v).0 (put_cycle m.card address v).1 refusal (law.put m.card address v) is
-refused_step law services m (PutWord address v) refusal is = refused_write m (put_word_cycle m.card address v).0 (put_word_cycle m.card address v).1 refusal (law.put_word m.card address v) is
-refused_step law services m (Get address) refusal is = refused_byte m (get_cycle m.card address).0 (get_cycle m.card address).1 refusal (law.get m.card address) is
-refused_step law services m (GetWord address) refusal is = refused_word m (get_word_cycle m.card address).0 (get_word_cycle m.card address).1 refusal (law.get_word m.card address) is
+refused_step law services m (InWord port) refusal is = refused_word m (inp_word_cycle m.card port).0 (inp_word_cycle m.card port).1 refusal
+    (law.inp_word m.card port) is
+refused_step law services m (Put address v) refusal is = refused_write m (put_cycle m.card address v).0 (put_cycle m.card address v).1 refusal
+    (law.put m.card address v) is
+refused_step law services m (PutWord address v) refusal is = refused_write m (put_word_cycle m.card address v).0 (put_word_cycle m.card address v).1 refusal
+    (law.put_word m.card address v) is
+refused_step law services m (Get address) refusal is = refused_byte m (get_cycle m.card address).0 (get_cycle m.card address).1 refusal (law.get m.card address)
+    is
+refused_step law services m (GetWord address) refusal is = refused_word m (get_word_cycle m.card address).0 (get_word_cycle m.card address).1 refusal
+    (law.get_word m.card address) is
 refused_step law services m (Int ax bx cx dx block) refusal is =
     let asked : Regs = record { ax = ax; bx = bx; cx = cx; dx = dx } in
     refused_call m (run card_meaning (service m.fonts m.bda asked block) m.card) refusal (services m.fonts m.bda asked block m.card) is
-refused_step law services m (Advance count) refusal is = refused_write m (advance_cycle m.card count).0 (advance_cycle m.card count).1 refusal (refused_advance (nat_le count most_dots) m.card (dots count m.card)) is
+refused_step law services m (Advance count) refusal is = refused_write m (advance_cycle m.card count).0 (advance_cycle m.card count).1 refusal
+    (refused_advance (nat_le count most_dots) m.card (dots count m.card)) is
 refused_step law services m Frame refusal is = absurd (answered_frame (shape (frame m.card).drawn) (bytes_of (frame m.card).drawn) (Refused refusal) is)
 refused_step law services m (Show what) refusal is = refl

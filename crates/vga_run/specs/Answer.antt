@@ -26,8 +26,9 @@ abbrev pub of_word : Result ℕ Refusal → Answer
 of_word (Ok value) = Word value
 of_word (Err refusal) = Refused refusal
 
--- what a step answers: on its own line; or with four registers and the bytes of a table; or with a picture of so many dots in
--- width and height, red, green and blue of each; or that a frame is ragged; or the lines of a dump
+-- what a step answers: on its own line; or with four registers and the bytes of a table; or with a
+-- picture of so many dots in width and height, red, green and blue of each; or that a frame is
+-- ragged; or the lines of a dump
 pub data Reply : Type 0 where
   Plain : Answer → Reply
   Served : Regs → List ℕ → Reply

@@ -1,5 +1,7 @@
--- The report of a script: a line for each step, with its number and its answer, and behind it the picture of a frame.
-use Rattle.std.specs.Prelude.{◌≡◌, ℕ, ◌+◌, ◌==◌, if◌then◌else◌, List, [], ◌∷◌, ◌++◌, length, take, Option, None, Some, codes, decimal}
+-- The report of a script: a line for each step, with its number and its answer, and behind it the
+-- picture of a frame.
+use Rattle.std.specs.Prelude.{◌≡◌, ℕ, ◌+◌, ◌==◌, if◌then◌else◌, List, [], ◌∷◌, ◌++◌, length, take}
+use Rattle.std.specs.Prelude.{Option, None, Some, codes, decimal}
 use Rattle.std.specs.List.{flat_map}
 use Rattle.vga_bits.specs.Refusal.{refusal_name}
 use Rattle.vga_bits.specs.declared.refusal.Refusal.{Refusal}
@@ -19,13 +21,16 @@ use Rattle.vga_run.specs.Step.{answer_to, after_step}
 
 -- the text of four registers
 unfoldable pub registers_text : Regs → List ℕ
-registers_text r = codes "ax=" ++ (hex_word r.ax ++ (codes " bx=" ++ (hex_word r.bx ++ (codes " cx=" ++ (hex_word r.cx ++ (codes " dx=" ++ hex_word r.dx))))))
+registers_text r = codes "ax=" ++ (hex_word r.ax ++ (codes " bx="
+    ++ (hex_word r.bx ++ (codes " cx=" ++ (hex_word r.cx ++ (codes " dx=" ++ hex_word r.dx))))))
 
--- the text of a table behind four registers: the word block, and two digits for each byte; an empty one has none
+-- the text of a table behind four registers: the word block, and two digits for each byte; an empty
+-- one has none
 abbrev pub table_text : List ℕ → List ℕ
 table_text table = if length table == 0 then [] else codes " block " ++ flat_map hex_byte table
 
--- the text of an answer: `ok`, the two digits of a byte, the four of a word, or the name of the refusal
+-- the text of an answer: `ok`, the two digits of a byte, the four of a word, or the name of the
+-- refusal
 abbrev pub answer_text : Answer → List ℕ
 answer_text Done = codes "ok"
 answer_text (Byte value) = hex_byte value
@@ -45,18 +50,21 @@ pub record HasNumber (text : List ℕ) (front n : ℕ) : Type 0 where
 unfoldable pub picture_line : ℕ → ℕ → List ℕ
 picture_line n len = decimal n ++ (codes " picture " ++ (decimal len ++ codes "\n"))
 
--- the line of step n: its number in decimal, a blank, what it answers, and a newline; a picture stands behind the line that
--- tells how many bytes it has, with a newline of its own, and a dump has its own lines
+-- the line of step n: its number in decimal, a blank, what it answers, and a newline; a picture
+-- stands behind the line that tells how many bytes it has, with a newline of its own, and a dump
+-- has its own lines
 unfoldable pub line : ℕ → Reply → List ℕ
 line n (Plain answer) = decimal n ++ (codes " " ++ (answer_text answer ++ codes "\n"))
-line n (Served regs table) = (number_text n ++ registers_text regs) ++ (table_text table ++ codes "\n")
+line n (Served regs table) = (number_text n ++ registers_text regs)
+    ++ (table_text table ++ codes "\n")
 line n (Picture width height bytes) =
     let picture = ppm width height bytes in
     picture_line n (length picture) ++ (picture ++ codes "\n")
 line n Ragged = decimal n ++ codes " ragged\n"
 line n (Dump text) = number_text n ++ text
 
--- what stands behind the number of a step that shows something: the dump, or the name of the refusal
+-- what stands behind the number of a step that shows something: the dump, or the name of the
+-- refusal
 abbrev pub dump_or_refusal : Option Refusal → List ℕ → List ℕ
 dump_or_refusal None text = text
 dump_or_refusal (Some why) text = refusal_name why ++ codes "\n"
@@ -64,13 +72,15 @@ dump_or_refusal (Some why) text = refusal_name why ++ codes "\n"
 -- the lines of the steps from this machine on, of which the first has the number n
 abbrev pub report_from : Machine → ℕ → List Step → List ℕ
 report_from m n [] = []
-report_from m n (step ∷ steps) = line n (answer_to m step) ++ report_from (after_step m step) (n + 1) steps
+report_from m n (step ∷ steps) = line n (answer_to m step)
+    ++ report_from (after_step m step) (n + 1) steps
 
 -- what is shown where a run is stopped: the registers, the beam, the latches and the BIOS data
 abbrev pub last_dumps : List Step
 last_dumps = Show shown.Registers ∷ Show shown.Beam ∷ Show shown.Latches ∷ Show shown.BiosData ∷ []
 
--- the steps of a run: all of a script, or so many of the first, all if there are fewer, and then the last dumps
+-- the steps of a run: all of a script, or so many of the first, all if there are fewer, and then
+-- the last dumps
 abbrev pub steps_until : Option ℕ → List Step → List Step
 steps_until None steps = steps
 steps_until (Some most) steps = take most steps ++ last_dumps

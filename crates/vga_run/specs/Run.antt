@@ -1,9 +1,11 @@
 -- What a run answers.
-use Rattle.std.specs.Prelude.{ℕ, ⊤, ◌⊎◌, ◌≡◌, ◌≢◌, ◌≤◌, Bool, true, false, List, ◌∷◌, ◌++◌, length, Option, Some, IsOkUnless, Result, Ok, Err}
+use Rattle.std.specs.Prelude.{ℕ, ⊤, ◌⊎◌, ◌≡◌, ◌≢◌, ◌≤◌, Bool, true, false, List, ◌∷◌, ◌++◌, length}
+use Rattle.std.specs.Prelude.{Option, Some, IsOkUnless, Result, Ok, Err}
 use Rattle.std.specs.Io.KnownBytes.{Appends}
 use Rattle.vga_bits.specs.Tracked.{AppendsFront}
 use Rattle.vga_bits.specs.declared.fault.Fault.{Fault}
-use Rattle.vga_bits.specs.declared.fault.Fault.TheVariants.{FontSize, TooLong, ReadFault, WriteFault, OutOfMemory}
+use Rattle.vga_bits.specs.declared.fault.Fault.TheVariants.{FontSize, TooLong, ReadFault}
+use Rattle.vga_bits.specs.declared.fault.Fault.TheVariants.{WriteFault, OutOfMemory}
 use Rattle.bios_modes.specs.Fonts.{FontSet, file_len, fonts_of}
 use Rattle.vga_script.specs.declared.step.Step.{Step}
 use Rattle.vga_script.specs.Spelling.{script_limit}
@@ -14,54 +16,75 @@ use Rattle.vga_run.specs.Machine.{power_on_machine}
 use Rattle.vga_run.specs.Step.{TakesMemory, answer_to, after_steps}
 use Rattle.vga_run.specs.Report.{line, report_from, report_of, steps_until}
 
--- What taking step n on this machine answers, over a writer that holds what is before and after, and may have failed: its line
--- is written; or a front of it where the writer failed; or there was no memory, and nothing is written.
-abbrev pub WritesStep : Option (List ℕ) → Option (List ℕ) → Bool → Result Unit Fault → Machine → ℕ → Step → Type 0
-WritesStep before after failed (Ok u) m n step = Appends before after (line n (answer_to m step)) × (failed ≡ false)
+-- What taking step n on this machine answers, over a writer that holds what is before and after,
+-- and may have failed: its line is written; or a front of it where the writer failed; or there was
+-- no memory, and nothing is written.
+abbrev pub WritesStep : Option (List ℕ) → Option (List ℕ) → Bool → Result Unit Fault → Machine → ℕ →
+    Step → Type 0
+WritesStep before after failed (Ok u) m n step = Appends before after (line n (answer_to m step))
+    × (failed ≡ false)
 WritesStep before after failed (Err e) m n step =
     ((e ≡ WriteFault) × (failed ≡ true) × AppendsFront before after (line n (answer_to m step)))
     ⊎ ((e ≡ OutOfMemory) × (failed ≡ false) × TakesMemory m step × (after ≡ before))
 
--- Where memory runs out while these steps are taken from this machine on, of which the first has the number n: in a step that
--- takes some. The answers of the steps before it are written, whole.
+-- Where memory runs out while these steps are taken from this machine on, of which the first has
+-- the number n: in a step that takes some. The answers of the steps before it are written, whole.
 abbrev pub StopsIn : Machine → ℕ → List Step → Option (List ℕ) → Option (List ℕ) → Type 0
 StopsIn m n steps before after =
     (done : List Step) × (step : Step) × (others : List Step) × (steps ≡ done ++ step ∷ others)
     × TakesMemory (after_steps m done) step × Appends before after (report_from m n done)
 
--- What taking these steps answers: their report is written; or a front of it where the writer failed; or memory ran out.
-abbrev pub WritesReport : Option (List ℕ) → Option (List ℕ) → Bool → Result Unit Fault → Machine → ℕ → List Step → Type 0
-WritesReport before after failed (Ok u) m n steps = Appends before after (report_from m n steps) × (failed ≡ false)
+-- What taking these steps answers: their report is written; or a front of it where the writer
+-- failed; or memory ran out.
+abbrev pub WritesReport : Option (List ℕ) → Option (List ℕ) → Bool → Result Unit Fault → Machine →
+    ℕ → List Step → Type 0
+WritesReport before after failed (Ok u) m n steps = Appends before after (report_from m n steps)
+    × (failed ≡ false)
 WritesReport before after failed (Err e) m n steps =
     ((e ≡ WriteFault) × (failed ≡ true) × AppendsFront before after (report_from m n steps))
     ⊎ ((e ≡ OutOfMemory) × (failed ≡ false) × StopsIn m n steps before after)
 
--- where memory runs out in the run of some steps from power-on, or in that of the script that an input spells
+-- where memory runs out in the run of some steps from power-on, or in that of the script that an
+-- input spells
 abbrev pub StopsSteps : Option ℕ → FontSet → List Step → Option (List ℕ) → Option (List ℕ) → Type 0
-StopsSteps until fonts steps before after = StopsIn (power_on_machine fonts) 1 (steps_until until steps) before after
+StopsSteps until fonts steps before after = StopsIn (power_on_machine fonts) 1
+    (steps_until until steps) before after
 
-abbrev pub StopsRun : Option ℕ → FontSet → Option (List ℕ) → Option (List ℕ) → Option (List ℕ) → Type 0
-StopsRun until fonts input before after = (steps : List Step) × InputMeans input steps × StopsSteps until fonts steps before after
+abbrev pub StopsRun : Option ℕ → FontSet → Option (List ℕ) → Option (List ℕ) → Option (List ℕ) →
+    Type 0
+StopsRun until fonts input before after = (steps : List Step) × InputMeans input steps
+    × StopsSteps until fonts steps before after
 
--- What the run of these steps over some fonts answers that is stopped after so many, or not, over a writer that holds what is
--- before and after: it has written their report, or a front of it where the writer fails; or memory ran out.
-abbrev pub ReportsSteps : Option ℕ → FontSet → List Step → Option (List ℕ) → Option (List ℕ) → Result Unit Fault → Type 0
-ReportsSteps until fonts steps before after (Ok u) = Appends before after (report_of fonts (steps_until until steps))
-ReportsSteps until fonts steps before after (Err WriteFault) = AppendsFront before after (report_of fonts (steps_until until steps))
+-- What the run of these steps over some fonts answers that is stopped after so many, or not, over a
+-- writer that holds what is before and after: it has written their report, or a front of it where
+-- the writer fails; or memory ran out.
+abbrev pub ReportsSteps : Option ℕ → FontSet → List Step → Option (List ℕ) → Option (List ℕ) →
+    Result Unit Fault → Type 0
+ReportsSteps until fonts steps before after (Ok u) =
+    Appends before after (report_of fonts (steps_until until steps))
+ReportsSteps until fonts steps before after (Err WriteFault) =
+    AppendsFront before after (report_of fonts (steps_until until steps))
 ReportsSteps until fonts steps before after (Err OutOfMemory) = ⊤
 ReportsSteps until fonts steps before after (Err _) = ⊥
 
--- What the run of these steps over a font file answers: what one over its fonts does, or that it is none.
-abbrev pub RunsScript : Option ℕ → List ℕ → List Step → Option (List ℕ) → Option (List ℕ) → Result Unit Fault → Type 0
+-- What the run of these steps over a font file answers: what one over its fonts does, or that it is
+-- none.
+abbrev pub RunsScript : Option ℕ → List ℕ → List Step → Option (List ℕ) → Option (List ℕ) →
+    Result Unit Fault → Type 0
 RunsScript until file steps before after (Err FontSize) = length file ≢ file_len
-RunsScript until file steps before after result = (length file ≡ file_len) × ReportsSteps until (fonts_of file) steps before after result
+RunsScript until file steps before after result = (length file ≡ file_len)
+    × ReportsSteps until (fonts_of file) steps before after result
 
--- What a run over some fonts answers that is stopped after so many steps, or not, over a reader that has this input, and a
--- writer that holds what is before and after: it has written the report of the input's script, or a front of it where the
--- writer fails; or there is a fault of the input, the first in order.
-abbrev pub Reports : Option ℕ → FontSet → Option (List ℕ) → Option (List ℕ) → Option (List ℕ) → Result Unit Fault → Type 0
-Reports until fonts input before after (Ok u) = (steps : List Step) × InputMeans input steps × Appends before after (report_of fonts (steps_until until steps))
-Reports until fonts input before after (Err WriteFault) = (steps : List Step) × InputMeans input steps × AppendsFront before after (report_of fonts (steps_until until steps))
+-- What a run over some fonts answers that is stopped after so many steps, or not, over a reader
+-- that has this input, and a writer that holds what is before and after: it has written the report
+-- of the input's script, or a front of it where the writer fails; or there is a fault of the input,
+-- the first in order.
+abbrev pub Reports : Option ℕ → FontSet → Option (List ℕ) → Option (List ℕ) → Option (List ℕ) →
+    Result Unit Fault → Type 0
+Reports until fonts input before after (Ok u) = (steps : List Step) × InputMeans input steps
+    × Appends before after (report_of fonts (steps_until until steps))
+Reports until fonts input before after (Err WriteFault) = (steps : List Step)
+    × InputMeans input steps × AppendsFront before after (report_of fonts (steps_until until steps))
 Reports until fonts input before after (Err FontSize) = ⊥
 Reports until fonts input before after (Err ReadFault) = ⊤
 Reports until fonts input before after (Err TooLong) = IsTooLong input
@@ -69,13 +92,16 @@ Reports until fonts input before after (Err OutOfMemory) = ⊤
 Reports until fonts input before after (Err fault) = InputHasFault input fault
 
 -- What a run over a font file answers: what one over its fonts does, or that it is none.
-abbrev pub RunAnswers : Option ℕ → List ℕ → Option (List ℕ) → Option (List ℕ) → Option (List ℕ) → Result Unit Fault → Type 0
+abbrev pub RunAnswers : Option ℕ → List ℕ → Option (List ℕ) → Option (List ℕ) → Option (List ℕ) →
+    Result Unit Fault → Type 0
 RunAnswers until file input before after (Err FontSize) = length file ≢ file_len
-RunAnswers until file input before after result = (length file ≡ file_len) × Reports until (fonts_of file) input before after result
+RunAnswers until file input before after result = (length file ≡ file_len)
+    × Reports until (fonts_of file) input before after result
 
--- Over fonts of the right size, bytes that spell a script are run, unless memory runs out or the reader or the writer
--- fails.
+-- Over fonts of the right size, bytes that spell a script are run, unless memory runs out or the
+-- reader or the writer fails.
 abbrev pub RunsGoodScripts : List ℕ → Option (List ℕ) → Bool → Bool → Result Unit Fault → Type 0
 RunsGoodScripts file input read_failed write_failed result =
-    (bytes : List ℕ) (steps : List Step) → length file ≡ file_len → input ≡ Some bytes → length bytes ≤ script_limit → SpellsExpanded bytes steps
+    (bytes : List ℕ) (steps : List Step) → length file ≡ file_len → input ≡ Some bytes →
+    length bytes ≤ script_limit → SpellsExpanded bytes steps
     → read_failed ≡ false → write_failed ≡ false → IsOkUnless result OutOfMemory

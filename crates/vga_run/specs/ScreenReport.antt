@@ -1,6 +1,8 @@
--- The report of services and whole frames in words of the plain screen alone, with no register, address or cycle.
+-- The report of services and whole frames in words of the plain screen alone, with no register,
+-- address or cycle.
 -- From the IBM PS/2 and PC BIOS Interface Technical Reference, "Interrupt 10H - Video".
-use Rattle.std.specs.Prelude.{ℕ, ◌≡◌, ◌≢◌, ◌+◌, ◌⊎◌, false, List, [], ◌∷◌, ◌++◌, length, Option, None, Some, Result, Ok, Err}
+use Rattle.std.specs.Prelude.{ℕ, ◌≡◌, ◌≢◌, ◌+◌, ◌⊎◌, false, List, [], ◌∷◌, ◌++◌, length, Option}
+use Rattle.std.specs.Prelude.{None, Some, Result, Ok, Err}
 use Rattle.std.specs.List.{AllByRecursion}
 use Rattle.std.specs.Io.KnownBytes.{Appends}
 use Rattle.vga_bits.specs.Tracked.{AppendsFront}
@@ -15,7 +17,8 @@ use Rattle.bios_services.specs.declared.regs.Regs.{Regs}
 use Rattle.bios_services.specs.declared.reply.Reply.{Reply as ServiceReply}
 use Rattle.bios_services.specs.declared.reply.Table.TheVariants.{Empty}
 use Rattle.bios_services.specs.declared.call.Call.{Call}
-use Rattle.bios_services.specs.declared.call.Call.TheVariants.{SetMode, ReadTable, LoadGlyphs, InMode}
+use Rattle.bios_services.specs.declared.call.Call.TheVariants.{SetMode, ReadTable, LoadGlyphs}
+use Rattle.bios_services.specs.declared.call.Call.TheVariants.{InMode}
 use Rattle.bios_services.specs.Calls.{call_of}
 use Rattle.bios_services.specs.Tables.{table_refusal}
 use Rattle.bios_screen.specs.Screen.{Screen}
@@ -41,7 +44,8 @@ Clears call = ⊥
 
 -- a call that leads from screen to screen: it sets no mode, or clears, or there is no such mode
 abbrev pub StaysOnScreens : Option Call → Type 0
-StaysOnScreens (Some (SetMode mode keeps)) = Clears (Some (SetMode mode keeps)) ⊎ (mode_row mode ≡ None)
+StaysOnScreens (Some (SetMode mode keeps)) = Clears (Some (SetMode mode keeps))
+    ⊎ (mode_row mode ≡ None)
 StaysOnScreens call = Unit {0}
 
 -- the registers of a call
@@ -56,35 +60,49 @@ IsOfScreens step = ⊥
 
 -- such steps alone, of which the first is a mode set that clears the memory
 abbrev pub AreOfScreens : List Step → Type 0
-AreOfScreens (Int ax bx cx dx block ∷ steps) = Clears (call_of (registers_of ax bx cx dx)) × AllByRecursion IsOfScreens steps
+AreOfScreens (Int ax bx cx dx block ∷ steps) = Clears (call_of (registers_of ax bx cx dx))
+    × AllByRecursion IsOfScreens steps
 AreOfScreens steps = ⊥
 
 -- ---- what a step answers, and the screen after it
 
 -- a mode set that clears the memory: the fresh screen, or the old one where there is no such mode
-abbrev pub set_on : Option ModeRow → ℕ → FontSet → Regs → Screen → Screen × Result ServiceReply Refusal
+abbrev pub set_on : Option ModeRow → ℕ → FontSet → Regs → Screen → Screen
+    × Result ServiceReply Refusal
 set_on None mode fonts r s = (s, Err BadMode)
-set_on (Some row) mode fonts r s = (fresh_screen mode row fonts.f16 s.frame, Ok (record { regs = r; table = Empty }))
+set_on (Some row) mode fonts r s = (
+  fresh_screen mode row fonts.f16 s.frame,
+  Ok (record { regs = r; table = Empty }),
+)
 
 -- a call
-abbrev pub called_on : Option Call → FontSet → Regs → List ℕ → Screen → Screen × Result ServiceReply Refusal
+abbrev pub called_on : Option Call → FontSet → Regs → List ℕ → Screen → Screen
+    × Result ServiceReply Refusal
 called_on None fonts r block s = (s, Err BadFunction)
 called_on (Some (SetMode mode keeps)) fonts r block s = set_on (mode_row mode) mode fonts r s
-called_on (Some (ReadTable service)) fonts r block s = (s, table_unless (table_refusal service) (table_answer s service) r)
+called_on (Some (ReadTable service)) fonts r block s =
+    (s, table_unless (table_refusal service) (table_answer s service) r)
 called_on (Some (LoadGlyphs load)) fonts r block s =
-    let why = load_refusal_on s load (length block) in (screen_unless why s (load_glyphs fonts s load block), reply_unless why r)
+    let why = load_refusal_on s load (length block) in
+    (screen_unless why s (load_glyphs fonts s load block), reply_unless why r)
 called_on (Some (InMode service)) fonts r block s =
-    let why = refusal_on s service (length block) in (screen_unless why s (next fonts s service block), reply_unless why (answer_on fonts s service r))
+    let why = refusal_on s service (length block) in (
+      screen_unless why s (next fonts s service block),
+      reply_unless why (answer_on fonts s service r),
+    )
 
 -- what a call answers; a frame answers the picture of the active page. No other step is of screens.
 unfoldable pub reply_on : FontSet → Screen → Step → Reply
-reply_on fonts s (Int ax bx cx dx block) = let r = registers_of ax bx cx dx in of_service (called_on (call_of r) fonts r block s).1
-reply_on fonts s Frame = Picture (picture_width s) (picture_height s) (picture_bytes (picture_width s) (picture_height s) (dot_at s s.page))
+reply_on fonts s (Int ax bx cx dx block) = let r = registers_of ax bx cx dx in
+    of_service (called_on (call_of r) fonts r block s).1
+reply_on fonts s Frame = Picture (picture_width s) (picture_height s)
+    (picture_bytes (picture_width s) (picture_height s) (dot_at s s.page))
 reply_on fonts s step = Ragged
 
 -- the screen after a step
 unfoldable pub screen_after : FontSet → Screen → Step → Screen
-screen_after fonts s (Int ax bx cx dx block) = let r = registers_of ax bx cx dx in (called_on (call_of r) fonts r block s).0
+screen_after fonts s (Int ax bx cx dx block) = let r = registers_of ax bx cx dx in
+    (called_on (call_of r) fonts r block s).0
 screen_after fonts s Frame = next_frame s
 screen_after fonts s step = s
 
@@ -93,32 +111,43 @@ screen_after fonts s step = s
 -- the lines of the steps from this screen on, of which the first has the number n
 abbrev pub screen_report_from : FontSet → Screen → ℕ → List Step → List ℕ
 screen_report_from fonts s n [] = []
-screen_report_from fonts s n (step ∷ steps) = line n (reply_on fonts s step) ++ screen_report_from fonts (screen_after fonts s step) (n + 1) steps
+screen_report_from fonts s n (step ∷ steps) = line n (reply_on fonts s step)
+    ++ screen_report_from fonts (screen_after fonts s step) (n + 1) steps
 
--- the line of the first step, which sets a mode, and those of the others from the fresh screen on, in frame 0
+-- the line of the first step, which sets a mode, and those of the others from the fresh screen on,
+-- in frame 0
 abbrev pub set_report : Option ModeRow → ℕ → FontSet → Regs → List Step → List ℕ
 set_report None mode fonts r steps = []
-set_report (Some row) mode fonts r steps = line 1 (Served r []) ++ screen_report_from fonts (fresh_screen mode row fonts.f16 0) 2 steps
+set_report (Some row) mode fonts r steps = line 1 (Served r [])
+    ++ screen_report_from fonts (fresh_screen mode row fonts.f16 0) 2 steps
 
 abbrev pub first_report : Option Call → FontSet → Regs → List Step → List ℕ
-first_report (Some (SetMode mode keeps)) fonts r steps = set_report (mode_row mode) mode fonts r steps
+first_report (Some (SetMode mode keeps)) fonts r steps =
+    set_report (mode_row mode) mode fonts r steps
 first_report call fonts r steps = []
 
 -- the report of steps of screens, of which the first sets a mode
 abbrev pub screen_report : FontSet → List Step → List ℕ
-screen_report fonts (Int ax bx cx dx block ∷ steps) = let r = registers_of ax bx cx dx in first_report (call_of r) fonts r steps
+screen_report fonts (Int ax bx cx dx block ∷ steps) = let r = registers_of ax bx cx dx in
+    first_report (call_of r) fonts r steps
 screen_report fonts steps = []
 
 -- ---- a run
 
--- What the run of steps of screens answers over some fonts, over a writer that holds what is before and after: it has written the
--- plain screen's report, or a front of it where the writer fails.
-abbrev pub ReportsScreens : FontSet → List Step → Option (List ℕ) → Option (List ℕ) → Result Unit Fault → Type 0
+-- What the run of steps of screens answers over some fonts, over a writer that holds what is before
+-- and after: it has written the plain screen's report, or a front of it where the writer fails.
+abbrev pub ReportsScreens : FontSet → List Step → Option (List ℕ) → Option (List ℕ) →
+    Result Unit Fault → Type 0
 ReportsScreens fonts steps before after (Ok u) = Appends before after (screen_report fonts steps)
-ReportsScreens fonts steps before after (Err WriteFault) = AppendsFront before after (screen_report fonts steps)
+ReportsScreens fonts steps before after (Err WriteFault) =
+    AppendsFront before after (screen_report fonts steps)
 ReportsScreens fonts steps before after (Err _) = Unit {0}
 
--- What a run over a font file answers that is not stopped: that, where its input spells steps of screens.
-abbrev pub RunsScreens : Option ℕ → List ℕ → Option (List ℕ) → Option (List ℕ) → Option (List ℕ) → Result Unit Fault → Type 0
+-- What a run over a font file answers that is not stopped: that, where its input spells steps of
+-- screens.
+abbrev pub RunsScreens : Option ℕ → List ℕ → Option (List ℕ) → Option (List ℕ) → Option (List ℕ) →
+    Result Unit Fault → Type 0
 RunsScreens until file input before after result =
-    (bytes : List ℕ) (steps : List Step) → until ≡ None → input ≡ Some bytes → SpellsExpanded bytes steps → AreOfScreens steps → ReportsScreens (fonts_of file) steps before after result
+    (bytes : List ℕ) (steps : List Step) → until ≡ None → input ≡ Some bytes →
+    SpellsExpanded bytes steps → AreOfScreens steps →
+    ReportsScreens (fonts_of file) steps before after result

@@ -1,6 +1,7 @@
--- What each step of a script answers, and what it leaves: a cycle of the adapter, some dots, a frame, a service of the video
--- BIOS, or a dump of the machine.
-use Rattle.std.specs.Prelude.{ℕ, ◌≡◌, true, List, [], ◌∷◌, nat_le, if◌then◌else◌, Option, None, Ok, Err}
+-- What each step of a script answers, and what it leaves: a cycle of the adapter, some dots, a
+-- frame, a service of the video BIOS, or a dump of the machine.
+use Rattle.std.specs.Prelude.{ℕ, ◌≡◌, true, List, [], ◌∷◌, nat_le, if◌then◌else◌, Option, None, Ok}
+use Rattle.std.specs.Prelude.{Err}
 use Rattle.vga_bits.specs.declared.refusal.Refusal.{Refusal}
 use Rattle.vga_bits.specs.declared.refusal.Refusal.TheVariants.{TooFar}
 use Rattle.vga_card.specs.Card.{CardState}
@@ -22,9 +23,11 @@ use Rattle.vga_show.specs.Cells.{cells_refusal, cells_text}
 use Rattle.vga_script.specs.declared.dump_range.Shown.{Shown}
 use Rattle.vga_script.specs.declared.dump_range.Shown.TheVariants as shown
 use Rattle.vga_script.specs.declared.step.Step.{Step}
-use Rattle.vga_script.specs.declared.step.Step.TheVariants.{Out, OutWord, In, InWord, Put, PutWord, Get, GetWord, Int, Advance, Frame, Show}
+use Rattle.vga_script.specs.declared.step.Step.TheVariants.{Out, OutWord, In, InWord, Put, PutWord}
+use Rattle.vga_script.specs.declared.step.Step.TheVariants.{Get, GetWord, Int, Advance, Frame, Show}
 use Rattle.vga_run.specs.declared.machine.Machine.{Machine}
-use Rattle.vga_run.specs.Answer.{Reply, Plain, of_write, of_byte, of_word, of_service, of_frame, of_dump}
+use Rattle.vga_run.specs.Answer.{Reply, Plain, of_write, of_byte, of_word, of_service, of_frame}
+use Rattle.vga_run.specs.Answer.{of_dump}
 
 -- the dump of what a step shows
 unfoldable pub dump_text : Machine → Shown → List ℕ
@@ -41,17 +44,21 @@ unfoldable pub dump_refusal : Machine → Shown → Option Refusal
 dump_refusal m shown.Cells = cells_refusal m.bda.mode
 dump_refusal m what = None
 
--- a call of interrupt 10: its cycles over the adapter, what it answers, and the BIOS data afterwards
+-- a call of interrupt 10: its cycles over the adapter, what it answers, and the BIOS data
+-- afterwards
 unfoldable pub called : Machine → ℕ → ℕ → ℕ → ℕ → List ℕ → CardState × Answered
-called m ax bx cx dx block = run card_meaning (service m.fonts m.bda (record { ax = ax; bx = bx; cx = cx; dx = dx }) block) m.card
+called m ax bx cx dx block = run card_meaning (service m.fonts m.bda
+    (record { ax = ax; bx = bx; cx = cx; dx = dx }) block) m.card
 
 -- so many dots of the clock, or none where they are more than one step may take
 abbrev pub advance_cycle : CardState → ℕ → Written
-advance_cycle card count = if nat_le count most_dots then (dots count card, Ok tt) else (card, Err TooFar)
+advance_cycle card count = if nat_le count most_dots then (dots count card, Ok tt)
+    else (card, Err TooFar)
 
 -- a step that takes memory on this machine: a call of interrupt 10 that does
 abbrev pub TakesMemory : Machine → Step → Type 0
-TakesMemory m (Int ax bx cx dx block) = takes_memory (call_of (record { ax = ax; bx = bx; cx = cx; dx = dx })) m.bda ≡ true
+TakesMemory m (Int ax bx cx dx block) = takes_memory
+    (call_of (record { ax = ax; bx = bx; cx = cx; dx = dx })) m.bda ≡ true
 TakesMemory m _ = ⊥
 
 -- what a step answers
@@ -79,7 +86,8 @@ after_step m (Put address value) = record m { card = (put_cycle m.card address v
 after_step m (PutWord address value) = record m { card = (put_word_cycle m.card address value).0 }
 after_step m (Get address) = record m { card = (get_cycle m.card address).0 }
 after_step m (GetWord address) = record m { card = (get_word_cycle m.card address).0 }
-after_step m (Int ax bx cx dx block) = let after = called m ax bx cx dx block in record m { card = after.0; bda = after.1.1 }
+after_step m (Int ax bx cx dx block) = let after = called m ax bx cx dx block in
+    record m { card = after.0; bda = after.1.1 }
 after_step m (Advance count) = record m { card = (advance_cycle m.card count).0 }
 after_step m Frame = record m { card = frame m.card }
 after_step m (Show what) = m

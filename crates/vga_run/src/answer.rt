@@ -17,7 +17,8 @@ pub enum Answer {
 }
 
 impl Answer {
-    ghost use Rattle.vga_run.specs.Answer.{of_write as of_write_of, of_byte as of_byte_of, of_word as of_word_of};
+    ghost use Rattle.vga_run.specs.Answer.{of_write as of_write_of, of_byte as of_byte_of};
+    ghost use Rattle.vga_run.specs.Answer.{of_word as of_word_of};
 
     /// The answer of a step that reads nothing.
     pub(crate) fn of_write(outcome: Result<(), Refusal>) -> Answer

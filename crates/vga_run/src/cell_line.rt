@@ -29,8 +29,10 @@ fn write_refusal<W: Write>(out: &mut Tracked<W>, why: Refusal) -> Result<(), Fau
 pub(crate) fn write_cells<W: Write>(out: &mut Tracked<W>, machine: &Machine) -> Result<(), Fault>
     requires writer { has_failed out.old ≡ false }
     requires valid { IsValid machine.now.bda }
-    ensures { Writes (W.contents (inner_of out.old)) (W.contents (inner_of out.new)) (has_failed out.new) result
-        (dump_or_refusal (cells_refusal machine.now.bda.mode) (cells_text (cells_refusal machine.now.bda.mode) machine.now.card machine.now.bda)) }
+    ensures { Writes (W.contents (inner_of out.old)) (W.contents (inner_of out.new))
+        (has_failed out.new) result
+        (dump_or_refusal (cells_refusal machine.now.bda.mode)
+        (cells_text (cells_refusal machine.now.bda.mode) machine.now.card machine.now.bda)) }
 {
     match dump_cells(out, &machine.card, &machine.bda)? {
         Ok(()) => Ok(()),

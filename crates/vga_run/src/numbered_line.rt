@@ -10,8 +10,8 @@ use std::io::Write;
 use std::marker::Model;
 use vga_bits::{Fault, Tracked, write_whole};
 
-/// The line of a step. Its number and a blank stand at its front, and stay there from step to step: to print
-/// a number anew takes longer than many a step.
+/// The line of a step. Its number and a blank stand at its front, and stay there from step to step:
+/// to print a number anew takes longer than many a step.
 ///
 /// Contracts see the number.
 #[derive(Drop)]

@@ -1,5 +1,6 @@
 //! The report of a run.
-ghost use Rattle.std.specs.Prelude.{◌≡◌, ◌+◌, ◌*◌, ◌<◌, ◌≤◌, ◌++◌, length, false, OnOk, ◌^◌, codes, decimal};
+ghost use Rattle.std.specs.Prelude.{◌≡◌, ◌+◌, ◌*◌, ◌<◌, ◌≤◌, ◌++◌, length, false, OnOk, ◌^◌, codes};
+ghost use Rattle.std.specs.Prelude.{decimal};
 ghost use Rattle.vga_bits.specs.Tracked.{inner_of, has_failed, Writes};
 ghost use Rattle.vga_card.specs.Frames.{IsSmall};
 ghost use Rattle.vga_card.specs.Picture.{widest, highest};
@@ -9,7 +10,8 @@ ghost use Rattle.vga_run.specs.Run.{WritesStep, WritesReport};
 ghost use Rattle.vga_script.specs.Step.{IsInRange, AreInRange};
 ghost use Rattle.vga_script.specs.declared.step.Step.TheVariants.{Int};
 ghost use Rattle.vga_script.specs.DumpRange.{IsShownInRange};
-ghost use Rattle.vga_run.specs.Report.{line as line_of, dump_or_refusal, picture_line as picture_line_of, last_dumps};
+ghost use Rattle.vga_run.specs.Report.{line as line_of, dump_or_refusal};
+ghost use Rattle.vga_run.specs.Report.{picture_line as picture_line_of, last_dumps};
 ghost use Rattle.vga_show.specs.Ppm.{ppm};
 ghost use Rattle.bios_modes.specs.Valid.{IsValid};
 
@@ -109,7 +111,8 @@ fn write_dump<W: Write>(out: &mut Tracked<W>, machine: &Machine, shown: Shown) -
     requires range { IsShownInRange shown }
     requires valid { IsValid machine.now.bda }
     ensures { Writes (W.contents (inner_of out.old)) (W.contents (inner_of out.new))
-        (has_failed out.new) result (dump_or_refusal (dump_refusal machine.now shown) (dump_text machine.now shown)) }
+        (has_failed out.new) result (dump_or_refusal (dump_refusal machine.now shown)
+        (dump_text machine.now shown)) }
 {
     match shown {
         Shown::Registers => dump_regs(out, &machine.card),
@@ -138,7 +141,8 @@ fn write_shown<W: Write>(
     requires range { IsShownInRange shown }
     requires valid { IsValid machine.now.bda }
     ensures { Writes (W.contents (inner_of out.old)) (W.contents (inner_of out.new))
-        (has_failed out.new) result (line_of n (of_dump (dump_refusal machine.now shown) (dump_text machine.now shown))) }
+        (has_failed out.new) result (line_of n (of_dump (dump_refusal machine.now shown)
+        (dump_text machine.now shown))) }
 {
     write_whole(out, numbered(n).as_slice())?;
     write_dump(out, machine, shown)
@@ -158,7 +162,8 @@ fn write_service<W: Write>(
     requires valid { IsValid machine.old.bda }
     ensures text { WritesStep (W.contents (inner_of out.old)) (W.contents (inner_of out.new))
         (has_failed out.new) result machine.old n (Int regs.ax regs.bx regs.cx regs.dx block.now) }
-    ensures after { OnOk result (machine.new ≡ after_step machine.old (Int regs.ax regs.bx regs.cx regs.dx block.now)) }
+    ensures after { OnOk result (machine.new ≡ after_step machine.old
+        (Int regs.ax regs.bx regs.cx regs.dx block.now)) }
     ensures valid { IsValid machine.new.bda }
 {
     let outcome = int10(

@@ -1,12 +1,14 @@
 //! A run of a script.
-ghost use Rattle.std.specs.Prelude.{◌≡◌, ◌≢◌, ◌⊎◌, ◌≤◌, ◌+◌, length, false, IfErr, IfOk, None, Some, Err};
+ghost use Rattle.std.specs.Prelude.{◌≡◌, ◌≢◌, ◌⊎◌, ◌≤◌, ◌+◌, length, false, IfErr, IfOk, None};
+ghost use Rattle.std.specs.Prelude.{Some, Err};
 ghost use Rattle.vga_bits.specs.declared.fault.Fault.TheVariants.{WriteFault, OutOfMemory};
 ghost use Rattle.vga_bits.specs.Tracked.{inner_of, has_failed, is_write_fault, taken_of};
 ghost use Rattle.vga_bits.specs.LimitedReading.{TakesAtMost, is_read_fault};
 ghost use Rattle.bios_modes.specs.Fonts.{file_len, fonts_of};
 ghost use Rattle.vga_script.specs.Item.{expanded};
 ghost use Rattle.vga_script.specs.Spelling.{script_limit};
-ghost use Rattle.vga_run.specs.Run.{Reports, ReportsSteps, RunAnswers, RunsGoodScripts, RunsScript, StopsRun, StopsSteps};
+ghost use Rattle.vga_run.specs.Run.{Reports, ReportsSteps, RunAnswers, RunsGoodScripts, RunsScript};
+ghost use Rattle.vga_run.specs.Run.{StopsRun, StopsSteps};
 ghost use Rattle.vga_run.specs.DotReport.{AreOfDots, ReportsDots, RunsDots};
 ghost use Rattle.vga_run.specs.ScreenReport.{AreOfScreens, ReportsScreens, RunsScreens};
 
@@ -19,11 +21,11 @@ use std::io::{Read, Write};
 use vga_bits::{Fault, Tracked};
 use vga_script::{Script, Steps, one_fault, one_list, read_script, steps_fit};
 
-/// Runs a script from power-on, writes its report and nothing else, and flushes the writer. The reader
-/// and the writer must not have failed before.
+/// Runs a script from power-on, writes its report and nothing else, and flushes the writer. The
+/// reader and the writer must not have failed before.
 ///
-/// With `until` the run is that of so many of the first steps, all if there are fewer, followed by dumps of
-/// the registers, the beam, the latches and the BIOS data, as steps with the next numbers.
+/// With `until` the run is that of so many of the first steps, all if there are fewer, followed by
+/// dumps of the registers, the beam, the latches and the BIOS data, as steps with the next numbers.
 ///
 /// A fault ends the run. Of several the first in this order is answered:
 ///
@@ -33,9 +35,9 @@ use vga_script::{Script, Steps, one_fault, one_list, read_script, steps_fit};
 /// - `BadMagic`, `BadVersion`, `BadStep`, `Truncated`, `TooMany`: the bytes are no script.
 /// - `WriteFault`: the writer failed, and has a front of the report.
 ///
-/// `OutOfMemory` comes where a request for memory was refused: before the first byte is written, or in a
-/// step that takes memory, and then the answers of the steps before it are written, whole. Each other fault
-/// but `WriteFault` comes before the first byte is written.
+/// `OutOfMemory` comes where a request for memory was refused: before the first byte is written, or
+/// in a step that takes memory, and then the answers of the steps before it are written, whole.
+/// Each other fault but `WriteFault` comes before the first byte is written.
 pub fn run<R: Read, W: Write>(
     alloc: Global,
     script: &mut Tracked<R>,
@@ -68,9 +70,11 @@ pub fn run<R: Read, W: Write>(
         (R.remaining (inner_of script.new)) }
     ensures counted { taken_of script.new ≤ taken_of script.old + (script_limit + 1) }
     ensures unread { length fonts.now ≢ file_len → script.new ≡ script.old }
-    // What is written at a fault that is not the writer's: nothing, or whole answers before want of memory.
+    // What is written at a fault that is not the writer's: nothing, or whole answers before want of
+    // memory.
     ensures unwritten { IfErr result (λ e. e ≢ WriteFault → e ≢ OutOfMemory → out.new ≡ out.old) }
-    ensures stopped { result ≡ Err OutOfMemory → (out.new ≡ out.old) ⊎ StopsRun until (fonts_of fonts.now) (R.remaining (inner_of script.old))
+    ensures stopped { result ≡ Err OutOfMemory → (out.new ≡ out.old)
+        ⊎ StopsRun until (fonts_of fonts.now) (R.remaining (inner_of script.old))
         (W.contents (inner_of out.old)) (W.contents (inner_of out.new)) }
 {
     one_fault(); // A script has no fault.
@@ -102,7 +106,8 @@ fn run_steps<R: Read, W: Write>(
     ensures counted { taken_of script.new ≤ taken_of script.old + (script_limit + 1) }
     ensures unread { length fonts.now ≢ file_len → script.new ≡ script.old }
     ensures unwritten { IfErr result (λ e. e ≢ WriteFault → e ≢ OutOfMemory → out.new ≡ out.old) }
-    ensures stopped { result ≡ Err OutOfMemory → (out.new ≡ out.old) ⊎ StopsRun until (fonts_of fonts.now) (R.remaining (inner_of script.old))
+    ensures stopped { result ≡ Err OutOfMemory → (out.new ≡ out.old)
+        ⊎ StopsRun until (fonts_of fonts.now) (R.remaining (inner_of script.old))
         (W.contents (inner_of out.old)) (W.contents (inner_of out.new)) }
 {
     let fonts = Fonts::from_bytes(alloc, fonts)?; // Nothing is read before.
@@ -110,7 +115,8 @@ fn run_steps<R: Read, W: Write>(
     run_bytes_over(alloc, bytes.as_slice(), fonts, out, until)
 }
 
-/// Runs a script whose bytes are at hand, as `run` does. So its faults are those of `run` but `ReadFault`.
+/// Runs a script whose bytes are at hand, as `run` does. So its faults are those of `run` but
+/// `ReadFault`.
 #[tactic(auto, using(crate::proofs::AnswerLemmas::file_answers, crate::proofs::AnswerLemmas::font_answers))]
 pub fn run_bytes<W: Write>(
     alloc: Global,
@@ -130,11 +136,12 @@ pub fn run_bytes<W: Write>(
     ensures dots { RunsDots until fonts.now (Some script.now)
         (W.contents (inner_of out.old)) (W.contents (inner_of out.new)) result }
     ensures unread { is_read_fault result ≡ false }
-    // The writer fails exactly where the answer says so, and is left untouched by any other fault; but before
-    // want of memory in a step the answers of the steps before are written, whole.
+    // The writer fails exactly where the answer says so, and is left untouched by any other fault;
+    // but before want of memory in a step the answers of the steps before are written, whole.
     ensures write_failed { has_failed out.new ≡ is_write_fault result }
     ensures unwritten { IfErr result (λ e. e ≢ WriteFault → e ≢ OutOfMemory → out.new ≡ out.old) }
-    ensures stopped { result ≡ Err OutOfMemory → (out.new ≡ out.old) ⊎ StopsRun until (fonts_of fonts.now) (Some script.now)
+    ensures stopped { result ≡ Err OutOfMemory → (out.new ≡ out.old)
+        ⊎ StopsRun until (fonts_of fonts.now) (Some script.now)
         (W.contents (inner_of out.old)) (W.contents (inner_of out.new)) }
 {
     one_list();
@@ -161,7 +168,8 @@ fn run_bytes_over<W: Write>(
     ensures unread { is_read_fault result ≡ false }
     ensures write_failed { has_failed out.new ≡ is_write_fault result }
     ensures unwritten { IfErr result (λ e. e ≢ WriteFault → e ≢ OutOfMemory → out.new ≡ out.old) }
-    ensures stopped { result ≡ Err OutOfMemory → (out.new ≡ out.old) ⊎ StopsRun until fonts (Some script.now)
+    ensures stopped { result ≡ Err OutOfMemory → (out.new ≡ out.old)
+        ⊎ StopsRun until fonts (Some script.now)
         (W.contents (inner_of out.old)) (W.contents (inner_of out.new)) }
 {
     let steps = Steps::of(script)?;
@@ -183,15 +191,16 @@ fn run_steps_over<W: Write>(
         (W.contents (inner_of out.old)) (W.contents (inner_of out.new)) result }
     ensures write_failed { has_failed out.new ≡ is_write_fault result }
     ensures unwritten { IfErr result (λ e. e ≢ WriteFault → e ≢ OutOfMemory → out.new ≡ out.old) }
-    ensures stopped { result ≡ Err OutOfMemory → (out.new ≡ out.old) ⊎ StopsSteps until fonts steps.entry
+    ensures stopped { result ≡ Err OutOfMemory → (out.new ≡ out.old)
+        ⊎ StopsSteps until fonts steps.entry
         (W.contents (inner_of out.old)) (W.contents (inner_of out.new)) }
 {
     let mut machine = Machine::power_on(alloc, fonts)?;
     write_report(alloc, out, &mut machine, steps, until)
 }
 
-/// Runs a script that was decoded or assembled, as `run` does. So its faults are `FontSize`, `WriteFault`
-/// and `OutOfMemory` alone.
+/// Runs a script that was decoded or assembled, as `run` does. So its faults are `FontSize`,
+/// `WriteFault` and `OutOfMemory` alone.
 #[tactic(auto, using(crate::proofs::AnswerLemmas::steps_answers, crate::proofs::AnswerLemmas::font_runs))]
 pub fn run_script<W: Write>(
     alloc: Global,
@@ -205,16 +214,19 @@ pub fn run_script<W: Write>(
     ensures answer { RunsScript until fonts.now (expanded script.now.items)
         (W.contents (inner_of out.old)) (W.contents (inner_of out.new)) result }
     // The report of services and whole frames alone is the plain screen's.
-    ensures screens { until ≡ None → AreOfScreens (expanded script.now.items) → ReportsScreens (fonts_of fonts.now) (expanded script.now.items)
+    ensures screens { until ≡ None → AreOfScreens (expanded script.now.items) →
+        ReportsScreens (fonts_of fonts.now) (expanded script.now.items)
         (W.contents (inner_of out.old)) (W.contents (inner_of out.new)) result }
     // That of services, dots and frames is its report dot by dot.
-    ensures dots { until ≡ None → AreOfDots (fonts_of fonts.now) (expanded script.now.items) → ReportsDots (fonts_of fonts.now) (expanded script.now.items)
+    ensures dots { until ≡ None → AreOfDots (fonts_of fonts.now) (expanded script.now.items) →
+        ReportsDots (fonts_of fonts.now) (expanded script.now.items)
         (W.contents (inner_of out.old)) (W.contents (inner_of out.new)) result }
-    // The writer fails exactly where the answer says so, and is left untouched by any other fault; but before
-    // want of memory in a step the answers of the steps before are written, whole.
+    // The writer fails exactly where the answer says so, and is left untouched by any other fault;
+    // but before want of memory in a step the answers of the steps before are written, whole.
     ensures write_failed { has_failed out.new ≡ is_write_fault result }
     ensures unwritten { IfErr result (λ e. e ≢ WriteFault → e ≢ OutOfMemory → out.new ≡ out.old) }
-    ensures stopped { result ≡ Err OutOfMemory → (out.new ≡ out.old) ⊎ StopsSteps until (fonts_of fonts.now) (expanded script.now.items)
+    ensures stopped { result ≡ Err OutOfMemory → (out.new ≡ out.old)
+        ⊎ StopsSteps until (fonts_of fonts.now) (expanded script.now.items)
         (W.contents (inner_of out.old)) (W.contents (inner_of out.new)) }
 {
     reports_are_screens();

@@ -14,10 +14,11 @@ use bios_screen::laws::{calls_lead_to_screens, mode_set_is_fresh};
 use bios_services::laws::calls_keep_bounds;
 use vga_card::laws::bounds_stay;
 
-/// The report of services and whole frames alone, of which the first step is a mode set that clears the
-/// memory, is the plain screen's.
+/// The report of services and whole frames alone, of which the first step is a mode set that clears
+/// the memory, is the plain screen's.
 pub fn reports_are_screens()
-    ensures { (fonts : FontSet) (steps : List Step) → AreFonts fonts → AreInRange steps → AreOfScreens steps →
+    ensures { (fonts : FontSet) (steps : List Step) → AreFonts fonts → AreInRange steps →
+        AreOfScreens steps →
         report_of fonts steps ≡ screen_report fonts steps }
 {
     bounds_stay();
@@ -27,11 +28,12 @@ pub fn reports_are_screens()
     frame_draws_screen();
 }
 
-/// The report of services, dots and frames, of which the first step is a mode set that clears the memory, is
-/// the plain screen's, dot by dot. Each later mode set clears it too and stands at dot 0 of a frame, as does a load
-/// of glyphs; those that are refused may stand anywhere.
+/// The report of services, dots and frames, of which the first step is a mode set that clears the
+/// memory, is the plain screen's, dot by dot. Each later mode set clears it too and stands at dot 0
+/// of a frame, as does a load of glyphs; those that are refused may stand anywhere.
 pub fn reports_are_dots()
-    ensures { (fonts : FontSet) (steps : List Step) → AreFonts fonts → AreInRange steps → AreOfDots fonts steps →
+    ensures { (fonts : FontSet) (steps : List Step) → AreFonts fonts → AreInRange steps →
+        AreOfDots fonts steps →
         report_of fonts steps ≡ dot_report fonts steps }
 {
     bounds_stay();
@@ -45,8 +47,10 @@ pub fn reports_are_dots()
 
 /// Services and whole frames alone are such steps, and their two reports are one.
 pub fn whole_frames_are_dots()
-    ensures steps { (fonts : FontSet) (steps : List Step) → AreOfScreens steps → AreOfDots fonts steps }
-    ensures reports { (fonts : FontSet) (steps : List Step) → AreFonts fonts → AreInRange steps → AreOfScreens steps →
+    ensures steps { (fonts : FontSet) (steps : List Step) → AreOfScreens steps →
+        AreOfDots fonts steps }
+    ensures reports { (fonts : FontSet) (steps : List Step) → AreFonts fonts → AreInRange steps →
+        AreOfScreens steps →
         screen_report fonts steps ≡ dot_report fonts steps }
 {
     frames_are_dots();

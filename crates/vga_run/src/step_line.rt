@@ -8,15 +8,15 @@ use super::answer::Answer;
 use std::io::Write;
 use vga_bits::{Fault, TextBuffer, Tracked, hex_digit, write_whole};
 
-/// Room for the longest text that is put together here: a number of at most 20 digits, a blank, and four
-/// registers of 31 bytes.
+/// Room for the longest text that is put together here: a number of at most 20 digits, a blank, and
+/// four registers of 31 bytes.
 const LINE_LEN: usize = 52;
 
 /// The line of a step, or its first piece.
 pub(crate) type Line = TextBuffer<LINE_LEN>;
 
-/// Puts the text of an answer and a newline behind the first `front` bytes of a line, in the place of the others: at
-/// once where it has two digits or letters, as most have.
+/// Puts the text of an answer and a newline behind the first `front` bytes of a line, in the place
+/// of the others: at once where it has two digits or letters, as most have.
 #[tactic(auto, using(crate::proofs::ReportLemmas::name_is_short, vga_bits::proofs::HexLemmas::hex_of_byte))]
 #[inline(always)]
 pub(crate) fn put_answer(line: &mut Line, front: usize, answer: Answer)

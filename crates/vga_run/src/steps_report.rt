@@ -86,9 +86,10 @@ fn write_steps<W: Write>(
     }
 }
 
-/// Takes the steps on this machine, all of them or so many of the first with the last dumps, writes what each
-/// answers, of which the first has the number 1, and flushes the writer. It fails with `WriteFault` where the
-/// writer does, which then has a front of the report, and with `OutOfMemory` before a step that takes memory.
+/// Takes the steps on this machine, all of them or so many of the first with the last dumps, writes
+/// what each answers, of which the first has the number 1, and flushes the writer. It fails with
+/// `WriteFault` where the writer does, which then has a front of the report, and with `OutOfMemory`
+/// before a step that takes memory.
 #[tactic(auto, using(crate::proofs::ReportLemmas::report_is_flushed))]
 pub(crate) fn write_report<W: Write>(
     alloc: Global,

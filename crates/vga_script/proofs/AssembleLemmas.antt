@@ -1,5 +1,7 @@
 -- Assembling a text, group by group.
-use Rattle.std.proofs.Common.{◌≡◌, ◌≢◌, ◌⊎◌, ◌*◌, ◌-◌, Bool, true, false, IfSome, IfErr, Result, Ok, Err, Bor, option_copied, lt_of_not-le, ℕ, ◌+◌, ◌<◌, ◌≤◌, List, [], ◌∷◌, ◌++◌, length, map, Option, Some, None, refl, sym, ap, ◌∙◌, subst, arith, append_assoc, append-nil, length-append, inl, inr}
+use Rattle.std.proofs.Common.{◌≡◌, ◌≢◌, ◌⊎◌, ◌*◌, ◌-◌, Bool, true, false, IfSome, IfErr, Result, Ok, Err, Bor, option_copied, lt_of_not-le, ℕ, ◌+◌, ◌<◌, ◌≤◌}
+use Rattle.std.proofs.Common.{List, [], ◌∷◌, ◌++◌, length, map, Option, Some, None, refl, sym, ap, ◌∙◌, subst, arith, append_assoc, append-nil, length-append}
+use Rattle.std.proofs.Common.{inl, inr}
 use Rattle.std.specs.List.{flat_map, AllByRecursion}
 use Rattle.std.proofs.lemmas.Grind.{flat_map-append}
 use Rattle.vga_bits.specs.declared.fault.Fault.{Fault}
@@ -12,7 +14,8 @@ use Rattle.vga_script.specs.Version.{AllowsBlocks, version_byte}
 use Rattle.byteorder.specs.Endian.{little_bytes}
 use Rattle.vga_script.specs.Spelling.{magic, opcode_repeat, opcode_end, header, spelling, item_spelling, encoding}
 use Rattle.vga_script.specs.Words.{lines, lines_left, left_len, words}
-use Rattle.vga_script.specs.Text.{SpellsLine, SpellsLines, SpellsRepeat, IsEnd, IsVersionTwo, Group, IsGroup, SpellsGroups, SaysVersionTwo, StandFrom, SpellsText, IsBadOutside, IsBadInside, OpensLines, IsGroupFault, IsBadLine, IsLineFault}
+use Rattle.vga_script.specs.Text.{SpellsLine, SpellsLines, SpellsRepeat, IsEnd, IsVersionTwo, Group, IsGroup, SpellsGroups, SaysVersionTwo, StandFrom}
+use Rattle.vga_script.specs.Text.{SpellsText, IsBadOutside, IsBadInside, OpensLines, IsGroupFault, IsBadLine, IsLineFault}
 use Rattle.vga_script.specs.Assembling.{HasBody, IsBodyFault, HasGroup, IsGroupFaultOf, AppendsLine, AppendsBody, AppendsBlock, AppendsGroup}
 use Rattle.vga_script.proofs.ItemLemmas.{length-expanded-append, steps_of_block}
 
@@ -32,7 +35,8 @@ left_shorter (Some rest) len h = omega arith
 -- ---- the body of a block
 
 -- one more line
-spells_more : (before : List (List ℕ)) (steps : List Step) (line : List ℕ) (here : List Step) → SpellsLines before steps → SpellsLine (words line) here → SpellsLines (before ++ line ∷ []) (steps ++ here)
+spells_more : (before : List (List ℕ)) (steps : List Step) (line : List ℕ) (here : List Step) → SpellsLines before steps → SpellsLine (words line) here →
+    SpellsLines (before ++ line ∷ []) (steps ++ here)
 spells_more [] steps line here none is = (here, [], ap (λ (l : List Step). l ++ here) none ∙ sym (append-nil here), is, refl)
 spells_more (b ∷ before) steps line here (first, after, e, is, more) new =
     (first, after ++ here, ap (λ (l : List Step). l ++ here) e ∙ append_assoc first after here, is, spells_more before after line here more new)
@@ -50,7 +54,8 @@ steps_begins : (start : Option (List ℕ)) (first : ℕ) → HasReadBody start f
 steps_begins start first = record { body = []; good = refl; whole = refl; number = omega arith; shorter = omega arith }
 
 -- one more line of a step, or of no word
-steps_more : (start others : Option (List ℕ)) (rest line : List ℕ) (first n : ℕ) (steps here : List Step) → HasReadBody start first steps n (Some rest) → lines rest ≡ line ∷ lines_left others → left_len others ≤ length rest
+steps_more : (start others : Option (List ℕ)) (rest line : List ℕ) (first n : ℕ) (steps here : List Step) → HasReadBody start first steps n (Some rest) →
+    lines rest ≡ line ∷ lines_left others → left_len others ≤ length rest
     → SpellsLine (words line) here → HasReadBody start first (steps ++ here) (n + 1) others
 steps_more start others rest line first n steps here h e shorter is = record {
   body = h.body ++ line ∷ [];
@@ -61,7 +66,8 @@ steps_more start others rest line first n steps here h e shorter is = record {
 }
 
 -- the line of its end
-steps_ends : (start others : Option (List ℕ)) (rest line : List ℕ) (first n : ℕ) (steps : List Step) → HasReadBody start first steps n (Some rest) → lines rest ≡ line ∷ lines_left others → left_len others ≤ length rest
+steps_ends : (start others : Option (List ℕ)) (rest line : List ℕ) (first n : ℕ) (steps : List Step) → HasReadBody start first steps n (Some rest) →
+    lines rest ≡ line ∷ lines_left others → left_len others ≤ length rest
     → IsEnd (words line) → HasBody (first + 1) start steps (n + 1) others
 steps_ends start others rest line first n steps h e shorter is = record {
   body = h.body;
@@ -74,7 +80,8 @@ steps_ends start others rest line first n steps h e shorter is = record {
 }
 
 -- a bad line
-steps_bad : (start others : Option (List ℕ)) (rest line : List ℕ) (first n : ℕ) (steps : List Step) → HasReadBody start first steps n (Some rest) → lines rest ≡ line ∷ lines_left others → IsBadInside line → IsBodyFault first start (fault.BadLine n)
+steps_bad : (start others : Option (List ℕ)) (rest line : List ℕ) (first n : ℕ) (steps : List Step) → HasReadBody start first steps n (Some rest) →
+    lines rest ≡ line ∷ lines_left others → IsBadInside line → IsBodyFault first start (fault.BadLine n)
 steps_bad start others rest line first n steps h e bad =
     let c = h.number in
     inr (h.body, steps, line, lines_left others, omega arith, h.whole ∙ ap (λ (l : List (List ℕ)). h.body ++ l) e, h.good, bad)
@@ -94,17 +101,20 @@ pub record HasAppendedBody (start : Option (List ℕ)) (before : List ℕ) (firs
 pub body_begins : (start : Option (List ℕ)) (before : List ℕ) (first : ℕ) → HasAppendedBody start before first 0 (first + 1) start before
 body_begins start before first = record { steps = []; read = steps_begins start first; count = refl; few = omega arith; bytes = sym (append-nil before) }
 
-pub body_more : (start others : Option (List ℕ)) (before now new rest line : List ℕ) (first len more n : ℕ) → HasAppendedBody start before first len n (Some rest) now → lines rest ≡ line ∷ lines_left others → left_len others ≤ length rest
+pub body_more : (start others : Option (List ℕ)) (before now new rest line : List ℕ) (first len more n : ℕ) →
+    HasAppendedBody start before first len n (Some rest) now → lines rest ≡ line ∷ lines_left others → left_len others ≤ length rest
     → AppendsLine line now new more → HasAppendedBody start before first (len + more) (n + 1) others new
 body_more start others before now new rest line first len more n h e shorter a = record {
   steps = h.steps ++ a.steps;
   read = steps_more start others rest line first n h.steps a.steps h.read e shorter a.good;
   count = let l = length-append h.steps a.steps in let c = h.count in let m = a.count in omega arith;
   few = let f = h.few in let m = a.few in omega arith;
-  bytes = a.bytes ∙ ap (λ (l : List ℕ). l ++ flat_map spelling a.steps) h.bytes ∙ append_assoc before (flat_map spelling h.steps) (flat_map spelling a.steps) ∙ ap (λ (l : List ℕ). before ++ l) (sym (flat_map-append spelling h.steps a.steps));
+  bytes = a.bytes ∙ ap (λ (l : List ℕ). l ++ flat_map spelling a.steps) h.bytes ∙ append_assoc before (flat_map spelling h.steps) (flat_map spelling a.steps)
+      ∙ ap (λ (l : List ℕ). before ++ l) (sym (flat_map-append spelling h.steps a.steps));
 }
 
-pub body_ends : (start others : Option (List ℕ)) (before now rest line : List ℕ) (first len n : ℕ) → HasAppendedBody start before first len n (Some rest) now → lines rest ≡ line ∷ lines_left others → left_len others ≤ length rest
+pub body_ends : (start others : Option (List ℕ)) (before now rest line : List ℕ) (first len n : ℕ) → HasAppendedBody start before first len n (Some rest) now →
+    lines rest ≡ line ∷ lines_left others → left_len others ≤ length rest
     → IsEnd (words line) → AppendsBody (first + 1) start before now len (n + 1) others
 body_ends start others before now rest line first len n h e shorter is = record {
   steps = h.steps;
@@ -114,14 +124,17 @@ body_ends start others before now rest line first len n h e shorter is = record 
   bytes = h.bytes;
 }
 
-pub body_bad : (start others : Option (List ℕ)) (before now rest line : List ℕ) (first len n : ℕ) → HasAppendedBody start before first len n (Some rest) now → lines rest ≡ line ∷ lines_left others → IsBadInside line → IsBodyFault first start (fault.BadLine n)
+pub body_bad : (start others : Option (List ℕ)) (before now rest line : List ℕ) (first len n : ℕ) → HasAppendedBody start before first len n (Some rest) now →
+    lines rest ≡ line ∷ lines_left others → IsBadInside line → IsBodyFault first start (fault.BadLine n)
 body_bad start others before now rest line first len n h e bad = steps_bad start others rest line first n h.steps h.read e bad
 
-pub body_open : (start : Option (List ℕ)) (before now : List ℕ) (first len n : ℕ) → HasAppendedBody start before first len n None now → IsBodyFault first start (fault.BadLine first)
+pub body_open : (start : Option (List ℕ)) (before now : List ℕ) (first len n : ℕ) → HasAppendedBody start before first len n None now →
+    IsBodyFault first start (fault.BadLine first)
 body_open start before now first len n h = steps_open start first n h.steps h.read
 
 -- a block with its opcodes and its count
-pub block_appended : (n : ℕ) (left behind : Option (List ℕ)) (count len next : ℕ) (before marked counted full after : List ℕ) → marked ≡ before ++ opcode_repeat ∷ [] → counted ≡ marked ++ little_bytes 2 count
+pub block_appended : (n : ℕ) (left behind : Option (List ℕ)) (count len next : ℕ) (before marked counted full after : List ℕ) → marked ≡ before
+    ++ opcode_repeat ∷ [] → counted ≡ marked ++ little_bytes 2 count
     → AppendsBody n left counted full len next behind → after ≡ full ++ opcode_end ∷ [] → AppendsBlock n left count before after (count * len) next behind
 block_appended n left behind count len next before marked counted full after m c a e =
     let steps = flat_map spelling a.steps in
@@ -147,7 +160,8 @@ spelled : (steps : List Step) → flat_map spelling steps ≡ flat_map item_spel
 spelled [] = refl
 spelled (s ∷ steps) = ap (λ (l : List ℕ). spelling s ++ l) (spelled steps)
 
-pub group_of_line : (version : Version) (n : ℕ) (text line before after : List ℕ) (others : Option (List ℕ)) (len : ℕ) → lines text ≡ line ∷ lines_left others → AppendsLine line before after len
+pub group_of_line : (version : Version) (n : ℕ) (text line before after : List ℕ) (others : Option (List ℕ)) (len : ℕ) → lines text ≡ line ∷ lines_left others →
+    AppendsLine line before after len
     → AppendsGroup version n (lines text) before after len (n + 1) others
 group_of_line version n text line before after others len e a = record {
   items = map Once a.steps;
@@ -163,7 +177,8 @@ group_of_line version n text line before after others len e a = record {
 }
 
 -- a block
-pub group_of_block : (version : Version) (n : ℕ) (text line before after : List ℕ) (others behind : Option (List ℕ)) (count len next : ℕ) → AllowsBlocks version → lines text ≡ line ∷ lines_left others → SpellsRepeat (words line) count
+pub group_of_block : (version : Version) (n : ℕ) (text line before after : List ℕ) (others behind : Option (List ℕ)) (count len next : ℕ) →
+    AllowsBlocks version → lines text ≡ line ∷ lines_left others → SpellsRepeat (words line) count
     → AppendsBlock (n + 1) others count before after len next behind → AppendsGroup version n (lines text) before after len next behind
 group_of_block version n text line before after others behind count len next allowed e begins a =
     let h = a.body in
@@ -182,14 +197,16 @@ group_of_block version n text line before after others behind count len next all
     }
 
 -- a bad line outside blocks
-pub group_bad : (version : Version) (n : ℕ) (text line : List ℕ) (others : Option (List ℕ)) → lines text ≡ line ∷ lines_left others → IsBadOutside version line → IsGroupFaultOf version n (lines text) (fault.BadLine n)
+pub group_bad : (version : Version) (n : ℕ) (text line : List ℕ) (others : Option (List ℕ)) → lines text ≡ line ∷ lines_left others →
+    IsBadOutside version line → IsGroupFaultOf version n (lines text) (fault.BadLine n)
 group_bad version n text line others e bad taken = inl (refl, (line, lines_left others, e, bad))
 
 -- the fault of a block
 block_open : (version : Version) (n place : ℕ) (ls : List (List ℕ)) → OpensLines version ls place [] → IsGroupFaultOf version n ls (fault.BadLine n)
 block_open version n place ls h taken = inr (inr (inl (refl, (place, h))))
 
-pub block_bad : (version : Version) (n : ℕ) (text line : List ℕ) (others : Option (List ℕ)) (count : ℕ) (f : Fault) → AllowsBlocks version → lines text ≡ line ∷ lines_left others → SpellsRepeat (words line) count
+pub block_bad : (version : Version) (n : ℕ) (text line : List ℕ) (others : Option (List ℕ)) (count : ℕ) (f : Fault) → AllowsBlocks version →
+    lines text ≡ line ∷ lines_left others → SpellsRepeat (words line) count
     → IsBodyFault n others f → IsGroupFaultOf version n (lines text) f
 block_bad version n text line others count (fault.BadLine bad) allowed e begins (inl (is, (steps, good))) = λ taken.
     inr (inr (inl (
@@ -231,13 +248,15 @@ block_bad version n text line others count (fault.BadLine bad) allowed e begins 
 block_bad version n text line others count _ allowed e begins h = absurd h
 
 -- or memory ran out
-pub group_fault : (version : Version) (n : ℕ) (text line : List ℕ) (others : Option (List ℕ)) (count : ℕ) (f : Fault) → AllowsBlocks version → lines text ≡ line ∷ lines_left others → SpellsRepeat (words line) count
+pub group_fault : (version : Version) (n : ℕ) (text line : List ℕ) (others : Option (List ℕ)) (count : ℕ) (f : Fault) → AllowsBlocks version →
+    lines text ≡ line ∷ lines_left others → SpellsRepeat (words line) count
     → (f ≡ fault.OutOfMemory) ⊎ IsBodyFault n others f → (f ≡ fault.OutOfMemory) ⊎ IsGroupFaultOf version n (lines text) f
 group_fault version n text line others count f allowed e begins (inl memory) = inl memory
 group_fault version n text line others count f allowed e begins (inr h) = inr (block_bad version n text line others count f allowed e begins h)
 
 -- and where it has one
-pub group_faults : {A : Type 0} (version : Version) (n : ℕ) (text line : List ℕ) (others : Option (List ℕ)) (count : ℕ) (r : Result A Fault) → AllowsBlocks version → lines text ≡ line ∷ lines_left others → SpellsRepeat (words line) count
+pub group_faults : {A : Type 0} (version : Version) (n : ℕ) (text line : List ℕ) (others : Option (List ℕ)) (count : ℕ) (r : Result A Fault) →
+    AllowsBlocks version → lines text ≡ line ∷ lines_left others → SpellsRepeat (words line) count
     → IfErr r (λ f. (f ≡ fault.OutOfMemory) ⊎ IsBodyFault n others f) → IfErr r (λ f. (f ≡ fault.OutOfMemory) ⊎ IsGroupFaultOf version n (lines text) f)
 group_faults version n text line others count (Ok x) allowed e begins h = tt
 group_faults version n text line others count (Err f) allowed e begins h = group_fault version n text line others count f allowed e begins h
@@ -259,7 +278,8 @@ all_push : (ls : List (List ℕ)) (line : List ℕ) → AllByRecursion (λ l. wo
 all_push [] line all none = (none, tt)
 all_push (l ∷ ls) line (first, all) none = (first, all_push ls line all none)
 
-pub blank_more : (text rest line : List ℕ) (others : Option (List ℕ)) (n : ℕ) → HasBlank text n (Some rest) → lines rest ≡ line ∷ lines_left others → left_len others ≤ length rest → words line ≡ [] → HasBlank text (n + 1) others
+pub blank_more : (text rest line : List ℕ) (others : Option (List ℕ)) (n : ℕ) → HasBlank text n (Some rest) → lines rest ≡ line ∷ lines_left others →
+    left_len others ≤ length rest → words line ≡ [] → HasBlank text (n + 1) others
 blank_more text rest line others n h e shorter none = record {
   before = h.before ++ line ∷ [];
   blank = all_push h.before line h.blank none;
@@ -269,7 +289,8 @@ blank_more text rest line others n h e shorter none = record {
 }
 
 -- the next says version 2
-pub two_found : (text rest line : List ℕ) (others : Option (List ℕ)) (n : ℕ) → HasBlank text n (Some rest) → lines rest ≡ line ∷ lines_left others → IsVersionTwo (words line) → SaysVersionTwo (lines text) (n + 1) (lines_left others)
+pub two_found : (text rest line : List ℕ) (others : Option (List ℕ)) (n : ℕ) → HasBlank text n (Some rest) → lines rest ≡ line ∷ lines_left others →
+    IsVersionTwo (words line) → SaysVersionTwo (lines text) (n + 1) (lines_left others)
 two_found text rest line others n h e is = record {
   before = h.before;
   line = line;
@@ -284,7 +305,8 @@ has_words : (line : List ℕ) → IsVersionTwo (words line) → words line ≡ [
 has_words line (first, e, is) none = let both = sym none ∙ e in absurd (cc)
 
 -- the first line with a word does not say version 2
-not_there : (before other : List (List ℕ)) (line second : List ℕ) (rest others : List (List ℕ)) → AllByRecursion (λ l. words l ≡ []) before → AllByRecursion (λ l. words l ≡ []) other → before ++ line ∷ rest ≡ other ++ second ∷ others
+not_there : (before other : List (List ℕ)) (line second : List ℕ) (rest others : List (List ℕ)) → AllByRecursion (λ l. words l ≡ []) before →
+    AllByRecursion (λ l. words l ≡ []) other → before ++ line ∷ rest ≡ other ++ second ∷ others
     → (words line ≡ [] → ⊥) → (IsVersionTwo (words line) → ⊥) → IsVersionTwo (words second) → ⊥
 not_there [] [] line second rest others blank blank' e some other is =
     let same : second ≡ line = cc in other (subst (λ (l : List ℕ). IsVersionTwo (words l)) same is)
@@ -295,13 +317,16 @@ not_there (b ∷ bs) [] line second rest others (none, blank) blank' e some othe
 not_there (b ∷ bs) (o ∷ os) line second rest others (none, blank) (none', blank') e some other is =
     let tails : bs ++ line ∷ rest ≡ os ++ second ∷ others = cc in not_there bs os line second rest others blank blank' tails some other is
 
-pub not_two : (text rest line : List ℕ) (left : Option (List ℕ)) (n : ℕ) → HasBlank text n (Some rest) → lines rest ≡ line ∷ lines_left left → words line ≢ [] → (IsVersionTwo (words line) → ⊥)
+pub not_two : (text rest line : List ℕ) (left : Option (List ℕ)) (n : ℕ) → HasBlank text n (Some rest) → lines rest ≡ line ∷ lines_left left → words line ≢ [] →
+    (IsVersionTwo (words line) → ⊥)
     → (m : ℕ) (others : List (List ℕ)) → SaysVersionTwo (lines text) m others → ⊥
 not_two text rest line left n h e some other m others says =
-    not_there h.before says.before line says.line (lines_left left) others h.blank says.blank (sym (ap (λ (l : List (List ℕ)). h.before ++ l) e) ∙ sym h.whole ∙ says.whole) some other says.version
+    not_there h.before says.before line says.line (lines_left left) others h.blank says.blank (sym (ap (λ (l : List (List ℕ)). h.before ++ l) e) ∙ sym h.whole
+    ∙ says.whole) some other says.version
 
 -- nor is there any line with a word
-all_blank : (ls before : List (List ℕ)) (line : List ℕ) (rest : List (List ℕ)) → AllByRecursion (λ l. words l ≡ []) ls → ls ≡ before ++ line ∷ rest → IsVersionTwo (words line) → ⊥
+all_blank : (ls before : List (List ℕ)) (line : List ℕ) (rest : List (List ℕ)) → AllByRecursion (λ l. words l ≡ []) ls → ls ≡ before ++ line ∷ rest →
+    IsVersionTwo (words line) → ⊥
 all_blank [] [] line rest all e is = absurd (cc)
 all_blank [] (b ∷ before) line rest all e is = absurd (cc)
 all_blank (l ∷ ls) [] line rest (none, all) e is = let same : l ≡ line = cc in has_words line is (ap words (sym same) ∙ none)
@@ -313,15 +338,19 @@ none_two text n h m others says = all_blank h.before says.before says.line other
 -- ---- the groups of a text
 
 -- groups one after the other
-all_groups : (version : Version) (groups : List Group) (group : Group) → AllByRecursion (IsGroup version) groups → IsGroup version group → AllByRecursion (IsGroup version) (groups ++ group ∷ [])
+all_groups : (version : Version) (groups : List Group) (group : Group) → AllByRecursion (IsGroup version) groups → IsGroup version group →
+    AllByRecursion (IsGroup version) (groups ++ group ∷ [])
 all_groups version [] group all good = (good, tt)
 all_groups version (g ∷ groups) group (first, all) good = (first, all_groups version groups group all good)
 
-groups_more : (version : Version) (front : List (List ℕ)) (items : List Item) (group : Group) → SpellsGroups version front items → IsGroup version group → SpellsGroups version (front ++ group.lines) (items ++ group.items)
+groups_more : (version : Version) (front : List (List ℕ)) (items : List Item) (group : Group) → SpellsGroups version front items → IsGroup version group →
+    SpellsGroups version (front ++ group.lines) (items ++ group.items)
 groups_more version front items group (groups, e, f, all) good = (
   groups ++ group ∷ [],
-  ap (λ (l : List (List ℕ)). l ++ group.lines) e ∙ ap (λ (l : List (List ℕ)). flat_map (λ (g : Group). g.lines) groups ++ l) (sym (append-nil group.lines)) ∙ sym (flat_map-append (λ (g : Group). g.lines) groups (group ∷ [])),
-  ap (λ (l : List Item). l ++ group.items) f ∙ ap (λ (l : List Item). flat_map (λ (g : Group). g.items) groups ++ l) (sym (append-nil group.items)) ∙ sym (flat_map-append (λ (g : Group). g.items) groups (group ∷ [])),
+  ap (λ (l : List (List ℕ)). l ++ group.lines) e ∙ ap (λ (l : List (List ℕ)). flat_map (λ (g : Group). g.lines) groups ++ l) (sym (append-nil group.lines))
+      ∙ sym (flat_map-append (λ (g : Group). g.lines) groups (group ∷ [])),
+  ap (λ (l : List Item). l ++ group.items) f ∙ ap (λ (l : List Item). flat_map (λ (g : Group). g.items) groups ++ l) (sym (append-nil group.items))
+      ∙ sym (flat_map-append (λ (g : Group). g.items) groups (group ∷ [])),
   all_groups version groups group all good,
 )
 
@@ -340,7 +369,8 @@ pub record HasRead (text : List ℕ) (version : Version) (items : List Item) (ta
   pub short : n + left_len left ≤ length text + 2
 
 -- no line is read
-pub read_none : (text : List ℕ) (version : Version) (n : ℕ) (left : Option (List ℕ)) → StandFrom version (lines text) n (lines_left left) → (version ≡ One → (m : ℕ) (others : List (List ℕ)) → SaysVersionTwo (lines text) m others → ⊥)
+pub read_none : (text : List ℕ) (version : Version) (n : ℕ) (left : Option (List ℕ)) → StandFrom version (lines text) n (lines_left left) →
+    (version ≡ One → (m : ℕ) (others : List (List ℕ)) → SaysVersionTwo (lines text) m others → ⊥)
     → n + left_len left ≤ length text + 2 → HasRead text version [] 0 n left
 read_none text version n left from one short = record {
   start = n;
@@ -357,8 +387,10 @@ read_none text version n left from one short = record {
 }
 
 -- one more group is
-pub read_more : (text rest : List ℕ) (version : Version) (items here : List Item) (taken more n next : ℕ) (behind : Option (List ℕ)) → HasRead text version items taken n (Some rest) → HasGroup version n (lines rest) here next behind
-    → more ≡ taken + length (expanded here) → more ≤ step_limit → next + left_len behind ≤ n + (length rest + 1) → HasRead text version (items ++ here) more next behind
+pub read_more : (text rest : List ℕ) (version : Version) (items here : List Item) (taken more n next : ℕ) (behind : Option (List ℕ)) →
+    HasRead text version items taken n (Some rest) → HasGroup version n (lines rest) here next behind
+    → more ≡ taken + length (expanded here) → more ≤ step_limit → next + left_len behind ≤ n + (length rest + 1) →
+    HasRead text version (items ++ here) more next behind
 read_more text rest version items here taken more n next behind h g sum few shorter =
     let lens = length-append h.front g.group.lines in
     let counts = length-expanded-append items here in
@@ -372,7 +404,8 @@ read_more text rest version items here taken more n next behind h g sum few shor
       front = h.front ++ g.group.lines;
       from = h.from;
       one = h.one;
-      good = subst (λ (l : List Item). SpellsGroups version (h.front ++ g.group.lines) (items ++ l)) g.items_are (groups_more version h.front items g.group h.good g.good);
+      good = subst (λ (l : List Item). SpellsGroups version (h.front ++ g.group.lines) (items ++ l)) g.items_are
+          (groups_more version h.front items g.group h.good g.good);
       whole = h.whole ∙ ap (λ (l : List (List ℕ)). h.front ++ l) g.whole ∙ sym (append_assoc h.front g.group.lines (lines_left behind));
       number = omega arith;
       count = omega arith;
@@ -381,30 +414,44 @@ read_more text rest version items here taken more n next behind h g sum few shor
     }
 
 -- nothing is left
-pub read_all : (text : List ℕ) (version : Version) (items : List Item) (taken n : ℕ) → HasRead text version items taken n None → SpellsText text (listing version items)
+pub read_all : (text : List ℕ) (version : Version) (items : List Item) (taken n : ℕ) → HasRead text version items taken n None →
+    SpellsText text (listing version items)
 read_all text version items taken n h =
     let count = h.count in
     let few = h.few in
     (h.start, h.rest, h.from, subst (λ (l : List (List ℕ)). SpellsGroups version l items) (sym (h.whole ∙ append-nil h.front)) h.good, omega arith)
 
 -- the fault of the next group is that of the text
-bad_line : (text rest : List ℕ) (version : Version) (items : List Item) (taken n bad : ℕ) → HasRead text version items taken n (Some rest) → IsGroupFault version taken n (lines rest) bad → IsBadLine text bad
+bad_line : (text rest : List ℕ) (version : Version) (items : List Item) (taken n bad : ℕ) → HasRead text version items taken n (Some rest) →
+    IsGroupFault version taken n (lines rest) bad → IsBadLine text bad
 bad_line text rest version items taken n bad h wrong =
     let count = h.count in
     let few = h.few in (
       listing version items,
       n,
       lines rest,
-      record { start = h.start; rest = h.rest; front = h.front; from = h.from; one = h.one; whole = h.whole; good = h.good; few = omega arith; number = h.number },
+      record {
+        start = h.start;
+        rest = h.rest;
+        front = h.front;
+        from = h.from;
+        one = h.one;
+        whole = h.whole;
+        good = h.good;
+        few = omega arith;
+        number = h.number;
+      },
       subst (λ (m : ℕ). IsGroupFault version m n (lines rest) bad) h.count wrong,
     )
 
-pub read_bad : (text rest : List ℕ) (version : Version) (items : List Item) (taken n : ℕ) (f : Fault) → HasRead text version items taken n (Some rest) → IsGroupFaultOf version n (lines rest) f → IsLineFault text f
+pub read_bad : (text rest : List ℕ) (version : Version) (items : List Item) (taken n : ℕ) (f : Fault) → HasRead text version items taken n (Some rest) →
+    IsGroupFaultOf version n (lines rest) f → IsLineFault text f
 read_bad text rest version items taken n (fault.BadLine bad) h wrong = bad_line text rest version items taken n bad h (wrong taken)
 read_bad text rest version items taken n _ h wrong = absurd wrong
 
 -- with the next group there are too many steps
-pub read_too_many : (text rest : List ℕ) (version : Version) (items here : List Item) (taken n next : ℕ) (behind : Option (List ℕ)) (f : Fault) → HasRead text version items taken n (Some rest) → HasGroup version n (lines rest) here next behind
+pub read_too_many : (text rest : List ℕ) (version : Version) (items here : List Item) (taken n next : ℕ) (behind : Option (List ℕ)) (f : Fault) →
+    HasRead text version items taken n (Some rest) → HasGroup version n (lines rest) here next behind
     → f ≡ fault.BadLine n → step_limit < taken + length (expanded here) → IsLineFault text f
 read_too_many text rest version items here taken n next behind f h g is long =
     let same = ap (λ (l : List Item). length (expanded l)) g.items_are in
@@ -412,7 +459,8 @@ read_too_many text rest version items here taken n next behind f h g is long =
     (bad_line text rest version items taken n n h (inr (inr (inr (refl, (g.group, lines_left behind, g.whole, g.good, omega arith))))))
 
 -- or memory ran out
-pub text_fault : (text rest : List ℕ) (version : Version) (items : List Item) (taken n : ℕ) (f : Fault) → HasRead text version items taken n (Some rest) → (f ≡ fault.OutOfMemory) ⊎ IsGroupFaultOf version n (lines rest) f
+pub text_fault : (text rest : List ℕ) (version : Version) (items : List Item) (taken n : ℕ) (f : Fault) → HasRead text version items taken n (Some rest) →
+    (f ≡ fault.OutOfMemory) ⊎ IsGroupFaultOf version n (lines rest) f
     → (f ≡ fault.OutOfMemory) ⊎ IsLineFault text f
 text_fault text rest version items taken n f h (inl memory) = inl memory
 text_fault text rest version items taken n f h (inr wrong) = inr (read_bad text rest version items taken n f h wrong)
@@ -420,8 +468,10 @@ text_fault text rest version items taken n f h (inr wrong) = inr (read_bad text 
 -- ---- the bytes of a text
 
 -- the letters and the version
-pub header_written : (version : Version) (byte : ℕ) (empty first second : List ℕ) → empty ≡ [] → first ≡ empty ++ magic → second ≡ first ++ byte ∷ [] → byte ≡ version_byte version → second ≡ header version
-header_written version byte empty first second e m b is = b ∙ ap (λ (l : List ℕ). l ++ byte ∷ []) (m ∙ ap (λ (l : List ℕ). l ++ magic) e) ∙ ap (λ (n : ℕ). magic ++ n ∷ []) is
+pub header_written : (version : Version) (byte : ℕ) (empty first second : List ℕ) → empty ≡ [] → first ≡ empty ++ magic → second ≡ first ++ byte ∷ [] →
+    byte ≡ version_byte version → second ≡ header version
+header_written version byte empty first second e m b is = b ∙ ap (λ (l : List ℕ). l ++ byte ∷ []) (m ∙ ap (λ (l : List ℕ). l ++ magic) e)
+    ∙ ap (λ (n : ℕ). magic ++ n ∷ []) is
 
 -- the lines so far spell items, which mean so many steps, and whose bytes these are
 pub record HasAssembled (text : List ℕ) (version : Version) (taken n : ℕ) (left : Option (List ℕ)) (out : List ℕ) : Type 0 where
@@ -429,11 +479,18 @@ pub record HasAssembled (text : List ℕ) (version : Version) (taken n : ℕ) (l
   pub read : HasRead text version items taken n left
   pub bytes : out ≡ header version ++ flat_map item_spelling items
 
-pub text_begins : (text out : List ℕ) (version : Version) (n : ℕ) (left : Option (List ℕ)) → StandFrom version (lines text) n (lines_left left) → (version ≡ One → (m : ℕ) (others : List (List ℕ)) → SaysVersionTwo (lines text) m others → ⊥)
+pub text_begins : (text out : List ℕ) (version : Version) (n : ℕ) (left : Option (List ℕ)) → StandFrom version (lines text) n (lines_left left) →
+    (version ≡ One → (m : ℕ) (others : List (List ℕ)) → SaysVersionTwo (lines text) m others → ⊥)
     → n + left_len left ≤ length text + 2 → out ≡ header version → HasAssembled text version 0 n left out
-text_begins text out version n left from one short is = record { items = []; read = read_none text version n left from one short; bytes = is ∙ sym (append-nil (header version)) }
+text_begins text out version n left from one short is = record {
+  items = [];
+  read = read_none text version n left from one short;
+  bytes = is
+      ∙ sym (append-nil (header version));
+}
 
-pub text_more : (text rest now new : List ℕ) (version : Version) (taken more n next : ℕ) (behind : Option (List ℕ)) → HasAssembled text version taken n (Some rest) now → AppendsGroup version n (lines rest) now new more next behind
+pub text_more : (text rest now new : List ℕ) (version : Version) (taken more n next : ℕ) (behind : Option (List ℕ)) →
+    HasAssembled text version taken n (Some rest) now → AppendsGroup version n (lines rest) now new more next behind
     → more ≤ step_limit - taken → next + left_len behind ≤ n + (length rest + 1) → HasAssembled text version (taken + more) next behind new
 text_more text rest now new version taken more n next behind h g few shorter =
     let m = g.means in
@@ -441,20 +498,24 @@ text_more text rest now new version taken more n next behind h g few shorter =
     record {
       items = h.items ++ g.items;
       read = read_more text rest version h.items g.items taken (taken + more) n next behind h.read g.group (omega arith) (omega arith) shorter;
-      bytes = g.bytes ∙ ap (λ (l : List ℕ). l ++ flat_map item_spelling g.items) h.bytes ∙ append_assoc (header version) (flat_map item_spelling h.items) (flat_map item_spelling g.items)
+      bytes = g.bytes ∙ ap (λ (l : List ℕ). l ++ flat_map item_spelling g.items) h.bytes
+          ∙ append_assoc (header version) (flat_map item_spelling h.items) (flat_map item_spelling g.items)
           ∙ ap (λ (l : List ℕ). header version ++ l) (sym (flat_map-append item_spelling h.items g.items));
     }
 
-pub text_all : (text out : List ℕ) (version : Version) (taken n : ℕ) → HasAssembled text version taken n None out → (script : Listing) × SpellsText text script × (out ≡ encoding script)
+pub text_all : (text out : List ℕ) (version : Version) (taken n : ℕ) → HasAssembled text version taken n None out → (script : Listing) × SpellsText text script
+    × (out ≡ encoding script)
 text_all text out version taken n h = (listing version h.items, read_all text version h.items taken n h.read, h.bytes)
 
-pub text_many : (text rest now new : List ℕ) (version : Version) (taken more n next : ℕ) (behind : Option (List ℕ)) → HasAssembled text version taken n (Some rest) now → AppendsGroup version n (lines rest) now new more next behind
+pub text_many : (text rest now new : List ℕ) (version : Version) (taken more n next : ℕ) (behind : Option (List ℕ)) →
+    HasAssembled text version taken n (Some rest) now → AppendsGroup version n (lines rest) now new more next behind
     → step_limit - taken < more → IsLineFault text (fault.BadLine n)
 text_many text rest now new version taken more n next behind h g many =
     let m = g.means in
     let t = h.read.few in
     read_too_many text rest version h.items g.items taken n next behind (fault.BadLine n) h.read g.group refl (omega arith)
 
-pub text_faulty : (text rest now : List ℕ) (version : Version) (taken n : ℕ) (f : Fault) → HasAssembled text version taken n (Some rest) now → (f ≡ fault.OutOfMemory) ⊎ IsGroupFaultOf version n (lines rest) f
+pub text_faulty : (text rest now : List ℕ) (version : Version) (taken n : ℕ) (f : Fault) → HasAssembled text version taken n (Some rest) now →
+    (f ≡ fault.OutOfMemory) ⊎ IsGroupFaultOf version n (lines rest) f
     → (f ≡ fault.OutOfMemory) ⊎ IsLineFault text f
 text_faulty text rest now version taken n f h bad = text_fault text rest version h.items taken n f h.read bad

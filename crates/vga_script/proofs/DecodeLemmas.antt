@@ -1,5 +1,6 @@
 -- Decoding the bytes of a script.
-use Rattle.std.proofs.Common.{◌≡◌, ◌≢◌, ℕ, ◌<◌, ◌≤◌, ◌^◌, ◌↔◌, Bool, false, IsTrue, inl, inr, ◌+◌, ◌-◌, List, [], ◌∷◌, ◌++◌, length, drop, refl, sym, ap, ◌∙◌, arith, append_assoc, append-nil, length-append, None, subst}
+use Rattle.std.proofs.Common.{◌≡◌, ◌≢◌, ℕ, ◌<◌, ◌≤◌, ◌^◌, ◌↔◌, Bool, false, IsTrue, inl, inr, ◌+◌, ◌-◌, List, [], ◌∷◌, ◌++◌, length, drop, refl, sym, ap, ◌∙◌}
+use Rattle.std.proofs.Common.{arith, append_assoc, append-nil, length-append, None, subst}
 use Rattle.vga_bits.specs.declared.fault.Fault.{Fault}
 use Rattle.vga_bits.specs.declared.fault.Fault.TheVariants as fault
 use Rattle.byteorder.specs.Endian.{little_bytes, little_number}
@@ -9,8 +10,10 @@ use Rattle.vga_script.specs.declared.dump_range.Shown.TheVariants as shown
 use Rattle.vga_script.specs.Item.{Item, Listing, listing, expanded, step_limit, steps_of, IsItemOf, Once}
 use Rattle.vga_script.specs.declared.version.Version.{Version}
 use Rattle.vga_script.specs.DumpRange.{IsShownInRange, kind_dac, kind_plane}
-use Rattle.vga_script.specs.Spelling.{StartsWithStep, header, opcode_out, opcode_out_word, opcode_in, opcode_in_word, opcode_put, opcode_put_word, opcode_get, opcode_get_word, opcode_int, opcode_advance, opcode_show, item_spelling, StartsWithItem, SpellsItems, Spells}
-use Rattle.vga_script.specs.Decoding.{shown_len, fields_len, StartsOutOfRange, StartsWithBadStep, StartsWithCutStep, SpellsUpTo, IsItemFault, HasItemFault, IsSpellingFault}
+use Rattle.vga_script.specs.Spelling.{StartsWithStep, header, opcode_out, opcode_out_word, opcode_in, opcode_in_word, opcode_put, opcode_put_word, opcode_get}
+use Rattle.vga_script.specs.Spelling.{opcode_get_word, opcode_int, opcode_advance, opcode_show, item_spelling, StartsWithItem, SpellsItems, Spells}
+use Rattle.vga_script.specs.Decoding.{shown_len, fields_len, StartsOutOfRange, StartsWithBadStep, StartsWithCutStep, SpellsUpTo, IsItemFault, HasItemFault}
+use Rattle.vga_script.specs.Decoding.{IsSpellingFault}
 use Rattle.vga_script.proofs.ItemLemmas.{length-expanded-push}
 
 -- an opcode whose fields are not all there
@@ -42,10 +45,12 @@ pub cut_int : (fields : List ℕ) → length fields < 10 + little_number 2 (drop
 cut_int fields short = (opcode_int, fields, 10 + little_number 2 (drop 8 fields), refl, refl, short)
 
 -- a call whose block is not all there
-pub cut_block : (fields r1 r2 r3 r4 rest : List ℕ) (ax bx cx dx len : ℕ) → fields ≡ little_bytes 2 ax ++ r1 → r1 ≡ little_bytes 2 bx ++ r2 → r2 ≡ little_bytes 2 cx ++ r3 → r3 ≡ little_bytes 2 dx ++ r4 → r4 ≡ little_bytes 2 len ++ rest
+pub cut_block : (fields r1 r2 r3 r4 rest : List ℕ) (ax bx cx dx len : ℕ) → fields ≡ little_bytes 2 ax ++ r1 → r1 ≡ little_bytes 2 bx ++ r2 →
+    r2 ≡ little_bytes 2 cx ++ r3 → r3 ≡ little_bytes 2 dx ++ r4 → r4 ≡ little_bytes 2 len ++ rest
     → len < 2 ^ 16 → length rest < len → StartsWithCutStep (opcode_int ∷ fields)
 cut_block fields r1 r2 r3 r4 rest ax bx cx dx len ha hb hc hd hl small short =
-    let whole : fields ≡ little_bytes 2 ax ++ (little_bytes 2 bx ++ (little_bytes 2 cx ++ (little_bytes 2 dx ++ (little_bytes 2 len ++ rest)))) = rw (ha, hb, hc, hd, hl) refl in
+    let whole : fields ≡ little_bytes 2 ax ++ (little_bytes 2 bx ++ (little_bytes 2 cx ++ (little_bytes 2 dx ++ (little_bytes 2 len ++ rest)))) =
+    rw (ha, hb, hc, hd, hl) refl in
     let count : little_number 2 (drop 8 fields) ≡ len = ap (λ (l : List ℕ). little_number 2 (drop 8 l)) whole ∙ two_back len rest small in
     let l = ap length whole in
     cut_int fields (omega arith)
@@ -73,7 +78,8 @@ pub no_kind : (fields rest : List ℕ) (kind : ℕ) → fields ≡ kind ∷ rest
 no_kind fields rest kind e is = inl (opcode_show, fields, refl, ap shown_len e ∙ is)
 
 -- bytes of a plane that are not there, or too many
-pub out_of_range : (fields rest : List ℕ) (plane offset count : ℕ) (b : Bool) → fields ≡ plane ∷ (little_bytes 2 offset ++ (little_bytes 2 count ++ rest)) → offset < 2 ^ 16 → count < 2 ^ 16
+pub out_of_range : (fields rest : List ℕ) (plane offset count : ℕ) (b : Bool) → fields ≡ plane ∷ (little_bytes 2 offset ++ (little_bytes 2 count ++ rest)) →
+    offset < 2 ^ 16 → count < 2 ^ 16
     → (IsTrue b ↔ IsShownInRange (shown.Plane plane offset count)) → b ≡ false → StartsOutOfRange (opcode_show ∷ kind_plane ∷ fields)
 out_of_range fields rest plane offset count b e ho hn same is =
     (plane, offset, count, rest, ho, hn, ap (λ (l : List ℕ). opcode_show ∷ kind_plane ∷ l) e, λ h. let yes = same.1 h in absurd (cc))
@@ -84,10 +90,14 @@ bad_range bytes h = inr h
 -- ---- the items of a script
 
 -- one more item behind some
-items_more : (version : Version) (front : List ℕ) (items : List Item) (i : Item) → SpellsItems version front items → IsItemOf version i → SpellsItems version (front ++ item_spelling i) (items ++ i ∷ [])
+items_more : (version : Version) (front : List ℕ) (items : List Item) (i : Item) → SpellsItems version front items → IsItemOf version i →
+    SpellsItems version (front ++ item_spelling i) (items ++ i ∷ [])
 items_more version front [] i none fits = ([], (fits, ap (λ (l : List ℕ). l ++ item_spelling i) none ∙ sym (append-nil (item_spelling i))), refl)
-items_more version front (j ∷ items) i (rest, (fits, whole), more) last =
-    (rest ++ item_spelling i, (fits, ap (λ (l : List ℕ). l ++ item_spelling i) whole ∙ append_assoc (item_spelling j) rest (item_spelling i)), items_more version rest items i more last)
+items_more version front (j ∷ items) i (rest, (fits, whole), more) last = (
+  rest ++ item_spelling i,
+  (fits, ap (λ (l : List ℕ). l ++ item_spelling i) whole ∙ append_assoc (item_spelling j) rest (item_spelling i)),
+  items_more version rest items i more last,
+)
 
 -- the items so far, which mean so many steps, stand before the rest of a script
 pub record HasDecoded (bytes : List ℕ) (version : Version) (items : List Item) (taken : ℕ) (rest : List ℕ) : Type 0 where
@@ -110,7 +120,8 @@ decoded_nothing bytes rest version e = record {
 }
 
 -- one more is
-pub decoded_more : (bytes rest others : List ℕ) (version : Version) (items : List Item) (taken more : ℕ) (i : Item) → HasDecoded bytes version items taken rest → StartsWithItem version rest i others
+pub decoded_more : (bytes rest others : List ℕ) (version : Version) (items : List Item) (taken more : ℕ) (i : Item) →
+    HasDecoded bytes version items taken rest → StartsWithItem version rest i others
     → more ≡ taken + length (steps_of i) → more ≤ step_limit → HasDecoded bytes version (items ++ i ∷ []) more others
 decoded_more bytes rest others version items taken more i h (fits, e) sum few =
     let pushed = length-expanded-push items i in
@@ -135,12 +146,14 @@ nothing [] e = refl
 nothing (x ∷ xs) e = absurd (omega arith)
 
 -- nothing is left
-pub decoded_all : (bytes rest : List ℕ) (version : Version) (items : List Item) (taken : ℕ) → HasDecoded bytes version items taken rest → rest ≡ [] → Spells bytes (listing version items)
+pub decoded_all : (bytes rest : List ℕ) (version : Version) (items : List Item) (taken : ℕ) → HasDecoded bytes version items taken rest → rest ≡ [] →
+    Spells bytes (listing version items)
 decoded_all bytes rest version items taken h none =
     subst (λ (l : List ℕ). Spells l (listing version items)) (sym (h.whole ∙ ap (λ (l : List ℕ). h.front ++ l) none ∙ append-nil h.front)) h.good
 
 -- the rest stands where the items so far end
-up_to : (bytes rest : List ℕ) (version : Version) (items : List Item) (taken offset : ℕ) → HasDecoded bytes version items taken rest → offset ≡ length bytes - length rest → SpellsUpTo bytes (listing version items) offset rest
+up_to : (bytes rest : List ℕ) (version : Version) (items : List Item) (taken offset : ℕ) → HasDecoded bytes version items taken rest →
+    offset ≡ length bytes - length rest → SpellsUpTo bytes (listing version items) offset rest
 up_to bytes rest version items taken offset h e = record {
   front = h.front;
   whole = h.whole;
@@ -155,10 +168,17 @@ item_fault bytes (fault.Truncated at) h = inr h
 item_fault bytes (fault.TooMany at) h = h
 item_fault bytes _ (script, offset, rest, up, h) = absurd h
 
-pub decoded_fault : (bytes rest : List ℕ) (version : Version) (items : List Item) (taken offset : ℕ) (f : Fault) → HasDecoded bytes version items taken rest → offset ≡ length bytes - length rest
+pub decoded_fault : (bytes rest : List ℕ) (version : Version) (items : List Item) (taken offset : ℕ) (f : Fault) → HasDecoded bytes version items taken rest →
+    offset ≡ length bytes - length rest
     → IsItemFault version taken offset rest f → IsSpellingFault bytes f
 decoded_fault bytes rest version items taken offset f h e bad =
-    item_fault bytes f (listing version items, offset, rest, up_to bytes rest version items taken offset h e, subst (λ (n : ℕ). IsItemFault version n offset rest f) h.count bad)
+    item_fault bytes f (
+      listing version items,
+      offset,
+      rest,
+      up_to bytes rest version items taken offset h e,
+      subst (λ (n : ℕ). IsItemFault version n offset rest f) h.count bad,
+    )
 
 -- ---- passing over items
 
@@ -166,20 +186,29 @@ pub decoded_none : (bytes rest : List ℕ) (version : Version) → bytes ≡ hea
 decoded_none bytes rest version e = ([], decoded_nothing bytes rest version e)
 
 -- one more item is passed over
-pub passed_more : (bytes rest others : List ℕ) (version : Version) (taken more : ℕ) (i : Item) → (items : List Item) × HasDecoded bytes version items taken rest → StartsWithItem version rest i others
+pub passed_more : (bytes rest others : List ℕ) (version : Version) (taken more : ℕ) (i : Item) → (items : List Item)
+    × HasDecoded bytes version items taken rest → StartsWithItem version rest i others
     → more ≡ taken + length (steps_of i) → more ≤ step_limit → (items : List Item) × HasDecoded bytes version items more others
-passed_more bytes rest others version taken more i (items, h) starts sum few = (items ++ i ∷ [], decoded_more bytes rest others version items taken more i h starts sum few)
+passed_more bytes rest others version taken more i (items, h) starts sum few = (
+  items ++ i ∷ [],
+  decoded_more bytes rest others version items taken more i h starts sum few,
+)
 
 -- and one more step
-pub passed_step : (bytes rest others : List ℕ) (version : Version) (taken : ℕ) (step : Step) → (items : List Item) × HasDecoded bytes version items taken rest → StartsWithStep rest step others → taken ≢ step_limit
+pub passed_step : (bytes rest others : List ℕ) (version : Version) (taken : ℕ) (step : Step) → (items : List Item) × HasDecoded bytes version items taken rest →
+    StartsWithStep rest step others → taken ≢ step_limit
     → (items : List Item) × HasDecoded bytes version items (taken + 1) others
-passed_step bytes rest others version taken step (items, h) starts other = let few = h.few in passed_more bytes rest others version taken (taken + 1) (Once step) (items, h) starts refl (omega arith)
+passed_step bytes rest others version taken step (items, h) starts other = let few = h.few in
+    passed_more bytes rest others version taken (taken + 1) (Once step) (items, h) starts refl (omega arith)
 
 -- with which there are too many
-pub many_steps : (bytes rest others : List ℕ) (version : Version) (taken offset : ℕ) (step : Step) → (items : List Item) × HasDecoded bytes version items taken rest → offset ≡ length bytes - length rest → StartsWithStep rest step others
+pub many_steps : (bytes rest others : List ℕ) (version : Version) (taken offset : ℕ) (step : Step) → (items : List Item)
+    × HasDecoded bytes version items taken rest → offset ≡ length bytes - length rest → StartsWithStep rest step others
     → taken ≡ step_limit → IsSpellingFault bytes (fault.TooMany offset)
-many_steps bytes rest others version taken offset step (items, h) e starts is = decoded_fault bytes rest version items taken offset (fault.TooMany offset) h e (refl, (Once step, others, starts, omega arith))
+many_steps bytes rest others version taken offset step (items, h) e starts is = decoded_fault bytes rest version items taken offset (fault.TooMany offset) h e
+    (refl, (Once step, others, starts, omega arith))
 
 -- all items were passed over
-pub passed_all : (bytes rest : List ℕ) (version : Version) (taken : ℕ) → (items : List Item) × HasDecoded bytes version items taken rest → length rest ≡ 0 → (script : Listing) × Spells bytes script
+pub passed_all : (bytes rest : List ℕ) (version : Version) (taken : ℕ) → (items : List Item) × HasDecoded bytes version items taken rest → length rest ≡ 0 →
+    (script : Listing) × Spells bytes script
 passed_all bytes rest version taken (items, h) none = (listing version items, decoded_all bytes rest version items taken h (nothing rest none))

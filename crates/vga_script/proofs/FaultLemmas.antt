@@ -1,5 +1,6 @@
 -- No bytes have two faults, and none that spell a script of allowed length have one.
-use Rattle.std.proofs.Common.{◌≡◌, ◌≢◌, ◌⊎◌, ℕ, ◌+◌, ◌≤◌, List, [], ◌∷◌, ◌++◌, length, length-append, Result, Ok, Err, arith, sym, ap, ◌∙◌, subst, subst₂, append_assoc, append-nil, inl, inr, refl}
+use Rattle.std.proofs.Common.{◌≡◌, ◌≢◌, ◌⊎◌, ℕ, ◌+◌, ◌≤◌, List, [], ◌∷◌, ◌++◌, length, length-append, Result, Ok, Err, arith, sym, ap, ◌∙◌, subst, subst₂}
+use Rattle.std.proofs.Common.{append_assoc, append-nil, inl, inr, refl}
 use Rattle.std.specs.Prelude.{IfErr, IsOkUnless}
 use Rattle.std.specs.List.{flat_map}
 use Rattle.vga_bits.specs.declared.fault.Fault.{Fault}
@@ -23,23 +24,27 @@ record StandsAt (bytes : List ℕ) (version : Version) (items : List Item) (offs
   few : length (expanded items) ≤ step_limit
   place : offset + length rest ≡ length bytes
 
-stands_at : (bytes : List ℕ) (script : Listing) (offset : ℕ) (rest : List ℕ) → SpellsUpTo bytes script offset rest → StandsAt bytes script.version script.items offset rest
+stands_at : (bytes : List ℕ) (script : Listing) (offset : ℕ) (rest : List ℕ) → SpellsUpTo bytes script offset rest →
+    StandsAt bytes script.version script.items offset rest
 stands_at bytes script offset rest h = record {
-  whole = h.whole ∙ ap (λ (l : List ℕ). l ++ rest) (h.good.1 ∙ ap (λ (l : List ℕ). header script.version ++ l) (spelled_items script.version h.good.0 script.items h.good.2)) ∙ append_assoc (header script.version) (flat_map item_spelling script.items) rest;
+  whole = h.whole ∙ ap (λ (l : List ℕ). l ++ rest) (h.good.1 ∙ ap (λ (l : List ℕ). header script.version
+      ++ l) (spelled_items script.version h.good.0 script.items h.good.2)) ∙ append_assoc (header script.version) (flat_map item_spelling script.items) rest;
   fits = items_fit script.version h.good.0 script.items h.good.2;
   few = h.good.3;
   place = let whole = ap length h.whole ∙ length-append h.front rest in let place = h.place in omega arith;
 }
 
 -- items that go on with one more stay within the limit with it
-within_limit : (items others : List Item) (i : Item) (longer : List Item) → longer ≡ items ++ i ∷ others → length (expanded longer) ≤ step_limit → length (expanded items) + length (steps_of i) ≤ step_limit
+within_limit : (items others : List Item) (i : Item) (longer : List Item) → longer ≡ items ++ i ∷ others → length (expanded longer) ≤ step_limit →
+    length (expanded items) + length (steps_of i) ≤ step_limit
 within_limit items others i longer e few =
     let len = ap (λ (l : List Item). length (expanded l)) e in
     let whole = length-expanded-append items (i ∷ others) in
     let first = length-expanded-cons i others in omega arith
 
 -- two places with a fault are one
-same_place : (bytes : List ℕ) (version : Version) (items items' : List Item) (offset offset' : ℕ) (rest rest' : List ℕ) (f g : Fault) → StandsAt bytes version items offset rest → StandsAt bytes version items' offset' rest'
+same_place : (bytes : List ℕ) (version : Version) (items items' : List Item) (offset offset' : ℕ) (rest rest' : List ℕ) (f g : Fault) →
+    StandsAt bytes version items offset rest → StandsAt bytes version items' offset' rest'
     → Kinds version (length (expanded items)) offset rest f → Kinds version (length (expanded items')) offset' rest' g
     → Compared item_spelling (IsItemOf version) items items' rest rest' → f ≡ g
 same_place bytes version items items' offset offset' rest rest' f g h h' k k' (inl (same, rests)) =
@@ -49,24 +54,29 @@ same_place bytes version items items' offset offset' rest rest' f g h h' k k' (i
     let at : offset' ≡ offset = omega arith in
     let taken = ap (λ (l : List Item). length (expanded l)) same in
     one_kind version (length (expanded items)) offset rest f g k
-    (subst (λ (n : ℕ). Kinds version n offset rest g) (sym taken) (subst₂ (λ (n : ℕ) (l : List ℕ). Kinds version (length (expanded items')) n l g) at (sym rests) k'))
+    (subst (λ (n : ℕ). Kinds version n offset rest g) (sym taken) (subst₂ (λ (n : ℕ) (l : List ℕ). Kinds version (length (expanded items')) n l g) at
+    (sym rests) k'))
 same_place bytes version items items' offset offset' rest rest' f g h h' k k' (inr (inl (next, others, is, fits, rests))) =
     absurd (item_or_kind version (length (expanded items)) offset rest f next _ k (fits, rests) (within_limit items others next items' is h'.few))
 same_place bytes version items items' offset offset' rest rest' f g h h' k k' (inr (inr (next, others, is, fits, rests))) =
     absurd (item_or_kind version (length (expanded items')) offset' rest' g next _ k' (fits, rests) (within_limit items' others next items is h.few))
 
 -- the first fault of an item is one
-one_place : (bytes : List ℕ) (version version' : Version) (items items' : List Item) (offset offset' : ℕ) (rest rest' : List ℕ) (f g : Fault) → StandsAt bytes version items offset rest → StandsAt bytes version' items' offset' rest'
+one_place : (bytes : List ℕ) (version version' : Version) (items items' : List Item) (offset offset' : ℕ) (rest rest' : List ℕ) (f g : Fault) →
+    StandsAt bytes version items offset rest → StandsAt bytes version' items' offset' rest'
     → Kinds version (length (expanded items)) offset rest f → Kinds version' (length (expanded items')) offset' rest' g → f ≡ g
 one_place bytes version version' items items' offset offset' rest rest' f g h h' k k' =
     let both = one_header version version' (flat_map item_spelling items ++ rest) (flat_map item_spelling items' ++ rest') (sym h.whole ∙ h'.whole) in
     let there : StandsAt bytes version items' offset' rest' = subst (λ (v : Version). StandsAt bytes v items' offset' rest') (sym both.0) h' in
-    let bad : Kinds version (length (expanded items')) offset' rest' g = subst (λ (v : Version). Kinds v (length (expanded items')) offset' rest' g) (sym both.0) k' in
-    same_place bytes version items items' offset offset' rest rest' f g h there k bad (compare item_spelling (IsItemOf version) (one_item version) items items' rest rest' h.fits there.fits both.1)
+    let bad : Kinds version (length (expanded items')) offset' rest' g = subst (λ (v : Version). Kinds v (length (expanded items')) offset' rest' g)
+    (sym both.0) k' in
+    same_place bytes version items items' offset offset' rest rest' f g h there k bad
+    (compare item_spelling (IsItemOf version) (one_item version) items items' rest rest' h.fits there.fits both.1)
 
 one_item_fault : (bytes : List ℕ) (f g : Fault) → HasItemFault bytes f → HasItemFault bytes g → f ≡ g
 one_item_fault bytes f g (script, offset, rest, up, bad) (script', offset', rest', up', bad') =
-    one_place bytes script.version script'.version script.items script'.items offset offset' rest rest' f g (stands_at bytes script offset rest up) (stands_at bytes script' offset' rest' up')
+    one_place bytes script.version script'.version script.items script'.items offset offset' rest rest' f g (stands_at bytes script offset rest up)
+    (stands_at bytes script' offset' rest' up')
     (kind script.version (length (expanded script.items)) offset rest f bad) (kind script'.version (length (expanded script'.items)) offset' rest' g bad')
 
 -- bytes with a fault of an item begin with a header
@@ -92,7 +102,8 @@ faults bytes (fault.TooMany at) h = inr (inr (inr h))
 faults bytes _ h = absurd h
 
 -- a byte of no version is that of none
-no_version : (bytes rest more : List ℕ) (other : ℕ) (version : Version) → bytes ≡ magic ++ other ∷ rest → ((v : Version) → other ≢ version_byte v) → bytes ≡ magic ++ version_byte version ∷ more → ⊥
+no_version : (bytes rest more : List ℕ) (other : ℕ) (version : Version) → bytes ≡ magic ++ other ∷ rest → ((v : Version) → other ≢ version_byte v) →
+    bytes ≡ magic ++ version_byte version ∷ more → ⊥
 no_version bytes rest more other version e none front =
     let both : magic ++ other ∷ rest ≡ magic ++ version_byte version ∷ more = sym e ∙ front in
     let same : other ≡ version_byte version = cc in
@@ -111,26 +122,34 @@ one_of_faults bytes f g (inl (is, none)) (inr (inr (inr h))) = let front = item_
 one_of_faults bytes f g (inr (inl (is, (other, rest, e, unknown)))) (inl (is', none)) = absurd (none (other ∷ rest) e)
 one_of_faults bytes f g (inr (inl (is, bad))) (inr (inl (is', bad'))) = is ∙ sym is'
 one_of_faults bytes f g (inr (inl (is, (other, rest, e, unknown)))) (inr (inr (inl (is', short)))) = absurd (goes_on bytes rest other e short)
-one_of_faults bytes f g (inr (inl (is, (other, rest, e, unknown)))) (inr (inr (inr h))) = let front = item_front bytes g h in absurd (no_version bytes rest front.1 other front.0 e unknown front.2)
+one_of_faults bytes f g (inr (inl (is, (other, rest, e, unknown)))) (inr (inr (inr h))) = let front = item_front bytes g h in
+    absurd (no_version bytes rest front.1 other front.0 e unknown front.2)
 one_of_faults bytes f g (inr (inr (inl (is, short)))) (inl (is', none)) = absurd (none [] short)
 one_of_faults bytes f g (inr (inr (inl (is, short)))) (inr (inl (is', (other, rest, e, unknown)))) = absurd (goes_on bytes rest other e short)
 one_of_faults bytes f g (inr (inr (inl (is, short)))) (inr (inr (inl (is', short')))) = is ∙ sym is'
-one_of_faults bytes f g (inr (inr (inl (is, short)))) (inr (inr (inr h))) = let front = item_front bytes g h in absurd (goes_on bytes front.1 (version_byte front.0) front.2 short)
+one_of_faults bytes f g (inr (inr (inl (is, short)))) (inr (inr (inr h))) = let front = item_front bytes g h in
+    absurd (goes_on bytes front.1 (version_byte front.0) front.2 short)
 one_of_faults bytes f g (inr (inr (inr h))) (inl (is', none)) = let front = item_front bytes f h in absurd (none _ front.2)
-one_of_faults bytes f g (inr (inr (inr h))) (inr (inl (is', (other, rest, e, unknown)))) = let front = item_front bytes f h in absurd (no_version bytes rest front.1 other front.0 e unknown front.2)
-one_of_faults bytes f g (inr (inr (inr h))) (inr (inr (inl (is', short)))) = let front = item_front bytes f h in absurd (goes_on bytes front.1 (version_byte front.0) front.2 short)
+one_of_faults bytes f g (inr (inr (inr h))) (inr (inl (is', (other, rest, e, unknown)))) = let front = item_front bytes f h in
+    absurd (no_version bytes rest front.1 other front.0 e unknown front.2)
+one_of_faults bytes f g (inr (inr (inr h))) (inr (inr (inl (is', short)))) = let front = item_front bytes f h in
+    absurd (goes_on bytes front.1 (version_byte front.0) front.2 short)
 one_of_faults bytes f g (inr (inr (inr h))) (inr (inr (inr h'))) = one_item_fault bytes f g h h'
 
 -- a script has no item with a fault
-no_item_fault : (bytes : List ℕ) (version version' : Version) (items items' : List Item) (offset : ℕ) (rest : List ℕ) (f : Fault) → StandsAt bytes version items (length bytes) [] → StandsAt bytes version' items' offset rest
+no_item_fault : (bytes : List ℕ) (version version' : Version) (items items' : List Item) (offset : ℕ) (rest : List ℕ) (f : Fault) →
+    StandsAt bytes version items (length bytes) [] → StandsAt bytes version' items' offset rest
     → Kinds version' (length (expanded items')) offset rest f → ⊥
 no_item_fault bytes version version' items items' offset rest f h h' k' =
     let both = one_header version version' (flat_map item_spelling items ++ []) (flat_map item_spelling items' ++ rest) (sym h.whole ∙ h'.whole) in
     let there : StandsAt bytes version items' offset rest = subst (λ (v : Version). StandsAt bytes v items' offset rest) (sym both.0) h' in
-    let bad : Kinds version (length (expanded items')) offset rest f = subst (λ (v : Version). Kinds v (length (expanded items')) offset rest f) (sym both.0) k' in
-    nowhere bytes version items items' offset rest f h bad (compare item_spelling (IsItemOf version) (one_item version) items items' [] rest h.fits there.fits both.1)
+    let bad : Kinds version (length (expanded items')) offset rest f = subst (λ (v : Version). Kinds v (length (expanded items')) offset rest f) (sym both.0)
+    k' in
+    nowhere bytes version items items' offset rest f h bad (compare item_spelling (IsItemOf version) (one_item version) items items' [] rest h.fits there.fits
+    both.1)
   where
-    nowhere : (bytes : List ℕ) (version : Version) (items items' : List Item) (offset : ℕ) (rest : List ℕ) (f : Fault) → StandsAt bytes version items (length bytes) [] → Kinds version (length (expanded items')) offset rest f
+    nowhere : (bytes : List ℕ) (version : Version) (items items' : List Item) (offset : ℕ) (rest : List ℕ) (f : Fault) →
+        StandsAt bytes version items (length bytes) [] → Kinds version (length (expanded items')) offset rest f
         → Compared item_spelling (IsItemOf version) items items' [] rest → ⊥
     nowhere bytes version items items' offset rest f h k (inl (same, rests)) = kind_at_end version (length (expanded items')) offset rest f (sym rests) k
     nowhere bytes version items items' offset rest f h k (inr (inl (next, others, is, fits, rests))) = some_item_byte version next _ fits rests
@@ -140,7 +159,8 @@ no_item_fault bytes version version' items items' offset rest f h h' k' =
 -- the whole of a script stands before its end
 stands_whole : (bytes : List ℕ) (script : Listing) → Spells bytes script → StandsAt bytes script.version script.items (length bytes) []
 stands_whole bytes script (rest, whole, good, few) = record {
-  whole = whole ∙ ap (λ (l : List ℕ). header script.version ++ l) (spelled_items script.version rest script.items good ∙ sym (append-nil (flat_map item_spelling script.items)));
+  whole = whole ∙ ap (λ (l : List ℕ). header script.version ++ l) (spelled_items script.version rest script.items good
+      ∙ sym (append-nil (flat_map item_spelling script.items)));
   fits = items_fit script.version rest script.items good;
   few = few;
   place = omega arith;
@@ -152,7 +172,8 @@ no_fault_of bytes script f (r, w, m, few) (inl (is, none)) = none (version_byte 
 no_fault_of bytes script f (r, w, m, few) (inr (inl (is, (other, rest, e, unknown)))) = no_version bytes rest r other script.version e unknown w
 no_fault_of bytes script f (r, w, m, few) (inr (inr (inl (is, short)))) = goes_on bytes r (version_byte script.version) w short
 no_fault_of bytes script f good (inr (inr (inr (script', offset, rest, up, bad)))) =
-    no_item_fault bytes script.version script'.version script.items script'.items offset rest f (stands_whole bytes script good) (stands_at bytes script' offset rest up)
+    no_item_fault bytes script.version script'.version script.items script'.items offset rest f (stands_whole bytes script good)
+    (stands_at bytes script' offset rest up)
     (kind script'.version (length (expanded script'.items)) offset rest f bad)
 
 -- ---- with the bound on the length

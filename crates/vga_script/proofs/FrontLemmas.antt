@@ -1,5 +1,6 @@
 -- The steps and the items that bytes spell are read back from them.
-use Rattle.std.proofs.Common.{◌≡◌, ℕ, zero, suc, ◌<◌, ◌≤◌, List, [], ◌∷◌, ◌++◌, length, drop, get_or, length-append, Option, Some, refl, sym, ap, ◌∙◌, subst, arith, append_assoc}
+use Rattle.std.proofs.Common.{◌≡◌, ℕ, zero, suc, ◌<◌, ◌≤◌, List, [], ◌∷◌, ◌++◌, length, drop, get_or, length-append, Option, Some, refl, sym, ap, ◌∙◌, subst}
+use Rattle.std.proofs.Common.{arith, append_assoc}
 use Rattle.std.specs.List.{flat_map}
 use Rattle.byteorder.specs.Endian.{little_bytes, little_number}
 use Rattle.vga_script.specs.declared.step.Step.{Step}
@@ -9,7 +10,8 @@ use Rattle.vga_script.specs.declared.version.Version.{Version}
 use Rattle.vga_script.specs.declared.version.Version.TheVariants.{One, Two}
 use Rattle.vga_script.specs.Version.{version_byte}
 use Rattle.vga_script.specs.Step.{AreInRange}
-use Rattle.vga_script.specs.Front.{step_of, and_others, steps_from, steps_in, behind_others, behind_from, behind_steps, step_item, block_item, item_of, and_items, items_from, items_in, version_of, listing_of}
+use Rattle.vga_script.specs.Front.{step_of, and_others, steps_from, steps_in, behind_others, behind_from, behind_steps, step_item, block_item, item_of}
+use Rattle.vga_script.specs.Front.{and_items, items_from, items_in, version_of, listing_of}
 use Rattle.vga_script.specs.Spelling.{opcode_end, spelling, item_spelling, StartsWithStep, StartsWithItem, SpellsSteps, SpellsItems, Spells}
 use Rattle.vga_script.proofs.FieldLemmas.{two_back}
 use Rattle.vga_script.proofs.OptionLemmas.{just}
@@ -64,12 +66,14 @@ pub spells_in : (bytes : List ℕ) (steps : List Step) → SpellsSteps bytes ste
 spells_in bytes steps h = subst (SpellsSteps bytes) (sym (steps_are bytes steps h)) h
 
 -- the first of them, and the others
-pub first_read : (bytes others : List ℕ) (steps : List Step) (step : Step) → SpellsSteps bytes steps → StartsWithStep bytes step others → (steps_in bytes ≡ step ∷ steps_in others) × SpellsSteps others (steps_in others)
+pub first_read : (bytes others : List ℕ) (steps : List Step) (step : Step) → SpellsSteps bytes steps → StartsWithStep bytes step others →
+    (steps_in bytes ≡ step ∷ steps_in others) × SpellsSteps others (steps_in others)
 first_read bytes others [] step e (fits, whole) = absurd (some_byte step others fits (sym whole ∙ e))
 first_read bytes others (s ∷ steps) step (rest, (fits', whole'), more) (fits, whole) =
     let one = one_step step s others rest fits fits' (sym whole ∙ whole') in
     let left : SpellsSteps others steps = subst (λ (l : List ℕ). SpellsSteps l steps) (sym one.1) more in (
-      steps_are bytes (s ∷ steps) (rest, (fits', whole'), more) ∙ ap (λ (x : Step). x ∷ steps) (sym one.0) ∙ ap (λ (l : List Step). step ∷ l) (sym (steps_are others steps left)),
+      steps_are bytes (s ∷ steps) (rest, (fits', whole'), more) ∙ ap (λ (x : Step). x ∷ steps) (sym one.0)
+          ∙ ap (λ (l : List Step). step ∷ l) (sym (steps_are others steps left)),
       spells_in others steps left,
     )
 
@@ -134,7 +138,8 @@ item_back version (Repeated count steps) x (allowed, some, small, range) =
     let grouped : (flat_map spelling steps ++ opcode_end ∷ []) ++ x ≡ body = append_assoc (flat_map spelling steps) (opcode_end ∷ []) x in
     let back = body_back steps x range in
     ap (λ (l : List ℕ). block_item (little_number 2 (little_bytes 2 count ++ l)) l) grouped ∙ ap (λ (n : ℕ). block_item n body) (two_back count body small)
-    ∙ ap (λ (l : List Step). item_and (Repeated count l) (drop 1 (behind_steps body))) back.0 ∙ ap (λ (l : List ℕ). item_and (Repeated count steps) (drop 1 l)) back.1
+    ∙ ap (λ (l : List Step). item_and (Repeated count l) (drop 1 (behind_steps body))) back.0
+    ∙ ap (λ (l : List ℕ). item_and (Repeated count steps) (drop 1 l)) back.1
 
 -- an item has at least one byte
 pub item_bytes : (i : Item) → 1 ≤ length (item_spelling i)
@@ -156,7 +161,8 @@ few_items version bytes (i ∷ items) (rest, (fits, whole), more) =
     let others = few_items version rest items more in omega arith
 
 -- the items that bytes spell are read back from them
-items_back : (version : Version) (most : ℕ) (bytes : List ℕ) (items : List Item) → SpellsItems version bytes items → length items ≤ most → items_from most bytes ≡ items
+items_back : (version : Version) (most : ℕ) (bytes : List ℕ) (items : List Item) → SpellsItems version bytes items → length items ≤ most →
+    items_from most bytes ≡ items
 items_back version zero bytes [] e few = refl
 items_back version (suc most) bytes [] e few = ap (λ (l : List ℕ). and_items (item_of l) (items_from most)) e
 items_back version zero bytes (i ∷ items) h few = absurd (omega arith)
@@ -172,13 +178,15 @@ pub spells_items_in : (version : Version) (bytes : List ℕ) (items : List Item)
 spells_items_in version bytes items h = subst (SpellsItems version bytes) (sym (items_are version bytes items h)) h
 
 -- the first of them, and the others
-pub first_item : (version : Version) (bytes others : List ℕ) (items : List Item) (i : Item) → SpellsItems version bytes items → StartsWithItem version bytes i others
+pub first_item : (version : Version) (bytes others : List ℕ) (items : List Item) (i : Item) → SpellsItems version bytes items →
+    StartsWithItem version bytes i others
     → (items_in bytes ≡ i ∷ items_in others) × SpellsItems version others (items_in others)
 first_item version bytes others [] i e (fits, whole) = absurd (some_item_byte version i others fits (sym e ∙ whole))
 first_item version bytes others (j ∷ items) i (rest, (fits', whole'), more) (fits, whole) =
     let one = one_item version i j others rest fits fits' (sym whole ∙ whole') in
     let left : SpellsItems version others items = subst (λ (l : List ℕ). SpellsItems version l items) (sym one.1) more in (
-      items_are version bytes (j ∷ items) (rest, (fits', whole'), more) ∙ ap (λ (x : Item). x ∷ items) (sym one.0) ∙ ap (λ (l : List Item). i ∷ l) (sym (items_are version others items left)),
+      items_are version bytes (j ∷ items) (rest, (fits', whole'), more) ∙ ap (λ (x : Item). x ∷ items) (sym one.0)
+          ∙ ap (λ (l : List Item). i ∷ l) (sym (items_are version others items left)),
       spells_items_in version others items left,
     )
 
@@ -193,7 +201,9 @@ version_back Two = refl
 pub listing_back : (bytes : List ℕ) (script : Listing) → Spells bytes script → listing_of bytes ≡ script
 unfolding listing_of
 listing_back bytes script (rest, whole, good, few) =
-    ap (λ (l : List ℕ). listing (version_of (get_or l 4 0)) (items_in (drop 5 l))) whole ∙ ap (λ (v : Version). listing v (items_in rest)) (version_back script.version) ∙ ap (listing script.version) (items_are script.version rest script.items good)
+    ap (λ (l : List ℕ). listing (version_of (get_or l 4 0)) (items_in (drop 5 l))) whole
+    ∙ ap (λ (v : Version). listing v (items_in rest)) (version_back script.version)
+    ∙ ap (listing script.version) (items_are script.version rest script.items good)
 
 -- so they spell what they are read as
 pub spells_itself : (bytes : List ℕ) → (script : Listing) × Spells bytes script → Spells bytes (listing_of bytes)

@@ -24,7 +24,8 @@ no_step : (p : Step × List ℕ) → step_of [] ≡ just p → ⊥
 no_step p e = absurd (cc)
 
 -- a dump of a plane that was written is read back, and need not be in range
-pub plane_back : (plane offset count : ℕ) (x : List ℕ) → offset < 2 ^ 16 → count < 2 ^ 16 → step_of (spelling (Show (shown.Plane plane offset count)) ++ x) ≡ Some (Show (shown.Plane plane offset count), x)
+pub plane_back : (plane offset count : ℕ) (x : List ℕ) → offset < 2 ^ 16 → count < 2 ^ 16 →
+    step_of (spelling (Show (shown.Plane plane offset count)) ++ x) ≡ Some (Show (shown.Plane plane offset count), x)
 plane_back plane offset count x ho hn =
     ap (λ (o : ℕ). just (Show (shown.Plane plane o (little_number 2 (little_bytes 2 count ++ x))), x)) (two_back offset (little_bytes 2 count ++ x) ho)
     ∙ ap (λ (n : ℕ). just (Show (shown.Plane plane offset n), x)) (two_back count x hn)
@@ -50,8 +51,10 @@ step_back (Int ax bx cx dx block) x (ha, hb, hc, hd, (hl, all)) =
     let d = little_bytes 2 dx in
     let l = little_bytes 2 (length block) in
     let rest = block ++ x in
-    ap (λ (n : ℕ). call_at n (little_number 2 (b ++ (c ++ (d ++ (l ++ rest))))) (little_number 2 (c ++ (d ++ (l ++ rest)))) (little_number 2 (d ++ (l ++ rest))) (little_number 2 (l ++ rest)) rest) (two_back ax (b ++ (c ++ (d ++ (l ++ rest)))) ha)
-    ∙ ap (λ (n : ℕ). call_at ax n (little_number 2 (c ++ (d ++ (l ++ rest)))) (little_number 2 (d ++ (l ++ rest))) (little_number 2 (l ++ rest)) rest) (two_back bx (c ++ (d ++ (l ++ rest))) hb)
+    ap (λ (n : ℕ). call_at n (little_number 2 (b ++ (c ++ (d ++ (l ++ rest))))) (little_number 2 (c ++ (d ++ (l ++ rest)))) (little_number 2 (d ++ (l ++ rest)))
+    (little_number 2 (l ++ rest)) rest) (two_back ax (b ++ (c ++ (d ++ (l ++ rest)))) ha)
+    ∙ ap (λ (n : ℕ). call_at ax n (little_number 2 (c ++ (d ++ (l ++ rest)))) (little_number 2 (d ++ (l ++ rest))) (little_number 2 (l ++ rest)) rest)
+    (two_back bx (c ++ (d ++ (l ++ rest))) hb)
     ∙ ap (λ (n : ℕ). call_at ax bx n (little_number 2 (d ++ (l ++ rest))) (little_number 2 (l ++ rest)) rest) (two_back cx (d ++ (l ++ rest)) hc)
     ∙ ap (λ (n : ℕ). call_at ax bx cx n (little_number 2 (l ++ rest)) rest) (two_back dx (l ++ rest) hd)
     ∙ ap (λ (n : ℕ). call_at ax bx cx dx n rest) (two_back (length block) rest hl)
@@ -96,18 +99,21 @@ encoded_steps (s ∷ steps) (fits, others) = (flat_map spelling steps, (fits, re
 -- ---- the item at the front of some bytes
 
 -- the front of some bytes tells the item that it spells
-pub one_item : (version : Version) (a b : Item) (x y : List ℕ) → IsItemOf version a → IsItemOf version b → item_spelling a ++ x ≡ item_spelling b ++ y → (a ≡ b) × (x ≡ y)
+pub one_item : (version : Version) (a b : Item) (x y : List ℕ) → IsItemOf version a → IsItemOf version b → item_spelling a ++ x ≡ item_spelling b ++ y → (a ≡ b)
+    × (x ≡ y)
 one_item version (Once s) (Once t) x y fits fits' e = let same = one_step s t x y fits fits' e in (ap Once same.0, same.1)
 one_item version (Once s) (Repeated m ts) x y fits fits' e = absurd (no_step_of opcode_repeat _ s x fits refl (sym e))
 one_item version (Repeated n ss) (Once t) x y fits fits' e = absurd (no_step_of opcode_repeat _ t y fits' refl e)
 one_item version (Repeated n ss) (Repeated m ts) x y (allowed, some, small, range) (allowed', some', small', range') e =
     let count : n ≡ m =
-    sym (two_back n ((flat_map spelling ss ++ opcode_end ∷ []) ++ x) small) ∙ ap (λ (l : List ℕ). little_number 2 (drop 1 l)) e ∙ two_back m ((flat_map spelling ts ++ opcode_end ∷ []) ++ y) small' in
+    sym (two_back n ((flat_map spelling ss ++ opcode_end ∷ []) ++ x) small) ∙ ap (λ (l : List ℕ). little_number 2 (drop 1 l)) e
+    ∙ two_back m ((flat_map spelling ts ++ opcode_end ∷ []) ++ y) small' in
     let bodies : flat_map spelling ss ++ opcode_end ∷ x ≡ flat_map spelling ts ++ opcode_end ∷ y =
     sym (append_assoc (flat_map spelling ss) (opcode_end ∷ []) x) ∙ ap (drop 3) e ∙ append_assoc (flat_map spelling ts) (opcode_end ∷ []) y in
     ended n m ss ts x y count (compare spelling IsInRange one_step ss ts (opcode_end ∷ x) (opcode_end ∷ y) range range' bodies)
   where
-    ended : (n m : ℕ) (ss ts : List Step) (x y : List ℕ) → n ≡ m → Compared spelling IsInRange ss ts (opcode_end ∷ x) (opcode_end ∷ y) → (Repeated n ss ≡ Repeated m ts) × (x ≡ y)
+    ended : (n m : ℕ) (ss ts : List Step) (x y : List ℕ) → n ≡ m → Compared spelling IsInRange ss ts (opcode_end ∷ x) (opcode_end ∷ y) →
+        (Repeated n ss ≡ Repeated m ts) × (x ≡ y)
     ended n m ss ts x y count (inl (same, rests)) = (cc, cc)
     ended n m ss ts x y count (inr (inl (next, others, is, fits, rests))) = absurd (no_step_of opcode_end x next _ fits refl rests)
     ended n m ss ts x y count (inr (inr (next, others, is, fits, rests))) = absurd (no_step_of opcode_end y next _ fits refl rests)
@@ -131,10 +137,13 @@ encoded_items version [] all = refl
 encoded_items version (i ∷ items) (fits, others) = (flat_map item_spelling items, (fits, refl), encoded_items version items others)
 
 -- no bytes spell two lists of items
-pub one_list : (version : Version) (bytes : List ℕ) (first second : List Item) → SpellsItems version bytes first → SpellsItems version bytes second → first ≡ second
+pub one_list : (version : Version) (bytes : List ℕ) (first second : List Item) → SpellsItems version bytes first → SpellsItems version bytes second →
+    first ≡ second
 one_list version bytes first second p q =
-    let e : flat_map item_spelling first ++ [] ≡ flat_map item_spelling second ++ [] = ap (λ (l : List ℕ). l ++ []) (sym (spelled_items version bytes first p) ∙ spelled_items version bytes second q) in
-    all_read version first second (compare item_spelling (IsItemOf version) (one_item version) first second [] [] (items_fit version bytes first p) (items_fit version bytes second q) e)
+    let e : flat_map item_spelling first ++ [] ≡ flat_map item_spelling second ++ [] =
+    ap (λ (l : List ℕ). l ++ []) (sym (spelled_items version bytes first p) ∙ spelled_items version bytes second q) in
+    all_read version first second (compare item_spelling (IsItemOf version) (one_item version) first second [] [] (items_fit version bytes first p)
+    (items_fit version bytes second q) e)
   where
     all_read : (version : Version) (first second : List Item) → Compared item_spelling (IsItemOf version) first second [] [] → first ≡ second
     all_read version first second (inl (same, rests)) = same
@@ -166,5 +175,6 @@ pub one_spelling_lem : (x y : List ℕ) (script : Listing) → Spells x script �
 one_spelling_lem x y script p q = spelled x script p ∙ sym (spelled y script q)
 
 -- and each has one
-pub encoding_spells : (script : Listing) → AreItemsOf script.version script.items → length (expanded script.items) ≤ step_limit → Spells (encoding script) script
+pub encoding_spells : (script : Listing) → AreItemsOf script.version script.items → length (expanded script.items) ≤ step_limit →
+    Spells (encoding script) script
 encoding_spells script all few = (flat_map item_spelling script.items, refl, encoded_items script.version script.items all, few)

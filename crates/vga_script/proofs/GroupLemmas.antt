@@ -38,7 +38,8 @@ end_stops : StopsLines []
 end_stops = record { no_end = λ line rest e is. nothing line rest e; no_start = λ line rest steps e is. nothing line rest e }
 
 -- two bodies of blocks that end are one
-one_body : (body body' : List (List ℕ)) (steps steps' : List Step) (last last' : List ℕ) (x y : List (List ℕ)) → SpellsLines body steps → SpellsLines body' steps' → IsEnd (words last) → IsEnd (words last')
+one_body : (body body' : List (List ℕ)) (steps steps' : List Step) (last last' : List ℕ) (x y : List (List ℕ)) → SpellsLines body steps →
+    SpellsLines body' steps' → IsEnd (words last) → IsEnd (words last')
     → body ++ last ∷ x ≡ body' ++ last' ∷ y → (body ≡ body') × (last ≡ last') × (x ≡ y)
 one_body [] [] steps steps' last last' x y p q ends ends' e =
     let same : last ≡ last' = cc in
@@ -55,7 +56,8 @@ one_body (b ∷ body) (c ∷ body') steps steps' last last' x y (here, after, is
     (ap (λ (l : List ℕ). l ∷ body) same ∙ ap (λ (l : List (List ℕ)). c ∷ l) others.0, others.1, others.2)
 
 -- one that stops has no end
-stop_or_end : (body body' : List (List ℕ)) (steps steps' : List Step) (last : List ℕ) (rest x : List (List ℕ)) → SpellsLines body steps → SpellsLines body' steps' → IsEnd (words last) → StopsLines rest
+stop_or_end : (body body' : List (List ℕ)) (steps steps' : List Step) (last : List ℕ) (rest x : List (List ℕ)) → SpellsLines body steps →
+    SpellsLines body' steps' → IsEnd (words last) → StopsLines rest
     → body ++ rest ≡ body' ++ last ∷ x → ⊥
 stop_or_end [] [] steps steps' last rest x p q ends stops e = stops.no_end last x e ends
 stop_or_end [] (c ∷ body') steps steps' last rest x p (here, after, is, line, more) ends stops e = stops.no_start c (body' ++ last ∷ x) here e line
@@ -65,7 +67,8 @@ stop_or_end (b ∷ body) (c ∷ body') steps steps' last rest x (here, after, is
     let tails : body ++ rest ≡ body' ++ last ∷ x = cc in stop_or_end body body' after after' last rest x more more' ends stops tails
 
 -- two that stop stop at one line
-both_stop : (body body' : List (List ℕ)) (steps steps' : List Step) (rest rest' : List (List ℕ)) → SpellsLines body steps → SpellsLines body' steps' → StopsLines rest → StopsLines rest'
+both_stop : (body body' : List (List ℕ)) (steps steps' : List Step) (rest rest' : List (List ℕ)) → SpellsLines body steps → SpellsLines body' steps' →
+    StopsLines rest → StopsLines rest'
     → body ++ rest ≡ body' ++ rest' → (length body ≡ length body') × (rest ≡ rest')
 both_stop [] [] steps steps' rest rest' p q stops stops' e = (refl, e)
 both_stop [] (c ∷ body') steps steps' rest rest' p (here, after, is, line, more) stops stops' e = absurd (stops.no_start c (body' ++ rest') here e line)
@@ -82,12 +85,14 @@ goes : (g : Group) (ls x y : List (List ℕ)) → g.lines ≡ ls → y ≡ g.lin
 goes g ls x y is e = e ∙ ap (λ (l : List (List ℕ)). l ++ x) is
 
 -- a line and a block begin differently
-line_or_block : (line first : List ℕ) (x y : List (List ℕ)) (steps : List Step) (count : ℕ) → line ∷ x ≡ first ∷ y → SpellsLine (words line) steps → SpellsRepeat (words first) count → ⊥
+line_or_block : (line first : List ℕ) (x y : List (List ℕ)) (steps : List Step) (count : ℕ) → line ∷ x ≡ first ∷ y → SpellsLine (words line) steps →
+    SpellsRepeat (words first) count → ⊥
 line_or_block line first x y steps count e good begins =
     let same : first ≡ line = cc in step_or_repeat (words line) steps count good (subst (λ (l : List ℕ). SpellsRepeat (words l) count) same begins)
 
 -- the front of some lines tells the group that it spells
-pub one_group : (version : Version) (g h : Group) (x y : List (List ℕ)) → IsGroup version g → IsGroup version h → g.lines ++ x ≡ h.lines ++ y → (g ≡ h) × (x ≡ y)
+pub one_group : (version : Version) (g h : Group) (x y : List (List ℕ)) → IsGroup version g → IsGroup version h → g.lines ++ x ≡ h.lines ++ y → (g ≡ h)
+    × (x ≡ y)
 one_group version g h x y (inl (line, steps, ls, is, good)) (inl (line', steps', ls', is', good')) e =
     let both : line ∷ x ≡ line' ∷ y = ap (λ (l : List (List ℕ)). l ++ x) (sym ls) ∙ e ∙ ap (λ (l : List (List ℕ)). l ++ y) ls' in
     let same : line ≡ line' = cc in
@@ -100,11 +105,14 @@ one_group version g h x y (inl (line, steps, ls, is, good)) (inr (allowed, (firs
 one_group version g h x y (inr (allowed, (first, count, body, steps', last, ls', is', begins, good', ends))) (inl (line, steps, ls, is, good)) e =
     let both : line ∷ y ≡ first ∷ ((body ++ last ∷ []) ++ x) = ap (λ (l : List (List ℕ)). l ++ y) (sym ls) ∙ sym e ∙ ap (λ (l : List (List ℕ)). l ++ x) ls' in
     absurd (line_or_block line first y ((body ++ last ∷ []) ++ x) steps count both good begins)
-one_group version g h x y (inr (allowed, (first, count, body, steps, last, ls, is, begins, good, ends))) (inr (allowed', (first', count', body', steps', last', ls', is', begins', good', ends'))) e =
-    let both : first ∷ ((body ++ last ∷ []) ++ x) ≡ first' ∷ ((body' ++ last' ∷ []) ++ y) = ap (λ (l : List (List ℕ)). l ++ x) (sym ls) ∙ e ∙ ap (λ (l : List (List ℕ)). l ++ y) ls' in
+one_group version g h x y (inr (allowed, (first, count, body, steps, last, ls, is, begins, good, ends)))
+    (inr (allowed', (first', count', body', steps', last', ls', is', begins', good', ends'))) e =
+    let both : first ∷ ((body ++ last ∷ []) ++ x) ≡ first' ∷ ((body' ++ last' ∷ []) ++ y) = ap (λ (l : List (List ℕ)). l ++ x) (sym ls) ∙ e
+    ∙ ap (λ (l : List (List ℕ)). l ++ y) ls' in
     let same : first ≡ first' = cc in
     let tails : (body ++ last ∷ []) ++ x ≡ (body' ++ last' ∷ []) ++ y = cc in
-    let bodies = one_body body body' steps steps' last last' x y good good' ends ends' (sym (append_assoc body (last ∷ []) x) ∙ tails ∙ append_assoc body' (last' ∷ []) y) in
+    let bodies = one_body body body' steps steps' last last' x y good good' ends ends' (sym (append_assoc body (last ∷ []) x) ∙ tails
+    ∙ append_assoc body' (last' ∷ []) y) in
     let count_is = one_count (words first) count count' begins (subst (λ (l : List ℕ). SpellsRepeat (words l) count') (sym same) begins') in
     let steps_are = one_lines body steps steps' good (subst (λ (l : List (List ℕ)). SpellsLines l steps') (sym bodies.0) good') in
     let lines_are : first ∷ (body ++ last ∷ []) ≡ first' ∷ (body' ++ last' ∷ []) = let p = bodies.0 in let q = bodies.1 in cc in
@@ -114,12 +122,14 @@ one_group version g h x y (inr (allowed, (first, count, body, steps, last, ls, i
 -- a group has at least one line
 pub some_line : (version : Version) (g : Group) (x : List (List ℕ)) → IsGroup version g → [] ≡ g.lines ++ x → ⊥
 some_line version g x (inl (line, steps, ls, is, good)) e = nothing line x (goes g (line ∷ []) x [] ls e)
-some_line version g x (inr (allowed, (first, count, body, steps, last, ls, is, begins, good, ends))) e = nothing first ((body ++ last ∷ []) ++ x) (goes g (first ∷ (body ++ last ∷ [])) x [] ls e)
+some_line version g x (inr (allowed, (first, count, body, steps, last, ls, is, begins, good, ends))) e =
+    nothing first ((body ++ last ∷ []) ++ x) (goes g (first ∷ (body ++ last ∷ [])) x [] ls e)
 
 -- ---- the faults of a group
 
 -- a block whose body stops
-opens_or_group : (version : Version) (ls rest x : List (List ℕ)) (place : ℕ) (g : Group) → OpensLines version ls place rest → StopsLines rest → IsGroup version g → ls ≡ g.lines ++ x → ⊥
+opens_or_group : (version : Version) (ls rest x : List (List ℕ)) (place : ℕ) (g : Group) → OpensLines version ls place rest → StopsLines rest →
+    IsGroup version g → ls ≡ g.lines ++ x → ⊥
 opens_or_group version ls rest x place g h stops (inl (line, steps, is, items, good)) e =
     line_or_block line h.first x (h.body ++ rest) steps h.count (sym (goes g (line ∷ []) x ls is e) ∙ h.whole) good h.begins
 opens_or_group version ls rest x place g h stops (inr (allowed, (first, count, body, steps, last, is, items, begins, good, ends))) e =
@@ -128,7 +138,8 @@ opens_or_group version ls rest x place g h stops (inr (allowed, (first, count, b
     stop_or_end h.body body h.steps steps last rest x h.good good ends stops (tails ∙ append_assoc body (last ∷ []) x)
 
 -- a bad line
-bad_or_group : (version : Version) (ls others x : List (List ℕ)) (line : List ℕ) (g : Group) → ls ≡ line ∷ others → IsBadOutside version line → IsGroup version g → ls ≡ g.lines ++ x → ⊥
+bad_or_group : (version : Version) (ls others x : List (List ℕ)) (line : List ℕ) (g : Group) → ls ≡ line ∷ others → IsBadOutside version line →
+    IsGroup version g → ls ≡ g.lines ++ x → ⊥
 bad_or_group version ls others x line g front (none, no_block) (inl (other, steps, is, items, good)) e =
     let both : line ∷ others ≡ other ∷ x = sym front ∙ goes g (other ∷ []) x ls is e in
     let same : other ≡ line = cc in none steps (subst (λ (l : List ℕ). SpellsLine (words l) steps) same good)
@@ -136,13 +147,15 @@ bad_or_group version ls others x line g front (none, no_block) (inr (allowed, (f
     let both : line ∷ others ≡ first ∷ ((body ++ last ∷ []) ++ x) = sym front ∙ goes g (first ∷ (body ++ last ∷ [])) x ls is e in
     let same : first ≡ line = cc in no_block allowed count (subst (λ (l : List ℕ). SpellsRepeat (words l) count) same begins)
 
-bad_or_open : (version : Version) (ls others rest : List (List ℕ)) (line : List ℕ) (place : ℕ) → ls ≡ line ∷ others → IsBadOutside version line → OpensLines version ls place rest → ⊥
+bad_or_open : (version : Version) (ls others rest : List (List ℕ)) (line : List ℕ) (place : ℕ) → ls ≡ line ∷ others → IsBadOutside version line →
+    OpensLines version ls place rest → ⊥
 bad_or_open version ls others rest line place front (none, no_block) h =
     let both : line ∷ others ≡ h.first ∷ (h.body ++ rest) = sym front ∙ h.whole in
     let same : h.first ≡ line = cc in no_block h.allowed h.count (subst (λ (l : List ℕ). SpellsRepeat (words l) h.count) same h.begins)
 
 -- two blocks that stop
-one_open : (version : Version) (ls rest rest' : List (List ℕ)) (place place' : ℕ) → OpensLines version ls place rest → OpensLines version ls place' rest' → StopsLines rest → StopsLines rest' → (place ≡ place') × (rest ≡ rest')
+one_open : (version : Version) (ls rest rest' : List (List ℕ)) (place place' : ℕ) → OpensLines version ls place rest → OpensLines version ls place' rest' →
+    StopsLines rest → StopsLines rest' → (place ≡ place') × (rest ≡ rest')
 one_open version ls rest rest' place place' h h' stops stops' =
     let both : h.first ∷ (h.body ++ rest) ≡ h'.first ∷ (h'.body ++ rest') = sym h.whole ∙ h'.whole in
     let tails : h.body ++ rest ≡ h'.body ++ rest' = cc in
@@ -153,9 +166,11 @@ one_open version ls rest rest' place place' h h' stops stops' =
     (omega arith, same.1)
 
 -- where a group begins, within the limit, there is no fault
-pub group_or_fault : (version : Version) (taken n bad : ℕ) (ls x : List (List ℕ)) (g : Group) → IsGroupFault version taken n ls bad → IsGroup version g → ls ≡ g.lines ++ x → taken + length (expanded g.items) ≤ step_limit → ⊥
+pub group_or_fault : (version : Version) (taken n bad : ℕ) (ls x : List (List ℕ)) (g : Group) → IsGroupFault version taken n ls bad → IsGroup version g →
+    ls ≡ g.lines ++ x → taken + length (expanded g.items) ≤ step_limit → ⊥
 group_or_fault version taken n bad ls x g (inl (is, (line, others, front, wrong))) good e few = bad_or_group version ls others x line g front wrong good e
-group_or_fault version taken n bad ls x g (inr (inl (place, line, others, is, h, wrong))) good e few = opens_or_group version ls (line ∷ others) x place g h (bad_stops line others wrong) good e
+group_or_fault version taken n bad ls x g (inr (inl (place, line, others, is, h, wrong))) good e few =
+    opens_or_group version ls (line ∷ others) x place g h (bad_stops line others wrong) good e
 group_or_fault version taken n bad ls x g (inr (inr (inl (is, (place, h))))) good e few = opens_or_group version ls [] x place g h end_stops good e
 group_or_fault version taken n bad ls x g (inr (inr (inr (is, (other, rest, front, good', long))))) good e few =
     let same = one_group version g other x rest good good' (sym e ∙ front) in
@@ -164,10 +179,12 @@ group_or_fault version taken n bad ls x g (inr (inr (inr (is, (other, rest, fron
 -- no lines have two first faults
 pub one_group_fault : (version : Version) (taken n m k : ℕ) (ls : List (List ℕ)) → IsGroupFault version taken n ls m → IsGroupFault version taken n ls k → m ≡ k
 one_group_fault version taken n m k ls (inl (is, bad)) (inl (is', bad')) = is ∙ sym is'
-one_group_fault version taken n m k ls (inl (is, (line, others, front, wrong))) (inr (inl (place, other, rest, is', h, wrong'))) = absurd (bad_or_open version ls others (other ∷ rest) line place front wrong h)
+one_group_fault version taken n m k ls (inl (is, (line, others, front, wrong))) (inr (inl (place, other, rest, is', h, wrong'))) =
+    absurd (bad_or_open version ls others (other ∷ rest) line place front wrong h)
 one_group_fault version taken n m k ls (inl (is, (line, others, front, wrong))) (inr (inr (inl (is', (place, h))))) = is ∙ sym is'
 one_group_fault version taken n m k ls (inl (is, bad)) (inr (inr (inr (is', long)))) = is ∙ sym is'
-one_group_fault version taken n m k ls (inr (inl (place, other, rest, is', h, wrong'))) (inl (is, (line, others, front, wrong))) = absurd (bad_or_open version ls others (other ∷ rest) line place front wrong h)
+one_group_fault version taken n m k ls (inr (inl (place, other, rest, is', h, wrong'))) (inl (is, (line, others, front, wrong))) =
+    absurd (bad_or_open version ls others (other ∷ rest) line place front wrong h)
 one_group_fault version taken n m k ls (inr (inl (place, line, rest, is, h, wrong))) (inr (inl (place', line', rest', is', h', wrong'))) =
     let same = one_open version ls (line ∷ rest) (line' ∷ rest') place place' h h' (bad_stops line rest wrong) (bad_stops line' rest' wrong') in
     is ∙ ap (λ (p : ℕ). n + p) same.0 ∙ sym is'

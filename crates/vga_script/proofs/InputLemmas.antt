@@ -6,7 +6,8 @@ use Rattle.vga_bits.specs.declared.fault.Fault.TheVariants.{ReadFault, OutOfMemo
 use Rattle.vga_script.specs.Input.{IsReadingFault}
 
 -- the reader failed, or memory ran out
-pub unread_input : (most : ℕ) (old new : Option (List ℕ)) (failed : Bool) (fault : Fault) → ReadsFront most old new failed (Err fault) → IsReadingFault old fault
+pub unread_input : (most : ℕ) (old new : Option (List ℕ)) (failed : Bool) (fault : Fault) → ReadsFront most old new failed (Err fault) →
+    IsReadingFault old fault
 unread_input most old new failed ReadFault h = inl refl
 unread_input most old new failed OutOfMemory h = inr (inr refl)
 unread_input most old new failed _ h = absurd h

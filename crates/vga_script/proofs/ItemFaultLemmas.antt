@@ -74,7 +74,8 @@ Exceeds version taken bytes = (first : Item) × (rest : List ℕ) × StartsWithI
 abbrev pub Kinds : Version → ℕ → ℕ → List ℕ → Fault → Type 0
 Kinds version taken offset bytes f =
     ((f ≡ fault.BadStep offset) × StartsWithBadItem version bytes)
-    ⊎ (((f ≡ fault.Truncated offset) × StartsWithCutItem version bytes) ⊎ (Inside version offset bytes f ⊎ ((f ≡ fault.TooMany offset) × Exceeds version taken bytes)))
+    ⊎ (((f ≡ fault.Truncated offset) × StartsWithCutItem version bytes) ⊎ (Inside version offset bytes f
+    ⊎ ((f ≡ fault.TooMany offset) × Exceeds version taken bytes)))
 
 pub kind : (version : Version) (taken offset : ℕ) (bytes : List ℕ) (f : Fault) → IsItemFault version taken offset bytes f → Kinds version taken offset bytes f
 kind version taken offset bytes (fault.BadStep at) (inl (is, bad)) = inl (ap fault.BadStep is, bad)
@@ -124,29 +125,36 @@ cut_or_item version bytes (Repeated n ss) x (inl cut) (fits, e) = not_cut_at opc
 cut_or_item version bytes (Once s) x (inr (allowed, (rest, front, short))) (fits, e) = no_step_of opcode_repeat _ s x fits refl (sym front ∙ e)
 cut_or_item version bytes (Repeated n ss) x (inr (allowed, (rest, front, short))) (fits, e) = let l = ap length (sym front ∙ e) in absurd (omega arith)
 
-open_or_item : (version : Version) (bytes rest : List ℕ) (place : ℕ) (i : Item) (x : List ℕ) → OpensBlock version bytes place rest → StopsBody rest → StartsWithItem version bytes i x → ⊥
+open_or_item : (version : Version) (bytes rest : List ℕ) (place : ℕ) (i : Item) (x : List ℕ) → OpensBlock version bytes place rest → StopsBody rest →
+    StartsWithItem version bytes i x → ⊥
 open_or_item version bytes rest place (Once s) x h stops (fits, e) = no_step_of opcode_repeat _ s x fits refl (sym h.whole ∙ e)
 open_or_item version bytes rest place (Repeated n ss) x h stops ((allowed, some, small, range), e) =
     let body : flat_map spelling h.good.steps ++ rest ≡ flat_map spelling ss ++ opcode_end ∷ x =
     sym (body_is h.body rest h.len h.good) ∙ ap (drop 3) (sym h.whole ∙ e) ∙ append_assoc (flat_map spelling ss) (opcode_end ∷ []) x in
-    stop_or_end h.good.steps ss rest x (compare spelling IsInRange one_step h.good.steps ss rest (opcode_end ∷ x) (steps_range h.good.front h.good.steps h.good.good) range body) stops
+    stop_or_end h.good.steps ss rest x (compare spelling IsInRange one_step h.good.steps ss rest (opcode_end ∷ x)
+    (steps_range h.good.front h.good.steps h.good.good) range body) stops
 
 -- so where an item begins, within the limit, there is no fault
-pub item_or_kind : (version : Version) (taken offset : ℕ) (bytes : List ℕ) (f : Fault) (i : Item) (x : List ℕ) → Kinds version taken offset bytes f → StartsWithItem version bytes i x
+pub item_or_kind : (version : Version) (taken offset : ℕ) (bytes : List ℕ) (f : Fault) (i : Item) (x : List ℕ) → Kinds version taken offset bytes f →
+    StartsWithItem version bytes i x
     → taken + length (steps_of i) ≤ step_limit → ⊥
 item_or_kind version taken offset bytes f i x (inl (is, bad)) starts few = bad_or_item version bytes i x bad starts
 item_or_kind version taken offset bytes f i x (inr (inl (is, cut))) starts few = cut_or_item version bytes i x cut starts
-item_or_kind version taken offset bytes f i x (inr (inr (inl (place, rest, h, inside)))) starts few = open_or_item version bytes rest place i x h (inside_stops offset place rest f inside) starts
+item_or_kind version taken offset bytes f i x (inr (inr (inl (place, rest, h, inside)))) starts few =
+    open_or_item version bytes rest place i x h (inside_stops offset place rest f inside) starts
 item_or_kind version taken offset bytes f i x (inr (inr (inr (is, (first, rest, (fits', e'), long))))) (fits, e) few =
     let same = one_item version i first x rest fits fits' (sym e ∙ e') in
     let len = ap (λ (j : Item). length (steps_of j)) same.0 in absurd (omega arith)
 
 -- two bodies that stop have one fault
-same_inside : (offset place place' : ℕ) (rest rest' : List ℕ) (f g : Fault) → place ≡ place' → rest ≡ rest' → InsideOf offset place rest f → InsideOf offset place' rest' g → f ≡ g
+same_inside : (offset place place' : ℕ) (rest rest' : List ℕ) (f g : Fault) → place ≡ place' → rest ≡ rest' → InsideOf offset place rest f →
+    InsideOf offset place' rest' g → f ≡ g
 same_inside offset place place' rest rest' f g p r (inl (is, bad)) (inl (is', bad')) = is ∙ ap (λ (n : ℕ). fault.BadStep (offset + n)) p ∙ sym is'
-same_inside offset place place' rest rest' f g p r (inl (is, (bad, none))) (inr (inl (is', cut))) = absurd (one_reason rest bad (subst StartsWithCutStep (sym r) cut))
+same_inside offset place place' rest rest' f g p r (inl (is, (bad, none))) (inr (inl (is', cut))) =
+    absurd (one_reason rest bad (subst StartsWithCutStep (sym r) cut))
 same_inside offset place place' rest rest' f g p r (inl (is, (bad, none))) (inr (inr (is', ends))) = absurd (never_at_end rest (r ∙ ends) (inl bad))
-same_inside offset place place' rest rest' f g p r (inr (inl (is, cut))) (inl (is', (bad, none))) = absurd (one_reason rest' bad (subst StartsWithCutStep r cut))
+same_inside offset place place' rest rest' f g p r (inr (inl (is, cut))) (inl (is', (bad, none))) =
+    absurd (one_reason rest' bad (subst StartsWithCutStep r cut))
 same_inside offset place place' rest rest' f g p r (inr (inl (is, cut))) (inr (inl (is', cut'))) = is ∙ ap (λ (n : ℕ). fault.Truncated (offset + n)) p ∙ sym is'
 same_inside offset place place' rest rest' f g p r (inr (inl (is, cut))) (inr (inr (is', ends))) = absurd (never_at_end rest (r ∙ ends) (inr cut))
 same_inside offset place place' rest rest' f g p r (inr (inr (is, ends))) (inl (is', (bad, none))) = absurd (never_at_end rest' (sym r ∙ ends) (inl bad))
@@ -157,15 +165,18 @@ one_inside : (version : Version) (offset : ℕ) (bytes : List ℕ) (f g : Fault)
 one_inside version offset bytes f g (place, rest, h, inside) (place', rest', h', inside') =
     let body : flat_map spelling h.good.steps ++ rest ≡ flat_map spelling h'.good.steps ++ rest' =
     sym (body_is h.body rest h.len h.good) ∙ ap (drop 3) (sym h.whole ∙ h'.whole) ∙ body_is h'.body rest' h'.len h'.good in
-    let compared = compare spelling IsInRange one_step h.good.steps h'.good.steps rest rest' (steps_range h.good.front h.good.steps h.good.good) (steps_range h'.good.front h'.good.steps h'.good.good) body in
-    let same = both_stop h.good.steps h'.good.steps rest rest' compared (inside_stops offset place rest f inside) (inside_stops offset place' rest' g inside') in
+    let compared = compare spelling IsInRange one_step h.good.steps h'.good.steps rest rest' (steps_range h.good.front h.good.steps h.good.good)
+    (steps_range h'.good.front h'.good.steps h'.good.good) body in
+    let same = both_stop h.good.steps h'.good.steps rest rest' compared (inside_stops offset place rest f inside)
+    (inside_stops offset place' rest' g inside') in
     let len = ap length same in
     let is = h.place_is in
     let is' = h'.place_is in
     same_inside offset place place' rest rest' f g (omega arith) same inside inside'
 
 -- no bytes have two faults of an item
-pub one_kind : (version : Version) (taken offset : ℕ) (bytes : List ℕ) (f g : Fault) → Kinds version taken offset bytes f → Kinds version taken offset bytes g → f ≡ g
+pub one_kind : (version : Version) (taken offset : ℕ) (bytes : List ℕ) (f g : Fault) → Kinds version taken offset bytes f → Kinds version taken offset bytes g →
+    f ≡ g
 one_kind version taken offset bytes f g (inl (is, bad)) (inl (is', bad')) = is ∙ sym is'
 one_kind version taken offset bytes f g (inl (is, bad)) (inr (inl (is', cut))) = absurd (bad_or_cut version bytes bad cut)
 one_kind version taken offset bytes f g (inl (is, bad)) (inr (inr (inl (place, rest, h, inside)))) = absurd (bad_or_open version bytes rest place bad h)
@@ -177,10 +188,12 @@ one_kind version taken offset bytes f g (inr (inl (is, cut))) (inr (inr (inr (is
 one_kind version taken offset bytes f g (inr (inr (inl (place, rest, h, inside)))) (inl (is', bad)) = absurd (bad_or_open version bytes rest place bad h)
 one_kind version taken offset bytes f g (inr (inr (inl (place, rest, h, inside)))) (inr (inl (is', cut))) = absurd (cut_or_open version bytes rest place cut h)
 one_kind version taken offset bytes f g (inr (inr (inl inside))) (inr (inr (inl inside'))) = one_inside version offset bytes f g inside inside'
-one_kind version taken offset bytes f g (inr (inr (inl (place, rest, h, inside)))) (inr (inr (inr (is', (i, x, starts, long))))) = absurd (open_or_item version bytes rest place i x h (inside_stops offset place rest f inside) starts)
+one_kind version taken offset bytes f g (inr (inr (inl (place, rest, h, inside)))) (inr (inr (inr (is', (i, x, starts, long))))) =
+    absurd (open_or_item version bytes rest place i x h (inside_stops offset place rest f inside) starts)
 one_kind version taken offset bytes f g (inr (inr (inr (is, (i, x, starts, long))))) (inl (is', bad)) = absurd (bad_or_item version bytes i x bad starts)
 one_kind version taken offset bytes f g (inr (inr (inr (is, (i, x, starts, long))))) (inr (inl (is', cut))) = absurd (cut_or_item version bytes i x cut starts)
-one_kind version taken offset bytes f g (inr (inr (inr (is, (i, x, starts, long))))) (inr (inr (inl (place, rest, h, inside)))) = absurd (open_or_item version bytes rest place i x h (inside_stops offset place rest g inside) starts)
+one_kind version taken offset bytes f g (inr (inr (inr (is, (i, x, starts, long))))) (inr (inr (inl (place, rest, h, inside)))) =
+    absurd (open_or_item version bytes rest place i x h (inside_stops offset place rest g inside) starts)
 one_kind version taken offset bytes f g (inr (inr (inr (is, long)))) (inr (inr (inr (is', long')))) = is ∙ sym is'
 
 -- nothing is left where an item has a fault

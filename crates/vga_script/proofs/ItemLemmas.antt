@@ -1,5 +1,6 @@
 -- Items, and the steps that they mean.
-use Rattle.std.proofs.Common.{◌≡◌, ℕ, zero, suc, ◌+◌, ◌*◌, ◌-◌, ◌<◌, List, [], ◌∷◌, ◌++◌, length, refl, sym, ap, ◌∙◌, arith, length-append, suc-mul, append_assoc}
+use Rattle.std.proofs.Common.{◌≡◌, ℕ, zero, suc, ◌+◌, ◌*◌, ◌-◌, ◌<◌, List, [], ◌∷◌, ◌++◌, length, refl, sym, ap, ◌∙◌, arith, length-append, suc-mul}
+use Rattle.std.proofs.Common.{append_assoc}
 use Rattle.vga_script.specs.declared.step.Step.{Step}
 use Rattle.vga_script.specs.Item.{Item, Once, Repeated, Listing, listing, repeated, steps_of, expanded, IsItemOf, AreItemsOf}
 use Rattle.vga_script.specs.declared.version.Version.{Version}
@@ -74,7 +75,8 @@ range_of version (Repeated count steps) (allowed, some, small, range) = range_re
 
 pub expanded_in_range : (version : Version) (items : List Item) → AreItemsOf version items → AreInRange (expanded items)
 expanded_in_range version [] all = tt
-expanded_in_range version (i ∷ items) (fits, others) = range-append (steps_of i) (expanded items) (range_of version i fits) (expanded_in_range version items others)
+expanded_in_range version (i ∷ items) (fits, others) = range-append (steps_of i) (expanded items) (range_of version i fits)
+    (expanded_in_range version items others)
 
 -- ---- versions
 

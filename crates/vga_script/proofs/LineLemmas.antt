@@ -13,13 +13,15 @@ pub line_none : (ws : List (List ℕ)) → ws ≡ [] → SpellsLine ws []
 line_none ws e = subst (λ (l : List (List ℕ)). SpellsLine l []) (sym e) refl
 
 -- a line with a name and words that were read
-pub line_named : (ws : List (List ℕ)) (w : List ℕ) (fields : List (List ℕ)) (k : Keyword) (s : Step) → ws ≡ w ∷ fields → lowered w ≡ name_of k → read_step k fields ≡ Some s → SpellsLine ws (s ∷ [])
+pub line_named : (ws : List (List ℕ)) (w : List ℕ) (fields : List (List ℕ)) (k : Keyword) (s : Step) → ws ≡ w ∷ fields → lowered w ≡ name_of k →
+    read_step k fields ≡ Some s → SpellsLine ws (s ∷ [])
 line_named ws w fields k s e named read =
     let both = read_spells k fields s read in
     subst (λ (l : List (List ℕ)). SpellsLine l (s ∷ [])) (sym e) (s, refl, named ∙ ap name_of (sym both.0), both.1)
 
 -- one with a name and words that were not
-pub line_bad : (ws : List (List ℕ)) (w : List ℕ) (fields : List (List ℕ)) (k : Keyword) (steps : List Step) → ws ≡ w ∷ fields → lowered w ≡ name_of k → read_step k fields ≡ None → SpellsLine ws steps → ⊥
+pub line_bad : (ws : List (List ℕ)) (w : List ℕ) (fields : List (List ℕ)) (k : Keyword) (steps : List Step) → ws ≡ w ∷ fields → lowered w ≡ name_of k →
+    read_step k fields ≡ None → SpellsLine ws steps → ⊥
 line_bad ws w fields k steps e named none spelled =
     let h : SpellsLine (w ∷ fields) steps = subst (λ (l : List (List ℕ)). SpellsLine l steps) e spelled in
     let same : k ≡ keyword_of h.0 = one_name k (keyword_of h.0) (sym named ∙ h.2) in
@@ -27,7 +29,8 @@ line_bad ws w fields k steps e named none spelled =
     absurd (cc)
 
 -- and one with another name
-pub line_unnamed : (ws : List (List ℕ)) (w : List ℕ) (fields : List (List ℕ)) (steps : List Step) → ws ≡ w ∷ fields → ((k : Keyword) → lowered w ≢ name_of k) → SpellsLine ws steps → ⊥
+pub line_unnamed : (ws : List (List ℕ)) (w : List ℕ) (fields : List (List ℕ)) (steps : List Step) → ws ≡ w ∷ fields → ((k : Keyword) → lowered w ≢ name_of k) →
+    SpellsLine ws steps → ⊥
 line_unnamed ws w fields steps e none spelled =
     let h : SpellsLine (w ∷ fields) steps = subst (λ (l : List (List ℕ)). SpellsLine l steps) e spelled in
     none (keyword_of h.0) h.2

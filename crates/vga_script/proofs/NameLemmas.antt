@@ -14,7 +14,8 @@ same_bool false false f g = refl
 -- a comparison without case is that of the words in lower case
 pub same_name : (word name : List ℕ) (r : Bool) → lowered name ≡ name → (IsTrue r ↔ (lowered word ≡ lowered name)) → r ≡ bytes_eq (lowered word) name
 same_name word name r lower same =
-    same_bool r (bytes_eq (lowered word) name) (λ h. (bytes_eq-Decides (lowered word) name).1 (same.0 h ∙ lower)) (λ h. same.1 ((bytes_eq-Decides (lowered word) name).0 h ∙ sym lower))
+    same_bool r (bytes_eq (lowered word) name) (λ h. (bytes_eq-Decides (lowered word) name).1 (same.0 h ∙ lower)) (λ h.
+    same.1 ((bytes_eq-Decides (lowered word) name).0 h ∙ sym lower))
 
 -- a word that is this name
 pub named : (word name : List ℕ) → bytes_eq (lowered word) name ≡ true → lowered word ≡ name

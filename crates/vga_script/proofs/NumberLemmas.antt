@@ -1,5 +1,6 @@
 -- Numbers in words: what is read is spelled so, and what is spelled so is read.
-use Rattle.std.proofs.Common.{◌≡◌, ℕ, ◌+◌, ◌*◌, ◌^◌, ◌<◌, ◌≤◌, Bool, true, cond, ◌&&◌, nat_le, List, [], ◌∷◌, length, Option, Some, None, refl, sym, ap, ◌∙◌, arith, subst}
+use Rattle.std.proofs.Common.{◌≡◌, ℕ, ◌+◌, ◌*◌, ◌^◌, ◌<◌, ◌≤◌, Bool, true, cond, ◌&&◌, nat_le, List, [], ◌∷◌, length, Option, Some, None, refl, sym, ap, ◌∙◌}
+use Rattle.std.proofs.Common.{arith, subst}
 use Rattle.std.specs.Char.{digit_value, is_digit}
 use Rattle.std.specs.Str.Parse.{AllDigits, digits_value, digits_value_after}
 use Rattle.std.proofs.lemmas.Int.Digits.{digits_value-lt}
@@ -22,7 +23,8 @@ along : (n v a b : ℕ) → n ≡ v → v < a → a ≤ b → n < b
 along n v a b e p q = omega arith
 
 -- digits behind a number that were read, and that can be
-from_reads : (radix most n : ℕ) (w : List ℕ) (m : ℕ) → n ≤ most → number_from radix most n w ≡ Some m → AllDigits radix w × (m ≡ digits_value_after radix n w) × (m ≤ most)
+from_reads : (radix most n : ℕ) (w : List ℕ) (m : ℕ) → n ≤ most → number_from radix most n w ≡ Some m → AllDigits radix w × (m ≡ digits_value_after radix n w)
+    × (m ≤ most)
 from_reads radix most n [] m within e = let same : n ≡ m = some_is n m e in (tt, sym same, omega arith)
 from_reads radix most n (c ∷ cs) m within e =
     let g = guard_ok (is_digit c radix && nat_le (n * radix + digit_value c) most) (number_from radix most (n * radix + digit_value c) cs) m e in
@@ -38,13 +40,15 @@ value_ge radix n (c ∷ cs) some =
     let grows = le-mul_of_pos_right n some in
     grown n (n * radix) (digit_value c) (digits_value_after radix (n * radix + digit_value c) cs) grows more
 
-spells_from : (radix most n : ℕ) (w : List ℕ) → 0 < radix → AllDigits radix w → digits_value_after radix n w ≤ most → number_from radix most n w ≡ Some (digits_value_after radix n w)
+spells_from : (radix most n : ℕ) (w : List ℕ) → 0 < radix → AllDigits radix w → digits_value_after radix n w ≤ most →
+    number_from radix most n w ≡ Some (digits_value_after radix n w)
 spells_from radix most n [] some all within = refl
 spells_from radix most n (c ∷ cs) some all within =
     let here : n * radix + digit_value c ≤ digits_value_after radix (n * radix + digit_value c) cs = value_ge radix (n * radix + digit_value c) cs some in
     let test : (is_digit c radix && nat_le (n * radix + digit_value c) most) ≡ true =
     and_true (is_digit c radix) _ (lt_passes _ _ all.0) (le_passes _ _ (through _ _ _ here within)) in
-    ap (λ (b : Bool). cond b (number_from radix most (n * radix + digit_value c) cs) None) test ∙ spells_from radix most (n * radix + digit_value c) cs some all.1 within
+    ap (λ (b : Bool). cond b (number_from radix most (n * radix + digit_value c) cs) None) test
+    ∙ spells_from radix most (n * radix + digit_value c) cs some all.1 within
 
 -- ---- words
 
@@ -85,7 +89,8 @@ spells_hex digits most w n (short, numeral) within =
     ap (λ (b : Bool). cond b (number_of 16 most w) None) (le_passes _ _ short) ∙ spells_number 16 most w n (omega arith) numeral within
 
 -- and of the first word of some
-pub hex_at_reads : (digits most : ℕ) (ws : List (List ℕ)) (x : ℕ × List (List ℕ)) → hex_at digits most ws ≡ Some x → (w : List ℕ) × (ws ≡ w ∷ x.1) × IsHex digits w x.0 × (x.0 ≤ most)
+pub hex_at_reads : (digits most : ℕ) (ws : List (List ℕ)) (x : ℕ × List (List ℕ)) → hex_at digits most ws ≡ Some x → (w : List ℕ) × (ws ≡ w ∷ x.1)
+    × IsHex digits w x.0 × (x.0 ≤ most)
 unfolding hex_at
 hex_at_reads digits most [] x e = absurd (cc)
 hex_at_reads digits most (w ∷ ws) x e =
@@ -125,7 +130,8 @@ spells_one_hex digits most ws n (word, e, hex) room =
     rw (e, spells_hex_at digits most word n [] hex (fits n (16 ^ digits) most below room)) refl
 
 -- two numbers, and no other word
-pub two_hex_reads : (digits most digits' most' : ℕ) (ws : List (List ℕ)) (n : ℕ × ℕ) → two_hex digits most digits' most' ws ≡ Some n → SpellsTwoHex digits digits' ws n.0 n.1
+pub two_hex_reads : (digits most digits' most' : ℕ) (ws : List (List ℕ)) (n : ℕ × ℕ) → two_hex digits most digits' most' ws ≡ Some n →
+    SpellsTwoHex digits digits' ws n.0 n.1
 unfolding two_hex
 two_hex_reads digits most digits' most' ws n e =
     let a = bind_ok (hex_at digits most ws) (λ x. hex_at digits' most' x.1 >>= λ y. ended y.1 >>= λ u. Some (x.0, y.0)) n e in
@@ -136,15 +142,21 @@ two_hex_reads digits most digits' most' ws n e =
     subst (λ (x : ℕ × ℕ). SpellsTwoHex digits digits' ws x.0 x.1) (some_is (a.0.0, b.0.0) n c.1)
     (p.0, v.0, then_words ws p.0 a.0.1 (v.0 ∷ []) p.1 (then_words a.0.1 v.0 b.0.1 [] v.1 c.0), p.2, v.2)
 
-pub spells_two_hex : (digits most digits' most' : ℕ) (ws : List (List ℕ)) (n m : ℕ) → SpellsTwoHex digits digits' ws n m → 16 ^ digits ≤ most + 1 → 16 ^ digits' ≤ most' + 1 → two_hex digits most digits' most' ws ≡ Some (n, m)
+pub spells_two_hex : (digits most digits' most' : ℕ) (ws : List (List ℕ)) (n m : ℕ) → SpellsTwoHex digits digits' ws n m → 16 ^ digits ≤ most + 1 →
+    16 ^ digits' ≤ most' + 1 → two_hex digits most digits' most' ws ≡ Some (n, m)
 unfolding two_hex ended
 spells_two_hex digits most digits' most' ws n m (word, other, e, hex, hex') room room' =
     let below = hex_below digits word n hex in
     let below' = hex_below digits' other m hex' in
-    rw (e, spells_hex_at digits most word n (other ∷ []) hex (fits n (16 ^ digits) most below room), spells_hex_at digits' most' other m [] hex' (fits m (16 ^ digits') most' below' room')) refl
+    rw (
+      e,
+      spells_hex_at digits most word n (other ∷ []) hex (fits n (16 ^ digits) most below room),
+      spells_hex_at digits' most' other m [] hex' (fits m (16 ^ digits') most' below' room'),
+    ) refl
 
 -- one decimal number, and no other word
-pub one_decimal_reads : (most : ℕ) (ws : List (List ℕ)) (n : ℕ) → one_decimal most ws ≡ Some n → (word : List ℕ) × (ws ≡ word ∷ []) × IsNumeral 10 word n × (n ≤ most)
+pub one_decimal_reads : (most : ℕ) (ws : List (List ℕ)) (n : ℕ) → one_decimal most ws ≡ Some n → (word : List ℕ) × (ws ≡ word ∷ []) × IsNumeral 10 word n
+    × (n ≤ most)
 unfolding one_decimal
 one_decimal_reads most [] n e = absurd (cc)
 one_decimal_reads most (w ∷ ws) n e =

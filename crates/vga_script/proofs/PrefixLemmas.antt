@@ -13,15 +13,18 @@ Compared spell Fits first second rest other =
     ((first ≡ second) × (rest ≡ other)) ⊎ (GoesOn spell Fits first second rest other ⊎ GoesOn spell Fits second first other rest)
 
 -- one more part before both
-along : {A X : Type 0} (spell : A → List X) (Fits : A → Type 0) (s t : A) (first second : List A) (rest other : List X) → s ≡ t → Compared spell Fits first second rest other
+along : {A X : Type 0} (spell : A → List X) (Fits : A → Type 0) (s t : A) (first second : List A) (rest other : List X) → s ≡ t →
+    Compared spell Fits first second rest other
     → Compared spell Fits (s ∷ first) (t ∷ second) rest other
 along spell Fits s t first second rest other e (inl (same, follows)) = inl (cc, follows)
 along spell Fits s t first second rest other e (inr (inl (next, others, is, fits, follows))) = inr (inl (next, others, cc, fits, follows))
 along spell Fits s t first second rest other e (inr (inr (next, others, is, fits, follows))) = inr (inr (next, others, cc, fits, follows))
 
 -- where the front of a list tells which part it spells, any two lists of parts compare
-pub compare : {A X : Type 0} (spell : A → List X) (Fits : A → Type 0) (one : (s t : A) (x y : List X) → Fits s → Fits t → spell s ++ x ≡ spell t ++ y → (s ≡ t) × (x ≡ y))
-    (first second : List A) (rest other : List X) → AllByRecursion Fits first → AllByRecursion Fits second → flat_map spell first ++ rest ≡ flat_map spell second ++ other
+pub compare : {A X : Type 0} (spell : A → List X) (Fits : A → Type 0) (one : (s t : A) (x y : List X) → Fits s → Fits t → spell s ++ x ≡ spell t ++ y → (s ≡ t)
+    × (x ≡ y))
+    (first second : List A) (rest other : List X) → AllByRecursion Fits first → AllByRecursion Fits second → flat_map spell first
+    ++ rest ≡ flat_map spell second ++ other
     → Compared spell Fits first second rest other
 compare spell Fits one [] [] rest other all all' e = inl (refl, e)
 compare spell Fits one [] (t ∷ second) rest other all (fits, all') e =

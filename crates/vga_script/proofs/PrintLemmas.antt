@@ -10,7 +10,8 @@ use Rattle.vga_script.specs.declared.step.Step.TheVariants.{Int}
 abbrev registers : ℕ → ℕ → ℕ → ℕ → List ℕ
 registers ax bx cx dx = codes "int ax=" ++ (hex 4 ax ++ (codes " bx=" ++ (hex 4 bx ++ (codes " cx=" ++ (hex 4 cx ++ (codes " dx=" ++ hex 4 dx))))))
 
-regroup : (a b c d e : List ℕ) → join_with_byte 32 (codes "int" ∷ (codes "ax=" ++ a) ∷ (codes "bx=" ++ b) ∷ (codes "cx=" ++ c) ∷ (codes "dx=" ++ d) ∷ codes "block" ∷ e ∷ [])
+regroup : (a b c d e : List ℕ) → join_with_byte 32 (codes "int" ∷ (codes "ax=" ++ a) ∷ (codes "bx=" ++ b) ∷ (codes "cx=" ++ c) ∷ (codes "dx=" ++ d)
+    ∷ codes "block" ∷ e ∷ [])
     ≡ (codes "int ax=" ++ (a ++ (codes " bx=" ++ (b ++ (codes " cx=" ++ (c ++ (codes " dx=" ++ d))))))) ++ (codes " block " ++ e)
 regroup a b c d e = simp append_assoc
 

@@ -1,5 +1,6 @@
 -- The printed text of a script spells it.
-use Rattle.std.proofs.Common.{◌≡◌, ℕ, zero, suc, ◌+◌, ◌*◌, ◌/◌, ◌%◌, ◌^◌, ◌<◌, ◌≤◌, Bool, true, false, not, ◌||◌, cond, nat_lt, List, [], ◌∷◌, ◌++◌, length, map, filter, refl, sym, ap, ◌∙◌, subst, arith, inl, inr, codes, decimal, slice_index, append_assoc, length-append}
+use Rattle.std.proofs.Common.{◌≡◌, ℕ, zero, suc, ◌+◌, ◌*◌, ◌/◌, ◌%◌, ◌^◌, ◌<◌, ◌≤◌, Bool, true, false, not, ◌||◌, cond, nat_lt, List, [], ◌∷◌, ◌++◌, length}
+use Rattle.std.proofs.Common.{map, filter, refl, sym, ap, ◌∙◌, subst, arith, inl, inr, codes, decimal, slice_index, append_assoc, length-append}
 use Rattle.std.specs.Char.{digit_value}
 use Rattle.std.specs.Int.{IsInRange as IsWithin}
 use Rattle.std.specs.List.{slice_split, join_with_byte, before_first, position_or_len, flat_map, AllByRecursion, list_all}
@@ -23,14 +24,16 @@ use Rattle.vga_script.specs.declared.step.Step.TheVariants.{Out, OutWord, In, In
 use Rattle.vga_script.specs.declared.dump_range.Shown.{Shown}
 use Rattle.vga_script.specs.declared.dump_range.Shown.TheVariants as shown
 use Rattle.vga_script.specs.Words.{is_blank, is_semicolon, is_newline, has_bytes, words_in, words, lines, lowered, IsNumeral, IsHex}
-use Rattle.vga_script.specs.Text.{name_of, keyword_of, shown_name, SpellsHex, SpellsTwoHex, SpellsRegister, SpellsBlock, SpellsShown, SpellsFields, SpellsLine, SpellsLines, SpellsRepeat, IsEnd, IsVersionTwo, Group, IsGroup, SpellsGroups, SpellsText}
+use Rattle.vga_script.specs.Text.{name_of, keyword_of, shown_name, SpellsHex, SpellsTwoHex, SpellsRegister, SpellsBlock, SpellsShown, SpellsFields, SpellsLine}
+use Rattle.vga_script.specs.Text.{SpellsLines, SpellsRepeat, IsEnd, IsVersionTwo, Group, IsGroup, SpellsGroups, SpellsText}
 use Rattle.vga_script.specs.Item.{Item, Once, Repeated, Listing, listing, expanded, step_limit, IsItemOf, AreItemsOf}
 use Rattle.vga_script.specs.declared.version.Version.{Version}
 use Rattle.vga_script.specs.declared.version.Version.TheVariants.{One, Two}
 use Rattle.vga_script.specs.DumpRange.{IsShownInRange}
 use Rattle.vga_script.specs.Step.{IsBlock, IsInRange, AreInRange}
 use Rattle.vga_bits.specs.Hex.{hex, hex_digit}
-use Rattle.vga_script.specs.Printing.{port_text, address_text, block_words, shown_field_words, field_words, printed_words, line_of, printed_line, printed_steps, printed_item, version_line, printed}
+use Rattle.vga_script.specs.Printing.{port_text, address_text, block_words, shown_field_words, field_words, printed_words, line_of, printed_line, printed_steps}
+use Rattle.vga_script.specs.Printing.{printed_item, version_line, printed}
 
 -- ---- digits
 
@@ -119,10 +122,13 @@ unfolding address_text
 spells_address address small =
     let P : List ℕ → Type 0 = λ w. IsHex 8 w address × AllPlain w in
     let last : P (hex 8 address) = (spells_exact 8 address (omega arith) (omega arith), plain_hex 8 address) in
-    let seven : P (cond (nat_lt address 0x1000_0000) (hex 7 address) (hex 8 address)) = pick (nat_lt address 0x1000_0000) (hex 7 address) (hex 8 address) P (λ t. shorter_address 7 address (omega arith) (omega arith) (lt_test _ _ t)) last in
+    let seven : P (cond (nat_lt address 0x1000_0000) (hex 7 address) (hex 8 address)) =
+    pick (nat_lt address 0x1000_0000) (hex 7 address) (hex 8 address) P (λ t. shorter_address 7 address (omega arith) (omega arith) (lt_test _ _ t)) last in
     let six : P (cond (nat_lt address 0x100_0000) (hex 6 address) (cond (nat_lt address 0x1000_0000) (hex 7 address) (hex 8 address))) =
-    pick (nat_lt address 0x100_0000) (hex 6 address) (cond (nat_lt address 0x1000_0000) (hex 7 address) (hex 8 address)) P (λ t. shorter_address 6 address (omega arith) (omega arith) (lt_test _ _ t)) seven in
-    pick (nat_lt address 0x10_0000) (hex 5 address) (cond (nat_lt address 0x100_0000) (hex 6 address) (cond (nat_lt address 0x1000_0000) (hex 7 address) (hex 8 address))) P (λ t. shorter_address 5 address (omega arith) (omega arith) (lt_test _ _ t)) six
+    pick (nat_lt address 0x100_0000) (hex 6 address) (cond (nat_lt address 0x1000_0000) (hex 7 address) (hex 8 address)) P (λ t.
+    shorter_address 6 address (omega arith) (omega arith) (lt_test _ _ t)) seven in
+    pick (nat_lt address 0x10_0000) (hex 5 address) (cond (nat_lt address 0x100_0000) (hex 6 address)
+    (cond (nat_lt address 0x1000_0000) (hex 7 address) (hex 8 address))) P (λ t. shorter_address 5 address (omega arith) (omega arith) (lt_test _ _ t)) six
 
 -- ---- words and lines of a printed line
 
@@ -165,12 +171,14 @@ keep_words [] h = refl
 keep_words ([] ∷ ws) (some, all, more) = absurd (omega arith)
 keep_words ((c ∷ cs) ∷ ws) (some, all, more) = ap (λ (l : List (List ℕ)). (c ∷ cs) ∷ l) (keep_words ws more)
 
-none_append : (p : ℕ → Bool) (a b : List ℕ) → AllByRecursion (λ c. p c ≡ false) a → AllByRecursion (λ c. p c ≡ false) b → AllByRecursion (λ c. p c ≡ false) (a ++ b)
+none_append : (p : ℕ → Bool) (a b : List ℕ) → AllByRecursion (λ c. p c ≡ false) a → AllByRecursion (λ c. p c ≡ false) b →
+    AllByRecursion (λ c. p c ≡ false) (a ++ b)
 none_append p [] b none more = more
 none_append p (c ∷ cs) b (first, others) more = (first, none_append p cs b others more)
 
 -- the joined words have no byte that passes, where no plain byte and no blank does
-join_none : (p : ℕ → Bool) → ((c : ℕ) → is_plain c ≡ true → p c ≡ false) → p 32 ≡ false → (ws : List (List ℕ)) → AreWords ws → AllByRecursion (λ c. p c ≡ false) (join_with_byte 32 ws)
+join_none : (p : ℕ → Bool) → ((c : ℕ) → is_plain c ≡ true → p c ≡ false) → p 32 ≡ false → (ws : List (List ℕ)) → AreWords ws →
+    AllByRecursion (λ c. p c ≡ false) (join_with_byte 32 ws)
 join_none p h blank [] all = tt
 join_none p h blank (w ∷ []) (some, all, more) = none_pass p h w all
 join_none p h blank (w ∷ v ∷ vs) (some, all, more) =
@@ -193,7 +201,8 @@ words_join (w ∷ ws) h =
 lines_join : (ws : List (List ℕ)) (rest : List ℕ) → AreWords ws → lines ((join_with_byte 32 ws ++ 10 ∷ []) ++ rest) ≡ join_with_byte 32 ws ∷ lines rest
 lines_join ws rest h =
     ap lines (append_assoc (join_with_byte 32 ws) (10 ∷ []) rest)
-    ∙ slice_split_at is_newline (join_with_byte 32 ws) 10 rest (All-from_recursion (λ c. is_newline c ≡ false) (join_with_byte 32 ws) (join_none is_newline plain_newline refl ws h)) refl
+    ∙ slice_split_at is_newline (join_with_byte 32 ws) 10 rest (All-from_recursion (λ c. is_newline c ≡ false) (join_with_byte 32 ws)
+    (join_none is_newline plain_newline refl ws h)) refl
 
 -- ---- the words of a step
 
@@ -237,7 +246,15 @@ bytes_fit (b ∷ bs) (first, others) (suc i) = bytes_fit bs others i
 -- the words of a block are words, and spell it
 spells_block_words : (block : List ℕ) → IsBlock block → SpellsBlock (block_words block) block
 spells_block_words [] fits = inl (refl, refl)
-spells_block_words (b ∷ bs) (short, all) = inr (codes "block", encode_upper (b ∷ bs), refl, refl, omega arith, short, decode_of-encode_upper (b ∷ bs) (bytes_fit (b ∷ bs) all))
+spells_block_words (b ∷ bs) (short, all) = inr (
+  codes "block",
+  encode_upper (b ∷ bs),
+  refl,
+  refl,
+  omega arith,
+  short,
+  decode_of-encode_upper (b ∷ bs) (bytes_fit (b ∷ bs) all),
+)
 
 some_hex : (k n : ℕ) → 0 < k → 0 < length (hex k n)
 some_hex k n some = let l = length-hex k n in omega arith
@@ -275,7 +292,8 @@ value_prints most k n v word p some small =
     ((p.0.1.0, p.1, (some_hex k v some, plain_hex k v, tt)), (word, hex k v, refl, p.0, spells_exact k v some small))
 
 -- what is shown
-shown_prints : (what : Shown) → IsShownInRange what → AreWords (shown_name what ∷ shown_field_words what) × SpellsShown (shown_name what ∷ shown_field_words what) what
+shown_prints : (what : Shown) → IsShownInRange what → AreWords (shown_name what ∷ shown_field_words what)
+    × SpellsShown (shown_name what ∷ shown_field_words what) what
 shown_prints shown.Registers fits = ((omega arith, test_plain (codes "regs") refl, tt), (codes "regs", [], refl, refl, refl))
 shown_prints (shown.Dac index) fits = (
   (omega arith, test_plain (codes "dac") refl, (some_hex 2 index (omega arith), plain_hex 2 index, tt)),
@@ -286,13 +304,30 @@ shown_prints shown.Latches fits = ((omega arith, test_plain (codes "latches") re
 shown_prints (shown.Plane plane offset count) (four, some, most, within) =
     let d = spells_decimal_text count (omega arith) in
     let fields = hex 1 plane ∷ hex 4 offset ∷ decimal count ∷ [] in (
-      (omega arith, test_plain (codes "plane") refl, (some_hex 1 plane (omega arith), plain_hex 1 plane, (some_hex 4 offset (omega arith), plain_hex 4 offset, (d.0.0, d.1, tt)))),
+      (
+        omega arith,
+        test_plain (codes "plane") refl,
+        (
+          some_hex 1 plane (omega arith),
+          plain_hex 1 plane,
+          (some_hex 4 offset (omega arith), plain_hex 4 offset, (d.0.0, d.1, tt)),
+        ),
+      ),
       (
         codes "plane",
         fields,
         refl,
         refl,
-        (hex 1 plane, hex 4 offset, decimal count, refl, spells_exact 1 plane (omega arith) (omega arith), spells_exact 4 offset (omega arith) (omega arith), d.0, (four, some, most, within)),
+        (
+          hex 1 plane,
+          hex 4 offset,
+          decimal count,
+          refl,
+          spells_exact 1 plane (omega arith) (omega arith),
+          spells_exact 4 offset (omega arith) (omega arith),
+          d.0,
+          (four, some, most, within),
+        ),
       ),
     )
 shown_prints shown.BiosData fits = ((omega arith, test_plain (codes "bda") refl, tt), (codes "bda", [], refl, refl, refl))
@@ -438,7 +473,8 @@ item_lines version (Repeated count steps) rest (allowed, some, small, range) =
     ap lines (append_assoc first (body ++ last) rest ∙ ap (λ (l : List ℕ). first ++ l) (append_assoc body last rest))
     ∙ words_line (repeat_words count) (body ++ (last ++ rest)) (repeat_prints count some small).0
     ∙ ap (λ (l : List (List ℕ)). join_with_byte 32 (repeat_words count) ∷ l)
-    (steps_lines steps (last ++ rest) range ∙ ap (λ (l : List (List ℕ)). map line_text steps ++ l) (words_line end_words rest end_prints.0) ∙ sym (append_assoc (map line_text steps) (join_with_byte 32 end_words ∷ []) (lines rest)))
+    (steps_lines steps (last ++ rest) range ∙ ap (λ (l : List (List ℕ)). map line_text steps ++ l) (words_line end_words rest end_prints.0)
+    ∙ sym (append_assoc (map line_text steps) (join_with_byte 32 end_words ∷ []) (lines rest)))
 
 -- the printed text of items spells them
 printed_groups : (version : Version) (items : List Item) → AreItemsOf version items → SpellsGroups version (lines (flat_map printed_item items)) items
@@ -455,7 +491,8 @@ printed_groups version (i ∷ items) (first, others) =
 version_prints : AreWords (codes "version" ∷ codes "2" ∷ []) × IsVersionTwo (codes "version" ∷ codes "2" ∷ [])
 version_prints = ((omega arith, test_plain (codes "version") refl, (omega arith, test_plain (codes "2") refl, tt)), (codes "version", refl, refl))
 
-printed_version : (version : Version) (items : List Item) → AreItemsOf version items → length (expanded items) ≤ step_limit → SpellsText (version_line version ++ flat_map printed_item items) (listing version items)
+printed_version : (version : Version) (items : List Item) → AreItemsOf version items → length (expanded items) ≤ step_limit →
+    SpellsText (version_line version ++ flat_map printed_item items) (listing version items)
 printed_version One items all few = (1, lines (flat_map printed_item items), (refl, refl), printed_groups One items all, few)
 printed_version Two items all few = (
   2,
@@ -472,5 +509,6 @@ printed_version Two items all few = (
   few,
 )
 
-pub printed_spells : (script : Listing) → AreItemsOf script.version script.items → length (expanded script.items) ≤ step_limit → SpellsText (printed script) script
+pub printed_spells : (script : Listing) → AreItemsOf script.version script.items → length (expanded script.items) ≤ step_limit →
+    SpellsText (printed script) script
 printed_spells script all few = printed_version script.version script.items all few

@@ -1,5 +1,6 @@
 -- What reading gives is what the words spell.
-use Rattle.std.proofs.Common.{◌≡◌, ℕ, ◌^◌, ◌<◌, ◌⊎◌, Bool, true, false, cond, List, [], ◌∷◌, ◌++◌, length, take, drop, Option, Some, Result, Ok, Err, refl, sym, ap, ◌∙◌, subst, arith, inl, inr, codes, nat_le, nat_lt, ◌&&◌}
+use Rattle.std.proofs.Common.{◌≡◌, ℕ, ◌^◌, ◌<◌, ◌⊎◌, Bool, true, false, cond, List, [], ◌∷◌, ◌++◌, length, take, drop, Option, Some, Result, Ok, Err, refl, sym}
+use Rattle.std.proofs.Common.{ap, ◌∙◌, subst, arith, inl, inr, codes, nat_le, nat_lt, ◌&&◌}
 use Rattle.std.specs.Char.{to_ascii_lowercase}
 use Rattle.std.specs.Str.{bytes_eq}
 use Rattle.std.proofs.lemmas.Slice.Eq.{bytes_eq-Decides}
@@ -13,9 +14,11 @@ use Rattle.vga_script.specs.declared.keyword.Keyword.{Keyword}
 use Rattle.vga_script.specs.declared.keyword.Keyword.TheVariants as keyword
 use Rattle.vga_script.specs.Words.{lowered}
 use Rattle.vga_script.specs.Text.{name_of, keyword_of, SpellsFields, SpellsRegister, SpellsBytes, SpellsBlock}
-use Rattle.vga_script.specs.StepReading.{◌>>=◌, hex_of, one_hex, two_hex, one_decimal, ended, register_at, decoded, bytes_of, digits_at, block_at, read_int, read_shown, read_step}
+use Rattle.vga_script.specs.StepReading.{◌>>=◌, hex_of, one_hex, two_hex, one_decimal, ended, register_at, decoded, bytes_of, digits_at, block_at, read_int}
+use Rattle.vga_script.specs.StepReading.{read_shown, read_step}
 use Rattle.vga_script.proofs.OptionLemmas.{bind_ok, guard_ok, and_ok, and_true, some_is, le_test, le_passes, lt_test, lt_passes}
-use Rattle.vga_script.proofs.NumberLemmas.{hex_below, hex_reads, spells_hex, one_hex_reads, spells_one_hex, two_hex_reads, spells_two_hex, one_decimal_reads, spells_one_decimal, ended_ok, then_words}
+use Rattle.vga_script.proofs.NumberLemmas.{hex_below, hex_reads, spells_hex, one_hex_reads, spells_one_hex, two_hex_reads, spells_two_hex, one_decimal_reads}
+use Rattle.vga_script.proofs.NumberLemmas.{spells_one_decimal, ended_ok, then_words}
 use Rattle.vga_script.proofs.ShownLemmas.{shown_reads, spells_shown}
 
 -- ---- names
@@ -70,7 +73,8 @@ front_long : (w name : List ℕ) → lowered w ≡ name → length name ≡ 3 �
 front_long w name e three = sym (length-map w to_ascii_lowercase) ∙ ap length e ∙ three
 
 -- a register that is spelled is read, and others are passed over
-spells_register : (name : List ℕ) (a : List (List ℕ)) (v : ℕ) (rest : List (List ℕ)) → length name ≡ 3 → SpellsRegister name a v → register_at name rest ≡ Some (0, rest) → register_at name (a ++ rest) ≡ Some (v, rest)
+spells_register : (name : List ℕ) (a : List (List ℕ)) (v : ℕ) (rest : List (List ℕ)) → length name ≡ 3 → SpellsRegister name a v →
+    register_at name rest ≡ Some (0, rest) → register_at name (a ++ rest) ≡ Some (v, rest)
 unfolding register_at
 spells_register name a v rest three (inl (none, nought)) skips = rw (none, nought) skips
 spells_register name a v rest three (inr (front, digits, e, named, hex)) skips =
@@ -78,14 +82,16 @@ spells_register name a v rest three (inr (front, digits, e, named, hex)) skips =
     let below = hex_below 4 digits v hex in
     rw (e, take_at front digits 3 len, drop_at front digits 3 len, same_word front name named, spells_hex 4 0xFFFF digits v hex (omega arith)) refl
 
-skips_register : (name other : List ℕ) (b : List (List ℕ)) (v : ℕ) (rest : List (List ℕ)) → length other ≡ 3 → bytes_eq other name ≡ false → SpellsRegister other b v → register_at name rest ≡ Some (0, rest) → register_at name (b ++ rest) ≡ Some (0, b ++ rest)
+skips_register : (name other : List ℕ) (b : List (List ℕ)) (v : ℕ) (rest : List (List ℕ)) → length other ≡ 3 → bytes_eq other name ≡ false →
+    SpellsRegister other b v → register_at name rest ≡ Some (0, rest) → register_at name (b ++ rest) ≡ Some (0, b ++ rest)
 unfolding register_at
 skips_register name other b v rest three differ (inl (none, nought)) skips = rw none skips
 skips_register name other b v rest three differ (inr (front, digits, e, named, hex)) skips =
     let len = front_long front other named three in
     rw (e, take_at front digits 3 len, named, differ) refl
 
-skips_block : (name : List ℕ) (e : List (List ℕ)) (block : List ℕ) → bytes_eq (codes "blo") name ≡ false → SpellsBlock e block → register_at name e ≡ Some (0, e)
+skips_block : (name : List ℕ) (e : List (List ℕ)) (block : List ℕ) → bytes_eq (codes "blo") name ≡ false → SpellsBlock e block →
+    register_at name e ≡ Some (0, e)
 unfolding register_at
 skips_block name e block differ (inl (none, empty)) = rw none refl
 skips_block name e block differ (inr (front, digits, is, named, some, short, spelled)) =
@@ -101,7 +107,9 @@ chosen false x y z e = inr (refl, e)
 abbrev HasRegister : List ℕ → List (List ℕ) → (ℕ × List (List ℕ)) → Type 0
 HasRegister name ws x = (a : List (List ℕ)) × (ws ≡ a ++ x.1) × SpellsRegister name a x.0
 
-by_test : (name w : List ℕ) (ws : List (List ℕ)) (x : ℕ × List (List ℕ)) → ((bytes_eq (lowered (take 3 w)) name ≡ true) × ((hex_of 4 0xFFFF (drop 3 w) >>= λ n. Some (n, ws)) ≡ Some x)) ⊎ ((bytes_eq (lowered (take 3 w)) name ≡ false) × (Some (0, w ∷ ws) ≡ Some x)) → HasRegister name (w ∷ ws) x
+by_test : (name w : List ℕ) (ws : List (List ℕ)) (x : ℕ × List (List ℕ)) → ((bytes_eq (lowered (take 3 w)) name ≡ true)
+    × ((hex_of 4 0xFFFF (drop 3 w) >>= λ n. Some (n, ws)) ≡ Some x)) ⊎ ((bytes_eq (lowered (take 3 w)) name ≡ false) × (Some (0, w ∷ ws) ≡ Some x)) →
+    HasRegister name (w ∷ ws) x
 by_test name w ws x (inl (holds, read)) =
     let b = bind_ok (hex_of 4 0xFFFF (drop 3 w)) (λ n. Some (n, ws)) x read in
     let named = (bytes_eq-Decides (lowered (take 3 w)) name).0 holds in
@@ -144,7 +152,8 @@ spells_bytes w block some short read =
     rw (test, read) refl
 
 -- and no other word follows
-digits_read : (ws : List (List ℕ)) (block : List ℕ) → digits_at ws ≡ Some block → (d : List ℕ) × (ws ≡ d ∷ []) × (0 < length block) × (length block < 2 ^ 16) × SpellsBytes d block
+digits_read : (ws : List (List ℕ)) (block : List ℕ) → digits_at ws ≡ Some block → (d : List ℕ) × (ws ≡ d ∷ []) × (0 < length block) × (length block < 2 ^ 16)
+    × SpellsBytes d block
 unfolding digits_at
 digits_read [] block e = absurd (cc)
 digits_read (w ∷ ws) block e =
@@ -178,16 +187,20 @@ Found k ws s = (keyword_of s ≡ k) × SpellsFields ws s
 found : (k : Keyword) (ws : List (List ℕ)) (s t : Step) → s ≡ t → Found k ws s → Found k ws t
 found k ws s t e h = subst (Found k ws) e h
 
-int_found : (ws : List (List ℕ)) (ax bx cx dx : ℕ) (block : List ℕ) (s : Step) → Int ax bx cx dx block ≡ s → SpellsFields ws (Int ax bx cx dx block) → Found keyword.Int ws s
+int_found : (ws : List (List ℕ)) (ax bx cx dx : ℕ) (block : List ℕ) (s : Step) → Int ax bx cx dx block ≡ s → SpellsFields ws (Int ax bx cx dx block) →
+    Found keyword.Int ws s
 int_found ws ax bx cx dx block s e h = found keyword.Int ws (Int ax bx cx dx block) s e (refl, h)
 
 -- a call that is read is spelled
 int_reads : (ws : List (List ℕ)) (s : Step) → read_int ws ≡ Some s → Found keyword.Int ws s
 unfolding read_int
 int_reads ws s e =
-    let a = bind_ok (register_at (codes "ax=") ws) (λ a. register_at (codes "bx=") a.1 >>= λ b. register_at (codes "cx=") b.1 >>= λ c. register_at (codes "dx=") c.1 >>= λ d. block_at d.1 >>= λ x. Some (Int a.0 b.0 c.0 d.0 x)) s e in
-    let b = bind_ok (register_at (codes "bx=") a.0.1) (λ b. register_at (codes "cx=") b.1 >>= λ c. register_at (codes "dx=") c.1 >>= λ d. block_at d.1 >>= λ x. Some (Int a.0.0 b.0 c.0 d.0 x)) s a.2 in
-    let c = bind_ok (register_at (codes "cx=") b.0.1) (λ c. register_at (codes "dx=") c.1 >>= λ d. block_at d.1 >>= λ x. Some (Int a.0.0 b.0.0 c.0 d.0 x)) s b.2 in
+    let a = bind_ok (register_at (codes "ax=") ws) (λ a. register_at (codes "bx=") a.1 >>= λ b. register_at (codes "cx=") b.1
+    >>= λ c. register_at (codes "dx=") c.1 >>= λ d. block_at d.1 >>= λ x. Some (Int a.0 b.0 c.0 d.0 x)) s e in
+    let b = bind_ok (register_at (codes "bx=") a.0.1) (λ b. register_at (codes "cx=") b.1 >>= λ c. register_at (codes "dx=") c.1 >>= λ d. block_at d.1
+    >>= λ x. Some (Int a.0.0 b.0 c.0 d.0 x)) s a.2 in
+    let c = bind_ok (register_at (codes "cx=") b.0.1) (λ c. register_at (codes "dx=") c.1 >>= λ d. block_at d.1
+    >>= λ x. Some (Int a.0.0 b.0.0 c.0 d.0 x)) s b.2 in
     let d = bind_ok (register_at (codes "dx=") c.0.1) (λ d. block_at d.1 >>= λ x. Some (Int a.0.0 b.0.0 c.0.0 d.0 x)) s c.2 in
     let x = bind_ok (block_at d.0.1) (λ x. Some (Int a.0.0 b.0.0 c.0.0 d.0.0 x)) s d.2 in
     let ra = register_reads (codes "ax=") ws a.0 a.1 in

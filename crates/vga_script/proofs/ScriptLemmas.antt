@@ -9,7 +9,8 @@ use Rattle.vga_script.specs.declared.dump_range.Shown.TheVariants as shown
 use Rattle.vga_script.specs.Item.{Item, Once, Listing, AreItemsOf}
 use Rattle.vga_script.specs.declared.version.Version.{Version}
 use Rattle.vga_script.specs.Words.{words}
-use Rattle.vga_script.specs.Text.{SpellsHex, SpellsTwoHex, SpellsRegister, SpellsBlock, SpellsShown, SpellsFields, SpellsLine, SpellsLines, Group, IsGroup, SpellsText}
+use Rattle.vga_script.specs.Text.{SpellsHex, SpellsTwoHex, SpellsRegister, SpellsBlock, SpellsShown, SpellsFields, SpellsLine, SpellsLines, Group, IsGroup}
+use Rattle.vga_script.specs.Text.{SpellsText}
 use Rattle.vga_script.specs.DumpRange.{IsShownInRange}
 use Rattle.vga_script.specs.Step.{IsBlock, IsInRange, AreInRange}
 use Rattle.vga_script.specs.Spelling.{script_limit, encoding, Spells}
@@ -59,8 +60,13 @@ fields_range ws (Put address value) h = let r = two_range 8 2 ws address value h
 fields_range ws (PutWord address value) h = let r = two_range 8 4 ws address value h in let first = r.0 in let second = r.1 in (omega arith, omega arith)
 fields_range ws (Get address) h = let r = one_range 8 ws address h in omega arith
 fields_range ws (GetWord address) h = let r = one_range 8 ws address h in omega arith
-fields_range ws (Int ax bx cx dx block) (a, b, c, d, x, e, ha, hb, hc, hd, hx) =
-    (register_range (codes "ax=") a ax ha, register_range (codes "bx=") b bx hb, register_range (codes "cx=") c cx hc, register_range (codes "dx=") d dx hd, block_range x block hx)
+fields_range ws (Int ax bx cx dx block) (a, b, c, d, x, e, ha, hb, hc, hd, hx) = (
+  register_range (codes "ax=") a ax ha,
+  register_range (codes "bx=") b bx hb,
+  register_range (codes "cx=") c cx hc,
+  register_range (codes "dx=") d dx hd,
+  block_range x block hx,
+)
 fields_range ws (Advance dots) (word, e, numeral, below) = below
 fields_range ws Frame none = tt
 fields_range ws (Show what) h = shown_range ws what h
@@ -71,7 +77,8 @@ line_range (w ∷ ws) steps (s, e, named, fields) = subst AreInRange (sym e) (fi
 
 lines_range : (ls : List (List ℕ)) (steps : List Step) → SpellsLines ls steps → AreInRange steps
 lines_range [] steps e = subst AreInRange (sym e) tt
-lines_range (l ∷ ls) steps (here, after, e, line, more) = subst AreInRange (sym e) (range-append here after (line_range (words l) here line) (lines_range ls after more))
+lines_range (l ∷ ls) steps (here, after, e, line, more) = subst AreInRange (sym e)
+    (range-append here after (line_range (words l) here line) (lines_range ls after more))
 
 -- steps as items
 steps_fit : (version : Version) (steps : List Step) → AreInRange steps → AreItemsOf version (map Once steps)
@@ -89,9 +96,11 @@ group_range version group (inl (line, steps, ls, is, good)) = subst (AreItemsOf 
 group_range version group (inr (allowed, (first, count, body, steps, last, ls, is, (name, number, e, named, numeral, some, small), good, ends))) =
     subst (AreItemsOf version) (sym is) ((allowed, some, small, lines_range body steps good), tt)
 
-groups_range : (version : Version) (groups : List Group) → AllByRecursion (IsGroup version) groups → AreItemsOf version (flat_map (λ (g : Group). g.items) groups)
+groups_range : (version : Version) (groups : List Group) → AllByRecursion (IsGroup version) groups →
+    AreItemsOf version (flat_map (λ (g : Group). g.items) groups)
 groups_range version [] all = tt
-groups_range version (g ∷ groups) (good, all) = items-append version g.items (flat_map (λ (h : Group). h.items) groups) (group_range version g good) (groups_range version groups all)
+groups_range version (g ∷ groups) (good, all) = items-append version g.items (flat_map (λ (h : Group). h.items) groups) (group_range version g good)
+    (groups_range version groups all)
 
 -- the step of a line
 pub line_in_range : (ws : List (List ℕ)) (step : Step) → SpellsLine ws (step ∷ []) → IsInRange step
@@ -113,10 +122,13 @@ pub text_reads : (text bytes : List ℕ) → (script : Listing) × SpellsText te
 text_reads text bytes (script, h, e) = subst (SpellsText text) (sym (listing_back bytes script (text_bytes text bytes script h e))) h
 
 -- which is no longer than a script may be
-pub text_fits : (text bytes : List ℕ) → (script : Listing) × SpellsText text script × (bytes ≡ encoding script) → length bytes ≤ script_limit → IsScript (listing_of bytes)
+pub text_fits : (text bytes : List ℕ) → (script : Listing) × SpellsText text script × (bytes ≡ encoding script) → length bytes ≤ script_limit →
+    IsScript (listing_of bytes)
 text_fits text bytes (script, h, e) short =
-    subst IsScript (sym (listing_back bytes script (text_bytes text bytes script h e))) (record { range = text_range text script h; few = h.4; short = subst (λ (l : List ℕ). length l ≤ script_limit) e short })
+    subst IsScript (sym (listing_back bytes script (text_bytes text bytes script h e)))
+    (record { range = text_range text script h; few = h.4; short = subst (λ (l : List ℕ). length l ≤ script_limit) e short })
 
 -- a text whose script has too many bytes
-pub too_long : (text bytes : List ℕ) → (script : Listing) × SpellsText text script × (bytes ≡ encoding script) → script_limit < length bytes → SpellsTooLong text
+pub too_long : (text bytes : List ℕ) → (script : Listing) × SpellsText text script × (bytes ≡ encoding script) → script_limit < length bytes →
+    SpellsTooLong text
 too_long text bytes (script, h, e) long = (script, h, subst (λ (l : List ℕ). script_limit < length l) e long)

@@ -1,5 +1,6 @@
 -- What words say is shown: what is read is spelled so, and what is spelled so is read.
-use Rattle.std.proofs.Common.{◌≡◌, ℕ, ◌+◌, ◌≤◌, ◌↔◌, Bool, true, false, IsTrue, cond, ◌&&◌, nat_le, nat_lt, List, [], ◌∷◌, Option, Some, None, refl, sym, ◌∙◌, subst, arith, codes}
+use Rattle.std.proofs.Common.{◌≡◌, ℕ, ◌+◌, ◌≤◌, ◌↔◌, Bool, true, false, IsTrue, cond, ◌&&◌, nat_le, nat_lt, List, [], ◌∷◌, Option, Some, None, refl, sym, ◌∙◌}
+use Rattle.std.proofs.Common.{subst, arith, codes}
 use Rattle.std.specs.Str.{bytes_eq}
 use Rattle.std.proofs.lemmas.Slice.Eq.{bytes_eq-Decides}
 use Rattle.vga_script.specs.declared.dump_range.Shown.{Shown}
@@ -9,10 +10,12 @@ use Rattle.vga_script.specs.Words.{lowered}
 use Rattle.vga_script.specs.Text.{shown_name, SpellsShownFields, SpellsShown}
 use Rattle.vga_script.specs.StepReading.{◌>>=◌, hex_at, one_hex, one_decimal, ended, alone, read_dac, read_plane, read_shown}
 use Rattle.vga_script.proofs.OptionLemmas.{bind_ok, guard_ok, and_ok, and_true, some_is, le_test, le_passes, lt_test, lt_passes}
-use Rattle.vga_script.proofs.NumberLemmas.{hex_at_reads, spells_hex_at, one_hex_reads, spells_one_hex, one_decimal_reads, spells_one_decimal, ended_ok, then_words}
+use Rattle.vga_script.proofs.NumberLemmas.{hex_at_reads, spells_hex_at, one_hex_reads, spells_one_hex, one_decimal_reads, spells_one_decimal, ended_ok}
+use Rattle.vga_script.proofs.NumberLemmas.{then_words}
 
 -- bytes of a plane that pass the tests are in range
-plane_range : (plane offset count : ℕ) → plane ≤ 3 → count ≤ 256 → (nat_lt 0 count && nat_le (offset + count) 0x1_0000) ≡ true → IsShownInRange (shown.Plane plane offset count)
+plane_range : (plane offset count : ℕ) → plane ≤ 3 → count ≤ 256 → (nat_lt 0 count && nat_le (offset + count) 0x1_0000) ≡ true →
+    IsShownInRange (shown.Plane plane offset count)
 plane_range plane offset count few most t =
     let h = and_ok (nat_lt 0 count) (nat_le (offset + count) 0x1_0000) t in
     (omega arith, lt_test 0 count h.0, most, le_test (offset + count) 0x1_0000 h.1)
@@ -44,10 +47,12 @@ Spelled name ws what = (shown_name what ≡ name) × SpellsShownFields ws what
 same_shown : (name : List ℕ) (ws : List (List ℕ)) (one what : Shown) → one ≡ what → Spelled name ws one → Spelled name ws what
 same_shown name ws one what e h = subst (Spelled name ws) e h
 
-plane_found : (ws : List (List ℕ)) (plane offset count : ℕ) (what : Shown) → shown.Plane plane offset count ≡ what → SpellsShownFields ws (shown.Plane plane offset count) → Spelled (codes "plane") ws what
+plane_found : (ws : List (List ℕ)) (plane offset count : ℕ) (what : Shown) → shown.Plane plane offset count ≡ what →
+    SpellsShownFields ws (shown.Plane plane offset count) → Spelled (codes "plane") ws what
 plane_found ws plane offset count what e h = same_shown (codes "plane") ws (shown.Plane plane offset count) what e (refl, h)
 
-alone_reads : (name : List ℕ) (one : Shown) (ws : List (List ℕ)) (what : Shown) → shown_name one ≡ name → (ws ≡ [] → SpellsShownFields ws one) → alone one ws ≡ Some what → Spelled name ws what
+alone_reads : (name : List ℕ) (one : Shown) (ws : List (List ℕ)) (what : Shown) → shown_name one ≡ name → (ws ≡ [] → SpellsShownFields ws one) →
+    alone one ws ≡ Some what → Spelled name ws what
 unfolding alone
 alone_reads name one ws what named fits e =
     let c = ended_ok ws (Some one) what e in
@@ -62,8 +67,10 @@ dac_reads ws what e =
 plane_reads : (ws : List (List ℕ)) (what : Shown) → read_plane ws ≡ Some what → Spelled (codes "plane") ws what
 unfolding read_plane
 plane_reads ws what e =
-    let p = bind_ok (hex_at 1 3 ws) (λ p. hex_at 4 0xFFFF p.1 >>= λ o. one_decimal 256 o.1 >>= λ n. cond (nat_lt 0 n && nat_le (o.0 + n) 0x1_0000) (Some (shown.Plane p.0 o.0 n)) None) what e in
-    let o = bind_ok (hex_at 4 0xFFFF p.0.1) (λ o. one_decimal 256 o.1 >>= λ n. cond (nat_lt 0 n && nat_le (o.0 + n) 0x1_0000) (Some (shown.Plane p.0.0 o.0 n)) None) what p.2 in
+    let p = bind_ok (hex_at 1 3 ws) (λ p. hex_at 4 0xFFFF p.1 >>= λ o. one_decimal 256 o.1
+    >>= λ n. cond (nat_lt 0 n && nat_le (o.0 + n) 0x1_0000) (Some (shown.Plane p.0 o.0 n)) None) what e in
+    let o = bind_ok (hex_at 4 0xFFFF p.0.1) (λ o. one_decimal 256 o.1 >>= λ n. cond (nat_lt 0 n
+    && nat_le (o.0 + n) 0x1_0000) (Some (shown.Plane p.0.0 o.0 n)) None) what p.2 in
     let n = bind_ok (one_decimal 256 o.0.1) (λ n. cond (nat_lt 0 n && nat_le (o.0.0 + n) 0x1_0000) (Some (shown.Plane p.0.0 o.0.0 n)) None) what o.2 in
     let g = guard_ok (nat_lt 0 n.0 && nat_le (o.0.0 + n.0) 0x1_0000) (Some (shown.Plane p.0.0 o.0.0 n.0)) what n.2 in
     let wp = hex_at_reads 1 3 ws p.0 p.1 in
@@ -110,6 +117,15 @@ spells_shown ws (shown.Dac index) (first, rest, e, named, hex) = rw (e, named, s
 spells_shown ws shown.Beam (first, rest, e, named, none) = rw (e, named, none) refl
 spells_shown ws shown.Latches (first, rest, e, named, none) = rw (e, named, none) refl
 spells_shown ws (shown.Plane plane offset count) (first, rest, e, named, (p, o, n, f, hp, ho, hn, (four, some, most, within))) =
-    rw (e, named, f, spells_hex_at 1 3 p plane (o ∷ n ∷ []) hp (omega arith), spells_hex_at 4 0xFFFF o offset (n ∷ []) ho (omega arith), spells_one_decimal 256 n count hn most, lt_passes 0 count some, le_passes (offset + count) 0x1_0000 within) refl
+    rw (
+      e,
+      named,
+      f,
+      spells_hex_at 1 3 p plane (o ∷ n ∷ []) hp (omega arith),
+      spells_hex_at 4 0xFFFF o offset (n ∷ []) ho (omega arith),
+      spells_one_decimal 256 n count hn most,
+      lt_passes 0 count some,
+      le_passes (offset + count) 0x1_0000 within,
+    ) refl
 spells_shown ws shown.BiosData (first, rest, e, named, none) = rw (e, named, none) refl
 spells_shown ws shown.Cells (first, rest, e, named, none) = rw (e, named, none) refl

@@ -23,7 +23,8 @@ items_of : (bytes : List ℕ) (script : Listing) → Spells bytes script → Spe
 items_of bytes script (rest, whole, good, few) = subst (λ (l : List ℕ). SpellsItems script.version l script.items) (sym (ap (drop 5) whole)) good
 
 -- which are read back
-pub items_spelled : (bytes : List ℕ) (script : Listing) → Spells bytes script → (items_in (drop 5 bytes) ≡ script.items) × SpellsItems script.version (drop 5 bytes) (items_in (drop 5 bytes))
+pub items_spelled : (bytes : List ℕ) (script : Listing) → Spells bytes script → (items_in (drop 5 bytes) ≡ script.items)
+    × SpellsItems script.version (drop 5 bytes) (items_in (drop 5 bytes))
 items_spelled bytes script h =
     let good = items_of bytes script h in
     let same = items_are script.version (drop 5 bytes) script.items good in (same, subst (SpellsItems script.version (drop 5 bytes)) (sym same) good)
@@ -35,13 +36,21 @@ fits bytes script h = all_widened script.version script.items (items_fit script.
 pub items_stand : (bytes body : List ℕ) → body ≡ [] → Spells bytes (listing_of bytes) → Stands body (drop 5 bytes)
 items_stand bytes body bare h =
     let script = listing_of bytes in
-    inl (record { items = script.items; fit = fits bytes script h; none = bare; spelled = spelled_items script.version (drop 5 bytes) script.items (items_of bytes script h) })
+    inl (record {
+      items = script.items;
+      fit = fits bytes script h;
+      none = bare;
+      spelled =
+          spelled_items script.version (drop 5 bytes) script.items (items_of bytes script h);
+    })
 
 -- from which the steps of the script are left
-pub items_left : (bytes body : List ℕ) (left : ℕ) → body ≡ [] → Spells bytes (listing_of bytes) → steps_left left body (drop 5 bytes) ≡ expanded (listing_of bytes).items
+pub items_left : (bytes body : List ℕ) (left : ℕ) → body ≡ [] → Spells bytes (listing_of bytes) →
+    steps_left left body (drop 5 bytes) ≡ expanded (listing_of bytes).items
 items_left bytes body left bare h =
     let script = listing_of bytes in
-    outside_left left body (drop 5 bytes) script.items (fits bytes script h) bare (spelled_items script.version (drop 5 bytes) script.items (items_of bytes script h))
+    outside_left left body (drop 5 bytes) script.items (fits bytes script h) bare
+    (spelled_items script.version (drop 5 bytes) script.items (items_of bytes script h))
 
 -- they are in range, and no more than a script may mean
 pub steps_in_range : (bytes : List ℕ) (script : Listing) → Spells bytes script → AreInRange (expanded script.items)
@@ -53,7 +62,8 @@ steps_few bytes script (rest, whole, good, few) = few
 pub few_steps : (bytes : List ℕ) (steps : List Step) → Spells bytes (listing_of bytes) → steps ≡ expanded (listing_of bytes).items → length steps ≤ step_limit
 few_steps bytes steps h e = subst (λ (l : List Step). length l ≤ step_limit) (sym e) (steps_few bytes (listing_of bytes) h)
 
-pub range_of_steps : (bytes : List ℕ) (script : Listing) (steps : List Step) → Spells bytes script → script ≡ listing_of bytes → steps ≡ expanded (listing_of bytes).items → AreInRange steps
+pub range_of_steps : (bytes : List ℕ) (script : Listing) (steps : List Step) → Spells bytes script → script ≡ listing_of bytes →
+    steps ≡ expanded (listing_of bytes).items → AreInRange steps
 range_of_steps bytes script steps h is e = subst AreInRange (sym (e ∙ ap (λ (s : Listing). expanded s.items) (sym is))) (steps_in_range bytes script h)
 
 -- a copy of the bytes is the script's encoding

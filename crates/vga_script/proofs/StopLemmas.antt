@@ -8,7 +8,8 @@ use Rattle.vga_script.specs.declared.dump_range.Shown.TheVariants as shown
 use Rattle.vga_script.specs.DumpRange.{shown_spelling}
 use Rattle.vga_script.specs.Step.{IsInRange}
 use Rattle.vga_script.specs.Front.{step_of}
-use Rattle.vga_script.specs.Spelling.{opcode_out, opcode_out_word, opcode_in, opcode_in_word, opcode_put, opcode_put_word, opcode_get, opcode_get_word, opcode_int, opcode_advance, opcode_frame, opcode_show, spelling}
+use Rattle.vga_script.specs.Spelling.{opcode_out, opcode_out_word, opcode_in, opcode_in_word, opcode_put, opcode_put_word, opcode_get, opcode_get_word}
+use Rattle.vga_script.specs.Spelling.{opcode_int, opcode_advance, opcode_frame, opcode_show, spelling}
 use Rattle.vga_script.specs.Decoding.{shown_len, fields_len, StartsWithBadStep, StartsWithCutStep}
 use Rattle.vga_script.proofs.FieldLemmas.{two_back}
 use Rattle.vga_script.proofs.OptionLemmas.{just, some_is}
@@ -41,20 +42,33 @@ has_dump what x opcode rest e =
 
 -- the opcode of a step is one, and its fields are all there
 has_fields : (s : Step) (x : List ℕ) (opcode : ℕ) (rest : List ℕ) → IsInRange s → spelling s ++ x ≡ opcode ∷ rest → HasFields opcode rest
-has_fields (Out p v) x opcode rest fits e = let first : opcode ≡ opcode_out = cc in (3, ap (λ (o : ℕ). fields_len o rest) first, let l = ap length e in omega arith)
-has_fields (OutWord p v) x opcode rest fits e = let first : opcode ≡ opcode_out_word = cc in (4, ap (λ (o : ℕ). fields_len o rest) first, let l = ap length e in omega arith)
+has_fields (Out p v) x opcode rest fits e = let first : opcode ≡ opcode_out = cc in
+    (3, ap (λ (o : ℕ). fields_len o rest) first, let l = ap length e in omega arith)
+has_fields (OutWord p v) x opcode rest fits e = let first : opcode ≡ opcode_out_word = cc in
+    (4, ap (λ (o : ℕ). fields_len o rest) first, let l = ap length e in omega arith)
 has_fields (In p) x opcode rest fits e = let first : opcode ≡ opcode_in = cc in (2, ap (λ (o : ℕ). fields_len o rest) first, let l = ap length e in omega arith)
-has_fields (InWord p) x opcode rest fits e = let first : opcode ≡ opcode_in_word = cc in (2, ap (λ (o : ℕ). fields_len o rest) first, let l = ap length e in omega arith)
-has_fields (Put p v) x opcode rest fits e = let first : opcode ≡ opcode_put = cc in (5, ap (λ (o : ℕ). fields_len o rest) first, let l = ap length e in omega arith)
-has_fields (PutWord p v) x opcode rest fits e = let first : opcode ≡ opcode_put_word = cc in (6, ap (λ (o : ℕ). fields_len o rest) first, let l = ap length e in omega arith)
-has_fields (Get p) x opcode rest fits e = let first : opcode ≡ opcode_get = cc in (4, ap (λ (o : ℕ). fields_len o rest) first, let l = ap length e in omega arith)
-has_fields (GetWord p) x opcode rest fits e = let first : opcode ≡ opcode_get_word = cc in (4, ap (λ (o : ℕ). fields_len o rest) first, let l = ap length e in omega arith)
-has_fields (Advance p) x opcode rest fits e = let first : opcode ≡ opcode_advance = cc in (4, ap (λ (o : ℕ). fields_len o rest) first, let l = ap length e in omega arith)
+has_fields (InWord p) x opcode rest fits e = let first : opcode ≡ opcode_in_word = cc in
+    (2, ap (λ (o : ℕ). fields_len o rest) first, let l = ap length e in omega arith)
+has_fields (Put p v) x opcode rest fits e = let first : opcode ≡ opcode_put = cc in
+    (5, ap (λ (o : ℕ). fields_len o rest) first, let l = ap length e in omega arith)
+has_fields (PutWord p v) x opcode rest fits e = let first : opcode ≡ opcode_put_word = cc in
+    (6, ap (λ (o : ℕ). fields_len o rest) first, let l = ap length e in omega arith)
+has_fields (Get p) x opcode rest fits e = let first : opcode ≡ opcode_get = cc in
+    (4, ap (λ (o : ℕ). fields_len o rest) first, let l = ap length e in omega arith)
+has_fields (GetWord p) x opcode rest fits e = let first : opcode ≡ opcode_get_word = cc in
+    (4, ap (λ (o : ℕ). fields_len o rest) first, let l = ap length e in omega arith)
+has_fields (Advance p) x opcode rest fits e = let first : opcode ≡ opcode_advance = cc in
+    (4, ap (λ (o : ℕ). fields_len o rest) first, let l = ap length e in omega arith)
 has_fields (Int a b c d block) x opcode rest (ha, hb, hc, hd, (hl, all)) e =
-    let tail : rest ≡ (little_bytes 2 a ++ (little_bytes 2 b ++ (little_bytes 2 c ++ (little_bytes 2 d ++ (little_bytes 2 (length block) ++ block))))) ++ x = cc in
+    let tail : rest ≡ (little_bytes 2 a ++ (little_bytes 2 b ++ (little_bytes 2 c ++ (little_bytes 2 d ++ (little_bytes 2 (length block) ++ block)))))
+    ++ x = cc in
     let first : opcode ≡ opcode_int = cc in
-    let count : little_number 2 (drop 8 rest) ≡ length block = ap (λ (t : List ℕ). little_number 2 (drop 8 t)) tail ∙ two_back (length block) (block ++ x) hl in
-    (10 + length block, ap (λ (o : ℕ). fields_len o rest) first ∙ ap (λ (n : ℕ). just (10 + n)) count, let k = ap length tail in let j = length-append block x in omega arith)
+    let count : little_number 2 (drop 8 rest) ≡ length block = ap (λ (t : List ℕ). little_number 2 (drop 8 t)) tail
+    ∙ two_back (length block) (block ++ x) hl in (
+      10 + length block,
+      ap (λ (o : ℕ). fields_len o rest) first ∙ ap (λ (n : ℕ). just (10 + n)) count,
+      let k = ap length tail in let j = length-append block x in omega arith,
+    )
 has_fields Frame x opcode rest fits e = let first : opcode ≡ opcode_frame = cc in (0, ap (λ (o : ℕ). fields_len o rest) first, omega arith)
 has_fields (Show what) x opcode rest fits e = has_dump what x opcode rest e
 
@@ -66,7 +80,8 @@ NoStepStarts bytes = StartsWithBadStep bytes ⊎ StartsWithCutStep bytes
 pub step_starts : (s : Step) (x bytes : List ℕ) → IsInRange s → bytes ≡ spelling s ++ x → NoStepStarts bytes → ⊥
 step_starts s x bytes fits e (inl (inr (plane, offset, count, rest, ho, hn, front, bad))) =
     let dump : Step = Show (shown.Plane plane offset count) in
-    let same : (s, x) ≡ (dump, rest) = some_is (s, x) (dump, rest) (sym (step_back s x fits) ∙ ap step_of (sym e ∙ front) ∙ plane_back plane offset count rest ho hn) in
+    let same : (s, x) ≡ (dump, rest) = some_is (s, x) (dump, rest) (sym (step_back s x fits) ∙ ap step_of (sym e ∙ front)
+    ∙ plane_back plane offset count rest ho hn) in
     bad (subst IsInRange (ap (λ (p : Step × List ℕ). p.0) same) fits)
 step_starts s x bytes fits e (inl (inl (opcode, rest, front, none))) =
     let f = has_fields s x opcode rest fits (sym e ∙ front) in
@@ -88,7 +103,8 @@ one_reason bytes (inl (opcode, rest, front, none)) (opcode', rest', needed, fron
 
 -- nothing begins where no byte is
 pub never_at_end : (bytes : List ℕ) → bytes ≡ [] → NoStepStarts bytes → ⊥
-never_at_end bytes e (inl (inr (plane, offset, count, more, ho, hn, front, bad))) = let none : [] ≡ spelling (Show (shown.Plane plane offset count)) ++ more = sym e ∙ front in absurd (cc)
+never_at_end bytes e (inl (inr (plane, offset, count, more, ho, hn, front, bad))) = let none : [] ≡ spelling (Show (shown.Plane plane offset count))
+    ++ more = sym e ∙ front in absurd (cc)
 never_at_end bytes e (inl (inl (opcode, more, front, none))) = let bad : [] ≡ opcode ∷ more = sym e ∙ front in absurd (cc)
 never_at_end bytes e (inr (opcode, more, needed, front, is, short)) = let bad : [] ≡ opcode ∷ more = sym e ∙ front in absurd (cc)
 

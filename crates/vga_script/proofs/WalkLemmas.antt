@@ -28,12 +28,14 @@ pub record HasPrintedSteps (start now bytes rest : List ℕ) : Type 0 where
 pub steps_begin : (start bytes : List ℕ) → SpellsSteps bytes (steps_in bytes) → HasPrintedSteps start start bytes bytes
 steps_begin start bytes h = record { good = h; text = refl }
 
-pub steps_go_on : (start now new bytes rest others : List ℕ) (step : Step) → HasPrintedSteps start now bytes rest → StartsWithStep rest step others → new ≡ now ++ printed_line step → HasPrintedSteps start new bytes others
+pub steps_go_on : (start now new bytes rest others : List ℕ) (step : Step) → HasPrintedSteps start now bytes rest → StartsWithStep rest step others → new ≡ now
+    ++ printed_line step → HasPrintedSteps start new bytes others
 steps_go_on start now new bytes rest others step h starts e =
     let taken = first_read rest others (steps_in rest) step h.good starts in
     record {
       good = taken.1;
-      text = ap (λ (l : List ℕ). l ++ printed_steps (steps_in others)) e ∙ append_assoc now (printed_line step) (printed_steps (steps_in others)) ∙ ap (λ (l : List Step). now ++ printed_steps l) (sym taken.0) ∙ h.text;
+      text = ap (λ (l : List ℕ). l ++ printed_steps (steps_in others)) e ∙ append_assoc now (printed_line step) (printed_steps (steps_in others))
+          ∙ ap (λ (l : List Step). now ++ printed_steps l) (sym taken.0) ∙ h.text;
     }
 
 pub steps_end : (start now bytes rest : List ℕ) → HasPrintedSteps start now bytes rest → length rest ≡ 0 → now ≡ start ++ printed_steps (steps_in bytes)
@@ -60,10 +62,12 @@ pub record HasPrintedItems (start now : List ℕ) (version : Version) (bytes res
   pub short : length rest ≤ length bytes
   pub text : now ++ flat_map printed_item (items_in rest) ≡ start ++ flat_map printed_item (items_in bytes)
 
-pub items_begin : (start : List ℕ) (version : Version) (bytes : List ℕ) → SpellsItems version bytes (items_in bytes) → length (expanded (items_in bytes)) ≤ step_limit → HasPrintedItems start start version bytes bytes
+pub items_begin : (start : List ℕ) (version : Version) (bytes : List ℕ) → SpellsItems version bytes (items_in bytes) →
+    length (expanded (items_in bytes)) ≤ step_limit → HasPrintedItems start start version bytes bytes
 items_begin start version bytes h few = record { good = h; few = few; short = omega arith; text = refl }
 
-pub items_go_on : (start now new : List ℕ) (version : Version) (bytes rest others : List ℕ) (i : Item) → HasPrintedItems start now version bytes rest → StartsWithItem version rest i others → length others < length rest → new ≡ now ++ printed_item i
+pub items_go_on : (start now new : List ℕ) (version : Version) (bytes rest others : List ℕ) (i : Item) → HasPrintedItems start now version bytes rest →
+    StartsWithItem version rest i others → length others < length rest → new ≡ now ++ printed_item i
     → HasPrintedItems start new version bytes others
 items_go_on start now new version bytes rest others i h starts less e =
     let taken = first_item version rest others (items_in rest) i h.good starts in
@@ -73,27 +77,33 @@ items_go_on start now new version bytes rest others i h starts less e =
       good = taken.1;
       few = let f = h.few in omega arith;
       short = let s = h.short in omega arith;
-      text = ap (λ (l : List ℕ). l ++ flat_map printed_item (items_in others)) e ∙ append_assoc now (printed_item i) (flat_map printed_item (items_in others)) ∙ ap (λ (l : List Item). now ++ flat_map printed_item l) (sym taken.0) ∙ h.text;
+      text = ap (λ (l : List ℕ). l ++ flat_map printed_item (items_in others)) e ∙ append_assoc now (printed_item i) (flat_map printed_item (items_in others))
+          ∙ ap (λ (l : List Item). now ++ flat_map printed_item l) (sym taken.0) ∙ h.text;
     }
 
-pub items_end : (start now : List ℕ) (version : Version) (bytes rest : List ℕ) → HasPrintedItems start now version bytes rest → length rest ≡ 0 → now ≡ start ++ flat_map printed_item (items_in bytes)
+pub items_end : (start now : List ℕ) (version : Version) (bytes rest : List ℕ) → HasPrintedItems start now version bytes rest → length rest ≡ 0 → now ≡ start
+    ++ flat_map printed_item (items_in bytes)
 items_end start now version bytes rest h none =
     let empty : items_in rest ≡ [] = ap items_in (nothing rest none) ∙ items_are version [] [] refl in
     sym (append-nil now) ∙ ap (λ (l : List Item). now ++ flat_map printed_item l) (sym empty) ∙ h.text
 
 -- bytes that spell items begin with one
-begin_with_item : (version : Version) (bytes : List ℕ) (items : List Item) (f : Fault) → 0 < length bytes → SpellsItems version bytes items → length (expanded items) ≤ step_limit → IsItemFault version 0 0 bytes f → ⊥
+begin_with_item : (version : Version) (bytes : List ℕ) (items : List Item) (f : Fault) → 0 < length bytes → SpellsItems version bytes items →
+    length (expanded items) ≤ step_limit → IsItemFault version 0 0 bytes f → ⊥
 begin_with_item version bytes [] f some e few bad = let l = ap length e in absurd (omega arith)
 begin_with_item version bytes (i ∷ items) f some (rest, starts, more) few bad =
     let whole = length-expanded-cons i items in item_or_kind version 0 0 bytes f i rest (kind version 0 0 bytes f bad) starts (omega arith)
 
-pub never_faulty : (start now : List ℕ) (version : Version) (bytes rest : List ℕ) (f : Fault) → HasPrintedItems start now version bytes rest → 0 < length rest → ((taken : ℕ) → IsItemFault version taken 0 rest f) → ⊥
+pub never_faulty : (start now : List ℕ) (version : Version) (bytes rest : List ℕ) (f : Fault) → HasPrintedItems start now version bytes rest → 0 < length rest →
+    ((taken : ℕ) → IsItemFault version taken 0 rest f) → ⊥
 never_faulty start now version bytes rest f h some bad = begin_with_item version rest (items_in rest) f some h.good h.few (bad 0)
 
 -- the printed text of a script
-pub script_printed : (bytes empty first last text rest : List ℕ) (version : Version) (script : Listing) → Spells bytes script → version ≡ script.version → empty ≡ [] → first ≡ empty ++ text → text ≡ version_line version → rest ≡ drop 5 bytes
+pub script_printed : (bytes empty first last text rest : List ℕ) (version : Version) (script : Listing) → Spells bytes script → version ≡ script.version →
+    empty ≡ [] → first ≡ empty ++ text → text ≡ version_line version → rest ≡ drop 5 bytes
     → last ≡ first ++ flat_map printed_item (items_in rest) → last ≡ printed script
 script_printed bytes empty first last text rest version script h v e f t r l =
     let items : items_in rest ≡ script.items = ap items_in r ∙ (items_spelled bytes script h).0 in
     let line : first ≡ version_line script.version = f ∙ ap (λ (x : List ℕ). x ++ text) e ∙ t ∙ ap version_line v in
-    l ∙ ap (λ (x : List ℕ). x ++ flat_map printed_item (items_in rest)) line ∙ ap (λ (x : List Item). version_line script.version ++ flat_map printed_item x) items
+    l ∙ ap (λ (x : List ℕ). x ++ flat_map printed_item (items_in rest)) line ∙ ap (λ (x : List Item). version_line script.version
+    ++ flat_map printed_item x) items

@@ -1,5 +1,6 @@
 -- Lines and words.
-use Rattle.std.proofs.Common.{◌≡◌, ℕ, ◌+◌, ◌<◌, ◌≤◌, Bool, true, false, List, [], ◌∷◌, length, drop, take, get_or, refl, sym, ap, ◌∙◌, arith, filter, suc, add-one, drop-cons, ⊎_elim}
+use Rattle.std.proofs.Common.{◌≡◌, ℕ, ◌+◌, ◌<◌, ◌≤◌, Bool, true, false, List, [], ◌∷◌, length, drop, take, get_or, refl, sym, ap, ◌∙◌, arith, filter, suc}
+use Rattle.std.proofs.Common.{add-one, drop-cons, ⊎_elim}
 use Rattle.std.proofs.lemmas.List.{take_all, drop_all, length-take-le}
 use Rattle.std.specs.List.{slice_split, position_or_len, after_first}
 use Rattle.std.proofs.lemmas.List.Sums.{position_or_len_is, fails_before_first, passes_at_first}
@@ -8,11 +9,13 @@ use Rattle.std.proofs.lemmas.Bool.{cases_lt}
 use Rattle.vga_script.specs.Words.{is_blank, has_bytes, words_in, lines, is_newline}
 
 -- a loop that stops at the first byte that passes, or at the end
-pub stops_at : (p : ℕ → Bool) (xs : List ℕ) (i : ℕ) → i < length xs → ((k : ℕ) → k < i → p (get_or xs k 0) ≡ false) → p (get_or xs i 0) ≡ true → i ≡ position_or_len p xs
+pub stops_at : (p : ℕ → Bool) (xs : List ℕ) (i : ℕ) → i < length xs → ((k : ℕ) → k < i → p (get_or xs k 0) ≡ false) → p (get_or xs i 0) ≡ true →
+    i ≡ position_or_len p xs
 stops_at p xs i within none here = sym (position_or_len_is p xs i 0 (omega arith) none (λ _. here))
 
 -- and one that came to the end
-pub stops_after : (p : ℕ → Bool) (xs : List ℕ) (i : ℕ) → i ≤ length xs → length xs ≤ i → ((k : ℕ) → k < i → p (get_or xs k 0) ≡ false) → i ≡ position_or_len p xs
+pub stops_after : (p : ℕ → Bool) (xs : List ℕ) (i : ℕ) → i ≤ length xs → length xs ≤ i → ((k : ℕ) → k < i → p (get_or xs k 0) ≡ false) →
+    i ≡ position_or_len p xs
 stops_after p xs i within all none = sym (position_or_len_is p xs i 0 within none (λ h. absurd (omega arith)))
 
 -- a blank at the front parts no words
@@ -32,17 +35,20 @@ blank_next xs lt =
     ∙ ap (λ n. words_in (drop n xs)) (sym (add-one (position_or_len is_blank xs))))
 
 -- a word with a blank behind it, and one that ends with the text
-inside : (xs : List ℕ) → 0 < position_or_len is_blank xs → position_or_len is_blank xs < length xs → words_in xs ≡ take (position_or_len is_blank xs) xs ∷ words_in (drop (position_or_len is_blank xs) xs)
+inside : (xs : List ℕ) → 0 < position_or_len is_blank xs → position_or_len is_blank xs < length xs →
+    words_in xs ≡ take (position_or_len is_blank xs) xs ∷ words_in (drop (position_or_len is_blank xs) xs)
 inside xs some lt =
     ap (filter has_bytes) (slice_split_first is_blank xs 0 lt)
-    ∙ keep (take (position_or_len is_blank xs) xs) (slice_split is_blank (after_first is_blank xs)) (rw (length-take-le (position_or_len is_blank xs) xs (omega arith)) some)
+    ∙ keep (take (position_or_len is_blank xs) xs) (slice_split is_blank (after_first is_blank xs))
+    (rw (length-take-le (position_or_len is_blank xs) xs (omega arith)) some)
     ∙ ap (λ ws. take (position_or_len is_blank xs) xs ∷ ws) (sym (blank_next xs lt))
 
 has_some : (xs : List ℕ) → 0 < position_or_len is_blank xs → 0 < length xs
 has_some [] some = absurd (omega arith)
 has_some (x ∷ xs) some = omega arith
 
-last : (xs : List ℕ) → 0 < position_or_len is_blank xs → length xs ≤ position_or_len is_blank xs → words_in xs ≡ take (position_or_len is_blank xs) xs ∷ words_in (drop (position_or_len is_blank xs) xs)
+last : (xs : List ℕ) → 0 < position_or_len is_blank xs → length xs ≤ position_or_len is_blank xs →
+    words_in xs ≡ take (position_or_len is_blank xs) xs ∷ words_in (drop (position_or_len is_blank xs) xs)
 last xs some le =
     let short : 0 < length xs = has_some xs some in
     ap (filter has_bytes) (slice_split_none is_blank xs (λ k d h. fails_before_first is_blank xs k d (omega arith)))
@@ -50,7 +56,8 @@ last xs some le =
     ∙ rw (take_all (position_or_len is_blank xs) xs le, drop_all (position_or_len is_blank xs) xs le) refl
 
 -- so in both cases
-words_front : (xs : List ℕ) → 0 < position_or_len is_blank xs → words_in xs ≡ take (position_or_len is_blank xs) xs ∷ words_in (drop (position_or_len is_blank xs) xs)
+words_front : (xs : List ℕ) → 0 < position_or_len is_blank xs → words_in xs ≡ take (position_or_len is_blank xs) xs
+    ∷ words_in (drop (position_or_len is_blank xs) xs)
 words_front xs some = ⊎_elim (inside xs some) (last xs some) (cases_lt (position_or_len is_blank xs) (length xs))
 
 -- the word at the front, and the words of the rest

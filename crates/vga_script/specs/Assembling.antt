@@ -8,11 +8,13 @@ use Rattle.vga_script.specs.Spelling.{spelling, item_spelling}
 use Rattle.vga_script.specs.declared.step.Step.{Step}
 use Rattle.vga_script.specs.declared.version.Version.{Version}
 use Rattle.vga_script.specs.Words.{words, lines_left, left_len}
-use Rattle.vga_script.specs.Text.{SpellsLine, SpellsLines, IsEnd, IsBadInside, Group, IsGroup, IsGroupFault}
+use Rattle.vga_script.specs.Text.{SpellsLine, SpellsLines, IsEnd, IsBadInside, Group, IsGroup}
+use Rattle.vga_script.specs.Text.{IsGroupFault}
 
--- These lines, the first of them with this number, begin with those of some steps and the end of a block, and what is left of
--- the text begins with the line of the next number.
-pub record HasBody (n : ℕ) (left : Option (List ℕ)) (steps : List Step) (next : ℕ) (behind : Option (List ℕ)) : Type 0 where
+-- These lines, the first of them with this number, begin with those of some steps and the end of a
+-- block, and what is left of the text begins with the line of the next number.
+pub record HasBody (n : ℕ) (left : Option (List ℕ)) (steps : List Step) (next : ℕ)
+    (behind : Option (List ℕ)) : Type 0 where
   pub body : List (List ℕ)
   pub last : List ℕ
   pub good : SpellsLines body steps
@@ -21,17 +23,20 @@ pub record HasBody (n : ℕ) (left : Option (List ℕ)) (steps : List Step) (nex
   pub number : next ≡ n + length body + 1
   pub shorter : next + left_len behind ≤ n + left_len left
 
--- The fault of lines behind the first of a block, which has this number: they have no end, or one of them is bad.
+-- The fault of lines behind the first of a block, which has this number: they have no end, or one
+-- of them is bad.
 abbrev pub IsBodyFault : ℕ → Option (List ℕ) → Fault → Type 0
 IsBodyFault n left (BadLine bad) =
     ((bad ≡ n) × ((steps : List Step) × SpellsLines (lines_left left) steps))
-    ⊎ ((body : List (List ℕ)) × (steps : List Step) × (line : List ℕ) × (others : List (List ℕ)) × (bad ≡ n + (length body + 1))
+    ⊎ ((body : List (List ℕ)) × (steps : List Step) × (line : List ℕ) × (others : List (List ℕ))
+    × (bad ≡ n + (length body + 1))
     × (lines_left left ≡ body ++ line ∷ others) × SpellsLines body steps × IsBadInside line)
 IsBodyFault n left _ = ⊥
 
--- These lines, the first of them with this number, begin with those of a group of a script of this version, and what is left
--- of the text begins with the line of the next number.
-pub record HasGroup (version : Version) (n : ℕ) (ls : List (List ℕ)) (items : List Item) (next : ℕ) (behind : Option (List ℕ)) : Type 0 where
+-- These lines, the first of them with this number, begin with those of a group of a script of this
+-- version, and what is left of the text begins with the line of the next number.
+pub record HasGroup (version : Version) (n : ℕ) (ls : List (List ℕ)) (items : List Item) (next : ℕ)
+    (behind : Option (List ℕ)) : Type 0 where
   pub group : Group
   pub good : IsGroup version group
   pub items_are : group.items ≡ items
@@ -52,7 +57,8 @@ pub record AppendsLine (line before after : List ℕ) (len : ℕ) : Type 0 where
   pub bytes : after ≡ before ++ flat_map spelling steps
 
 -- The same of the lines of a block behind its first.
-pub record AppendsBody (n : ℕ) (left : Option (List ℕ)) (before after : List ℕ) (len next : ℕ) (behind : Option (List ℕ)) : Type 0 where
+pub record AppendsBody (n : ℕ) (left : Option (List ℕ)) (before after : List ℕ) (len next : ℕ)
+    (behind : Option (List ℕ)) : Type 0 where
   pub steps : List Step
   pub body : HasBody n left steps next behind
   pub count : len ≡ length steps
@@ -60,14 +66,16 @@ pub record AppendsBody (n : ℕ) (left : Option (List ℕ)) (before after : List
   pub bytes : after ≡ before ++ flat_map spelling steps
 
 -- The same of a block that counts so many and means so many steps, with its opcodes and its count.
-pub record AppendsBlock (n : ℕ) (left : Option (List ℕ)) (count : ℕ) (before after : List ℕ) (meant next : ℕ) (behind : Option (List ℕ)) : Type 0 where
+pub record AppendsBlock (n : ℕ) (left : Option (List ℕ)) (count : ℕ) (before after : List ℕ)
+    (meant next : ℕ) (behind : Option (List ℕ)) : Type 0 where
   pub steps : List Step
   pub body : HasBody n left steps next behind
   pub means : meant ≡ length (repeated count steps)
   pub bytes : after ≡ before ++ item_spelling (Repeated count steps)
 
 -- The same of a group, whose items mean so many steps.
-pub record AppendsGroup (version : Version) (n : ℕ) (ls : List (List ℕ)) (before after : List ℕ) (meant next : ℕ) (behind : Option (List ℕ)) : Type 0 where
+pub record AppendsGroup (version : Version) (n : ℕ) (ls : List (List ℕ)) (before after : List ℕ)
+    (meant next : ℕ) (behind : Option (List ℕ)) : Type 0 where
   pub items : List Item
   pub group : HasGroup version n ls items next behind
   pub means : meant ≡ length (expanded items)

@@ -1,19 +1,26 @@
 -- The first fault of bytes that are too long, or spell no script.
-use Rattle.std.specs.Prelude.{ℕ, ◌≡◌, ◌≢◌, ◌<◌, ◌≤◌, ◌+◌, ◌==◌, ◌⊎◌, if◌then◌else◌, List, [], ◌∷◌, ◌++◌, length, ◌^◌, drop, Option, None, Some}
+use Rattle.std.specs.Prelude.{ℕ, ◌≡◌, ◌≢◌, ◌<◌, ◌≤◌, ◌+◌, ◌==◌, ◌⊎◌, if◌then◌else◌, List, [], ◌∷◌}
+use Rattle.std.specs.Prelude.{◌++◌, length, ◌^◌, drop, Option, None, Some}
 use Rattle.byteorder.specs.Endian.{little_bytes, little_number}
 use Rattle.vga_bits.specs.declared.fault.Fault.{Fault}
-use Rattle.vga_bits.specs.declared.fault.Fault.TheVariants.{BadMagic, BadVersion, BadStep, Truncated, TooLong, TooMany}
+use Rattle.vga_bits.specs.declared.fault.Fault.TheVariants.{BadMagic, BadVersion, BadStep}
+use Rattle.vga_bits.specs.declared.fault.Fault.TheVariants.{Truncated, TooLong, TooMany}
 use Rattle.vga_script.specs.declared.step.Step.{Step}
 use Rattle.vga_script.specs.declared.step.Step.TheVariants.{Show}
 use Rattle.vga_script.specs.declared.dump_range.Shown.TheVariants as shown
 use Rattle.vga_script.specs.Item.{Item, Listing, expanded, step_limit, steps_of}
 use Rattle.vga_script.specs.declared.version.Version.{Version}
-use Rattle.vga_script.specs.DumpRange.{IsShownInRange, kind_registers, kind_dac, kind_beam, kind_latches, kind_plane, kind_bios_data, kind_cells}
+use Rattle.vga_script.specs.DumpRange.{IsShownInRange, kind_registers, kind_dac, kind_beam}
+use Rattle.vga_script.specs.DumpRange.{kind_latches, kind_plane, kind_bios_data, kind_cells}
 use Rattle.vga_script.specs.Version.{version_byte, AllowsBlocks}
-use Rattle.vga_script.specs.Spelling.{script_limit, magic, opcode_out, opcode_out_word, opcode_in, opcode_in_word, opcode_put, opcode_put_word, opcode_get, opcode_get_word, opcode_int, opcode_advance, opcode_frame, opcode_show, opcode_repeat, opcode_end, spelling, SpellsSteps, Spells, StartsWithItem}
+use Rattle.vga_script.specs.Spelling.{script_limit, magic, opcode_out, opcode_out_word, opcode_in}
+use Rattle.vga_script.specs.Spelling.{opcode_in_word, opcode_put, opcode_put_word, opcode_get}
+use Rattle.vga_script.specs.Spelling.{opcode_get_word, opcode_int, opcode_advance, opcode_frame}
+use Rattle.vga_script.specs.Spelling.{opcode_show, opcode_repeat, opcode_end, spelling, SpellsSteps}
+use Rattle.vga_script.specs.Spelling.{Spells, StartsWithItem}
 
--- How many bytes say what is shown, of which these are the first: the kind, where it is one, and its fields. Where not
--- even the kind is there, that one is missing.
+-- How many bytes say what is shown, of which these are the first: the kind, where it is one, and
+-- its fields. Where not even the kind is there, that one is missing.
 abbrev pub shown_len : List ℕ → Option ℕ
 shown_len [] = Some 1
 shown_len (kind ∷ rest) =
@@ -26,8 +33,9 @@ shown_len (kind ∷ rest) =
     else if kind == kind_cells then Some 1
     else None
 
--- How many bytes of fields belong to an opcode, where it is one, of which these bytes follow it. Those of a call of the
--- BIOS are four registers, the length of the block, which bytes that are not there leave 0, and the block.
+-- How many bytes of fields belong to an opcode, where it is one, of which these bytes follow it.
+-- Those of a call of the BIOS are four registers, the length of the block, which bytes that are not
+-- there leave 0, and the block.
 abbrev pub fields_len : ℕ → List ℕ → Option ℕ
 fields_len opcode rest =
     if opcode == opcode_out then Some 3
@@ -46,14 +54,18 @@ fields_len opcode rest =
 
 -- the bytes begin with no opcode, or with a dump of no kind
 abbrev pub StartsWithNoOpcode : List ℕ → Type 0
-StartsWithNoOpcode bytes = (opcode : ℕ) × (rest : List ℕ) × (bytes ≡ opcode ∷ rest) × (fields_len opcode rest ≡ None)
+StartsWithNoOpcode bytes = (opcode : ℕ) × (rest : List ℕ) × (bytes ≡ opcode ∷ rest)
+    × (fields_len opcode rest ≡ None)
 
--- The bytes begin with a whole dump of a plane that is out of range: at none of the four, at no bytes or more than 256,
--- or past its end. Its offset and its count fit two bytes, since larger numbers are spelled as smaller ones are.
+-- The bytes begin with a whole dump of a plane that is out of range: at none of the four, at no
+-- bytes or more than 256, or past its end. Its offset and its count fit two bytes, since larger
+-- numbers are spelled as smaller ones are.
 abbrev pub StartsOutOfRange : List ℕ → Type 0
 StartsOutOfRange bytes =
-    (plane : ℕ) × (offset : ℕ) × (count : ℕ) × (rest : List ℕ) × (offset < 2 ^ 16) × (count < 2 ^ 16)
-    × (bytes ≡ spelling (Show (shown.Plane plane offset count)) ++ rest) × (IsShownInRange (shown.Plane plane offset count) → ⊥)
+    (plane : ℕ) × (offset : ℕ) × (count : ℕ) × (rest : List ℕ) × (offset < 2 ^ 16)
+    × (count < 2 ^ 16)
+    × (bytes ≡ spelling (Show (shown.Plane plane offset count)) ++ rest)
+    × (IsShownInRange (shown.Plane plane offset count) → ⊥)
 
 -- the bytes begin with what is no step, however they go on
 abbrev pub StartsWithBadStep : List ℕ → Type 0
@@ -62,24 +74,29 @@ StartsWithBadStep bytes = StartsWithNoOpcode bytes ⊎ StartsOutOfRange bytes
 -- the bytes begin with an opcode, and end before the last byte of its fields
 abbrev pub StartsWithCutStep : List ℕ → Type 0
 StartsWithCutStep bytes =
-    (opcode : ℕ) × (rest : List ℕ) × (needed : ℕ) × (bytes ≡ opcode ∷ rest) × (fields_len opcode rest ≡ Some needed) × (length rest < needed)
+    (opcode : ℕ) × (rest : List ℕ) × (needed : ℕ) × (bytes ≡ opcode ∷ rest)
+    × (fields_len opcode rest ≡ Some needed) × (length rest < needed)
 
 -- the bytes begin with the opcode of a block, which a script of this version may have
 abbrev pub StartsWithBlock : Version → List ℕ → Type 0
-StartsWithBlock version bytes = AllowsBlocks version × ((rest : List ℕ) × (bytes ≡ opcode_repeat ∷ rest))
+StartsWithBlock version bytes = AllowsBlocks version
+    × ((rest : List ℕ) × (bytes ≡ opcode_repeat ∷ rest))
 
 -- the bytes begin with a block that counts 0
 abbrev pub StartsWithCountZero : Version → List ℕ → Type 0
-StartsWithCountZero version bytes = AllowsBlocks version × ((rest : List ℕ) × (bytes ≡ opcode_repeat ∷ (little_bytes 2 0 ++ rest)))
+StartsWithCountZero version bytes = AllowsBlocks version
+    × ((rest : List ℕ) × (bytes ≡ opcode_repeat ∷ (little_bytes 2 0 ++ rest)))
 
 -- the bytes begin with a block, and end before its count does
 abbrev pub StartsWithCutCount : Version → List ℕ → Type 0
-StartsWithCutCount version bytes = AllowsBlocks version × ((rest : List ℕ) × (bytes ≡ opcode_repeat ∷ rest) × (length rest < 2))
+StartsWithCutCount version bytes = AllowsBlocks version
+    × ((rest : List ℕ) × (bytes ≡ opcode_repeat ∷ rest) × (length rest < 2))
 
--- The bytes begin with what is no item of a script of this version, however they go on: neither a step nor a block, or a
--- block that counts 0.
+-- The bytes begin with what is no item of a script of this version, however they go on: neither a
+-- step nor a block, or a block that counts 0.
 abbrev pub StartsWithBadItem : Version → List ℕ → Type 0
-StartsWithBadItem version bytes = (StartsWithBadStep bytes × (StartsWithBlock version bytes → ⊥)) ⊎ StartsWithCountZero version bytes
+StartsWithBadItem version bytes = (StartsWithBadStep bytes × (StartsWithBlock version bytes → ⊥))
+    ⊎ StartsWithCountZero version bytes
 
 -- the bytes begin with a step that is cut off, or with a block whose count is
 abbrev pub StartsWithCutItem : Version → List ℕ → Type 0
@@ -97,9 +114,10 @@ pub record HasStepsBefore (bytes : List ℕ) (len : ℕ) (rest : List ℕ) : Typ
   pub good : SpellsSteps front steps
   pub count : len ≡ length steps
 
--- The bytes begin with a block, and the rest stand in it, so many bytes behind its opcode: between them are its count and
--- good steps.
-pub record OpensBlock (version : Version) (bytes : List ℕ) (place : ℕ) (rest : List ℕ) : Type 0 where
+-- The bytes begin with a block, and the rest stand in it, so many bytes behind its opcode: between
+-- them are its count and good steps.
+pub record OpensBlock (version : Version) (bytes : List ℕ) (place : ℕ)
+    (rest : List ℕ) : Type 0 where
   pub count : ℕ
   pub body : List ℕ
   pub len : ℕ
@@ -110,23 +128,28 @@ pub record OpensBlock (version : Version) (bytes : List ℕ) (place : ℕ) (rest
   pub good : HasStepsBefore body len rest
   pub place_is : place + length rest ≡ length bytes
 
--- The fault of bytes at this offset of a script of this version, behind items that mean so many steps: the item that
--- begins there is bad or cut off, or in its block there is a bad step or one that is cut off; or the block has no end; or
--- with the item there are more steps than a script may mean. A fault in a block stands where its step does, the others at
--- the item.
+-- The fault of bytes at this offset of a script of this version, behind items that mean so many
+-- steps: the item that begins there is bad or cut off, or in its block there is a bad step or one
+-- that is cut off; or the block has no end; or with the item there are more steps than a script may
+-- mean. A fault in a block stands where its step does, the others at the item.
 abbrev pub IsItemFault : Version → ℕ → ℕ → List ℕ → Fault → Type 0
 IsItemFault version taken offset bytes (BadStep at) =
     ((at ≡ offset) × StartsWithBadItem version bytes)
-    ⊎ ((place : ℕ) × (rest : List ℕ) × (at ≡ offset + place) × OpensBlock version bytes place rest × StartsWithBadBody rest)
+    ⊎ ((place : ℕ) × (rest : List ℕ) × (at ≡ offset + place) × OpensBlock version bytes place rest
+    × StartsWithBadBody rest)
 IsItemFault version taken offset bytes (Truncated at) =
-    ((at ≡ offset) × (StartsWithCutItem version bytes ⊎ ((place : ℕ) × OpensBlock version bytes place [])))
-    ⊎ ((place : ℕ) × (rest : List ℕ) × (at ≡ offset + place) × OpensBlock version bytes place rest × StartsWithCutStep rest)
+    ((at ≡ offset) × (StartsWithCutItem version bytes
+    ⊎ ((place : ℕ) × OpensBlock version bytes place [])))
+    ⊎ ((place : ℕ) × (rest : List ℕ) × (at ≡ offset + place) × OpensBlock version bytes place rest
+    × StartsWithCutStep rest)
 IsItemFault version taken offset bytes (TooMany at) =
-    (at ≡ offset) × ((first : Item) × (rest : List ℕ) × StartsWithItem version bytes first rest × (step_limit < taken + length (steps_of first)))
+    (at ≡ offset) × ((first : Item) × (rest : List ℕ) × StartsWithItem version bytes first rest
+    × (step_limit < taken + length (steps_of first)))
 IsItemFault version taken offset bytes _ = ⊥
 
 -- The bytes before this offset spell a script, and the rest stand from there on.
-pub record SpellsUpTo (bytes : List ℕ) (script : Listing) (offset : ℕ) (rest : List ℕ) : Type 0 where
+pub record SpellsUpTo (bytes : List ℕ) (script : Listing) (offset : ℕ)
+    (rest : List ℕ) : Type 0 where
   pub front : List ℕ
   pub whole : bytes ≡ front ++ rest
   pub good : Spells front script
@@ -138,16 +161,19 @@ HasItemFault bytes fault =
     (script : Listing) × (offset : ℕ) × (rest : List ℕ) × SpellsUpTo bytes script offset rest
     × IsItemFault script.version (length (expanded script.items)) offset rest fault
 
--- The first fault of bytes that spell no script, in the order of reading: they do not begin with the letters, nothing or
--- no version follows these, or after good items the next has a fault.
+-- The first fault of bytes that spell no script, in the order of reading: they do not begin with
+-- the letters, nothing or no version follows these, or after good items the next has a fault.
 abbrev pub IsSpellingFault : List ℕ → Fault → Type 0
 IsSpellingFault bytes BadMagic = (rest : List ℕ) → bytes ≢ magic ++ rest
-IsSpellingFault bytes BadVersion = (other : ℕ) × (rest : List ℕ) × (bytes ≡ magic ++ other ∷ rest) × ((version : Version) → other ≢ version_byte version)
+IsSpellingFault bytes BadVersion = (other : ℕ) × (rest : List ℕ) × (bytes ≡ magic ++ other ∷ rest)
+    × ((version : Version) → other ≢ version_byte version)
 IsSpellingFault bytes (BadStep at) = HasItemFault bytes (BadStep at)
-IsSpellingFault bytes (Truncated at) = ((bytes ≡ magic) × (at ≡ 4)) ⊎ HasItemFault bytes (Truncated at)
+IsSpellingFault bytes (Truncated at) = ((bytes ≡ magic) × (at ≡ 4))
+    ⊎ HasItemFault bytes (Truncated at)
 IsSpellingFault bytes (TooMany at) = HasItemFault bytes (TooMany at)
 IsSpellingFault bytes _ = ⊥
 
 -- the first fault of some bytes: they are too long, before all others, or they spell no script
 abbrev pub IsFault : List ℕ → Fault → Type 0
-IsFault bytes fault = ((fault ≡ TooLong) × (script_limit < length bytes)) ⊎ ((length bytes ≤ script_limit) × IsSpellingFault bytes fault)
+IsFault bytes fault = ((fault ≡ TooLong) × (script_limit < length bytes))
+    ⊎ ((length bytes ≤ script_limit) × IsSpellingFault bytes fault)

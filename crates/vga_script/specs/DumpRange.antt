@@ -4,13 +4,15 @@ use Rattle.byteorder.specs.Endian.{little_bytes}
 use Rattle.vga_script.specs.declared.dump_range.Shown.{Shown}
 use Rattle.vga_script.specs.declared.dump_range.Shown.TheVariants as shown
 
--- a DAC entry has an index of one byte, and of one of the four planes 1 to 256 bytes are shown, none past its end
+-- a DAC entry has an index of one byte, and of one of the four planes 1 to 256 bytes are shown,
+-- none past its end
 abbrev pub IsShownInRange : Shown → Type 0
 IsShownInRange shown.Registers = Unit {0}
 IsShownInRange (shown.Dac index) = index < 2 ^ 8
 IsShownInRange shown.Beam = Unit {0}
 IsShownInRange shown.Latches = Unit {0}
-IsShownInRange (shown.Plane plane offset count) = (plane < 4) × (0 < count) × (count ≤ 256) × (offset + count ≤ 2 ^ 16)
+IsShownInRange (shown.Plane plane offset count) = (plane < 4) × (0 < count) × (count ≤ 256)
+    × (offset + count ≤ 2 ^ 16)
 IsShownInRange shown.BiosData = Unit {0}
 IsShownInRange shown.Cells = Unit {0}
 
@@ -48,6 +50,7 @@ shown_spelling shown.Registers = kind_registers ∷ []
 shown_spelling (shown.Dac index) = kind_dac ∷ index ∷ []
 shown_spelling shown.Beam = kind_beam ∷ []
 shown_spelling shown.Latches = kind_latches ∷ []
-shown_spelling (shown.Plane plane offset count) = kind_plane ∷ plane ∷ (little_bytes 2 offset ++ little_bytes 2 count)
+shown_spelling (shown.Plane plane offset count) = kind_plane ∷ plane ∷ (little_bytes 2 offset
+    ++ little_bytes 2 count)
 shown_spelling shown.BiosData = kind_bios_data ∷ []
 shown_spelling shown.Cells = kind_cells ∷ []

@@ -12,7 +12,8 @@ two_steps = listing One (Once (Out 0x3C4 2) ∷ Once (Int 0x13 0 0 0 []) ∷ [])
 
 -- its bytes
 abbrev pub two_steps_bytes : List ℕ
-two_steps_bytes = codes "VGAS" ++ 1 ∷ 1 ∷ 0xC4 ∷ 0x03 ∷ 0x02 ∷ 9 ∷ 0x13 ∷ 0 ∷ 0 ∷ 0 ∷ 0 ∷ 0 ∷ 0 ∷ 0 ∷ 0 ∷ 0 ∷ []
+two_steps_bytes = codes "VGAS" ++ 1 ∷ 1 ∷ 0xC4 ∷ 0x03 ∷ 0x02 ∷ 9 ∷ 0x13 ∷ 0 ∷ 0 ∷ 0 ∷ 0 ∷ 0 ∷ 0 ∷ 0
+    ∷ 0 ∷ 0 ∷ []
 
 -- the same write three times
 abbrev pub three_times : Listing

@@ -1,15 +1,21 @@
 -- The steps and the items at the front of some bytes, read from their fields.
-use Rattle.std.specs.Prelude.{ℕ, zero, suc, ◌==◌, if◌then◌else◌, List, [], ◌∷◌, length, take, drop, get_or, Option, None, Some}
+use Rattle.std.specs.Prelude.{ℕ, zero, suc, ◌==◌, if◌then◌else◌, List, [], ◌∷◌, length, take, drop}
+use Rattle.std.specs.Prelude.{get_or, Option, None, Some}
 use Rattle.byteorder.specs.Endian.{little_number}
 use Rattle.vga_script.specs.declared.step.Step.{Step}
-use Rattle.vga_script.specs.declared.step.Step.TheVariants.{Out, OutWord, In, InWord, Put, PutWord, Get, GetWord, Int, Advance, Frame, Show}
+use Rattle.vga_script.specs.declared.step.Step.TheVariants.{Out, OutWord, In, InWord, Put, PutWord}
+use Rattle.vga_script.specs.declared.step.Step.TheVariants.{Get, GetWord, Int, Advance, Frame, Show}
 use Rattle.vga_script.specs.declared.version.Version.{Version}
 use Rattle.vga_script.specs.declared.version.Version.TheVariants.{One, Two}
 use Rattle.vga_script.specs.Version.{version_byte}
 use Rattle.vga_script.specs.Item.{Listing, listing, Item, Once, Repeated}
 use Rattle.vga_script.specs.declared.dump_range.Shown.TheVariants as shown
-use Rattle.vga_script.specs.DumpRange.{kind_registers, kind_dac, kind_beam, kind_latches, kind_plane, kind_bios_data, kind_cells}
-use Rattle.vga_script.specs.Spelling.{opcode_out, opcode_out_word, opcode_in, opcode_in_word, opcode_put, opcode_put_word, opcode_get, opcode_get_word, opcode_int, opcode_advance, opcode_frame, opcode_show, opcode_repeat}
+use Rattle.vga_script.specs.DumpRange.{kind_registers, kind_dac, kind_beam, kind_latches}
+use Rattle.vga_script.specs.DumpRange.{kind_plane, kind_bios_data, kind_cells}
+use Rattle.vga_script.specs.Spelling.{opcode_out, opcode_out_word, opcode_in, opcode_in_word}
+use Rattle.vga_script.specs.Spelling.{opcode_put, opcode_put_word, opcode_get, opcode_get_word}
+use Rattle.vga_script.specs.Spelling.{opcode_int, opcode_advance, opcode_frame, opcode_show}
+use Rattle.vga_script.specs.Spelling.{opcode_repeat}
 
 -- a call of the BIOS whose block has this length, and what follows its block
 abbrev pub call_at : ℕ → ℕ → ℕ → ℕ → ℕ → List ℕ → Option (Step × List ℕ)
@@ -22,7 +28,11 @@ shown_at kind rest =
     else if kind == kind_dac then Some (Show (shown.Dac (get_or rest 0 0)), drop 1 rest)
     else if kind == kind_beam then Some (Show shown.Beam, rest)
     else if kind == kind_latches then Some (Show shown.Latches, rest)
-    else if kind == kind_plane then Some (Show (shown.Plane (get_or rest 0 0) (little_number 2 (drop 1 rest)) (little_number 2 (drop 3 rest))), drop 5 rest)
+    else if kind == kind_plane then Some (
+      Show (shown.Plane (get_or rest 0 0)
+          (little_number 2 (drop 1 rest)) (little_number 2 (drop 3 rest))),
+      drop 5 rest,
+    )
     else if kind == kind_bios_data then Some (Show shown.BiosData, rest)
     else if kind == kind_cells then Some (Show shown.Cells, rest)
     else None
@@ -31,14 +41,27 @@ shown_at kind rest =
 abbrev pub step_with : ℕ → List ℕ → Option (Step × List ℕ)
 step_with opcode rest =
     if opcode == opcode_out then Some (Out (little_number 2 rest) (get_or rest 2 0), drop 3 rest)
-    else if opcode == opcode_out_word then Some (OutWord (little_number 2 rest) (little_number 2 (drop 2 rest)), drop 4 rest)
+    else if opcode == opcode_out_word then Some (
+      OutWord (little_number 2 rest)
+          (little_number 2 (drop 2 rest)),
+      drop 4 rest,
+    )
     else if opcode == opcode_in then Some (In (little_number 2 rest), drop 2 rest)
     else if opcode == opcode_in_word then Some (InWord (little_number 2 rest), drop 2 rest)
-    else if opcode == opcode_put then Some (Put (little_number 4 rest) (get_or rest 4 0), drop 5 rest)
-    else if opcode == opcode_put_word then Some (PutWord (little_number 4 rest) (little_number 2 (drop 4 rest)), drop 6 rest)
+    else if opcode == opcode_put then Some (
+      Put (little_number 4 rest) (get_or rest 4 0),
+      drop 5 rest,
+    )
+    else if opcode == opcode_put_word then Some (
+      PutWord (little_number 4 rest)
+          (little_number 2 (drop 4 rest)),
+      drop 6 rest,
+    )
     else if opcode == opcode_get then Some (Get (little_number 4 rest), drop 4 rest)
     else if opcode == opcode_get_word then Some (GetWord (little_number 4 rest), drop 4 rest)
-    else if opcode == opcode_int then call_at (little_number 2 rest) (little_number 2 (drop 2 rest)) (little_number 2 (drop 4 rest)) (little_number 2 (drop 6 rest)) (little_number 2 (drop 8 rest)) (drop 10 rest)
+    else if opcode == opcode_int then call_at (little_number 2 rest) (little_number 2 (drop 2 rest))
+    (little_number 2 (drop 4 rest)) (little_number 2 (drop 6 rest))
+    (little_number 2 (drop 8 rest)) (drop 10 rest)
     else if opcode == opcode_advance then Some (Advance (little_number 4 rest), drop 4 rest)
     else if opcode == opcode_frame then Some (Frame, rest)
     else if opcode == opcode_show then shown_at (get_or rest 0 0) (drop 1 rest)
@@ -89,7 +112,8 @@ block_item count bytes = Some (Repeated count (steps_in bytes), drop 1 (behind_s
 -- the item of an opcode and what follows that, and what follows the item
 abbrev pub item_with : ℕ → List ℕ → Option (Item × List ℕ)
 item_with opcode rest =
-    if opcode == opcode_repeat then block_item (little_number 2 rest) (drop 2 rest) else step_item (step_with opcode rest)
+    if opcode == opcode_repeat then block_item (little_number 2 rest) (drop 2 rest)
+    else step_item (step_with opcode rest)
 
 -- the item at the front of some bytes, and what follows it
 abbrev pub item_of : List ℕ → Option (Item × List ℕ)

@@ -1,5 +1,5 @@
--- What a reader holds, where it tells its bytes, as one over memory does: all of them, if they are no more than a script
--- may have, and what they spell.
+-- What a reader holds, where it tells its bytes, as one over memory does: all of them, if they are
+-- no more than a script may have, and what they spell.
 use Rattle.std.specs.Prelude.{ℕ, ◌≡◌, ◌<◌, ◌≤◌, ◌⊎◌, List, length, Option, IfSome}
 use Rattle.vga_bits.specs.declared.fault.Fault.{Fault}
 use Rattle.vga_bits.specs.declared.fault.Fault.TheVariants.{TooLong, ReadFault, OutOfMemory}
@@ -21,7 +21,8 @@ IsTooLong input = IfSome input (λ all. script_limit < length all)
 
 -- why not all bytes of a reader were read: it failed, it had too many, or memory ran out
 abbrev pub IsReadingFault : Option (List ℕ) → Fault → Type 0
-IsReadingFault input fault = (fault ≡ ReadFault) ⊎ (((fault ≡ TooLong) × IsTooLong input) ⊎ (fault ≡ OutOfMemory))
+IsReadingFault input fault = (fault ≡ ReadFault) ⊎ (((fault ≡ TooLong) × IsTooLong input)
+    ⊎ (fault ≡ OutOfMemory))
 
 -- the input spells this script
 abbrev pub InputSpells : Option (List ℕ) → Listing → Type 0
@@ -37,4 +38,5 @@ InputHasFault input fault = (bytes : List ℕ) × IsInput input bytes × IsSpell
 
 -- the input is a text that spells this script
 abbrev pub InputSpellsText : Option (List ℕ) → Listing → Type 0
-InputSpellsText input script = (text : List ℕ) × IsInput input text × SpellsText text script × IsScript script
+InputSpellsText input script = (text : List ℕ) × IsInput input text × SpellsText text script
+    × IsScript script

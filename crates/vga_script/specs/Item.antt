@@ -6,7 +6,8 @@ use Rattle.vga_script.specs.declared.version.Version.{Version}
 use Rattle.vga_script.specs.Step.{IsInRange, AreInRange}
 use Rattle.vga_script.specs.Version.{AllowsBlocks}
 
--- What a script is made of: a step, or a block of steps that are taken in order, and this so many times.
+-- What a script is made of: a step, or a block of steps that are taken in order, and this so many
+-- times.
 pub data Item : Type 0 where
   Once : Step → Item
   Repeated : ℕ → List Step → Item
@@ -20,7 +21,8 @@ pub record Listing : Type 0 where
 abbrev pub listing : Version → List Item → Listing
 listing version items = record { version = version; items = items }
 
--- Some steps so many times, one time after the other. It is opaque, since the times may be thousands.
+-- Some steps so many times, one time after the other. It is opaque, since the times may be
+-- thousands.
 unfoldable pub repeated : ℕ → List Step → List Step
 repeated zero steps = []
 repeated (suc times) steps = steps ++ repeated times steps
@@ -38,11 +40,12 @@ expanded items = flat_map steps_of items
 abbrev pub step_limit : ℕ
 step_limit = 16777216
 
--- a script of this version may have this item: a step in range; and, if it may have blocks, a block that counts 1 to 65,535,
--- of steps in range
+-- a script of this version may have this item: a step in range; and, if it may have blocks, a block
+-- that counts 1 to 65,535, of steps in range
 abbrev pub IsItemOf : Version → Item → Type 0
 IsItemOf version (Once step) = IsInRange step
-IsItemOf version (Repeated count steps) = AllowsBlocks version × (0 < count) × (count < 2 ^ 16) × AreInRange steps
+IsItemOf version (Repeated count steps) = AllowsBlocks version × (0 < count) × (count < 2 ^ 16)
+    × AreInRange steps
 
 -- and all of these items
 abbrev pub AreItemsOf : Version → List Item → Type 0

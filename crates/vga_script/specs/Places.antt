@@ -8,11 +8,12 @@ use Rattle.vga_script.specs.Item.{Item, repeated, expanded, AreItemsOf}
 use Rattle.vga_script.specs.Spelling.{opcode_end, spelling, item_spelling, StartsWithStep}
 use Rattle.vga_script.specs.Step.{AreInRange}
 
--- The steps that are left where the rest of a script's bytes stands: between items, where there is no body; or in a block
--- with this body, behind whose end the block is taken so often again.
+-- The steps that are left where the rest of a script's bytes stands: between items, where there is
+-- no body; or in a block with this body, behind whose end the block is taken so often again.
 unfoldable pub steps_left : ℕ → List ℕ → List ℕ → List Step
 steps_left left [] rest = expanded (items_in rest)
-steps_left left (byte ∷ body) rest = steps_in rest ++ (repeated left (steps_in (byte ∷ body)) ++ expanded (items_in (drop 1 (behind_steps rest))))
+steps_left left (byte ∷ body) rest = steps_in rest ++ (repeated left (steps_in (byte ∷ body))
+    ++ expanded (items_in (drop 1 (behind_steps rest))))
 
 -- Between items: no block has begun, and the rest spells items.
 pub record IsOutside (body rest : List ℕ) : Type 0 where
@@ -21,7 +22,8 @@ pub record IsOutside (body rest : List ℕ) : Type 0 where
   pub none : body ≡ []
   pub spelled : rest ≡ flat_map item_spelling items
 
--- In a block: its steps are done up to the rest, which spells those to do, the block's end, and items.
+-- In a block: its steps are done up to the rest, which spells those to do, the block's end, and
+-- items.
 pub record IsInside (body rest : List ℕ) : Type 0 where
   pub done : List Step
   pub todo : List Step
@@ -30,7 +32,8 @@ pub record IsInside (body rest : List ℕ) : Type 0 where
   pub done_fit : AreInRange done
   pub todo_fit : AreInRange todo
   pub fit : AreItemsOf Two items
-  pub all : body ≡ flat_map spelling done ++ (flat_map spelling todo ++ opcode_end ∷ flat_map item_spelling items)
+  pub all : body ≡ flat_map spelling done ++ (flat_map spelling todo
+      ++ opcode_end ∷ flat_map item_spelling items)
   pub spelled : rest ≡ flat_map spelling todo ++ opcode_end ∷ flat_map item_spelling items
 
 -- where the rest of a script's bytes stands
@@ -39,9 +42,11 @@ Stands body rest = IsOutside body rest ⊎ IsInside body rest
 
 -- nothing is left, or a step stands at the front
 abbrev pub BeginsWithStep : List ℕ → Type 0
-BeginsWithStep rest = (rest ≡ []) ⊎ ((step : Step) × (others : List ℕ) × StartsWithStep rest step others)
+BeginsWithStep rest = (rest ≡ []) ⊎ ((step : Step) × (others : List ℕ)
+    × StartsWithStep rest step others)
 
 -- From one place another is reached, and the steps that are left stay the same.
-pub record Reaches (left : ℕ) (body rest : List ℕ) (left_there : ℕ) (body_there rest_there : List ℕ) : Type 0 where
+pub record Reaches (left : ℕ) (body rest : List ℕ) (left_there : ℕ)
+    (body_there rest_there : List ℕ) : Type 0 where
   pub stands : Stands body_there rest_there
   pub same : steps_left left_there body_there rest_there ≡ steps_left left body rest

@@ -4,7 +4,8 @@ use Rattle.std.specs.List.{join_with_byte, flat_map}
 use Rattle.hex.specs.Hex.{encode_upper}
 use Rattle.vga_bits.specs.Hex.{hex}
 use Rattle.vga_script.specs.declared.step.Step.{Step}
-use Rattle.vga_script.specs.declared.step.Step.TheVariants.{Out, OutWord, In, InWord, Put, PutWord, Get, GetWord, Int, Advance, Frame, Show}
+use Rattle.vga_script.specs.declared.step.Step.TheVariants.{Out, OutWord, In, InWord, Put, PutWord}
+use Rattle.vga_script.specs.declared.step.Step.TheVariants.{Get, GetWord, Int, Advance, Frame, Show}
 use Rattle.vga_script.specs.Item.{Item, Once, Repeated, Listing}
 use Rattle.vga_script.specs.declared.version.Version.{Version}
 use Rattle.vga_script.specs.declared.version.Version.TheVariants.{One, Two}
@@ -50,7 +51,8 @@ field_words (PutWord address value) = address_text address ∷ hex 4 value ∷ [
 field_words (Get address) = address_text address ∷ []
 field_words (GetWord address) = address_text address ∷ []
 field_words (Int ax bx cx dx block) =
-    (codes "ax=" ++ hex 4 ax) ∷ (codes "bx=" ++ hex 4 bx) ∷ (codes "cx=" ++ hex 4 cx) ∷ (codes "dx=" ++ hex 4 dx) ∷ block_words block
+    (codes "ax=" ++ hex 4 ax) ∷ (codes "bx=" ++ hex 4 bx) ∷ (codes "cx=" ++ hex 4 cx) ∷ (codes "dx="
+    ++ hex 4 dx) ∷ block_words block
 field_words (Advance dots) = decimal dots ∷ []
 field_words Frame = []
 field_words (Show what) = shown_name what ∷ shown_field_words what
@@ -71,12 +73,13 @@ printed_line step = line_of (printed_words step)
 abbrev pub printed_steps : List Step → List ℕ
 printed_steps steps = flat_map printed_line steps
 
--- the printed text of an item: the line of a step; or that of the beginning of a block, those of its steps, and that of its
--- end
+-- the printed text of an item: the line of a step; or that of the beginning of a block, those of
+-- its steps, and that of its end
 abbrev pub printed_item : Item → List ℕ
 printed_item (Once step) = printed_line step
 printed_item (Repeated count steps) =
-    line_of (codes "repeat" ∷ decimal count ∷ []) ++ (printed_steps steps ++ line_of (codes "end" ∷ []))
+    line_of (codes "repeat" ∷ decimal count ∷ []) ++ (printed_steps steps
+    ++ line_of (codes "end" ∷ []))
 
 -- the line that says the version of a script, where it is not 1
 abbrev pub version_line : Version → List ℕ

@@ -6,7 +6,8 @@ use Rattle.vga_script.specs.Item.{Listing, expanded, step_limit, AreItemsOf}
 use Rattle.vga_script.specs.Spelling.{script_limit, encoding}
 use Rattle.vga_script.specs.Text.{SpellsText, IsBadLine}
 
--- Items that a script of its version may have, which mean no more steps, and whose bytes are no more, than a script may.
+-- Items that a script of its version may have, which mean no more steps, and whose bytes are no
+-- more, than a script may.
 pub record IsScript (script : Listing) : Type 0 where
   pub range : AreItemsOf script.version script.items
   pub few : length (expanded script.items) ≤ step_limit
@@ -14,11 +15,13 @@ pub record IsScript (script : Listing) : Type 0 where
 
 -- a text spells a script whose bytes are more than one may have
 abbrev pub SpellsTooLong : List ℕ → Type 0
-SpellsTooLong text = (script : Listing) × SpellsText text script × (script_limit < length (encoding script))
+SpellsTooLong text = (script : Listing) × SpellsText text script
+    × (script_limit < length (encoding script))
 
--- The first fault of a text, in the order of judging: it is too long, one of its lines is bad, or its script has too many
--- bytes.
+-- The first fault of a text, in the order of judging: it is too long, one of its lines is bad, or
+-- its script has too many bytes.
 abbrev pub IsTextFault : List ℕ → Fault → Type 0
-IsTextFault text TooLong = (script_limit < length text) ⊎ ((length text ≤ script_limit) × SpellsTooLong text)
+IsTextFault text TooLong = (script_limit < length text)
+    ⊎ ((length text ≤ script_limit) × SpellsTooLong text)
 IsTextFault text (BadLine n) = (length text ≤ script_limit) × IsBadLine text n
 IsTextFault text _ = ⊥

@@ -15,11 +15,13 @@ spelled_item (spelled.Block count len steps) = Repeated count (steps_in steps.no
 -- where it is a block, its bytes spell so many steps
 abbrev pub HasBody : SpelledItem → Type 0
 HasBody (spelled.Step step) = Unit {0}
-HasBody (spelled.Block count len steps) = SpellsSteps steps.now (steps_in steps.now) × (len ≡ length (steps_in steps.now)) × (len ≤ script_limit)
+HasBody (spelled.Block count len steps) = SpellsSteps steps.now (steps_in steps.now)
+    × (len ≡ length (steps_in steps.now)) × (len ≤ script_limit)
 
 -- bytes that spell a script which means these steps
 abbrev pub SpellsExpanded : List ℕ → List Step → Type 0
-SpellsExpanded bytes steps = (script : Listing) × Spells bytes script × (steps ≡ expanded script.items)
+SpellsExpanded bytes steps = (script : Listing) × Spells bytes script
+    × (steps ≡ expanded script.items)
 
 -- of these steps the first is taken, if there is one, and those are left
 abbrev pub TakesFirst : List Step → List Step → Option Step → Type 0

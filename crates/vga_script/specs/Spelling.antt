@@ -3,7 +3,8 @@ use Rattle.std.specs.Prelude.{ℕ, ◌≡◌, ◌≤◌, List, [], ◌∷◌, �
 use Rattle.std.specs.List.{flat_map}
 use Rattle.byteorder.specs.Endian.{little_bytes}
 use Rattle.vga_script.specs.declared.step.Step.{Step}
-use Rattle.vga_script.specs.declared.step.Step.TheVariants.{Out, OutWord, In, InWord, Put, PutWord, Get, GetWord, Int, Advance, Frame, Show}
+use Rattle.vga_script.specs.declared.step.Step.TheVariants.{Out, OutWord, In, InWord, Put, PutWord}
+use Rattle.vga_script.specs.declared.step.Step.TheVariants.{Get, GetWord, Int, Advance, Frame, Show}
 use Rattle.vga_script.specs.Item.{Item, Once, Repeated, Listing, expanded, step_limit, IsItemOf}
 use Rattle.vga_script.specs.declared.version.Version.{Version}
 use Rattle.vga_script.specs.DumpRange.{shown_spelling}
@@ -78,26 +79,31 @@ opcode_repeat = 0x0D
 abbrev pub opcode_end : ℕ
 opcode_end = 0x0E
 
--- the bytes of a step: its opcode, and its fields, each with the low byte first; a block has its length before it
+-- the bytes of a step: its opcode, and its fields, each with the low byte first; a block has its
+-- length before it
 abbrev pub spelling : Step → List ℕ
 spelling (Out port value) = opcode_out ∷ (little_bytes 2 port ++ value ∷ [])
 spelling (OutWord port value) = opcode_out_word ∷ (little_bytes 2 port ++ little_bytes 2 value)
 spelling (In port) = opcode_in ∷ little_bytes 2 port
 spelling (InWord port) = opcode_in_word ∷ little_bytes 2 port
 spelling (Put address value) = opcode_put ∷ (little_bytes 4 address ++ value ∷ [])
-spelling (PutWord address value) = opcode_put_word ∷ (little_bytes 4 address ++ little_bytes 2 value)
+spelling (PutWord address value) = opcode_put_word ∷ (little_bytes 4 address
+    ++ little_bytes 2 value)
 spelling (Get address) = opcode_get ∷ little_bytes 4 address
 spelling (GetWord address) = opcode_get_word ∷ little_bytes 4 address
 spelling (Int ax bx cx dx block) =
-    opcode_int ∷ (little_bytes 2 ax ++ (little_bytes 2 bx ++ (little_bytes 2 cx ++ (little_bytes 2 dx ++ (little_bytes 2 (length block) ++ block)))))
+    opcode_int ∷ (little_bytes 2 ax ++ (little_bytes 2 bx
+    ++ (little_bytes 2 cx ++ (little_bytes 2 dx ++ (little_bytes 2 (length block) ++ block)))))
 spelling (Advance dots) = opcode_advance ∷ little_bytes 4 dots
 spelling Frame = opcode_frame ∷ []
 spelling (Show what) = opcode_show ∷ shown_spelling what
 
--- the bytes of an item: those of a step; or the opcode of a block, its count, its steps, and the opcode of its end
+-- the bytes of an item: those of a step; or the opcode of a block, its count, its steps, and the
+-- opcode of its end
 abbrev pub item_spelling : Item → List ℕ
 item_spelling (Once step) = spelling step
-item_spelling (Repeated count steps) = opcode_repeat ∷ (little_bytes 2 count ++ (flat_map spelling steps ++ opcode_end ∷ []))
+item_spelling (Repeated count steps) = opcode_repeat ∷ (little_bytes 2 count
+    ++ (flat_map spelling steps ++ opcode_end ∷ []))
 
 -- the bytes of a script
 abbrev pub encoding : Listing → List ℕ
@@ -110,18 +116,23 @@ StartsWithStep bytes step rest = IsInRange step × (bytes ≡ spelling step ++ r
 -- bytes that spell these steps, one after the other, and nothing else
 abbrev pub SpellsSteps : List ℕ → List Step → Type 0
 SpellsSteps bytes [] = bytes ≡ []
-SpellsSteps bytes (step ∷ steps) = (rest : List ℕ) × StartsWithStep bytes step rest × SpellsSteps rest steps
+SpellsSteps bytes (step ∷ steps) = (rest : List ℕ) × StartsWithStep bytes step rest
+    × SpellsSteps rest steps
 
 -- the bytes begin with this item, which a script of this version may have, and go on with the rest
 abbrev pub StartsWithItem : Version → List ℕ → Item → List ℕ → Type 0
-StartsWithItem version bytes first rest = IsItemOf version first × (bytes ≡ item_spelling first ++ rest)
+StartsWithItem version bytes first rest = IsItemOf version first
+    × (bytes ≡ item_spelling first ++ rest)
 
 -- bytes that spell these items, one after the other, and nothing else
 abbrev pub SpellsItems : Version → List ℕ → List Item → Type 0
 SpellsItems version bytes [] = bytes ≡ []
-SpellsItems version bytes (first ∷ others) = (rest : List ℕ) × StartsWithItem version bytes first rest × SpellsItems version rest others
+SpellsItems version bytes (first ∷ others) = (rest : List ℕ)
+    × StartsWithItem version bytes first rest × SpellsItems version rest others
 
 -- bytes that spell a script, whose items mean no more steps than a script may
 abbrev pub Spells : List ℕ → Listing → Type 0
 Spells bytes script =
-    (rest : List ℕ) × (bytes ≡ header script.version ++ rest) × SpellsItems script.version rest script.items × (length (expanded script.items) ≤ step_limit)
+    (rest : List ℕ) × (bytes ≡ header script.version ++ rest)
+    × SpellsItems script.version rest script.items
+    × (length (expanded script.items) ≤ step_limit)

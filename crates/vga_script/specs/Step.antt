@@ -3,7 +3,8 @@ use Rattle.std.specs.Prelude.{ℕ, ◌<◌, ◌^◌, List, length}
 use Rattle.std.specs.List.{AllByRecursion}
 use Rattle.vga_script.specs.declared.step.Step.{Step}
 use Rattle.vga_script.specs.DumpRange.{IsShownInRange}
-use Rattle.vga_script.specs.declared.step.Step.TheVariants.{Out, OutWord, In, InWord, Put, PutWord, Get, GetWord, Int, Advance, Frame, Show}
+use Rattle.vga_script.specs.declared.step.Step.TheVariants.{Out, OutWord, In, InWord, Put, PutWord}
+use Rattle.vga_script.specs.declared.step.Step.TheVariants.{Get, GetWord, Int, Advance, Frame, Show}
 
 -- bytes, no more of them than two bytes can count
 abbrev pub IsBlock : List ℕ → Type 0
@@ -19,7 +20,8 @@ IsInRange (Put address value) = (address < 2 ^ 32) × (value < 2 ^ 8)
 IsInRange (PutWord address value) = (address < 2 ^ 32) × (value < 2 ^ 16)
 IsInRange (Get address) = address < 2 ^ 32
 IsInRange (GetWord address) = address < 2 ^ 32
-IsInRange (Int ax bx cx dx block) = (ax < 2 ^ 16) × (bx < 2 ^ 16) × (cx < 2 ^ 16) × (dx < 2 ^ 16) × IsBlock block
+IsInRange (Int ax bx cx dx block) = (ax < 2 ^ 16) × (bx < 2 ^ 16) × (cx < 2 ^ 16) × (dx < 2 ^ 16)
+    × IsBlock block
 IsInRange (Advance dots) = dots < 2 ^ 32
 IsInRange Frame = Unit {0}
 IsInRange (Show what) = IsShownInRange what

@@ -1,12 +1,14 @@
--- How the words behind a step's name are read, from the left. Public clauses cite none of this: what is read is what
--- words spell, and the proofs join the two.
-use Rattle.std.specs.Prelude.{ℕ, ◌≡◌, ◌+◌, ◌*◌, ◌&&◌, nat_lt, nat_le, if◌then◌else◌, List, [], ◌∷◌, length, take, drop, Option, Some, None, Result, Ok, Err, codes}
+-- How the words behind a step's name are read, from the left. Public clauses cite none of this:
+-- what is read is what words spell, and the proofs join the two.
+use Rattle.std.specs.Prelude.{ℕ, ◌≡◌, ◌+◌, ◌*◌, ◌&&◌, nat_lt, nat_le, if◌then◌else◌, List, [], ◌∷◌}
+use Rattle.std.specs.Prelude.{length, take, drop, Option, Some, None, Result, Ok, Err, codes}
 use Rattle.std.specs.Char.{digit_value, is_digit}
 use Rattle.std.specs.Str.{bytes_eq}
 use Rattle.hex.specs.Hex.{decode_of}
 use Rattle.hex.specs.declared.error.FromHexError.{FromHexError}
 use Rattle.vga_script.specs.declared.step.Step.{Step}
-use Rattle.vga_script.specs.declared.step.Step.TheVariants.{Out, OutWord, In, InWord, Put, PutWord, Get, GetWord, Int, Advance, Frame, Show}
+use Rattle.vga_script.specs.declared.step.Step.TheVariants.{Out, OutWord, In, InWord, Put, PutWord}
+use Rattle.vga_script.specs.declared.step.Step.TheVariants.{Get, GetWord, Int, Advance, Frame, Show}
 use Rattle.vga_script.specs.declared.dump_range.Shown.{Shown}
 use Rattle.vga_script.specs.declared.dump_range.Shown.TheVariants as shown
 use Rattle.vga_script.specs.declared.keyword.Keyword.{Keyword}
@@ -35,7 +37,8 @@ Gives view (Err e) read = ReadsNothing e read
 abbrev pub number_from : ℕ → ℕ → ℕ → List ℕ → Option ℕ
 number_from radix most n [] = Some n
 number_from radix most n (c ∷ cs) =
-    if is_digit c radix && nat_le (n * radix + digit_value c) most then number_from radix most (n * radix + digit_value c) cs else None
+    if is_digit c radix && nat_le (n * radix + digit_value c) most
+    then number_from radix most (n * radix + digit_value c) cs else None
 
 -- the number that a word spells, where it spells one no larger than `most`
 unfoldable pub number_of : ℕ → ℕ → List ℕ → Option ℕ
@@ -83,7 +86,8 @@ one_decimal most (w ∷ ws) = do
 unfoldable pub register_at : List ℕ → List (List ℕ) → Option (ℕ × List (List ℕ))
 register_at name [] = Some (0, [])
 register_at name (w ∷ ws) =
-    if bytes_eq (lowered (take 3 w)) name then (hex_of 4 0xFFFF (drop 3 w) >>= λ n. Some (n, ws)) else Some (0, w ∷ ws)
+    if bytes_eq (lowered (take 3 w)) name then (hex_of 4 0xFFFF (drop 3 w) >>= λ n. Some (n, ws))
+    else Some (0, w ∷ ws)
 
 -- the bytes that digits spell
 abbrev pub decoded : Result (List ℕ) FromHexError → Option (List ℕ)
@@ -92,7 +96,8 @@ decoded (Err e) = None
 
 -- the bytes of a word that has at least one byte's digits, and no more than a block may have
 unfoldable pub bytes_of : List ℕ → Option (List ℕ)
-bytes_of word = if nat_lt 0 (length word) && nat_le (length word) 131070 then decoded (decode_of word) else None
+bytes_of word = if nat_lt 0 (length word) && nat_le (length word) 131070
+    then decoded (decode_of word) else None
 
 -- the digits of a block behind its name, and no other word
 unfoldable pub digits_at : List (List ℕ) → Option (List ℕ)

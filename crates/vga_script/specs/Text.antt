@@ -1,9 +1,12 @@
--- What a script is in text: each line has the words of one step, or no word; or, in version 2, begins or ends a block.
-use Rattle.std.specs.Prelude.{ℕ, ◌≡◌, ◌<◌, ◌≤◌, ◌+◌, ◌^◌, ◌⊎◌, List, [], ◌∷◌, ◌++◌, length, map, codes, Ok}
+-- What a script is in text: each line has the words of one step, or no word; or, in version 2,
+-- begins or ends a block.
+use Rattle.std.specs.Prelude.{ℕ, ◌≡◌, ◌<◌, ◌≤◌, ◌+◌, ◌^◌, ◌⊎◌, List, [], ◌∷◌, ◌++◌, length, map}
+use Rattle.std.specs.Prelude.{codes, Ok}
 use Rattle.std.specs.List.{AllByRecursion, flat_map}
 use Rattle.hex.specs.Hex.{decode_of}
 use Rattle.vga_script.specs.declared.step.Step.{Step}
-use Rattle.vga_script.specs.declared.step.Step.TheVariants.{Out, OutWord, In, InWord, Put, PutWord, Get, GetWord, Int, Advance, Frame, Show}
+use Rattle.vga_script.specs.declared.step.Step.TheVariants.{Out, OutWord, In, InWord, Put, PutWord}
+use Rattle.vga_script.specs.declared.step.Step.TheVariants.{Get, GetWord, Int, Advance, Frame, Show}
 use Rattle.vga_script.specs.Item.{Item, Once, Repeated, Listing, expanded, step_limit}
 use Rattle.vga_script.specs.declared.version.Version.{Version}
 use Rattle.vga_script.specs.declared.version.Version.TheVariants.{One, Two}
@@ -54,13 +57,16 @@ SpellsHex most fields n = (word : List ℕ) × (fields ≡ word ∷ []) × IsHex
 -- two words, each a hexadecimal number of at most so many digits
 abbrev pub SpellsTwoHex : ℕ → ℕ → List (List ℕ) → ℕ → ℕ → Type 0
 SpellsTwoHex most_first most_second fields first second =
-    (word : List ℕ) × (other : List ℕ) × (fields ≡ word ∷ other ∷ []) × IsHex most_first word first × IsHex most_second other second
+    (word : List ℕ) × (other : List ℕ) × (fields ≡ word ∷ other ∷ []) × IsHex most_first word first
+    × IsHex most_second other second
 
--- no word, and then the register is 0; or one word, which is the register's name and a number of at most four digits
+-- no word, and then the register is 0; or one word, which is the register's name and a number of at
+-- most four digits
 abbrev pub SpellsRegister : List ℕ → List (List ℕ) → ℕ → Type 0
 SpellsRegister name fields value =
     ((fields ≡ []) × (value ≡ 0))
-    ⊎ ((front : List ℕ) × (digits : List ℕ) × (fields ≡ (front ++ digits) ∷ []) × (lowered front ≡ name) × IsHex 4 digits value)
+    ⊎ ((front : List ℕ) × (digits : List ℕ) × (fields ≡ (front ++ digits) ∷ [])
+    × (lowered front ≡ name) × IsHex 4 digits value)
 
 -- two hexadecimal digits for each byte, the high one first
 abbrev pub SpellsBytes : List ℕ → List ℕ → Type 0
@@ -70,7 +76,8 @@ SpellsBytes digits bytes = decode_of digits ≡ Ok bytes
 abbrev pub SpellsBlock : List (List ℕ) → List ℕ → Type 0
 SpellsBlock fields block =
     ((fields ≡ []) × (block ≡ []))
-    ⊎ ((name : List ℕ) × (digits : List ℕ) × (fields ≡ name ∷ digits ∷ []) × (lowered name ≡ codes "block")
+    ⊎ ((name : List ℕ) × (digits : List ℕ) × (fields ≡ name ∷ digits ∷ [])
+    × (lowered name ≡ codes "block")
     × (0 < length block) × (length block < 2 ^ 16) × SpellsBytes digits block)
 
 -- the word that says what is shown, in lower case
@@ -91,14 +98,16 @@ SpellsShownFields fields shown.Beam = fields ≡ []
 SpellsShownFields fields shown.Latches = fields ≡ []
 SpellsShownFields fields (shown.Plane plane offset count) =
     (p : List ℕ) × (o : List ℕ) × (n : List ℕ) × (fields ≡ p ∷ o ∷ n ∷ [])
-    × IsHex 1 p plane × IsHex 4 o offset × IsNumeral 10 n count × IsShownInRange (shown.Plane plane offset count)
+    × IsHex 1 p plane × IsHex 4 o offset × IsNumeral 10 n count
+    × IsShownInRange (shown.Plane plane offset count)
 SpellsShownFields fields shown.BiosData = fields ≡ []
 SpellsShownFields fields shown.Cells = fields ≡ []
 
 -- a word that says what is shown, and its fields
 abbrev pub SpellsShown : List (List ℕ) → Shown → Type 0
 SpellsShown fields what =
-    (first : List ℕ) × (rest : List (List ℕ)) × (fields ≡ first ∷ rest) × (lowered first ≡ shown_name what) × SpellsShownFields rest what
+    (first : List ℕ) × (rest : List (List ℕ)) × (fields ≡ first ∷ rest)
+    × (lowered first ≡ shown_name what) × SpellsShownFields rest what
 
 -- the words that follow a step's name
 abbrev pub SpellsFields : List (List ℕ) → Step → Type 0
@@ -111,11 +120,13 @@ SpellsFields fields (PutWord address value) = SpellsTwoHex 8 4 fields address va
 SpellsFields fields (Get address) = SpellsHex 8 fields address
 SpellsFields fields (GetWord address) = SpellsHex 8 fields address
 SpellsFields fields (Int ax bx cx dx block) =
-    (a : List (List ℕ)) × (b : List (List ℕ)) × (c : List (List ℕ)) × (d : List (List ℕ)) × (e : List (List ℕ))
+    (a : List (List ℕ)) × (b : List (List ℕ)) × (c : List (List ℕ)) × (d : List (List ℕ))
+    × (e : List (List ℕ))
     × (fields ≡ a ++ (b ++ (c ++ (d ++ e))))
     × SpellsRegister (codes "ax=") a ax × SpellsRegister (codes "bx=") b bx
     × SpellsRegister (codes "cx=") c cx × SpellsRegister (codes "dx=") d dx × SpellsBlock e block
-SpellsFields fields (Advance dots) = (word : List ℕ) × (fields ≡ word ∷ []) × IsNumeral 10 word dots × (dots < 2 ^ 32)
+SpellsFields fields (Advance dots) = (word : List ℕ) × (fields ≡ word ∷ []) × IsNumeral 10 word dots
+    × (dots < 2 ^ 32)
 SpellsFields fields Frame = fields ≡ []
 SpellsFields fields (Show what) = SpellsShown fields what
 
@@ -123,18 +134,21 @@ SpellsFields fields (Show what) = SpellsShown fields what
 abbrev pub SpellsLine : List (List ℕ) → List Step → Type 0
 SpellsLine [] steps = steps ≡ []
 SpellsLine (first ∷ fields) steps =
-    (step : Step) × (steps ≡ step ∷ []) × (lowered first ≡ name_of (keyword_of step)) × SpellsFields fields step
+    (step : Step) × (steps ≡ step ∷ []) × (lowered first ≡ name_of (keyword_of step))
+    × SpellsFields fields step
 
 -- lines that spell these steps, one after the other
 abbrev pub SpellsLines : List (List ℕ) → List Step → Type 0
 SpellsLines [] steps = steps ≡ []
 SpellsLines (line ∷ others) steps =
-    (here : List Step) × (after : List Step) × (steps ≡ here ++ after) × SpellsLine (words line) here × SpellsLines others after
+    (here : List Step) × (after : List Step) × (steps ≡ here ++ after)
+    × SpellsLine (words line) here × SpellsLines others after
 
 -- the words of a line that begins a block: `repeat`, and a count of 1 to 65,535 in decimal
 abbrev pub SpellsRepeat : List (List ℕ) → ℕ → Type 0
 SpellsRepeat fields count =
-    (first : List ℕ) × (number : List ℕ) × (fields ≡ first ∷ number ∷ []) × (lowered first ≡ codes "repeat")
+    (first : List ℕ) × (number : List ℕ) × (fields ≡ first ∷ number ∷ [])
+    × (lowered first ≡ codes "repeat")
     × IsNumeral 10 number count × (0 < count) × (count < 2 ^ 16)
 
 -- the word of a line that ends it
@@ -143,7 +157,8 @@ IsEnd fields = (first : List ℕ) × (fields ≡ first ∷ []) × (lowered first
 
 -- the words of the line that says version 2
 abbrev pub IsVersionTwo : List (List ℕ) → Type 0
-IsVersionTwo fields = (first : List ℕ) × (fields ≡ first ∷ codes "2" ∷ []) × (lowered first ≡ codes "version")
+IsVersionTwo fields = (first : List ℕ) × (fields ≡ first ∷ codes "2" ∷ [])
+    × (lowered first ≡ codes "version")
 
 -- Lines of a text, and the items that they spell together.
 pub record Group : Type 0 where
@@ -152,7 +167,8 @@ pub record Group : Type 0 where
 
 -- one line, of a step or of no word
 abbrev pub IsLine : Group → Type 0
-IsLine group = (line : List ℕ) × (steps : List Step) × (group.lines ≡ line ∷ []) × (group.items ≡ map Once steps) × SpellsLine (words line) steps
+IsLine group = (line : List ℕ) × (steps : List Step) × (group.lines ≡ line ∷ [])
+    × (group.items ≡ map Once steps) × SpellsLine (words line) steps
 
 -- the lines of a block: that of its beginning, those of its steps, and that of its end
 abbrev pub IsBlockOfLines : Group → Type 0
@@ -168,10 +184,12 @@ IsGroup version group = IsLine group ⊎ (AllowsBlocks version × IsBlockOfLines
 -- lines that spell these items, group by group
 abbrev pub SpellsGroups : Version → List (List ℕ) → List Item → Type 0
 SpellsGroups version ls items =
-    (groups : List Group) × (ls ≡ flat_map (λ group. group.lines) groups) × (items ≡ flat_map (λ group. group.items) groups)
+    (groups : List Group) × (ls ≡ flat_map (λ group. group.lines) groups)
+    × (items ≡ flat_map (λ group. group.items) groups)
     × AllByRecursion (IsGroup version) groups
 
--- The first of these lines that has a word says version 2, and the rest stand behind it, the first of them with this number.
+-- The first of these lines that has a word says version 2, and the rest stand behind it, the first
+-- of them with this number.
 pub record SaysVersionTwo (ls : List (List ℕ)) (n : ℕ) (rest : List (List ℕ)) : Type 0 where
   pub before : List (List ℕ)
   pub line : List ℕ
@@ -180,8 +198,8 @@ pub record SaysVersionTwo (ls : List (List ℕ)) (n : ℕ) (rest : List (List �
   pub whole : ls ≡ before ++ line ∷ rest
   pub number : n ≡ length before + 2
 
--- where the lines of the items of a script of this version begin in a text, and with which number: those of version 1 are
--- all its lines, those of version 2 stand behind the line that says so
+-- where the lines of the items of a script of this version begin in a text, and with which number:
+-- those of version 1 are all its lines, those of version 2 stand behind the line that says so
 abbrev pub StandFrom : Version → List (List ℕ) → ℕ → List (List ℕ) → Type 0
 StandFrom One ls n rest = (n ≡ 1) × (rest ≡ ls)
 StandFrom Two ls n rest = SaysVersionTwo ls n rest
@@ -189,20 +207,26 @@ StandFrom Two ls n rest = SaysVersionTwo ls n rest
 -- a text that spells a script, whose items mean no more steps than a script may
 abbrev pub SpellsText : List ℕ → Listing → Type 0
 SpellsText text script =
-    (n : ℕ) × (rest : List (List ℕ)) × StandFrom script.version (lines text) n rest × SpellsGroups script.version rest script.items
+    (n : ℕ) × (rest : List (List ℕ)) × StandFrom script.version (lines text) n rest
+    × SpellsGroups script.version rest script.items
     × (length (expanded script.items) ≤ step_limit)
 
--- a line outside blocks of a script of this version that spells neither a step nor the beginning of a block
+-- a line outside blocks of a script of this version that spells neither a step nor the beginning of
+-- a block
 abbrev pub IsBadOutside : Version → List ℕ → Type 0
 IsBadOutside version line =
-    ((steps : List Step) → SpellsLine (words line) steps → ⊥) × (AllowsBlocks version → (count : ℕ) → SpellsRepeat (words line) count → ⊥)
+    ((steps : List Step) → SpellsLine (words line) steps → ⊥)
+    × (AllowsBlocks version → (count : ℕ) → SpellsRepeat (words line) count → ⊥)
 
 -- a line in a block that spells neither a step nor the block's end
 abbrev pub IsBadInside : List ℕ → Type 0
-IsBadInside line = ((steps : List Step) → SpellsLine (words line) steps → ⊥) × (IsEnd (words line) → ⊥)
+IsBadInside line = ((steps : List Step) → SpellsLine (words line) steps → ⊥)
+    × (IsEnd (words line) → ⊥)
 
--- The lines begin with a block, and the rest stand in it, so many lines behind its first: between them are lines of steps.
-pub record OpensLines (version : Version) (ls : List (List ℕ)) (place : ℕ) (rest : List (List ℕ)) : Type 0 where
+-- The lines begin with a block, and the rest stand in it, so many lines behind its first: between
+-- them are lines of steps.
+pub record OpensLines (version : Version) (ls : List (List ℕ)) (place : ℕ)
+    (rest : List (List ℕ)) : Type 0 where
   pub first : List ℕ
   pub count : ℕ
   pub body : List (List ℕ)
@@ -213,24 +237,30 @@ pub record OpensLines (version : Version) (ls : List (List ℕ)) (place : ℕ) (
   pub whole : ls ≡ first ∷ (body ++ rest)
   pub place_is : place ≡ length body + 1
 
--- Why the line of this number is bad, from which on these lines stand in a script of this version behind items that mean so
--- many steps: it is bad outside blocks; or a later line is in its block, or the block has no end; or with the group that
--- begins there are more steps than a script may mean.
+-- Why the line of this number is bad, from which on these lines stand in a script of this version
+-- behind items that mean so many steps: it is bad outside blocks; or a later line is in its block,
+-- or the block has no end; or with the group that begins there are more steps than a script may
+-- mean.
 abbrev pub IsGroupFault : Version → ℕ → ℕ → List (List ℕ) → ℕ → Type 0
 IsGroupFault version taken n ls bad =
-    ((bad ≡ n) × ((line : List ℕ) × (others : List (List ℕ)) × (ls ≡ line ∷ others) × IsBadOutside version line))
-    ⊎ (((place : ℕ) × (line : List ℕ) × (others : List (List ℕ)) × (bad ≡ n + place) × OpensLines version ls place (line ∷ others) × IsBadInside line)
+    ((bad ≡ n) × ((line : List ℕ) × (others : List (List ℕ)) × (ls ≡ line ∷ others)
+    × IsBadOutside version line))
+    ⊎ (((place : ℕ) × (line : List ℕ) × (others : List (List ℕ)) × (bad ≡ n + place)
+    × OpensLines version ls place (line ∷ others) × IsBadInside line)
     ⊎ (((bad ≡ n) × ((place : ℕ) × OpensLines version ls place []))
-    ⊎ ((bad ≡ n) × ((group : Group) × (others : List (List ℕ)) × (ls ≡ group.lines ++ others) × IsGroup version group × (step_limit < taken + length (expanded group.items))))))
+    ⊎ ((bad ≡ n) × ((group : Group) × (others : List (List ℕ)) × (ls ≡ group.lines ++ others)
+    × IsGroup version group × (step_limit < taken + length (expanded group.items))))))
 
--- The lines of a text before that of this number, counted from 1, spell a script, and these lines are left. A text whose first
--- line with a word does not say version 2 is read as one of version 1.
-pub record SpellsLinesUpTo (text : List ℕ) (script : Listing) (n : ℕ) (left : List (List ℕ)) : Type 0 where
+-- The lines of a text before that of this number, counted from 1, spell a script, and these lines
+-- are left. A text whose first line with a word does not say version 2 is read as one of version 1.
+pub record SpellsLinesUpTo (text : List ℕ) (script : Listing) (n : ℕ)
+    (left : List (List ℕ)) : Type 0 where
   pub start : ℕ
   pub rest : List (List ℕ)
   pub front : List (List ℕ)
   pub from : StandFrom script.version (lines text) start rest
-  pub one : script.version ≡ One → (m : ℕ) (others : List (List ℕ)) → SaysVersionTwo (lines text) m others → ⊥
+  pub one : script.version ≡ One → (m : ℕ) (others : List (List ℕ)) →
+      SaysVersionTwo (lines text) m others → ⊥
   pub whole : rest ≡ front ++ left
   pub good : SpellsGroups script.version front script.items
   pub few : length (expanded script.items) ≤ step_limit
@@ -239,7 +269,8 @@ pub record SpellsLinesUpTo (text : List ℕ) (script : Listing) (n : ℕ) (left 
 -- the line of this number is the first bad line: after good groups it makes the next bad
 abbrev pub IsBadLine : List ℕ → ℕ → Type 0
 IsBadLine text bad =
-    (script : Listing) × (n : ℕ) × (left : List (List ℕ)) × SpellsLinesUpTo text script n left × IsGroupFault script.version (length (expanded script.items)) n left bad
+    (script : Listing) × (n : ℕ) × (left : List (List ℕ)) × SpellsLinesUpTo text script n left
+    × IsGroupFault script.version (length (expanded script.items)) n left bad
 
 -- the fault of a text whose first bad line has this number
 abbrev pub IsLineFault : List ℕ → Fault → Type 0

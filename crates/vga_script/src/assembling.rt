@@ -2,11 +2,13 @@
 ghost use Rattle.std.specs.Prelude.{◌≡◌, ◌⊎◌, ◌<◌, ◌≤◌, ◌+◌, List, length, ℕ};
 ghost use Rattle.std.specs.Prelude.{IfOk, IfErr, IsOkUnless, Err};
 ghost use Rattle.std.specs.Option.{option_copied};
-ghost use Rattle.vga_script.specs.Assembling.{AppendsBlock, AppendsBody, AppendsGroup, AppendsLine, IsBodyFault, IsGroupFaultOf};
+ghost use Rattle.vga_script.specs.Assembling.{AppendsBlock, AppendsBody, AppendsGroup, AppendsLine};
+ghost use Rattle.vga_script.specs.Assembling.{IsBodyFault, IsGroupFaultOf};
 ghost use Rattle.vga_script.specs.Item.{Listing};
 ghost use Rattle.vga_script.specs.Script.{IsScript, IsTextFault};
 ghost use Rattle.vga_script.specs.Spelling.{script_limit, encoding};
-ghost use Rattle.vga_script.specs.Text.{SaysVersionTwo, SpellsLine, SpellsText, StandFrom, IsLineFault};
+ghost use Rattle.vga_script.specs.Text.{SaysVersionTwo, SpellsLine, SpellsText, StandFrom};
+ghost use Rattle.vga_script.specs.Text.{IsLineFault};
 ghost use Rattle.vga_script.specs.Words.{left_len, lines, lines_left, words};
 ghost use Rattle.vga_script.specs.declared.step.Step.{Step};
 
@@ -21,11 +23,13 @@ use super::words::first_line;
 use std::alloc::Global;
 use vga_bits::Fault;
 
-/// Puts the bytes of the step that a line spells at the end, where it has a word, and says how many steps it spells.
+/// Puts the bytes of the step that a line spells at the end, where it has a word, and says how many
+/// steps it spells.
 #[tactic(auto, using(crate::proofs::ScriptLemmas::line_in_range))]
 fn append_line(alloc: Global, out: &mut Vec<u8>, line: &[u8]) -> Result<usize, Unread>
     ensures found { IfOk result (λ len. AppendsLine line.now out.old.items out.new.items len) }
-    ensures bad { result ≡ Err Unread.Bad → (steps : List Step) → SpellsLine (words line.now) steps → ⊥ }
+    ensures bad { result ≡ Err Unread.Bad → (steps : List Step) →
+        SpellsLine (words line.now) steps → ⊥ }
 {
     let mut block = Vec::new(alloc);
     let Some(step) = step_of_line(alloc, &mut block, line)? else {
@@ -37,9 +41,9 @@ fn append_line(alloc: Global, out: &mut Vec<u8>, line: &[u8]) -> Result<usize, U
     }
 }
 
-/// Puts the bytes of the steps of a block at the end, of whose lines those behind the first are left; and how many steps
-/// there are, what follows the line of its end, and the number of the line behind that. The block's first line has the
-/// number `first`.
+/// Puts the bytes of the steps of a block at the end, of whose lines those behind the first are
+/// left; and how many steps there are, what follows the line of its end, and the number of the line
+/// behind that. The block's first line has the number `first`.
 #[tactic(auto, using(crate::proofs::AssembleLemmas::body_begins, crate::proofs::AssembleLemmas::body_more, crate::proofs::AssembleLemmas::body_ends, crate::proofs::AssembleLemmas::body_bad, crate::proofs::AssembleLemmas::body_open))]
 fn append_body<'a>(
     alloc: Global,
@@ -48,7 +52,8 @@ fn append_body<'a>(
     first: usize,
 ) -> Result<(usize, Option<&'a [u8]>, usize), Fault>
     requires { first + left_len (option_copied left) ≤ script_limit + 2 }
-    ensures found { IfOk result (λ x. AppendsBody (first + 1) (option_copied left.entry) out.old.items
+    ensures found { IfOk result (λ x. AppendsBody (first + 1) (option_copied left.entry)
+        out.old.items
         out.new.items x.0 x.2 (option_copied x.1)) }
     ensures fault { IfErr result (λ e. (e ≡ Fault.OutOfMemory)
         ⊎ IsBodyFault first (option_copied left.entry) e) }
@@ -72,8 +77,8 @@ fn append_body<'a>(
     Err(Fault::BadLine(first))
 }
 
-/// Puts the bytes of a block at the end that begins with a line of this number and counts so many; and how many steps it
-/// means, what follows its last line, and the number of the line behind that.
+/// Puts the bytes of a block at the end that begins with a line of this number and counts so many;
+/// and how many steps it means, what follows its last line, and the number of the line behind that.
 fn append_block<'a>(
     alloc: Global,
     out: &mut Vec<u8>,
@@ -82,7 +87,8 @@ fn append_block<'a>(
     number: usize,
 ) -> Result<(usize, Option<&'a [u8]>, usize), Fault>
     requires { number + left_len (option_copied left) ≤ script_limit + 2 }
-    ensures found { IfOk result (λ x. AppendsBlock (number + 1) (option_copied left.entry) count out.old.items
+    ensures found { IfOk result (λ x. AppendsBlock (number + 1) (option_copied left.entry) count
+        out.old.items
         out.new.items x.0 x.2 (option_copied x.1)) }
     ensures fault { IfErr result (λ e. (e ≡ Fault.OutOfMemory)
         ⊎ IsBodyFault number (option_copied left.entry) e) }
@@ -94,9 +100,9 @@ fn append_block<'a>(
     Ok((count as usize * len, left, next))
 }
 
-/// Puts the bytes of the item at the end that a line outside blocks spells or begins, where it has a word; and how many
-/// steps it means, what follows its last line, and the number of the line behind that. The line has this number, and others
-/// follow it.
+/// Puts the bytes of the item at the end that a line outside blocks spells or begins, where it has
+/// a word; and how many steps it means, what follows its last line, and the number of the line
+/// behind that. The line has this number, and others follow it.
 #[tactic(auto, using(crate::proofs::AssembleLemmas::group_of_block, crate::proofs::AssembleLemmas::group_bad))]
 fn append_group<'a>(
     alloc: Global,
@@ -106,11 +112,14 @@ fn append_group<'a>(
     number: usize,
 ) -> Result<(usize, Option<&'a [u8]>, usize), Fault>
     requires { number + length text.now ≤ script_limit + 1 }
-    ensures found { IfOk result (λ x. AppendsGroup version number (lines text.now) out.old.items out.new.items x.0 x.2
+    ensures found { IfOk result (λ x. AppendsGroup version number (lines text.now) out.old.items
+        out.new.items x.0 x.2
         (option_copied x.1)) }
-    ensures shorter { IfOk result (λ x. x.2 + left_len (option_copied x.1) ≤ number + (length text.now + 1)) }
+    ensures shorter { IfOk result (λ x. x.2 + left_len (option_copied x.1) ≤ number
+        + (length text.now + 1)) }
     ensures later { IfOk result (λ x. number < x.2) }
-    ensures fault { IfErr result (λ e. (e ≡ Fault.OutOfMemory) ⊎ IsGroupFaultOf version number (lines text.now) e) }
+    ensures fault { IfErr result (λ e. (e ≡ Fault.OutOfMemory)
+        ⊎ IsGroupFaultOf version number (lines text.now) e) }
 {
     let (line, others) = first_line(text);
     if let Some(count) = count_in(line, version) {
@@ -123,11 +132,13 @@ fn append_group<'a>(
     }
 }
 
-/// The version of the script that a text may spell, the lines of its items, and the number of the first of them.
+/// The version of the script that a text may spell, the lines of its items, and the number of the
+/// first of them.
 #[tactic(auto, using(crate::proofs::AssembleLemmas::blank_none, crate::proofs::AssembleLemmas::two_found))]
 fn items_of_text(text: &[u8]) -> (Version, Option<&[u8]>, usize)
     requires { length text.now ≤ script_limit }
-    ensures from { StandFrom result.0 (lines text.now) result.2 (lines_left (option_copied result.1)) }
+    ensures from { StandFrom result.0 (lines text.now) result.2
+        (lines_left (option_copied result.1)) }
     ensures one { result.0 ≡ Version.One → (n : ℕ) (others : List (List ℕ)) →
         SaysVersionTwo (lines text.now) n others → ⊥ }
     ensures short { result.2 + left_len (option_copied result.1) ≤ length text.now + 2 }
@@ -148,11 +159,13 @@ fn items_of_text(text: &[u8]) -> (Version, Option<&[u8]>, usize)
     (Version::One, Some(text), 1)
 }
 
-/// The bytes of the items that lines spell which stand behind the front of a text, or its first bad line.
+/// The bytes of the items that lines spell which stand behind the front of a text, or its first bad
+/// line.
 #[tactic(auto, using(crate::proofs::AssembleLemmas::read_none, crate::proofs::AssembleLemmas::read_more, crate::proofs::AssembleLemmas::read_all))]
 fn assemble_items(alloc: Global, text: &[u8]) -> Result<Vec<u8>, Fault>
     requires { length text.now ≤ script_limit }
-    ensures found { IfOk result (λ bytes. (script : Listing) × SpellsText text.now script × (bytes.items ≡ encoding script)) }
+    ensures found { IfOk result (λ bytes. (script : Listing) × SpellsText text.now script
+        × (bytes.items ≡ encoding script)) }
     ensures fault { IfErr result (λ e. (e ≡ Fault.OutOfMemory) ⊎ IsLineFault text.now e) }
 {
     let (version, mut left, mut number) = items_of_text(text);
@@ -175,7 +188,8 @@ fn assemble_items(alloc: Global, text: &[u8]) -> Result<Vec<u8>, Fault>
 /// The script that a text spells, or its first fault.
 #[tactic(auto, using(crate::proofs::ScriptLemmas::too_long))]
 fn assemble_script(alloc: Global, text: &[u8]) -> Result<Script, Fault>
-    ensures found { IfOk result (λ script. (length text.now ≤ script_limit) × SpellsText text.now script) }
+    ensures found { IfOk result (λ script. (length text.now ≤ script_limit)
+        × SpellsText text.now script) }
     ensures script { IfOk result (λ script. IsScript script) }
     ensures fault { IfErr result (λ e. (e ≡ Fault.OutOfMemory) ⊎ IsTextFault text.now e) }
 {
@@ -197,17 +211,21 @@ fn assemble_script(alloc: Global, text: &[u8]) -> Result<Script, Fault>
 /// - `BadLine`: the first bad line has this number, counted from 1.
 /// - `TooLong`: the bytes of the script are more than 16,777,216.
 ///
-/// The first line with a word may be `version 2`; else the script is of version 1. A line with words is bad if they are not
-/// those of a step nor, in version 2, `repeat` with a count of 1 to 65,535 outside blocks or `end` in one. A line with
-/// `repeat` is bad too where its block has no end, which comes behind all bad lines in the block, or where with the block
-/// the script means more than 16,777,216 steps; so is a line of a step with which it does.
+/// The first line with a word may be `version 2`; else the script is of version 1. A line with
+/// words is bad if they are not those of a step nor, in version 2, `repeat` with a count of 1 to
+/// 65,535 outside blocks or `end` in one. A line with
+/// `repeat` is bad too where its block has no end, which comes behind all bad lines in the block,
+/// or where with the block the script means more than 16,777,216 steps; so is a line of a step with
+/// which it does.
 ///
 /// `OutOfMemory` comes where a request for memory was refused.
 pub fn assemble(alloc: Global, text: &[u8]) -> Result<Script, Fault>
-    ensures found { IfOk result (λ script. (length text.now ≤ script_limit) × SpellsText text.now script) }
+    ensures found { IfOk result (λ script. (length text.now ≤ script_limit)
+        × SpellsText text.now script) }
     ensures script { IfOk result (λ script. IsScript script) }
     ensures fault { IfErr result (λ e. (e ≡ Fault.OutOfMemory) ⊎ IsTextFault text.now e) }
-    ensures runs { (script : Listing) → length text.now ≤ script_limit → SpellsText text.now script →
+    ensures runs { (script : Listing) → length text.now ≤ script_limit →
+        SpellsText text.now script →
         length (encoding script) ≤ script_limit → IsOkUnless result Fault.OutOfMemory }
 {
     assemble_script(alloc, text)

@@ -1,5 +1,6 @@
 //! The lines of a text that say its version, and that begin and end a block.
-ghost use Rattle.std.specs.Prelude.{◌≡◌, ◌≢◌, ◌↔◌, ◌∷◌, [], ℕ, List, IfNone, IfSome, IsFalse, IsTrue};
+ghost use Rattle.std.specs.Prelude.{◌≡◌, ◌≢◌, ◌↔◌, ◌∷◌, [], ℕ, List, IfNone, IfSome, IsFalse};
+ghost use Rattle.std.specs.Prelude.{IsTrue};
 ghost use Rattle.vga_script.specs.Text.{IsEnd, IsVersionTwo, SpellsRepeat};
 ghost use Rattle.vga_script.specs.Version.{AllowsBlocks};
 ghost use Rattle.vga_script.specs.Words.{words};
@@ -87,8 +88,10 @@ fn count_of_line(line: &[u8]) -> Option<u16>
 
 /// The same in a script of this version, which may have no blocks.
 pub(crate) fn count_in(line: &[u8], version: Version) -> Option<u16>
-    ensures found { IfSome result (λ count. AllowsBlocks version × SpellsRepeat (words line.now) count) }
-    ensures none { IfNone result (AllowsBlocks version → (count : ℕ) → SpellsRepeat (words line.now) count → ⊥) }
+    ensures found { IfSome result (λ count. AllowsBlocks version
+        × SpellsRepeat (words line.now) count) }
+    ensures none { IfNone result (AllowsBlocks version → (count : ℕ) →
+        SpellsRepeat (words line.now) count → ⊥) }
 {
     match version {
         Version::One => None,

@@ -10,7 +10,8 @@ use std::alloc::Global;
 use std::io::Read;
 use vga_bits::{Fault, Tracked, read_front};
 
-/// All that a reader has of a script, or of a text that spells one. The reader must not have failed before.
+/// All that a reader has of a script, or of a text that spells one. The reader must not have failed
+/// before.
 /// At most 16,777,217 bytes are read, which is one more than either may have.
 ///
 /// # Errors

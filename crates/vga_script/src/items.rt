@@ -1,5 +1,6 @@
 //! The item at the front of some bytes of a script.
-ghost use Rattle.std.specs.Prelude.{◌≡◌, ◌+◌, ◌<◌, ◌≤◌, ◌∷◌, ℕ, length, IfNone, IfOk, IfErr, IfSome};
+ghost use Rattle.std.specs.Prelude.{◌≡◌, ◌+◌, ◌<◌, ◌≤◌, ◌∷◌, ℕ, length, IfNone, IfOk, IfErr};
+ghost use Rattle.std.specs.Prelude.{IfSome};
 ghost use Rattle.vga_script.specs.Body.{StandsBehind};
 ghost use Rattle.vga_script.specs.Decoding.{HasStepsBefore, IsItemFault, StartsWithBlock};
 ghost use Rattle.vga_script.specs.Item.{step_limit, steps_of};
@@ -56,7 +57,8 @@ fn behind_steps(bytes: &[u8]) -> (usize, &[u8], Behind<'_>)
 
 /// What follows the opcode of a block, where one begins some bytes of a script of this version.
 fn behind_repeat(bytes: &[u8], version: Version) -> Option<&[u8]>
-    ensures found { IfSome result (λ fields. AllowsBlocks version × (bytes.now ≡ opcode_repeat ∷ fields.now)) }
+    ensures found { IfSome result (λ fields. AllowsBlocks version
+        × (bytes.now ≡ opcode_repeat ∷ fields.now)) }
     ensures none { IfNone result (StartsWithBlock version bytes.now → ⊥) }
 {
     match version {
@@ -65,8 +67,8 @@ fn behind_repeat(bytes: &[u8], version: Version) -> Option<&[u8]>
     }
 }
 
-/// The block whose opcode stands at this offset of a script, from the bytes that begin with it, and what follows
-/// its end.
+/// The block whose opcode stands at this offset of a script, from the bytes that begin with it, and
+/// what follows its end.
 #[tactic(auto, using(crate::proofs::BodyLemmas::block_open))]
 fn block_at<'a>(
     bytes: &'a [u8],
@@ -99,7 +101,8 @@ fn block_at<'a>(
     }
 }
 
-/// The item that stands at this offset of a script, from the bytes that begin with it, and what follows it.
+/// The item that stands at this offset of a script, from the bytes that begin with it, and what
+/// follows it.
 pub(crate) fn item_at(
     bytes: &[u8],
     offset: usize,

@@ -1,5 +1,5 @@
-//! The script of a run, as bytes and as text: its items, the steps that they mean, the grammar of both forms, and the
-//! ways between them.
+//! The script of a run, as bytes and as text: its items, the steps that they mean, the grammar of
+//! both forms, and the ways between them.
 #![tactic(auto)]
 
 mod assembling;

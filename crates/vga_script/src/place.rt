@@ -1,5 +1,6 @@
 //! Places in the bytes of a script, from which steps are left.
-ghost use Rattle.std.specs.Prelude.{ℕ, ◌≡◌, ◌≢◌, ◌<◌, ◌≤◌, ◌^◌, ◌++◌, ◌∷◌, List, length, IfNone, IfSome};
+ghost use Rattle.std.specs.Prelude.{ℕ, ◌≡◌, ◌≢◌, ◌<◌, ◌≤◌, ◌^◌, ◌++◌, ◌∷◌, List, length, IfNone};
+ghost use Rattle.std.specs.Prelude.{IfSome};
 ghost use Rattle.byteorder.specs.Endian.{little_bytes};
 ghost use Rattle.vga_script.specs.Places.{BeginsWithStep, Reaches, Stands};
 ghost use Rattle.vga_script.specs.Spelling.{opcode_end};
@@ -41,11 +42,13 @@ fn behind_end(bytes: &[u8]) -> Option<&[u8]>
     }
 }
 
-/// The first place from this one on where a step stands, or the end. Blocks of no steps are passed over.
+/// The first place from this one on where a step stands, or the end. Blocks of no steps are passed
+/// over.
 #[tactic(auto, using(crate::proofs::PlaceLemmas::stays, crate::proofs::PlaceLemmas::room_for_count))]
 pub(crate) fn skip_marks(place: Place<'_>) -> Place<'_>
     requires { Stands place.body.now place.rest.now }
-    ensures reached { Reaches place.entry.left place.entry.body.now place.entry.rest.now result.left result.body.now result.rest.now }
+    ensures reached { Reaches place.entry.left place.entry.body.now place.entry.rest.now result.left
+        result.body.now result.rest.now }
     ensures front { BeginsWithStep result.rest.now }
 {
     let Place {

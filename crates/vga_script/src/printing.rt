@@ -1,11 +1,13 @@
 //! From the bytes of a script to its printed text.
-ghost use Rattle.std.specs.Prelude.{◌≡◌, ◌+◌, ◌≤◌, ◌<◌, ◌++◌, ◌∷◌, [], codes, decimal, length, IfOk, IsOkUnless, OnOk};
+ghost use Rattle.std.specs.Prelude.{◌≡◌, ◌+◌, ◌≤◌, ◌<◌, ◌++◌, ◌∷◌, [], codes, decimal, length};
+ghost use Rattle.std.specs.Prelude.{IfOk, IsOkUnless, OnOk};
 ghost use Rattle.std.specs.List.{flat_map};
 ghost use Rattle.hex.specs.Hex.{encode_upper};
 ghost use Rattle.vga_bits.specs.Hex.{hex};
 ghost use Rattle.vga_script.specs.Front.{items_in, steps_in};
 ghost use Rattle.vga_script.specs.Item.{expanded, step_limit};
-ghost use Rattle.vga_script.specs.Printing.{address_text, line_of, port_text, printed, printed_item};
+ghost use Rattle.vga_script.specs.Printing.{address_text, line_of, port_text, printed};
+ghost use Rattle.vga_script.specs.Printing.{printed_item};
 ghost use Rattle.vga_script.specs.Printing.{printed_line, printed_steps, version_line};
 ghost use Rattle.vga_script.specs.Spelled.{HasBody, spelled_item};
 ghost use Rattle.vga_script.specs.Spelling.{SpellsItems, SpellsSteps, script_limit};
@@ -37,7 +39,8 @@ fn end_line(out: &mut Vec<u8>, mut line: Line) -> Result<(), Fault>
 #[tactic(auto, unfolding(crate::specs::Printing::line_of))]
 fn print_port(out: &mut Vec<u8>, name: &[u8], port: u16) -> Result<(), Fault>
     requires { length name.now ≤ 16 }
-    ensures ok { OnOk result (out.new.items ≡ out.old.items ++ line_of (name.now ∷ port_text port ∷ [])) }
+    ensures ok { OnOk result (out.new.items ≡ out.old.items
+        ++ line_of (name.now ∷ port_text port ∷ [])) }
     ensures err { IsOkUnless result Fault.OutOfMemory }
 {
     let mut line = Line::new();
@@ -122,7 +125,8 @@ fn print_frame(out: &mut Vec<u8>) -> Result<(), Fault>
 /// Prints an advance of the clock. It fails with `OutOfMemory` alone.
 #[tactic(auto, unfolding(crate::specs::Printing::line_of))]
 fn print_advance(out: &mut Vec<u8>, dots: u32) -> Result<(), Fault>
-    ensures ok { OnOk result (out.new.items ≡ out.old.items ++ line_of (codes "advance" ∷ decimal dots ∷ [])) }
+    ensures ok { OnOk result (out.new.items ≡ out.old.items
+        ++ line_of (codes "advance" ∷ decimal dots ∷ [])) }
     ensures err { IsOkUnless result Fault.OutOfMemory }
 {
     let mut line = Line::new();
@@ -148,7 +152,8 @@ fn print_dac(out: &mut Vec<u8>, index: u8) -> Result<(), Fault>
 #[tactic(auto, unfolding(crate::specs::Printing::line_of, vga_bits::specs::Hex::hex))]
 fn print_plane(out: &mut Vec<u8>, plane: u8, offset: u16, count: u16) -> Result<(), Fault>
     ensures ok { OnOk result (out.new.items ≡ out.old.items
-        ++ line_of (codes "show" ∷ codes "plane" ∷ hex 1 plane ∷ hex 4 offset ∷ decimal count ∷ [])) }
+        ++ line_of (codes "show" ∷ codes "plane" ∷ hex 1 plane ∷ hex 4 offset ∷ decimal count
+        ∷ [])) }
     ensures err { IsOkUnless result Fault.OutOfMemory }
 {
     let mut line = Line::new();
@@ -200,8 +205,8 @@ fn call_line(ax: u16, bx: u16, cx: u16, dx: u16) -> Line
     line
 }
 
-/// Puts a line and the digits of a block, with the block's name between them, at the end of a text. It
-/// fails with `OutOfMemory` alone.
+/// Puts a line and the digits of a block, with the block's name between them, at the end of a text.
+/// It fails with `OutOfMemory` alone.
 fn append_block(
     alloc: Global,
     out: &mut Vec<u8>,
@@ -233,7 +238,8 @@ fn print_call(
     dx: u16,
     block: &[u8],
 ) -> Result<(), Fault>
-    ensures ok { OnOk result (out.new.items ≡ out.old.items ++ printed_line (Step.Int ax bx cx dx block.now)) }
+    ensures ok { OnOk result (out.new.items ≡ out.old.items
+        ++ printed_line (Step.Int ax bx cx dx block.now)) }
     ensures err { IsOkUnless result Fault.OutOfMemory }
 {
     let mut line = call_line(ax, bx, cx, dx);
@@ -300,7 +306,8 @@ fn print_steps(alloc: Global, out: &mut Vec<u8>, bytes: &[u8]) -> Result<(), Fau
 /// Prints the beginning of a block. It fails with `OutOfMemory` alone.
 #[tactic(auto, unfolding(crate::specs::Printing::line_of))]
 fn print_repeat(out: &mut Vec<u8>, count: u16) -> Result<(), Fault>
-    ensures ok { OnOk result (out.new.items ≡ out.old.items ++ line_of (codes "repeat" ∷ decimal count ∷ [])) }
+    ensures ok { OnOk result (out.new.items ≡ out.old.items
+        ++ line_of (codes "repeat" ∷ decimal count ∷ [])) }
     ensures err { IsOkUnless result Fault.OutOfMemory }
 {
     let mut line = Line::new();
@@ -321,7 +328,8 @@ fn print_end(out: &mut Vec<u8>) -> Result<(), Fault>
 /// Prints an item. It fails with `OutOfMemory` alone.
 fn print_item(alloc: Global, out: &mut Vec<u8>, item: &SpelledItem<'_>) -> Result<(), Fault>
     requires { HasBody item.now }
-    ensures ok { OnOk result (out.new.items ≡ out.old.items ++ printed_item (spelled_item item.now)) }
+    ensures ok { OnOk result (out.new.items ≡ out.old.items
+        ++ printed_item (spelled_item item.now)) }
     ensures err { IsOkUnless result Fault.OutOfMemory }
 {
     match item {
@@ -345,7 +353,8 @@ fn version_text(version: Version) -> &'static [u8]
     }
 }
 
-/// Prints the items that some bytes of a script of this version spell. It fails with `OutOfMemory` alone.
+/// Prints the items that some bytes of a script of this version spell. It fails with `OutOfMemory`
+/// alone.
 #[tactic(auto, using(crate::proofs::FrontLemmas::item_shorter, crate::proofs::WalkLemmas::items_begin, crate::proofs::WalkLemmas::items_go_on))]
 fn print_items(
     alloc: Global,
@@ -356,7 +365,8 @@ fn print_items(
     requires short { length bytes.now ≤ script_limit }
     requires spelled { SpellsItems version bytes.now (items_in bytes.now) }
     requires few { length (expanded (items_in bytes.now)) ≤ step_limit }
-    ensures ok { OnOk result (out.new.items ≡ out.old.items ++ flat_map printed_item (items_in bytes.now)) }
+    ensures ok { OnOk result (out.new.items ≡ out.old.items
+        ++ flat_map printed_item (items_in bytes.now)) }
     ensures err { IsOkUnless result Fault.OutOfMemory }
 {
     let mut rest = bytes;
@@ -372,8 +382,9 @@ fn print_items(
     Ok(())
 }
 
-/// The printed text of a script: its version, where it is not 1, and a line for each step, with its name and values in
-/// full, and for each beginning and end of a block. It spells the script. It fails with `OutOfMemory` alone.
+/// The printed text of a script: its version, where it is not 1, and a line for each step, with its
+/// name and values in full, and for each beginning and end of a block. It spells the script. It
+/// fails with `OutOfMemory` alone.
 #[tactic(auto, using(crate::proofs::StepsLemmas::behind_header, crate::proofs::StepsLemmas::items_spelled))]
 pub fn print(alloc: Global, script: &Script) -> Result<Vec<u8>, Fault>
     ensures ok { IfOk result (λ text. text.items ≡ printed script.now) }

@@ -21,8 +21,8 @@ pub(crate) const SCRIPT_LIMIT: usize = 16_777_216;
 /// How many steps a script may mean.
 pub(crate) const STEP_LIMIT: usize = 16_777_216;
 
-/// A script, which has at most 16,777,216 bytes and means at most 16,777,216 steps. Contracts see its version and its
-/// items; it keeps the bytes that spell them.
+/// A script, which has at most 16,777,216 bytes and means at most 16,777,216 steps. Contracts see
+/// its version and its items; it keeps the bytes that spell them.
 #[derive(Drop)]
 pub struct Script {
     bytes: Vec<u8>,
@@ -73,8 +73,9 @@ impl Script {
         Version::One
     }
 
-    /// The steps that the items mean, one after the other: a step itself, and the steps of a block so many times as it
-    /// counts. Their fields fit, and they are no more than a script may mean. They take no memory.
+    /// The steps that the items mean, one after the other: a step itself, and the steps of a block
+    /// so many times as it counts. Their fields fit, and they are no more than a script may mean.
+    /// They take no memory.
     #[tactic(auto, using(crate::proofs::StepsLemmas::range_of_steps, crate::proofs::StepsLemmas::few_steps))]
     pub fn steps(&self) -> Steps<'_>
         ensures steps { result ≡ expanded self.now.items }
@@ -88,7 +89,8 @@ impl Script {
 /// The script that some bytes spell, or their first fault.
 #[tactic(auto, using(crate::proofs::StepsLemmas::copy_spells))]
 fn decode_bytes(alloc: Global, bytes: &[u8]) -> Result<Script, Fault>
-    ensures found { IfOk result (λ script. (length bytes.now ≤ script_limit) × Spells bytes.now script) }
+    ensures found { IfOk result (λ script. (length bytes.now ≤ script_limit)
+        × Spells bytes.now script) }
     ensures fault { IfErr result (λ e. (e ≡ Fault.OutOfMemory) ⊎ IsFault bytes.now e) }
 {
     judge(bytes)?;
@@ -105,19 +107,22 @@ fn decode_bytes(alloc: Global, bytes: &[u8]) -> Result<Script, Fault>
 /// - `BadMagic`: they do not begin with `VGAS`.
 /// - `Truncated(4)`: nothing follows that.
 /// - `BadVersion`: neither version 1 nor version 2 follows it.
-/// - `BadStep`, `Truncated`, `TooMany`: what stands at this offset is the first that is bad, or that is cut off, or
-///   with which the script means more than 16,777,216 steps.
+/// - `BadStep`, `Truncated`, `TooMany`: what stands at this offset is the first that is bad, or
+///   that is cut off, or with which the script means more than 16,777,216 steps.
 ///
-/// A step is bad where it has no opcode or kind; else it may be cut off; and where it is not, it is bad
-/// if it shows bytes of a plane that is none, no bytes, more than 256, or bytes past the plane's end.
+/// A step is bad where it has no opcode or kind; else it may be cut off; and where it is not, it is
+/// bad if it shows bytes of a plane that is none, no bytes, more than 256, or bytes past the
+/// plane's end.
 ///
-/// In version 1 the opcodes of blocks are none. In version 2 that of a block is bad within a block, and that of an end
-/// outside one; a block is bad where it counts 0, and cut off, at its opcode, where its count is or where the bytes end
-/// behind a whole step of it. Too many steps are found where a block ends, or a step outside blocks.
+/// In version 1 the opcodes of blocks are none. In version 2 that of a block is bad within a block,
+/// and that of an end outside one; a block is bad where it counts 0, and cut off, at its opcode,
+/// where its count is or where the bytes end behind a whole step of it. Too many steps are found
+/// where a block ends, or a step outside blocks.
 ///
 /// `OutOfMemory` comes where a request for memory was refused.
 pub fn decode(alloc: Global, bytes: &[u8]) -> Result<Script, Fault>
-    ensures found { IfOk result (λ script. (length bytes.now ≤ script_limit) × Spells bytes.now script) }
+    ensures found { IfOk result (λ script. (length bytes.now ≤ script_limit)
+        × Spells bytes.now script) }
     ensures fault { IfErr result (λ e. (e ≡ Fault.OutOfMemory) ⊎ IsFault bytes.now e) }
     ensures runs { (script : Listing) → length bytes.now ≤ script_limit → Spells bytes.now script →
         IsOkUnless result Fault.OutOfMemory }
@@ -125,7 +130,8 @@ pub fn decode(alloc: Global, bytes: &[u8]) -> Result<Script, Fault>
     decode_bytes(alloc, bytes)
 }
 
-/// The bytes of a script, at most 16,777,216. No other bytes spell it. It fails with `OutOfMemory` alone.
+/// The bytes of a script, at most 16,777,216. No other bytes spell it. It fails with `OutOfMemory`
+/// alone.
 #[tactic(auto, using(crate::proofs::StepsLemmas::encoding_kept))]
 pub fn encode(alloc: Global, script: &Script) -> Result<Vec<u8>, Fault>
     ensures ok { IfOk result (λ bytes. bytes.items ≡ encoding script.now) }

@@ -3,8 +3,8 @@
 use super::block::Block;
 use super::dump_range::Shown;
 
-/// One step of a script: a cycle of the processor, a call of the video BIOS, some dots of the clock,
-/// or a dump of the adapter. A call's block is left where it stands.
+/// One step of a script: a cycle of the processor, a call of the video BIOS, some dots of the
+/// clock, or a dump of the adapter. A call's block is left where it stands.
 #[derive(Drop)]
 pub enum Step<'a> {
     /// A byte is written to a port.

@@ -1,5 +1,6 @@
 //! A step in bytes, read and written: an opcode, and fields.
-ghost use Rattle.std.specs.Prelude.{◌≡◌, ◌<◌, ◌++◌, ◌∷◌, length, IfOk, IfErr, IsOkUnless, OnOk, Err};
+ghost use Rattle.std.specs.Prelude.{◌≡◌, ◌<◌, ◌++◌, ◌∷◌, length, IfOk, IfErr, IsOkUnless, OnOk};
+ghost use Rattle.std.specs.Prelude.{Err};
 ghost use Rattle.byteorder.specs.Endian.{little_bytes};
 ghost use Rattle.vga_script.specs.Decoding.{StartsOutOfRange, StartsWithBadStep, StartsWithCutStep};
 ghost use Rattle.vga_script.specs.DumpRange.{kind_dac, kind_plane, shown_spelling};
@@ -14,7 +15,8 @@ use super::output::{append, append_u16, append_u32};
 use super::step::Step;
 use vga_bits::Fault;
 
-/// The table of plain steps: a row each, with its opcode, and its fields, of so many bytes, in order.
+/// The table of plain steps: a row each, with its opcode, and its fields, of so many bytes, in
+/// order.
 macro_rules! plain_steps {
     ($then:ident, $first:ident, $second:ident) => {
         $then! {
@@ -47,7 +49,10 @@ macro_rules! read_field {
 
 /// The step of an opcode, whose fields are read in turn.
 macro_rules! read_steps {
-    ($opcode:ident, $bytes:ident, $($number:literal => $step:ident { $($field:ident: $kind:ident),* },)*) => {
+    (
+        $opcode:ident, $bytes:ident,
+        $($number:literal => $step:ident { $($field:ident: $kind:ident),* },)*
+    ) => {
         match $opcode {
             $($number => {
                 let rest = $bytes;
@@ -77,7 +82,10 @@ macro_rules! write_field {
 
 /// A step whose fields are written in turn.
 macro_rules! write_steps {
-    ($out:ident, $from:ident, $($number:literal => $step:ident { $($field:ident: $kind:ident),* },)*) => {
+    (
+        $out:ident, $from:ident,
+        $($number:literal => $step:ident { $($field:ident: $kind:ident),* },)*
+    ) => {
         match $from {
             $(Step::$step { $($field),* } => {
                 append(&mut *$out, &[$number])?;
@@ -99,7 +107,8 @@ macro_rules! write_steps {
 #[tactic(auto, using(crate::proofs::DecodeLemmas::cut_int))]
 fn int_at(fields: &[u8]) -> Result<(Step<'_>, &[u8]), NoStep>
     ensures found { IfOk result (λ x. StartsWithStep (opcode_int ∷ fields.now) x.0 x.1.now) }
-    ensures cut { IfErr result (λ e. (e ≡ NoStep.Cut) × StartsWithCutStep (opcode_int ∷ fields.now)) }
+    ensures cut { IfErr result (λ e. (e ≡ NoStep.Cut)
+        × StartsWithCutStep (opcode_int ∷ fields.now)) }
 {
     let (ax, rest) = u16_at(fields)?;
     let (bx, rest) = u16_at(rest)?;
@@ -123,7 +132,8 @@ fn int_at(fields: &[u8]) -> Result<(Step<'_>, &[u8]), NoStep>
 /// The index of the DAC's entry that is shown, and what follows it.
 #[tactic(auto, using(crate::proofs::DecodeLemmas::cut_dac))]
 fn dac_at(fields: &[u8]) -> Result<(Step<'_>, &[u8]), NoStep>
-    ensures found { IfOk result (λ x. StartsWithStep (opcode_show ∷ kind_dac ∷ fields.now) x.0 x.1.now) }
+    ensures found { IfOk result (λ x. StartsWithStep (opcode_show ∷ kind_dac ∷ fields.now) x.0
+        x.1.now) }
     ensures cut { IfErr result (λ e. (e ≡ NoStep.Cut)
         × StartsWithCutStep (opcode_show ∷ kind_dac ∷ fields.now)) }
 {
@@ -135,9 +145,12 @@ fn dac_at(fields: &[u8]) -> Result<(Step<'_>, &[u8]), NoStep>
 /// Which bytes of a plane are shown, and what follows.
 #[tactic(auto, using(crate::proofs::DecodeLemmas::cut_plane, crate::proofs::DecodeLemmas::out_of_range))]
 fn plane_at(fields: &[u8]) -> Result<(Step<'_>, &[u8]), NoStep>
-    ensures found { IfOk result (λ x. StartsWithStep (opcode_show ∷ kind_plane ∷ fields.now) x.0 x.1.now) }
-    ensures bad { result ≡ Err NoStep.Bad → StartsOutOfRange (opcode_show ∷ kind_plane ∷ fields.now) }
-    ensures cut { result ≡ Err NoStep.Cut → StartsWithCutStep (opcode_show ∷ kind_plane ∷ fields.now) }
+    ensures found { IfOk result (λ x. StartsWithStep (opcode_show ∷ kind_plane ∷ fields.now) x.0
+        x.1.now) }
+    ensures bad { result ≡ Err NoStep.Bad → StartsOutOfRange
+        (opcode_show ∷ kind_plane ∷ fields.now) }
+    ensures cut { result ≡ Err NoStep.Cut → StartsWithCutStep
+        (opcode_show ∷ kind_plane ∷ fields.now) }
 {
     let (plane, rest) = u8_at(fields)?;
     let (offset, rest) = u16_at(rest)?;
@@ -197,11 +210,12 @@ pub(crate) fn step_at(bytes: &[u8]) -> Result<(Step<'_>, &[u8]), NoStep>
     step_with(opcode, fields)
 }
 
-/// Puts a call of the BIOS, but for its block, at the end: the opcode, the registers, and the block's
-/// length. It fails with `OutOfMemory` alone.
+/// Puts a call of the BIOS, but for its block, at the end: the opcode, the registers, and the
+/// block's length. It fails with `OutOfMemory` alone.
 fn append_call(out: &mut Vec<u8>, ax: u16, bx: u16, cx: u16, dx: u16, len: u16) -> Result<(), Fault>
     ensures ok { OnOk result (out.new.items ≡ out.old.items ++ (opcode_int ∷ (little_bytes 2 ax
-        ++ (little_bytes 2 bx ++ (little_bytes 2 cx ++ (little_bytes 2 dx ++ little_bytes 2 len)))))) }
+        ++ (little_bytes 2 bx ++ (little_bytes 2 cx
+        ++ (little_bytes 2 dx ++ little_bytes 2 len)))))) }
     ensures err { IsOkUnless result Fault.OutOfMemory }
 {
     append(out, &[opcode::INT])?;
@@ -214,7 +228,8 @@ fn append_call(out: &mut Vec<u8>, ax: u16, bx: u16, cx: u16, dx: u16, len: u16) 
 
 /// Puts the bytes of a dump of the adapter at the end. It fails with `OutOfMemory` alone.
 fn append_shown(out: &mut Vec<u8>, shown: Shown) -> Result<(), Fault>
-    ensures ok { OnOk result (out.new.items ≡ out.old.items ++ (opcode_show ∷ shown_spelling shown)) }
+    ensures ok { OnOk result (out.new.items ≡ out.old.items
+        ++ (opcode_show ∷ shown_spelling shown)) }
     ensures err { IsOkUnless result Fault.OutOfMemory }
 {
     match shown {

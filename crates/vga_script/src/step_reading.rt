@@ -1,7 +1,9 @@
 //! Reading the words of a line.
 ghost use Rattle.std.specs.Prelude.{◌≡◌, ◌≤◌, IfOk, Some, take, drop, option_to_list, List, Err};
-ghost use Rattle.vga_script.specs.StepReading.{Gives, hex_of, hex_at, ended, one_hex, two_hex, one_decimal};
-ghost use Rattle.vga_script.specs.StepReading.{register_at, bytes_of, digits_at, block_at, read_int};
+ghost use Rattle.vga_script.specs.StepReading.{Gives, hex_of, hex_at, ended, one_hex, two_hex};
+ghost use Rattle.vga_script.specs.StepReading.{one_decimal};
+ghost use Rattle.vga_script.specs.StepReading.{register_at, bytes_of, digits_at, block_at};
+ghost use Rattle.vga_script.specs.StepReading.{read_int};
 ghost use Rattle.vga_script.specs.StepReading.{alone, read_dac, read_plane, read_shown, read_step};
 ghost use Rattle.vga_script.specs.Text.{SpellsLine};
 ghost use Rattle.vga_script.specs.Words.{lowered, words, words_in};
@@ -46,7 +48,8 @@ fn hex_of(word: &[u8], digits: usize, most: u32) -> Result<u32, Unread>
 /// The same of the first word, and what follows it.
 #[tactic(auto, unfolding(crate::specs::StepReading::hex_at))]
 fn hex_at(fields: &[u8], digits: usize, most: u32) -> Result<(u32, &[u8]), Unread>
-    ensures read { Gives (λ x. (x.0, words_in x.1.now)) result (hex_at digits most (words_in fields.now)) }
+    ensures read { Gives (λ x. (x.0, words_in x.1.now)) result
+        (hex_at digits most (words_in fields.now)) }
     ensures bound { IfOk result (λ x. x.0 ≤ most) }
 {
     let Some((word, rest)) = next_word(fields) else {
@@ -127,7 +130,8 @@ fn cut_name(word: &[u8]) -> (&[u8], &[u8])
 #[tactic(auto, unfolding(crate::specs::StepReading::register_at))]
 fn register_at<'a>(fields: &'a [u8], name: &[u8]) -> Result<(u16, &'a [u8]), Unread>
     requires { lowered name.now ≡ name.now }
-    ensures { Gives (λ x. (x.0, words_in x.1.now)) result (register_at name.now (words_in fields.now)) }
+    ensures { Gives (λ x. (x.0, words_in x.1.now)) result
+        (register_at name.now (words_in fields.now)) }
 {
     let Some((word, rest)) = next_word(fields) else {
         return Ok((0, fields));
@@ -408,7 +412,8 @@ pub(crate) fn step_of_line<'a>(
     line: &[u8],
 ) -> Result<Option<Step<'a>>, Unread>
     ensures found { IfOk result (λ step. SpellsLine (words line.now) (option_to_list step)) }
-    ensures bad { result ≡ Err Unread.Bad → (steps : List Step) → SpellsLine (words line.now) steps → ⊥ }
+    ensures bad { result ≡ Err Unread.Bad → (steps : List Step) →
+        SpellsLine (words line.now) steps → ⊥ }
 {
     let Some((name, fields)) = next_word(before_comment(line)) else {
         return Ok(None);

@@ -15,8 +15,8 @@ use super::step_bytes::step_at;
 use std::marker::Model;
 use vga_bits::Fault;
 
-/// The steps that a script means, which are taken one after the other from the bytes that spell it, and take no
-/// memory. Contracts see the list of those that are left.
+/// The steps that a script means, which are taken one after the other from the bytes that spell it,
+/// and take no memory. Contracts see the list of those that are left.
 #[derive(Drop)]
 pub struct Steps<'a> {
     /// What follows.
@@ -56,11 +56,13 @@ impl<'a> Steps<'a> {
 
     /// The steps that a script means which some bytes spell.
     ///
-    /// Bytes that spell none have the fault that `decode` answers, of several the first; it is never
+    /// Bytes that spell none have the fault that `decode` answers, of several the first; it is
+    /// never
     /// `OutOfMemory`.
     #[tactic(auto, using(crate::proofs::StepsLemmas::few_steps))]
     pub fn of(bytes: &'a [u8]) -> Result<Steps<'a>, Fault>
-        ensures found { IfOk result (λ steps. (length bytes.now ≤ script_limit) × SpellsExpanded bytes.now steps) }
+        ensures found { IfOk result (λ steps. (length bytes.now ≤ script_limit)
+            × SpellsExpanded bytes.now steps) }
         ensures few { IfOk result (λ steps. length steps ≤ step_limit) }
         ensures fault { IfErr result (λ e. IsFault bytes.now e) }
     {

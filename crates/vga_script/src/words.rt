@@ -2,7 +2,8 @@
 ghost use Rattle.std.specs.Prelude.{◌≡◌, ◌∷◌, [], ◌<◌, ◌≤◌, length, IfNone, IfSome};
 ghost use Rattle.std.specs.List.{before_first, position_or_len};
 ghost use Rattle.std.specs.Option.{option_copied};
-ghost use Rattle.vga_script.specs.Words.{is_blank, is_semicolon, ends_at, lines, lines_left, words_in};
+ghost use Rattle.vga_script.specs.Words.{is_blank, is_semicolon, ends_at, lines, lines_left};
+ghost use Rattle.vga_script.specs.Words.{words_in};
 
 /// A byte that ends a piece of a text.
 #[derive(Clone, Copy, PartialEq, Eq, Debug)]

@@ -1,9 +1,11 @@
-//! The definitions of the grammar, shown right on values worked out by hand. Each function has an empty
-//! body, and nothing runs.
+//! The definitions of the grammar, shown right on values worked out by hand. Each function has an
+//! empty body, and nothing runs.
 ghost use Rattle.std.specs.Prelude.{◌≡◌, [], ◌∷◌, ◌++◌, codes};
 ghost use Rattle.vga_script.specs.Decoding.{IsFault};
-ghost use Rattle.vga_script.specs.Examples.{frames_repeated, frames_repeated_bytes, nothing_repeated};
-ghost use Rattle.vga_script.specs.Examples.{three_times, three_times_bytes, two_steps, two_steps_bytes};
+ghost use Rattle.vga_script.specs.Examples.{frames_repeated, frames_repeated_bytes};
+ghost use Rattle.vga_script.specs.Examples.{nothing_repeated};
+ghost use Rattle.vga_script.specs.Examples.{three_times, three_times_bytes, two_steps};
+ghost use Rattle.vga_script.specs.Examples.{two_steps_bytes};
 ghost use Rattle.vga_script.specs.Item.{expanded, listing};
 ghost use Rattle.vga_script.specs.Printing.{printed, printed_line};
 ghost use Rattle.vga_script.specs.Script.{IsTextFault};
@@ -59,7 +61,8 @@ fn steps_in_print()
     ensures dac { printed_line (Step.Show (Shown.Dac 0x1F)) ≡ codes "show dac 1F\n" }
     ensures beam { printed_line (Step.Show Shown.Beam) ≡ codes "show beam\n" }
     ensures latches { printed_line (Step.Show Shown.Latches) ≡ codes "show latches\n" }
-    ensures plane { printed_line (Step.Show (Shown.Plane 2 0 256)) ≡ codes "show plane 2 0000 256\n" }
+    ensures plane { printed_line (Step.Show (Shown.Plane 2 0 256))
+        ≡ codes "show plane 2 0000 256\n" }
     ensures bios_data { printed_line (Step.Show Shown.BiosData) ≡ codes "show bda\n" }
     ensures cells { printed_line (Step.Show Shown.Cells) ≡ codes "show cells\n" }
 {}
@@ -79,7 +82,8 @@ fn bytes_faulty()
     ensures unknown { IsFault (header Version.One ++ 0xFF ∷ []) (Fault.BadStep 5) }
     ensures no_kind { IsFault (header Version.One ++ 0x0C ∷ []) (Fault.Truncated 5) }
     ensures other_kind { IsFault (header Version.One ++ 0x0C ∷ 0x07 ∷ []) (Fault.BadStep 5) }
-    ensures past_the_end { IsFault (header Version.One ++ 0x0C ∷ 0x04 ∷ 0 ∷ 0xFF ∷ 0xFF ∷ 2 ∷ 0 ∷ [])
+    ensures past_the_end { IsFault (header Version.One
+        ++ 0x0C ∷ 0x04 ∷ 0 ∷ 0xFF ∷ 0xFF ∷ 2 ∷ 0 ∷ [])
         (Fault.BadStep 5) }
     ensures no_block { IsFault (header Version.One ++ 0x0D ∷ 1 ∷ 0 ∷ 0x0E ∷ []) (Fault.BadStep 5) }
 {}
@@ -88,7 +92,8 @@ fn bytes_faulty()
 #[tactic(auto, unfolding(crate::specs::Item::repeated, crate::specs::Printing::line_of, vga_bits::specs::Hex::hex, crate::specs::Printing::port_text))]
 fn blocks()
     ensures bytes { encoding three_times ≡ three_times_bytes }
-    ensures steps { expanded three_times.items ≡ Step.Out 0x3C4 2 ∷ Step.Out 0x3C4 2 ∷ Step.Out 0x3C4 2 ∷ [] }
+    ensures steps { expanded three_times.items ≡ Step.Out 0x3C4 2 ∷ Step.Out 0x3C4 2
+        ∷ Step.Out 0x3C4 2 ∷ [] }
     ensures text { printed three_times ≡ codes "version 2\nrepeat 3\nout 3C4 02\nend\n" }
 {}
 
@@ -102,18 +107,22 @@ fn blocks_spelled()
 
 /// Bytes with a fault in or at a block.
 fn blocks_faulty()
-    ensures open { IsFault (header Version.Two ++ 0x0D ∷ 3 ∷ 0 ∷ 1 ∷ 0xC4 ∷ 0x03 ∷ 0x02 ∷ []) (Fault.Truncated 5) }
+    ensures open { IsFault (header Version.Two ++ 0x0D ∷ 3 ∷ 0 ∷ 1 ∷ 0xC4 ∷ 0x03 ∷ 0x02 ∷ [])
+        (Fault.Truncated 5) }
     ensures no_count { IsFault (header Version.Two ++ 0x0D ∷ 3 ∷ []) (Fault.Truncated 5) }
     ensures zero { IsFault (header Version.Two ++ 0x0D ∷ 0 ∷ 0 ∷ 0x0E ∷ []) (Fault.BadStep 5) }
     ensures end { IsFault (header Version.Two ++ 0x0E ∷ []) (Fault.BadStep 5) }
-    ensures inner { IsFault (header Version.Two ++ 0x0D ∷ 1 ∷ 0 ∷ 0x0D ∷ 1 ∷ 0 ∷ 0x0E ∷ 0x0E ∷ []) (Fault.BadStep 8) }
-    ensures inner_cut { IsFault (header Version.Two ++ 0x0D ∷ 1 ∷ 0 ∷ 3 ∷ 0xDA ∷ []) (Fault.Truncated 8) }
+    ensures inner { IsFault (header Version.Two ++ 0x0D ∷ 1 ∷ 0 ∷ 0x0D ∷ 1 ∷ 0 ∷ 0x0E ∷ 0x0E ∷ [])
+        (Fault.BadStep 8) }
+    ensures inner_cut { IsFault (header Version.Two
+        ++ 0x0D ∷ 1 ∷ 0 ∷ 3 ∷ 0xDA ∷ []) (Fault.Truncated 8) }
     ensures many { IsFault (frames_repeated_bytes 257) (Fault.TooMany 5) }
 {}
 
 /// A text with a block, and texts of which a line in or at a block is bad.
 fn blocks_in_text()
-    ensures block { SpellsText (codes "Version 2\nrepeat 03 ; times\n\n out 3c4 2\nEND") three_times }
+    ensures block { SpellsText (codes "Version 2\nrepeat 03 ; times\n\n out 3c4 2\nEND")
+        three_times }
     ensures no_end { IsTextFault (codes "version 2\nrepeat 3\nframe") (Fault.BadLine 2) }
     ensures inner { IsTextFault (codes "version 2\nrepeat 3\nend 3") (Fault.BadLine 3) }
     ensures no_version { IsTextFault (codes "repeat 3\nend") (Fault.BadLine 1) }

@@ -9,7 +9,8 @@ use Rattle.bios_modes.specs.Bda.{BiosData}
 use Rattle.vga_show.specs.Cells.{row_text, rows_text}
 
 -- the rows from one on are its line and those from the next on
-pub rows_left : (card : CardState) (bda : BiosData) (n row : ℕ) → row < n → rows_text card bda (n - row) row ≡ row_text card bda row ++ rows_text card bda (n - (row + 1)) (row + 1)
+pub rows_left : (card : CardState) (bda : BiosData) (n row : ℕ) → row < n → rows_text card bda (n - row) row ≡ row_text card bda row
+    ++ rows_text card bda (n - (row + 1)) (row + 1)
 unfolding rows_text
 rows_left card bda n row l = let e : n - row ≡ suc (n - (row + 1)) = omega arith in ap (λ k. rows_text card bda k row) e
 
@@ -18,7 +19,8 @@ unfolding rows_text
 rows_none card bda n row l = let e : n - row ≡ 0 = omega arith in ap (λ k. rows_text card bda k row) e
 
 -- a line more is written
-pub written_line : (old mid new : Option (List ℕ)) (was failed : Bool) (all left line rest : List ℕ) → left ≡ line ++ rest → Written old mid was all left → Appends mid new line → failed ≡ false → Written old new failed all rest
+pub written_line : (old mid new : Option (List ℕ)) (was failed : Bool) (all left line rest : List ℕ) → left ≡ line ++ rest → Written old mid was all left →
+    Appends mid new line → failed ≡ false → Written old new failed all rest
 written_line old mid new was failed all left line rest e w a f = record {
   done = w.done ++ line;
   whole = w.whole ∙ ap (λ l. w.done ++ l) e ∙ sym (append_assoc w.done line rest);
@@ -27,7 +29,8 @@ written_line old mid new was failed all left line rest e w a f = record {
 }
 
 -- or a front of it, and so of all
-pub front_line : (old mid new : Option (List ℕ)) (was : Bool) (all left line rest : List ℕ) → left ≡ line ++ rest → Written old mid was all left → AppendsFront mid new line → AppendsFront old new all
+pub front_line : (old mid new : Option (List ℕ)) (was : Bool) (all left line rest : List ℕ) → left ≡ line ++ rest → Written old mid was all left →
+    AppendsFront mid new line → AppendsFront old new all
 front_line old mid new was all left line rest e w (front, back, parts, a) = (
   w.done ++ front,
   back ++ rest,

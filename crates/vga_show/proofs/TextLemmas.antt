@@ -9,7 +9,8 @@ use Rattle.vga_show.specs.Lines.{hex_bytes, hex_words, behind_blanks}
 pub behind_blanks_append : (words more : List (List ℕ)) → behind_blanks (words ++ more) ≡ behind_blanks words ++ behind_blanks more
 behind_blanks_append [] more = refl
 behind_blanks_append (word ∷ words) more =
-    ap (λ (l : List ℕ). 32 ∷ (word ++ l)) (behind_blanks_append words more) ∙ ap (λ (l : List ℕ). 32 ∷ l) (sym (append_assoc word (behind_blanks words) (behind_blanks more)))
+    ap (λ (l : List ℕ). 32 ∷ (word ++ l)) (behind_blanks_append words more) ∙ ap (λ (l : List ℕ). 32 ∷ l)
+    (sym (append_assoc word (behind_blanks words) (behind_blanks more)))
 
 -- one text behind another
 pub ruleset joins = (append_assoc, append-nil, behind_blanks_append)

@@ -7,17 +7,20 @@ use Rattle.vga_show.specs.Lines.{line, hex_words}
 -- the mode, its columns, the size of a page, and the start of the active one
 unfoldable pub mode_words : BiosData → List (List ℕ)
 mode_words bda =
-    codes "mode" ∷ hex_byte bda.mode ∷ codes "cols" ∷ hex_word bda.columns ∷ codes "size" ∷ hex_word bda.size
+    codes "mode" ∷ hex_byte bda.mode ∷ codes "cols" ∷ hex_word bda.columns ∷ codes "size"
+    ∷ hex_word bda.size
     ∷ codes "start" ∷ hex_word bda.start ∷ []
 
 -- the cursor's places on the eight pages
 abbrev pub place_words : BiosData → List (List ℕ)
 place_words bda = codes "at" ∷ hex_words (slice_index bda.cursor_places) 0 8
 
--- the type of the cursor, the active page, the port of the CRT controller, the last row, and the height of a character
+-- the type of the cursor, the active page, the port of the CRT controller, the last row, and the
+-- height of a character
 unfoldable pub other_words : BiosData → List (List ℕ)
 other_words bda =
-    codes "type" ∷ hex_word bda.cursor_type ∷ codes "page" ∷ hex_byte bda.page ∷ codes "crtc" ∷ hex_word bda.crtc_address
+    codes "type" ∷ hex_word bda.cursor_type ∷ codes "page" ∷ hex_byte bda.page ∷ codes "crtc"
+    ∷ hex_word bda.crtc_address
     ∷ codes "last" ∷ hex_byte bda.last_row ∷ codes "height" ∷ hex_word bda.height ∷ []
 
 -- the word bda, and each of the data behind its name

@@ -14,7 +14,8 @@ flag is_set = if is_set then 1 else 0
 -- where the beam is: frame, line, character and dot, in decimal
 unfoldable pub place_words : Beam → List (List ℕ)
 place_words beam =
-    codes "frame" ∷ decimal beam.frame ∷ codes "line" ∷ decimal beam.line ∷ codes "char" ∷ decimal beam.character
+    codes "frame" ∷ decimal beam.frame ∷ codes "line" ∷ decimal beam.line ∷ codes "char"
+    ∷ decimal beam.character
     ∷ codes "dot" ∷ decimal beam.dot ∷ []
 
 -- what the beam counts: the base in hexadecimal, the scan line, and the two flags
@@ -25,7 +26,8 @@ count_words beam =
 
 -- the word beam, where it is, what it counts, and a number of rows
 abbrev pub beam_line : Beam → ℕ → List ℕ
-beam_line beam count = line (codes "beam") (place_words beam ++ (count_words beam ++ codes "rows" ∷ decimal count ∷ []))
+beam_line beam count = line (codes "beam") (place_words beam
+    ++ (count_words beam ++ codes "rows" ∷ decimal count ∷ []))
 
 -- the beam, and how many rows are drawn of the frame under way
 abbrev pub beam_text : CardState → List ℕ

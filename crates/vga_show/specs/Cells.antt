@@ -1,5 +1,6 @@
 -- The cells of the active page as text.
-use Rattle.std.specs.Prelude.{ℕ, zero, suc, ◌+◌, ◌*◌, ◌≤◌, ◌==◌, if◌then◌else◌, List, [], ◌∷◌, ◌++◌, codes, Option, Some, None, Result, Ok, Err}
+use Rattle.std.specs.Prelude.{ℕ, zero, suc, ◌+◌, ◌*◌, ◌≤◌, ◌==◌, if◌then◌else◌, List, [], ◌∷◌, ◌++◌}
+use Rattle.std.specs.Prelude.{codes, Option, Some, None, Result, Ok, Err}
 use Rattle.vga_bits.specs.declared.refusal.Refusal.{Refusal}
 use Rattle.vga_bits.specs.declared.refusal.Refusal.TheVariants.{NoMode, WrongKind}
 use Rattle.vga_bits.specs.Hex.{hex_byte}
@@ -11,15 +12,19 @@ use Rattle.vga_show.specs.Lines.{line, hex_words}
 
 -- why there are no cells: no mode is set, or it is one of graphics
 abbrev pub cells_refusal : ℕ → Option Refusal
-cells_refusal mode = if mode == 0 then Some NoMode else if is_text mode then None else Some WrongKind
+cells_refusal mode = if mode == 0 then Some NoMode else if is_text mode then None
+    else Some WrongKind
 
--- cell k of the active page: its character as high byte, from plane 0, and its attribute as low one, from plane 1
+-- cell k of the active page: its character as high byte, from plane 0, and its attribute as low
+-- one, from plane 1
 abbrev pub cell_word : CardState → BiosData → ℕ → ℕ
-cell_word card bda k = 256 * byte_at card.host.memory 0 (bda.size * bda.page + 2 * k) + byte_at card.host.memory 1 (bda.size * bda.page + 2 * k)
+cell_word card bda k = 256 * byte_at card.host.memory 0 (bda.size * bda.page + 2 * k)
+    + byte_at card.host.memory 1 (bda.size * bda.page + 2 * k)
 
 -- the word row, the row's number and a colon, and the cells of its columns
 abbrev pub row_text : CardState → BiosData → ℕ → List ℕ
-row_text card bda row = line (codes "row") ((hex_byte row ++ codes ":") ∷ hex_words (cell_word card bda) (bda.columns * row) bda.columns)
+row_text card bda row = line (codes "row") ((hex_byte row ++ codes ":")
+    ∷ hex_words (cell_word card bda) (bda.columns * row) bda.columns)
 
 -- n rows from one on, a line for each
 unfoldable pub rows_text : CardState → BiosData → ℕ → ℕ → List ℕ

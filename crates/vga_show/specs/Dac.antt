@@ -7,4 +7,5 @@ use Rattle.vga_show.specs.Lines.{line}
 
 -- the word entry, the index and a colon, and red, green and blue
 abbrev pub entry_text : CardState → ℕ → List ℕ
-entry_text card index = line (codes "entry") ((hex_byte index ++ codes ":") ∷ map hex_byte (entry_of card.dac index))
+entry_text card index = line (codes "entry") ((hex_byte index ++ codes ":")
+    ∷ map hex_byte (entry_of card.dac index))

@@ -8,4 +8,5 @@ use Rattle.vga_show.specs.Lines.{line}
 abbrev pub latches_text : CardState → List ℕ
 latches_text card =
     let latches = card.host.latches in
-    line (codes "latches") (hex_byte latches.plane0 ∷ hex_byte latches.plane1 ∷ hex_byte latches.plane2 ∷ hex_byte latches.plane3 ∷ [])
+    line (codes "latches") (hex_byte latches.plane0 ∷ hex_byte latches.plane1
+    ∷ hex_byte latches.plane2 ∷ hex_byte latches.plane3 ∷ [])

@@ -8,4 +8,5 @@ use Rattle.vga_show.specs.Lines.{line, hex_bytes}
 -- the word plane, its number, the offset and a colon, and the bytes of the plane from there on
 abbrev pub plane_text : CardState → ℕ → ℕ → ℕ → List ℕ
 plane_text card plane offset count =
-    line (codes "plane") ((hex_digit plane ∷ []) ∷ (hex_word offset ++ codes ":") ∷ hex_bytes (byte_at card.host.memory plane) offset count)
+    line (codes "plane") ((hex_digit plane ∷ []) ∷ (hex_word offset ++ codes ":")
+    ∷ hex_bytes (byte_at card.host.memory plane) offset count)

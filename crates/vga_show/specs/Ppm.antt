@@ -3,7 +3,8 @@ use Rattle.std.specs.Prelude.{ℕ, List, ◌++◌, codes, decimal}
 
 -- what stands before the dots: P6, the width and the height, and 63, the greatest value
 unfoldable pub ppm_header : ℕ → ℕ → List ℕ
-ppm_header width height = codes "P6\n" ++ (decimal width ++ (codes " " ++ (decimal height ++ codes "\n63\n")))
+ppm_header width height = codes "P6\n" ++ (decimal width
+    ++ (codes " " ++ (decimal height ++ codes "\n63\n")))
 
 -- the picture: the header, and then the bytes, which are red, green and blue of each dot
 abbrev pub ppm : ℕ → ℕ → List ℕ → List ℕ

@@ -16,7 +16,8 @@ misc_line misc = line (codes "misc") (hex_byte misc ∷ [])
 
 -- a group of n registers: its name, its index and a colon, and what each register holds
 abbrev pub group_line : List ℕ → ℕ → ℕ → List ℕ → List ℕ
-group_line name index n registers = line name ((hex_byte index ++ codes ":") ∷ hex_bytes (slice_index registers) 0 n)
+group_line name index n registers = line name ((hex_byte index ++ codes ":")
+    ∷ hex_bytes (slice_index registers) 0 n)
 
 -- the five registers of the sequencer
 unfoldable pub seq_line : HostState → List ℕ
@@ -34,10 +35,12 @@ gfx_line host = group_line (codes "gfx") host.gfx_index 9 host.gfx
 abbrev pub write_letter : Bool → List ℕ
 write_letter is_data = if is_data then codes "d" else codes "i"
 
--- the word attr, the index, the kind of the next write and a colon, and the 21 registers of the attribute controller
+-- the word attr, the index, the kind of the next write and a colon, and the 21 registers of the
+-- attribute controller
 unfoldable pub attr_line : AttrState → List ℕ
 attr_line attr =
-    line (codes "attr") (hex_byte attr.index ∷ (write_letter attr.is_data ++ codes ":") ∷ hex_bytes (slice_index attr.registers) 0 21)
+    line (codes "attr") (hex_byte attr.index ∷ (write_letter attr.is_data ++ codes ":")
+    ∷ hex_bytes (slice_index attr.registers) 0 21)
 
 -- the first letter of a component
 abbrev pub component_letter : Component → List ℕ
@@ -45,14 +48,17 @@ component_letter Red = codes "r"
 component_letter Green = codes "g"
 component_letter Blue = codes "b"
 
--- the word dac, the index, the component that is next, the mask, and the red and the green that wait
+-- the word dac, the index, the component that is next, the mask, and the red and the green that
+-- wait
 unfoldable pub dac_line : DacState → List ℕ
 dac_line dac =
     line (codes "dac")
-    (hex_byte dac.index ∷ component_letter dac.component ∷ hex_byte dac.mask ∷ hex_byte dac.waiting_red ∷ hex_byte dac.waiting_green ∷ [])
+    (hex_byte dac.index ∷ component_letter dac.component ∷ hex_byte dac.mask
+    ∷ hex_byte dac.waiting_red ∷ hex_byte dac.waiting_green ∷ [])
 
--- six lines: the miscellaneous output register, the sequencer, the CRT controller, the graphics controller, the
--- attribute controller, and the DAC
+-- six lines: the miscellaneous output register, the sequencer, the CRT controller, the graphics
+-- controller, the attribute controller, and the DAC
 abbrev pub regs_text : CardState → List ℕ
 regs_text card =
-    misc_line card.misc ++ (seq_line card.host ++ (crtc_line card.crtc ++ (gfx_line card.host ++ (attr_line card.attr ++ dac_line card.dac))))
+    misc_line card.misc ++ (seq_line card.host ++ (crtc_line card.crtc
+    ++ (gfx_line card.host ++ (attr_line card.attr ++ dac_line card.dac))))

@@ -9,7 +9,8 @@ use bios_modes::Bda;
 use std::io::Write;
 use vga_bits::{Fault, Tracked, write_whole};
 
-/// Puts the mode, its columns, the size of a page and the start of the active one at the end of a text.
+/// Puts the mode, its columns, the size of a page and the start of the active one at the end of a
+/// text.
 #[tactic(auto, using(crate::proofs::TextLemmas::joins), unfolding(crate::specs::Bda::mode_words))]
 fn push_mode(text: &mut DumpText, bda: &Bda)
     requires { length text.old + 39 ≤ room }
@@ -63,9 +64,9 @@ fn bda_text(bda: &Bda) -> DumpText
     text
 }
 
-/// Writes the video BIOS's data in hexadecimal: `bda mode 03 cols 0050 size 1000 start 0000 at`, the places
-/// of the cursor on the eight pages, `type 0D0E page 00 crtc 03D4 last 18 height 0010` and a newline. The
-/// writer must not have failed before.
+/// Writes the video BIOS's data in hexadecimal: `bda mode 03 cols 0050 size 1000 start 0000 at`,
+/// the places of the cursor on the eight pages, `type 0D0E page 00 crtc 03D4 last 18 height 0010`
+/// and a newline. The writer must not have failed before.
 ///
 /// It fails, with `WriteFault`, only where the writer does, which then has a front of the text.
 pub fn dump_bda<W: Write>(out: &mut Tracked<W>, bda: &Bda) -> Result<(), Fault>

@@ -2,7 +2,8 @@
 ghost use Rattle.std.specs.Prelude.{◌≡◌, ◌+◌, ◌≤◌, ◌++◌, length, false};
 ghost use Rattle.vga_bits.specs.Tracked.{inner_of, has_failed, Writes};
 ghost use Rattle.vga_show.specs.Lines.{room, behind_blanks};
-ghost use Rattle.vga_show.specs.Beam.{place_words, count_words, beam_line as beam_line_of, beam_text};
+ghost use Rattle.vga_show.specs.Beam.{place_words, count_words, beam_line as beam_line_of};
+ghost use Rattle.vga_show.specs.Beam.{beam_text};
 
 use super::text::{DumpText, push_decimal_field, push_word_field};
 use std::io::Write;
@@ -51,8 +52,8 @@ pub(crate) fn beam_line(beam: &Beam, count: u16) -> DumpText
 }
 
 /// Writes the beam, and how many rows are drawn of the frame under way:
-/// `beam frame 0 line 0 char 0 dot 0 base 0000 scan 0 half 0 split 0 rows 0` and a newline, in decimal but
-/// for the base. The writer must not have failed before.
+/// `beam frame 0 line 0 char 0 dot 0 base 0000 scan 0 half 0 split 0 rows 0` and a newline, in
+/// decimal but for the base. The writer must not have failed before.
 ///
 /// It fails, with `WriteFault`, only where the writer does, which then has a front of the text.
 pub fn dump_beam<W: Write>(out: &mut Tracked<W>, card: &Card) -> Result<(), Fault>

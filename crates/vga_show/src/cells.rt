@@ -1,9 +1,12 @@
 //! The cells of the active page as text.
-ghost use Rattle.std.specs.Prelude.{◌≡◌, ◌+◌, ◌*◌, ◌<◌, ◌≤◌, ◌++◌, length, false, IfOk, IfSome, Ok, Err};
+ghost use Rattle.std.specs.Prelude.{◌≡◌, ◌+◌, ◌*◌, ◌<◌, ◌≤◌, ◌++◌, length, false, IfOk, IfSome, Ok};
+ghost use Rattle.std.specs.Prelude.{Err};
 ghost use Rattle.vga_bits.specs.Tracked.{inner_of, has_failed, Writes};
 ghost use Rattle.bios_modes.specs.Valid.{IsValid};
 ghost use Rattle.vga_show.specs.Lines.{room, hex_words, behind_blanks};
-ghost use Rattle.vga_show.specs.Cells.{cells_refusal as cells_refusal_of, cell_word, row_text as row_text_of, rows_text, cells_text, cells_answer, HasCells};
+ghost use Rattle.vga_show.specs.Cells.{cells_refusal as cells_refusal_of, cell_word};
+ghost use Rattle.vga_show.specs.Cells.{row_text as row_text_of, rows_text, cells_text};
+ghost use Rattle.vga_show.specs.Cells.{cells_answer, HasCells};
 
 use super::text::{DumpText, push_word};
 use bios_modes::{Bda, is_text};
@@ -40,7 +43,8 @@ fn push_cells(text: &mut DumpText, card: &Card, bda: &Bda, row: u8)
     requires data { HasCells bda.now }
     requires row { row ≤ bda.now.last_row }
     requires room { length text.old + 5 * bda.now.columns ≤ room }
-    ensures items { text.new ≡ text.old ++ behind_blanks (hex_words (cell_word card.now bda.now) (bda.now.columns * row) bda.now.columns) }
+    ensures items { text.new ≡ text.old ++ behind_blanks
+        (hex_words (cell_word card.now bda.now) (bda.now.columns * row) bda.now.columns) }
     ensures len { length text.new ≡ length text.old + 5 * bda.now.columns }
 {
     let first = bda.columns() as u32 * row as u32;
@@ -79,10 +83,10 @@ fn write_rows<W: Write>(out: &mut Tracked<W>, card: &Card, bda: &Bda) -> Result<
     Ok(())
 }
 
-/// Writes the cells of the active page in hexadecimal, a line for each row: `row 00:` and for each column a
-/// blank, character and attribute. It is refused, with `NoMode` before a mode is set and with `WrongKind` in
-/// graphics, before a byte is written. The BIOS data must be valid, and the writer must not have failed
-/// before.
+/// Writes the cells of the active page in hexadecimal, a line for each row: `row 00:` and for each
+/// column a blank, character and attribute. It is refused, with `NoMode` before a mode is set and
+/// with `WrongKind` in graphics, before a byte is written. The BIOS data must be valid, and the
+/// writer must not have failed before.
 ///
 /// It fails, with `WriteFault`, only where the writer does, which then has a front of the text.
 pub fn dump_cells<W: Write>(
@@ -97,7 +101,8 @@ pub fn dump_cells<W: Write>(
         (has_failed out.new) result (cells_text (cells_refusal_of bda.now.mode) card.now bda.now) }
     ensures answer { IfOk result (λ answer. answer ≡ cells_answer (cells_refusal_of bda.now.mode)) }
     // A dump that is refused leaves the writer.
-    ensures refused { IfSome (cells_refusal_of bda.now.mode) (λ why. (result ≡ Ok (Err why)) × (out.new ≡ out.old)) }
+    ensures refused { IfSome (cells_refusal_of bda.now.mode) (λ why. (result ≡ Ok (Err why))
+        × (out.new ≡ out.old)) }
 {
     if let Some(why) = cells_refusal(bda.mode()) {
         return Ok(Err(why));

@@ -24,8 +24,8 @@ fn latches_text(card: &Card) -> DumpText
     text
 }
 
-/// Writes the four latches, from plane 0, in hexadecimal: `latches 00 00 00 00` and a newline. The writer
-/// must not have failed before.
+/// Writes the four latches, from plane 0, in hexadecimal: `latches 00 00 00 00` and a newline. The
+/// writer must not have failed before.
 ///
 /// It fails, with `WriteFault`, only where the writer does, which then has a front of the text.
 pub fn dump_latches<W: Write>(out: &mut Tracked<W>, card: &Card) -> Result<(), Fault>

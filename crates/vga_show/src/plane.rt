@@ -17,7 +17,8 @@ fn push_bytes(text: &mut DumpText, planes: &Planes, plane: usize, offset: u16, c
     requires plane { plane < 4 }
     requires end { offset + count ≤ 65536 }
     requires room { length text.old + 3 * count ≤ room }
-    ensures items { text.new ≡ text.old ++ behind_blanks (hex_bytes (byte_at planes.now plane) offset count) }
+    ensures items { text.new ≡ text.old ++ behind_blanks
+        (hex_bytes (byte_at planes.now plane) offset count) }
     ensures len { length text.new ≡ length text.old + 3 * count }
 {
     for i in 0..count {
@@ -42,9 +43,9 @@ fn plane_text(card: &Card, plane: u8, offset: u16, count: u16) -> DumpText
     text
 }
 
-/// Writes bytes of a plane in hexadecimal, from an offset on: `plane 2 B8A0: 00 41` and a newline. The
-/// plane is 0 to 3, the bytes are 1 to 256 and end with the plane. The writer must not have failed
-/// before.
+/// Writes bytes of a plane in hexadecimal, from an offset on: `plane 2 B8A0: 00 41` and a newline.
+/// The plane is 0 to 3, the bytes are 1 to 256 and end with the plane. The writer must not have
+/// failed before.
 ///
 /// It fails, with `WriteFault`, only where the writer does, which then has a front of the text.
 pub fn dump_plane<W: Write>(

@@ -23,8 +23,8 @@ fn header(width: u32, height: u32) -> DumpText
     text
 }
 
-/// Writes a picture of so many dots as a Netpbm PPM, where `bytes` are the red, green and blue, 0 to 63,
-/// of each dot, row by row. The writer must not have failed before.
+/// Writes a picture of so many dots as a Netpbm PPM, where `bytes` are the red, green and blue, 0
+/// to 63, of each dot, row by row. The writer must not have failed before.
 ///
 /// It fails, with `WriteFault`, only where the writer does, which then has a front of the PPM.
 #[tactic(auto, using(vga_bits::proofs::WritingLemmas::writes_after, vga_bits::proofs::WritingLemmas::front_of_more))]
@@ -46,7 +46,8 @@ pub fn write_ppm<W: Write>(
 pub fn ppm_length(width: u32, height: u32) -> u32
     requires width { width ≤ widest }
     requires height { height ≤ highest }
-    ensures { (bytes : List ℕ) → length bytes ≡ 3 * (width * height) → result ≡ length (ppm width height bytes) }
+    ensures { (bytes : List ℕ) → length bytes ≡ 3 * (width * height) →
+        result ≡ length (ppm width height bytes) }
 {
     header(width, height).len() as u32 + 3 * width * height
 }

@@ -2,7 +2,9 @@
 ghost use Rattle.std.specs.Prelude.{◌≡◌, ◌+◌, ◌≤◌, [], ◌∷◌, ◌++◌, length, false};
 ghost use Rattle.vga_bits.specs.Tracked.{inner_of, has_failed, Writes};
 ghost use Rattle.vga_show.specs.Lines.{room};
-ghost use Rattle.vga_show.specs.Regs.{misc_line, seq_line, crtc_line, gfx_line, attr_line, component_letter as component_letter_of, dac_line, regs_text as regs_text_of};
+ghost use Rattle.vga_show.specs.Regs.{misc_line, seq_line, crtc_line, gfx_line, attr_line};
+ghost use Rattle.vga_show.specs.Regs.{component_letter as component_letter_of, dac_line};
+ghost use Rattle.vga_show.specs.Regs.{regs_text as regs_text_of};
 
 use super::text::{DumpText, push_byte};
 use std::io::Write;
@@ -139,12 +141,13 @@ fn regs_text(card: &Card) -> DumpText
     text
 }
 
-/// Writes all registers in hexadecimal, in six lines that begin with `misc`, `seq`, `crtc`, `gfx`, `attr`
-/// and `dac`. Behind the name stand the index of the group and, but for the DAC, a colon and the registers
-/// from 0. Before its colon the attribute controller has the kind of the next write, `i` for an index or
-/// `d` for data. The DAC has the component that is next, `r`, `g` or `b`, the mask, and the red and green
-/// that wait. No register is read through a port, so that none changes, and no flip-flop. The writer must
-/// not have failed before.
+/// Writes all registers in hexadecimal, in six lines that begin with `misc`, `seq`, `crtc`, `gfx`,
+/// `attr` and `dac`. Behind the name stand the index of the group and, but for the DAC, a colon and
+/// the registers from 0. Before its colon the attribute controller has the kind of the next write,
+/// `i` for an index or
+/// `d` for data. The DAC has the component that is next, `r`, `g` or `b`, the mask, and the red and
+/// green that wait. No register is read through a port, so that none changes, and no flip-flop. The
+/// writer must not have failed before.
 ///
 /// It fails, with `WriteFault`, only where the writer does, which then has a front of the text.
 pub fn dump_regs<W: Write>(out: &mut Tracked<W>, card: &Card) -> Result<(), Fault>

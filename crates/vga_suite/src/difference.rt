@@ -38,7 +38,8 @@ fn difference_at(
     }))
 }
 
-/// The first and the last step of a line such as `1-13 ok`, which stands for the lines `1 ok` to `13 ok`.
+/// The first and the last step of a line such as `1-13 ok`, which stands for the lines `1 ok` to
+/// `13 ok`.
 fn done_steps(line: &str) -> Option<(u64, u64)> {
     let (first, last) = line.strip_suffix(" ok")?.split_once('-')?;
     let first = first.parse().ok()?;

@@ -1,7 +1,7 @@
 //! Runs the cases that a list names, and compares the report of each with the one that is expected.
 //!
-//! A case is a script beside its expected report, two files of a name. `docs/SUITE.md` tells how they are
-//! read and written.
+//! A case is a script beside its expected report, two files of a name. `docs/SUITE.md` tells how
+//! they are read and written.
 #![tactic(auto)]
 
 mod difference;
@@ -85,8 +85,8 @@ fn difference_of<R: Files + AllocGlobal>(
     Ok(first_difference(alloc, shown.as_str(), expected.as_str())?)
 }
 
-/// Checks a case, prints whether its report is the expected one, and tells whether the case passes: a
-/// wrong one does where its report differs.
+/// Checks a case, prints whether its report is the expected one, and tells whether the case passes:
+/// a wrong one does where its report differs.
 fn check_case<R: Files + Print + AllocGlobal>(
     rt: &R,
     case: &Case,
@@ -110,8 +110,8 @@ fn answers_of(alloc: Global, text: &str, setting: &Setting) -> Result<Option<Str
     Ok(Some(answers(alloc, shown.as_str())?))
 }
 
-/// Where a text answers otherwise if its advances are taken by single dots; None where there is nothing
-/// to compare, since it has no advance for that or is no script.
+/// Where a text answers otherwise if its advances are taken by single dots; None where there is
+/// nothing to compare, since it has no advance for that or is no script.
 fn difference_by_single_dots(
     alloc: Global,
     text: &str,

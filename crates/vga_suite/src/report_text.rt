@@ -5,7 +5,8 @@ use super::picture::Picture;
 use std::alloc::{AllocError, Global};
 use std::str::from_utf8;
 
-/// The picture at the front of what stands behind a line, if the line announces one, and what follows it.
+/// The picture at the front of what stands behind a line, if the line announces one, and what
+/// follows it.
 fn picture_behind<'a>(line: &[u8], others: &'a [u8]) -> Option<(Picture<'a>, &'a [u8])> {
     let (_, len) = from_utf8(line).ok()?.split_once(" picture ")?;
     let (ppm, others) = others.split_at_checked(len.parse().ok()?)?;
@@ -19,8 +20,8 @@ fn push_line(alloc: Global, text: &mut String, line: &[u8]) -> Result<(), AllocE
     text.push_str("\n")
 }
 
-/// Puts a picture at the text's end, behind the line that announces it: in rows where the expected text
-/// has that line without a digest, and else by its digest.
+/// Puts a picture at the text's end, behind the line that announces it: in rows where the expected
+/// text has that line without a digest, and else by its digest.
 fn push_picture(
     alloc: Global,
     text: &mut String,

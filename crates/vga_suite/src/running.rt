@@ -35,7 +35,8 @@ pub fn run_text(
     until: Option<u32>,
 ) -> Result<Vec<u8>, Fault>
     ensures { IfOk result (λ report. (script : Listing) × SpellsText text.now script
-        × (report.items ≡ report_of (fonts_of fonts.now) (steps_until until (expanded script.items)))) }
+        × (report.items ≡ report_of (fonts_of fonts.now)
+        (steps_until until (expanded script.items)))) }
 {
     let script = assemble(alloc, text)?;
     let mut report = Tracked::new(Vec::new(alloc));

@@ -24,8 +24,8 @@ fn push_single_dots(text: &mut String, dots: u32) -> Result<(), AllocError> {
     Ok(())
 }
 
-/// The text with so many advances by one dot in the place of each advance by at most 1,800 dots, if it
-/// has one.
+/// The text with so many advances by one dot in the place of each advance by at most 1,800 dots, if
+/// it has one.
 pub fn by_single_dots(alloc: Global, text: &str) -> Result<Option<String>, AllocError> {
     if !text.lines().any(|line| dots_of(line).is_some()) {
         return Ok(None);
@@ -48,8 +48,8 @@ fn answer_of(line: &str) -> &str {
     }
 }
 
-/// What a report answers, without the numbers of its steps, and without those that are done and have
-/// nothing to tell.
+/// What a report answers, without the numbers of its steps, and without those that are done and
+/// have nothing to tell.
 pub fn answers(alloc: Global, report: &str) -> Result<String, AllocError> {
     let mut text = String::new(alloc);
     for line in report.lines() {

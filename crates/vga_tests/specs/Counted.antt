@@ -16,6 +16,12 @@ with_cycle counted card = record { card = card; cycles = (counted.cycles + 1) % 
 -- a cycle is the adapter's
 abbrev pub counted_meaning : Meaning Counted
 counted_meaning = record {
-  write = λ counted place v. (with_cycle counted (card_write counted.card place v).0, (card_write counted.card place v).1);
-  read = λ counted place. (with_cycle counted (card_read counted.card place).0, (card_read counted.card place).1);
+  write = λ counted place v. (
+    with_cycle counted (card_write counted.card place v).0,
+    (card_write counted.card place v).1,
+  );
+  read = λ counted place. (
+    with_cycle counted (card_read counted.card place).0,
+    (card_read counted.card place).1,
+  );
 }

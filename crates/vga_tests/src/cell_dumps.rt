@@ -61,7 +61,8 @@ fn takes(alloc: Global, card: &Card, taken: &[u8], full: Full, answer: Result<()
         && out.into_inner().taken() == taken
 }
 
-/// Whether each writer that has too little room for the cells, and then refuses so, fails and has a front of the text.
+/// Whether each writer that has too little room for the cells, and then refuses so, fails and has a
+/// front of the text.
 fn are_fronts_taken(alloc: Global, card: &Card, text: &[u8], full: Full) -> bool {
     let fault = Err(Fault::WriteFault);
     for room in 0..text.len() {

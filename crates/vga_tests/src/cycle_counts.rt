@@ -13,7 +13,8 @@ use vga_card::Card;
 /// A call: AX, BX, CX and DX, the length of its block, and how many cycles it has.
 type CountedCall = ([u16; 4], usize, u32);
 
-/// The cycles of a mode set's registers and palette; of its font; and of the memory that it clears, in text and in graphics.
+/// The cycles of a mode set's registers and palette; of its font; and of the memory that it clears,
+/// in text and in graphics.
 const REGISTERS: u32 = 896;
 
 const FONT: u32 = 4_112;
@@ -99,7 +100,8 @@ const COLOUR_CALLS: [CountedCall; 18] = [
     ([0x1004, 0, 0, 0], 0, 0),
 ];
 
-/// 16 colours: mode 0D, with characters of 8 lines, and pages of modes 10 and 12 that go up by a row.
+/// 16 colours: mode 0D, with characters of 8 lines, and pages of modes 10 and 12 that go up by a
+/// row.
 const PLANAR_CALLS: [CountedCall; 22] = [
     ([0x000D, 0, 0, 0], 0, REGISTERS + GRAPHICS_MEMORY),
     ([0x008D, 0, 0, 0], 0, REGISTERS),

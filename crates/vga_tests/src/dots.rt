@@ -1,5 +1,5 @@
-//! Pictures, the beam and input status 1 against the plain model, on pseudo-random registers, colours and
-//! memory, and with registers that change within a frame.
+//! Pictures, the beam and input status 1 against the plain model, on pseudo-random registers,
+//! colours and memory, and with registers that change within a frame.
 ghost use Rattle.std.specs.Prelude.{◌≡◌, ◌<◌, ◌≤◌};
 
 use crate::plain_dots::PlainDots;
@@ -195,7 +195,8 @@ impl Pair {
         Ok(())
     }
 
-    /// Writes a byte that is fetched near the beam, and gives the registers that this took their values again.
+    /// Writes a byte that is fetched near the beam, and gives the registers that this took their
+    /// values again.
     fn change_memory(&mut self, random: &mut Pcg32) -> Result<(), Refusal> {
         let seq = self.plain.seq;
         let gfx = self.plain.gfx;
@@ -231,7 +232,8 @@ impl Pair {
         self.set_crtc(0x0F, (place & 0xFF) as u8)
     }
 
-    /// Makes the frame one of 256 lines and more, by these bits of the overflow register, in narrow lines.
+    /// Makes the frame one of 256 lines and more, by these bits of the overflow register, in narrow
+    /// lines.
     fn make_tall(&mut self, overflow: u8) -> Result<(), Refusal> {
         self.set_crtc(0x11, 0x00)?;
         self.set_crtc(0x00, 0x00)?;

@@ -68,7 +68,8 @@ fn takes(
         && out.into_inner().taken() == taken
 }
 
-/// Whether each writer that has too little room for a dump, and then refuses so, fails and has a front of its text.
+/// Whether each writer that has too little room for a dump, and then refuses so, fails and has a
+/// front of its text.
 fn are_fronts_taken(alloc: Global, dump: Dump, card: &Card, text: &[u8], full: Full) -> bool {
     let fault = Err(Fault::WriteFault);
     for room in 0..text.len() {

@@ -1,10 +1,11 @@
-//! Compares the adapter with plain, slow models of the register table, on pseudo-random registers, memory
-//! and colours; checks scripts, dumps, pictures and runs where no script of the suite can, as with writers that
-//! fail; and prints how each comparison and each group of checks ended. The exit status is 1 where any model
-//! differs or any check fails.
+//! Compares the adapter with plain, slow models of the register table, on pseudo-random registers,
+//! memory and colours; checks scripts, dumps, pictures and runs where no script of the suite can,
+//! as with writers that fail; and prints how each comparison and each group of checks ended. The
+//! exit status is 1 where any model differs or any check fails.
 //!
-//! With the words `memory N` it does nothing of this: it makes N growths, and then prints how each call ends that takes
-//! memory. So whoever refuses a growth by its number chooses the call that meets it.
+//! With the words `memory N` it does nothing of this: it makes N growths, and then prints how each
+//! call ends that takes memory. So whoever refuses a growth by its number chooses the call that
+//! meets it.
 #![tactic(auto)]
 
 mod cell_dumps;
@@ -121,7 +122,8 @@ fn tell_endings<R: Print + AllocGlobal>(rt: &R, growths: u32) -> Result<()> {
     Ok(())
 }
 
-/// How many growths the words ask for before the calls that take memory, where they ask for these calls.
+/// How many growths the words ask for before the calls that take memory, where they ask for these
+/// calls.
 fn growths_wanted<R: Env + AllocGlobal>(rt: &R) -> Result<Option<u32>> {
     let words: Vec<String> = env::args(rt)?.collect(rt.alloc())?;
     match words.as_slice() {

@@ -1,5 +1,5 @@
-//! Each call that takes memory, on an example of its own. Where a growth is refused, the call that asked for it says
-//! so, and each other answers as in its example.
+//! Each call that takes memory, on an example of its own. Where a growth is refused, the call that
+//! asked for it says so, and each other answers as in its example.
 
 use crate::checks::Checks;
 use crate::screens::{FONTS_LEN, is_scrolled, screen_behind_calls};
@@ -77,7 +77,8 @@ pub enum Ending {
     AsInExample,
     /// It answered want of memory, and nothing is written.
     OutOfMemory,
-    /// It answered want of memory in a step that takes some, and the answers of the steps before it are written, whole.
+    /// It answered want of memory in a step that takes some, and the answers of the steps before it
+    /// are written, whole.
     OutOfMemoryInStep,
     /// It answered something else.
     Otherwise,

@@ -34,7 +34,8 @@ fn takes(alloc: Global, taken: &[u8], full: Full, answer: Result<(), Fault>) -> 
         && out.into_inner().taken() == taken
 }
 
-/// Whether each writer that has too little room for a picture, and then refuses so, fails and has a front of it.
+/// Whether each writer that has too little room for a picture, and then refuses so, fails and has a
+/// front of it.
 fn are_fronts_taken(alloc: Global, full: Full) -> bool {
     let fault = Err(Fault::WriteFault);
     for room in 0..TWO_DOTS_PPM.len() {

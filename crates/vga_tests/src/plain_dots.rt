@@ -1,6 +1,6 @@
-//! The raster once more, as a slow program in small steps: how the beam moves, and which colour the dot at
-//! the beam has. It was written from the register table, and nothing is shared with the crates that are
-//! tested but the memory's own type and the beam's.
+//! The raster once more, as a slow program in small steps: how the beam moves, and which colour the
+//! dot at the beam has. It was written from the register table, and nothing is shared with the
+//! crates that are tested but the memory's own type and the beam's.
 ghost use Rattle.std.specs.Prelude.{◌≡◌, ◌<◌, ◌≤◌, ℕ};
 
 use crate::plain_host::{bit, byte};
@@ -9,7 +9,8 @@ use vga_bits::Fault;
 use vga_crtc::Beam;
 use vga_planes::{Latch, Planes};
 
-/// Registers, colours, memory and beam of a display adapter, and what is drawn of the frame under way.
+/// Registers, colours, memory and beam of a display adapter, and what is drawn of the frame under
+/// way.
 #[derive(Drop)]
 pub struct PlainDots {
     pub planes: Planes,
@@ -84,7 +85,8 @@ impl PlainDots {
         self.planes.store(offset, Latch::new([v; 4]), 1 << plane);
     }
 
-    /// Data for a register of the CRT controller, which may protect its first eight but for one bit.
+    /// Data for a register of the CRT controller, which may protect its first eight but for one
+    /// bit.
     pub fn set_crtc(&mut self, i: usize, v: u8)
         requires { i < 25 }
     {
@@ -183,7 +185,8 @@ impl PlainDots {
         Ok(())
     }
 
-    /// Goes to the next scan line of the rows of characters, or to the memory's start after line compare.
+    /// Goes to the next scan line of the rows of characters, or to the memory's start after line
+    /// compare.
     fn next_scan(&mut self) {
         let last_scan = self.crtc[9] & 0x1F;
         let is_compared = self.beam.line == self.line_compare();
@@ -322,7 +325,8 @@ impl PlainDots {
         }
     }
 
-    /// The counter of the character that the dot at the beam comes from, and which dot of it that is.
+    /// The counter of the character that the dot at the beam comes from, and which dot of it that
+    /// is.
     fn source(&self) -> (u16, u32) {
         let width = self.character_width() as u32;
         let dot = self.beam.dot as u32 + self.shift() as u32;

@@ -1,5 +1,5 @@
-//! The host path once more, as a slow program over single bits: no byte is put together but from its
-//! eight bits, and nothing is shared with the crate that is tested but the memory's own type.
+//! The host path once more, as a slow program over single bits: no byte is put together but from
+//! its eight bits, and nothing is shared with the crate that is tested but the memory's own type.
 ghost use Rattle.std.specs.Prelude.{◌≡◌, ◌<◌, ◌≤◌, ℕ};
 
 use std::alloc::Global;

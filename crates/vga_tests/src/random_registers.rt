@@ -80,7 +80,8 @@ pub fn graphics_value(random: &mut Pcg32, i: u8, dots: DotSource) -> u8 {
     }
 }
 
-/// The bits of the overflow register: those of the vertical total are rarest, since they make large frames.
+/// The bits of the overflow register: those of the vertical total are rarest, since they make large
+/// frames.
 fn overflow_value(random: &mut Pcg32) -> u8 {
     byte_with_rare(random, 0x21, 100) & (next_byte(random) | 0x31)
 }
@@ -101,7 +102,8 @@ pub fn next_crtc_register(random: &mut Pcg32) -> u8
     }
 }
 
-/// A value of a register of the CRT controller: few characters and lines, and frames that mostly fit them.
+/// A value of a register of the CRT controller: few characters and lines, and frames that mostly
+/// fit them.
 pub fn crtc_value(random: &mut Pcg32, i: u8) -> u8 {
     match i {
         0x00 => byte_with_rare(random, 0xF8, 200),
@@ -135,11 +137,12 @@ pub fn attribute_value(random: &mut Pcg32, i: u8) -> u8 {
     }
 }
 
-/// The first and the last of the characters whose ninth dot may repeat the eighth, and their neighbours.
+/// The first and the last of the characters whose ninth dot may repeat the eighth, and their
+/// neighbours.
 const NINE_DOT_ENDS: [u8; 4] = [0xBF, 0xC0, 0xDF, 0xE0];
 
-/// A byte of a plane. Of plane 0, where text has its characters, some are at the ends of those with a ninth
-/// dot; of plane 1, where it has its attributes, some are for underlined characters.
+/// A byte of a plane. Of plane 0, where text has its characters, some are at the ends of those with
+/// a ninth dot; of plane 1, where it has its attributes, some are for underlined characters.
 pub fn memory_byte(random: &mut Pcg32, plane: u8) -> u8 {
     let v = next_byte(random);
     match plane {

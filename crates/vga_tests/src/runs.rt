@@ -1,5 +1,5 @@
-//! Runs of scripts at hand, and of readers and writers that fail, that have no end, or that take one byte a
-//! call.
+//! Runs of scripts at hand, and of readers and writers that fail, that have no end, or that take
+//! one byte a call.
 
 use crate::checks::Checks;
 use crate::sink::{FULL, Full, Sink};
@@ -34,7 +34,8 @@ const FIRST_TEXT: &[u8] =
     b"out 3C2 2\nout 3C4 4\nout 3C5 6\nout 3C4 2\nout 3C5 1\nout 3CE 8\nout 3CF FF\n\
     put A0000 55\nget A0000";
 
-/// How readers fail: after calls of so many bytes, with an error that others may try to read behind, or not.
+/// How readers fail: after calls of so many bytes, with an error that others may try to read
+/// behind, or not.
 const READERS: [(usize, ErrorKind); 4] = [
     (1, ErrorKind::Other),
     (1, ErrorKind::Interrupted),
@@ -68,7 +69,8 @@ fn is_script_run(
     Ok(answered == answer && out.into_inner().as_slice() == report)
 }
 
-/// Checks scripts at hand: their reports, and that the size of the fonts is judged before the bytes.
+/// Checks scripts at hand: their reports, and that the size of the fonts is judged before the
+/// bytes.
 fn check_at_hand(alloc: Global, fonts: &[u8], checks: &mut Checks) -> Result<()> {
     let font_size = Err(Fault::FontSize);
     let bad_magic = Err(Fault::BadMagic);
@@ -124,7 +126,8 @@ fn is_writer_left(
         && out.into_inner().calls() == 0
 }
 
-/// Whether each reader that fails so before or behind a byte of a script, so many a call, leaves the writer.
+/// Whether each reader that fails so before or behind a byte of a script, so many a call, leaves
+/// the writer.
 fn are_writers_left(alloc: Global, fonts: &[u8], piece: usize, kind: ErrorKind) -> bool {
     for len in 0..FIRST_PATH.len() + 1 {
         if !is_writer_left(alloc, fonts, &FIRST_PATH[..len], piece, kind) {
@@ -144,8 +147,8 @@ fn is_endless_too_long(alloc: Global, fonts: &[u8]) -> bool {
         && out.into_inner().calls() == 0
 }
 
-/// Whether a run into a writer with room for so many bytes, a byte a call, that then refuses so, answers so; and
-/// whether the writer then has taken these, and was flushed so often.
+/// Whether a run into a writer with room for so many bytes, a byte a call, that then refuses so,
+/// answers so; and whether the writer then has taken these, and was flushed so often.
 fn takes(
     alloc: Global,
     fonts: &[u8],
@@ -185,7 +188,8 @@ fn check_readers(alloc: Global, fonts: &[u8], checks: &mut Checks) -> Result<()>
     Ok(())
 }
 
-/// Whether each writer that has too little room for the report, and then refuses so, fails and has a front of it.
+/// Whether each writer that has too little room for the report, and then refuses so, fails and has
+/// a front of it.
 fn are_fronts_taken(alloc: Global, fonts: &[u8], full: Full) -> bool {
     let fault = Err(Fault::WriteFault);
     for room in 0..FIRST_REPORT.len() {

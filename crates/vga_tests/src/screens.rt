@@ -56,7 +56,8 @@ const CELL_CALLS: [Regs; 4] = [
     },
 ];
 
-/// Mode 3 with characters of eight scan lines, the cursor in the last cell of page 3, and an A there in yellow on blue.
+/// Mode 3 with characters of eight scan lines, the cursor in the last cell of page 3, and an A
+/// there in yellow on blue.
 const SMALL_CELL_CALLS: [Regs; 4] = [
     Regs {
         ax: 0x0003,

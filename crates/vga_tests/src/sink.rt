@@ -19,7 +19,8 @@ pub enum Full {
 /// Each way of refusing.
 pub const FULL: [Full; 2] = [Full::TakesNone, Full::Fails];
 
-/// A writer that takes one byte a call, so many in all, and then refuses each other. It flushes until it is full.
+/// A writer that takes one byte a call, so many in all, and then refuses each other. It flushes
+/// until it is full.
 #[derive(Drop)]
 pub struct Sink {
     room: usize,

@@ -34,10 +34,14 @@ impl Bda {
         self.start = start;
     }
 
-    /// Sets the place of the cursor on a page, 0 to 7: the row as the high byte, the column as the low one.
+    /// Sets the place of the cursor on a page, 0 to 7: the row as the high byte, the column as the
+    /// low one.
     pub fn set_cursor_place(&mut self, page: usize, place: u16)
         requires { page < 8 }
-        ensures { self.new ≡ record self.old { cursor_places = slice_set self.old.cursor_places page place } }
+        ensures { self.new ≡ record self.old {
+          cursor_places =
+              slice_set self.old.cursor_places page place;
+        } }
     {
         self.cursor_places[page] = place;
     }
@@ -77,8 +81,8 @@ impl Bda {
         self.height = height;
     }
 
-    /// Sets all data to those that a mode begins with: its constants, page 0, and the cursor in the upper left corner of
-    /// each page.
+    /// Sets all data to those that a mode begins with: its constants, page 0, and the cursor in the
+    /// upper left corner of each page.
     pub fn begin_mode(&mut self, mode: u8, row: &ModeRow)
         ensures { self.new ≡ data_of_mode mode row.now }
     {

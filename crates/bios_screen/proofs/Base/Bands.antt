@@ -52,7 +52,8 @@ module _ (S X : Type 0) (m : Meaning S) (base size : ℕ) (band : Band) (start r
   same_line : (r a i s b j : ℕ) → a < band.lines → b < band.lines → i < band.width → j < band.width → place r a i ≡ place s b j → (r ≡ s) × (a ≡ b)
   same_line r a i s b j la lb li lj h =
       let q : band.pitch * (band.lines * r + a) + (band.left + i) ≡ band.pitch * (band.lines * s + b) + (band.left + j) = omega arith in
-      same_place band.lines r a s b la lb (same_place band.pitch (band.lines * r + a) (band.left + i) (band.lines * s + b) (band.left + j) (w.across i li) (w.across j lj) q).0
+      same_place band.lines r a s b la lb (same_place band.pitch (band.lines * r + a) (band.left + i) (band.lines * s + b) (band.left + j) (w.across i li)
+      (w.across j lj) q).0
 
   pub rows_apart : (r s : ℕ) (g h : Line) → r ≢ s → place r g.turn g.place.turn ≢ place s h.turn h.place.turn
   rows_apart r s g h o q = o (same_line r g.turn g.place.turn s h.turn h.place.turn g.before h.before g.place.before h.place.before q).0
@@ -66,21 +67,26 @@ module _ (S X : Type 0) (m : Meaning S) (base size : ℕ) (band : Band) (start r
 
   -- ---- rows are copied
 
-  module _ (R : S → (ℕ → X) → Type 0) (moved : (from to i j : ℕ) (s : S) (f : ℕ → X) → from ≡ base + i → to ≡ base + j → i < size → j < size → R s f → R (run m (move from to) s).0 (set_cell f j (f i))) where
-    line_copied : (from to line : ℕ) (s : S) (f : ℕ → X) → from < rows → to < rows → line < band.lines → from ≢ to → R s f → Leaves S X R (run m (copy_line band from to line) s).0 (Moved X Column (λ h. place from line h.turn) (λ h. place to line h.turn) f)
+  module _ (R : S → (ℕ → X) → Type 0) (moved : (from to i j : ℕ) (s : S) (f : ℕ → X) → from ≡ base + i → to ≡ base + j → i < size → j < size → R s f →
+      R (run m (move from to) s).0 (set_cell f j (f i))) where
+    line_copied : (from to line : ℕ) (s : S) (f : ℕ → X) → from < rows → to < rows → line < band.lines → from ≢ to → R s f →
+        Leaves S X R (run m (copy_line band from to line) s).0 (Moved X Column (λ h. place from line h.turn) (λ h. place to line h.turn) f)
     unfolding copy_line
     line_copied from to line s f lf lt ll o t =
-        moves_up S X m (λ i. move (address_in band from line i) (address_in band to line i)) R 0 band.width (λ _. Unit {0}) (λ k _. place from line k) (λ k _. place to line k)
+        moves_up S X m (λ i. move (address_in band from line i) (address_in band to line i)) R 0 band.width (λ _. Unit {0}) (λ k _. place from line k) (λ k _.
+        place to line k)
         (λ x y _ _ lb lo hi. omega arith)
         (λ k x g lb hi u. record {
           cells = set_cell g (place to line k) (g (place from line k));
-          shown = moved (address_in band from line k) (address_in band to line k) (place from line k) (place to line k) x g (address_is from line k) (address_is to line k) (within from line k lf ll hi) (within to line k lt ll hi) u;
+          shown = moved (address_in band from line k) (address_in band to line k) (place from line k) (place to line k) x g (address_is from line k)
+              (address_is to line k) (within from line k lf ll hi) (within to line k lt ll hi) u;
           fact = one_move (place from line k) (place to line k) g;
         })
         (λ x y _ _ lb lo hi q. o (same_line from line y to line x ll ll hi (omega arith) q).0)
         band.width 0 s f (omega arith) (omega arith) t
 
-    row_copied : (from to : ℕ) (s : S) (f : ℕ → X) → from < rows → to < rows → from ≢ to → R s f → Leaves S X R (run m (copy_row band from to) s).0 (Moved X Line (λ h. place from h.turn h.place.turn) (λ h. place to h.turn h.place.turn) f)
+    row_copied : (from to : ℕ) (s : S) (f : ℕ → X) → from < rows → to < rows → from ≢ to → R s f →
+        Leaves S X R (run m (copy_row band from to) s).0 (Moved X Line (λ h. place from h.turn h.place.turn) (λ h. place to h.turn h.place.turn) f)
     unfolding copy_row
     row_copied from to s f lf lt o t =
         moves_up S X m (copy_line band from to) R 0 band.lines (λ _. Column) (λ line h. place from line h.turn) (λ line h. place to line h.turn)
@@ -90,52 +96,70 @@ module _ (S X : Type 0) (m : Meaning S) (base size : ℕ) (band : Band) (start r
         band.lines 0 s f (omega arith) (omega arith) t
 
     -- count rows take what stood n rows below them
-    pub rows_raised : (n count : ℕ) (s : S) (f : ℕ → X) → count + n ≤ height → (0 < count → 0 < n) → R s f → Leaves S X R (run m (raise_rows band n top count) s).0 (Moved X (Turn (λ _. Line) top (top + count)) (λ h. place (h.turn + n) h.place.turn h.place.place.turn) (λ h. place h.turn h.place.turn h.place.place.turn) f)
+    pub rows_raised : (n count : ℕ) (s : S) (f : ℕ → X) → count + n ≤ height → (0 < count → 0 < n) → R s f →
+        Leaves S X R (run m (raise_rows band n top count) s).0 (Moved X (Turn (λ _. Line) top (top + count)) (λ h.
+        place (h.turn + n) h.place.turn h.place.place.turn) (λ h. place h.turn h.place.turn h.place.place.turn) f)
     unfolding raise_rows
     rows_raised n count s f fits some t =
-        moves_up S X m (λ row. copy_row band (row + n) row) R top (top + count) (λ _. Line) (λ row h. place (row + n) h.turn h.place.turn) (λ row h. place row h.turn h.place.turn)
+        moves_up S X m (λ row. copy_row band (row + n) row) R top (top + count) (λ _. Line) (λ row h. place (row + n) h.turn h.place.turn) (λ row h.
+        place row h.turn h.place.turn)
         (λ x y g h lb lo hi. rows_apart x y g h (omega arith))
-        (λ row x g lb hi u. let z = some (omega arith) in row_copied (row + n) row x g (w.inside (row + n) (omega arith) (omega arith)) (w.inside row (omega arith) (omega arith)) (omega arith) u)
+        (λ row x g lb hi u. let z = some (omega arith) in row_copied (row + n) row x g (w.inside (row + n) (omega arith) (omega arith))
+        (w.inside row (omega arith) (omega arith)) (omega arith) u)
         (λ x y g h lb lo hi. rows_apart (y + n) x h g (omega arith))
         count top s f (omega arith) (omega arith) t
 
     -- and count rows go down by n
-    pub rows_lowered : (n count : ℕ) (s : S) (f : ℕ → X) → count + n ≤ height → (0 < count → 0 < n) → R s f → Leaves S X R (run m (lower_rows band n top count) s).0 (Moved X (Turn (λ _. Line) top (top + count)) (λ h. place h.turn h.place.turn h.place.place.turn) (λ h. place (h.turn + n) h.place.turn h.place.place.turn) f)
+    pub rows_lowered : (n count : ℕ) (s : S) (f : ℕ → X) → count + n ≤ height → (0 < count → 0 < n) → R s f →
+        Leaves S X R (run m (lower_rows band n top count) s).0 (Moved X (Turn (λ _. Line) top (top + count)) (λ h. place h.turn h.place.turn h.place.place.turn)
+        (λ h. place (h.turn + n) h.place.turn h.place.place.turn) f)
     unfolding lower_rows
     rows_lowered n count s f fits some t =
-        moves_down S X m (λ row. copy_row band row (row + n)) R top (top + count) (λ _. Line) (λ row h. place row h.turn h.place.turn) (λ row h. place (row + n) h.turn h.place.turn)
+        moves_down S X m (λ row. copy_row band row (row + n)) R top (top + count) (λ _. Line) (λ row h. place row h.turn h.place.turn) (λ row h.
+        place (row + n) h.turn h.place.turn)
         (λ x y g h lb lo hi. rows_apart (x + n) (y + n) g h (omega arith))
-        (λ row x g lb hi u. let z = some (omega arith) in row_copied row (row + n) x g (w.inside row (omega arith) (omega arith)) (w.inside (row + n) (omega arith) (omega arith)) (omega arith) u)
+        (λ row x g lb hi u. let z = some (omega arith) in row_copied row (row + n) x g (w.inside row (omega arith) (omega arith))
+        (w.inside (row + n) (omega arith) (omega arith)) (omega arith) u)
         (λ x y g h lb lo hi. rows_apart x (y + n) g h (omega arith))
         count top s f (omega arith) (omega arith) t
 
   -- ---- rows are filled, where a byte makes of a cell another
 
-  module _ (R : S → (ℕ → X) → Type 0) (made : ℕ → X → X) (stored : (at j v : ℕ) (s : S) (f : ℕ → X) → at ≡ base + j → j < size → v < 256 → R s f → R (run m (put at v) s).0 (set_cell f j (made v (f j)))) (filling : Filling) (even : filling.even < 256) (odd : filling.odd < 256) where
-    line_filled : (row line : ℕ) (s : S) (f : ℕ → X) → row < rows → line < band.lines → R s f → Leaves S X R (run m (fill_line band filling row line) s).0 (Edited X Column (λ h. place row line h.turn) (λ h x. made (filling_byte filling h.turn) x) f)
+  module _ (R : S → (ℕ → X) → Type 0) (made : ℕ → X → X) (stored : (at j v : ℕ) (s : S) (f : ℕ → X) → at ≡ base + j → j < size → v < 256 → R s f →
+      R (run m (put at v) s).0 (set_cell f j (made v (f j)))) (filling : Filling) (even : filling.even < 256) (odd : filling.odd < 256) where
+    line_filled : (row line : ℕ) (s : S) (f : ℕ → X) → row < rows → line < band.lines → R s f →
+        Leaves S X R (run m (fill_line band filling row line) s).0 (Edited X Column (λ h. place row line h.turn) (λ h x. made (filling_byte filling h.turn) x)
+        f)
     unfolding fill_line
     line_filled row line s f lr ll t =
-        edits S X m (λ i. put (address_in band row line i) (filling_byte filling i)) (λ _. R) 0 band.width (λ _. Unit {0}) (λ k _. place row line k) (λ k _ x. made (filling_byte filling k) x)
+        edits S X m (λ i. put (address_in band row line i) (filling_byte filling i)) (λ _. R) 0 band.width (λ _. Unit {0}) (λ k _. place row line k) (λ k _ x.
+        made (filling_byte filling k) x)
         (λ x y _ _ lb lo hi. omega arith)
         (λ k x g lb hi u. record {
           cells = set_cell g (place row line k) (made (filling_byte filling k) (g (place row line k)));
-          shown = stored (address_in band row line k) (place row line k) (filling_byte filling k) x g (address_is row line k) (within row line k lr ll hi) (filled_small filling k even odd) u;
+          shown = stored (address_in band row line k) (place row line k) (filling_byte filling k) x g (address_is row line k) (within row line k lr ll hi)
+              (filled_small filling k even odd) u;
           fact = changed_edit (place row line k) (made (filling_byte filling k)) g;
         })
         band.width 0 s f (omega arith) (omega arith) t
 
-    row_filled : (row : ℕ) (s : S) (f : ℕ → X) → row < rows → R s f → Leaves S X R (run m (fill_row band filling row) s).0 (Edited X Line (λ h. place row h.turn h.place.turn) (λ h x. made (filling_byte filling h.place.turn) x) f)
+    row_filled : (row : ℕ) (s : S) (f : ℕ → X) → row < rows → R s f → Leaves S X R (run m (fill_row band filling row) s).0
+        (Edited X Line (λ h. place row h.turn h.place.turn) (λ h x. made (filling_byte filling h.place.turn) x) f)
     unfolding fill_row
     row_filled row s f lr t =
-        edits S X m (fill_line band filling row) (λ _. R) 0 band.lines (λ _. Column) (λ line h. place row line h.turn) (λ line h x. made (filling_byte filling h.turn) x)
+        edits S X m (fill_line band filling row) (λ _. R) 0 band.lines (λ _. Column) (λ line h. place row line h.turn) (λ line h x.
+        made (filling_byte filling h.turn) x)
         (λ x y g h lb lo hi. lines_apart row x y g h (omega arith) hi (omega arith))
         (λ line x g lb hi u. line_filled row line x g lr hi u)
         band.lines 0 s f (omega arith) (omega arith) t
 
-    pub rows_filled : (first count : ℕ) (s : S) (f : ℕ → X) → top ≤ first → first + count ≤ top + height → R s f → Leaves S X R (run m (fill_rows band filling first count) s).0 (Edited X (Turn (λ _. Line) first (first + count)) (λ h. place h.turn h.place.turn h.place.place.turn) (λ h x. made (filling_byte filling h.place.place.turn) x) f)
+    pub rows_filled : (first count : ℕ) (s : S) (f : ℕ → X) → top ≤ first → first + count ≤ top + height → R s f →
+        Leaves S X R (run m (fill_rows band filling first count) s).0 (Edited X (Turn (λ _. Line) first (first + count)) (λ h.
+        place h.turn h.place.turn h.place.place.turn) (λ h x. made (filling_byte filling h.place.place.turn) x) f)
     unfolding fill_rows
     rows_filled first count s f low fits t =
-        edits S X m (fill_row band filling) (λ _. R) first (first + count) (λ _. Line) (λ row h. place row h.turn h.place.turn) (λ row h x. made (filling_byte filling h.place.turn) x)
+        edits S X m (fill_row band filling) (λ _. R) first (first + count) (λ _. Line) (λ row h. place row h.turn h.place.turn) (λ row h x.
+        made (filling_byte filling h.place.turn) x)
         (λ x y g h lb lo hi. rows_apart x y g h (omega arith))
         (λ row x g lb hi u. row_filled row x g (w.inside row (omega arith) (omega arith)) u)
         count first s f (omega arith) (omega arith) t

@@ -47,7 +47,8 @@ line_of_strip w h q r lw lr = ap (λ n. n % h) (line_over w h q r lw) ∙ rest h
 -- a cell of a page of so many rows has its strips there
 pub strip_within : (w h rows q r : ℕ) → 0 < w → r < h → q < w * rows → strip_at w h q r < w * (h * rows)
 strip_within w h rows q r lw lr lq =
-    let row : q / w < rows = ⊎_elim (λ (a : q / w < rows). a) (λ (a : rows ≤ q / w). let e = row_and_column w q lw in let g = mul-le w rows w (q / w) (omega arith) a in absurd (omega arith)) (cases_lt (q / w) rows) in
+    let row : q / w < rows = ⊎_elim (λ (a : q / w < rows). a) (λ (a : rows ≤ q / w). let e = row_and_column w q lw in let g =
+    mul-le w rows w (q / w) (omega arith) a in absurd (omega arith)) (cases_lt (q / w) rows) in
     let y : h * (q / w) + r < h * rows = let a = mul-add-lt (q / w) h r rows row lr in omega arith in
     let a = mul-add-lt (h * (q / w) + r) w (q % w) (h * rows) y (mod-lt q lw) in
     omega arith

@@ -1,5 +1,6 @@
 -- Lists of dots by number, line by line, with their lines and bytes.
-use Rattle.std.proofs.Common.{◌≡◌, ℕ, zero, suc, ◌+◌, ◌-◌, ◌*◌, ◌%◌, ◌<◌, ◌≤◌, refl, sym, ap, ◌∙◌, arith, Bool, true, false, List, [], ◌∷◌, ◌++◌, append_assoc, replicate}
+use Rattle.std.proofs.Common.{◌≡◌, ℕ, zero, suc, ◌+◌, ◌-◌, ◌*◌, ◌%◌, ◌<◌, ◌≤◌, refl, sym, ap, ◌∙◌, arith, Bool, true, false, List, [], ◌∷◌, ◌++◌, append_assoc}
+use Rattle.std.proofs.Common.{replicate}
 use Rattle.std.specs.Prelude.{nat_lt, if◌then◌else◌, ◌&&◌}
 use Rattle.std.proofs.lemmas.List.{append-nil, map-append, replicate-append-replicate}
 use Rattle.std.proofs.lemmas.Nat.{div-mul-add, mod-mul-add}
@@ -35,7 +36,8 @@ collected_lines f line (suc n) =
 pub collected_front : (f : ℕ → List Dot) (a n : ℕ) → a ≤ n → ((i : ℕ) → a ≤ i → i < n → f i ≡ []) → collect f n ≡ collect f a
 collected_front f a n le h =
     let e : n ≡ a + (n - a) = omega arith in
-    ap (collect f) e ∙ collected_split f a (n - a) ∙ ap (λ l. collect f a ++ l) (none_collected (λ i. f (a + i)) (n - a) (λ i l. h (a + i) (omega arith) (omega arith))) ∙ append-nil (collect f a)
+    ap (collect f) e ∙ collected_split f a (n - a) ∙ ap (λ l. collect f a ++ l) (none_collected (λ i. f (a + i)) (n - a) (λ i l.
+    h (a + i) (omega arith) (omega arith))) ∙ append-nil (collect f a)
 
 -- ---- a picture
 
@@ -50,18 +52,21 @@ off_right true = refl
 off_right false = refl
 
 -- the dot at column x of line y
-pub dot_there : (m : Raster) (f : Colours) (y x : ℕ) → x < line_dots m → picture_dot m f (y * line_dots m + x) ≡ (if nat_lt x (width m) && nat_lt y m.height then one_dot f y x else [])
+pub dot_there : (m : Raster) (f : Colours) (y x : ℕ) → x < line_dots m → picture_dot m f (y * line_dots m + x)
+    ≡ (if nat_lt x (width m) && nat_lt y m.height then one_dot f y x else [])
 dot_there m f y x small =
     let line = line_dots m in
     let n = y * line + x in
     ap (λ r. if nat_lt (n % line) (width m) && nat_lt r m.height then one_dot f r (n % line) else []) (div-mul-add y line x small)
     ∙ ap (λ q. if nat_lt q (width m) && nat_lt y m.height then one_dot f y q else []) (mod-mul-add y line x small)
 
-pub row_there : (m : Raster) (f : Colours) (y : ℕ) → width m ≤ line_dots m → y < m.height → collect (λ x. picture_dot m f (y * line_dots m + x)) (line_dots m) ≡ row_dots f (width m) y
+pub row_there : (m : Raster) (f : Colours) (y : ℕ) → width m ≤ line_dots m → y < m.height →
+    collect (λ x. picture_dot m f (y * line_dots m + x)) (line_dots m) ≡ row_dots f (width m) y
 row_there m f y narrow within =
     let line = line_dots m in
     let g : ℕ → List Dot = λ x. picture_dot m f (y * line + x) in
-    collected_front g (width m) line narrow (λ x past small. dot_there m f y x small ∙ ap (λ v. if v && nat_lt y m.height then one_dot f y x else []) (not_lt x (width m) past))
+    collected_front g (width m) line narrow (λ x past small. dot_there m f y x small
+    ∙ ap (λ v. if v && nat_lt y m.height then one_dot f y x else []) (not_lt x (width m) past))
     ∙ same_collected g (one_dot f y) (width m) (λ x inside. dot_there m f y x (omega arith)
     ∙ ap (λ v. if v && nat_lt y m.height then one_dot f y x else []) (lt_test x (width m) inside)
     ∙ ap (λ v. if v then one_dot f y x else []) (lt_test y m.height within))
@@ -74,7 +79,8 @@ no_row_there m f y below =
     ∙ ap (λ v. if v then one_dot f y x else []) (off_right (nat_lt x (width m))))
 
 -- the dots of all lines are the rows of the picture
-pub whole_picture : (m : Raster) (f : Colours) → width m ≤ line_dots m → m.height ≤ m.lines → collect (picture_dot m f) (m.lines * line_dots m) ≡ collect (row_dots f (width m)) m.height
+pub whole_picture : (m : Raster) (f : Colours) → width m ≤ line_dots m → m.height ≤ m.lines →
+    collect (picture_dot m f) (m.lines * line_dots m) ≡ collect (row_dots f (width m)) m.height
 whole_picture m f narrow low =
     let line = line_dots m in
     let rows : ℕ → List Dot = λ y. collect (λ x. picture_dot m f (y * line + x)) line in

@@ -16,12 +16,16 @@ pub changed_edit : {X : Type 0} (a : ℕ) (G : X → X) (c : ℕ → X) → Edit
 changed_edit a G c = record { inside = λ h. set_same c a (G (c a)) a refl; outside = λ x o. set_other c a (G (c a)) x (o tt) }
 
 -- the same places twice
-pub edited_twice : {X H : Type 0} (at : H → ℕ) (F G : H → X → X) (a b c : ℕ → X) → Edited X H at F a b → Edited X H at G b c → Edited X H at (λ h x. G h (F h x)) a c
+pub edited_twice : {X H : Type 0} (at : H → ℕ) (F G : H → X → X) (a b c : ℕ → X) → Edited X H at F a b → Edited X H at G b c →
+    Edited X H at (λ h x. G h (F h x)) a c
 edited_twice at F G a b c p q = record { inside = λ h. q.inside h ∙ ap (G h) (p.inside h); outside = λ x o. q.outside x o ∙ p.outside x o }
 
-module _ (S X : Type 0) (m : Meaning S) (f : ℕ → Plan (Unit {0})) (R : ℕ → S → (ℕ → X) → Type 0) (b e : ℕ) (H : ℕ → Type 0) (at : (r : ℕ) → H r → ℕ) (F : (r : ℕ) → H r → X → X) (apart : (j k : ℕ) (g : H j) (h : H k) → b ≤ j → j < k → k < e → at j g ≢ at k h) (turn : (r : ℕ) (s : S) (c : ℕ → X) → b ≤ r → r < e → R r s c → Leaves S X (R (r + 1)) (run m (f r) s).0 (Edited X (H r) (at r) (F r) c)) where
+module _ (S X : Type 0) (m : Meaning S) (f : ℕ → Plan (Unit {0})) (R : ℕ → S → (ℕ → X) → Type 0) (b e : ℕ) (H : ℕ → Type 0) (at : (r : ℕ) → H r → ℕ)
+    (F : (r : ℕ) → H r → X → X) (apart : (j k : ℕ) (g : H j) (h : H k) → b ≤ j → j < k → k < e → at j g ≢ at k h)
+    (turn : (r : ℕ) (s : S) (c : ℕ → X) → b ≤ r → r < e → R r s c → Leaves S X (R (r + 1)) (run m (f r) s).0 (Edited X (H r) (at r) (F r) c)) where
   -- the turns from i on, n of them, none before b
-  pub edits : (n i : ℕ) (s : S) (c : ℕ → X) → b ≤ i → i + n ≡ e → R i s c → Leaves S X (R e) (run m (each f n i) s).0 (Edited X (Turn H i e) (λ h. at h.turn h.place) (λ h. F h.turn h.place) c)
+  pub edits : (n i : ℕ) (s : S) (c : ℕ → X) → b ≤ i → i + n ≡ e → R i s c → Leaves S X (R e) (run m (each f n i) s).0
+      (Edited X (Turn H i e) (λ h. at h.turn h.place) (λ h. F h.turn h.place) c)
   edits zero i s c lb l r =
       let z : i ≡ e = omega arith in
       record {
@@ -34,19 +38,24 @@ module _ (S X : Type 0) (m : Meaning S) (f : ℕ → Plan (Unit {0})) (R : ℕ �
       let c1 = first.cells in
       let rest = edits n (i + 1) (run m (f i) s).0 c1 (omega arith) (omega arith) first.shown in
       let new = rest.cells in
-      let here : (p : H i) → new (at i p) ≡ F i p (c (at i p)) = λ p. rest.fact.outside (at i p) (λ h q. let hf = h.from in apart i h.turn p h.place lb (omega arith) h.before q) ∙ first.fact.inside p in
+      let here : (p : H i) → new (at i p) ≡ F i p (c (at i p)) = λ p. rest.fact.outside (at i p) (λ h q. let hf = h.from in
+      apart i h.turn p h.place lb (omega arith) h.before q) ∙ first.fact.inside p in
       let later : (k : ℕ) (p : H k) → i < k → k < e → new (at k p) ≡ F k p (c (at k p)) = λ k p lo hi.
-      rest.fact.inside (record { turn = k; from = omega arith; before = hi; place = p }) ∙ ap (F k p) (first.fact.outside (at k p) (λ g q. apart i k g p lb lo hi (sym q))) in
+      rest.fact.inside (record { turn = k; from = omega arith; before = hi; place = p })
+      ∙ ap (F k p) (first.fact.outside (at k p) (λ g q. apart i k g p lb lo hi (sym q))) in
       let any : (k : ℕ) (p : H k) → i ≤ k → k < e → new (at k p) ≡ F k p (c (at k p)) = λ k p lo hi. ⊎_elim
       (λ (z : i ≡ k). subst (λ j. (p : H j) → new (at j p) ≡ F j p (c (at j p))) z here p)
       (λ (n : i ≢ k). later k p (omega arith) hi)
       (cases_eq i k) in
-      let all : Leaves S X (R e) (run m (each f n (i + 1)) (run m (f i) s).0).0 (Edited X (Turn H i e) (λ h. at h.turn h.place) (λ h. F h.turn h.place) c) = record {
+      let all : Leaves S X (R e) (run m (each f n (i + 1)) (run m (f i) s).0).0 (Edited X (Turn H i e) (λ h. at h.turn h.place) (λ h. F h.turn h.place) c) =
+      record {
         cells = new;
         shown = rest.shown;
         fact = record {
           inside = λ h. any h.turn h.place h.from h.before;
-          outside = λ x o. rest.fact.outside x (λ h. let hf = h.from in o (record { turn = h.turn; from = omega arith; before = h.before; place = h.place })) ∙ first.fact.outside x (λ h. o (record { turn = i; from = omega arith; before = omega arith; place = h }));
+          outside = λ x o. rest.fact.outside x (λ h. let hf = h.from in o (record { turn = h.turn; from = omega arith; before = h.before; place = h.place }))
+              ∙ first.fact.outside x (λ h. o (record { turn = i; from = omega arith; before = omega arith; place = h }));
         };
       } in
-      subst (λ t. Leaves S X (R e) t.0 (Edited X (Turn H i e) (λ h. at h.turn h.place) (λ h. F h.turn h.place) c)) (sym (run_bind m (f i) (λ _. each f n (i + 1)) s)) all
+      subst (λ t. Leaves S X (R e) t.0 (Edited X (Turn H i e) (λ h. at h.turn h.place) (λ h. F h.turn h.place) c))
+      (sym (run_bind m (f i) (λ _. each f n (i + 1)) s)) all

@@ -4,7 +4,9 @@ use Rattle.std.specs.Prelude.{slice_index, slice_set, bit_and, not, ◌==◌, if
 use Rattle.vga_crtc.specs.Crtc.{CrtcState}
 use Rattle.vga_crtc.specs.Ports.{after_out as after_crtc, is_write_protected}
 use Rattle.vga_card.specs.declared.port.Port.{Port}
-use Rattle.vga_card.specs.declared.port.Port.TheVariants.{Attribute, AttributeRegister, MiscellaneousWrite, SubsystemEnable, SequencerIndex, SequencerData, DacMask, DacReadIndex, DacWriteIndex, DacData, FeatureControl, MiscellaneousRead, GraphicsIndex, GraphicsData, CrtcIndex, CrtcData, InputStatus1}
+use Rattle.vga_card.specs.declared.port.Port.TheVariants.{Attribute, AttributeRegister, MiscellaneousWrite, SubsystemEnable, SequencerIndex, SequencerData}
+use Rattle.vga_card.specs.declared.port.Port.TheVariants.{DacMask, DacReadIndex, DacWriteIndex, DacData, FeatureControl, MiscellaneousRead, GraphicsIndex}
+use Rattle.vga_card.specs.declared.port.Port.TheVariants.{GraphicsData, CrtcIndex, CrtcData, InputStatus1}
 use Rattle.vga_card.specs.Bounds.{IsCard}
 use Rattle.vga_card.specs.Card.{CardState}
 use Rattle.vga_card.specs.Port.{port_of}
@@ -57,11 +59,18 @@ unfolding after_crtc
 crtc_beam c false v = refl
 crtc_beam c true v = by_test (is_write_protected c)
   where
-    by_test : (b : Bool) → (let x : CrtcState = (if not b then record c { registers = slice_set c.registers c.index (bit_and v (slice_index Rattle.vga_crtc.specs.Ports.kept_bits c.index)) } else if c.index == 7 then record c { registers = slice_set c.registers 7 (Rattle.vga_crtc.specs.Ports.protected_overflow c v) } else c) in x).beam ≡ c.beam
+    by_test : (b : Bool) → (let x : CrtcState = (if not b then record c {
+      registers =
+          slice_set c.registers c.index (bit_and v (slice_index Rattle.vga_crtc.specs.Ports.kept_bits c.index));
+    } else if c.index == 7
+        then record c { registers = slice_set c.registers 7 (Rattle.vga_crtc.specs.Ports.protected_overflow c v) } else c) in x).beam ≡ c.beam
     by_test false = refl
     by_test true = overflow_test (c.index == 7)
       where
-        overflow_test : (b : Bool) → (let x : CrtcState = (if b then record c { registers = slice_set c.registers 7 (Rattle.vga_crtc.specs.Ports.protected_overflow c v) } else c) in x).beam ≡ c.beam
+        overflow_test : (b : Bool) → (let x : CrtcState = (if b then record c {
+          registers =
+              slice_set c.registers 7 (Rattle.vga_crtc.specs.Ports.protected_overflow c v);
+        } else c) in x).beam ≡ c.beam
         overflow_test true = refl
         overflow_test false = refl
 

@@ -56,21 +56,26 @@ pub same_elements : (a b : List ℕ) → length a ≡ length b → ((k : ℕ) �
 same_elements [] [] e h = refl
 same_elements [] (y ∷ ys) e h = absurd (omega arith)
 same_elements (x ∷ xs) [] e h = absurd (omega arith)
-same_elements (x ∷ xs) (y ∷ ys) e h = ap (λ z. z ∷ xs) (h 0 (omega arith)) ∙ ap (λ l. y ∷ l) (same_elements xs ys (omega arith) (λ k l. h (suc k) (omega arith)))
+same_elements (x ∷ xs) (y ∷ ys) e h = ap (λ z. z ∷ xs) (h 0 (omega arith)) ∙ ap (λ l. y ∷ l)
+    (same_elements xs ys (omega arith) (λ k l. h (suc k) (omega arith)))
 
 -- a listing in which one element differs
-listing_set_from : {Y : Type 0} (g h : ℕ → Y) (v : Y) (n i p : ℕ) → p < n → h (i + p) ≡ v → ((q : ℕ) → q < n → q ≢ p → h (i + q) ≡ g (i + q)) → listing h i n ≡ set (listing g i n) p v
+listing_set_from : {Y : Type 0} (g h : ℕ → Y) (v : Y) (n i p : ℕ) → p < n → h (i + p) ≡ v → ((q : ℕ) → q < n → q ≢ p → h (i + q) ≡ g (i + q)) →
+    listing h i n ≡ set (listing g i n) p v
 listing_set_from g h v zero i p l e o = absurd (omega arith)
 listing_set_from g h v (suc n) i zero l e o =
     let z : i + 0 ≡ i = omega arith in
-    ap (λ y. y ∷ listing h (i + 1) n) (ap h (sym z) ∙ e) ∙ ap (λ r. v ∷ r) (same_listing g h (i + 1) (i + 1) n (λ q k. let y : i + 1 + q ≡ i + suc q = omega arith in ap h y ∙ o (suc q) (omega arith) (λ w. absurd (omega arith)) ∙ ap g (sym y)))
+    ap (λ y. y ∷ listing h (i + 1) n) (ap h (sym z) ∙ e) ∙ ap (λ r. v ∷ r) (same_listing g h (i + 1) (i + 1) n (λ q k. let y : i + 1 + q ≡ i + suc q =
+    omega arith in ap h y ∙ o (suc q) (omega arith) (λ w. absurd (omega arith)) ∙ ap g (sym y)))
 listing_set_from g h v (suc n) i (suc p) l e o =
     let z : i + 0 ≡ i = omega arith in
     let y : i + 1 + p ≡ i + suc p = omega arith in
     ap (λ x. x ∷ listing h (i + 1) n) (ap h (sym z) ∙ o 0 (omega arith) (λ w. absurd (omega arith)) ∙ ap g z)
-    ∙ ap (λ r. g i ∷ r) (listing_set_from g h v n (i + 1) p (omega arith) (ap h y ∙ e) (λ q k w. let u : i + 1 + q ≡ i + suc q = omega arith in ap h u ∙ o (suc q) (omega arith) (λ t. w (omega arith)) ∙ ap g (sym u)))
+    ∙ ap (λ r. g i ∷ r) (listing_set_from g h v n (i + 1) p (omega arith) (ap h y ∙ e) (λ q k w. let u : i + 1 + q ≡ i + suc q = omega arith in ap h u
+    ∙ o (suc q) (omega arith) (λ t. w (omega arith)) ∙ ap g (sym u)))
 
-pub listing_set : {Y : Type 0} (g h : ℕ → Y) (n p : ℕ) (v : Y) → p < n → h p ≡ v → ((q : ℕ) → q < n → q ≢ p → h q ≡ g q) → listing h 0 n ≡ set (listing g 0 n) p v
+pub listing_set : {Y : Type 0} (g h : ℕ → Y) (n p : ℕ) (v : Y) → p < n → h p ≡ v → ((q : ℕ) → q < n → q ≢ p → h q ≡ g q) →
+    listing h 0 n ≡ set (listing g 0 n) p v
 listing_set g h n p v l e o =
     let z : 0 + p ≡ p = omega arith in
     listing_set_from g h v n 0 p l (ap h z ∙ e) (λ q k w. let y : 0 + q ≡ q = omega arith in ap h y ∙ o q k w ∙ ap g (sym y))

@@ -40,7 +40,8 @@ pub offset_is : (a : ℕ) → a < 65536 → (0xA0000 + a - 0xA0000) % 65536 ≡ 
 offset_is a l = omega arith
 
 -- a Put at a decoded address: one equation for every setting
-pub put_decoded : (c : CardState) (s : Setting) (a v : ℕ) → setting c ≡ s → is_decoded (host_at c.host s) s.misc a ≡ true → (run card_meaning (put a v) c).0 ≡ with_memory c (memory_after_put (host_at c.host s) (window_offset (host_at c.host s) a) v)
+pub put_decoded : (c : CardState) (s : Setting) (a v : ℕ) → setting c ≡ s → is_decoded (host_at c.host s) s.misc a ≡ true →
+    (run card_meaning (put a v) c).0 ≡ with_memory c (memory_after_put (host_at c.host s) (window_offset (host_at c.host s) a) v)
 put_decoded c s a v e d =
     let memory = memory_after_put (host_at c.host s) (window_offset (host_at c.host s) a) v in
     ap (λ x. (run card_meaning (put a v) (card_at c x)).0) e
@@ -48,10 +49,12 @@ put_decoded c s a v e d =
     ∙ ap (λ x. let y : CardState = record (card_at c x) { host = record (host_at c.host x) { memory = memory } } in y) (sym e)
 
 -- a Get at a decoded address
-pub get_decoded : (c : CardState) (s : Setting) (a : ℕ) → setting c ≡ s → is_decoded (host_at c.host s) s.misc a ≡ true → run card_meaning (get a) c ≡ (record c { host = record c.host { latches = loaded (host_at c.host s) a } }, read_byte (host_at c.host s) a)
+pub get_decoded : (c : CardState) (s : Setting) (a : ℕ) → setting c ≡ s → is_decoded (host_at c.host s) s.misc a ≡ true →
+    run card_meaning (get a) c ≡ (record c { host = record c.host { latches = loaded (host_at c.host s) a } }, read_byte (host_at c.host s) a)
 get_decoded c s a e d =
     let latches = loaded (host_at c.host s) a in
     let v = read_byte (host_at c.host s) a in
     ap (λ x. run card_meaning (get a) (card_at c x)) e
-    ∙ ap (λ b. let r = answered_where b (card_at c s) (record (card_at c s) { host = after_get (host_at c.host s) a }) v in let p : CardState × ℕ = (r.0, byte_of r.1) in p) d
+    ∙ ap (λ b. let r = answered_where b (card_at c s) (record (card_at c s) { host = after_get (host_at c.host s) a }) v in let p : CardState
+    × ℕ = (r.0, byte_of r.1) in p) d
     ∙ ap (λ x. let p : CardState × ℕ = (record (card_at c x) { host = record (host_at c.host x) { latches = latches } }, v) in p) (sym e)

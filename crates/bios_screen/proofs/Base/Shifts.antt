@@ -60,7 +60,8 @@ module _ (X : Type 0) (W H start left width top height : ℕ) (wide : 0 < W) (hi
       omega arith
 
   place_in : (r l i : ℕ) → top ≤ r → r < top + height → l < H → i < width → IsIn (W * (H * r + l) + (left + i))
-  place_in r l i a b ll li = let e = row_of r l i ll li in let f = column_of r l i li in record { above = omega arith; below = omega arith; before = omega arith; behind = omega arith }
+  place_in r l i a b ll li = let e = row_of r l i ll li in let f = column_of r l i li in
+      record { above = omega arith; below = omega arith; before = omega arith; behind = omega arith }
 
   -- a cell that was filled over
   pub record IsFilled (B : X → X) (x : X) : Type 0 where
@@ -79,10 +80,22 @@ module _ (X : Type 0) (W H start left width top height : ℕ) (wide : 0 < W) (hi
 
   -- the turn of a cell
   turn_of : (first e b r : ℕ) → first ≤ r → r < e → left ≤ column b → column b < left + width → Rows first e
-  turn_of first e b r a k l m = record { turn = r; from = a; before = k; place = record { turn = line b; from = omega arith; before = mod-lt (b / W) high; place = record { turn = column b - left; from = omega arith; before = omega arith; place = tt } } }
+  turn_of first e b r a k l m = record {
+    turn = r;
+    from = a;
+    before = k;
+    place = record {
+      turn = line b;
+      from = omega arith;
+      before = mod-lt (b / W) high;
+      place = record { turn = column b - left; from = omega arith; before = omega arith; place = tt };
+    };
+  }
 
-  pub gone_up : (n : ℕ) → n ≤ height → (B : X → X) (F : Rows (top + (height - n)) (top + (height - n) + n) → X → X) → ((h : Rows (top + (height - n)) (top + (height - n) + n)) (x : X) → F h x ≡ B x) → (f mid g : ℕ → X)
-      → Moved X (Rows top (top + (height - n))) (λ h. place (h.turn + n) h.place.turn h.place.place.turn) (λ h. place h.turn h.place.turn h.place.place.turn) f mid
+  pub gone_up : (n : ℕ) → n ≤ height → (B : X → X) (F : Rows (top + (height - n)) (top + (height - n) + n) → X → X) →
+      ((h : Rows (top + (height - n)) (top + (height - n) + n)) (x : X) → F h x ≡ B x) → (f mid g : ℕ → X)
+      → Moved X (Rows top (top + (height - n))) (λ h. place (h.turn + n) h.place.turn h.place.place.turn) (λ h. place h.turn h.place.turn h.place.place.turn) f
+      mid
       → Edited X (Rows (top + (height - n)) (top + (height - n) + n)) (λ h. place h.turn h.place.turn h.place.place.turn) F mid g → GoneUp n B f g
   unfolding turn_of
   gone_up n few B F same f mid g up filling = record {
@@ -90,20 +103,29 @@ module _ (X : Type 0) (W H start left width top height : ℕ) (wide : 0 < W) (hi
         let l0 = i.above in
         let h = turn_of top (top + (height - n)) b (row b) i.above (omega arith) i.before i.behind in
         let at = place_of b i.before in
-        let far : place (row b + n) (line b) (column b - left) ≡ start + (b + W * (H * n)) = let s = shift (row b) (line b) (column b - left) n in omega arith in
-        filling.outside (start + b) (λ h q. let v = row_is b h.turn h.place.turn h.place.place.turn h.place.before h.place.place.before q in let u = h.from in absurd (omega arith))
+        let far : place (row b + n) (line b) (column b - left) ≡ start + (b + W * (H * n)) = let s = shift (row b) (line b) (column b - left) n in
+        omega arith in
+        filling.outside (start + b) (λ h q. let v = row_is b h.turn h.place.turn h.place.place.turn h.place.before h.place.place.before q in let u = h.from in
+        absurd (omega arith))
         ∙ ap mid (sym at) ∙ up.inside h ∙ ap f far;
     filled = λ b i k.
         let l0 = i.below in
         let h = turn_of (top + (height - n)) (top + (height - n) + n) b (row b) (omega arith) (omega arith) i.before i.behind in
-        record { under = mid (place (row b) (line b) (column b - left)); is = ap g (sym (place_of b i.before)) ∙ filling.inside h ∙ same h (mid (place (row b) (line b) (column b - left))) };
+        record {
+          under = mid (place (row b) (line b) (column b - left));
+          is = ap g (sym (place_of b i.before)) ∙ filling.inside h
+              ∙ same h (mid (place (row b) (line b) (column b - left)));
+        };
     outside = λ o none.
-        filling.outside o (λ h q. let u = h.from in let v = h.before in none (W * (H * h.turn + h.place.turn) + (left + h.place.place.turn)) q (place_in h.turn h.place.turn h.place.place.turn (omega arith) (omega arith) h.place.before h.place.place.before))
-        ∙ up.outside o (λ h q. let u = h.from in let v = h.before in none (W * (H * h.turn + h.place.turn) + (left + h.place.place.turn)) q (place_in h.turn h.place.turn h.place.place.turn (omega arith) (omega arith) h.place.before h.place.place.before));
+        filling.outside o (λ h q. let u = h.from in let v = h.before in none (W * (H * h.turn + h.place.turn) + (left + h.place.place.turn)) q
+        (place_in h.turn h.place.turn h.place.place.turn (omega arith) (omega arith) h.place.before h.place.place.before))
+        ∙ up.outside o (λ h q. let u = h.from in let v = h.before in none (W * (H * h.turn + h.place.turn) + (left + h.place.place.turn)) q
+        (place_in h.turn h.place.turn h.place.place.turn (omega arith) (omega arith) h.place.before h.place.place.before));
   }
 
   pub gone_down : (n : ℕ) → n ≤ height → (B : X → X) (F : Rows top (top + n) → X → X) → ((h : Rows top (top + n)) (x : X) → F h x ≡ B x) → (f mid g : ℕ → X)
-      → Moved X (Rows top (top + (height - n))) (λ h. place h.turn h.place.turn h.place.place.turn) (λ h. place (h.turn + n) h.place.turn h.place.place.turn) f mid
+      → Moved X (Rows top (top + (height - n))) (λ h. place h.turn h.place.turn h.place.place.turn) (λ h. place (h.turn + n) h.place.turn h.place.place.turn) f
+      mid
       → Edited X (Rows top (top + n)) (λ h. place h.turn h.place.turn h.place.place.turn) F mid g → GoneDown n B f g
   unfolding turn_of
   gone_down n few B F same f mid g down filling = record {
@@ -114,13 +136,20 @@ module _ (X : Type 0) (W H start left width top height : ℕ) (wide : 0 < W) (hi
         let back : from + n ≡ row b = omega arith in
         let at : place (from + n) (line b) (column b - left) ≡ start + b = ap (λ r. place r (line b) (column b - left)) back ∙ place_of b i.before in
         let near : place from (line b) (column b - left) ≡ start + (b - W * (H * n)) = let s = shift from (line b) (column b - left) n in omega arith in
-        filling.outside (start + b) (λ h q. let v = row_is b h.turn h.place.turn h.place.place.turn h.place.before h.place.place.before q in let u = h.before in absurd (omega arith))
+        filling.outside (start + b) (λ h q. let v = row_is b h.turn h.place.turn h.place.place.turn h.place.before h.place.place.before q in let u = h.before in
+        absurd (omega arith))
         ∙ ap mid (sym at) ∙ down.inside h ∙ ap f near;
     filled = λ b i k.
         let l0 = i.above in
         let h = turn_of top (top + n) b (row b) i.above k i.before i.behind in
-        record { under = mid (place (row b) (line b) (column b - left)); is = ap g (sym (place_of b i.before)) ∙ filling.inside h ∙ same h (mid (place (row b) (line b) (column b - left))) };
+        record {
+          under = mid (place (row b) (line b) (column b - left));
+          is = ap g (sym (place_of b i.before)) ∙ filling.inside h
+              ∙ same h (mid (place (row b) (line b) (column b - left)));
+        };
     outside = λ o none.
-        filling.outside o (λ h q. let u = h.from in let v = h.before in none (W * (H * h.turn + h.place.turn) + (left + h.place.place.turn)) q (place_in h.turn h.place.turn h.place.place.turn (omega arith) (omega arith) h.place.before h.place.place.before))
-        ∙ down.outside o (λ h q. let u = h.from in let v = h.before in none (W * (H * (h.turn + n) + h.place.turn) + (left + h.place.place.turn)) q (place_in (h.turn + n) h.place.turn h.place.place.turn (omega arith) (omega arith) h.place.before h.place.place.before));
+        filling.outside o (λ h q. let u = h.from in let v = h.before in none (W * (H * h.turn + h.place.turn) + (left + h.place.place.turn)) q
+        (place_in h.turn h.place.turn h.place.place.turn (omega arith) (omega arith) h.place.before h.place.place.before))
+        ∙ down.outside o (λ h q. let u = h.from in let v = h.before in none (W * (H * (h.turn + n) + h.place.turn) + (left + h.place.place.turn)) q
+        (place_in (h.turn + n) h.place.turn h.place.place.turn (omega arith) (omega arith) h.place.before h.place.place.before));
   }

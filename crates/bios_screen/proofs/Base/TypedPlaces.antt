@@ -47,20 +47,24 @@ module _ (rows columns : ℕ) (narrow : columns ≤ 80) where
       either b = let x : Screen × ℕ = (if b then (s, place + 256) else (risen s p place, place)) in x.1
 
       by_test : (b : Bool) → nat_lt (row_of place) (s.layout.rows - 1) ≡ b → Inside rows columns (line_feed s p place).1
-      by_test true t = let a = lt_is (row_of place) (s.layout.rows - 1) t in subst (Inside rows columns) (sym (ap either t)) (below_inside place (omega arith) i)
+      by_test true t = let a = lt_is (row_of place) (s.layout.rows - 1) t in subst (Inside rows columns) (sym (ap either t))
+          (below_inside place (omega arith) i)
       by_test false t = subst (Inside rows columns) (sym (ap either t)) i
 
-  advanced_inside : (s : Screen) (p place : ℕ) → s.layout.rows ≡ rows → s.layout.columns ≡ columns → Inside rows columns place → Inside rows columns (cursor_advance s p place).1
+  advanced_inside : (s : Screen) (p place : ℕ) → s.layout.rows ≡ rows → s.layout.columns ≡ columns → Inside rows columns place →
+      Inside rows columns (cursor_advance s p place).1
   advanced_inside s p place e w i = by_test (nat_lt (column_of place + 1) s.layout.columns) refl
     where
       either : Bool → ℕ
       either b = let x : Screen × ℕ = (if b then (s, place + 1) else ((line_feed s p place).0, line_start (line_feed s p place).1)) in x.1
 
       by_test : (b : Bool) → nat_lt (column_of place + 1) s.layout.columns ≡ b → Inside rows columns (cursor_advance s p place).1
-      by_test true t = let a = lt_is (column_of place + 1) s.layout.columns t in subst (Inside rows columns) (sym (ap either t)) (behind_inside place (omega arith) i)
+      by_test true t = let a = lt_is (column_of place + 1) s.layout.columns t in subst (Inside rows columns) (sym (ap either t))
+          (behind_inside place (omega arith) i)
       by_test false t = subst (Inside rows columns) (sym (ap either t)) (start_inside (line_feed s p place).1 (fed_inside s p place e i))
 
-  pub typed_inside : (fonts : FontSet) (s : Screen) (p place v : ℕ) (colouring : Colouring) → s.layout.rows ≡ rows → s.layout.columns ≡ columns → Inside rows columns place → Inside rows columns (type_character fonts s p place v colouring).1
+  pub typed_inside : (fonts : FontSet) (s : Screen) (p place v : ℕ) (colouring : Colouring) → s.layout.rows ≡ rows → s.layout.columns ≡ columns →
+      Inside rows columns place → Inside rows columns (type_character fonts s p place v colouring).1
   unfolding type_character
   typed_inside fonts s p place v colouring e w i = by_tests (v == 0x07) (v == 0x08) (v == 0x0A) (v == 0x0D)
     where
@@ -70,7 +74,8 @@ module _ (rows columns : ℕ) (narrow : columns ≤ 80) where
       on : Screen × ℕ
       on = cursor_advance (put_character fonts s p place v colouring) p place
 
-      by_tests : (a b g f : Bool) → Inside rows columns (let x : Screen × ℕ = (if a then (s, place) else if b then (s, back) else if g then line_feed s p place else if f then (s, line_start place) else on) in x.1)
+      by_tests : (a b g f : Bool) → Inside rows columns (let x : Screen × ℕ = (if a then (s, place) else if b then (s, back) else if g then line_feed s p place
+          else if f then (s, line_start place) else on) in x.1)
       by_tests true b g f = i
       by_tests false true g f = back_inside place i
       by_tests false false true f = fed_inside s p place e i

@@ -125,7 +125,8 @@ planar_frames : (m : Planes) (c : CardState) (d : BiosData) → IsPlanar m c d �
 planar_frames m c d t z =
     let s = pixel_screen (row_of m) c d in
     let off : is_text d.mode ≡ false = ap is_text t.number ∙ text_by m in
-    let start_is : (g : ℕ) → start_address d g ≡ (row_of m).size * g = λ g. ap (λ b. if b then d.size * g / 2 else d.size * g) off ∙ ap (λ n. n * g) t.has.size in
+    let start_is : (g : ℕ) → start_address d g ≡ (row_of m).size * g = λ g. ap (λ b. if b then d.size * g / 2 else d.size * g) off
+    ∙ ap (λ n. n * g) t.has.size in
     record {
       raster = raster m;
       has = planar.has_raster m c d t z;
@@ -178,7 +179,8 @@ packed_frames c d t z =
 
 -- ---- any mode
 
-frames_by : (c : CardState) (d : BiosData) (k : Graphics) → d.mode ≡ number_in k → AllTests (row_in k) c d → IsCard c → HasFrames c d (pixel_screen (row_in k) c d)
+frames_by : (c : CardState) (d : BiosData) (k : Graphics) → d.mode ≡ number_in k → AllTests (row_in k) c d → IsCard c →
+    HasFrames c d (pixel_screen (row_in k) c d)
 frames_by c d (Sixteen m) n tests z = planar_frames m c d (record { number = n; tests = tests; has = data_is (row_of m) d tests.data_test }) z
 frames_by c d Many n tests z = packed_frames c d (record { number = n; tests = tests; has = data_is bytes_320_by_200 d tests.data_test }) z
 

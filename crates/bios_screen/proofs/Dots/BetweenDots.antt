@@ -1,5 +1,6 @@
 -- Services between dots: the adapter still follows the plain screen.
-use Rattle.std.proofs.Common.{◌≡◌, ◌≢◌, ℕ, zero, suc, ◌<◌, ◌/◌, inl, inr, refl, sym, ap, subst, ◌∙◌, Bool, true, false, List, [], ◌∷◌, ◌++◌, length, Option, Some, None}
+use Rattle.std.proofs.Common.{◌≡◌, ◌≢◌, ℕ, zero, suc, ◌<◌, ◌/◌, inl, inr, refl, sym, ap, subst, ◌∙◌, Bool, true, false, List, [], ◌∷◌, ◌++◌, length, Option}
+use Rattle.std.proofs.Common.{Some, None}
 use Rattle.std.specs.Prelude.{◌==◌, ◌*◌, if◌then◌else◌}
 use Rattle.std.proofs.Common.{arith}
 use Rattle.std.proofs.lemmas.Nat.{mul-le}
@@ -42,13 +43,16 @@ lines_kept s t same (suc n) =
     ∙ ap (λ m. lines_before s n ++ (if is_of_picture s n then n / dots_a_line m ∷ [] else [])) same.mode
 
 -- the beam that stays is at the same dot, where frames are the same
-at_kept : (c y : CardState) (start n : ℕ) → ((a f k : ℕ) → beam_at (character_width c) c.crtc.registers a f k ≡ beam_at (character_width y) y.crtc.registers a f k)
+at_kept : (c y : CardState) (start n : ℕ) → ((a f k : ℕ) → beam_at (character_width c) c.crtc.registers a f k
+    ≡ beam_at (character_width y) y.crtc.registers a f k)
     → y.crtc.beam ≡ c.crtc.beam → BeamIsAt c start n → BeamIsAt y start n
 at_kept c y start zero same e at = subst IsFrameStart (sym e) at
-at_kept c y start (suc n) same e at = e ∙ at ∙ same start c.crtc.beam.frame (suc n) ∙ ap (λ (b : Beam). beam_at (character_width y) y.crtc.registers start b.frame (suc n)) (sym e)
+at_kept c y start (suc n) same e at = e ∙ at ∙ same start c.crtc.beam.frame (suc n)
+    ∙ ap (λ (b : Beam). beam_at (character_width y) y.crtc.registers start b.frame (suc n)) (sym e)
 
 -- a state that shows another screen of the same cut, with the same beam and the same dots drawn
-pub screen_follows : (c y : CardState) (d after : BiosData) (b : Drawing) (t : Screen) → Follows c d b → IsCard y → shown y after ≡ Some t → y.crtc.beam ≡ c.crtc.beam → y.drawn ≡ c.drawn → IsCutAs b.screen t
+pub screen_follows : (c y : CardState) (d after : BiosData) (b : Drawing) (t : Screen) → Follows c d b → IsCard y → shown y after ≡ Some t →
+    y.crtc.beam ≡ c.crtc.beam → y.drawn ≡ c.drawn → IsCutAs b.screen t
     → Follows y after (record b { screen = t })
 screen_follows c y d after b t is z shows beam drawn same =
     let fresh_same : fresh y ≡ fresh c = ap (λ (x : Beam). fresh_dots x y.drawn) beam ∙ ap (fresh_dots c.crtc.beam) drawn in
@@ -76,7 +80,8 @@ screen_follows c y d after b t is z shows beam drawn same =
         let old : BeamIsAt c (start_address d b.page) (suc m) =
         subst (λ v. BeamIsAt c (start_address d (if v then b.screen.page else b.page)) (suc m)) (not_zero m)
         (subst (λ n. BeamIsAt c (start_address d (if n == 0 then b.screen.page else b.page)) n) e is.at) in
-        let new : BeamIsAt y (start_address after b.page) (suc m) = subst (λ a. BeamIsAt y a (suc m)) (frames.begins b.page) (at_kept c y (start_address d b.page) (suc m) frames.beam beam old) in
+        let new : BeamIsAt y (start_address after b.page) (suc m) = subst (λ a. BeamIsAt y a (suc m)) (frames.begins b.page)
+        (at_kept c y (start_address d b.page) (suc m) frames.beam beam old) in
         subst (λ n. BeamIsAt y (start_address after (if n == 0 then t.page else b.page)) n) (sym e)
         (subst (λ v. BeamIsAt y (start_address after (if v then t.page else b.page)) (suc m)) (sym (not_zero m)) new)
 
@@ -95,7 +100,8 @@ some_dots c d s h =
     subst (λ n. 0 < n) (all_is c d s h) (omega (arith, all))
 
 -- at the first dot of a frame whatever screen is shown is followed
-pub starts : (c : CardState) (d : BiosData) (b : Drawing) → IsCard c → shown c d ≡ Some b.screen → b.dot ≡ 0 → (is_first_dot c.crtc.beam ≡ true) → IsFrameStart c.crtc.beam → Follows c d b
+pub starts : (c : CardState) (d : BiosData) (b : Drawing) → IsCard c → shown c d ≡ Some b.screen → b.dot ≡ 0 → (is_first_dot c.crtc.beam ≡ true) →
+    IsFrameStart c.crtc.beam → Follows c d b
 unfolding lines_before bytes_of
 starts c d b z shows e first start =
     let h = frames_of c d b.screen z shows in
@@ -130,9 +136,12 @@ abbrev pub loaded_on : FontSet → Screen → GlyphLoad → List ℕ → Screen
 loaded_on fonts s load block = screen_unless (load_refusal_on s load (length block)) s (load_glyphs fonts s load block)
 
 -- it is followed
-pub load_follows : Begins → (fonts : FontSet) (load : GlyphLoad) (block : List ℕ) (c y : CardState) (d after : BiosData) (b : Drawing) → MayLoad b load (length block) → Follows c d b → IsCard y
-    → shown y after ≡ Some (loaded_on fonts b.screen load block) → y.crtc.beam ≡ c.crtc.beam → y.drawn ≡ c.drawn → Follows y after (record b { screen = loaded_on fonts b.screen load block })
+pub load_follows : Begins → (fonts : FontSet) (load : GlyphLoad) (block : List ℕ) (c y : CardState) (d after : BiosData) (b : Drawing) →
+    MayLoad b load (length block) → Follows c d b → IsCard y
+    → shown y after ≡ Some (loaded_on fonts b.screen load block) → y.crtc.beam ≡ c.crtc.beam → y.drawn ≡ c.drawn →
+    Follows y after (record b { screen = loaded_on fonts b.screen load block })
 load_follows begins fonts load block c y d after b (inl refused) is z shows beam drawn =
-    screen_follows c y d after b _ is z shows beam drawn (refused_cut (load_refusal_on b.screen load (length block)) b.screen (load_glyphs fonts b.screen load block) refused)
+    screen_follows c y d after b _ is z shows beam drawn (refused_cut (load_refusal_on b.screen load (length block)) b.screen
+    (load_glyphs fonts b.screen load block) refused)
 load_follows begins fonts load block c y d after b (inr zeroth) is z shows beam drawn =
     begins y after (record b { screen = loaded_on fonts b.screen load block }) z shows zeroth (subst IsFrameStart (sym beam) (start_of c d b is zeroth))

@@ -35,8 +35,10 @@ pub record HasAttribute (row : ModeRow) (a : AttrState) : Type 0 where
 pub attribute_is : (row : ModeRow) (a : AttrState) → IsAttr a → length row.attribute ≡ 21 → shows_attribute row a ≡ true → HasAttribute row a
 attribute_is row a z size h =
     let first = both_true (is_palette_shown a) _ h in
-    let second = both_true (bit_and (slice_index a.registers 0x10) 0xF7 == bit_and (slice_index row.attribute 0x10) 0xF7) (bytes_eq (drop 0x12 a.registers) (drop 0x12 row.attribute)) first.1 in
-    let last = sym (ap (drop 0x12) (spelled a.registers 21 z.size)) ∙ (bytes_eq-Decides (drop 0x12 a.registers) (drop 0x12 row.attribute)).0 second.1 ∙ ap (drop 0x12) (spelled row.attribute 21 size) in
+    let second = both_true (bit_and (slice_index a.registers 0x10) 0xF7 == bit_and (slice_index row.attribute 0x10) 0xF7)
+    (bytes_eq (drop 0x12 a.registers) (drop 0x12 row.attribute)) first.1 in
+    let last = sym (ap (drop 0x12) (spelled a.registers 21 z.size)) ∙ (bytes_eq-Decides (drop 0x12 a.registers) (drop 0x12 row.attribute)).0 second.1
+    ∙ ap (drop 0x12) (spelled row.attribute 21 size) in
     record {
       shown = first.0;
       control = same second.0;
@@ -77,7 +79,8 @@ module _ (c : CardState) (t : Coloured c) (z : IsCard c) where
   index_is : (n : ℕ) → n < 16 → colour_index c.attr n ≡ slice_index (palette_in c).values n
   index_is n l =
       let p = slice_index c.attr.registers n in
-      let e : picked c.attr n ≡ p = ap (λ (i : ℕ). slice_index c.attr.registers (bit_and n (field i 3 0))) t.planes ∙ ap (slice_index c.attr.registers) (same_nibble n l) in
+      let e : picked c.attr n ≡ p = ap (λ (i : ℕ). slice_index c.attr.registers (bit_and n (field i 3 0))) t.planes
+      ∙ ap (slice_index c.attr.registers) (same_nibble n l) in
       ap (λ i. field i 3 0 + 16 * (if is_colour_select_wide c.attr then colour_select_middle c.attr else field i 5 4) + 64 * colour_select_high c.attr) e
       ∙ ap (λ w. field p 3 0 + 16 * (if w then colour_select_middle c.attr else field p 5 4) + 64 * colour_select_high c.attr) t.wide
       ∙ ap (λ i. field p 3 0 + 16 * field p 5 4 + 64 * field i 3 2) t.select
@@ -87,7 +90,8 @@ module _ (c : CardState) (t : Coloured c) (z : IsCard c) where
   number_is : (s : CrtcState) → colour_number c.host s c.attr ≡ colour_index c.attr (nibble c.host s c.attr)
   unfolding colour_number
   number_is s =
-      ap (λ w. if not w then overscan c.attr else if is_256_colours c.host then packed_byte c.host s (source_dot c.host s c.attr) else colour_index c.attr (nibble c.host s c.attr)) t.shown
+      ap (λ w. if not w then overscan c.attr else if is_256_colours c.host then packed_byte c.host s (source_dot c.host s c.attr)
+      else colour_index c.attr (nibble c.host s c.attr)) t.shown
       ∙ ap (λ w. if w then packed_byte c.host s (source_dot c.host s c.attr) else colour_index c.attr (nibble c.host s c.attr)) t.many
 
   -- a dot of these four bits has their colour

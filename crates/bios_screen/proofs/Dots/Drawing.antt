@@ -1,5 +1,6 @@
 -- A frame draws its picture, whatever the mode shows.
-use Rattle.std.proofs.Common.{◌≡◌, ℕ, ◌+◌, ◌*◌, ◌/◌, ◌%◌, ◌<◌, ◌≤◌, ◌↔◌, ⊎_elim, refl, sym, ap, subst, ◌∙◌, arith, Bool, true, false, List, [], ◌∷◌, ◌++◌, replicate, Some}
+use Rattle.std.proofs.Common.{◌≡◌, ℕ, ◌+◌, ◌*◌, ◌/◌, ◌%◌, ◌<◌, ◌≤◌, ◌↔◌, ⊎_elim, refl, sym, ap, subst, ◌∙◌, arith, Bool, true, false, List, [], ◌∷◌, ◌++◌}
+use Rattle.std.proofs.Common.{replicate, Some}
 use Rattle.std.specs.Prelude.{nat_lt, nat_le, if◌then◌else◌, ◌&&◌}
 use Rattle.std.proofs.lemmas.Bool.{cases_lt}
 use Rattle.std.proofs.lemmas.Bool.Decides.{nat_tests}
@@ -15,7 +16,8 @@ use Rattle.vga_card.specs.Picture.{Dot, lines_of, lines_from, bytes_of, shape}
 use Rattle.vga_card.specs.Card.{CardState}
 use Rattle.vga_card.specs.Dots.{character_width, fresh, display_dot, dots}
 use Rattle.vga_card.specs.Frames.{frame_count, frame, collect, display_dot_at, EndsFirst, DrawsPlaces}
-use Rattle.bios_screen.specs.Raster.{Raster, IsRaster, raster_of, HasRaster, Colours, width, line_dots, all_dots, colour_at, Draws, IsAtDot, picture_dot, PlacesDrawn, GoesOn, FrameEnded, IsPictureOf, picture_bytes, FrameDrawn}
+use Rattle.bios_screen.specs.Raster.{Raster, IsRaster, raster_of, HasRaster, Colours, width, line_dots, all_dots, colour_at, Draws, IsAtDot, picture_dot}
+use Rattle.bios_screen.specs.Raster.{PlacesDrawn, GoesOn, FrameEnded, IsPictureOf, picture_bytes, FrameDrawn}
 use Rattle.bios_screen.proofs.Base.Tests.{both_true, lt_is, le_is, lt_test, le_test, not_lt, not_le}
 use Rattle.bios_screen.proofs.Base.DotLists.{same_collected, dot_there, one_dot, row_dots, whole_picture, picture_lines, picture_bytes_are}
 
@@ -25,13 +27,17 @@ pub record DotLaws : Type 0 where
   pub place : (r : List ℕ) (b : Beam) → IsSamePlace b (started r b)
   pub first : (b : Beam) → (is_first_dot b ≡ true) ↔ IsFrameStart b
   pub left : (cw : ℕ) (r : List ℕ) (b : Beam) → dots_in_frame cw r (started r b) ≡ dots_in_frame cw r b
-  pub by_number : (cw : ℕ) (r : List ℕ) (b : Beam) (n : ℕ) → IsRegular r → IsFrameStart b → 0 < cw → n < lines r * dots_of_line cw r → started r (beam_dots cw r n b) ≡ beam_at cw r (first_counter r) b.frame n
-  pub any : (cw : ℕ) (r : List ℕ) (b : Beam) (start frame m n : ℕ) → IsRegular r → 0 < cw → m + n < lines r * dots_of_line cw r → started r b ≡ beam_at cw r start frame m → started r (beam_dots cw r n b) ≡ beam_at cw r start frame (m + n)
-  pub counted : (cw : ℕ) (r : List ℕ) (start frame n : ℕ) → 0 < cw → n < lines r * dots_of_line cw r → n + dots_in_frame cw r (beam_at cw r start frame n) ≡ lines r * dots_of_line cw r
+  pub by_number : (cw : ℕ) (r : List ℕ) (b : Beam) (n : ℕ) → IsRegular r → IsFrameStart b → 0 < cw → n < lines r * dots_of_line cw r →
+      started r (beam_dots cw r n b) ≡ beam_at cw r (first_counter r) b.frame n
+  pub any : (cw : ℕ) (r : List ℕ) (b : Beam) (start frame m n : ℕ) → IsRegular r → 0 < cw → m + n < lines r * dots_of_line cw r →
+      started r b ≡ beam_at cw r start frame m → started r (beam_dots cw r n b) ≡ beam_at cw r start frame (m + n)
+  pub counted : (cw : ℕ) (r : List ℕ) (start frame n : ℕ) → 0 < cw → n < lines r * dots_of_line cw r →
+      n + dots_in_frame cw r (beam_at cw r start frame n) ≡ lines r * dots_of_line cw r
   pub keep : (n : ℕ) (c : CardState) → dots n c ≡ record c { crtc = after_dots c.crtc (character_width c) n; drawn = (dots n c).drawn }
   pub ends : (c : CardState) → EndsFirst c
   pub places : (c : CardState) → DrawsPlaces c
-  pub regular_shape : (width height : ℕ) (drawn : List Dot) → 0 < width → 0 < height → lines_of drawn ≡ lines_from 0 (replicate height width) → shape drawn ≡ Some (record { width = width; height = height })
+  pub regular_shape : (width height : ℕ) (drawn : List Dot) → 0 < width → 0 < height → lines_of drawn ≡ lines_from 0 (replicate height width) →
+      shape drawn ≡ Some (record { width = width; height = height })
 
 wide : (v : Bool) → 0 < (if v then 8 else 9)
 wide true = omega arith
@@ -78,7 +84,8 @@ module _ (law : DotLaws) where
 
   -- i dots on from dot n
   beam_on : (c : CardState) (start n i : ℕ) → IsRegular c.crtc.registers → IsAtDot (raster_of c) c start n → n + i < all_dots (raster_of c)
-      → started c.crtc.registers (beam_dots (character_width c) c.crtc.registers i c.crtc.beam) ≡ beam_at (character_width c) c.crtc.registers start c.crtc.beam.frame (n + i)
+      → started c.crtc.registers (beam_dots (character_width c) c.crtc.registers i c.crtc.beam)
+      ≡ beam_at (character_width c) c.crtc.registers start c.crtc.beam.frame (n + i)
   unfolding all_dots
   beam_on c start n i regular at l = law.any (character_width c) c.crtc.registers c.crtc.beam start c.crtc.beam.frame n i regular (wide _) l at.beam
 
@@ -114,7 +121,8 @@ module _ (law : DotLaws) where
         ∙ sym (dot_there m f v at small)
 
     -- the dot i on from dot n is that of the picture
-    dot_shows : (n i : ℕ) → IsRegular c.crtc.registers → IsAtDot (raster_of c) c start n → n + i < all_dots (raster_of c) → display_dot_at c i ≡ picture_dot (raster_of c) f (n + i)
+    dot_shows : (n i : ℕ) → IsRegular c.crtc.registers → IsAtDot (raster_of c) c start n → n + i < all_dots (raster_of c) →
+        display_dot_at c i ≡ picture_dot (raster_of c) f (n + i)
     unfolding all_dots
     dot_shows n i regular at l =
         let r = c.crtc.registers in
@@ -133,7 +141,8 @@ module _ (law : DotLaws) where
     places_drawn n regular at j lo hi =
         let total = frame_left c start n at in
         law.places c j lo (omega (arith, total))
-        ∙ ap (λ l. fresh c ++ l) (same_collected (display_dot_at c) (λ i. picture_dot (raster_of c) f (n + i)) j (λ i h. dot_shows n i regular at (omega arith)))
+        ∙ ap (λ l. fresh c ++ l) (same_collected (display_dot_at c) (λ i. picture_dot (raster_of c) f (n + i)) j (λ i h.
+        dot_shows n i regular at (omega arith)))
 
     frame_ended : (n : ℕ) → IsRegular c.crtc.registers → IsAtDot (raster_of c) c start n → FrameEnded (raster_of c) c n f
     unfolding after_dots
@@ -143,7 +152,8 @@ module _ (law : DotLaws) where
         record {
           count = total;
           drawn = places_drawn n regular at (frame_count c) (law.ends c).some (omega (arith, total));
-          leaves = kept ∙ ap (λ (b : Beam). record c { crtc = record c.crtc { beam = b }; drawn = (frame c).drawn }) (sym (ap (λ (s : CardState). s.crtc.beam) kept) ∙ (law.ends c).next);
+          leaves = kept ∙ ap (λ (b : Beam). record c { crtc = record c.crtc { beam = b }; drawn = (frame c).drawn })
+              (sym (ap (λ (s : CardState). s.crtc.beam) kept) ∙ (law.ends c).next);
         }
 
   goes_on_from : (c : CardState) (start n : ℕ) → IsRegular c.crtc.registers → IsAtDot (raster_of c) c start n → GoesOn (raster_of c) c start n
@@ -156,8 +166,10 @@ module _ (law : DotLaws) where
       let kept = law.keep j c in
       let frame_is : c.crtc.beam.frame ≡ b.frame = sym (ap (λ (y : Beam). y.frame) on) ∙ (law.place r b).frame in
       record {
-        at = subst (λ (s : CardState). IsAtDot (raster_of c) s start (n + j)) (sym kept) (record { within = l; beam = on ∙ ap (λ f. beam_at w r start f (n + j)) frame_is });
-        keeps = kept ∙ ap (λ (y : Beam). record c { crtc = record c.crtc { beam = y }; drawn = (dots j c).drawn }) (sym (ap (λ (s : CardState). s.crtc.beam) kept));
+        at = subst (λ (s : CardState). IsAtDot (raster_of c) s start (n + j)) (sym kept)
+            (record { within = l; beam = on ∙ ap (λ f. beam_at w r start f (n + j)) frame_is });
+        keeps = kept ∙ ap (λ (y : Beam). record c { crtc = record c.crtc { beam = y }; drawn = (dots j c).drawn })
+            (sym (ap (λ (s : CardState). s.crtc.beam) kept));
         frame = ap (λ (s : CardState). s.crtc.beam.frame) kept ∙ sym frame_is;
       }
 
@@ -175,14 +187,17 @@ module _ (law : DotLaws) where
 
   -- ---- by the numbers of a mode
 
-  pub dots_are_picture : (m : Raster) (c : CardState) (start n : ℕ) (f : Colours) → HasRaster m c → IsAtDot m c start n → Draws m c start f → PlacesDrawn m c n f
-  dots_are_picture m c start n f has = subst (λ (k : Raster). IsAtDot k c start n → Draws k c start f → PlacesDrawn k c n f) has.numbers (λ at draws. places_drawn c start f draws n has.regular at)
+  pub dots_are_picture : (m : Raster) (c : CardState) (start n : ℕ) (f : Colours) → HasRaster m c → IsAtDot m c start n → Draws m c start f →
+      PlacesDrawn m c n f
+  dots_are_picture m c start n f has = subst (λ (k : Raster). IsAtDot k c start n → Draws k c start f →
+      PlacesDrawn k c n f) has.numbers (λ at draws. places_drawn c start f draws n has.regular at)
 
   pub dots_go_on : (m : Raster) (c : CardState) (start n : ℕ) → HasRaster m c → IsAtDot m c start n → GoesOn m c start n
   dots_go_on m c start n has = subst (λ (k : Raster). IsAtDot k c start n → GoesOn k c start n) has.numbers (λ at. goes_on_from c start n has.regular at)
 
   pub frame_is_ended : (m : Raster) (c : CardState) (start n : ℕ) (f : Colours) → HasRaster m c → IsAtDot m c start n → Draws m c start f → FrameEnded m c n f
-  frame_is_ended m c start n f has = subst (λ (k : Raster). IsAtDot k c start n → Draws k c start f → FrameEnded k c n f) has.numbers (λ at draws. frame_ended c start f draws n has.regular at)
+  frame_is_ended m c start n f has = subst (λ (k : Raster). IsAtDot k c start n → Draws k c start f →
+      FrameEnded k c n f) has.numbers (λ at draws. frame_ended c start f draws n has.regular at)
 
   pub starts_at_0 : (m : Raster) (c : CardState) → HasRaster m c → IsFrameStart c.crtc.beam → IsAtDot m c (first_counter c.crtc.registers) 0
   starts_at_0 m c has start = subst (λ (k : Raster). IsAtDot k c (first_counter c.crtc.registers) 0) has.numbers (at_start c has.regular start)
@@ -196,17 +211,20 @@ module _ (law : DotLaws) where
       let narrow : w ≤ line_dots m = mul-le m.columns m.dots m.characters m.dots raster.narrow (omega arith) in
       let rows : drawn ≡ collect (row_dots f w) h = e ∙ whole_picture m f narrow raster.low in
       record {
-        shape = law.regular_shape w h drawn (mul-le 1 1 m.columns m.dots raster.some_columns raster.some_dots) raster.some_lines (ap lines_of rows ∙ picture_lines f w h);
+        shape = law.regular_shape w h drawn (mul-le 1 1 m.columns m.dots raster.some_columns raster.some_dots) raster.some_lines (ap lines_of rows
+            ∙ picture_lines f w h);
         bytes = ap bytes_of rows ∙ picture_bytes_are f w h;
       }
 
-  pub frame_is_picture : (m : Raster) (c : CardState) (f : Colours) → HasRaster m c → IsFrameStart c.crtc.beam → Draws m c (first_counter c.crtc.registers) f → FrameDrawn m c f
+  pub frame_is_picture : (m : Raster) (c : CardState) (f : Colours) → HasRaster m c → IsFrameStart c.crtc.beam → Draws m c (first_counter c.crtc.registers) f →
+      FrameDrawn m c f
   frame_is_picture m c f has start draws =
       let ended = frame_is_ended m c (first_counter c.crtc.registers) 0 f has (starts_at_0 m c has start) draws in
       let none : 0 + frame_count c ≡ frame_count c = omega arith in
       let all : frame_count c ≡ all_dots m = sym none ∙ ended.count in
       record {
-        picture = all_are_picture m (frame c).drawn f has.raster (ended.drawn ∙ ap (λ l. l ++ collect (λ i. picture_dot m f (0 + i)) (frame_count c)) (nothing_yet c start)
+        picture = all_are_picture m (frame c).drawn f has.raster (ended.drawn ∙ ap (λ l. l
+            ++ collect (λ i. picture_dot m f (0 + i)) (frame_count c)) (nothing_yet c start)
             ∙ same_collected (λ i. picture_dot m f (0 + i)) (picture_dot m f) (frame_count c) (λ i l. let z : 0 + i ≡ i = omega arith in ap (picture_dot m f) z)
             ∙ ap (collect (picture_dot m f)) all);
         leaves = ended.leaves;

@@ -1,5 +1,6 @@
 -- One dot, any number of them, and the dots to the end of a frame: the adapter follows the plain screen.
-use Rattle.std.proofs.Common.{◌≡◌, ℕ, zero, suc, ◌+◌, ◌-◌, ◌*◌, ◌/◌, ◌%◌, ◌<◌, ◌≤◌, ⊎_elim, refl, sym, ap, subst, ◌∙◌, arith, Bool, true, false, List, [], ◌∷◌, ◌++◌, replicate, Some}
+use Rattle.std.proofs.Common.{◌≡◌, ℕ, zero, suc, ◌+◌, ◌-◌, ◌*◌, ◌/◌, ◌%◌, ◌<◌, ◌≤◌, ⊎_elim, refl, sym, ap, subst, ◌∙◌, arith, Bool, true, false, List, [], ◌∷◌}
+use Rattle.std.proofs.Common.{◌++◌, replicate, Some}
 use Rattle.std.specs.Prelude.{nat_lt, if◌then◌else◌, ◌==◌, ◌&&◌}
 use Rattle.std.proofs.lemmas.Bool.{cases_lt}
 use Rattle.std.proofs.lemmas.Bool.Decides.{nat_tests}
@@ -19,10 +20,12 @@ use Rattle.bios_services.specs.Cursor.{start_address}
 use Rattle.bios_screen.specs.Screen.{Screen}
 use Rattle.bios_screen.specs.Shown.{shown}
 use Rattle.bios_screen.specs.Picture.{dot_at, picture_width, picture_height, next_frame}
-use Rattle.bios_screen.specs.Raster.{Raster, Colours, raster_of, HasRaster, width, line_dots as dots_of_line, all_dots, picture_dot, IsAtDot as AtDot, IsFurther, FrameEnded}
+use Rattle.bios_screen.specs.Raster.{Raster, Colours, raster_of, HasRaster, width, line_dots as dots_of_line, all_dots, picture_dot, IsAtDot as AtDot}
+use Rattle.bios_screen.specs.Raster.{IsFurther, FrameEnded}
 use Rattle.bios_screen.proofs.Base.DotLists.{bytes_append, no_bytes, bytes_joined, same_joined, whole_picture, picture_lines}
 use Rattle.bios_screen.proofs.Dots.Drawing.{DotLaws, dots_are_picture, dots_go_on, frame_is_ended, starts_at_0}
-use Rattle.bios_screen.specs.Drawing.{dots_a_line, lines_a_frame, dots_a_frame, Drawing, page_shown, so_far, is_of_picture, colour_of, is_last, take_dot, take_dots, take_frame}
+use Rattle.bios_screen.specs.Drawing.{dots_a_line, lines_a_frame, dots_a_frame, Drawing, page_shown, so_far, is_of_picture, colour_of, is_last, take_dot}
+use Rattle.bios_screen.specs.Drawing.{take_dots, take_frame}
 use Rattle.bios_screen.specs.Follows.{BeamIsAt, RowsJoin, lines_before, Follows, EndsFrame}
 use Rattle.bios_screen.proofs.Dots.Any.{HasFrames, frames_of}
 use Rattle.bios_screen.proofs.Shows.Steady.{shown_moved, frame_shown}
@@ -30,7 +33,8 @@ use Rattle.bios_screen.proofs.Shows.Steady.{shown_moved, frame_shown}
 -- what the laws of the beam and of the adapter say of dots
 pub record Laws : Type 0 where
   pub of_dots : DotLaws
-  pub moves : (cw : ℕ) (r : List ℕ) (b : Beam) (start frame m n : ℕ) → IsRegular r → 0 < cw → m + n < lines r * line_of_dots cw r → started r b ≡ beam_at cw r start frame m → 0 < n → beam_dots cw r n b ≡ beam_at cw r start frame (m + n)
+  pub moves : (cw : ℕ) (r : List ℕ) (b : Beam) (start frame m n : ℕ) → IsRegular r → 0 < cw → m + n < lines r * line_of_dots cw r →
+      started r b ≡ beam_at cw r start frame m → 0 < n → beam_dots cw r n b ≡ beam_at cw r start frame (m + n)
   pub past : (cw : ℕ) (r : List ℕ) (start frame n : ℕ) → 0 < n → started r (beam_at cw r start frame n) ≡ beam_at cw r start frame n
   pub split : (a b : ℕ) (c : CardState) → dots (a + b) c ≡ dots b (dots a c)
   pub bounds : (n : ℕ) (c : CardState) → IsCard c → IsCard (dots n c)
@@ -179,7 +183,8 @@ module _ (c : CardState) (d : BiosData) (s : Screen) (h : HasFrames c d s) where
 
 -- ---- one dot
 
-at_of : Laws → (m : Raster) (c : CardState) (start n : ℕ) → HasRaster m c → n < all_dots m → (n ≡ 0 → first_counter c.crtc.registers ≡ start) → BeamIsAt c start n → AtDot m c start n
+at_of : Laws → (m : Raster) (c : CardState) (start n : ℕ) → HasRaster m c → n < all_dots m → (n ≡ 0 → first_counter c.crtc.registers ≡ start) →
+    BeamIsAt c start n → AtDot m c start n
 at_of law m c start zero has within first at = subst (λ a. AtDot m c a 0) (first refl) (starts_at_0 law.of_dots m c has at)
 at_of law m c start (suc n) has within first at = record {
   within = within;
@@ -187,7 +192,8 @@ at_of law m c start (suc n) has within first at = record {
 }
 
 -- whatever is drawn of a frame, its dots join that with the colours of the screen
-pub rows_join : Laws → (c : CardState) (d : BiosData) (s : Screen) (page n : ℕ) → IsCard c → shown c d ≡ Some s → page < s.layout.pages → n < dots_a_frame s.mode → (n ≡ 0 → page ≡ s.page)
+pub rows_join : Laws → (c : CardState) (d : BiosData) (s : Screen) (page n : ℕ) → IsCard c → shown c d ≡ Some s → page < s.layout.pages →
+    n < dots_a_frame s.mode → (n ≡ 0 → page ≡ s.page)
     → BeamIsAt c (start_address d page) n → RowsJoin c s page n
 rows_join law c d s page n z shows lp within first at j some few =
     let h = frames_of c d s z shows in
@@ -198,7 +204,8 @@ rows_join law c d s page n z shows lp within first at j some few =
     let one : ℕ → List Dot = λ i. picture_dot m f (n + i) in
     ap bytes_of (dots_are_picture law.of_dots m c (start_address d page) n f h.has here (h.draws page lp) j some (omega arith))
     ∙ bytes_append (fresh c) (collect one j)
-    ∙ ap (λ l. bytes_of (fresh c) ++ l) (bytes_joined one j ∙ same_joined (λ i. bytes_of (one i)) (λ i. colour_of s page (n + i)) j (λ i. dot_bytes c d s h page (n + i)))
+    ∙ ap (λ l. bytes_of (fresh c) ++ l) (bytes_joined one j ∙ same_joined (λ i. bytes_of (one i)) (λ i. colour_of s page (n + i)) j (λ i.
+    dot_bytes c d s h page (n + i)))
 
 -- what one dot draws, and that the adapter follows
 pub record DotTaken (c : CardState) (d : BiosData) (b : Drawing) : Type 0 where
@@ -267,7 +274,8 @@ module _ (law : Laws) (c : CardState) (d : BiosData) (b : Drawing) (z : IsCard c
     away = is_away (is_first_dot (dot c).crtc.beam) (λ t.
         let count = ended.count in
         let l = later in
-        (law.of_dots.ends c).first 1 (omega arith) (omega arith) (subst (λ (x : CardState). IsFrameStart x.crtc.beam) (sym (dot_is_one c)) ((law.of_dots.first (dot c).crtc.beam).0 t)))
+        (law.of_dots.ends c).first 1 (omega arith) (omega arith) (subst (λ (x : CardState). IsFrameStart x.crtc.beam) (sym (dot_is_one c))
+        ((law.of_dots.first (dot c).crtc.beam).0 t)))
 
     further : IsFurther h.raster c start n 1
     further = dots_go_on law.of_dots h.raster c start n h.has at 1 later
@@ -300,7 +308,8 @@ module _ (law : Laws) (c : CardState) (d : BiosData) (b : Drawing) (z : IsCard c
       page = subst (λ v. (if v then s.page else g) < s.layout.pages) (sym (not_zero n)) is.page;
       at = subst (λ v. BeamIsAt (dot c) (start_address d (if v then s.page else g)) (suc n)) (sym (not_zero n)) at_next;
       lines = ap (λ v. lines_of (if v then [] else (dot c).drawn)) away ∙ lines_are;
-      bytes = ap (λ v. bytes_of (if v then [] else (dot c).drawn)) away ∙ bytes_are ∙ sym (ap (λ v. if v then [] else so_far b ++ colour_of s g n) (not_zero n));
+      bytes = ap (λ v. bytes_of (if v then [] else (dot c).drawn)) away ∙ bytes_are
+          ∙ sym (ap (λ v. if v then [] else so_far b ++ colour_of s g n) (not_zero n));
     }
 
   -- ---- where it ends
@@ -313,7 +322,8 @@ module _ (law : Laws) (c : CardState) (d : BiosData) (b : Drawing) (z : IsCard c
         ap (λ k. dots k c) one ∙ dot_is_one c
 
     leaves : dot c ≡ record c { crtc = record c.crtc { beam = first_dot ((c.crtc.beam.frame + 1) % 32) }; drawn = (dot c).drawn }
-    leaves = subst (λ (x : CardState). x ≡ record c { crtc = record c.crtc { beam = first_dot ((c.crtc.beam.frame + 1) % 32) }; drawn = x.drawn }) ends_here ended.leaves
+    leaves = subst (λ (x : CardState). x ≡ record c { crtc = record c.crtc { beam = first_dot ((c.crtc.beam.frame + 1) % 32) }; drawn = x.drawn }) ends_here
+        ended.leaves
 
     starts : IsFrameStart (dot c).crtc.beam
     starts = subst (λ (x : CardState). IsFrameStart x.crtc.beam) (sym leaves) (record { line = refl; character = refl; dot = refl })
@@ -339,7 +349,8 @@ module _ (law : Laws) (c : CardState) (d : BiosData) (b : Drawing) (z : IsCard c
     bytes = bytes_are;
     follows = ⊎_elim
         (λ (l : n + 1 < dots_a_frame s.mode). subst (Follows (dot c) d) (sym (taken_on b l)) (follows_on l))
-        (λ (l : dots_a_frame s.mode ≤ n + 1). let e : n + 1 ≡ dots_a_frame s.mode = omega (arith, is.within) in subst (Follows (dot c) d) (sym (taken_last b e)) (follows_renewed e))
+        (λ (l : dots_a_frame s.mode ≤ n + 1). let e : n + 1 ≡ dots_a_frame s.mode = omega (arith, is.within) in
+        subst (Follows (dot c) d) (sym (taken_last b e)) (follows_renewed e))
         (cases_lt (n + 1) (dots_a_frame s.mode));
   }
 

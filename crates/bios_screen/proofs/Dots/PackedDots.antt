@@ -5,7 +5,8 @@ use Rattle.vga_bits.specs.Bits.{is_set}
 use Rattle.vga_planes.specs.Planes.{byte_at}
 use Rattle.vga_host.specs.Fields.{is_eight_dots, character_width as host_width, is_screen_off, is_256_colours}
 use Rattle.vga_crtc.specs.Crtc.{CrtcState}
-use Rattle.vga_crtc.specs.Fields.{horizontal_total, horizontal_display_end, vertical_total, preset_row_scan, byte_panning, maximum_scan_line, is_double_scan, start_address as address_of, vertical_display_end, offset, is_double_word, line_compare}
+use Rattle.vga_crtc.specs.Fields.{horizontal_total, horizontal_display_end, vertical_total, preset_row_scan, byte_panning, maximum_scan_line, is_double_scan}
+use Rattle.vga_crtc.specs.Fields.{start_address as address_of, vertical_display_end, offset, is_double_word, line_compare}
 use Rattle.vga_crtc.specs.Beam.{characters, lines, first_counter}
 use Rattle.vga_crtc.specs.Raster.{IsRegular, regular_beam}
 use Rattle.vga_attr.specs.Fields.{panning, overscan}
@@ -107,12 +108,19 @@ module _ (c : CardState) (d : BiosData) (t : IsPacked c d) (z : IsCard c) where
       record {
         raster = record { some_dots = omega arith; some_columns = omega arith; some_lines = omega arith; narrow = omega arith; low = omega arith };
         regular = subst IsRegular (sym t.tests.crtc) (regular_by d.cursor_type (start_address d d.page) location);
-        numbers = ap (λ w. let q : Raster = record { dots = if w then 8 else 9; columns = horizontal_display_end r + 1; height = vertical_display_end r + 1; characters = characters r; lines = lines r } in q) eight_dots
+        numbers = ap (λ w. let q : Raster = record {
+          dots = if w then 8 else 9;
+          columns = horizontal_display_end r + 1;
+          height = vertical_display_end r + 1;
+          characters = characters r;
+          lines = lines r;
+        } in q) eight_dots
             ∙ ap numbers_of t.tests.crtc ∙ numbers_by d.cursor_type (start_address d d.page) location;
       }
 
   pub first_is : first_counter c.crtc.registers ≡ 0
-  first_is = ap first_counter t.tests.crtc ∙ first_by d.cursor_type (start_address d d.page) location ∙ ap (λ n. (256 * (n / 256) + n % 256 + 0) % 65536) start_is
+  first_is = ap first_counter t.tests.crtc ∙ first_by d.cursor_type (start_address d d.page) location
+      ∙ ap (λ n. (256 * (n / 256) + n % 256 + 0) % 65536) start_is
 
   abbrev placed : ℕ → ℕ → ℕ → CrtcState
   placed v x k = record c.crtc { beam = regular_beam c.crtc.registers 0 c.crtc.beam.frame v x k }
@@ -138,10 +146,12 @@ module _ (c : CardState) (d : BiosData) (t : IsPacked c d) (z : IsCard c) where
       ap (λ p. source_at at (host_width c.host) (k + p)) (unpanned v x k)
       ∙ ap (source_at at (host_width c.host)) none
       ∙ ap (λ w. source_at at (if w then 8 else 9) k) eight_dots
-      ∙ ap (λ w. if w then (let q : SourceDot = record { counter = counter_of at x; dot = k } in q) else record { counter = counter_of at (x + 1); dot = k - 8 }) (lt_test k 8 lk)
+      ∙ ap (λ w. if w then (let q : SourceDot = record { counter = counter_of at x; dot = k } in q)
+      else record { counter = counter_of at (x + 1); dot = k - 8 }) (lt_test k 8 lk)
       ∙ ap (λ n. let q : SourceDot = record { counter = n; dot = k } in q) (counter_is v x k lv lx)
 
-  byte_is : (v x k : ℕ) → v < 400 → x < 80 → k < 8 → packed_byte c.host (placed v x k) (source_dot c.host (placed v x k) c.attr) ≡ byte_at c.host.memory (k / 2) (4 * (80 * (v / 2) + x))
+  byte_is : (v x k : ℕ) → v < 400 → x < 80 → k < 8 → packed_byte c.host (placed v x k) (source_dot c.host (placed v x k) c.attr)
+      ≡ byte_at c.host.memory (k / 2) (4 * (80 * (v / 2) + x))
   unfolding packed_byte
   byte_is v x k lv lx lk =
       let at = placed v x k in

@@ -37,18 +37,27 @@ record IsDrawn (m : Raster) (row : ModeRow) (c : CardState) (d : BiosData) : Typ
   text : is_text d.mode ≡ false
   tests : AllTests row c d
   raster : HasRaster m c
-  size : (let x : Shape = record { width = width m; height = m.height } in x) ≡ record { width = pixel_width d.mode * (8 * d.columns); height = pixel_height d.mode * (d.height * (d.last_row + 1)) }
+  size : (let x : Shape = record { width = width m; height = m.height } in x) ≡ record {
+    width = pixel_width d.mode * (8 * d.columns);
+    height = pixel_height d.mode * (d.height * (d.last_row + 1));
+  }
   draws : Draws m c (first_counter c.crtc.registers) (pixel_dot (pixel_screen row c d) d.page)
 
-framed : (law : DotLaws) (m : Raster) (row : ModeRow) (c : CardState) (d : BiosData) → IsDrawn m row c d → IsFrameStart c.crtc.beam → IsFramed c d (pixel_screen row c d)
+framed : (law : DotLaws) (m : Raster) (row : ModeRow) (c : CardState) (d : BiosData) → IsDrawn m row c d → IsFrameStart c.crtc.beam →
+    IsFramed c d (pixel_screen row c d)
 framed law m row c d t start =
     let s = pixel_screen row c d in
     let f = dot_at s d.page in
-    let places : Draws m c (first_counter c.crtc.registers) f = λ v x k lv lx lk. t.draws v x k lv lx lk ∙ sym (ap (λ b. if b then text_dot s d.page (x * m.dots + k) v else pixel_dot s d.page (x * m.dots + k) v) t.text) in
+    let places : Draws m c (first_counter c.crtc.registers) f = λ v x k lv lx lk. t.draws v x k lv lx lk
+    ∙ sym (ap (λ b. if b then text_dot s d.page (x * m.dots + k) v else pixel_dot s d.page (x * m.dots + k) v) t.text) in
     let drawn = frame_is_picture law m c f t.raster start places in
     let y : CardState = record c { crtc = record c.crtc { beam = first_dot ((c.crtc.beam.frame + 1) % 32) }; drawn = (frame c).drawn } in
     let size : (let x : Shape = record { width = width m; height = m.height } in x) ≡ record { width = picture_width s; height = picture_height s } =
-    t.size ∙ sym (ap (λ b. let x : Shape = record { width = if b then 9 * d.columns else pixel_width d.mode * (8 * d.columns); height = if b then d.height * (d.last_row + 1) else pixel_height d.mode * (d.height * (d.last_row + 1)) } in x) t.text) in
+    t.size ∙ sym (ap (λ b. let x : Shape = record {
+      width = if b then 9 * d.columns else pixel_width d.mode * (8 * d.columns);
+      height = if b
+          then d.height * (d.last_row + 1) else pixel_height d.mode * (d.height * (d.last_row + 1));
+    } in x) t.text) in
     let a = t.tests in
     let after : AllTests row y d = record { memory = a.memory; data_test = a.data_test; crtc = a.crtc; attribute = a.attribute } in
     record {
@@ -60,30 +69,49 @@ framed law m row c d t start =
 
 -- ---- the modes of graphics
 
-planar_drawn : (m : Planes) (c : CardState) (d : BiosData) → row_at d.mode d.height ≡ Some (row_of m) → IsPlanar m c d → IsCard c → IsDrawn (raster m) (row_of m) c d
+planar_drawn : (m : Planes) (c : CardState) (d : BiosData) → row_at d.mode d.height ≡ Some (row_of m) → IsPlanar m c d → IsCard c →
+    IsDrawn (raster m) (row_of m) c d
 planar_drawn m c d e t z = record {
   mode = e;
   text = ap is_text t.number ∙ text_by m;
   tests = t.tests;
   raster = planar.has_raster m c d t z;
   size = size_by m c d t;
-  draws = subst (λ a. Draws (raster m) c a (pixel_dot (pixel_screen (row_of m) c d) d.page)) (sym (planar.first_is m c d t z)) (planar.draws m c d t z d.page t.has.page);
+  draws = subst (λ a. Draws (raster m) c a (pixel_dot (pixel_screen (row_of m) c d) d.page)) (sym (planar.first_is m c d t z))
+      (planar.draws m c d t z d.page t.has.page);
 }
   where
-    shape_by : (n : Planes) → (let x : Shape = record { width = width (raster n); height = (raster n).height } in x) ≡ record { width = pixel_width (number_of n) * (8 * (row_of n).columns); height = pixel_height (number_of n) * ((row_of n).height * ((row_of n).last_row + 1)) }
+    shape_by : (n : Planes) → (let x : Shape = record { width = width (raster n); height = (raster n).height } in x)
+        ≡ record {
+          width = pixel_width (number_of n) * (8 * (row_of n).columns);
+          height =
+              pixel_height (number_of n) * ((row_of n).height * ((row_of n).last_row + 1));
+        }
     shape_by Low = refl
     shape_by Middle = refl
     shape_by High = refl
 
-    size_by : (n : Planes) (x : CardState) (y : BiosData) → IsPlanar n x y → (let q : Shape = record { width = width (raster n); height = (raster n).height } in q) ≡ record { width = pixel_width y.mode * (8 * y.columns); height = pixel_height y.mode * (y.height * (y.last_row + 1)) }
+    size_by : (n : Planes) (x : CardState) (y : BiosData) → IsPlanar n x y → (let q : Shape = record { width = width (raster n); height = (raster n).height } in
+        q) ≡ record { width = pixel_width y.mode * (8 * y.columns); height = pixel_height y.mode * (y.height * (y.last_row + 1)) }
     size_by n x y q =
         shape_by n
-        ∙ sym (ap (λ i. let w : Shape = record { width = pixel_width i * (8 * y.columns); height = pixel_height i * (y.height * (y.last_row + 1)) } in w) q.number
-        ∙ ap (λ i. let w : Shape = record { width = pixel_width (number_of n) * (8 * i); height = pixel_height (number_of n) * (y.height * (y.last_row + 1)) } in w) q.has.columns
-        ∙ ap (λ i. let w : Shape = record { width = pixel_width (number_of n) * (8 * (row_of n).columns); height = pixel_height (number_of n) * (i * (y.last_row + 1)) } in w) q.has.height
-        ∙ ap (λ i. let w : Shape = record { width = pixel_width (number_of n) * (8 * (row_of n).columns); height = pixel_height (number_of n) * ((row_of n).height * (i + 1)) } in w) q.has.last_row)
+        ∙ sym (ap (λ i. let w : Shape = record { width = pixel_width i * (8 * y.columns); height = pixel_height i * (y.height * (y.last_row + 1)) } in w)
+        q.number
+        ∙ ap (λ i. let w : Shape = record {
+          width = pixel_width (number_of n) * (8 * i);
+          height = pixel_height (number_of n) * (y.height * (y.last_row + 1));
+        } in w) q.has.columns
+        ∙ ap (λ i. let w : Shape = record {
+          width = pixel_width (number_of n) * (8 * (row_of n).columns);
+          height = pixel_height (number_of n) * (i * (y.last_row + 1));
+        } in w) q.has.height
+        ∙ ap (λ i. let w : Shape = record {
+          width = pixel_width (number_of n) * (8 * (row_of n).columns);
+          height = pixel_height (number_of n) * ((row_of n).height * (i + 1));
+        } in w) q.has.last_row)
 
-packed_drawn : (c : CardState) (d : BiosData) → row_at d.mode d.height ≡ Some bytes_320_by_200 → IsPacked c d → IsCard c → IsDrawn packed_raster bytes_320_by_200 c d
+packed_drawn : (c : CardState) (d : BiosData) → row_at d.mode d.height ≡ Some bytes_320_by_200 → IsPacked c d → IsCard c →
+    IsDrawn packed_raster bytes_320_by_200 c d
 packed_drawn c d e t z =
     let page = packed.only_page c d t z in
     record {
@@ -91,7 +119,8 @@ packed_drawn c d e t z =
       text = ap is_text t.number;
       tests = t.tests;
       raster = packed.has_raster c d t z;
-      size = sym (ap (λ i. let w : Shape = record { width = pixel_width i * (8 * d.columns); height = pixel_height i * (d.height * (d.last_row + 1)) } in w) t.number
+      size = sym (ap (λ i. let w : Shape = record { width = pixel_width i * (8 * d.columns); height = pixel_height i * (d.height * (d.last_row + 1)) } in w)
+          t.number
           ∙ ap (λ i. let w : Shape = record { width = 2 * (8 * i); height = 2 * (d.height * (d.last_row + 1)) } in w) t.has.columns
           ∙ ap (λ i. let w : Shape = record { width = 640; height = 2 * (i * (d.last_row + 1)) } in w) t.has.height
           ∙ ap (λ i. let w : Shape = record { width = 640; height = 2 * (8 * (i + 1)) } in w) t.has.last_row);
@@ -100,9 +129,12 @@ packed_drawn c d e t z =
     }
 
 -- a mode of graphics is one of these
-frame_by : (law : DotLaws) (c : CardState) (d : BiosData) (k : Graphics) → row_at d.mode d.height ≡ Some (row_in k) → d.mode ≡ number_in k → AllTests (row_in k) c d → IsCard c → IsFrameStart c.crtc.beam → IsFramed c d (pixel_screen (row_in k) c d)
-frame_by law c d (Sixteen m) e n tests z start = framed law (raster m) (row_of m) c d (planar_drawn m c d e (record { number = n; tests = tests; has = data_is (row_of m) d tests.data_test }) z) start
-frame_by law c d Many e n tests z start = framed law packed_raster bytes_320_by_200 c d (packed_drawn c d e (record { number = n; tests = tests; has = data_is bytes_320_by_200 d tests.data_test }) z) start
+frame_by : (law : DotLaws) (c : CardState) (d : BiosData) (k : Graphics) → row_at d.mode d.height ≡ Some (row_in k) → d.mode ≡ number_in k →
+    AllTests (row_in k) c d → IsCard c → IsFrameStart c.crtc.beam → IsFramed c d (pixel_screen (row_in k) c d)
+frame_by law c d (Sixteen m) e n tests z start = framed law (raster m) (row_of m) c d
+    (planar_drawn m c d e (record { number = n; tests = tests; has = data_is (row_of m) d tests.data_test }) z) start
+frame_by law c d Many e n tests z start = framed law packed_raster bytes_320_by_200 c d
+    (packed_drawn c d e (record { number = n; tests = tests; has = data_is bytes_320_by_200 d tests.data_test }) z) start
 
 -- a frame of any screen
 pub frame_drawn : (law : DotLaws) (c : CardState) (d : BiosData) (s : Screen) → IsCard c → shown c d ≡ Some s → IsFrameStart c.crtc.beam → IsFramed c d s

@@ -33,12 +33,15 @@ use Rattle.bios_screen.proofs.Base.Tests.{lt_test}
 use Rattle.bios_screen.proofs.Base.Setting.{Setting}
 use Rattle.bios_screen.proofs.Shows.Screens.{setting_by, HasData, AllTests}
 use Rattle.bios_screen.proofs.Dots.Colours.{HasAttribute, attribute_is, control_bit, Coloured, dot_shade}
-use Rattle.bios_screen.proofs.Modes.PixelModes.{Planes, row_of, number_of, planar_graphics, graphics_by, text_by, packed_by, clock_by, on_by, attributes_by, control_by, planes_by, panning_by, select_by, raster, is_raster, dots_by, columns_by, numbers_of, numbers_by, regular_by, first_by, start_small, base_at, base_by, counter_by, fetch_by, pixel_within}
+use Rattle.bios_screen.proofs.Modes.PixelModes.{Planes, row_of, number_of, planar_graphics, graphics_by, text_by, packed_by, clock_by, on_by, attributes_by}
+use Rattle.bios_screen.proofs.Modes.PixelModes.{control_by, planes_by, panning_by, select_by, raster, is_raster, dots_by, columns_by, numbers_of, numbers_by}
+use Rattle.bios_screen.proofs.Modes.PixelModes.{regular_by, first_by, start_small, base_at, base_by, counter_by, fetch_by, pixel_within}
 
 -- ---- pixels by their numbers
 
 -- pixel k of page p
-pub pixel_at : (mode : ℕ) (m : Four (List ℕ)) (size n pages p k : ℕ) → p < pages → k < n → slice_index (get_or (pixel_pages mode m size n pages) p []) k ≡ pixel_in mode m (size * p) k
+pub pixel_at : (mode : ℕ) (m : Four (List ℕ)) (size n pages p k : ℕ) → p < pages → k < n →
+    slice_index (get_or (pixel_pages mode m size n pages) p []) k ≡ pixel_in mode m (size * p) k
 unfolding pixel_pages pixels_in
 pixel_at mode m size n pages p k lp lk =
     ap (λ l. slice_index l k) (listed_at (λ q. pixels_in mode m (size * q) n) pages p [] lp) ∙ listed_at (pixel_in mode m (size * p)) n k 0 lk
@@ -62,7 +65,9 @@ bits_small a b e f la lb le lf = omega arith
 
 plane_bits_small : (h : HostState) (address i : ℕ) → plane_bits h address i < 16
 unfolding plane_bits
-plane_bits_small h address i = bits_small (bit_at (byte_at h.memory 0 address) i) (bit_at (byte_at h.memory 1 address) i) (bit_at (byte_at h.memory 2 address) i) (bit_at (byte_at h.memory 3 address) i) (bit_at-lt (byte_at h.memory 0 address) i) (bit_at-lt (byte_at h.memory 1 address) i) (bit_at-lt (byte_at h.memory 2 address) i) (bit_at-lt (byte_at h.memory 3 address) i)
+plane_bits_small h address i = bits_small (bit_at (byte_at h.memory 0 address) i) (bit_at (byte_at h.memory 1 address) i)
+    (bit_at (byte_at h.memory 2 address) i) (bit_at (byte_at h.memory 3 address) i) (bit_at-lt (byte_at h.memory 0 address) i)
+    (bit_at-lt (byte_at h.memory 1 address) i) (bit_at-lt (byte_at h.memory 2 address) i) (bit_at-lt (byte_at h.memory 3 address) i)
 
 begins_at : (start : ℕ) → start < 65536 → (256 * (start / 256) + start % 256 + 0) % 65536 ≡ start
 begins_at start l = omega arith
@@ -116,7 +121,14 @@ module _ (m : Planes) (c : CardState) (d : BiosData) (t : IsPlanar m c d) (z : I
   panning_is = attribute.panning ∙ panning_by m
 
   coloured : Coloured c
-  coloured = record { on = screen_on; many = many_colours_off; wide = wide_is; planes = attribute.planes ∙ planes_by m; select = attribute.select ∙ select_by m; shown = attribute.shown }
+  coloured = record {
+    on = screen_on;
+    many = many_colours_off;
+    wide = wide_is;
+    planes = attribute.planes ∙ planes_by m;
+    select = attribute.select ∙ select_by m;
+    shown = attribute.shown;
+  }
 
   -- ---- the frame
 
@@ -128,7 +140,13 @@ module _ (m : Planes) (c : CardState) (d : BiosData) (t : IsPlanar m c d) (z : I
   numbers_are : raster_of c ≡ raster m
   numbers_are =
       let r = c.crtc.registers in
-      ap (λ w. let q : Raster = record { dots = if w then 8 else 9; columns = horizontal_display_end r + 1; height = vertical_display_end r + 1; characters = characters r; lines = lines r } in q) eight_dots
+      ap (λ w. let q : Raster = record {
+        dots = if w then 8 else 9;
+        columns = horizontal_display_end r + 1;
+        height = vertical_display_end r + 1;
+        characters = characters r;
+        lines = lines r;
+      } in q) eight_dots
       ∙ ap numbers_of t.tests.crtc
       ∙ numbers_by m d.cursor_type (start_address d d.page) location
 
@@ -179,7 +197,8 @@ module _ (m : Planes) (c : CardState) (d : BiosData) (t : IsPlanar m c d) (z : I
         ap (λ p. source_at at (host_width c.host) (k + p)) (unpanned v x k)
         ∙ ap (source_at at (host_width c.host)) none
         ∙ ap (λ w. source_at at (if w then 8 else 9) k) eight_dots
-        ∙ ap (λ w. if w then (let q : SourceDot = record { counter = counter_of at x; dot = k } in q) else record { counter = counter_of at (x + 1); dot = k - 8 }) (lt_test k 8 lk)
+        ∙ ap (λ w. if w then (let q : SourceDot = record { counter = counter_of at x; dot = k } in q)
+        else record { counter = counter_of at (x + 1); dot = k - 8 }) (lt_test k 8 lk)
         ∙ ap (λ n. let q : SourceDot = record { counter = n; dot = k } in q) (counter_is v x k lv lx)
 
     -- the pixel of the place
@@ -193,7 +212,8 @@ module _ (m : Planes) (c : CardState) (d : BiosData) (t : IsPlanar m c d) (z : I
         let i = 8 * w * y + (x * 8 + k) in
         let count = 8 * w * ((row_of m).height * ((row_of m).last_row + 1)) in
         let pages = (row_of m).pages in
-        ap (λ n. slice_index (get_or (pixel_pages d.mode c.host.memory d.size (8 * n * (d.height * (d.last_row + 1))) pages) g []) (8 * n * y + (x * 8 + k))) t.has.columns
+        ap (λ n. slice_index (get_or (pixel_pages d.mode c.host.memory d.size (8 * n * (d.height * (d.last_row + 1))) pages) g []) (8 * n * y + (x * 8 + k)))
+        t.has.columns
         ∙ ap (λ n. slice_index (get_or (pixel_pages d.mode c.host.memory d.size (8 * w * (n * (d.last_row + 1))) pages) g []) i) t.has.height
         ∙ ap (λ n. slice_index (get_or (pixel_pages d.mode c.host.memory d.size (8 * w * ((row_of m).height * (n + 1))) pages) g []) i) t.has.last_row
         ∙ ap (λ n. slice_index (get_or (pixel_pages d.mode c.host.memory n count pages) g []) i) t.has.size
@@ -220,7 +240,8 @@ module _ (m : Planes) (c : CardState) (d : BiosData) (t : IsPlanar m c d) (z : I
     dot_is x y =
         let whole : x / 1 ≡ x = omega arith in
         ap (λ n. let p = pixel_on s g (x / pixel_width n) (y / pixel_height n) in if is_packed n then tint s.palette p else shade s.palette p) t.number
-        ∙ ap (λ b. let p = pixel_on s g (x / (if b then 2 else 1)) (y / pixel_height (number_of m)) in if b then tint s.palette p else shade s.palette p) (packed_by m)
+        ∙ ap (λ b. let p = pixel_on s g (x / (if b then 2 else 1)) (y / pixel_height (number_of m)) in if b then tint s.palette p
+        else shade s.palette p) (packed_by m)
         ∙ ap (λ n. shade s.palette (pixel_on s g n (y / pixel_height (number_of m)))) whole
 
     pub draws : Draws (raster m) c (size * g) (pixel_dot s g)

@@ -17,12 +17,24 @@ use Rattle.bios_screen.proofs.Dots.TextRows.{numbers_of, frame_of}
 
 -- the numbers of the frames of a screen
 abbrev pub text_raster : (c : CardState) (d : BiosData) → IsShown c d → Raster
-text_raster c d h = let t = frame_of c d h in record { dots = 9; columns = h.row.columns; height = h.row.height * (h.row.last_row + 1); characters = t.all_characters; lines = t.all_lines }
+text_raster c d h = let t = frame_of c d h in record {
+  dots = 9;
+  columns = h.row.columns;
+  height = h.row.height * (h.row.last_row + 1);
+  characters = t.all_characters;
+  lines = t.all_lines;
+}
 
 numbers_are : (c : CardState) (d : BiosData) (h : IsShown c d) → raster_of c ≡ text_raster c d h
 numbers_are c d h =
     let r = c.crtc.registers in
-    ap (λ (s : Setting). let m : Raster = record { dots = if is_set (slice_index s.seq 1) 0 then 8 else 9; columns = horizontal_display_end r + 1; height = vertical_display_end r + 1; characters = characters r; lines = lines r } in m) h.setting
+    ap (λ (s : Setting). let m : Raster = record {
+      dots = if is_set (slice_index s.seq 1) 0 then 8 else 9;
+      columns = horizontal_display_end r + 1;
+      height = vertical_display_end r + 1;
+      characters = characters r;
+      lines = lines r;
+    } in m) h.setting
     ∙ ap numbers_of h.tests.crtc
     ∙ (frame_of c d h).numbers d.cursor_type (start_address d d.page) (cursor_address d d.page)
 
@@ -41,7 +53,9 @@ has_raster c d h =
     }
 
 -- the size of the screen's picture
-pub size_is : (c : CardState) (d : BiosData) (h : IsShown c d) → (let m : Shape = record { width = h.row.columns * 9; height = h.row.height * (h.row.last_row + 1) } in m ≡ record { width = picture_width (screen_shown c d h); height = picture_height (screen_shown c d h) })
+pub size_is : (c : CardState) (d : BiosData) (h : IsShown c d) → (let m : Shape =
+    record { width = h.row.columns * 9; height = h.row.height * (h.row.last_row + 1) } in m
+    ≡ record { width = picture_width (screen_shown c d h); height = picture_height (screen_shown c d h) })
 size_is c d h =
     let has = h.has in
     let turned : 9 * h.row.columns ≡ h.row.columns * 9 = omega arith in

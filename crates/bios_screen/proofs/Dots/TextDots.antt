@@ -14,7 +14,8 @@ use Rattle.vga_attr.specs.Fields.{is_palette_shown, is_monochrome, is_line_graph
 use Rattle.vga_dots.specs.declared.source_dot.SourceDot.{SourceDot}
 use Rattle.vga_dots.specs.declared.text.Cell.{Cell as DotCell}
 use Rattle.vga_dots.specs.SourceDot.{panned, counter_of, source_at, source_dot, fetch_address}
-use Rattle.vga_dots.specs.Text.{cell_at, map_start, glyph_row as row_of_glyph, is_glyph_dot as is_dot_of_glyph, is_underlined as is_cell_underlined, is_blinked_away as is_cell_blinked, is_cursor_at, is_foreground as is_cell_foreground, cell_nibble, text_nibble}
+use Rattle.vga_dots.specs.Text.{cell_at, map_start, glyph_row as row_of_glyph, is_glyph_dot as is_dot_of_glyph, is_underlined as is_cell_underlined}
+use Rattle.vga_dots.specs.Text.{is_blinked_away as is_cell_blinked, is_cursor_at, is_foreground as is_cell_foreground, cell_nibble, text_nibble}
 use Rattle.vga_dots.specs.Graphics.{planar_nibble}
 use Rattle.vga_dots.specs.Colour.{nibble as dot_nibble, dot_colour}
 use Rattle.vga_card.specs.Bounds.{IsCard}
@@ -145,7 +146,16 @@ module _ (c : CardState) (d : BiosData) (h : IsShown c d) (z : IsCard c) (g : �
 
   -- the beam at a place of the picture
   abbrev pub text_beam : ℕ → ℕ → ℕ → ℕ → Beam
-  text_beam frame v x k = record { frame = frame; line = v; character = x; dot = k; base = half * g + columns * (v / height); scan = v % height; half = false; split = false }
+  text_beam frame v x k = record {
+    frame = frame;
+    line = v;
+    character = x;
+    dot = k;
+    base = half * g + columns * (v / height);
+    scan = v % height;
+    half = false;
+    split = false;
+  }
 
   -- ---- registers
 
@@ -208,7 +218,8 @@ module _ (c : CardState) (d : BiosData) (h : IsShown c d) (z : IsCard c) (g : �
       ∙ ap (λ w. if w then p % 8 else if p == 8 then 0 else p % 8 + 1) eight_dots_off
       ∙ ap (λ n. if n == 8 then 0 else n % 8 + 1) panning_is
 
-  source_is : (v x k : ℕ) → v < height * rows → x < columns → k < 9 → source_dot c.host (placed v x k) c.attr ≡ record { counter = half * g + (columns * (v / height) + x); dot = k }
+  source_is : (v x k : ℕ) → v < height * rows → x < columns → k < 9 → source_dot c.host (placed v x k) c.attr
+      ≡ record { counter = half * g + (columns * (v / height) + x); dot = k }
   unfolding source_dot
   source_is v x k lv lx lk =
       let at = placed v x k in
@@ -216,8 +227,10 @@ module _ (c : CardState) (d : BiosData) (h : IsShown c d) (z : IsCard c) (g : �
       ap (λ p. source_at at (host_width c.host) (k + p)) (unpanned v x k)
       ∙ ap (source_at at (host_width c.host)) none
       ∙ ap (λ w. source_at at (if w then 8 else 9) k) eight_dots_off
-      ∙ ap (λ w. if w then (let q : SourceDot = record { counter = counter_of at x; dot = k } in q) else record { counter = counter_of at (x + 1); dot = k - 9 }) (lt_test k 9 lk)
-      ∙ ap (λ n. let q : SourceDot = record { counter = n; dot = k } in q) (counter_is (half * g) (columns * (v / height)) x (within (columns * (v / height) + x) (place_there v x lv lx)))
+      ∙ ap (λ w. if w then (let q : SourceDot = record { counter = counter_of at x; dot = k } in q)
+      else record { counter = counter_of at (x + 1); dot = k - 9 }) (lt_test k 9 lk)
+      ∙ ap (λ n. let q : SourceDot = record { counter = n; dot = k } in q) (counter_is (half * g) (columns * (v / height)) x
+      (within (columns * (v / height) + x) (place_there v x lv lx)))
 
   -- the cell q of the page, as the planes have it
   abbrev there : ℕ → Cell
@@ -252,7 +265,8 @@ module _ (c : CardState) (d : BiosData) (h : IsShown c d) (z : IsCard c) (g : �
       ∙ ap (byte_at c.host.memory 2) e
       ∙ sym (glyphs_at c.host.memory.plane2 4096 (16 * ch + r) (omega arith))
 
-  glyph_dot_is : (q r i : ℕ) → r < 16 → is_dot_of_glyph c.attr (there q).0 (row_of_glyph c.host (dot_cell q) r) i ≡ is_glyph_dot (there q).0 (glyph_row s (there q).0 r) i
+  glyph_dot_is : (q r i : ℕ) → r < 16 → is_dot_of_glyph c.attr (there q).0 (row_of_glyph c.host (dot_cell q) r) i
+      ≡ is_glyph_dot (there q).0 (glyph_row s (there q).0 r) i
   unfolding is_dot_of_glyph
   glyph_dot_is q r i lr =
       let ch = (there q).0 in
@@ -305,9 +319,12 @@ module _ (c : CardState) (d : BiosData) (h : IsShown c d) (z : IsCard c) (g : �
       let f = nat_lt (c.crtc.beam.frame % 16) 8 in
       ap (λ l. (n == cursor_location l) && not (is_cursor_off l) && nat_le (cursor_start l) r && nat_le r (cursor_end l) && f) h.tests.crtc
       ∙ t.cursor type (start_address d d.page) location n r f
-      ∙ ap (λ m. (n == m) && not (is_set (bit_and (high type) 0x3F) 5) && nat_le (field (bit_and (high type) 0x3F) 4 0) r && nat_le r (field (bit_and (low type) 0x7F) 4 0) && f) (two_bytes location ∙ location_is)
-      ∙ ap (λ w. (n == cursor_cell s d.page) && not w && nat_le (field (bit_and (high type) 0x3F) 4 0) r && nat_le r (field (bit_and (low type) 0x7F) 4 0) && f) (off_bit (high type))
-      ∙ ap (λ m. (n == cursor_cell s d.page) && not (is_set (high type) 5) && nat_le m r && nat_le r (field (bit_and (low type) 0x7F) 4 0) && f) (start_field (high type))
+      ∙ ap (λ m. (n == m) && not (is_set (bit_and (high type) 0x3F) 5) && nat_le (field (bit_and (high type) 0x3F) 4 0) r
+      && nat_le r (field (bit_and (low type) 0x7F) 4 0) && f) (two_bytes location ∙ location_is)
+      ∙ ap (λ w. (n == cursor_cell s d.page) && not w && nat_le (field (bit_and (high type) 0x3F) 4 0) r && nat_le r (field (bit_and (low type) 0x7F) 4 0)
+      && f) (off_bit (high type))
+      ∙ ap (λ m. (n == cursor_cell s d.page) && not (is_set (high type) 5) && nat_le m r && nat_le r (field (bit_and (low type) 0x7F) 4 0)
+      && f) (start_field (high type))
       ∙ ap (λ m. (n == cursor_cell s d.page) && not (is_set (high type) 5) && nat_le (field (high type) 4 0) r && nat_le r m && f) (end_field (low type))
       ∙ regrouped (n == cursor_cell s d.page) (not (is_set (high type) 5)) (nat_le (field (high type) 4 0) r) (nat_le r (field (low type) 4 0)) f
     where
@@ -320,7 +337,8 @@ module _ (c : CardState) (d : BiosData) (h : IsShown c d) (z : IsCard c) (g : �
   -- ---- the four bits of a dot
 
   -- whether a dot has its cell's foreground
-  on_is : (q v x k : ℕ) → q < columns * rows → is_cell_foreground c.host (placed v x k) c.attr (record { counter = half * g + q; dot = k }) (dot_cell q) ≡ is_foreground s (half * g + q) (v % height) k
+  on_is : (q v x k : ℕ) → q < columns * rows → is_cell_foreground c.host (placed v x k) c.attr (record { counter = half * g + q; dot = k }) (dot_cell q)
+      ≡ is_foreground s (half * g + q) (v % height) k
   unfolding is_cell_foreground is_foreground
   on_is q v x k lq =
       let r = v % height in
@@ -331,10 +349,13 @@ module _ (c : CardState) (d : BiosData) (h : IsShown c d) (z : IsCard c) (g : �
       ap (λ w. if w then true else if is_cell_blinked (placed v x k) c.attr (dot_cell q) then false else if under then true else glyph) (cursor_is n v x k)
       ∙ ap (λ w. if is_cursor s n r then true else if w then false else if under then true else glyph) (blinked_is q v x k)
       ∙ ap (λ w. if is_cursor s n r then true else if is_blinked_away s (there q) then false else if w then true else glyph) (underlined_is q v x k)
-      ∙ ap (λ w. if is_cursor s n r then true else if is_blinked_away s (there q) then false else if is_underlined s (there q) r then true else w) (glyph_dot_is q r k lr)
-      ∙ ap (λ (p : Cell). if is_cursor s n r then true else if is_blinked_away s p then false else if is_underlined s p r then true else is_glyph_dot p.0 (glyph_row s p.0 r) k) (sym (on_screen q lq))
+      ∙ ap (λ w. if is_cursor s n r then true else if is_blinked_away s (there q) then false else if is_underlined s (there q) r then true
+      else w) (glyph_dot_is q r k lr)
+      ∙ ap (λ (p : Cell). if is_cursor s n r then true else if is_blinked_away s p then false else if is_underlined s p r then true
+      else is_glyph_dot p.0 (glyph_row s p.0 r) k) (sym (on_screen q lq))
 
-  nibble_is : (q v x k : ℕ) → q < columns * rows → text_nibble c.host (placed v x k) c.attr (record { counter = half * g + q; dot = k }) ≡ nibble s (half * g + q) (v % height) k
+  nibble_is : (q v x k : ℕ) → q < columns * rows → text_nibble c.host (placed v x k) c.attr (record { counter = half * g + q; dot = k })
+      ≡ nibble s (half * g + q) (v % height) k
   unfolding text_nibble nibble
   nibble_is q v x k lq =
       let source : SourceDot = record { counter = half * g + q; dot = k } in
@@ -343,7 +364,8 @@ module _ (c : CardState) (d : BiosData) (h : IsShown c d) (z : IsCard c) (g : �
       ∙ ap (λ w. if w then field (there q).1 3 0 else background s (there q)) (on_is q v x k lq)
       ∙ ap (λ (p : Cell). if is_foreground s n (v % height) k then field p.1 3 0 else background s p) (sym (on_screen q lq))
 
-  dot_bits : (v x k : ℕ) → v < height * rows → x < columns → k < 9 → dot_nibble c.host (placed v x k) c.attr ≡ nibble s (half * g + (columns * (v / height) + x)) (v % height) k
+  dot_bits : (v x k : ℕ) → v < height * rows → x < columns → k < 9 → dot_nibble c.host (placed v x k) c.attr
+      ≡ nibble s (half * g + (columns * (v / height) + x)) (v % height) k
   unfolding dot_nibble
   dot_bits v x k lv lx lk =
       let at = placed v x k in
@@ -358,7 +380,8 @@ module _ (c : CardState) (d : BiosData) (h : IsShown c d) (z : IsCard c) (g : �
 
   nibble_small : (n r i : ℕ) → nibble s n r i < 16
   unfolding nibble
-  nibble_small n r i = let a = (cell_on s n).1 in small_if (is_foreground s n r i) s.is_blink (field a 3 0) (field a 6 4) (field a 7 4) (omega arith) (omega arith) (omega arith)
+  nibble_small n r i = let a = (cell_on s n).1 in small_if (is_foreground s n r i) s.is_blink (field a 3 0) (field a 6 4) (field a 7 4) (omega arith)
+      (omega arith) (omega arith)
 
   -- ---- its colour
 
@@ -366,5 +389,7 @@ module _ (c : CardState) (d : BiosData) (h : IsShown c d) (z : IsCard c) (g : �
   coloured = record { on = screen_on; many = many_colours_off; wide = wide_is; planes = planes_are; select = select_is; shown = palette_on }
 
   -- the dot at the place has the screen's colour
-  pub place_is : (v x k : ℕ) → v < height * rows → x < columns → k < 9 → dot_colour c.host (placed v x k) c.attr c.dac ≡ shade s.palette (nibble s (half * g + (columns * (v / height) + x)) (v % height) k)
-  place_is v x k lv lx lk = dot_shade c coloured z (placed v x k) (nibble s (half * g + (columns * (v / height) + x)) (v % height) k) (dot_bits v x k lv lx lk) (nibble_small (half * g + (columns * (v / height) + x)) (v % height) k)
+  pub place_is : (v x k : ℕ) → v < height * rows → x < columns → k < 9 → dot_colour c.host (placed v x k) c.attr c.dac
+      ≡ shade s.palette (nibble s (half * g + (columns * (v / height) + x)) (v % height) k)
+  place_is v x k lv lx lk = dot_shade c coloured z (placed v x k) (nibble s (half * g + (columns * (v / height) + x)) (v % height) k) (dot_bits v x k lv lx lk)
+      (nibble_small (half * g + (columns * (v / height) + x)) (v % height) k)

@@ -77,9 +77,16 @@ module _ (c : CardState) (d : BiosData) (h : IsShown c d) (z : IsCard c) where
       record {
         size = drawn.picture.shape ∙ ap (λ (m : Shape). Some m) (size_is c d h);
         colours = drawn.picture.bytes ∙ ap (λ (m : Shape). picture_bytes m.width m.height f) (size_is c d h);
-        next = ap (λ x. shown x d) drawn.leaves ∙ shown_of y d h.row h.mode (record { is_text = t.is_text; memory = t.memory; data_test = t.data_test; crtc = t.crtc; attribute = t.attribute });
+        next = ap (λ x. shown x d) drawn.leaves ∙ shown_of y d h.row h.mode (record {
+          is_text = t.is_text;
+          memory = t.memory;
+          data_test = t.data_test;
+          crtc = t.crtc;
+          attribute = t.attribute;
+        });
         start = subst (λ (x : CardState). IsFrameStart x.crtc.beam) (sym drawn.leaves) (record { line = refl; character = refl; dot = refl });
       }
 
-pub frame_framed : (law : DotLaws) (c : CardState) (d : BiosData) (s : Screen) → IsCard c → shown c d ≡ Some s → is_text d.mode ≡ true → IsFrameStart c.crtc.beam → IsFramed c d s
+pub frame_framed : (law : DotLaws) (c : CardState) (d : BiosData) (s : Screen) → IsCard c → shown c d ≡ Some s → is_text d.mode ≡ true →
+    IsFrameStart c.crtc.beam → IsFramed c d s
 frame_framed law c d s z e text start = let x = shown_is c d s text e in subst (IsFramed c d) x.screen (framed c d x.is z law start)

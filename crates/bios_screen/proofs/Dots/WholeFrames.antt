@@ -9,7 +9,8 @@ use Rattle.bios_screen.specs.Screen.{Screen}
 use Rattle.bios_screen.specs.Picture.{dot_at, picture_width, picture_height, next_frame}
 use Rattle.bios_screen.specs.Raster.{Raster, line_dots as dots_of_line, picture_dot, join, picture_bytes}
 use Rattle.bios_screen.proofs.Base.DotLists.{bytes_joined, same_joined, whole_picture, picture_bytes_are, row_dots}
-use Rattle.bios_screen.specs.Drawing.{dots_a_line, lines_a_frame, dots_a_frame, Drawing, page_shown, so_far, is_of_picture, colour_of, take_dot, take_dots, take_frame}
+use Rattle.bios_screen.specs.Drawing.{dots_a_line, lines_a_frame, dots_a_frame, Drawing, page_shown, so_far, is_of_picture, colour_of, take_dot, take_dots}
+use Rattle.bios_screen.specs.Drawing.{take_frame}
 use Rattle.bios_screen.specs.Whole.{FitsFrame, IsFrameTaken, IsWhole}
 use Rattle.bios_screen.proofs.Dots.OneDot.{not_zero, is_zero, dot_by, bytes_if, renewed, taken_on, taken_last, dots_on, taken_more}
 
@@ -42,7 +43,8 @@ module _ (b : Drawing) where
     picture : so_far (take_dots k b) ≡ so_far b ++ join colours k
 
   -- the dots of the next one
-  joins : (k : ℕ) → n + k < all → Collected k → so_far (take_dots k b) ++ colour_of (take_dots k b).screen (page_shown (take_dots k b)) (take_dots k b).dot ≡ so_far b ++ join colours (suc k)
+  joins : (k : ℕ) → n + k < all → Collected k → so_far (take_dots k b) ++ colour_of (take_dots k b).screen (page_shown (take_dots k b)) (take_dots k b).dot
+      ≡ so_far b ++ join colours (suc k)
   unfolding join
   joins k l is =
       let x = take_dots k b in
@@ -101,7 +103,8 @@ dot_bytes s g n =
     ∙ ap (λ w. bytes_of (dot_by (dots_a_line s.mode) w (picture_height s) (dot_at s g) n)) (once (picture_width s))
     ∙ bytes_if (is_of_picture s n) _
 
-whole_colours : (s : Screen) (g : ℕ) → FitsFrame s → join (colour_of s g) (dots_a_frame s.mode) ≡ picture_bytes (picture_width s) (picture_height s) (dot_at s g)
+whole_colours : (s : Screen) (g : ℕ) → FitsFrame s → join (colour_of s g) (dots_a_frame s.mode)
+    ≡ picture_bytes (picture_width s) (picture_height s) (dot_at s g)
 unfolding dots_a_frame picture_bytes
 whole_colours s g fits =
     let m = raster_of s in

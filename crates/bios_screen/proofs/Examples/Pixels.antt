@@ -133,7 +133,8 @@ unfolding next
 drawn_over = refl
 
 -- in 256 colours bit 7 is one of the colour's
-drawn_packed : pixels (next fonts (shown 0x13) (WriteCells (character 0x83)) []) ≡ (0x83 ∷ 0x83 ∷ 0 ∷ 0 ∷ 0 ∷ 0 ∷ 0 ∷ 0x83 ∷ 0x83 ∷ 0 ∷ 0 ∷ 0 ∷ 0 ∷ 0 ∷ 0 ∷ 0 ∷ []) ∷ []
+drawn_packed : pixels (next fonts (shown 0x13) (WriteCells (character 0x83)) []) ≡ (0x83 ∷ 0x83 ∷ 0 ∷ 0 ∷ 0 ∷ 0 ∷ 0 ∷ 0x83 ∷ 0x83 ∷ 0 ∷ 0 ∷ 0 ∷ 0 ∷ 0 ∷ 0 ∷ 0
+    ∷ []) ∷ []
 unfolding next
 drawn_packed = refl
 
@@ -147,11 +148,13 @@ tall mode = record (shown mode) {
 abbrev lower : Scroll
 lower = record { lines = 1; fill = 0x15; top = 1; left = 0; bottom = 2; right = 0 }
 
-up : pixels (next fonts (tall 0x10) (ScrollUp lower) []) ≡ (1 ∷ 1 ∷ 1 ∷ 1 ∷ 1 ∷ 1 ∷ 1 ∷ 1 ∷ 3 ∷ 4 ∷ 3 ∷ 3 ∷ 3 ∷ 3 ∷ 3 ∷ 3 ∷ 5 ∷ 5 ∷ 5 ∷ 5 ∷ 5 ∷ 5 ∷ 5 ∷ 5 ∷ []) ∷ []
+up : pixels (next fonts (tall 0x10) (ScrollUp lower) []) ≡ (1 ∷ 1 ∷ 1 ∷ 1 ∷ 1 ∷ 1 ∷ 1 ∷ 1 ∷ 3 ∷ 4 ∷ 3 ∷ 3 ∷ 3 ∷ 3 ∷ 3 ∷ 3 ∷ 5 ∷ 5 ∷ 5 ∷ 5 ∷ 5 ∷ 5 ∷ 5 ∷ 5 ∷ [])
+    ∷ []
 unfolding next
 up = refl
 
-down : pixels (next fonts (tall 0x13) (ScrollDown lower) []) ≡ (1 ∷ 1 ∷ 1 ∷ 1 ∷ 1 ∷ 1 ∷ 1 ∷ 1 ∷ 0x15 ∷ 0x15 ∷ 0x15 ∷ 0x15 ∷ 0x15 ∷ 0x15 ∷ 0x15 ∷ 0x15 ∷ 2 ∷ 3 ∷ 2 ∷ 2 ∷ 2 ∷ 2 ∷ 2 ∷ 2 ∷ []) ∷ []
+down : pixels (next fonts (tall 0x13) (ScrollDown lower) []) ≡ (1 ∷ 1 ∷ 1 ∷ 1 ∷ 1 ∷ 1 ∷ 1 ∷ 1 ∷ 0x15 ∷ 0x15 ∷ 0x15 ∷ 0x15 ∷ 0x15 ∷ 0x15 ∷ 0x15 ∷ 0x15 ∷ 2 ∷ 3
+    ∷ 2 ∷ 2 ∷ 2 ∷ 2 ∷ 2 ∷ 2 ∷ []) ∷ []
 unfolding next
 down = refl
 
@@ -161,7 +164,8 @@ unfolding answer_on
 answered = refl
 
 -- the first row's pixels 0, 1 and 2 are dots of no glyph but one that has just these rows
-seen : answer_on (record { f8 = []; f14 = []; f16 = listing (λ i. if i == 0x10 then 0xE0 else if i == 0x11 then 0x81 else 0) 0 0x20 }) (shown 0x10) (ReadCell 0) (record { ax = 0x0D00; bx = 0; cx = 2; dx = 0 }) ≡ record { ax = 0x0D01; bx = 0; cx = 2; dx = 0 }
+seen : answer_on (record { f8 = []; f14 = []; f16 = listing (λ i. if i == 0x10 then 0xE0 else if i == 0x11 then 0x81 else 0) 0 0x20 }) (shown 0x10) (ReadCell 0)
+    (record { ax = 0x0D00; bx = 0; cx = 2; dx = 0 }) ≡ record { ax = 0x0D01; bx = 0; cx = 2; dx = 0 }
 unfolding answer_on first_character has_lines byte_of
 seen = refl
 
@@ -228,7 +232,14 @@ unfolding next type_character
 last_packed = refl
 
 -- a string over the end of a page that is not shown: the first character is there before the page goes up, the second is by XOR
-string_typed : next fonts (paged 0x0D whole 0x0001 whole 0) (WriteString (record { page = 0; place = 0x0101; colour = 0; count = 2; has_attributes = true; moves_cursor = true })) (0 ∷ 5 ∷ 0 ∷ 0x83 ∷ []) ≡ paged 0x0D (eight 3 (dots 5 0 (dots 3 0 (eight 0 [])))) 0x0101 whole 0
+string_typed : next fonts (paged 0x0D whole 0x0001 whole 0) (WriteString (record {
+  page = 0;
+  place = 0x0101;
+  colour = 0;
+  count = 2;
+  has_attributes = true;
+  moves_cursor = true;
+})) (0 ∷ 5 ∷ 0 ∷ 0x83 ∷ []) ≡ paged 0x0D (eight 3 (dots 5 0 (dots 3 0 (eight 0 [])))) 0x0101 whole 0
 unfolding next type_character
 string_typed = refl
 

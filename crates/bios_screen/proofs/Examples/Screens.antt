@@ -7,7 +7,8 @@ use Rattle.bios_services.specs.declared.colours.ColourService.TheVariants.{SetRe
 use Rattle.bios_services.specs.declared.tables.TableService.TheVariants.{ReadPalette, ReadEntries}
 use Rattle.bios_services.specs.declared.reply.Table.TheVariants.{Palette as PaletteTable, Dac as DacTable}
 use Rattle.bios_services.specs.declared.call.Service.{Service}
-use Rattle.bios_services.specs.declared.call.Service.TheVariants.{SetCursor, SelectPage, ScrollUp, ScrollDown, WriteCells, WritePixel, Teletype, Colours, WriteString}
+use Rattle.bios_services.specs.declared.call.Service.TheVariants.{SetCursor, SelectPage, ScrollUp, ScrollDown, WriteCells, WritePixel, Teletype, Colours}
+use Rattle.bios_services.specs.declared.call.Service.TheVariants.{WriteString}
 use Rattle.bios_screen.specs.Screen.{Cell, Cells, Screen}
 use Rattle.bios_services.specs.Colours.{colour_refusal}
 use Rattle.bios_screen.specs.Colours.{with_colours as colours_after, table_answer}
@@ -35,7 +36,12 @@ six = (1, 11) ∷ (2, 12) ∷ (3, 13) ∷ (4, 14) ∷ (5, 15) ∷ (6, 16) ∷ (7
 
 -- so many cells of a character in this colour, which is an attribute or is not
 abbrev run : ℕ → ℕ → Bool → ℕ → CellRun
-run character colour is_attribute count = record { page = 0; character = character; colouring = record { colour = colour; is_attribute = is_attribute }; count = count }
+run character colour is_attribute count = record {
+  page = 0;
+  character = character;
+  colouring = record { colour = colour; is_attribute = is_attribute };
+  count = count;
+}
 
 -- cells of text need no fonts
 abbrev no_fonts : FontSet
@@ -59,16 +65,19 @@ unfolding refusal_on
 long_write = refl
 
 -- a window of the last two columns goes up by a row, and down
-window_up : after (small six 0) (ScrollUp (record { lines = 1; fill = 7; top = 0; left = 1; bottom = 1; right = 2 })) ≡ (1, 11) ∷ (5, 15) ∷ (6, 16) ∷ (4, 14) ∷ (0x20, 7) ∷ (0x20, 7) ∷ (7, 17) ∷ (8, 18) ∷ []
+window_up : after (small six 0) (ScrollUp (record { lines = 1; fill = 7; top = 0; left = 1; bottom = 1; right = 2 }))
+    ≡ (1, 11) ∷ (5, 15) ∷ (6, 16) ∷ (4, 14) ∷ (0x20, 7) ∷ (0x20, 7) ∷ (7, 17) ∷ (8, 18) ∷ []
 unfolding next
 window_up = refl
 
-window_down : after (small six 0) (ScrollDown (record { lines = 1; fill = 7; top = 0; left = 1; bottom = 1; right = 2 })) ≡ (1, 11) ∷ (0x20, 7) ∷ (0x20, 7) ∷ (4, 14) ∷ (2, 12) ∷ (3, 13) ∷ (7, 17) ∷ (8, 18) ∷ []
+window_down : after (small six 0) (ScrollDown (record { lines = 1; fill = 7; top = 0; left = 1; bottom = 1; right = 2 }))
+    ≡ (1, 11) ∷ (0x20, 7) ∷ (0x20, 7) ∷ (4, 14) ∷ (2, 12) ∷ (3, 13) ∷ (7, 17) ∷ (8, 18) ∷ []
 unfolding next
 window_down = refl
 
 -- 0 lines are all, and corners past the page are cut
-whole_page : after (small six 0) (ScrollUp (record { lines = 0; fill = 7; top = 1; left = 0; bottom = 99; right = 99 })) ≡ (1, 11) ∷ (2, 12) ∷ (3, 13) ∷ (0x20, 7) ∷ (0x20, 7) ∷ (0x20, 7) ∷ (7, 17) ∷ (8, 18) ∷ []
+whole_page : after (small six 0) (ScrollUp (record { lines = 0; fill = 7; top = 1; left = 0; bottom = 99; right = 99 }))
+    ≡ (1, 11) ∷ (2, 12) ∷ (3, 13) ∷ (0x20, 7) ∷ (0x20, 7) ∷ (0x20, 7) ∷ (7, 17) ∷ (8, 18) ∷ []
 unfolding next
 whole_page = refl
 
@@ -78,7 +87,8 @@ unfolding next
 no_window = refl
 
 -- a character in the last cell is written before the page goes up, with the attribute of its column
-last_cell : next no_fonts (small six 258) (Teletype 65 9) [] ≡ small ((4, 14) ∷ (5, 15) ∷ (65, 16) ∷ (0x20, 16) ∷ (0x20, 16) ∷ (0x20, 16) ∷ (7, 17) ∷ (8, 18) ∷ []) 256
+last_cell : next no_fonts (small six 258) (Teletype 65 9) [] ≡ small ((4, 14) ∷ (5, 15) ∷ (65, 16) ∷ (0x20, 16) ∷ (0x20, 16) ∷ (0x20, 16) ∷ (7, 17) ∷ (8, 18)
+    ∷ []) 256
 unfolding next type_character
 last_cell = refl
 
@@ -140,7 +150,15 @@ no_dots = refl
 
 -- a screen whose palette has two values, and whose DAC has three entries
 abbrev coloured : Screen
-coloured = record (small six 0) { palette = record { values = 1 ∷ 2 ∷ []; reds = 10 ∷ 11 ∷ 12 ∷ []; greens = 20 ∷ 21 ∷ 22 ∷ []; blues = 30 ∷ 31 ∷ 32 ∷ []; mask = 0xFF } }
+coloured = record (small six 0) {
+  palette = record {
+    values = 1 ∷ 2 ∷ [];
+    reds = 10 ∷ 11 ∷ 12 ∷ [];
+    greens = 20 ∷ 21 ∷ 22 ∷ [];
+    blues = 30 ∷ 31 ∷ 32 ∷ [];
+    mask = 0xFF;
+  };
+}
 
 -- six bits of a value are kept
 value_set : (next no_fonts coloured (Colours (SetRegister 1 0xC5)) []).palette.values ≡ 1 ∷ 5 ∷ []
@@ -148,7 +166,8 @@ unfolding next colours_after
 value_set = refl
 
 -- entries from one on take three bytes each
-entries_set : (next no_fonts coloured (Colours (SetEntries 1 2)) (1 ∷ 2 ∷ 3 ∷ 4 ∷ 5 ∷ 0x46 ∷ [])).palette ≡ record coloured.palette { reds = 10 ∷ 1 ∷ 4 ∷ []; greens = 20 ∷ 2 ∷ 5 ∷ []; blues = 30 ∷ 3 ∷ 6 ∷ [] }
+entries_set : (next no_fonts coloured (Colours (SetEntries 1 2)) (1 ∷ 2 ∷ 3 ∷ 4 ∷ 5 ∷ 0x46 ∷ [])).palette
+    ≡ record coloured.palette { reds = 10 ∷ 1 ∷ 4 ∷ []; greens = 20 ∷ 2 ∷ 5 ∷ []; blues = 30 ∷ 3 ∷ 6 ∷ [] }
 unfolding next colours_after
 entries_set = refl
 

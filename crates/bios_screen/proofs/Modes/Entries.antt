@@ -59,13 +59,16 @@ stored d i x = record d {
 }
 
 -- three writes are one entry
-three : (l : List ℕ) (i : ℕ) (c : CardState) → c.dac.component ≡ Red → c.dac.index ≡ i → (run card_meaning (colour_plan l) c).0 ≡ record c { dac = stored c.dac i (colour_of l) }
+three : (l : List ℕ) (i : ℕ) (c : CardState) → c.dac.component ≡ Red → c.dac.index ≡ i →
+    (run card_meaning (colour_plan l) c).0 ≡ record c { dac = stored c.dac i (colour_of l) }
 unfolding colour_plan port_of out_at
 three l i c e w =
     ap (λ x. (run card_meaning (colour_plan l) (record c { dac = record c.dac { component = x } })).0) e
     ∙ ap (λ x. let t : CardState = record c { dac = stored c.dac x (colour_of l) } in t) w
 
-pub one_entry : (rest : CardState) (colour : List ℕ) (i : ℕ) (s : CardState) (c : ℕ → Colour) → i < 256 → HasEntries rest i s c → Leaves CardState Colour (HasEntries rest (i + 1)) (run card_meaning (colour_plan colour) s).0 (Edited Colour (Unit {0}) (λ _. i) (λ _ x. kept_colour (colour_of colour)) c)
+pub one_entry : (rest : CardState) (colour : List ℕ) (i : ℕ) (s : CardState) (c : ℕ → Colour) → i < 256 → HasEntries rest i s c →
+    Leaves CardState Colour (HasEntries rest (i + 1)) (run card_meaning (colour_plan colour) s).0
+    (Edited Colour (Unit {0}) (λ _. i) (λ _ x. kept_colour (colour_of colour)) c)
 one_entry rest colour i s c l t =
     let new = kept_colour (colour_of colour) in
     let after : CardState = record s { dac = stored s.dac i (colour_of colour) } in
@@ -98,15 +101,20 @@ abbrev pub keeps_entries : (mode : ℕ) → ℕ → Type 0
 keeps_entries mode n = (k : ℕ) → k < n → kept_colour (colour_of (dac_entry mode k)) ≡ colour_of (dac_entry mode k)
 
 -- all the entries, n of them
-pub entries_set : (rest : CardState) (mode n : ℕ) (s : CardState) (c : ℕ → Colour) → n ≤ 256 → keeps_entries mode n → HasEntries rest 0 s c → Leaves CardState Colour (HasEntries rest n) (run card_meaning (each (λ i. colour_plan (dac_entry mode i)) n 0) s).0 (λ d. (k : ℕ) → k < n → d k ≡ colour_of (dac_entry mode k))
+pub entries_set : (rest : CardState) (mode n : ℕ) (s : CardState) (c : ℕ → Colour) → n ≤ 256 → keeps_entries mode n → HasEntries rest 0 s c →
+    Leaves CardState Colour (HasEntries rest n) (run card_meaning (each (λ i. colour_plan (dac_entry mode i)) n 0) s).0 (λ d. (k : ℕ) → k < n →
+    d k ≡ colour_of (dac_entry mode k))
 entries_set rest mode n s c l small t =
-    let all = edits CardState Colour card_meaning (λ i. colour_plan (dac_entry mode i)) (HasEntries rest) 0 n (λ _. Unit {0}) (λ r h. r) (λ r h x. kept_colour (colour_of (dac_entry mode r))) (λ j k a b lb lo hi q. absurd (omega arith))
+    let all = edits CardState Colour card_meaning (λ i. colour_plan (dac_entry mode i)) (HasEntries rest) 0 n (λ _. Unit {0}) (λ r h. r) (λ r h x.
+    kept_colour (colour_of (dac_entry mode r))) (λ j k a b lb lo hi q. absurd (omega arith))
     (λ r s c lb w t. one_entry rest (dac_entry mode r) r s c (omega arith) t)
     n 0 s c (omega arith) (omega arith) t in
     record { cells = all.cells; shown = all.shown; fact = λ k h. all.fact.inside (record { turn = k; from = omega arith; before = h; place = tt }) ∙ small k h }
 
 -- where that is so of each component
-keeps_by : (mode : ℕ) → ((k : ℕ) → k < 256 → (bit_and (colour_of (dac_entry mode k)).red 0x3F == (colour_of (dac_entry mode k)).red) ≡ true) → ((k : ℕ) → k < 256 → (bit_and (colour_of (dac_entry mode k)).green 0x3F == (colour_of (dac_entry mode k)).green) ≡ true) → ((k : ℕ) → k < 256 → (bit_and (colour_of (dac_entry mode k)).blue 0x3F == (colour_of (dac_entry mode k)).blue) ≡ true) → keeps_entries mode 256
+keeps_by : (mode : ℕ) → ((k : ℕ) → k < 256 → (bit_and (colour_of (dac_entry mode k)).red 0x3F == (colour_of (dac_entry mode k)).red) ≡ true) →
+    ((k : ℕ) → k < 256 → (bit_and (colour_of (dac_entry mode k)).green 0x3F == (colour_of (dac_entry mode k)).green) ≡ true) →
+    ((k : ℕ) → k < 256 → (bit_and (colour_of (dac_entry mode k)).blue 0x3F == (colour_of (dac_entry mode k)).blue) ≡ true) → keeps_entries mode 256
 keeps_by mode f g h k l =
     let x = colour_of (dac_entry mode k) in
     ap (λ n. let y : Colour = record { red = n; green = bit_and x.green 0x3F; blue = bit_and x.blue 0x3F } in y) (same (f k l))
@@ -121,7 +129,11 @@ keeps_3 k l =
     let r' : bit_and (colour_of (dac_entry 3 k)).red 0x3F ≡ (colour_of (dac_entry 3 k)).red = same r in
     let g' : bit_and (colour_of (dac_entry 3 k)).green 0x3F ≡ (colour_of (dac_entry 3 k)).green = same g in
     let b' : bit_and (colour_of (dac_entry 3 k)).blue 0x3F ≡ (colour_of (dac_entry 3 k)).blue = same b in
-    ap (λ x. let y : Colour = record { red = x; green = bit_and (colour_of (dac_entry 3 k)).green 0x3F; blue = bit_and (colour_of (dac_entry 3 k)).blue 0x3F } in y) r'
+    ap (λ x. let y : Colour = record {
+      red = x;
+      green = bit_and (colour_of (dac_entry 3 k)).green 0x3F;
+      blue = bit_and (colour_of (dac_entry 3 k)).blue 0x3F;
+    } in y) r'
     ∙ ap (λ x. let y : Colour = record { red = (colour_of (dac_entry 3 k)).red; green = x; blue = bit_and (colour_of (dac_entry 3 k)).blue 0x3F } in y) g'
     ∙ ap (λ x. let y : Colour = record { red = (colour_of (dac_entry 3 k)).red; green = (colour_of (dac_entry 3 k)).green; blue = x } in y) b'
 

@@ -1,5 +1,6 @@
 -- A clearing mode set to graphics: from any state to one that shows the fresh screen.
-use Rattle.std.proofs.Common.{◌≡◌, ◌≢◌, ℕ, zero, suc, ◌+◌, ◌-◌, ◌*◌, ◌/◌, ◌%◌, ◌<◌, ◌≤◌, ⊎_elim, refl, sym, ap, ◌∙◌, subst, arith, List, [], length, replicate, Option, Some, None, true, false}
+use Rattle.std.proofs.Common.{◌≡◌, ◌≢◌, ℕ, zero, suc, ◌+◌, ◌-◌, ◌*◌, ◌/◌, ◌%◌, ◌<◌, ◌≤◌, ⊎_elim, refl, sym, ap, ◌∙◌, subst, arith, List, [], length, replicate}
+use Rattle.std.proofs.Common.{Option, Some, None, true, false}
 use Rattle.std.specs.Prelude.{slice_index, slice_set, ◌==◌, if◌then◌else◌}
 use Rattle.std.specs.Int.{bit_at}
 use Rattle.std.proofs.lemmas.Bool.{cases_eq, cases_lt}
@@ -33,7 +34,8 @@ use Rattle.bios_services.specs.Plan.{Plan, Done, run, put, each, ◌>>◌}
 use Rattle.bios_modes.specs.Kinds.{is_text}
 use Rattle.bios_services.specs.ModeSet.{registers_plan, colour_plan, palette_plan, clear_plan, memory_plan, mode_set_plan}
 use Rattle.bios_screen.specs.Screen.{Pixels, Screen}
-use Rattle.bios_screen.specs.Shown.{planar_pixel, packed_pixel, pixel_in, pixels_in, pixel_pages, shows, screen_by, text_screen, pixel_screen, screen_of, shown, shown_by}
+use Rattle.bios_screen.specs.Shown.{planar_pixel, packed_pixel, pixel_in, pixels_in, pixel_pages, shows, screen_by, text_screen, pixel_screen, screen_of, shown}
+use Rattle.bios_screen.specs.Shown.{shown_by}
 use Rattle.bios_screen.specs.Fresh.{default_component, blank_pixels, fresh_text, fresh_pixels, fresh_screen}
 use Rattle.bios_screen.specs.Served.{SetsFresh}
 use Rattle.bios_screen.proofs.Base.Plans.{then_runs, then_answers}
@@ -41,7 +43,8 @@ use Rattle.bios_screen.proofs.Base.Lists.{blank_listing}
 use Rattle.bios_screen.proofs.Base.Kept.{KeepsBounds, plan_bounds, plan_beam}
 use Rattle.bios_screen.proofs.Base.Setting.{setting, host_at, with_memory, put_decoded}
 use Rattle.bios_screen.proofs.Modes.Registers.{in_mode, registers_0D, registers_10, registers_12, registers_13}
-use Rattle.bios_screen.proofs.Modes.Entries.{Colour as Entry, colour_of, entry_at, without_entries, HasEntries, keeps_entries, keeps_3, keeps_0D, keeps_13, entries_set}
+use Rattle.bios_screen.proofs.Modes.Entries.{Colour as Entry, colour_of, entry_at, without_entries, HasEntries, keeps_entries, keeps_3, keeps_0D, keeps_13}
+use Rattle.bios_screen.proofs.Modes.Entries.{entries_set}
 use Rattle.bios_screen.proofs.Modes.TextFresh.{but_entries, component_same}
 use Rattle.bios_screen.proofs.Modes.PixelModes.{Planes, row_of, Graphics, row_in, setting_in, number_in, text_by, packed_by}
 use Rattle.bios_screen.proofs.Modes.PixelModes.Planes.{Low, Middle, High}
@@ -97,13 +100,15 @@ of_four f (suc (suc (suc zero))) l = refl
 of_four f (suc (suc (suc (suc p)))) l = absurd (omega arith)
 
 -- one place more is cleared
-clear_more : (k : Graphics) (f : Four (List ℕ)) (i : ℕ) → ((p : ℕ) → p < 4 → length (of_plane f p) ≡ 65536) → i < 65536 → ((w : ℕ) → w < i → IsClear k f w) → (w : ℕ) → w < i + 1 → IsClear k (cleared_at k f i) w
+clear_more : (k : Graphics) (f : Four (List ℕ)) (i : ℕ) → ((p : ℕ) → p < 4 → length (of_plane f p) ≡ 65536) → i < 65536 → ((w : ℕ) → w < i → IsClear k f w) →
+    (w : ℕ) → w < i + 1 → IsClear k (cleared_at k f i) w
 clear_more (Sixteen m) f i size l old w lw = λ p lp.
     let long = size p lp in
     ap (λ q. slice_index q w) (of_four (λ q. slice_set (of_plane f q) i 0) p lp)
     ∙ ⊎_elim
     (λ (a : w < i). get_or-set_other (of_plane f p) i w 0 0 (omega arith) ∙ old w a p lp)
-    (λ (a : i ≤ w). let e : w ≡ i = omega arith in ap (slice_index (slice_set (of_plane f p) i 0)) e ∙ get_or-set_same (of_plane f p) i 0 0 (omega (arith, long)))
+    (λ (a : i ≤ w). let e : w ≡ i = omega arith in ap (slice_index (slice_set (of_plane f p) i 0)) e
+    ∙ get_or-set_same (of_plane f p) i 0 0 (omega (arith, long)))
     (cases_lt w i)
 clear_more Many f i size l old w lw =
     let p = w % 4 in
@@ -112,10 +117,12 @@ clear_more Many f i size l old w lw =
     ap (λ q. slice_index q (w / 4 * 4)) (of_four (λ q. if q == i % 4 then slice_set (of_plane f q) (i / 4 * 4) 0 else of_plane f q) p lp)
     ∙ ⊎_elim
     (λ (a : p ≡ i % 4). ap (λ b. slice_index (if b then slice_set (of_plane f p) (i / 4 * 4) 0 else of_plane f p) (w / 4 * 4)) (eq_true p (i % 4) a) ∙ ⊎_elim
-    (λ (b : w / 4 * 4 ≡ i / 4 * 4). ap (slice_index (slice_set (of_plane f p) (i / 4 * 4) 0)) b ∙ get_or-set_same (of_plane f p) (i / 4 * 4) 0 0 (omega (arith, long)))
+    (λ (b : w / 4 * 4 ≡ i / 4 * 4). ap (slice_index (slice_set (of_plane f p) (i / 4 * 4) 0)) b
+    ∙ get_or-set_same (of_plane f p) (i / 4 * 4) 0 0 (omega (arith, long)))
     (λ (b : w / 4 * 4 ≢ i / 4 * 4). get_or-set_other (of_plane f p) (i / 4 * 4) (w / 4 * 4) 0 0 b ∙ old w (before w lw (λ e. b (ap (λ n. n / 4 * 4) e))))
     (cases_eq (w / 4 * 4) (i / 4 * 4)))
-    (λ (a : p ≢ i % 4). ap (λ b. slice_index (if b then slice_set (of_plane f p) (i / 4 * 4) 0 else of_plane f p) (w / 4 * 4)) (eq_false p (i % 4) a) ∙ old w (before w lw (λ e. a (ap (λ n. n % 4) e))))
+    (λ (a : p ≢ i % 4). ap (λ b. slice_index (if b then slice_set (of_plane f p) (i / 4 * 4) 0 else of_plane f p) (w / 4 * 4)) (eq_false p (i % 4) a)
+    ∙ old w (before w lw (λ e. a (ap (λ n. n % 4) e))))
     (cases_eq p (i % 4))
   where
     eq_true : (a b : ℕ) → a ≡ b → (a == b) ≡ true
@@ -127,7 +134,8 @@ clear_more Many f i size l old w lw =
     before : (v : ℕ) → v < i + 1 → (v ≡ i → ⊥) → v < i
     before v lv n = ⊎_elim (λ (a : v < i). a) (λ (a : i ≤ v). absurd (n (omega arith))) (cases_lt v i)
 
-put_clears : (k : Graphics) (rest : CardState) (i : ℕ) (s : CardState) → i < 65536 → IsCard s → IsCleared k rest i s → IsCleared k rest (i + 1) (run card_meaning (put (0xA0000 + i) 0) s).0
+put_clears : (k : Graphics) (rest : CardState) (i : ℕ) (s : CardState) → i < 65536 → IsCard s → IsCleared k rest i s →
+    IsCleared k rest (i + 1) (run card_meaning (put (0xA0000 + i) 0) s).0
 put_clears k rest i s l z t =
     let h = host_at s.host (setting_in k) in
     let e =
@@ -139,7 +147,8 @@ put_clears k rest i s l z t =
 abbrev zero_at : ℕ → Plan (Unit {0})
 zero_at w = put (0xA0000 + w) 0
 
-puts_clear : (k : Graphics) (law : KeepsBounds) (rest : CardState) (n i : ℕ) (s : CardState) → i + n ≤ 65536 → IsCard s → IsCleared k rest i s → IsCleared k rest (i + n) (run card_meaning (each zero_at n i) s).0
+puts_clear : (k : Graphics) (law : KeepsBounds) (rest : CardState) (n i : ℕ) (s : CardState) → i + n ≤ 65536 → IsCard s → IsCleared k rest i s →
+    IsCleared k rest (i + n) (run card_meaning (each zero_at n i) s).0
 puts_clear k law rest zero i s le z t = let e : i ≡ i + 0 = omega arith in subst (λ j. IsCleared k rest j s) e t
 puts_clear k law rest (suc n) i s le z t =
     let s1 = (run card_meaning (zero_at i) s).0 in
@@ -147,9 +156,11 @@ puts_clear k law rest (suc n) i s le z t =
     subst (λ j. IsCleared k rest j (run card_meaning (each zero_at n (i + 1)) s1).0) e
     (puts_clear k law rest n (i + 1) s1 (omega arith) (plan_bounds law (zero_at i) s z) (put_clears k rest i s (omega arith) z t))
 
-memory_clear : (k : Graphics) (law : KeepsBounds) (s : CardState) → IsCard s → setting s ≡ setting_in k → IsCleared k (without_memory s) 65536 (run card_meaning (clear_plan 0x10000) s).0
+memory_clear : (k : Graphics) (law : KeepsBounds) (s : CardState) → IsCard s → setting s ≡ setting_in k →
+    IsCleared k (without_memory s) 65536 (run card_meaning (clear_plan 0x10000) s).0
 unfolding clear_plan
-memory_clear k law s z e = puts_clear k law (without_memory s) 65536 0 s (omega arith) z (record { mode = e; clear = λ w l. absurd (omega arith); others = refl })
+memory_clear k law s z e = puts_clear k law (without_memory s) 65536 0 s (omega arith) z
+    (record { mode = e; clear = λ w l. absurd (omega arith); others = refl })
 
 -- ---- pixels of clear memory
 
@@ -159,7 +170,8 @@ no_bits i = ap (λ b. b + 2 * b + 4 * b + 8 * b) (bit_at-zero i)
 planar_zero : (f : Four (List ℕ)) (z k : ℕ) → ((p : ℕ) → p < 4 → byte_at f p (z + k / 8) ≡ 0) → planar_pixel f z k ≡ 0
 planar_zero f z k h =
     let i = 7 - k % 8 in
-    ap (λ b. bit_at b i + 2 * bit_at (byte_at f 1 (z + k / 8)) i + 4 * bit_at (byte_at f 2 (z + k / 8)) i + 8 * bit_at (byte_at f 3 (z + k / 8)) i) (h 0 (omega arith))
+    ap (λ b. bit_at b i + 2 * bit_at (byte_at f 1 (z + k / 8)) i + 4 * bit_at (byte_at f 2 (z + k / 8)) i + 8 * bit_at (byte_at f 3 (z + k / 8)) i)
+    (h 0 (omega arith))
     ∙ ap (λ b. bit_at 0 i + 2 * bit_at b i + 4 * bit_at (byte_at f 2 (z + k / 8)) i + 8 * bit_at (byte_at f 3 (z + k / 8)) i) (h 1 (omega arith))
     ∙ ap (λ b. bit_at 0 i + 2 * bit_at 0 i + 4 * bit_at b i + 8 * bit_at (byte_at f 3 (z + k / 8)) i) (h 2 (omega arith))
     ∙ ap (λ b. bit_at 0 i + 2 * bit_at 0 i + 4 * bit_at 0 i + 8 * bit_at b i) (h 3 (omega arith))
@@ -174,13 +186,15 @@ byte_within Low p q lp lq = omega arith
 byte_within Middle p q lp lq = omega arith
 byte_within High p q lp lq = omega arith
 
-pixel_zero : (k : Graphics) (f : Four (List ℕ)) (p q : ℕ) → ((w : ℕ) → w < 65536 → IsClear k f w) → p < (row_in k).pages → q < pixels_of (row_in k) → pixel_in (number_in k) f ((row_in k).size * p) q ≡ 0
+pixel_zero : (k : Graphics) (f : Four (List ℕ)) (p q : ℕ) → ((w : ℕ) → w < 65536 → IsClear k f w) → p < (row_in k).pages → q < pixels_of (row_in k) →
+    pixel_in (number_in k) f ((row_in k).size * p) q ≡ 0
 pixel_zero (Sixteen m) f p q clear lp lq =
     let z = (row_of m).size * p in
     ap (λ b. if b then packed_pixel f (z + q) else planar_pixel f z q) (packed_by m) ∙ planar_zero f z q (clear (z + q / 8) (byte_within m p q lp lq))
 pixel_zero Many f p q clear lp lq = clear (0xFA00 * p + q) (omega arith)
 
-pages_blank : (k : Graphics) (f : Four (List ℕ)) → ((w : ℕ) → w < 65536 → IsClear k f w) → pixel_pages (number_in k) f (row_in k).size (pixels_of (row_in k)) (row_in k).pages ≡ replicate (row_in k).pages (blank_pixels (pixels_of (row_in k)))
+pages_blank : (k : Graphics) (f : Four (List ℕ)) → ((w : ℕ) → w < 65536 → IsClear k f w) →
+    pixel_pages (number_in k) f (row_in k).size (pixels_of (row_in k)) (row_in k).pages ≡ replicate (row_in k).pages (blank_pixels (pixels_of (row_in k)))
 unfolding pixel_pages pixels_in blank_pixels
 pages_blank k f clear =
     let mode = number_in k in
@@ -221,11 +235,13 @@ registers_by Many c z = registers_13 c z
 abbrev masked : CardState → CardState
 masked c = record c { dac = record c.dac { mask = 0xFF; index = 0; component = Red } }
 
-palette_by : (k : Graphics) (c : CardState) (n : ℕ) → (run card_meaning (palette_plan (number_in k) n) c).0 ≡ (run card_meaning (each (λ i. colour_plan (dac_entry (number_in k) i)) n 0) (masked c)).0
+palette_by : (k : Graphics) (c : CardState) (n : ℕ) → (run card_meaning (palette_plan (number_in k) n) c).0
+    ≡ (run card_meaning (each (λ i. colour_plan (dac_entry (number_in k) i)) n 0) (masked c)).0
 unfolding palette_plan reached_by out_at
 palette_by k c n = refl
 
-memory_is : (k : Graphics) (font : List ℕ) (c : CardState) → (run card_meaning (memory_plan (number_in k) (row_in k) false font) c).0 ≡ (run card_meaning (clear_plan 0x10000) c).0
+memory_is : (k : Graphics) (font : List ℕ) (c : CardState) → (run card_meaning (memory_plan (number_in k) (row_in k) false font) c).0
+    ≡ (run card_meaning (clear_plan 0x10000) c).0
 unfolding memory_plan
 memory_is (Sixteen Low) font c = refl
 memory_is (Sixteen Middle) font c = refl
@@ -260,7 +276,8 @@ record FreshState (k : Graphics) (c s : CardState) : Type 0 where
   blues : dac.blues ≡ default_component (number_in k) 2 256
   clear : (w : ℕ) → w < 65536 → IsClear k s.host.memory w
 
-fresh_state : (k : Graphics) (law : KeepsBounds) (c : CardState) (fonts : FontSet) → IsCard c → FreshState k c (run card_meaning (mode_set_plan (number_in k) (row_in k) false fonts) c).0
+fresh_state : (k : Graphics) (law : KeepsBounds) (c : CardState) (fonts : FontSet) → IsCard c →
+    FreshState k c (run card_meaning (mode_set_plan (number_in k) (row_in k) false fonts) c).0
 unfolding mode_set_plan
 fresh_state k law c fonts z =
     let mode = number_in k in
@@ -270,9 +287,22 @@ fresh_state k law c fonts z =
     let y0 = in_mode row c in
     let z0 : IsCard y0 = subst IsCard (registers_by k c z) (plan_bounds law (registers_plan row) c z) in
     let y1 = masked y0 in
-    let z1 : IsCard y1 = record { host = z0.host; crtc = z0.crtc; attr = z0.attr; dac = record { reds = z0.dac.reds; greens = z0.dac.greens; blues = z0.dac.blues } } in
+    let z1 : IsCard y1 = record {
+      host = z0.host;
+      crtc = z0.crtc;
+      attr = z0.attr;
+      dac = record { reds = z0.dac.reds; greens = z0.dac.greens; blues = z0.dac.blues };
+    } in
     let s2 = (run card_meaning entries y1).0 in
-    let start : HasEntries (without_entries y1) 0 y1 (entry_at y1.dac) = record { index = refl; component = refl; reds = z1.dac.reds; greens = z1.dac.greens; blues = z1.dac.blues; entry = λ k l. refl; others = refl } in
+    let start : HasEntries (without_entries y1) 0 y1 (entry_at y1.dac) = record {
+      index = refl;
+      component = refl;
+      reds = z1.dac.reds;
+      greens = z1.dac.greens;
+      blues = z1.dac.blues;
+      entry = λ k l. refl;
+      others = refl;
+    } in
     let colours = entries_set (without_entries y1) mode 256 y1 (entry_at y1.dac) (omega arith) (keeps k) start in
     let d2 : DacState = record s2.dac { mask = 0xFF } in
     let y2 = coloured k c d2 in
@@ -296,7 +326,9 @@ fresh_state k law c fonts z =
       clear = done.clear;
     })
 
-mode_shown : (k : Graphics) (law : KeepsBounds) (c : CardState) (fonts : FontSet) → IsCard c → shown (run card_meaning (mode_set_plan (number_in k) (row_in k) false fonts) c).0 (data_of_mode (number_in k) (row_in k)) ≡ Some (fresh_screen (number_in k) (row_in k) fonts.f16 c.crtc.beam.frame)
+mode_shown : (k : Graphics) (law : KeepsBounds) (c : CardState) (fonts : FontSet) → IsCard c →
+    shown (run card_meaning (mode_set_plan (number_in k) (row_in k) false fonts) c).0 (data_of_mode (number_in k) (row_in k))
+    ≡ Some (fresh_screen (number_in k) (row_in k) fonts.f16 c.crtc.beam.frame)
 mode_shown k law c fonts z =
     let mode = number_in k in
     let row = row_in k in
@@ -312,14 +344,18 @@ mode_shown k law c fonts z =
     ∙ ap (λ b. let x : Screen = (if b then text_screen row s d else pixel_screen row s d) in Some x) (text_in k)
     ∙ ap (λ p. Some (screen_by row s d 0 (Pixels p) [])) (pages_blank k s.host.memory t.clear)
     ∙ ap (λ x. Some (screen_by row x d 0 (Pixels pages) [])) t.others
-    ∙ ap (λ j. let x : Screen = record new { palette = record new.palette { reds = t.dac.reds; greens = t.dac.greens; blues = t.dac.blues; mask = j } } in Some x) t.mask
+    ∙ ap (λ j. let x : Screen = record new { palette = record new.palette { reds = t.dac.reds; greens = t.dac.greens; blues = t.dac.blues; mask = j } } in
+    Some x) t.mask
     ∙ ap (λ j. let x : Screen = record new { palette = record new.palette { reds = j; greens = t.dac.greens; blues = t.dac.blues } } in Some x) t.reds
     ∙ ap (λ j. let x : Screen = record new { palette = record new.palette { greens = j; blues = t.dac.blues } } in Some x) t.greens
     ∙ ap (λ j. let x : Screen = record new { palette = record new.palette { blues = j } } in Some x) t.blues
     ∙ sym (ap (λ b. let x : Screen = (if b then text else new) in Some x) (text_in k))
 
 -- the call's plan is the mode's
-call_is : (k : Graphics) (fonts : FontSet) (r : Regs) (block : List ℕ) (d : BiosData) (c : CardState) → run card_meaning (call_plan (Some (SetMode (number_in k) false)) fonts d r block) c ≡ run card_meaning (mode_set_plan (number_in k) (row_in k) false fonts >> (let q : Plan Answered = Done (answer_of r (data_of_mode (number_in k) (row_in k))) in q)) c
+call_is : (k : Graphics) (fonts : FontSet) (r : Regs) (block : List ℕ) (d : BiosData) (c : CardState) →
+    run card_meaning (call_plan (Some (SetMode (number_in k) false)) fonts d r block) c
+    ≡ run card_meaning (mode_set_plan (number_in k) (row_in k) false fonts >> (let q : Plan Answered =
+    Done (answer_of r (data_of_mode (number_in k) (row_in k))) in q)) c
 unfolding set_mode_plan
 call_is (Sixteen Low) fonts r block d c = refl
 call_is (Sixteen Middle) fonts r block d c = refl
@@ -332,7 +368,8 @@ sets_fresh k law fonts r block c d z small e =
     let row = row_in k in
     let plan = mode_set_plan mode row false fonts in
     let done : Plan Answered = Done (answer_of r (data_of_mode mode row)) in
-    let runs : run card_meaning (whole_service fonts d r block) c ≡ run card_meaning (plan >> done) c = ap (λ (x : Option Call). run card_meaning (call_plan x fonts d r block) c) e ∙ call_is k fonts r block d c in
+    let runs : run card_meaning (whole_service fonts d r block) c ≡ run card_meaning (plan >> done) c =
+    ap (λ (x : Option Call). run card_meaning (call_plan x fonts d r block) c) e ∙ call_is k fonts r block d c in
     record {
       answer = ap (λ x. x.1.0) runs ∙ ap (λ (x : Answered). x.0) (then_answers plan done c);
       shows = ap (λ x. shown x.0 x.1.1) runs

@@ -3,7 +3,8 @@
 use Rattle.std.proofs.Common.{◌≡◌, ℕ, ◌+◌, ◌*◌, ◌/◌, ◌%◌, ◌<◌, refl, sym, ap, ◌∙◌, arith, Bool, true, false, List, length, Option, Some, None}
 use Rattle.std.specs.Prelude.{◌==◌, bit_and, slice_index, if◌then◌else◌}
 use Rattle.vga_bits.specs.Bits.{is_set}
-use Rattle.vga_crtc.specs.Fields.{horizontal_total, horizontal_display_end, vertical_total, preset_row_scan, byte_panning, maximum_scan_line, is_double_scan, start_address as address_of, vertical_display_end, offset, is_double_word, is_byte_mode, line_compare}
+use Rattle.vga_crtc.specs.Fields.{horizontal_total, horizontal_display_end, vertical_total, preset_row_scan, byte_panning, maximum_scan_line, is_double_scan}
+use Rattle.vga_crtc.specs.Fields.{start_address as address_of, vertical_display_end, offset, is_double_word, is_byte_mode, line_compare}
 use Rattle.vga_crtc.specs.Beam.{characters, lines, first_counter}
 use Rattle.vga_crtc.specs.Raster.{IsRegular, regular_beam}
 use Rattle.vga_dots.specs.SourceDot.{fetch_address}
@@ -61,15 +62,18 @@ not_both b t f = absurd (cc)
 
 -- what is left of the table behind its first rows
 abbrev fourth : ℕ → Option ModeRow
-fourth mode = if mode == 0x10 then Some planes_640_by_350 else if mode == 0x12 then Some planes_640_by_480 else if mode == 0x13 then Some bytes_320_by_200 else None
+fourth mode = if mode == 0x10 then Some planes_640_by_350 else if mode == 0x12 then Some planes_640_by_480 else if mode == 0x13 then Some bytes_320_by_200
+    else None
 
 pub graphics_row : (mode height : ℕ) (row : ModeRow) → is_text mode ≡ false → row_at mode height ≡ Some row → GraphicsRow mode row
-graphics_row mode height row text e = by_tests (mode == 0x03) (mode == 0x07) (mode == 0x0D) (mode == 0x10) (mode == 0x12) (mode == 0x13) refl refl refl refl refl refl
+graphics_row mode height row text e = by_tests (mode == 0x03) (mode == 0x07) (mode == 0x0D) (mode == 0x10) (mode == 0x12) (mode == 0x13) refl refl refl refl
+    refl refl
   where
     there : (k : Graphics) → mode ≡ number_in k → row_at (number_in k) height ≡ Some (row_in k) → GraphicsRow mode row
     there k n r = record { kind = k; number = n; row_is = some_same (row_in k) row (sym r ∙ sym (ap (λ m. row_at m height) n) ∙ e) }
 
-    by_tests : (a b f g i j : Bool) → (mode == 0x03) ≡ a → (mode == 0x07) ≡ b → (mode == 0x0D) ≡ f → (mode == 0x10) ≡ g → (mode == 0x12) ≡ i → (mode == 0x13) ≡ j → GraphicsRow mode row
+    by_tests : (a b f g i j : Bool) → (mode == 0x03) ≡ a → (mode == 0x07) ≡ b → (mode == 0x0D) ≡ f → (mode == 0x10) ≡ g → (mode == 0x12) ≡ i →
+        (mode == 0x13) ≡ j → GraphicsRow mode row
     by_tests true b f g i j ea eb ef eg ei ej = not_both (is_text mode) (ap is_text (same ea)) text
     by_tests false true f g i j ea eb ef eg ei ej = not_both (is_text mode) (ap is_text (same eb)) text
     by_tests false false true g i j ea eb ef eg ei ej = there (Sixteen Low) (same ef) refl
@@ -81,7 +85,8 @@ graphics_row mode height row text e = by_tests (mode == 0x03) (mode == 0x07) (mo
         ap (λ w. if w then Some colour_text else if mode == 0x07 then Some monochrome_text else if mode == 0x0D then Some planes_320_by_200 else fourth mode) ea
         ∙ ap (λ w. if w then Some monochrome_text else if mode == 0x0D then Some planes_320_by_200 else fourth mode) eb
         ∙ ap (λ w. if w then Some planes_320_by_200 else fourth mode) ef
-        ∙ ap (λ w. if w then Some planes_640_by_350 else if mode == 0x12 then Some planes_640_by_480 else if mode == 0x13 then Some bytes_320_by_200 else None) eg
+        ∙ ap (λ w. if w then Some planes_640_by_350 else if mode == 0x12 then Some planes_640_by_480 else if mode == 0x13 then Some bytes_320_by_200
+        else None) eg
         ∙ ap (λ w. if w then Some planes_640_by_480 else if mode == 0x13 then Some bytes_320_by_200 else None) ei
         ∙ ap (λ w. if w then Some bytes_320_by_200 else None) ej in
         none_some row (sym (ap (λ (x : Option ModeRow). if_row x (λ r. at_height r height)) none) ∙ e)
@@ -206,7 +211,8 @@ base_by Middle type start location page v lp lv = omega arith
 base_by High type start location page v lp lv = omega arith
 
 pub counter_by : (m : Planes) (page v x : ℕ) → page < (row_of m).pages → v < (raster m).height → x < (raster m).columns
-    → ((row_of m).size * page + (raster m).columns * (v / pixel_height (number_of m)) + x) % 65536 ≡ (row_of m).size * page + ((raster m).columns * (v / pixel_height (number_of m)) + x)
+    → ((row_of m).size * page + (raster m).columns * (v / pixel_height (number_of m)) + x) % 65536
+    ≡ (row_of m).size * page + ((raster m).columns * (v / pixel_height (number_of m)) + x)
 counter_by Low page v x lp lv lx = omega arith
 counter_by Middle page v x lp lv lx = omega arith
 counter_by High page v x lp lv lx = omega arith

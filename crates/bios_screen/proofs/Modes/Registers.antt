@@ -17,17 +17,24 @@ use Rattle.bios_screen.specs.Listing.{listing}
 use Rattle.bios_screen.proofs.Base.Lists.{spelled}
 
 abbrev with_registers : CardState → List ℕ → List ℕ → List ℕ → List ℕ → CardState
-with_registers c seq gfx crtc attr = record c { host = record c.host { seq = seq; gfx = gfx }; crtc = record c.crtc { registers = crtc }; attr = record c.attr { registers = attr } }
+with_registers c seq gfx crtc attr = record c {
+  host = record c.host { seq = seq; gfx = gfx };
+  crtc = record c.crtc { registers = crtc };
+  attr = record c.attr { registers = attr };
+}
 
 abbrev spelled_card : CardState → CardState
-spelled_card c = with_registers c (listing (slice_index c.host.seq) 0 5) (listing (slice_index c.host.gfx) 0 9) (listing (slice_index c.crtc.registers) 0 25) (listing (slice_index c.attr.registers) 0 21)
+spelled_card c = with_registers c (listing (slice_index c.host.seq) 0 5) (listing (slice_index c.host.gfx) 0 9) (listing (slice_index c.crtc.registers) 0 25)
+    (listing (slice_index c.attr.registers) 0 21)
 
 card_spelled : (c : CardState) → IsCard c → c ≡ spelled_card c
 card_spelled c z =
     ap (λ x. with_registers c x c.host.gfx c.crtc.registers c.attr.registers) (spelled c.host.seq 5 z.host.seq_size)
     ∙ ap (λ x. with_registers c (listing (slice_index c.host.seq) 0 5) x c.crtc.registers c.attr.registers) (spelled c.host.gfx 9 z.host.gfx_size)
-    ∙ ap (λ x. with_registers c (listing (slice_index c.host.seq) 0 5) (listing (slice_index c.host.gfx) 0 9) x c.attr.registers) (spelled c.crtc.registers 25 z.crtc.size)
-    ∙ ap (λ x. with_registers c (listing (slice_index c.host.seq) 0 5) (listing (slice_index c.host.gfx) 0 9) (listing (slice_index c.crtc.registers) 0 25) x) (spelled c.attr.registers 21 z.attr.size)
+    ∙ ap (λ x. with_registers c (listing (slice_index c.host.seq) 0 5) (listing (slice_index c.host.gfx) 0 9) x c.attr.registers)
+    (spelled c.crtc.registers 25 z.crtc.size)
+    ∙ ap (λ x. with_registers c (listing (slice_index c.host.seq) 0 5) (listing (slice_index c.host.gfx) 0 9) (listing (slice_index c.crtc.registers) 0 25) x)
+    (spelled c.attr.registers 21 z.attr.size)
 
 -- the adapter with a mode's registers; memory, latches, DAC, beam and drawn dots are as they were
 abbrev pub in_mode : ModeRow → CardState → CardState

@@ -103,12 +103,102 @@ pub record TextRow (mode : ℕ) (row : ModeRow) : Type 0 where
 
 -- each of their rows is one of text
 row_by : (k : Display) (height : Height) → IsTextRow k (number_of k) (row_with k height)
-row_by Colour Eight = record { misc = refl; sequencer = refl; graphics = refl; port = refl; base = refl; crtc = refl; columns = omega arith; some_columns = omega arith; half = 4096; even = refl; fits = omega arith; memory = omega arith; pages = omega arith; last_row = omega arith }
-row_by Colour Fourteen = record { misc = refl; sequencer = refl; graphics = refl; port = refl; base = refl; crtc = refl; columns = omega arith; some_columns = omega arith; half = 4096; even = refl; fits = omega arith; memory = omega arith; pages = omega arith; last_row = omega arith }
-row_by Colour Sixteen = record { misc = refl; sequencer = refl; graphics = refl; port = refl; base = refl; crtc = refl; columns = omega arith; some_columns = omega arith; half = 2048; even = refl; fits = omega arith; memory = omega arith; pages = omega arith; last_row = omega arith }
-row_by Monochrome Eight = record { misc = refl; sequencer = refl; graphics = refl; port = refl; base = refl; crtc = refl; columns = omega arith; some_columns = omega arith; half = 4096; even = refl; fits = omega arith; memory = omega arith; pages = omega arith; last_row = omega arith }
-row_by Monochrome Fourteen = record { misc = refl; sequencer = refl; graphics = refl; port = refl; base = refl; crtc = refl; columns = omega arith; some_columns = omega arith; half = 4096; even = refl; fits = omega arith; memory = omega arith; pages = omega arith; last_row = omega arith }
-row_by Monochrome Sixteen = record { misc = refl; sequencer = refl; graphics = refl; port = refl; base = refl; crtc = refl; columns = omega arith; some_columns = omega arith; half = 2048; even = refl; fits = omega arith; memory = omega arith; pages = omega arith; last_row = omega arith }
+row_by Colour Eight = record {
+  misc = refl;
+  sequencer = refl;
+  graphics = refl;
+  port = refl;
+  base = refl;
+  crtc = refl;
+  columns = omega arith;
+  some_columns = omega arith;
+  half = 4096;
+  even = refl;
+  fits = omega arith;
+  memory = omega arith;
+  pages = omega arith;
+  last_row = omega arith;
+}
+row_by Colour Fourteen = record {
+  misc = refl;
+  sequencer = refl;
+  graphics = refl;
+  port = refl;
+  base = refl;
+  crtc = refl;
+  columns = omega arith;
+  some_columns = omega arith;
+  half = 4096;
+  even = refl;
+  fits = omega arith;
+  memory = omega arith;
+  pages = omega arith;
+  last_row = omega arith;
+}
+row_by Colour Sixteen = record {
+  misc = refl;
+  sequencer = refl;
+  graphics = refl;
+  port = refl;
+  base = refl;
+  crtc = refl;
+  columns = omega arith;
+  some_columns = omega arith;
+  half = 2048;
+  even = refl;
+  fits = omega arith;
+  memory = omega arith;
+  pages = omega arith;
+  last_row = omega arith;
+}
+row_by Monochrome Eight = record {
+  misc = refl;
+  sequencer = refl;
+  graphics = refl;
+  port = refl;
+  base = refl;
+  crtc = refl;
+  columns = omega arith;
+  some_columns = omega arith;
+  half = 4096;
+  even = refl;
+  fits = omega arith;
+  memory = omega arith;
+  pages = omega arith;
+  last_row = omega arith;
+}
+row_by Monochrome Fourteen = record {
+  misc = refl;
+  sequencer = refl;
+  graphics = refl;
+  port = refl;
+  base = refl;
+  crtc = refl;
+  columns = omega arith;
+  some_columns = omega arith;
+  half = 4096;
+  even = refl;
+  fits = omega arith;
+  memory = omega arith;
+  pages = omega arith;
+  last_row = omega arith;
+}
+row_by Monochrome Sixteen = record {
+  misc = refl;
+  sequencer = refl;
+  graphics = refl;
+  port = refl;
+  base = refl;
+  crtc = refl;
+  columns = omega arith;
+  some_columns = omega arith;
+  half = 2048;
+  even = refl;
+  fits = omega arith;
+  memory = omega arith;
+  pages = omega arith;
+  last_row = omega arith;
+}
 
 -- the height that the row of some data has
 record HasHeight (k : Display) (row : ModeRow) : Type 0 where
@@ -121,7 +211,8 @@ none_has row e = absurd (cc)
 colour_height : (height : ℕ) (row : ModeRow) → with_height colour_text (colour_rows height) ≡ Some row → HasHeight Colour row
 colour_height height row e = by_tests (height == 8) (height == 14) (height == 16) e
   where
-    by_tests : (a b f : Bool) → with_height colour_text (if a then Some (fifty_rows 0x1F) else if b then Some (twenty_eight_rows 0x1F) else if f then Some (twenty_five_rows 0x1F) else None) ≡ Some row → HasHeight Colour row
+    by_tests : (a b f : Bool) → with_height colour_text (if a then Some (fifty_rows 0x1F) else if b then Some (twenty_eight_rows 0x1F) else if f
+        then Some (twenty_five_rows 0x1F) else None) ≡ Some row → HasHeight Colour row
     by_tests true b f h = record { height = Eight; is = some_same (row_with Colour Eight) row h }
     by_tests false true f h = record { height = Fourteen; is = some_same (row_with Colour Fourteen) row h }
     by_tests false false true h = record { height = Sixteen; is = some_same (row_with Colour Sixteen) row h }
@@ -130,7 +221,8 @@ colour_height height row e = by_tests (height == 8) (height == 14) (height == 16
 monochrome_height : (height : ℕ) (row : ModeRow) → with_height monochrome_text (monochrome_rows height) ≡ Some row → HasHeight Monochrome row
 monochrome_height height row e = by_tests (height == 8) (height == 14) (height == 16) e
   where
-    by_tests : (a b f : Bool) → with_height monochrome_text (if a then Some (fifty_rows 0x07) else if b then Some (twenty_eight_rows 0x0D) else if f then Some (twenty_five_rows 0x0F) else None) ≡ Some row → HasHeight Monochrome row
+    by_tests : (a b f : Bool) → with_height monochrome_text (if a then Some (fifty_rows 0x07) else if b then Some (twenty_eight_rows 0x0D) else if f
+        then Some (twenty_five_rows 0x0F) else None) ≡ Some row → HasHeight Monochrome row
     by_tests true b f h = record { height = Eight; is = some_same (row_with Monochrome Eight) row h }
     by_tests false true f h = record { height = Fourteen; is = some_same (row_with Monochrome Fourteen) row h }
     by_tests false false true h = record { height = Sixteen; is = some_same (row_with Monochrome Sixteen) row h }
@@ -144,7 +236,8 @@ text_number : (mode : ℕ) → is_text mode ≡ true → ((mode == 0x03) || (mod
 text_number mode = by_tests (mode == 0x03) (mode == 0x07) (mode == 0x0D) (mode == 0x10) (mode == 0x12) (mode == 0x13)
   where
     by_tests : (a b f g i j : Bool)
-        → is_text_kind (kind_in (if a then Some colour_text else if b then Some monochrome_text else if f then Some planes_320_by_200 else if g then Some planes_640_by_350
+        → is_text_kind (kind_in (if a then Some colour_text else if b then Some monochrome_text else if f then Some planes_320_by_200 else if g
+        then Some planes_640_by_350
         else if i then Some planes_640_by_480 else if j then Some bytes_320_by_200 else None)) ≡ true → (a || b) ≡ true
     by_tests true b f g i j t = refl
     by_tests false true f g i j t = refl

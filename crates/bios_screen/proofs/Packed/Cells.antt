@@ -65,9 +65,11 @@ byte_shifted f =
     let x6 = (2 * x5 + as_dot (f 5)) % 256 in let e6 : x6 ≡ 2 * x5 + as_dot (f 5) = shift_more x5 (as_dot (f 5)) (omega arith) b5 in
     let x7 = (2 * x6 + as_dot (f 6)) % 256 in let e7 : x7 ≡ 2 * x6 + as_dot (f 6) = shift_more x6 (as_dot (f 6)) (omega arith) b6 in
     let x8 = (2 * x7 + as_dot (f 7)) % 256 in let e8 : x8 ≡ 2 * x7 + as_dot (f 7) = shift_more x7 (as_dot (f 7)) (omega arith) b7 in
-    sum x1 x2 x3 x4 x5 x6 x7 x8 (as_dot (f 0)) (as_dot (f 1)) (as_dot (f 2)) (as_dot (f 3)) (as_dot (f 4)) (as_dot (f 5)) (as_dot (f 6)) (as_dot (f 7)) e1 e2 e3 e4 e5 e6 e7 e8
+    sum x1 x2 x3 x4 x5 x6 x7 x8 (as_dot (f 0)) (as_dot (f 1)) (as_dot (f 2)) (as_dot (f 3)) (as_dot (f 4)) (as_dot (f 5)) (as_dot (f 6)) (as_dot (f 7)) e1 e2 e3
+    e4 e5 e6 e7 e8
   where
-    sum : (x1 x2 x3 x4 x5 x6 x7 x8 b0 b1 b2 b3 b4 b5 b6 b7 : ℕ) → x1 ≡ 2 * 0 + b0 → x2 ≡ 2 * x1 + b1 → x3 ≡ 2 * x2 + b2 → x4 ≡ 2 * x3 + b3 → x5 ≡ 2 * x4 + b4 → x6 ≡ 2 * x5 + b5 → x7 ≡ 2 * x6 + b6 → x8 ≡ 2 * x7 + b7
+    sum : (x1 x2 x3 x4 x5 x6 x7 x8 b0 b1 b2 b3 b4 b5 b6 b7 : ℕ) → x1 ≡ 2 * 0 + b0 → x2 ≡ 2 * x1 + b1 → x3 ≡ 2 * x2 + b2 → x4 ≡ 2 * x3 + b3 → x5 ≡ 2 * x4 + b4 →
+        x6 ≡ 2 * x5 + b5 → x7 ≡ 2 * x6 + b6 → x8 ≡ 2 * x7 + b7
         → x8 ≡ b7 + 2 * b6 + 4 * b5 + 8 * b4 + 16 * b3 + 32 * b2 + 64 * b1 + 128 * b0
     sum x1 x2 x3 x4 x5 x6 x7 x8 b0 b1 b2 b3 b4 b5 b6 b7 e1 e2 e3 e4 e5 e6 e7 e8 = omega arith
 
@@ -117,7 +119,8 @@ module _ (law : KeepsBounds) (rest : CardState) where
       let runs = run_bind card_meaning plan (λ y. more >>= join y) c ∙ run_bind card_meaning more (join x) c1 in
       record {
         still = subst (λ r. IsFlat rest r.0 f) (sym runs) rest_seen.still;
-        value = ap (λ r. r.1) runs ∙ ap (λ y. y ∷ (run card_meaning more c1).1) (first.value ∙ byte_shifted (λ j. f (at i + j))) ∙ ap (λ ys. byte_of (λ j. as_dot (f (at i + (7 - j)))) ∷ ys) rest_seen.value;
+        value = ap (λ r. r.1) runs ∙ ap (λ y. y ∷ (run card_meaning more c1).1) (first.value ∙ byte_shifted (λ j. f (at i + j)))
+            ∙ ap (λ ys. byte_of (λ j. as_dot (f (at i + (7 - j)))) ∷ ys) rest_seen.value;
       }
 
 -- the plan by its addresses
@@ -154,19 +157,22 @@ module _ (law : KeepsBounds) (c : CardState) (d : BiosData) (t : IsPacked c d) (
   line_is q r lq lr =
       let l = writes.strip_small law c d t e z q r lq lr in
       let all = screens.all_pixels c d t e z in
-      byte_same (λ j. as_dot (old (place q r + (7 - j)))) (λ j. as_dot (pixel_of s 0 (place q r + (7 - j)))) (λ j lj. ap as_dot (sym (screens.pixel_is c d t e z (place q r + (7 - j)) (omega arith))))
+      byte_same (λ j. as_dot (old (place q r + (7 - j)))) (λ j. as_dot (pixel_of s 0 (place q r + (7 - j)))) (λ j lj.
+      ap as_dot (sym (screens.pixel_is c d t e z (place q r + (7 - j)) (omega arith))))
 
   seen_at_0 : (fonts : FontSet) (q : ℕ) → q < cells_of d → IsSeen bytes_320_by_200 c d e (screens.text c d t e z) fonts 0 q
   seen_at_0 fonts q lq =
       let at = place q in
       let lines : Plan (List ℕ) = gather (λ r. line_plan Packed (0xA0000 + at r)) h 0 in
       let after : List ℕ → Plan ℕ = λ l. Done (first_character fonts h l 256) in
-      let x = lines_seen law (without_drawing c) at h 0 c old (λ r l. let k = writes.strip_small law c d t e z q r lq (omega arith) in omega arith) (screens.begins c d t e z) in
+      let x = lines_seen law (without_drawing c) at h 0 c old (λ r l. let k = writes.strip_small law c d t e z q r lq (omega arith) in omega arith)
+      (screens.begins c d t e z) in
       let runs = run_bind card_meaning lines after c in
       let plan = plan_is fonts q in
       record {
         answer = ap (λ i. (run card_meaning i c).1) plan ∙ ap (λ r. r.1) runs
-            ∙ ap (λ l. first_character fonts h l 256) (x.value ∙ same_from_0 (cell_line s 0 q) (λ r. byte_of (λ j. as_dot (old (at r + (7 - j))))) h (λ r l. line_is q r lq l));
+            ∙ ap (λ l. first_character fonts h l 256) (x.value ∙ same_from_0 (cell_line s 0 q) (λ r. byte_of (λ j. as_dot (old (at r + (7 - j))))) h (λ r l.
+            line_is q r lq l));
         shows = ap (λ i. shown (run card_meaning i c).0 d) plan ∙ ap (λ r. shown r.0 d) runs ∙ screens.stays c d t e z (run card_meaning lines c).0 x.still;
       }
 

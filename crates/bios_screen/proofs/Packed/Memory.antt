@@ -55,13 +55,15 @@ memory_is h n b l =
     ∙ ap (λ x. four_packed h.memory n b b x (w 3)) (written h b 2 (omega arith) l)
     ∙ ap (λ x. four_packed h.memory n b b b x) (written h b 3 (omega arith) l)
 
-pub put_is : (c : CardState) (n b : ℕ) → setting c ≡ setting_in Many → n < 65536 → b < 256 → (run card_meaning (put (0xA0000 + n) b) c).0 ≡ with_memory c (packed_memory c.host.memory n b)
+pub put_is : (c : CardState) (n b : ℕ) → setting c ≡ setting_in Many → n < 65536 → b < 256 →
+    (run card_meaning (put (0xA0000 + n) b) c).0 ≡ with_memory c (packed_memory c.host.memory n b)
 put_is c n b e l h =
     put_decoded c (setting_in Many) (0xA0000 + n) b e (decoded c.host n l)
     ∙ ap (λ o. with_memory c (memory_after_put (host_at c.host (setting_in Many)) o b)) (window_is c.host n l)
     ∙ ap (with_memory c) (memory_is c.host n b h)
 
-plane_after : (m : Four (List ℕ)) (n b p : ℕ) → p < 4 → of_plane (packed_memory m n b) p ≡ (if p == n % 4 then slice_set (of_plane m p) (n / 4 * 4) b else of_plane m p)
+plane_after : (m : Four (List ℕ)) (n b p : ℕ) → p < 4 → of_plane (packed_memory m n b) p
+    ≡ (if p == n % 4 then slice_set (of_plane m p) (n / 4 * 4) b else of_plane m p)
 plane_after m n b zero l = refl
 plane_after m n b (suc zero) l = refl
 plane_after m n b (suc (suc zero)) l = refl
@@ -69,7 +71,8 @@ plane_after m n b (suc (suc (suc zero))) l = refl
 plane_after m n b (suc (suc (suc (suc p)))) l = absurd (omega arith)
 
 -- a Put changes one pixel
-pub pixel_put : (m : Four (List ℕ)) (n b k : ℕ) → ((p : ℕ) → p < 4 → length (of_plane m p) ≡ 65536) → n < 65536 → packed_pixel (packed_memory m n b) k ≡ set_cell (packed_pixel m) n b k
+pub pixel_put : (m : Four (List ℕ)) (n b k : ℕ) → ((p : ℕ) → p < 4 → length (of_plane m p) ≡ 65536) → n < 65536 →
+    packed_pixel (packed_memory m n b) k ≡ set_cell (packed_pixel m) n b k
 pixel_put m n b k size l =
     let p : k % 4 < 4 = omega arith in
     let o = n / 4 * 4 in
@@ -80,12 +83,14 @@ pixel_put m n b k size l =
     (λ (e : k ≡ n).
     let same_plane : (k % 4 == n % 4) ≡ true = grind (arith, nat_tests) in
     let z : k / 4 * 4 ≡ o = omega arith in
-    ap (λ v. slice_index (if v then slice_set plane o b else plane) (k / 4 * 4)) same_plane ∙ ap (slice_index (slice_set plane o b)) z ∙ get_or-set_same plane o b 0 (omega (arith, long)) ∙ sym (set_same (packed_pixel m) n b k e))
+    ap (λ v. slice_index (if v then slice_set plane o b else plane) (k / 4 * 4)) same_plane ∙ ap (slice_index (slice_set plane o b)) z
+    ∙ get_or-set_same plane o b 0 (omega (arith, long)) ∙ sym (set_same (packed_pixel m) n b k e))
     (λ (e : k ≢ n). ⊎_elim
     (λ (q : k % 4 ≡ n % 4).
     let same_plane : (k % 4 == n % 4) ≡ true = grind (arith, nat_tests) in
     let z : k / 4 * 4 ≢ o = λ w. e (omega arith) in
-    ap (λ v. slice_index (if v then slice_set plane o b else plane) (k / 4 * 4)) same_plane ∙ get_or-set_other plane o (k / 4 * 4) b 0 z ∙ sym (set_other (packed_pixel m) n b k e))
+    ap (λ v. slice_index (if v then slice_set plane o b else plane) (k / 4 * 4)) same_plane ∙ get_or-set_other plane o (k / 4 * 4) b 0 z
+    ∙ sym (set_other (packed_pixel m) n b k e))
     (λ (q : k % 4 ≢ n % 4).
     let other_plane : (k % 4 == n % 4) ≡ false = grind (arith, nat_tests) in
     ap (λ v. slice_index (if v then slice_set plane o b else plane) (k / 4 * 4)) other_plane ∙ sym (set_other (packed_pixel m) n b k e))
@@ -100,10 +105,12 @@ byte_of_plane m o (suc (suc zero)) l = refl
 byte_of_plane m o (suc (suc (suc zero))) l = refl
 byte_of_plane m o (suc (suc (suc (suc p)))) l = absurd (omega arith)
 
-pub byte_read : (h : HostState) (n : ℕ) → n < 65536 → packed_pixel h.memory n < 256 → read_byte (host_at h (setting_in Many)) (0xA0000 + n) ≡ packed_pixel h.memory n
+pub byte_read : (h : HostState) (n : ℕ) → n < 65536 → packed_pixel h.memory n < 256 →
+    read_byte (host_at h (setting_in Many)) (0xA0000 + n) ≡ packed_pixel h.memory n
 unfolding byte_of read_bit
 byte_read h n l b =
     let w = window_offset (host_at h (setting_in Many)) (0xA0000 + n) in
     let p : w % 4 < 4 = omega arith in
-    let e : of_plane (bytes_at h.memory (w / 4 * 4)) (w % 4) ≡ packed_pixel h.memory n = byte_of_plane h.memory (w / 4 * 4) (w % 4) p ∙ ap (packed_pixel h.memory) (window_is h n l) in
+    let e : of_plane (bytes_at h.memory (w / 4 * 4)) (w % 4) ≡ packed_pixel h.memory n = byte_of_plane h.memory (w / 4 * 4) (w % 4) p
+    ∙ ap (packed_pixel h.memory) (window_is h n l) in
     byte_bits (of_plane (bytes_at h.memory (w / 4 * 4)) (w % 4)) (subst (λ x. x < 256) (sym e) b) ∙ e

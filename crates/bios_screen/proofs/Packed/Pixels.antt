@@ -58,27 +58,32 @@ module _ (c : CardState) (d : BiosData) (t : IsPacked c d) (e : row_at d.mode d.
   write_is : (x y colour : ℕ) → write_pixel_plan d 0 x y colour ≡ put (0xA0000 + number x y) colour
   unfolding write_pixel_plan
   write_is x y colour =
-      ap (λ m. let p : Plan (Unit {0}) = (if is_packed m then put (pixel_address d 0 x y) colour else write_dot_plan (pixel_address d 0 x y) x colour) in p) t.number
+      ap (λ m. let p : Plan (Unit {0}) = (if is_packed m then put (pixel_address d 0 x y) colour else write_dot_plan (pixel_address d 0 x y) x colour) in p)
+      t.number
       ∙ ap (λ a. put a colour) (address_is x y)
 
-  dot_shown : (x y colour : ℕ) → There bytes_320_by_200 d 0 x y → shown (with_memory c (packed_memory c.host.memory (number x y) colour)) d ≡ Some (with_pixels s 0 (change_pixel (number x y) (colour_over d.mode colour)))
+  dot_shown : (x y colour : ℕ) → There bytes_320_by_200 d 0 x y → shown (with_memory c (packed_memory c.host.memory (number x y) colour)) d
+      ≡ Some (with_pixels s 0 (change_pixel (number x y) (colour_over d.mode colour)))
   dot_shown x y colour h =
       let n = number x y in
       let m = c.host.memory in
       let l = number_small x y h in
-      screens.pixels_redrawn c d t e z (with_memory c (packed_memory m n colour)) (set_cell (packed_pixel m) n colour) (change_pixel n (colour_over d.mode colour)) (screens.setting_is c d t e z)
+      screens.pixels_redrawn c d t e z (with_memory c (packed_memory m n colour)) (set_cell (packed_pixel m) n colour)
+      (change_pixel n (colour_over d.mode colour)) (screens.setting_is c d t e z)
       (λ k. pixel_put m n colour k z.host.memory.size (omega arith)) refl
       (λ k lk.
       ap (λ v. if k == n then v else packed_pixel m k) (sym (ap (λ i. colour_over i colour (packed_pixel m k)) t.number))
       ∙ ap (λ v. if k == n then colour_over d.mode colour v else v) (sym (screens.pixel_is c d t e z k lk)))
 
-  pub write_pixel : (page x y colour : ℕ) (fonts : FontSet) (r : Regs) (block : List ℕ) → colour < 256 → IsServed (WritePixel page x y colour) fonts r block c d s
+  pub write_pixel : (page x y colour : ℕ) (fonts : FontSet) (r : Regs) (block : List ℕ) → colour < 256 →
+      IsServed (WritePixel page x y colour) fonts r block c d s
   write_pixel page x y colour fonts r block lc = services.write_pixel bytes_320_by_200 c d e page x y colour fonts r block (λ p h.
       let lp = h.page in
       let first : 0 ≡ p = omega arith in
       let h0 : There bytes_320_by_200 d 0 x y = subst (λ i. There bytes_320_by_200 d i x y) (sym first) h in
       let l = number_small x y h0 in
-      subst (λ i. shown (run card_meaning (write_pixel_plan d i x y colour) c).0 d ≡ Some (with_pixels s i (change_pixel (number x y) (colour_over d.mode colour)))) first
+      subst (λ i. shown (run card_meaning (write_pixel_plan d i x y colour) c).0 d
+      ≡ Some (with_pixels s i (change_pixel (number x y) (colour_over d.mode colour)))) first
       (ap (λ q. shown (run card_meaning q c).0 d) (write_is x y colour)
       ∙ ap (λ q. shown q d) (put_is c (number x y) colour (screens.setting_is c d t e z) (omega arith) lc)
       ∙ dot_shown x y colour h0))
@@ -99,9 +104,11 @@ module _ (c : CardState) (d : BiosData) (t : IsPacked c d) (e : row_at d.mode d.
       let got = get_decoded c (setting_in Many) (0xA0000 + n) (screens.setting_is c d t e z) (decoded c.host n (omega arith)) in
       record {
         answer = ap (λ i. (run card_meaning i c).1) (read_is x y) ∙ ap (λ (q : CardState × ℕ). q.1) got
-            ∙ byte_read c.host n (omega arith) (z.host.memory.bytes (n % 4) (omega arith) (n / 4 * 4)) ∙ sym (screens.pixel_is c d t e z n (number_within bytes_320_by_200 d 0 x y h));
+            ∙ byte_read c.host n (omega arith) (z.host.memory.bytes (n % 4) (omega arith) (n / 4 * 4))
+            ∙ sym (screens.pixel_is c d t e z n (number_within bytes_320_by_200 d 0 x y h));
         shows = ap (λ i. shown (run card_meaning i c).0 d) (read_is x y) ∙ ap (λ (q : CardState × ℕ). shown q.0 d) got
-            ∙ pixels_shown_of (record c { host = record c.host { latches = loaded (host_at c.host (setting_in Many)) (0xA0000 + n) } }) d bytes_320_by_200 e (screens.text c d t e z) (record { memory = a.memory; data_test = a.data_test; crtc = a.crtc; attribute = a.attribute });
+            ∙ pixels_shown_of (record c { host = record c.host { latches = loaded (host_at c.host (setting_in Many)) (0xA0000 + n) } }) d bytes_320_by_200 e
+            (screens.text c d t e z) (record { memory = a.memory; data_test = a.data_test; crtc = a.crtc; attribute = a.attribute });
       }
 
   pub read_pixel : (page x y : ℕ) (fonts : FontSet) (r : Regs) (block : List ℕ) → IsServed (ReadPixel page x y) fonts r block c d s

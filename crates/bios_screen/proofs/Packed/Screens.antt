@@ -35,7 +35,8 @@ pub record IsFlat (rest : CardState) (c : CardState) (f : ℕ → ℕ) : Type 0 
   pub others : without_drawing c ≡ rest
 
 -- a Put changes one of them
-pub put_flat : (law : KeepsBounds) (rest : CardState) (n v : ℕ) (c : CardState) (f : ℕ → ℕ) → n < 65536 → v < 256 → IsFlat rest c f → IsFlat rest (run card_meaning (put (0xA0000 + n) v) c).0 (set_cell f n v)
+pub put_flat : (law : KeepsBounds) (rest : CardState) (n v : ℕ) (c : CardState) (f : ℕ → ℕ) → n < 65536 → v < 256 → IsFlat rest c f →
+    IsFlat rest (run card_meaning (put (0xA0000 + n) v) c).0 (set_cell f n v)
 put_flat law rest n v c f l lv t =
     let after = put_is c n v t.mode l lv in
     let still : IsFlat rest (with_memory c (packed_memory c.host.memory n v)) (set_cell f n v) = record {
@@ -56,7 +57,12 @@ get_flat law rest a c f la t =
     let got = get_decoded c (setting_in Many) (0xA0000 + a) t.mode (decoded c.host a la) in
     let after = ap (λ r. r.0) got in
     record {
-      still = subst (λ y. IsFlat rest y f) (sym after) (record { mode = t.mode; bounds = subst IsCard after (plan_bounds law (get (0xA0000 + a)) c t.bounds); cell = t.cell; others = t.others });
+      still = subst (λ y. IsFlat rest y f) (sym after) (record {
+        mode = t.mode;
+        bounds = subst IsCard after (plan_bounds law (get (0xA0000 + a)) c t.bounds);
+        cell = t.cell;
+        others = t.others;
+      });
       value = ap (λ r. r.1) got ∙ byte_read c.host a la (t.bounds.host.memory.bytes (a % 4) (omega arith) (a / 4 * 4)) ∙ t.cell a;
     }
 
@@ -74,7 +80,8 @@ module _ (c : CardState) (d : BiosData) (t : IsPacked c d) (e : row_at d.mode d.
   begins = record { mode = setting_is; bounds = z; cell = λ k. refl; others = refl }
 
   pub all_pixels : page_pixels d ≡ 64000
-  all_pixels = ap (λ i. 8 * i * (d.height * (d.last_row + 1))) t.has.columns ∙ ap (λ i. 320 * (i * (d.last_row + 1))) t.has.height ∙ ap (λ i. 320 * (8 * (i + 1))) t.has.last_row
+  all_pixels = ap (λ i. 8 * i * (d.height * (d.last_row + 1))) t.has.columns ∙ ap (λ i. 320 * (i * (d.last_row + 1))) t.has.height
+      ∙ ap (λ i. 320 * (8 * (i + 1))) t.has.last_row
 
   -- a pixel of the page, in memory that shows it
   pixel_by : (m : Four (List ℕ)) (k : ℕ) → pixel_in d.mode m (d.size * 0) k ≡ packed_pixel m k
@@ -86,7 +93,8 @@ module _ (c : CardState) (d : BiosData) (t : IsPacked c d) (e : row_at d.mode d.
   pixel_is k l = pixel_at d.mode c.host.memory d.size (page_pixels d) 1 0 k (omega arith) l ∙ pixel_by c.host.memory k
 
   -- what the adapter shows where the page has other pixels
-  pub pixels_redrawn : (y : CardState) (f : ℕ → ℕ) (change : (ℕ → ℕ) → ℕ → ℕ) → setting y ≡ setting_in Many → ((k : ℕ) → packed_pixel y.host.memory k ≡ f k) → without_drawing y ≡ without_drawing c → ((k : ℕ) → k < page_pixels d → f k ≡ change (pixel_of s 0) k) → shown y d ≡ Some (with_pixels s 0 change)
+  pub pixels_redrawn : (y : CardState) (f : ℕ → ℕ) (change : (ℕ → ℕ) → ℕ → ℕ) → setting y ≡ setting_in Many → ((k : ℕ) → packed_pixel y.host.memory k ≡ f k) →
+      without_drawing y ≡ without_drawing c → ((k : ℕ) → k < page_pixels d → f k ≡ change (pixel_of s 0) k) → shown y d ≡ Some (with_pixels s 0 change)
   unfolding pixel_pages pixels_in
   pixels_redrawn y f change mode cell others inside =
       let row = bytes_320_by_200 in
@@ -99,7 +107,8 @@ module _ (c : CardState) (d : BiosData) (t : IsPacked c d) (e : row_at d.mode d.
       redrawn row c y d e text t.tests (mode ∙ sym setting_is) others
       ∙ ap (λ x. Some (screen_by row c d 0 (Pixels (x ∷ [])) [])) page
 
-  pub page_redrawn : (y : CardState) (f : ℕ → ℕ) (change : (ℕ → ℕ) → ℕ → ℕ) → IsFlat (without_drawing c) y f → ((k : ℕ) → k < page_pixels d → f k ≡ change (pixel_of s 0) k) → shown y d ≡ Some (with_pixels s 0 change)
+  pub page_redrawn : (y : CardState) (f : ℕ → ℕ) (change : (ℕ → ℕ) → ℕ → ℕ) → IsFlat (without_drawing c) y f →
+      ((k : ℕ) → k < page_pixels d → f k ≡ change (pixel_of s 0) k) → shown y d ≡ Some (with_pixels s 0 change)
   page_redrawn y f change h inside = pixels_redrawn y f change h.mode h.cell h.others inside
 
   -- and where all pixels are as they were, the screen stays
@@ -109,6 +118,7 @@ module _ (c : CardState) (d : BiosData) (t : IsPacked c d) (e : row_at d.mode d.
       let row = bytes_320_by_200 in
       let n = page_pixels d in
       let page : pixels_in d.mode y.host.memory (d.size * 0) n ≡ pixels_in d.mode c.host.memory (d.size * 0) n =
-      same_from_0 (pixel_in d.mode c.host.memory (d.size * 0)) (pixel_in d.mode y.host.memory (d.size * 0)) n (λ k l. pixel_by y.host.memory k ∙ h.cell k ∙ sym (pixel_by c.host.memory k)) in
+      same_from_0 (pixel_in d.mode c.host.memory (d.size * 0)) (pixel_in d.mode y.host.memory (d.size * 0)) n (λ k l. pixel_by y.host.memory k ∙ h.cell k
+      ∙ sym (pixel_by c.host.memory k)) in
       redrawn row c y d e text t.tests (h.mode ∙ sym setting_is) h.others
       ∙ ap (λ x. Some (screen_by row c d 0 (Pixels (x ∷ [])) [])) page

@@ -22,14 +22,17 @@ use Rattle.bios_screen.proofs.Pixels.Windows.{page_raised}
 use Rattle.bios_screen.proofs.Packed.Writes.{characters_shown}
 use Rattle.bios_screen.proofs.Packed.Scrolls.{up_shown}
 
-module _ (law : KeepsBounds) (c : CardState) (d : BiosData) (t : IsPacked c d) (e : row_at d.mode d.height ≡ Some bytes_320_by_200) (z : IsCard c) (p : ℕ) (lp : p < bytes_320_by_200.pages) where
+module _ (law : KeepsBounds) (c : CardState) (d : BiosData) (t : IsPacked c d) (e : row_at d.mode d.height ≡ Some bytes_320_by_200) (z : IsCard c) (p : ℕ)
+    (lp : p < bytes_320_by_200.pages) where
   abbrev s : Screen
   s = pixel_screen bytes_320_by_200 c d
 
   pub raised : shown (run card_meaning (up_plan (band_of d p 0 (d.columns - 1)) 0 (d.last_row + 1) 1 0) c).0 d ≡ Some (window_up s p (whole_page s 0))
   raised = page_raised bytes_320_by_200 c d p 0 (up_shown law c d t e z p lp (whole_page s 0) (omega arith))
 
-  pub put : (fonts : FontSet) (place v : ℕ) (colouring : Colouring) → row_of place < d.last_row + 1 → column_of place < d.columns → v < 256 → colouring.colour < 256 → shown (run card_meaning (character_plan fonts d p (cell_number d place) v colouring) c).0 d ≡ Some (put_character fonts s p place v colouring)
+  pub put : (fonts : FontSet) (place v : ℕ) (colouring : Colouring) → row_of place < d.last_row + 1 → column_of place < d.columns → v < 256 →
+      colouring.colour < 256 → shown (run card_meaning (character_plan fonts d p (cell_number d place) v colouring) c).0 d
+      ≡ Some (put_character fonts s p place v colouring)
   put fonts place v colouring lr lc lv la =
       ap (λ y. shown y d) (one_character fonts d p (cell_number d place) v colouring c)
       ∙ characters_shown law c d t e z fonts p (cell_number d place) 1 v colouring lp (place_within d place lr lc) la

@@ -12,7 +12,8 @@ use Rattle.bios_services.specs.Plan.{Plan, run, Done, ◌>>=◌, ◌>>◌}
 use Rattle.bios_modes.specs.Kinds.{is_text}
 use Rattle.bios_services.specs.Registers.{high, low}
 use Rattle.bios_services.specs.Cycles.{crtc}
-use Rattle.bios_services.specs.Cursor.{word_plan, cursor_plan, page_plan, cursor_address, start_address, with_place, with_page, move_cursor_plan, cursor_type_plan}
+use Rattle.bios_services.specs.Cursor.{word_plan, cursor_plan, page_plan, cursor_address, start_address, with_place, with_page, move_cursor_plan}
+use Rattle.bios_services.specs.Cursor.{cursor_type_plan}
 use Rattle.bios_services.specs.Reasons.{no_page}
 use Rattle.bios_services.specs.Refusals.{page_among, page_named, refusal_in_mode}
 use Rattle.bios_services.specs.Service.{plan_of}
@@ -81,7 +82,8 @@ module _ (c : CardState) (d : BiosData) (h : IsPixels c d) where
   two_bytes n = omega arith
 
   -- registers with another type or start address are those of other data
-  registers_again : (e : BiosData) → e.mode ≡ d.mode → (type start : ℕ) → (let l = crtc_registers h.row type start location in l ≡ crtc_registers h.row type start (location_shown e l))
+  registers_again : (e : BiosData) → e.mode ≡ d.mode → (type start : ℕ) → (let l = crtc_registers h.row type start location in l
+      ≡ crtc_registers h.row type start (location_shown e l))
   registers_again e m type start =
       sym (ap (λ n. crtc_registers h.row type start n)
       (ap (λ b. if b then cursor_address e e.page else 256 * (location / 256) + location % 256) (ap is_text m ∙ h.text) ∙ two_bytes location))
@@ -102,7 +104,8 @@ module _ (c : CardState) (d : BiosData) (h : IsPixels c d) where
       record {
         refusal = refl;
         answer = λ _. refl;
-        shows = λ _. ap (λ s. shown s e) runs ∙ pixels_shown_of y e h.row h.mode h.text (record { memory = t.memory; data_test = t.data_test; crtc = registers_again e refl type start; attribute = t.attribute });
+        shows = λ _. ap (λ s. shown s e) runs ∙ pixels_shown_of y e h.row h.mode h.text
+            (record { memory = t.memory; data_test = t.data_test; crtc = registers_again e refl type start; attribute = t.attribute });
         beam = plan_beam (crtc d.crtc_address 0x0A (high type) >> crtc d.crtc_address 0x0B (low type)) c;
       }
 
@@ -121,7 +124,8 @@ module _ (c : CardState) (d : BiosData) (h : IsPixels c d) where
       let few : h.row.size * page < 65536 = subst (λ (r : ModeRow). r.size * page < 65536) set.row_is (small_by set.kind page at) in
       subst (λ n. n < 65536) (sym (start_is page ∙ ap (λ n. n * page) h.has.size)) few
 
-  page_shown : (page : ℕ) → page < h.row.pages → (let x = run card_meaning (page_plan d page) c in shown x.0 x.1) ≡ Some (record (pixels_shown c d h) { page = page })
+  page_shown : (page : ℕ) → page < h.row.pages → (let x = run card_meaning (page_plan d page) c in shown x.0 x.1)
+      ≡ Some (record (pixels_shown c d h) { page = page })
   unfolding page_plan cursor_plan
   page_shown page lp =
       let t = h.tests in
@@ -137,7 +141,12 @@ module _ (c : CardState) (d : BiosData) (h : IsPixels c d) where
       ap (λ x. shown x.0 x.1) (run_bind card_meaning (word_plan d.crtc_address 0x0C n) (λ _. cursor) c)
       ∙ ap (λ x. let z = run card_meaning cursor x in shown z.0 z.1) first
       ∙ ap (λ b. let q : Plan BiosData = ((if b then moved else Done tt) >> done) in let z = run card_meaning q c1 in shown z.0 z.1) h.text
-      ∙ pixels_shown_of c1 e h.row h.mode h.text (record { memory = t.memory; data_test = page_data h.row d page t.data_test lp; crtc = registers_again e refl d.cursor_type n; attribute = t.attribute })
+      ∙ pixels_shown_of c1 e h.row h.mode h.text (record {
+        memory = t.memory;
+        data_test = page_data h.row d page t.data_test lp;
+        crtc = registers_again e refl d.cursor_type n;
+        attribute = t.attribute;
+      })
 
   pub select_page : (page : ℕ) (fonts : FontSet) (r : Regs) (block : List ℕ) → IsServed (SelectPage page) fonts r block c d (pixels_shown c d h)
   unfolding plan_of refusal_in_mode refusal_on next answer_on

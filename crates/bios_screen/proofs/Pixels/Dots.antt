@@ -53,7 +53,8 @@ module _ (row : ModeRow) (c : CardState) (d : BiosData) (e : row_at d.mode d.hei
   -- ---- the services
 
   pub write_pixel : (page x y colour : ℕ) (fonts : FontSet) (r : Regs) (block : List ℕ)
-      → ((p : ℕ) → There row d p x y → shown (run card_meaning (write_pixel_plan d p x y colour) c).0 d ≡ Some (with_pixels s p (change_pixel (pixel_number s x y) (colour_over d.mode colour))))
+      → ((p : ℕ) → There row d p x y → shown (run card_meaning (write_pixel_plan d p x y colour) c).0 d
+      ≡ Some (with_pixels s p (change_pixel (pixel_number s x y) (colour_over d.mode colour))))
       → IsServed (WritePixel page x y colour) fonts r block c d s
   unfolding plan_of refusal_in_mode refusal_on next answer_on
   write_pixel page x y colour fonts r block drawn =
@@ -64,7 +65,8 @@ module _ (row : ModeRow) (c : CardState) (d : BiosData) (e : row_at d.mode d.hei
       record {
         refusal = ap (λ n. no_pixels d.mode or no_page n (page_among n page) or outside_pixels (dots_across d) (dots_down d) x y) (pages_are row d e);
         answer = λ _. ap (λ q. q.1.0) runs;
-        shows = λ allowed. ap (λ q. shown q.0 q.1.1) runs ∙ ap (λ i. shown (run card_meaning (write_pixel_plan d i x y colour) c).0 d) (named_page row d e page) ∙ drawn p (there p x y allowed);
+        shows = λ allowed. ap (λ q. shown q.0 q.1.1) runs ∙ ap (λ i. shown (run card_meaning (write_pixel_plan d i x y colour) c).0 d) (named_page row d e page)
+            ∙ drawn p (there p x y allowed);
         beam = plan_beam (plan >> done) c;
       }
 
@@ -73,7 +75,8 @@ module _ (row : ModeRow) (c : CardState) (d : BiosData) (e : row_at d.mode d.hei
     pub answer : (run card_meaning (read_pixel_plan d p x y) c).1 ≡ pixel_of s p (pixel_number s x y)
     pub shows : shown (run card_meaning (read_pixel_plan d p x y) c).0 d ≡ Some s
 
-  pub read_pixel : (page x y : ℕ) (fonts : FontSet) (r : Regs) (block : List ℕ) → ((p : ℕ) → There row d p x y → IsRead p x y) → IsServed (ReadPixel page x y) fonts r block c d s
+  pub read_pixel : (page x y : ℕ) (fonts : FontSet) (r : Regs) (block : List ℕ) → ((p : ℕ) → There row d p x y → IsRead p x y) →
+      IsServed (ReadPixel page x y) fonts r block c d s
   unfolding plan_of read_pixel_service refusal_in_mode refusal_on next answer_on
   read_pixel page x y fonts r block read =
       let p = page_meant s page in
@@ -83,7 +86,8 @@ module _ (row : ModeRow) (c : CardState) (d : BiosData) (e : row_at d.mode d.hei
       let runs =
       run_bind card_meaning plan done c
       ∙ ap (λ (q : CardState × Regs). run card_meaning (done q.1) q.0) (run_bind card_meaning (read_pixel_plan d (page_named d page) x y) after c)
-      ∙ ap (λ i. let q = run card_meaning (read_pixel_plan d i x y) c in let w : CardState × Outcome = (q.0, (record r { ax = with_low r.ax q.1 }, d)) in w) (named_page row d e page) in
+      ∙ ap (λ i. let q = run card_meaning (read_pixel_plan d i x y) c in let w : CardState
+      × Outcome = (q.0, (record r { ax = with_low r.ax q.1 }, d)) in w) (named_page row d e page) in
       record {
         refusal = ap (λ n. no_pixels d.mode or no_page n (page_among n page) or outside_pixels (dots_across d) (dots_down d) x y) (pages_are row d e);
         answer = λ allowed. ap (λ q. q.1.0) runs ∙ ap (λ n. let w : Regs = record r { ax = with_low r.ax n } in w) (read p (there p x y allowed)).answer;

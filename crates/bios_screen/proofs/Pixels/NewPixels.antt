@@ -13,7 +13,10 @@ use Rattle.bios_screen.proofs.Shows.Pixels.{pixels_shown_of}
 use Rattle.bios_screen.proofs.Shows.Any.{same_tests}
 use Rattle.bios_screen.proofs.Planar.Settings.{without_drawing}
 
-pub redrawn : (row : ModeRow) (c y : CardState) (d : BiosData) → row_at d.mode d.height ≡ Some row → is_text d.mode ≡ false → AllTests row c d → setting y ≡ setting c → without_drawing y ≡ without_drawing c → shown y d ≡ Some (screen_by row c d 0 (Pixels (pixel_pages d.mode y.host.memory d.size (page_pixels d) row.pages)) [])
+pub redrawn : (row : ModeRow) (c y : CardState) (d : BiosData) → row_at d.mode d.height ≡ Some row → is_text d.mode ≡ false → AllTests row c d →
+    setting y ≡ setting c → without_drawing y ≡ without_drawing c → shown y d ≡ Some
+    (screen_by row c d 0 (Pixels (pixel_pages d.mode y.host.memory d.size (page_pixels d) row.pages)) [])
 redrawn row c y d e text t same others =
-    pixels_shown_of y d row e text (same_tests row c y d same (ap (λ (x : CardState). x.crtc.registers) others) (ap (λ (x : CardState). shows_attribute row x.attr) others ∙ t.attribute) t)
+    pixels_shown_of y d row e text (same_tests row c y d same (ap (λ (x : CardState). x.crtc.registers) others)
+    (ap (λ (x : CardState). shows_attribute row x.attr) others ∙ t.attribute) t)
     ∙ ap (λ (x : CardState). Some (screen_by row x d 0 (Pixels (pixel_pages d.mode y.host.memory d.size (page_pixels d) row.pages)) [])) others

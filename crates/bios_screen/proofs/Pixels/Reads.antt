@@ -39,7 +39,8 @@ module _ (row : ModeRow) (c : CardState) (d : BiosData) (e : row_at d.mode d.hei
 
   -- what a reading of the cell q of a page leaves and answers
   pub record IsSeen (fonts : FontSet) (p q : ℕ) : Type 0 where
-    pub answer : (run card_meaning (read_character_plan (cell_band d p q) (cell_row d q) fonts) c).1 ≡ first_character fonts d.height (listing (cell_line s p q) 0 d.height) 256
+    pub answer : (run card_meaning (read_character_plan (cell_band d p q) (cell_row d q) fonts) c).1
+        ≡ first_character fonts d.height (listing (cell_line s p q) 0 d.height) 256
     pub shows : shown (run card_meaning (read_character_plan (cell_band d p q) (cell_row d q) fonts) c).0 d ≡ Some s
 
   abbrev answered : FontSet → Regs → ℕ → Plan Regs
@@ -51,14 +52,16 @@ module _ (row : ModeRow) (c : CardState) (d : BiosData) (e : row_at d.mode d.hei
       let cell : Plan Regs = read_cell_plan (cell_address d p (cursor_cell d p)) >>= λ ax. Done (record r { ax = ax }) in
       ap (λ b. let x : Plan Regs = (if b then cell else answered fonts r p) in x) text
 
-  pub read_cell : (page : ℕ) (fonts : FontSet) (r : Regs) (block : List ℕ) → ((p q : ℕ) → p < row.pages → q < cells_of d → IsSeen fonts p q) → IsServed (ReadCell page) fonts r block c d s
+  pub read_cell : (page : ℕ) (fonts : FontSet) (r : Regs) (block : List ℕ) → ((p q : ℕ) → p < row.pages → q < cells_of d → IsSeen fonts p q) →
+      IsServed (ReadCell page) fonts r block c d s
   unfolding plan_of refusal_in_mode refusal_on next answer_on
   read_cell page fonts r block seen =
       let p = page_meant s page in
       let plan = read_cell_service fonts (page_named d page) d r in
       let done : Regs → Plan Outcome = λ after. Done (after, d) in
       let put_in : ℕ → Plan Regs = λ character. Done (record r { ax = with_low r.ax character }) in
-      let runs : run card_meaning (plan >>= done) c ≡ (let x = run card_meaning (reading fonts p) c in let y : CardState × Outcome = (x.0, (record r { ax = with_low r.ax x.1 }, d)) in y) =
+      let runs : run card_meaning (plan >>= done) c ≡ (let x = run card_meaning (reading fonts p) c in let y : CardState
+      × Outcome = (x.0, (record r { ax = with_low r.ax x.1 }, d)) in y) =
       run_bind card_meaning plan done c
       ∙ ap (λ i. let x = run card_meaning (read_cell_service fonts i d r) c in let y : CardState × Outcome = (x.0, (x.1, d)) in y) (named_page row d e page)
       ∙ ap (λ i. let x = run card_meaning i c in let y : CardState × Outcome = (x.0, (x.1, d)) in y) (service_is fonts r p)

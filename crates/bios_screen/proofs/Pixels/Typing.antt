@@ -31,7 +31,9 @@ module _ (law : KeepsBounds) (fonts : FontSet) (d : BiosData) (p : ℕ) (lp : p 
   unfolding line_feed_fill
   fill_is place = ap (λ b. let x : Plan ℕ = (if b then get (cell_address d p (d.columns * d.last_row + column_of place) + 1) else Done 0) in x) t
 
-  rises : (c : CardState) (row : ModeRow) (place : ℕ) → (let s = pixel_screen row c d in shown (run card_meaning (up_plan (band_of d p 0 (d.columns - 1)) 0 (d.last_row + 1) 1 0) c).0 d ≡ Some (window_up s p (whole_page s 0))) → Leads (rise_plan d p place) c d (risen (pixel_screen row c d) p place, place)
+  rises : (c : CardState) (row : ModeRow) (place : ℕ) → (let s = pixel_screen row c d in
+      shown (run card_meaning (up_plan (band_of d p 0 (d.columns - 1)) 0 (d.last_row + 1) 1 0) c).0 d ≡ Some (window_up s p (whole_page s 0))) →
+      Leads (rise_plan d p place) c d (risen (pixel_screen row c d) p place, place)
   rises c row place up =
       let s = pixel_screen row c d in
       let band = band_of d p 0 (d.columns - 1) in
@@ -40,7 +42,8 @@ module _ (law : KeepsBounds) (fonts : FontSet) (d : BiosData) (p : ℕ) (lp : p 
 
   pub can_type : CanType fonts d p
   can_type = record {
-    put = λ c s place v colouring z e i lv la. by_colours c d (λ w. shown (run card_meaning (character_plan fonts d p (cell_number d place) v colouring) c).0 d ≡ Some (put_character fonts w p place v colouring))
+    put = λ c s place v colouring z e i lv la. by_colours c d (λ w. shown (run card_meaning (character_plan fonts d p (cell_number d place) v colouring) c).0 d
+        ≡ Some (put_character fonts w p place v colouring))
         (λ m is row. planar.put law m c d is row z p (page_in d (row_of m) p row lp) fonts place v colouring i.row i.column lv la)
         (λ is row. packed.put law c d is row z p (page_in d bytes_320_by_200 p row lp) fonts place v colouring i.row i.column lv la)
         s t e;

@@ -17,7 +17,8 @@ use Rattle.bios_services.specs.Scroll.{has_cells as has_window, height_of, lines
 use Rattle.bios_services.specs.Service.{plan_of, Outcome}
 use Rattle.bios_screen.specs.Screen.{Screen}
 use Rattle.bios_screen.specs.Shown.{pixel_screen, shown}
-use Rattle.bios_screen.specs.Step.{pixel_of, pixel_row, pixel_column, window_rows, window_columns, window_lines, has_pixel, row_pixels, fill_pixel, pixels_up, pixels_down, window_up, whole_page, with_pixels, refusal_on, next, answer_on}
+use Rattle.bios_screen.specs.Step.{pixel_of, pixel_row, pixel_column, window_rows, window_columns, window_lines, has_pixel, row_pixels, fill_pixel, pixels_up}
+use Rattle.bios_screen.specs.Step.{pixels_down, window_up, whole_page, with_pixels, refusal_on, next, answer_on}
 use Rattle.bios_screen.specs.Served.{IsServed}
 use Rattle.bios_screen.proofs.Base.Plans.{run_bind}
 use Rattle.bios_screen.proofs.Base.Kept.{plan_beam}
@@ -48,7 +49,12 @@ module _ (row : ModeRow) (c : CardState) (d : BiosData) (w : Scroll) where
       let b = both_true (nat_le w.top (pixel_row s k)) _ t in
       let e = both_true (nat_lt (pixel_row s k) (w.top + height)) _ b.1 in
       let g = both_true (nat_le w.left (pixel_column s k)) (nat_lt (pixel_column s k) (w.left + window_columns s w)) e.1 in
-      record { above = le_is w.top (pixel_row s k) b.0; below = lt_is (pixel_row s k) (w.top + height) e.0; before = le_is w.left (pixel_column s k) g.0; behind = lt_is (pixel_column s k) (w.left + window_columns s w) g.1 }
+      record {
+        above = le_is w.top (pixel_row s k) b.0;
+        below = lt_is (pixel_row s k) (w.top + height) e.0;
+        before = le_is w.left (pixel_column s k) g.0;
+        behind = lt_is (pixel_column s k) (w.left + window_columns s w) g.1;
+      }
 
   contrary : {Y : Type 0} → true ≡ false → Y
   contrary e = absurd (cc)
@@ -57,7 +63,8 @@ module _ (row : ModeRow) (c : CardState) (d : BiosData) (w : Scroll) where
   outside_of k t i =
       contrary (sym (both_are (nat_le w.top (pixel_row s k)) _ (le_test w.top (pixel_row s k) i.above)
       (both_are (nat_lt (pixel_row s k) (w.top + height)) _ (lt_test (pixel_row s k) (w.top + height) i.below)
-      (both_are (nat_le w.left (pixel_column s k)) _ (le_test w.left (pixel_column s k) i.before) (lt_test (pixel_column s k) (w.left + window_columns s w) i.behind)))) ∙ t)
+      (both_are (nat_le w.left (pixel_column s k)) _ (le_test w.left (pixel_column s k) i.before)
+      (lt_test (pixel_column s k) (w.left + window_columns s w) i.behind)))) ∙ t)
 
   -- rows of the window as the plan counts them
   pub height_is : height_of d w ≡ height
@@ -94,7 +101,8 @@ module _ (row : ModeRow) (c : CardState) (d : BiosData) (w : Scroll) where
           let b = i.below in
           let e = i.before in
           let g = i.behind in
-          let yes : has_window d w ≡ true = both_are (nat_le w.top (min w.bottom d.last_row)) (nat_le w.left (min w.right (d.columns - 1))) (le_test w.top (min w.bottom d.last_row) (omega arith)) (le_test w.left (min w.right (d.columns - 1)) (omega arith)) in
+          let yes : has_window d w ≡ true = both_are (nat_le w.top (min w.bottom d.last_row)) (nat_le w.left (min w.right (d.columns - 1)))
+          (le_test w.top (min w.bottom d.last_row) (omega arith)) (le_test w.left (min w.right (d.columns - 1)) (omega arith)) in
           contrary (sym yes ∙ none)
 
   -- what a plan leaves that does nothing
@@ -107,43 +115,63 @@ module _ (row : ModeRow) (c : CardState) (d : BiosData) (w : Scroll) where
   abbrev down_plan_of : ℕ → ℕ → Plan (Unit {0})
   down_plan_of h n = down_plan (band_of d d.page w.left w.right) w.top h n w.fill
 
-  scrolled_up : Stays → shown (run card_meaning (up_plan_of height (window_lines s w)) c).0 d ≡ Some (with_pixels s d.page (pixels_up s w)) → shown (run card_meaning (scroll_up_plan d w) c).0 d ≡ Some (with_pixels s d.page (pixels_up s w))
+  scrolled_up : Stays → shown (run card_meaning (up_plan_of height (window_lines s w)) c).0 d ≡ Some (with_pixels s d.page (pixels_up s w)) →
+      shown (run card_meaning (scroll_up_plan d w) c).0 d ≡ Some (with_pixels s d.page (pixels_up s w))
   unfolding scroll_up_plan
   scrolled_up stays up = by_test (has_window d w) refl
     where
-      by_test : (b : Bool) → has_window d w ≡ b → shown (run card_meaning (if has_window d w then up_plan_of (height_of d w) (lines_of d w) else Done tt) c).0 d ≡ Some (with_pixels s d.page (pixels_up s w))
+      by_test : (b : Bool) → has_window d w ≡ b → shown (run card_meaning (if has_window d w then up_plan_of (height_of d w) (lines_of d w) else Done tt) c).0 d
+          ≡ Some (with_pixels s d.page (pixels_up s w))
       by_test true e = ap (λ b. shown (run card_meaning (if b then up_plan_of (height_of d w) (lines_of d w) else Done tt) c).0 d) e
-          ∙ ap (λ n. shown (run card_meaning (up_plan_of n (lines_of d w)) c).0 d) height_is ∙ ap (λ n. shown (run card_meaning (up_plan_of height n) c).0 d) lines_are ∙ up
+          ∙ ap (λ n. shown (run card_meaning (up_plan_of n (lines_of d w)) c).0 d) height_is
+          ∙ ap (λ n. shown (run card_meaning (up_plan_of height n) c).0 d) lines_are ∙ up
       by_test false e = ap (λ b. shown (run card_meaning (if b then up_plan_of (height_of d w) (lines_of d w) else Done tt) c).0 d) e
-          ∙ stays (pixels_up s w) (λ k. ap (λ b. if b then (if nat_lt (pixel_row s k + window_lines s w) (w.top + height) then pixel_of s d.page (k + row_pixels s (window_lines s w)) else fill_pixel d.mode w.fill) else pixel_of s d.page k) (nothing_inside e k))
+          ∙ stays (pixels_up s w) (λ k. ap (λ b. if b then (if nat_lt (pixel_row s k + window_lines s w) (w.top + height)
+          then pixel_of s d.page (k + row_pixels s (window_lines s w)) else fill_pixel d.mode w.fill) else pixel_of s d.page k) (nothing_inside e k))
 
-  scrolled_down : Stays → shown (run card_meaning (down_plan_of height (window_lines s w)) c).0 d ≡ Some (with_pixels s d.page (pixels_down s w)) → shown (run card_meaning (scroll_down_plan d w) c).0 d ≡ Some (with_pixels s d.page (pixels_down s w))
+  scrolled_down : Stays → shown (run card_meaning (down_plan_of height (window_lines s w)) c).0 d ≡ Some (with_pixels s d.page (pixels_down s w)) →
+      shown (run card_meaning (scroll_down_plan d w) c).0 d ≡ Some (with_pixels s d.page (pixels_down s w))
   unfolding scroll_down_plan
   scrolled_down stays down = by_test (has_window d w) refl
     where
-      by_test : (b : Bool) → has_window d w ≡ b → shown (run card_meaning (if has_window d w then down_plan_of (height_of d w) (lines_of d w) else Done tt) c).0 d ≡ Some (with_pixels s d.page (pixels_down s w))
+      by_test : (b : Bool) → has_window d w ≡ b → shown (run card_meaning (if has_window d w then down_plan_of (height_of d w) (lines_of d w) else Done tt) c).0
+          d ≡ Some (with_pixels s d.page (pixels_down s w))
       by_test true e = ap (λ b. shown (run card_meaning (if b then down_plan_of (height_of d w) (lines_of d w) else Done tt) c).0 d) e
-          ∙ ap (λ n. shown (run card_meaning (down_plan_of n (lines_of d w)) c).0 d) height_is ∙ ap (λ n. shown (run card_meaning (down_plan_of height n) c).0 d) lines_are ∙ down
+          ∙ ap (λ n. shown (run card_meaning (down_plan_of n (lines_of d w)) c).0 d) height_is
+          ∙ ap (λ n. shown (run card_meaning (down_plan_of height n) c).0 d) lines_are ∙ down
       by_test false e = ap (λ b. shown (run card_meaning (if b then down_plan_of (height_of d w) (lines_of d w) else Done tt) c).0 d) e
-          ∙ stays (pixels_down s w) (λ k. ap (λ b. if b then (if nat_le (w.top + window_lines s w) (pixel_row s k) then pixel_of s d.page (k - row_pixels s (window_lines s w)) else fill_pixel d.mode w.fill) else pixel_of s d.page k) (nothing_inside e k))
+          ∙ stays (pixels_down s w) (λ k. ap (λ b. if b then (if nat_le (w.top + window_lines s w) (pixel_row s k)
+          then pixel_of s d.page (k - row_pixels s (window_lines s w)) else fill_pixel d.mode w.fill) else pixel_of s d.page k) (nothing_inside e k))
 
   -- ---- the services
 
-  pub scroll_up : (fonts : FontSet) (r : Regs) (block : List ℕ) → Stays → shown (run card_meaning (up_plan_of height (window_lines s w)) c).0 d ≡ Some (with_pixels s d.page (pixels_up s w)) → IsServed (ScrollUp w) fonts r block c d s
+  pub scroll_up : (fonts : FontSet) (r : Regs) (block : List ℕ) → Stays → shown (run card_meaning (up_plan_of height (window_lines s w)) c).0 d
+      ≡ Some (with_pixels s d.page (pixels_up s w)) → IsServed (ScrollUp w) fonts r block c d s
   unfolding plan_of refusal_in_mode refusal_on next answer_on
   scroll_up fonts r block stays up =
       let plan = scroll_up_plan d w in
       let done : Plan Outcome = Done (r, d) in
       let runs = run_bind card_meaning plan (λ _. done) c in
-      record { refusal = refl; answer = λ _. ap (λ q. q.1.0) runs; shows = λ _. ap (λ q. shown q.0 q.1.1) runs ∙ scrolled_up stays up; beam = plan_beam (plan >> done) c }
+      record {
+        refusal = refl;
+        answer = λ _. ap (λ q. q.1.0) runs;
+        shows = λ _. ap (λ q. shown q.0 q.1.1) runs ∙ scrolled_up stays up;
+        beam = plan_beam (plan >> done) c;
+      }
 
-  pub scroll_down : (fonts : FontSet) (r : Regs) (block : List ℕ) → Stays → shown (run card_meaning (down_plan_of height (window_lines s w)) c).0 d ≡ Some (with_pixels s d.page (pixels_down s w)) → IsServed (ScrollDown w) fonts r block c d s
+  pub scroll_down : (fonts : FontSet) (r : Regs) (block : List ℕ) → Stays → shown (run card_meaning (down_plan_of height (window_lines s w)) c).0 d
+      ≡ Some (with_pixels s d.page (pixels_down s w)) → IsServed (ScrollDown w) fonts r block c d s
   unfolding plan_of refusal_in_mode refusal_on next answer_on
   scroll_down fonts r block stays down =
       let plan = scroll_down_plan d w in
       let done : Plan Outcome = Done (r, d) in
       let runs = run_bind card_meaning plan (λ _. done) c in
-      record { refusal = refl; answer = λ _. ap (λ q. q.1.0) runs; shows = λ _. ap (λ q. shown q.0 q.1.1) runs ∙ scrolled_down stays down; beam = plan_beam (plan >> done) c }
+      record {
+        refusal = refl;
+        answer = λ _. ap (λ q. q.1.0) runs;
+        shows = λ _. ap (λ q. shown q.0 q.1.1) runs ∙ scrolled_down stays down;
+        beam = plan_beam (plan >> done) c;
+      }
 
 -- a whole page goes up by a row, as a window of all its rows
 module _ (row : ModeRow) (c : CardState) (d : BiosData) (p colour : ℕ) where
@@ -161,7 +189,9 @@ module _ (row : ModeRow) (c : CardState) (d : BiosData) (p colour : ℕ) where
       ap (λ n. if (1 == 0) || nat_lt n 1 then n else 1) whole_rows
       ∙ ap (λ b. if b then d.last_row + 1 else 1) (not_lt (d.last_row + 1) 1 (omega arith))
 
-  pub page_raised : shown (run card_meaning (up_plan (band_of d p 0 (d.columns - 1)) 0 (window_rows on page) (window_lines on page) colour) c).0 d ≡ Some (with_pixels on p (pixels_up on page)) → shown (run card_meaning (up_plan (band_of d p 0 (d.columns - 1)) 0 (d.last_row + 1) 1 colour) c).0 d ≡ Some (window_up on p page)
+  pub page_raised : shown (run card_meaning (up_plan (band_of d p 0 (d.columns - 1)) 0 (window_rows on page) (window_lines on page) colour) c).0 d
+      ≡ Some (with_pixels on p (pixels_up on page)) → shown (run card_meaning (up_plan (band_of d p 0 (d.columns - 1)) 0 (d.last_row + 1) 1 colour) c).0 d
+      ≡ Some (window_up on p page)
   page_raised up =
       ap (λ n. shown (run card_meaning (up_plan (band_of d p 0 (d.columns - 1)) 0 n 1 colour) c).0 d) (sym whole_rows)
       ∙ ap (λ n. shown (run card_meaning (up_plan (band_of d p 0 (d.columns - 1)) 0 (window_rows on page) n colour) c).0 d) (sym whole_lines)

@@ -29,11 +29,13 @@ use Rattle.bios_screen.proofs.Shows.Screens.{pages_are, named_page}
 use Rattle.bios_screen.proofs.Text.Writes.{count_allowed}
 
 -- a character is a run of one
-pub one_character : (fonts : FontSet) (d : BiosData) (p q character : ℕ) (colouring : Colouring) (c : CardState) → (run card_meaning (character_plan fonts d p q character colouring) c).0 ≡ (run card_meaning (characters_plan fonts d p q character colouring 1) c).0
+pub one_character : (fonts : FontSet) (d : BiosData) (p q character : ℕ) (colouring : Colouring) (c : CardState) →
+    (run card_meaning (character_plan fonts d p q character colouring) c).0 ≡ (run card_meaning (characters_plan fonts d p q character colouring 1) c).0
 unfolding characters_plan
 one_character fonts d p q character colouring c =
     let same : q ≡ q + 0 = omega arith in
-    ap (λ i. (run card_meaning (character_plan fonts d p i character colouring) c).0) same ∙ sym (then_runs (character_plan fonts d p (q + 0) character colouring) (Done tt) c)
+    ap (λ i. (run card_meaning (character_plan fonts d p i character colouring) c).0) same
+    ∙ sym (then_runs (character_plan fonts d p (q + 0) character colouring) (Done tt) c)
 
 -- the cell at a place is one of its page
 pub place_within : (d : BiosData) (place : ℕ) → row_of place < d.last_row + 1 → column_of place < d.columns → cell_number d place + 1 ≤ cells_of d
@@ -44,7 +46,9 @@ module _ (row : ModeRow) (c : CardState) (d : BiosData) (e : row_at d.mode d.hei
   s = pixel_screen row c d
 
   pub write_cells : (cells : CellRun) (fonts : FontSet) (r : Regs) (block : List ℕ)
-      → ((p q : ℕ) → p < row.pages → q + cells.count ≤ cells_of d → shown (run card_meaning (characters_plan fonts d p q cells.character cells.colouring cells.count) c).0 d ≡ Some (with_pixels s p (draw_characters fonts s q cells.count cells.character cells.colouring.colour)))
+      → ((p q : ℕ) → p < row.pages → q + cells.count ≤ cells_of d → shown (run card_meaning
+      (characters_plan fonts d p q cells.character cells.colouring cells.count) c).0 d
+      ≡ Some (with_pixels s p (draw_characters fonts s q cells.count cells.character cells.colouring.colour)))
       → IsServed (WriteCells cells) fonts r block c d s
   unfolding plan_of refusal_in_mode refusal_on next answer_on
   write_cells cells fonts r block shows =
@@ -53,7 +57,8 @@ module _ (row : ModeRow) (c : CardState) (d : BiosData) (e : row_at d.mode d.hei
       let done : Plan Outcome = Done (r, d) in
       let runs = run_bind card_meaning plan (λ _. done) c in
       record {
-        refusal = ap (λ n. let at : ℕ = cursor_cell d (page_among n cells.page) in no_page n (page_among n cells.page) or outside_cells (cells_of d) at or past_cells (cells_of d) at cells.count)
+        refusal = ap (λ n. let at : ℕ = cursor_cell d (page_among n cells.page) in no_page n (page_among n cells.page) or outside_cells (cells_of d) at
+            or past_cells (cells_of d) at cells.count)
             (pages_are row d e);
         answer = λ _. ap (λ q. q.1.0) runs;
         shows = λ allowed.

@@ -49,7 +49,8 @@ seen_by at h fonts = do
   graphics 5 0x00
   Done (first_character fonts h lines 256)
 
-module _ (law : KeepsBounds) (m : Planes) (c : CardState) (d : BiosData) (t : IsPlanar m c d) (e : row_at d.mode d.height ≡ Some (row_of m)) (z : IsCard c) where
+module _ (law : KeepsBounds) (m : Planes) (c : CardState) (d : BiosData) (t : IsPlanar m c d) (e : row_at d.mode d.height ≡ Some (row_of m))
+    (z : IsCard c) where
   abbrev s : Screen
   s = pixel_screen (row_of m) c d
 
@@ -84,7 +85,8 @@ module _ (law : KeepsBounds) (m : Planes) (c : CardState) (d : BiosData) (t : Is
       let strip : k / 8 ≡ b = omega arith in
       let dot : k % 8 ≡ 7 - i = omega arith in
       let less : k < page_pixels d = omega arith in
-      ap as_dot (sym (screens.pixel_is m c d t e z p k lp less ∙ ap (λ x. nibble_of (old (d.size * p + x)) (k % 8)) strip ∙ ap (nibble_of (old (d.size * p + b))) dot)))
+      ap as_dot (sym (screens.pixel_is m c d t e z p k lp less ∙ ap (λ x. nibble_of (old (d.size * p + x)) (k % 8)) strip
+      ∙ ap (nibble_of (old (d.size * p + b))) dot)))
 
   seen : (fonts : FontSet) (p q : ℕ) → p < (row_of m).pages → q < cells_of d → IsSeen (row_of m) c d e (screens.text m c d t e z) fonts p q
   seen fonts p q lp lq =
@@ -95,10 +97,14 @@ module _ (law : KeepsBounds) (m : Planes) (c : CardState) (d : BiosData) (t : Is
       let lines : Plan (List ℕ) = gather (λ r. line_plan Planar (0xA0000 + at r)) h 0 in
       let after : List ℕ → Plan ℕ = λ l. graphics 5 0x00 >>= λ _. Done (first_character fonts h l 256) in
       let c1 = (run card_meaning (graphics 5 0x08) c).0 in
-      let t1 : Drawn rest misc clocking seeing c1 old = record { latches = c.host.latches; is = mode_set law rest misc clocking 0x08 at_rest c.host.latches c old refl refl (screens.begins m c d t e z) } in
+      let t1 : Drawn rest misc clocking seeing c1 old = record {
+        latches = c.host.latches;
+        is = mode_set law rest misc clocking 0x08 at_rest c.host.latches c old refl refl (screens.begins m c d t e z);
+      } in
       let x = glyphs.lines_seen law rest misc clocking (enabled_by m) at h 0 c1 old (λ r l. (writes.within law m c d t e z p q r lp lq (omega arith)).1) t1 in
       let c2 = (run card_meaning lines c1).0 in
-      let runs : run card_meaning (seen_by (λ r. 0xA0000 + at r) h fonts) c ≡ run card_meaning (after (run card_meaning lines c1).1) c2 = run_bind card_meaning lines after c1 in
+      let runs : run card_meaning (seen_by (λ r. 0xA0000 + at r) h fonts) c ≡ run card_meaning (after (run card_meaning lines c1).1) c2 =
+      run_bind card_meaning lines after c1 in
       let t3 = mode_set law rest misc clocking 0x00 seeing x.still.latches c2 old refl refl x.still.is in
       let plan = plan_is fonts p q in
       record {

@@ -63,14 +63,17 @@ pixel_plain mask v i old l li =
         none : (j : ℕ) → bit_at 0x00 j ≡ 0
         none j = omega arith
 
-    whole : (m : ℕ) → m < 16 → (if bit_at m 0 == 1 then 1 else 0) + 2 * (if bit_at m 1 == 1 then 1 else 0) + 4 * (if bit_at m 2 == 1 then 1 else 0) + 8 * (if bit_at m 3 == 1 then 1 else 0) ≡ m
-    whole m l = let t = agree_below_at (λ m. (if bit_at m 0 == 1 then 1 else 0) + 2 * (if bit_at m 1 == 1 then 1 else 0) + 4 * (if bit_at m 2 == 1 then 1 else 0) + 8 * (if bit_at m 3 == 1 then 1 else 0) == m) (λ _. true) 16 m refl l in grind (arith, nat_tests)
+    whole : (m : ℕ) → m < 16 → (if bit_at m 0 == 1 then 1 else 0) + 2 * (if bit_at m 1 == 1 then 1 else 0) + 4 * (if bit_at m 2 == 1 then 1 else 0)
+        + 8 * (if bit_at m 3 == 1 then 1 else 0) ≡ m
+    whole m l = let t = agree_below_at (λ m. (if bit_at m 0 == 1 then 1 else 0) + 2 * (if bit_at m 1 == 1 then 1 else 0) + 4 * (if bit_at m 2 == 1 then 1
+        else 0) + 8 * (if bit_at m 3 == 1 then 1 else 0) == m) (λ _. true) 16 m refl l in grind (arith, nat_tests)
 
     none : (t : Bool) → (let x : ℕ = if t then 0 else 0 in x) ≡ 0
     none true = refl
     none false = refl
 
-    at_bit : (b : ℕ) → b < 2 → (if bit_at mask 0 == 1 then b else 0) + 2 * (if bit_at mask 1 == 1 then b else 0) + 4 * (if bit_at mask 2 == 1 then b else 0) + 8 * (if bit_at mask 3 == 1 then b else 0) ≡ (if b == 1 then mask else 0)
+    at_bit : (b : ℕ) → b < 2 → (if bit_at mask 0 == 1 then b else 0) + 2 * (if bit_at mask 1 == 1 then b else 0) + 4 * (if bit_at mask 2 == 1 then b else 0)
+        + 8 * (if bit_at mask 3 == 1 then b else 0) ≡ (if b == 1 then mask else 0)
     at_bit zero h = rw (none (bit_at mask 0 == 1), none (bit_at mask 1 == 1), none (bit_at mask 2 == 1), none (bit_at mask 3 == 1)) refl
     at_bit (suc zero) h = whole mask l
     at_bit (suc (suc b)) h = absurd (omega arith)
@@ -84,11 +87,17 @@ xor_bit_small a b i = omega arith
 xor_bits : (a b i : ℕ) → i < 8 → bit_at (xor_byte a b) i ≡ xor_bit a b i
 xor_bits a b i l = bit_of (xor_bit a b) (xor_bit_small a b) i l
 
-pixel_turned : (mask v i : ℕ) (old : Four ℕ) → mask < 16 → i < 8 → nibble_of (turned mask v old) i ≡ (if is_set v (7 - i) then bit_xor (nibble_of old i) mask else nibble_of old i)
+pixel_turned : (mask v i : ℕ) (old : Four ℕ) → mask < 16 → i < 8 → nibble_of (turned mask v old) i
+    ≡ (if is_set v (7 - i) then bit_xor (nibble_of old i) mask else nibble_of old i)
 pixel_turned mask v i old l hi =
     let j = 7 - i in
     let z : bit_at v j < 2 = bit_at-lt v j in
-    rw (chosen (bit_at mask 0 == 1) old.plane0, chosen (bit_at mask 1 == 1) old.plane1, chosen (bit_at mask 2 == 1) old.plane2, chosen (bit_at mask 3 == 1) old.plane3) (at_bit (bit_at v j) z)
+    rw (
+      chosen (bit_at mask 0 == 1) old.plane0,
+      chosen (bit_at mask 1 == 1) old.plane1,
+      chosen (bit_at mask 2 == 1) old.plane2,
+      chosen (bit_at mask 3 == 1) old.plane3,
+    ) (at_bit (bit_at v j) z)
   where
     chosen : (t : Bool) (x : ℕ) → bit_at (if t then xor_byte v x else x) (7 - i) ≡ (if t then (bit_at v (7 - i) + bit_at x (7 - i)) % 2 else bit_at x (7 - i))
     chosen true x = xor_bits v x (7 - i) (omega arith)
@@ -102,10 +111,17 @@ pixel_turned mask v i old l hi =
     flip m k x h = grind (arith, nat_tests)
 
     at_bit : (b : ℕ) → b < 2 →
-        (if bit_at mask 0 == 1 then (b + bit_at old.plane0 (7 - i)) % 2 else bit_at old.plane0 (7 - i)) + 2 * (if bit_at mask 1 == 1 then (b + bit_at old.plane1 (7 - i)) % 2 else bit_at old.plane1 (7 - i))
-        + 4 * (if bit_at mask 2 == 1 then (b + bit_at old.plane2 (7 - i)) % 2 else bit_at old.plane2 (7 - i)) + 8 * (if bit_at mask 3 == 1 then (b + bit_at old.plane3 (7 - i)) % 2 else bit_at old.plane3 (7 - i))
+        (if bit_at mask 0 == 1 then (b + bit_at old.plane0 (7 - i)) % 2 else bit_at old.plane0 (7 - i)) + 2 * (if bit_at mask 1 == 1
+        then (b + bit_at old.plane1 (7 - i)) % 2 else bit_at old.plane1 (7 - i))
+        + 4 * (if bit_at mask 2 == 1 then (b + bit_at old.plane2 (7 - i)) % 2 else bit_at old.plane2 (7 - i)) + 8 * (if bit_at mask 3 == 1
+        then (b + bit_at old.plane3 (7 - i)) % 2 else bit_at old.plane3 (7 - i))
         ≡ (if b == 1 then bit_xor (nibble_of old i) mask else nibble_of old i)
-    at_bit zero h = rw (stays (bit_at mask 0 == 1) old.plane0, stays (bit_at mask 1 == 1) old.plane1, stays (bit_at mask 2 == 1) old.plane2, stays (bit_at mask 3 == 1) old.plane3) refl
+    at_bit zero h = rw (
+      stays (bit_at mask 0 == 1) old.plane0,
+      stays (bit_at mask 1 == 1) old.plane1,
+      stays (bit_at mask 2 == 1) old.plane2,
+      stays (bit_at mask 3 == 1) old.plane3,
+    ) refl
     at_bit (suc zero) h =
         let x0 = bit_at old.plane0 (7 - i) in let x1 = bit_at old.plane1 (7 - i) in let x2 = bit_at old.plane2 (7 - i) in let x3 = bit_at old.plane3 (7 - i) in
         let x = x0 + 2 * x1 + 4 * x2 + 8 * x3 in
@@ -118,13 +134,16 @@ pixel_turned mask v i old l hi =
         let b2 : bit_at x 2 ≡ x2 = omega arith in
         let b3 : bit_at x 3 ≡ x3 = omega arith in
         let small : x < 16 = omega arith in
-        let f : ℕ → ℕ → ℕ → ℕ → ℕ = λ a b c d. (a + bit_at mask 0) % 2 + 2 * ((b + bit_at mask 1) % 2) + 4 * ((c + bit_at mask 2) % 2) + 8 * ((d + bit_at mask 3) % 2) in
+        let f : ℕ → ℕ → ℕ → ℕ → ℕ = λ a b c d. (a + bit_at mask 0) % 2 + 2 * ((b + bit_at mask 1) % 2) + 4 * ((c + bit_at mask 2) % 2)
+        + 8 * ((d + bit_at mask 3) % 2) in
         rw (flip mask 0 x0 s0, flip mask 1 x1 s1, flip mask 2 x2 s2, flip mask 3 x3 s3)
-        (sym (ap (λ a. f a (bit_at x 1) (bit_at x 2) (bit_at x 3)) b0 ∙ ap (λ b. f x0 b (bit_at x 2) (bit_at x 3)) b1 ∙ ap (λ c. f x0 x1 c (bit_at x 3)) b2 ∙ ap (λ d. f x0 x1 x2 d) b3) ∙ xor_16 x mask small l)
+        (sym (ap (λ a. f a (bit_at x 1) (bit_at x 2) (bit_at x 3)) b0 ∙ ap (λ b. f x0 b (bit_at x 2) (bit_at x 3)) b1 ∙ ap (λ c. f x0 x1 c (bit_at x 3)) b2
+        ∙ ap (λ d. f x0 x1 x2 d) b3) ∙ xor_16 x mask small l)
     at_bit (suc (suc b)) h = absurd (omega arith)
 
 -- a pixel of a line of a character
-pub pixel_lined : (b : Bool) (mask v i : ℕ) (old : Four ℕ) → mask < 16 → i < 8 → nibble_of (lined b mask v old) i ≡ dotted_by b mask (is_set v (7 - i)) (nibble_of old i)
+pub pixel_lined : (b : Bool) (mask v i : ℕ) (old : Four ℕ) → mask < 16 → i < 8 → nibble_of (lined b mask v old) i
+    ≡ dotted_by b mask (is_set v (7 - i)) (nibble_of old i)
 pixel_lined true mask v i old l li = pixel_turned mask v i old l li
 pixel_lined false mask v i old l li = pixel_plain mask v i old l li
 
@@ -165,7 +184,8 @@ turned_by at g n mask = do
 abbrev pub glyph_by : Bool → (ℕ → ℕ) → (ℕ → ℕ) → ℕ → ℕ → Plan (Unit {0})
 glyph_by b at g n mask = if b then turned_by at g n mask else plain_by at g n mask
 
-module _ (law : KeepsBounds) (rest : CardState) (e d : ℕ) (on : is_set e 1 ≡ true) (at : ℕ → ℕ) (height : ℕ) (within : (r : ℕ) → r < height → at r < 65536) (apart : (j k : ℕ) → j < k → k < height → at j ≢ at k) where
+module _ (law : KeepsBounds) (rest : CardState) (e d : ℕ) (on : is_set e 1 ≡ true) (at : ℕ → ℕ) (height : ℕ) (within : (r : ℕ) → r < height → at r < 65536)
+    (apart : (j k : ℕ) → j < k → k < height → at j ≢ at k) where
   abbrev Line : Type 0
   Line = Turn (λ _. Unit {0}) 0 height
 
@@ -178,9 +198,12 @@ module _ (law : KeepsBounds) (rest : CardState) (e d : ℕ) (on : is_set e 1 ≡
   unfolding byte_of written_bit combined_bit
   by_xor mask v q = refl
 
-  lines_put : (mask : ℕ) (g : ℕ → ℕ) (c : CardState) (f : ℕ → Four ℕ) → Drawn rest e d (plain mask) c f → Leaves CardState (Four ℕ) (Drawn rest e d (plain mask)) (run card_meaning (lines_plan (λ r. 0xA0000 + at r) g height) c).0 (Edited (Four ℕ) Line (λ h. at h.turn) (λ h x. masked mask (g h.turn) x) f)
+  lines_put : (mask : ℕ) (g : ℕ → ℕ) (c : CardState) (f : ℕ → Four ℕ) → Drawn rest e d (plain mask) c f →
+      Leaves CardState (Four ℕ) (Drawn rest e d (plain mask)) (run card_meaning (lines_plan (λ r. 0xA0000 + at r) g height) c).0
+      (Edited (Four ℕ) Line (λ h. at h.turn) (λ h x. masked mask (g h.turn) x) f)
   lines_put mask g c f t =
-      edits CardState (Four ℕ) card_meaning (λ r. put (0xA0000 + at r) (g r)) (λ _. Drawn rest e d (plain mask)) 0 height (λ _. Unit {0}) (λ r _. at r) (λ r _ x. masked mask (g r) x)
+      edits CardState (Four ℕ) card_meaning (λ r. put (0xA0000 + at r) (g r)) (λ _. Drawn rest e d (plain mask)) 0 height (λ _. Unit {0}) (λ r _. at r)
+      (λ r _ x. masked mask (g r) x)
       (λ j k _ _ lb lo hi. apart j k lo hi)
       (λ r s x lb l u.
       let new = stored (drawing e d (plain mask)) mask (g r) u.latches (x (at r)) in
@@ -192,9 +215,12 @@ module _ (law : KeepsBounds) (rest : CardState) (e d : ℕ) (on : is_set e 1 ≡
       })
       height 0 c f (omega arith) (omega arith) t
 
-  lines_turned : (mask : ℕ) (g : ℕ → ℕ) (c : CardState) (f : ℕ → Four ℕ) → Drawn rest e d (turning mask) c f → Leaves CardState (Four ℕ) (Drawn rest e d (turning mask)) (run card_meaning (turns_plan (λ r. 0xA0000 + at r) g height) c).0 (Edited (Four ℕ) Line (λ h. at h.turn) (λ h x. turned mask (g h.turn) x) f)
+  lines_turned : (mask : ℕ) (g : ℕ → ℕ) (c : CardState) (f : ℕ → Four ℕ) → Drawn rest e d (turning mask) c f →
+      Leaves CardState (Four ℕ) (Drawn rest e d (turning mask)) (run card_meaning (turns_plan (λ r. 0xA0000 + at r) g height) c).0
+      (Edited (Four ℕ) Line (λ h. at h.turn) (λ h x. turned mask (g h.turn) x) f)
   lines_turned mask g c f t =
-      edits CardState (Four ℕ) card_meaning (λ r. put_over (0xA0000 + at r) (g r)) (λ _. Drawn rest e d (turning mask)) 0 height (λ _. Unit {0}) (λ r _. at r) (λ r _ x. turned mask (g r) x)
+      edits CardState (Four ℕ) card_meaning (λ r. put_over (0xA0000 + at r) (g r)) (λ _. Drawn rest e d (turning mask)) 0 height (λ _. Unit {0}) (λ r _. at r)
+      (λ r _ x. turned mask (g r) x)
       (λ j k _ _ lb lo hi. apart j k lo hi)
       (λ r s x lb l u.
       let a = at r in
@@ -213,7 +239,8 @@ module _ (law : KeepsBounds) (rest : CardState) (e d : ℕ) (on : is_set e 1 ≡
   Lined b g mask f = Edited (Four ℕ) Line (λ h. at h.turn) (λ h x. lined b mask (g h.turn) x) f
 
   -- a character, from rest to rest
-  pub glyph_drawn : (b : Bool) (mask : ℕ) (g : ℕ → ℕ) (c : CardState) (f : ℕ → Four ℕ) → mask < 16 → Drawn rest e d at_rest c f → Leaves CardState (Four ℕ) (Drawn rest e d at_rest) (run card_meaning (glyph_by b (λ r. 0xA0000 + at r) g height mask) c).0 (Lined b g mask f)
+  pub glyph_drawn : (b : Bool) (mask : ℕ) (g : ℕ → ℕ) (c : CardState) (f : ℕ → Four ℕ) → mask < 16 → Drawn rest e d at_rest c f →
+      Leaves CardState (Four ℕ) (Drawn rest e d at_rest) (run card_meaning (glyph_by b (λ r. 0xA0000 + at r) g height mask) c).0 (Lined b g mask f)
   glyph_drawn false mask g c f lm t =
       let p1 = lines_plan (λ r. 0xA0000 + at r) (λ r. 0x00) height in
       let p3 = lines_plan (λ r. 0xA0000 + at r) g height in
@@ -221,7 +248,10 @@ module _ (law : KeepsBounds) (rest : CardState) (e d : ℕ) (on : is_set e 1 ≡
       let c1 = (run card_meaning p1 c).0 in
       let m1 = lines_put 0x0F (λ r. 0x00) c f t in
       let c2 = (run card_meaning (sequencer 2 mask) c1).0 in
-      let m2 : Drawn rest e d (plain mask) c2 m1.cells = record { latches = m1.shown.latches; is = mask_set law rest e d mask (plain 0x0F) m1.shown.latches c1 m1.cells lm m1.shown.is } in
+      let m2 : Drawn rest e d (plain mask) c2 m1.cells = record {
+        latches = m1.shown.latches;
+        is = mask_set law rest e d mask (plain 0x0F) m1.shown.latches c1 m1.cells lm m1.shown.is;
+      } in
       let c3 = (run card_meaning p3 c2).0 in
       let m3 = lines_put mask g c2 m1.cells m2 in
       let all : Leaves CardState (Four ℕ) (Drawn rest e d at_rest) (run card_meaning p4 c3).0 (Lined false g mask f) = record {

@@ -58,7 +58,8 @@ record IsDotted (rest : CardState) (e d a k : ℕ) (change : ℕ → ℕ) (y : C
   still : Loaded rest e d at_rest y (set_cell f a new) (f a)
   pixel : (i : ℕ) → i < 8 → nibble_of new i ≡ (if i == k then change (nibble_of (f a) i) else nibble_of (f a) i)
 
-dot_drawn : (law : KeepsBounds) (rest : CardState) (e d a k v : ℕ) (b : Bool) (q : Four ℕ) (c : CardState) (f : ℕ → Four ℕ) → is_set e 1 ≡ true → a < 65536 → k < 8 → Loaded rest e d at_rest c f q → IsDotted rest e d a k (colouring b v) (run card_meaning (dot_plan b (0xA0000 + a) k v) c).0 f
+dot_drawn : (law : KeepsBounds) (rest : CardState) (e d a k v : ℕ) (b : Bool) (q : Four ℕ) (c : CardState) (f : ℕ → Four ℕ) → is_set e 1 ≡ true → a < 65536 →
+    k < 8 → Loaded rest e d at_rest c f q → IsDotted rest e d a k (colouring b v) (run card_meaning (dot_plan b (0xA0000 + a) k v) c).0 f
 dot_drawn law rest e d a k v false q c f on la lk t =
     let bits = 0x80 / 2 ^ k in
     let h1 : Hand = record at_rest { bits = bits } in
@@ -114,7 +115,8 @@ one_test k n e = grind (arith, nat_tests)
 no_test : (k n : ℕ) → k / 8 ≢ n / 8 → (k == n) ≡ false
 no_test k n w = grind (arith, nat_tests)
 
-module _ (law : KeepsBounds) (m : Planes) (c : CardState) (d : BiosData) (t : IsPlanar m c d) (e : row_at d.mode d.height ≡ Some (row_of m)) (z : IsCard c) where
+module _ (law : KeepsBounds) (m : Planes) (c : CardState) (d : BiosData) (t : IsPlanar m c d) (e : row_at d.mode d.height ≡ Some (row_of m))
+    (z : IsCard c) where
   abbrev s : Screen
   s = pixel_screen (row_of m) c d
 
@@ -122,7 +124,9 @@ module _ (law : KeepsBounds) (m : Planes) (c : CardState) (d : BiosData) (t : Is
   old = bytes_at c.host.memory
 
   -- the byte of each plane, where one of its pixels changes
-  dot_shown : (p n v : ℕ) (b : Bool) (y : CardState) → p < (row_of m).pages → n < page_pixels d → IsDotted (without_drawing c) (row_of m).misc (slice_index (row_of m).sequencer 1) (d.size * p + n / 8) (n % 8) (colouring b v) y old → shown y d ≡ Some (with_pixels s p (change_pixel n (colouring b v)))
+  dot_shown : (p n v : ℕ) (b : Bool) (y : CardState) → p < (row_of m).pages → n < page_pixels d →
+      IsDotted (without_drawing c) (row_of m).misc (slice_index (row_of m).sequencer 1) (d.size * p + n / 8) (n % 8) (colouring b v) y old →
+      shown y d ≡ Some (with_pixels s p (change_pixel n (colouring b v)))
   dot_shown p n v b y lp ln h =
       let a = d.size * p + n / 8 in
       let f = set_cell old a h.new in
@@ -142,12 +146,14 @@ module _ (law : KeepsBounds) (m : Planes) (c : CardState) (d : BiosData) (t : Is
       ∙ sym was
       ∙ sym (ap (λ i. if i then colouring b v (pixel_of s p k) else pixel_of s p k) (no_test k n w)))
       (cases_eq (k / 8) (n / 8)))
-      (λ o out. set_other old a h.new o (λ u. ⊎_elim (λ (w : o < d.size * p). absurd (omega arith)) (λ (w : d.size * p + d.size ≤ o). absurd (omega arith)) out))
+      (λ o out. set_other old a h.new o (λ u. ⊎_elim (λ (w : o < d.size * p). absurd (omega arith)) (λ (w : d.size * p + d.size ≤ o). absurd (omega arith))
+      out))
 
   write_is : (p x y v : ℕ) → write_pixel_plan d p x y v ≡ dot_plan (is_set v 7) (0xA0000 + (d.size * p + pixel_number s x y / 8)) (x % 8) v
   unfolding write_pixel_plan
   write_is p x y v =
-      ap (λ b. let q : Plan (Unit {0}) = (if b then put (pixel_address d p x y) v else write_dot_plan (pixel_address d p x y) x v) in q) (ap is_packed t.number ∙ packed_by m)
+      ap (λ b. let q : Plan (Unit {0}) = (if b then put (pixel_address d p x y) v else write_dot_plan (pixel_address d p x y) x v) in q) (ap is_packed t.number
+      ∙ packed_by m)
       ∙ ap (λ a. write_dot_plan a x v) (reads.address_is m c d t e z p x y)
       ∙ plan_is (0xA0000 + (d.size * p + pixel_number s x y / 8)) x v
 
@@ -161,8 +167,10 @@ module _ (law : KeepsBounds) (m : Planes) (c : CardState) (d : BiosData) (t : Is
       let misc = (row_of m).misc in
       let clocking = slice_index (row_of m).sequencer 1 in
       let plan = dot_plan (is_set v 7) (0xA0000 + (d.size * p + n / 8)) (x % 8) v in
-      let drawn = dot_drawn law (without_drawing c) misc clocking (d.size * p + n / 8) (x % 8) v (is_set v 7) c.host.latches c old (reads.enabled_by m) (reads.offset_small m c d t e z p x y h) (omega arith) (screens.begins m c d t e z) in
+      let drawn = dot_drawn law (without_drawing c) misc clocking (d.size * p + n / 8) (x % 8) v (is_set v 7) c.host.latches c old (reads.enabled_by m)
+      (reads.offset_small m c d t e z p x y h) (omega arith) (screens.begins m c d t e z) in
       ap (λ i. shown (run card_meaning i c).0 d) (write_is p x y v)
       ∙ dot_shown p n v (is_set v 7) (run card_meaning plan c).0 h.page (number_within (row_of m) d p x y h)
-      (subst (λ k. IsDotted (without_drawing c) misc clocking (d.size * p + n / 8) k (colouring (is_set v 7) v) (run card_meaning plan c).0 old) (reads.rest_of_8 d.columns y x) drawn)
+      (subst (λ k. IsDotted (without_drawing c) misc clocking (d.size * p + n / 8) k (colouring (is_set v 7) v) (run card_meaning plan c).0 old)
+      (reads.rest_of_8 d.columns y x) drawn)
       ∙ ap (λ i. Some (with_pixels s p (change_pixel n i))) (colouring_is v))

@@ -88,7 +88,8 @@ module _ (law : KeepsBounds) (rest : CardState) (e d : ℕ) (on : is_set e 1 ≡
     pub still : Drawn rest e d seeing (run card_meaning (gather (λ r. line_plan Planar (0xA0000 + at r)) n i) c).0 f
     pub value : (run card_meaning (gather (λ r. line_plan Planar (0xA0000 + at r)) n i) c).1 ≡ listing (λ r. dots_of (f (at r))) i n
 
-  pub lines_seen : (at : ℕ → ℕ) (n i : ℕ) (c : CardState) (f : ℕ → Four ℕ) → ((r : ℕ) → r < i + n → at r < 65536) → Drawn rest e d seeing c f → AreLinesSeen at n i c f
+  pub lines_seen : (at : ℕ → ℕ) (n i : ℕ) (c : CardState) (f : ℕ → Four ℕ) → ((r : ℕ) → r < i + n → at r < 65536) → Drawn rest e d seeing c f →
+      AreLinesSeen at n i c f
   lines_seen at zero i c f within t = record { still = t; value = refl }
   lines_seen at (suc n) i c f within t =
       let one = line_seen (at i) c f (within i (omega arith)) t in

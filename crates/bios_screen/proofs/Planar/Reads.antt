@@ -40,7 +40,11 @@ use Rattle.bios_screen.proofs.Pixels.Dots.{There, number_within}
 -- ---- one plane is picked, and read
 
 abbrev picking : ℕ → ℕ → ℕ → Setting
-picking misc clocking p = record { misc = misc; seq = 0x03 ∷ clocking ∷ 0x0F ∷ 0x00 ∷ 0x06 ∷ []; gfx = 0x00 ∷ 0x00 ∷ 0x00 ∷ 0x00 ∷ p ∷ 0x00 ∷ 0x05 ∷ 0x0F ∷ 0xFF ∷ [] }
+picking misc clocking p = record {
+  misc = misc;
+  seq = 0x03 ∷ clocking ∷ 0x0F ∷ 0x00 ∷ 0x06 ∷ [];
+  gfx = 0x00 ∷ 0x00 ∷ 0x00 ∷ 0x00 ∷ p ∷ 0x00 ∷ 0x05 ∷ 0x0F ∷ 0xFF ∷ [];
+}
 
 -- all of an adapter but what a read moves
 abbrev without_reads : CardState → CardState
@@ -50,19 +54,25 @@ record IsPicking (rest : CardState) (e k p : ℕ) (c : CardState) : Type 0 where
   mode : setting c ≡ picking e k p
   others : without_reads c ≡ rest
 
-pick_set : (rest : CardState) (e k p v : ℕ) (c : CardState) → bit_and v 3 ≡ v → IsPicking rest e k p c → IsPicking rest e k v (run card_meaning (graphics 4 v) c).0
+pick_set : (rest : CardState) (e k p v : ℕ) (c : CardState) → bit_and v 3 ≡ v → IsPicking rest e k p c →
+    IsPicking rest e k v (run card_meaning (graphics 4 v) c).0
 unfolding port_of out_at
 pick_set rest e k p v c l t = record {
   mode = ap (λ (s : Setting). let x : Setting = record s { gfx = slice_set s.gfx 4 (bit_and v 3) } in x) t.mode ∙ ap (picking e k) l;
   others = t.others;
 }
 
-byte_is : (h : HostState) (e k p a : ℕ) → p < 4 → a < 65536 → byte_at h.memory p a < 256 → read_byte (host_at h (picking e k p)) (0xA0000 + a) ≡ byte_at h.memory p a
+byte_is : (h : HostState) (e k p a : ℕ) → p < 4 → a < 65536 → byte_at h.memory p a < 256 →
+    read_byte (host_at h (picking e k p)) (0xA0000 + a) ≡ byte_at h.memory p a
 unfolding byte_of read_bit
-byte_is h e k zero a lp l b = byte_bits _ (subst (λ o. slice_index h.memory.plane0 o < 256) (sym (offset_is a l)) b) ∙ ap (slice_index h.memory.plane0) (offset_is a l)
-byte_is h e k (suc zero) a lp l b = byte_bits _ (subst (λ o. slice_index h.memory.plane1 o < 256) (sym (offset_is a l)) b) ∙ ap (slice_index h.memory.plane1) (offset_is a l)
-byte_is h e k (suc (suc zero)) a lp l b = byte_bits _ (subst (λ o. slice_index h.memory.plane2 o < 256) (sym (offset_is a l)) b) ∙ ap (slice_index h.memory.plane2) (offset_is a l)
-byte_is h e k (suc (suc (suc zero))) a lp l b = byte_bits _ (subst (λ o. slice_index h.memory.plane3 o < 256) (sym (offset_is a l)) b) ∙ ap (slice_index h.memory.plane3) (offset_is a l)
+byte_is h e k zero a lp l b = byte_bits _ (subst (λ o. slice_index h.memory.plane0 o < 256) (sym (offset_is a l)) b)
+    ∙ ap (slice_index h.memory.plane0) (offset_is a l)
+byte_is h e k (suc zero) a lp l b = byte_bits _ (subst (λ o. slice_index h.memory.plane1 o < 256) (sym (offset_is a l)) b)
+    ∙ ap (slice_index h.memory.plane1) (offset_is a l)
+byte_is h e k (suc (suc zero)) a lp l b = byte_bits _ (subst (λ o. slice_index h.memory.plane2 o < 256) (sym (offset_is a l)) b)
+    ∙ ap (slice_index h.memory.plane2) (offset_is a l)
+byte_is h e k (suc (suc (suc zero))) a lp l b = byte_bits _ (subst (λ o. slice_index h.memory.plane3 o < 256) (sym (offset_is a l)) b)
+    ∙ ap (slice_index h.memory.plane3) (offset_is a l)
 byte_is h e k (suc (suc (suc (suc p)))) a lp l b = absurd (omega arith)
 
 -- what a read leaves and answers
@@ -70,7 +80,8 @@ record IsPicked (rest : CardState) (e k p a : ℕ) (c : CardState) : Type 0 wher
   still : IsPicking rest e k p (run card_meaning (get (0xA0000 + a)) c).0
   value : (run card_meaning (get (0xA0000 + a)) c).1 ≡ byte_at rest.host.memory p a
 
-pick_get : (rest : CardState) (e k p a : ℕ) (c : CardState) → p < 4 → a < 65536 → is_set e 1 ≡ true → byte_at rest.host.memory p a < 256 → IsPicking rest e k p c → IsPicked rest e k p a c
+pick_get : (rest : CardState) (e k p a : ℕ) (c : CardState) → p < 4 → a < 65536 → is_set e 1 ≡ true → byte_at rest.host.memory p a < 256 →
+    IsPicking rest e k p c → IsPicked rest e k p a c
 pick_get rest e k p a c lp la on b t =
     let r = get_decoded c (picking e k p) (0xA0000 + a) t.mode (reached (is_set e 1) a on la) in
     let memory : c.host.memory ≡ rest.host.memory = ap (λ (x : CardState). x.host.memory) t.others in
@@ -82,9 +93,12 @@ pick_get rest e k p a c lp la on b t =
 -- four planes, one after another
 record IsDotRead (rest : CardState) (e k a x : ℕ) (c : CardState) : Type 0 where
   still : IsPicking rest e k 0 (run card_meaning (read_dot_plan (0xA0000 + a) x) c).0
-  value : (run card_meaning (read_dot_plan (0xA0000 + a) x) c).1 ≡ bit_at (byte_at rest.host.memory 0 a) (7 - x % 8) + 2 * bit_at (byte_at rest.host.memory 1 a) (7 - x % 8) + 4 * bit_at (byte_at rest.host.memory 2 a) (7 - x % 8) + 8 * bit_at (byte_at rest.host.memory 3 a) (7 - x % 8)
+  value : (run card_meaning (read_dot_plan (0xA0000 + a) x) c).1 ≡ bit_at (byte_at rest.host.memory 0 a) (7 - x % 8)
+      + 2 * bit_at (byte_at rest.host.memory 1 a) (7 - x % 8) + 4 * bit_at (byte_at rest.host.memory 2 a) (7 - x % 8)
+      + 8 * bit_at (byte_at rest.host.memory 3 a) (7 - x % 8)
 
-dot_read : (rest : CardState) (e k a x : ℕ) (c : CardState) → a < 65536 → is_set e 1 ≡ true → ((p : ℕ) → p < 4 → byte_at rest.host.memory p a < 256) → IsPicking rest e k 0 c → IsDotRead rest e k a x c
+dot_read : (rest : CardState) (e k a x : ℕ) (c : CardState) → a < 65536 → is_set e 1 ≡ true → ((p : ℕ) → p < 4 → byte_at rest.host.memory p a < 256) →
+    IsPicking rest e k 0 c → IsDotRead rest e k a x c
 unfolding read_dot_plan
 dot_read rest e k a x c la on b t =
     let m = rest.host.memory in
@@ -100,7 +114,8 @@ dot_read rest e k a x c la on b t =
     let j = 7 - x % 8 in
     record {
       still = pick_set rest e k 3 0 (run card_meaning g c3).0 refl t3.still;
-      value = ap (λ v. bit_at v j + 2 * bit_at (run card_meaning g c1).1 j + 4 * bit_at (run card_meaning g c2).1 j + 8 * bit_at (run card_meaning g c3).1 j) t0.value
+      value = ap (λ v. bit_at v j + 2 * bit_at (run card_meaning g c1).1 j + 4 * bit_at (run card_meaning g c2).1 j + 8 * bit_at (run card_meaning g c3).1 j)
+          t0.value
           ∙ ap (λ v. bit_at (byte_at m 0 a) j + 2 * bit_at v j + 4 * bit_at (run card_meaning g c2).1 j + 8 * bit_at (run card_meaning g c3).1 j) t1.value
           ∙ ap (λ v. bit_at (byte_at m 0 a) j + 2 * bit_at (byte_at m 1 a) j + 4 * bit_at v j + 8 * bit_at (run card_meaning g c3).1 j) t2.value
           ∙ ap (λ v. bit_at (byte_at m 0 a) j + 2 * bit_at (byte_at m 1 a) j + 4 * bit_at (byte_at m 2 a) j + 8 * bit_at v j) t3.value;
@@ -158,24 +173,28 @@ module _ (m : Planes) (c : CardState) (d : BiosData) (t : IsPlanar m c d) (e : r
   begins = record { mode = screens.setting_is m c d t e z; others = refl }
 
   dot : (p x y : ℕ) → There (row_of m) d p x y → IsDotRead (without_reads c) (row_of m).misc (slice_index (row_of m).sequencer 1) (offset p x y) x c
-  dot p x y h = dot_read (without_reads c) (row_of m).misc (slice_index (row_of m).sequencer 1) (offset p x y) x c (offset_small p x y h) (enabled_by m) (λ q l. z.host.memory.bytes q l (offset p x y)) begins
+  dot p x y h = dot_read (without_reads c) (row_of m).misc (slice_index (row_of m).sequencer 1) (offset p x y) x c (offset_small p x y h) (enabled_by m) (λ q l.
+      z.host.memory.bytes q l (offset p x y)) begins
 
   pixel_is : (p x y : ℕ) → There (row_of m) d p x y → (run card_meaning (read_dot_plan (0xA0000 + offset p x y) x) c).1 ≡ pixel_of s p (number x y)
   pixel_is p x y h =
       let n = number x y in
       let f = c.host.memory in
       (dot p x y h).value
-      ∙ ap (λ i. bit_at (byte_at f 0 (offset p x y)) (7 - i) + 2 * bit_at (byte_at f 1 (offset p x y)) (7 - i) + 4 * bit_at (byte_at f 2 (offset p x y)) (7 - i) + 8 * bit_at (byte_at f 3 (offset p x y)) (7 - i)) (rest_of_8 d.columns y x)
+      ∙ ap (λ i. bit_at (byte_at f 0 (offset p x y)) (7 - i) + 2 * bit_at (byte_at f 1 (offset p x y)) (7 - i) + 4 * bit_at (byte_at f 2 (offset p x y)) (7 - i)
+      + 8 * bit_at (byte_at f 3 (offset p x y)) (7 - i)) (rest_of_8 d.columns y x)
       ∙ sym (screens.pixel_is m c d t e z p n h.page (number_within (row_of m) d p x y h))
 
   -- the screen stays
   stays : (y : CardState) → IsPicking (without_reads c) (row_of m).misc (slice_index (row_of m).sequencer 1) 0 y → shown y d ≡ Some s
   stays y h =
       redrawn (row_of m) c y d e (screens.text m c d t e z) t.tests (h.mode ∙ sym begins.mode) (ap without_drawing h.others)
-      ∙ ap (λ (x : CardState). Some (screen_by (row_of m) c d 0 (Pixels (pixel_pages d.mode x.host.memory d.size (page_pixels d) (row_of m).pages)) [])) h.others
+      ∙ ap (λ (x : CardState). Some (screen_by (row_of m) c d 0 (Pixels (pixel_pages d.mode x.host.memory d.size (page_pixels d) (row_of m).pages)) []))
+      h.others
 
   pub read_pixel : (page x y : ℕ) (fonts : FontSet) (r : Regs) (block : List ℕ) → IsServed (ReadPixel page x y) fonts r block c d s
   read_pixel page x y fonts r block = services.read_pixel (row_of m) c d e page x y fonts r block (λ p h. record {
     answer = ap (λ i. (run card_meaning i c).1) (read_is p x y) ∙ pixel_is p x y h;
-    shows = ap (λ i. shown (run card_meaning i c).0 d) (read_is p x y) ∙ stays (run card_meaning (read_dot_plan (0xA0000 + offset p x y) x) c).0 (dot p x y h).still;
+    shows = ap (λ i. shown (run card_meaning i c).0 d) (read_is p x y) ∙ stays (run card_meaning (read_dot_plan (0xA0000 + offset p x y) x) c).0
+        (dot p x y h).still;
   })

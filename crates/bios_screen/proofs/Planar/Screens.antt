@@ -1,5 +1,6 @@
 -- From drawn memory of sixteen colours to the screen that it shows, in which one page is drawn anew.
-use Rattle.std.proofs.Common.{◌≡◌, ◌≢◌, ℕ, ◌+◌, ◌*◌, ◌/◌, ◌%◌, ◌<◌, ◌≤◌, ◌⊎◌, inl, inr, ⊎_elim, refl, sym, ap, ◌∙◌, subst, arith, [], length, get_or, Some, false}
+use Rattle.std.proofs.Common.{◌≡◌, ◌≢◌, ℕ, ◌+◌, ◌*◌, ◌/◌, ◌%◌, ◌<◌, ◌≤◌, ◌⊎◌, inl, inr, ⊎_elim, refl, sym, ap, ◌∙◌, subst, arith, [], length, get_or, Some}
+use Rattle.std.proofs.Common.{false}
 use Rattle.std.specs.Prelude.{slice_index, set, if◌then◌else◌}
 use Rattle.std.proofs.lemmas.Bool.{cases_lt}
 use Rattle.vga_bits.specs.Four.{Four}
@@ -60,7 +61,8 @@ module _ (m : Planes) (c : CardState) (d : BiosData) (t : IsPlanar m c d) (e : r
   begins = record { mode = setting_is; bounds = z; cell = λ o. refl; others = refl; latch = refl }
 
   pub all_pixels : page_pixels d ≡ pixels_of (row_of m)
-  all_pixels = ap (λ i. 8 * i * (d.height * (d.last_row + 1))) t.has.columns ∙ ap (λ i. 8 * (row_of m).columns * (i * (d.last_row + 1))) t.has.height ∙ ap (λ i. 8 * (row_of m).columns * ((row_of m).height * (i + 1))) t.has.last_row
+  all_pixels = ap (λ i. 8 * i * (d.height * (d.last_row + 1))) t.has.columns ∙ ap (λ i. 8 * (row_of m).columns * (i * (d.last_row + 1))) t.has.height
+      ∙ ap (λ i. 8 * (row_of m).columns * ((row_of m).height * (i + 1))) t.has.last_row
 
   pub room : (k : ℕ) → k < page_pixels d → k / 8 < d.size
   room k l = subst (λ i. k / 8 < i) (sym t.has.size) (page_room m k (subst (λ i. k < i) all_pixels l))
@@ -95,7 +97,8 @@ module _ (m : Planes) (c : CardState) (d : BiosData) (t : IsPlanar m c d) (e : r
       (cases_lt p q)
 
   -- what the adapter shows at rest again, where one page has other pixels
-  pub page_redrawn : (p : ℕ) (y : CardState) (f : ℕ → Four ℕ) (q : Four ℕ) (change : (ℕ → ℕ) → ℕ → ℕ) → p < (row_of m).pages → Loaded (without_drawing c) misc clocking at_rest y f q
+  pub page_redrawn : (p : ℕ) (y : CardState) (f : ℕ → Four ℕ) (q : Four ℕ) (change : (ℕ → ℕ) → ℕ → ℕ) → p < (row_of m).pages →
+      Loaded (without_drawing c) misc clocking at_rest y f q
       → ((k : ℕ) → k < page_pixels d → nibble_of (f (d.size * p + k / 8)) (k % 8) ≡ change (pixel_of s p) k)
       → ((o : ℕ) → (o < d.size * p) ⊎ (d.size * p + d.size ≤ o) → f o ≡ bytes_at c.host.memory o)
       → shown y d ≡ Some (with_pixels s p change)
@@ -111,17 +114,20 @@ module _ (m : Planes) (c : CardState) (d : BiosData) (t : IsPlanar m c d) (e : r
       let old_pixel : (g k : ℕ) → pixel_in d.mode c.host.memory (d.size * g) k ≡ nibble_of (bytes_at c.host.memory (d.size * g + k / 8)) (k % 8) = λ g k.
       ap (λ b. if b then packed_pixel c.host.memory (d.size * g + k) else planar_pixel c.host.memory (d.size * g) k) packed in
       let page = listing (change (pixel_of s p)) 0 n in
-      let long : length (get_or old p []) ≡ n = ap length (listed_at (λ g. pixels_in d.mode c.host.memory (d.size * g) n) row.pages p [] lp) ∙ length_listing (pixel_in d.mode c.host.memory (d.size * p)) 0 n in
+      let long : length (get_or old p []) ≡ n = ap length (listed_at (λ g. pixels_in d.mode c.host.memory (d.size * g) n) row.pages p [] lp)
+      ∙ length_listing (pixel_in d.mode c.host.memory (d.size * p)) 0 n in
       let pages : pixel_pages d.mode y.host.memory d.size n row.pages ≡ set old p page =
       listing_set (λ g. pixels_in d.mode c.host.memory (d.size * g) n) (λ g. pixels_in d.mode y.host.memory (d.size * g) n) row.pages p page lp
       (same_from_0 (change (pixel_of s p)) (pixel_in d.mode y.host.memory (d.size * p)) n (λ k l. new_pixel p k ∙ inside k l))
       (λ g lg w. same_from_0 (pixel_in d.mode c.host.memory (d.size * g)) (pixel_in d.mode y.host.memory (d.size * g)) n (λ k l.
-      new_pixel g k ∙ ap (λ (x : Four ℕ). nibble_of x (k % 8)) (outside (d.size * g + k / 8) (apart p g (k / 8) (λ v. w (sym v)) (room k l))) ∙ sym (old_pixel g k))) in
+      new_pixel g k ∙ ap (λ (x : Four ℕ). nibble_of x (k % 8)) (outside (d.size * g + k / 8) (apart p g (k / 8) (λ v. w (sym v)) (room k l)))
+      ∙ sym (old_pixel g k))) in
       redrawn row c y d e text t.tests (h.mode ∙ sym setting_is) h.others
       ∙ ap (λ x. Some (screen_by row c d 0 (Pixels x) [])) (pages ∙ ap (λ i. set old p (listing (change (pixel_of s p)) 0 i)) (sym long))
 
   -- and where all its bytes are as they were, the screen stays
-  pub stays : (y : CardState) (f : ℕ → Four ℕ) (q : Four ℕ) → Loaded (without_drawing c) misc clocking at_rest y f q → ((o : ℕ) → f o ≡ bytes_at c.host.memory o) → shown y d ≡ Some s
+  pub stays : (y : CardState) (f : ℕ → Four ℕ) (q : Four ℕ) → Loaded (without_drawing c) misc clocking at_rest y f q →
+      ((o : ℕ) → f o ≡ bytes_at c.host.memory o) → shown y d ≡ Some s
   unfolding pixel_pages pixels_in
   stays y f q h same =
       let row = row_of m in

@@ -35,7 +35,11 @@ at_rest = record { mask = 0x0F; turn = 0x00; mode = 0x00; bits = 0xFF }
 
 -- the setting of a mode of sixteen colours, by its miscellaneous output and its clocking mode
 abbrev pub drawing : ℕ → ℕ → Hand → Setting
-drawing misc clocking h = record { misc = misc; seq = 0x03 ∷ clocking ∷ h.mask ∷ 0x00 ∷ 0x06 ∷ []; gfx = 0x00 ∷ 0x00 ∷ 0x00 ∷ h.turn ∷ 0x00 ∷ h.mode ∷ 0x05 ∷ 0x0F ∷ h.bits ∷ [] }
+drawing misc clocking h = record {
+  misc = misc;
+  seq = 0x03 ∷ clocking ∷ h.mask ∷ 0x00 ∷ 0x06 ∷ [];
+  gfx = 0x00 ∷ 0x00 ∷ 0x00 ∷ h.turn ∷ 0x00 ∷ h.mode ∷ 0x05 ∷ 0x0F ∷ h.bits ∷ [];
+}
 
 -- a host path with no memory: what a write stores depends on nothing else
 abbrev pub bare : Setting → Four ℕ → HostState
@@ -82,13 +86,19 @@ plane_put t plane a x = if t then slice_set plane a x else plane
 
 -- four planes, each of which may have a new byte at a place
 abbrev four_put : Four (List ℕ) → ℕ → Bool → Bool → Bool → Bool → ℕ → ℕ → ℕ → ℕ → Four (List ℕ)
-four_put m a t0 t1 t2 t3 x0 x1 x2 x3 = record { plane0 = plane_put t0 m.plane0 a x0; plane1 = plane_put t1 m.plane1 a x1; plane2 = plane_put t2 m.plane2 a x2; plane3 = plane_put t3 m.plane3 a x3 }
+four_put m a t0 t1 t2 t3 x0 x1 x2 x3 = record {
+  plane0 = plane_put t0 m.plane0 a x0;
+  plane1 = plane_put t1 m.plane1 a x1;
+  plane2 = plane_put t2 m.plane2 a x2;
+  plane3 = plane_put t3 m.plane3 a x3;
+}
 
 -- the memory after a Put
 abbrev drawn_memory : Four (List ℕ) → Setting → ℕ → ℕ → ℕ → Four ℕ → Four (List ℕ)
 drawn_memory m s mask a v q = four (λ p. plane_put (is_set mask p) (of_plane m p) a (written_byte (bare s q) v p))
 
-memory_is : (h : HostState) (e d a v : ℕ) (k : Hand) → memory_after_put (host_at h (drawing e d k)) a v ≡ drawn_memory h.memory (drawing e d k) k.mask a v h.latches
+memory_is : (h : HostState) (e d a v : ℕ) (k : Hand) → memory_after_put (host_at h (drawing e d k)) a v
+    ≡ drawn_memory h.memory (drawing e d k) k.mask a v h.latches
 memory_is h e d a v k =
     let s = drawing e d k in
     let m = k.mask in
@@ -103,7 +113,8 @@ memory_is h e d a v k =
     ∙ ap (λ x. four_put h.memory a (is_set m 0) (is_set m 1) (is_set m 2) (is_set m 3) (b 0) (b 1) x (w 3)) (bare_byte h s v 2)
     ∙ ap (λ x. four_put h.memory a (is_set m 0) (is_set m 1) (is_set m 2) (is_set m 3) (b 0) (b 1) (b 2) x) (bare_byte h s v 3)
 
-put_is : (c : CardState) (e d a v : ℕ) (k : Hand) → setting c ≡ drawing e d k → is_set e 1 ≡ true → a < 65536 → (run card_meaning (put (0xA0000 + a) v) c).0 ≡ with_memory c (drawn_memory c.host.memory (drawing e d k) k.mask a v c.host.latches)
+put_is : (c : CardState) (e d a v : ℕ) (k : Hand) → setting c ≡ drawing e d k → is_set e 1 ≡ true → a < 65536 →
+    (run card_meaning (put (0xA0000 + a) v) c).0 ≡ with_memory c (drawn_memory c.host.memory (drawing e d k) k.mask a v c.host.latches)
 put_is c e d a v k m b l =
     put_decoded c (drawing e d k) (0xA0000 + a) v m (decoded c.host e d a k b l)
     ∙ ap (λ o. with_memory c (memory_after_put (host_at c.host (drawing e d k)) o v)) (window_is c.host e d a k l)
@@ -126,21 +137,25 @@ same_four x y h =
     let e3 = h 3 (omega arith) in
     rw (e0, e1, e2, e3) refl
 
-pub put_draws : (law : KeepsBounds) (rest : CardState) (e d a v : ℕ) (k : Hand) (q : Four ℕ) (c : CardState) (f : ℕ → Four ℕ) → is_set e 1 ≡ true → Loaded rest e d k c f q → a < 65536 → Loaded rest e d k (run card_meaning (put (0xA0000 + a) v) c).0 (set_cell f a (stored (drawing e d k) k.mask v q (f a))) q
+pub put_draws : (law : KeepsBounds) (rest : CardState) (e d a v : ℕ) (k : Hand) (q : Four ℕ) (c : CardState) (f : ℕ → Four ℕ) → is_set e 1 ≡ true →
+    Loaded rest e d k c f q → a < 65536 → Loaded rest e d k (run card_meaning (put (0xA0000 + a) v) c).0
+    (set_cell f a (stored (drawing e d k) k.mask v q (f a))) q
 put_draws law rest e d a v k q c f on t l =
     let s = drawing e d k in
     let m = c.host.memory in
     let size = t.bounds.host.memory.size in
     let n = drawn_memory m s k.mask a v q in
     let new = stored s k.mask v q (f a) in
-    let after : (run card_meaning (put (0xA0000 + a) v) c).0 ≡ with_memory c n = put_is c e d a v k t.mode on l ∙ ap (λ y. with_memory c (drawn_memory m s k.mask a v y)) t.latch in
+    let after : (run card_meaning (put (0xA0000 + a) v) c).0 ≡ with_memory c n = put_is c e d a v k t.mode on l
+    ∙ ap (λ y. with_memory c (drawn_memory m s k.mask a v y)) t.latch in
     let still : Loaded rest e d k (with_memory c n) (set_cell f a new) q = record {
       mode = t.mode;
       bounds = subst IsCard after (plan_bounds law (put (0xA0000 + a) v) c t.bounds);
       cell = λ o. ⊎_elim
           (λ (z : o ≡ a).
           ap (bytes_at n) z
-          ∙ same_four (bytes_at n a) (stored s k.mask v q (bytes_at m a)) (by_plane (λ p. of_plane (bytes_at n a) p ≡ of_plane (stored s k.mask v q (bytes_at m a)) p)
+          ∙ same_four (bytes_at n a) (stored s k.mask v q (bytes_at m a)) (by_plane (λ p. of_plane (bytes_at n a) p
+          ≡ of_plane (stored s k.mask v q (bytes_at m a)) p)
           (plane_same (is_set k.mask 0) m.plane0 a _ (omega (arith, size 0 (omega arith))))
           (plane_same (is_set k.mask 1) m.plane1 a _ (omega (arith, size 1 (omega arith))))
           (plane_same (is_set k.mask 2) m.plane2 a _ (omega (arith, size 2 (omega arith))))
@@ -149,7 +164,8 @@ put_draws law rest e d a v k q c f on t l =
           ∙ sym (set_same f a new o z))
           (λ (y : o ≢ a).
           same_four (bytes_at n o) (bytes_at m o) (by_plane (λ p. of_plane (bytes_at n o) p ≡ of_plane (bytes_at m o) p)
-          (plane_other (is_set k.mask 0) m.plane0 a _ o y) (plane_other (is_set k.mask 1) m.plane1 a _ o y) (plane_other (is_set k.mask 2) m.plane2 a _ o y) (plane_other (is_set k.mask 3) m.plane3 a _ o y))
+          (plane_other (is_set k.mask 0) m.plane0 a _ o y) (plane_other (is_set k.mask 1) m.plane1 a _ o y) (plane_other (is_set k.mask 2) m.plane2 a _ o y)
+          (plane_other (is_set k.mask 3) m.plane3 a _ o y))
           ∙ t.cell o ∙ sym (set_other f a new o y))
           (cases_eq o a);
       others = t.others;
@@ -158,7 +174,8 @@ put_draws law rest e d a v k q c f on t l =
     subst (λ x. Loaded rest e d k x (set_cell f a new) q) (sym after) still
 
 -- a Get loads the latches
-pub get_loads : (law : KeepsBounds) (rest : CardState) (e d a : ℕ) (k : Hand) (q : Four ℕ) (c : CardState) (f : ℕ → Four ℕ) → is_set e 1 ≡ true → Loaded rest e d k c f q → a < 65536 → Loaded rest e d k (run card_meaning (get (0xA0000 + a)) c).0 f (f a)
+pub get_loads : (law : KeepsBounds) (rest : CardState) (e d a : ℕ) (k : Hand) (q : Four ℕ) (c : CardState) (f : ℕ → Four ℕ) → is_set e 1 ≡ true →
+    Loaded rest e d k c f q → a < 65536 → Loaded rest e d k (run card_meaning (get (0xA0000 + a)) c).0 f (f a)
 get_loads law rest e d a k q c f on t l =
     let s = drawing e d k in
     let x : CardState = record c { host = record c.host { latches = loaded (host_at c.host s) (0xA0000 + a) } } in
@@ -178,10 +195,12 @@ and_15 : (m : ℕ) → m < 16 → bit_and m 0x0F ≡ m
 and_15 m l = let t = agree_below_at (λ m. bit_and m 0x0F == m) (λ _. true) 16 m refl l in grind (arith, nat_tests)
 
 -- the map mask
-pub mask_set : (law : KeepsBounds) (rest : CardState) (e d m : ℕ) (k : Hand) (q : Four ℕ) (c : CardState) (f : ℕ → Four ℕ) → m < 16 → Loaded rest e d k c f q → Loaded rest e d (record k { mask = m }) (run card_meaning (sequencer 2 m) c).0 f q
+pub mask_set : (law : KeepsBounds) (rest : CardState) (e d m : ℕ) (k : Hand) (q : Four ℕ) (c : CardState) (f : ℕ → Four ℕ) → m < 16 → Loaded rest e d k c f q →
+    Loaded rest e d (record k { mask = m }) (run card_meaning (sequencer 2 m) c).0 f q
 unfolding port_of out_at
 mask_set law rest e d m k q c f l t = record {
-  mode = ap (λ (s : Setting). let x : Setting = record s { seq = slice_set s.seq 2 (bit_and m 0x0F) } in x) t.mode ∙ ap (λ x. drawing e d (record k { mask = x })) (and_15 m l);
+  mode = ap (λ (s : Setting). let x : Setting = record s { seq = slice_set s.seq 2 (bit_and m 0x0F) } in x) t.mode
+      ∙ ap (λ x. drawing e d (record k { mask = x })) (and_15 m l);
   bounds = plan_bounds law (sequencer 2 m) c t.bounds;
   cell = t.cell;
   others = t.others;
@@ -189,10 +208,12 @@ mask_set law rest e d m k q c f l t = record {
 }
 
 -- the function and the rotation
-pub function_set : (law : KeepsBounds) (rest : CardState) (e d v : ℕ) (k : Hand) (q : Four ℕ) (c : CardState) (f : ℕ → Four ℕ) → bit_and v 0x1F ≡ v → Loaded rest e d k c f q → Loaded rest e d (record k { turn = v }) (run card_meaning (graphics 3 v) c).0 f q
+pub function_set : (law : KeepsBounds) (rest : CardState) (e d v : ℕ) (k : Hand) (q : Four ℕ) (c : CardState) (f : ℕ → Four ℕ) → bit_and v 0x1F ≡ v →
+    Loaded rest e d k c f q → Loaded rest e d (record k { turn = v }) (run card_meaning (graphics 3 v) c).0 f q
 unfolding port_of out_at
 function_set law rest e d v k q c f l t = record {
-  mode = ap (λ (s : Setting). let x : Setting = record s { gfx = slice_set s.gfx 3 (bit_and v 0x1F) } in x) t.mode ∙ ap (λ x. drawing e d (record k { turn = x })) l;
+  mode = ap (λ (s : Setting). let x : Setting = record s { gfx = slice_set s.gfx 3 (bit_and v 0x1F) } in x) t.mode
+      ∙ ap (λ x. drawing e d (record k { turn = x })) l;
   bounds = plan_bounds law (graphics 3 v) c t.bounds;
   cell = t.cell;
   others = t.others;
@@ -200,14 +221,16 @@ function_set law rest e d v k q c f l t = record {
 }
 
 -- read and write mode; bit 5 is refused, and so the test of it is a premise
-pub mode_set : (law : KeepsBounds) (rest : CardState) (e d v : ℕ) (k : Hand) (q : Four ℕ) (c : CardState) (f : ℕ → Four ℕ) → bit_and v 0x7B ≡ v → is_set v 5 ≡ false → Loaded rest e d k c f q → Loaded rest e d (record k { mode = v }) (run card_meaning (graphics 5 v) c).0 f q
+pub mode_set : (law : KeepsBounds) (rest : CardState) (e d v : ℕ) (k : Hand) (q : Four ℕ) (c : CardState) (f : ℕ → Four ℕ) → bit_and v 0x7B ≡ v →
+    is_set v 5 ≡ false → Loaded rest e d k c f q → Loaded rest e d (record k { mode = v }) (run card_meaning (graphics 5 v) c).0 f q
 unfolding port_of out_at
 mode_set law rest e d v k q c f l b t =
     let index : CardState = record c { host = record c.host { gfx_index = 5 } } in
     let next : CardState = record index { host = record index.host { gfx = slice_set c.host.gfx 5 (bit_and v 0x7B) } } in
     let after : (run card_meaning (graphics 5 v) c).0 ≡ next = ap (λ y. (written_unless y index next).0) b in
     let still : Loaded rest e d (record k { mode = v }) next f q = record {
-      mode = ap (λ (s : Setting). let x : Setting = record s { gfx = slice_set s.gfx 5 (bit_and v 0x7B) } in x) t.mode ∙ ap (λ x. drawing e d (record k { mode = x })) l;
+      mode = ap (λ (s : Setting). let x : Setting = record s { gfx = slice_set s.gfx 5 (bit_and v 0x7B) } in x) t.mode
+          ∙ ap (λ x. drawing e d (record k { mode = x })) l;
       bounds = subst IsCard after (plan_bounds law (graphics 5 v) c t.bounds);
       cell = t.cell;
       others = t.others;
@@ -216,10 +239,12 @@ mode_set law rest e d v k q c f l b t =
     subst (λ y. Loaded rest e d (record k { mode = v }) y f q) (sym after) still
 
 -- the bit mask
-pub bits_set : (law : KeepsBounds) (rest : CardState) (e d v : ℕ) (k : Hand) (q : Four ℕ) (c : CardState) (f : ℕ → Four ℕ) → bit_and v 0xFF ≡ v → Loaded rest e d k c f q → Loaded rest e d (record k { bits = v }) (run card_meaning (graphics 8 v) c).0 f q
+pub bits_set : (law : KeepsBounds) (rest : CardState) (e d v : ℕ) (k : Hand) (q : Four ℕ) (c : CardState) (f : ℕ → Four ℕ) → bit_and v 0xFF ≡ v →
+    Loaded rest e d k c f q → Loaded rest e d (record k { bits = v }) (run card_meaning (graphics 8 v) c).0 f q
 unfolding port_of out_at
 bits_set law rest e d v k q c f l t = record {
-  mode = ap (λ (s : Setting). let x : Setting = record s { gfx = slice_set s.gfx 8 (bit_and v 0xFF) } in x) t.mode ∙ ap (λ x. drawing e d (record k { bits = x })) l;
+  mode = ap (λ (s : Setting). let x : Setting = record s { gfx = slice_set s.gfx 8 (bit_and v 0xFF) } in x) t.mode
+      ∙ ap (λ x. drawing e d (record k { bits = x })) l;
   bounds = plan_bounds law (graphics 8 v) c t.bounds;
   cell = t.cell;
   others = t.others;

@@ -34,32 +34,48 @@ planes_of mask = record { mask = mask; turn = 0x00; mode = 0x00; bits = 0xFF }
 -- the latches are stored as they are
 latched : (e d v : ℕ) (q old : Four ℕ) → ((p : ℕ) → p < 4 → of_plane q p < 256) → stored (drawing e d copying) 0x0F v q old ≡ q
 unfolding byte_of written_bit combined_bit
-latched e d v q old h = rw (byte_bits q.plane0 (h 0 (omega arith)), byte_bits q.plane1 (h 1 (omega arith)), byte_bits q.plane2 (h 2 (omega arith)), byte_bits q.plane3 (h 3 (omega arith))) refl
+latched e d v q old h = rw (
+  byte_bits q.plane0 (h 0 (omega arith)),
+  byte_bits q.plane1 (h 1 (omega arith)),
+  byte_bits q.plane2 (h 2 (omega arith)),
+  byte_bits q.plane3 (h 3 (omega arith)),
+) refl
 
 plainly : (e d v mask : ℕ) (q old : Four ℕ) → stored (drawing e d (planes_of mask)) mask v q old ≡ masked mask v old
 unfolding byte_of written_bit combined_bit
 plainly e d v mask q old = refl
 
 -- a move is a move of four bytes
-cell_moved : (law : KeepsBounds) (rest : CardState) (e d : ℕ) → is_set e 1 ≡ true → (from to a b : ℕ) (c : CardState) (f : ℕ → Four ℕ) → from ≡ 0xA0000 + a → to ≡ 0xA0000 + b → a < 65536 → b < 65536 → Drawn rest e d copying c f → Drawn rest e d copying (run card_meaning (move from to) c).0 (set_cell f b (f a))
+cell_moved : (law : KeepsBounds) (rest : CardState) (e d : ℕ) → is_set e 1 ≡ true → (from to a b : ℕ) (c : CardState) (f : ℕ → Four ℕ) → from ≡ 0xA0000 + a →
+    to ≡ 0xA0000 + b → a < 65536 → b < 65536 → Drawn rest e d copying c f → Drawn rest e d copying (run card_meaning (move from to) c).0 (set_cell f b (f a))
 cell_moved law rest e d on from to a b c f ef et la lb t =
     let v = (run card_meaning (get (0xA0000 + a)) c).1 in
     let c1 = (run card_meaning (get (0xA0000 + a)) c).0 in
     let loaded = get_loads law rest e d a copying t.latches c f on t.is la in
     let small : (p : ℕ) → p < 4 → of_plane (f a) p < 256 = λ p l. subst (λ x. of_plane x p < 256) (t.is.cell a) (by_four c a t.is p l) in
     let same = latched e d v (f a) (f b) small in
-    let put_there = subst (λ x. Loaded rest e d copying (run card_meaning (put (0xA0000 + b) v) c1).0 (set_cell f b x) (f a)) same (put_draws law rest e d b v copying (f a) c1 f on loaded lb) in
-    let moved : Drawn rest e d copying (run card_meaning (move (0xA0000 + a) (0xA0000 + b)) c).0 (set_cell f b (f a)) = record { latches = f a; is = put_there } in
-    subst (λ x. Drawn rest e d copying (run card_meaning (move x to) c).0 (set_cell f b (f a))) (sym ef) (subst (λ x. Drawn rest e d copying (run card_meaning (move (0xA0000 + a) x) c).0 (set_cell f b (f a))) (sym et) moved)
+    let put_there = subst (λ x. Loaded rest e d copying (run card_meaning (put (0xA0000 + b) v) c1).0 (set_cell f b x) (f a)) same
+    (put_draws law rest e d b v copying (f a) c1 f on loaded lb) in
+    let moved : Drawn rest e d copying (run card_meaning (move (0xA0000 + a) (0xA0000 + b)) c).0 (set_cell f b (f a)) =
+    record { latches = f a; is = put_there } in
+    subst (λ x. Drawn rest e d copying (run card_meaning (move x to) c).0 (set_cell f b (f a))) (sym ef)
+    (subst (λ x. Drawn rest e d copying (run card_meaning (move (0xA0000 + a) x) c).0 (set_cell f b (f a))) (sym et) moved)
   where
     by_four : (c : CardState) (a : ℕ) → Loaded rest e d copying c f t.latches → (p : ℕ) → p < 4 → of_plane (bytes_at c.host.memory a) p < 256
-    by_four c a u p l = by_plane (λ p. of_plane (bytes_at c.host.memory a) p < 256) (u.bounds.host.memory.bytes 0 (omega arith) a) (u.bounds.host.memory.bytes 1 (omega arith) a) (u.bounds.host.memory.bytes 2 (omega arith) a) (u.bounds.host.memory.bytes 3 (omega arith) a) p l
+    by_four c a u p l = by_plane (λ p. of_plane (bytes_at c.host.memory a) p < 256) (u.bounds.host.memory.bytes 0 (omega arith) a)
+        (u.bounds.host.memory.bytes 1 (omega arith) a) (u.bounds.host.memory.bytes 2 (omega arith) a) (u.bounds.host.memory.bytes 3 (omega arith) a) p l
 
 -- a Put of a byte to the planes of a mask
-cell_put : (law : KeepsBounds) (rest : CardState) (e d mask : ℕ) → is_set e 1 ≡ true → (at j v : ℕ) (c : CardState) (f : ℕ → Four ℕ) → at ≡ 0xA0000 + j → j < 65536 → v < 256 → Drawn rest e d (planes_of mask) c f → Drawn rest e d (planes_of mask) (run card_meaning (put at v) c).0 (set_cell f j (masked mask v (f j)))
+cell_put : (law : KeepsBounds) (rest : CardState) (e d mask : ℕ) → is_set e 1 ≡ true → (at j v : ℕ) (c : CardState) (f : ℕ → Four ℕ) → at ≡ 0xA0000 + j →
+    j < 65536 → v < 256 → Drawn rest e d (planes_of mask) c f → Drawn rest e d (planes_of mask) (run card_meaning (put at v) c).0
+    (set_cell f j (masked mask v (f j)))
 cell_put law rest e d mask on at j v c f ea lj lv t =
     subst (λ x. Drawn rest e d (planes_of mask) (run card_meaning (put x v) c).0 (set_cell f j (masked mask v (f j)))) (sym ea)
-    (record { latches = t.latches; is = subst (λ x. Loaded rest e d (planes_of mask) (run card_meaning (put (0xA0000 + j) v) c).0 (set_cell f j x) t.latches) (plainly e d v mask t.latches (f j)) (put_draws law rest e d j v (planes_of mask) t.latches c f on t.is lj) })
+    (record {
+      latches = t.latches;
+      is = subst (λ x. Loaded rest e d (planes_of mask) (run card_meaning (put (0xA0000 + j) v) c).0 (set_cell f j x) t.latches)
+          (plainly e d v mask t.latches (f j)) (put_draws law rest e d j v (planes_of mask) t.latches c f on t.is lj);
+    })
 
 pub filled_plain : (v i : ℕ) → filling_byte (plain v) i ≡ v
 filled_plain v i = by_test (i % 2 == 0)
@@ -68,91 +84,123 @@ filled_plain v i = by_test (i % 2 == 0)
     by_test true = refl
     by_test false = refl
 
-module _ (law : KeepsBounds) (rest : CardState) (e d : ℕ) (on : is_set e 1 ≡ true) (first_byte w h left width start rows top height : ℕ) (wide : 0 < w) (high : 0 < h)
-    (window : IsWindow 0xA0000 65536 (record { kind = Planar; start = first_byte; pitch = w; lines = h; left = left; width = width }) start rows top height) where
-  abbrev band : Band
-  band = record { kind = Planar; start = first_byte; pitch = w; lines = h; left = left; width = width }
+module _ (law : KeepsBounds) (rest : CardState) (e d : ℕ) (on : is_set e 1 ≡ true) (first_byte w h left width start rows top height : ℕ) (wide : 0 < w)
+    (high : 0 < h)
+    (window : IsWindow 0xA0000 65536 (record { kind = Planar; start = first_byte; pitch = w; lines = h; left = left; width = width }) start rows top height)
+  where
+    abbrev band : Band
+    band = record { kind = Planar; start = first_byte; pitch = w; lines = h; left = left; width = width }
 
-  abbrev Rows : ℕ → ℕ → Type 0
-  Rows first e = Turn (λ _. Turn (λ _. Turn (λ _. Unit {0}) 0 width) 0 h) first e
+    abbrev Rows : ℕ → ℕ → Type 0
+    Rows first e = Turn (λ _. Turn (λ _. Turn (λ _. Unit {0}) 0 width) 0 h) first e
 
-  abbrev place : ℕ → ℕ → ℕ → ℕ
-  place row line i = start + (w * (h * row + line) + (left + i))
+    abbrev place : ℕ → ℕ → ℕ → ℕ
+    place row line i = start + (w * (h * row + line) + (left + i))
 
-  -- rows are moved through the latches, and others get a colour
-  record IsShifted (P : (ℕ → Four ℕ) → Type 0) (mask first n : ℕ) (g : ℕ → Four ℕ) : Type 0 where
-    mid : ℕ → Four ℕ
-    moved : P mid
-    edited : Edited (Four ℕ) (Rows first (first + n)) (λ x. place x.turn x.place.turn x.place.place.turn) (λ x q. masked mask (filling_byte (plain 0xFF) x.place.place.turn) (masked 0x0F (filling_byte (plain 0x00) x.place.place.turn) q)) mid g
+    -- rows are moved through the latches, and others get a colour
+    record IsShifted (P : (ℕ → Four ℕ) → Type 0) (mask first n : ℕ) (g : ℕ → Four ℕ) : Type 0 where
+      mid : ℕ → Four ℕ
+      moved : P mid
+      edited : Edited (Four ℕ) (Rows first (first + n)) (λ x. place x.turn x.place.turn x.place.place.turn) (λ x q.
+          masked mask (filling_byte (plain 0xFF) x.place.place.turn) (masked 0x0F (filling_byte (plain 0x00) x.place.place.turn) q)) mid g
 
-  abbrev shift_plan : Plan (Unit {0}) → ℕ → ℕ → ℕ → Plan (Unit {0})
-  shift_plan moving first n mask = do
-    graphics 5 0x01
-    moving
-    graphics 5 0x00
-    fill_rows band (plain 0x00) first n
-    sequencer 2 mask
-    fill_rows band (plain 0xFF) first n
-    sequencer 2 0x0F
+    abbrev shift_plan : Plan (Unit {0}) → ℕ → ℕ → ℕ → Plan (Unit {0})
+    shift_plan moving first n mask = do
+      graphics 5 0x01
+      moving
+      graphics 5 0x00
+      fill_rows band (plain 0x00) first n
+      sequencer 2 mask
+      fill_rows band (plain 0xFF) first n
+      sequencer 2 0x0F
 
-  shifted : (P : (ℕ → Four ℕ) → Type 0) (moving : Plan (Unit {0})) (first n mask : ℕ) (c : CardState) (f : ℕ → Four ℕ) → mask < 16 → top ≤ first → first + n ≤ top + height
-      → ((y : CardState) → Drawn rest e d copying y f → Leaves CardState (Four ℕ) (Drawn rest e d copying) (run card_meaning moving y).0 P)
-      → Drawn rest e d at_rest c f → Leaves CardState (Four ℕ) (Drawn rest e d at_rest) (run card_meaning (shift_plan moving first n mask) c).0 (IsShifted P mask first n)
-  shifted P moving first n mask c f lm low fits moves t =
-      let p2 = fill_rows band (plain 0x00) first n in
-      let p3 = fill_rows band (plain 0xFF) first n in
-      let c1 = (run card_meaning (graphics 5 0x01) c).0 in
-      let t1 : Drawn rest e d copying c1 f = record { latches = t.latches; is = mode_set law rest e d 0x01 at_rest t.latches c f refl refl t.is } in
-      let m1 = moves c1 t1 in
-      let c2 = (run card_meaning moving c1).0 in
-      let c3 = (run card_meaning (graphics 5 0x00) c2).0 in
-      let t3 : Drawn rest e d (planes_of 0x0F) c3 m1.cells = record { latches = m1.shown.latches; is = mode_set law rest e d 0x00 copying m1.shown.latches c2 m1.cells refl refl m1.shown.is } in
-      let m2 = bands.rows_filled CardState (Four ℕ) card_meaning 0xA0000 65536 band start rows top height window (Drawn rest e d (planes_of 0x0F)) (masked 0x0F) (cell_put law rest e d 0x0F on) (plain 0x00) (omega arith) (omega arith) first n c3 m1.cells low fits t3 in
-      let c4 = (run card_meaning p2 c3).0 in
-      let c5 = (run card_meaning (sequencer 2 mask) c4).0 in
-      let t5 : Drawn rest e d (planes_of mask) c5 m2.cells = record { latches = m2.shown.latches; is = mask_set law rest e d mask (planes_of 0x0F) m2.shown.latches c4 m2.cells lm m2.shown.is } in
-      let m3 = bands.rows_filled CardState (Four ℕ) card_meaning 0xA0000 65536 band start rows top height window (Drawn rest e d (planes_of mask)) (masked mask) (cell_put law rest e d mask on) (plain 0xFF) (omega arith) (omega arith) first n c5 m2.cells low fits t5 in
-      let c6 = (run card_meaning p3 c5).0 in
-      let all : Leaves CardState (Four ℕ) (Drawn rest e d at_rest) (run card_meaning (sequencer 2 0x0F) c6).0 (IsShifted P mask first n) = record {
-        cells = m3.cells;
-        shown = record { latches = m3.shown.latches; is = mask_set law rest e d 0x0F (planes_of mask) m3.shown.latches c6 m3.cells (omega arith) m3.shown.is };
-        fact = record {
-          mid = m1.cells;
-          moved = m1.fact;
-          edited = edited_twice (λ (x : Rows first (first + n)). place x.turn x.place.turn x.place.place.turn) (λ x q. masked 0x0F (filling_byte (plain 0x00) x.place.place.turn) q) (λ x q. masked mask (filling_byte (plain 0xFF) x.place.place.turn) q) m1.cells m2.cells m3.cells m2.fact m3.fact;
-        };
-      } in
-      let e1 = run_bind card_meaning moving (λ _. graphics 5 0x00 >> (p2 >> (sequencer 2 mask >> (p3 >> sequencer 2 0x0F)))) c1 in
-      let e2 = run_bind card_meaning p2 (λ _. sequencer 2 mask >> (p3 >> sequencer 2 0x0F)) c3 in
-      let e3 = run_bind card_meaning p3 (λ _. sequencer 2 0x0F) c5 in
-      subst (λ r. Leaves CardState (Four ℕ) (Drawn rest e d at_rest) r.0 (IsShifted P mask first n)) (sym (e1 ∙ e2 ∙ e3)) all
+    shifted : (P : (ℕ → Four ℕ) → Type 0) (moving : Plan (Unit {0})) (first n mask : ℕ) (c : CardState) (f : ℕ → Four ℕ) → mask < 16 → top ≤ first →
+        first + n ≤ top + height
+        → ((y : CardState) → Drawn rest e d copying y f → Leaves CardState (Four ℕ) (Drawn rest e d copying) (run card_meaning moving y).0 P)
+        → Drawn rest e d at_rest c f → Leaves CardState (Four ℕ) (Drawn rest e d at_rest) (run card_meaning (shift_plan moving first n mask) c).0
+        (IsShifted P mask first n)
+    shifted P moving first n mask c f lm low fits moves t =
+        let p2 = fill_rows band (plain 0x00) first n in
+        let p3 = fill_rows band (plain 0xFF) first n in
+        let c1 = (run card_meaning (graphics 5 0x01) c).0 in
+        let t1 : Drawn rest e d copying c1 f = record { latches = t.latches; is = mode_set law rest e d 0x01 at_rest t.latches c f refl refl t.is } in
+        let m1 = moves c1 t1 in
+        let c2 = (run card_meaning moving c1).0 in
+        let c3 = (run card_meaning (graphics 5 0x00) c2).0 in
+        let t3 : Drawn rest e d (planes_of 0x0F) c3 m1.cells = record {
+          latches = m1.shown.latches;
+          is = mode_set law rest e d 0x00 copying m1.shown.latches c2 m1.cells refl refl m1.shown.is;
+        } in
+        let m2 = bands.rows_filled CardState (Four ℕ) card_meaning 0xA0000 65536 band start rows top height window (Drawn rest e d (planes_of 0x0F))
+        (masked 0x0F)
+        (cell_put law rest e d 0x0F on) (plain 0x00) (omega arith) (omega arith) first n c3 m1.cells low fits t3 in
+        let c4 = (run card_meaning p2 c3).0 in
+        let c5 = (run card_meaning (sequencer 2 mask) c4).0 in
+        let t5 : Drawn rest e d (planes_of mask) c5 m2.cells = record {
+          latches = m2.shown.latches;
+          is = mask_set law rest e d mask (planes_of 0x0F) m2.shown.latches c4 m2.cells lm m2.shown.is;
+        } in
+        let m3 = bands.rows_filled CardState (Four ℕ) card_meaning 0xA0000 65536 band start rows top height window (Drawn rest e d (planes_of mask))
+        (masked mask)
+        (cell_put law rest e d mask on) (plain 0xFF) (omega arith) (omega arith) first n c5 m2.cells low fits t5 in
+        let c6 = (run card_meaning p3 c5).0 in
+        let all : Leaves CardState (Four ℕ) (Drawn rest e d at_rest) (run card_meaning (sequencer 2 0x0F) c6).0 (IsShifted P mask first n) = record {
+          cells = m3.cells;
+          shown = record {
+            latches = m3.shown.latches;
+            is = mask_set law rest e d 0x0F (planes_of mask) m3.shown.latches c6 m3.cells (omega arith) m3.shown.is;
+          };
+          fact = record {
+            mid = m1.cells;
+            moved = m1.fact;
+            edited = edited_twice (λ (x : Rows first (first + n)). place x.turn x.place.turn x.place.place.turn) (λ x q.
+                masked 0x0F (filling_byte (plain 0x00) x.place.place.turn) q) (λ x q. masked mask (filling_byte (plain 0xFF) x.place.place.turn) q) m1.cells
+                m2.cells m3.cells m2.fact m3.fact;
+          };
+        } in
+        let e1 = run_bind card_meaning moving (λ _. graphics 5 0x00 >> (p2 >> (sequencer 2 mask >> (p3 >> sequencer 2 0x0F)))) c1 in
+        let e2 = run_bind card_meaning p2 (λ _. sequencer 2 mask >> (p3 >> sequencer 2 0x0F)) c3 in
+        let e3 = run_bind card_meaning p3 (λ _. sequencer 2 0x0F) c5 in
+        subst (λ r. Leaves CardState (Four ℕ) (Drawn rest e d at_rest) r.0 (IsShifted P mask first n)) (sym (e1 ∙ e2 ∙ e3)) all
 
-  -- the colour as four bytes
-  filling_is : (mask i : ℕ) (q : Four ℕ) → masked mask (filling_byte (plain 0xFF) i) (masked 0x0F (filling_byte (plain 0x00) i) q) ≡ lined false mask 0xFF q
-  filling_is mask i q = ap (λ v. masked mask v (masked 0x0F (filling_byte (plain 0x00) i) q)) (filled_plain 0xFF i) ∙ ap (λ v. masked mask 0xFF (masked 0x0F v q)) (filled_plain 0x00 i)
+    -- the colour as four bytes
+    filling_is : (mask i : ℕ) (q : Four ℕ) → masked mask (filling_byte (plain 0xFF) i) (masked 0x0F (filling_byte (plain 0x00) i) q) ≡ lined false mask 0xFF q
+    filling_is mask i q = ap (λ v. masked mask v (masked 0x0F (filling_byte (plain 0x00) i) q)) (filled_plain 0xFF i)
+        ∙ ap (λ v. masked mask 0xFF (masked 0x0F v q)) (filled_plain 0x00 i)
 
-  pub went_up : (n colour : ℕ) (c : CardState) (f : ℕ → Four ℕ) → n ≤ height → (0 < height → 0 < n) → Drawn rest e d at_rest c f
-      → Leaves CardState (Four ℕ) (Drawn rest e d at_rest) (run card_meaning (up_plan band top height n colour) c).0 (shifts.GoneUp (Four ℕ) w h start left width top height wide high window.across n (lined false (colour % 16) 0xFF) f)
-  unfolding up_plan fill_plan
-  went_up n colour c f few some t =
-      let count = height - n in
-      let x = shifted (Moved (Four ℕ) (Rows top (top + count)) (λ x. place (x.turn + n) x.place.turn x.place.place.turn) (λ x. place x.turn x.place.turn x.place.place.turn) f) (raise_rows band n top count) (top + count) n (colour % 16) c f (omega arith) (omega arith) (omega arith)
-      (λ y u. bands.rows_raised CardState (Four ℕ) card_meaning 0xA0000 65536 band start rows top height window (Drawn rest e d copying) (cell_moved law rest e d on) n count y f (omega arith) (λ l. some (omega arith)) u) t in
-      record {
-        cells = x.cells;
-        shown = x.shown;
-        fact = shifts.gone_up (Four ℕ) w h start left width top height wide high window.across n few (lined false (colour % 16) 0xFF) (λ x q. masked (colour % 16) (filling_byte (plain 0xFF) x.place.place.turn) (masked 0x0F (filling_byte (plain 0x00) x.place.place.turn) q)) (λ x q. filling_is (colour % 16) x.place.place.turn q) f x.fact.mid x.cells x.fact.moved x.fact.edited;
-      }
+    pub went_up : (n colour : ℕ) (c : CardState) (f : ℕ → Four ℕ) → n ≤ height → (0 < height → 0 < n) → Drawn rest e d at_rest c f
+        → Leaves CardState (Four ℕ) (Drawn rest e d at_rest) (run card_meaning (up_plan band top height n colour) c).0
+        (shifts.GoneUp (Four ℕ) w h start left width top height wide high window.across n (lined false (colour % 16) 0xFF) f)
+    unfolding up_plan fill_plan
+    went_up n colour c f few some t =
+        let count = height - n in
+        let x = shifted (Moved (Four ℕ) (Rows top (top + count)) (λ x. place (x.turn + n) x.place.turn x.place.place.turn) (λ x.
+        place x.turn x.place.turn x.place.place.turn) f) (raise_rows band n top count) (top + count) n (colour % 16) c f (omega arith) (omega arith)
+        (omega arith)
+        (λ y u. bands.rows_raised CardState (Four ℕ) card_meaning 0xA0000 65536 band start rows top height window (Drawn rest e d copying)
+        (cell_moved law rest e d on) n count y f (omega arith) (λ l. some (omega arith)) u) t in
+        record {
+          cells = x.cells;
+          shown = x.shown;
+          fact = shifts.gone_up (Four ℕ) w h start left width top height wide high window.across n few (lined false (colour % 16) 0xFF) (λ x q.
+              masked (colour % 16) (filling_byte (plain 0xFF) x.place.place.turn) (masked 0x0F (filling_byte (plain 0x00) x.place.place.turn) q)) (λ x q.
+              filling_is (colour % 16) x.place.place.turn q) f x.fact.mid x.cells x.fact.moved x.fact.edited;
+        }
 
-  pub went_down : (n colour : ℕ) (c : CardState) (f : ℕ → Four ℕ) → n ≤ height → (0 < height → 0 < n) → Drawn rest e d at_rest c f
-      → Leaves CardState (Four ℕ) (Drawn rest e d at_rest) (run card_meaning (down_plan band top height n colour) c).0 (shifts.GoneDown (Four ℕ) w h start left width top height wide high window.across n (lined false (colour % 16) 0xFF) f)
-  unfolding down_plan fill_plan
-  went_down n colour c f few some t =
-      let count = height - n in
-      let x = shifted (Moved (Four ℕ) (Rows top (top + count)) (λ x. place x.turn x.place.turn x.place.place.turn) (λ x. place (x.turn + n) x.place.turn x.place.place.turn) f) (lower_rows band n top count) top n (colour % 16) c f (omega arith) (omega arith) (omega arith)
-      (λ y u. bands.rows_lowered CardState (Four ℕ) card_meaning 0xA0000 65536 band start rows top height window (Drawn rest e d copying) (cell_moved law rest e d on) n count y f (omega arith) (λ l. some (omega arith)) u) t in
-      record {
-        cells = x.cells;
-        shown = x.shown;
-        fact = shifts.gone_down (Four ℕ) w h start left width top height wide high window.across n few (lined false (colour % 16) 0xFF) (λ x q. masked (colour % 16) (filling_byte (plain 0xFF) x.place.place.turn) (masked 0x0F (filling_byte (plain 0x00) x.place.place.turn) q)) (λ x q. filling_is (colour % 16) x.place.place.turn q) f x.fact.mid x.cells x.fact.moved x.fact.edited;
-      }
+    pub went_down : (n colour : ℕ) (c : CardState) (f : ℕ → Four ℕ) → n ≤ height → (0 < height → 0 < n) → Drawn rest e d at_rest c f
+        → Leaves CardState (Four ℕ) (Drawn rest e d at_rest) (run card_meaning (down_plan band top height n colour) c).0
+        (shifts.GoneDown (Four ℕ) w h start left width top height wide high window.across n (lined false (colour % 16) 0xFF) f)
+    unfolding down_plan fill_plan
+    went_down n colour c f few some t =
+        let count = height - n in
+        let x = shifted (Moved (Four ℕ) (Rows top (top + count)) (λ x. place x.turn x.place.turn x.place.place.turn) (λ x.
+        place (x.turn + n) x.place.turn x.place.place.turn) f) (lower_rows band n top count) top n (colour % 16) c f (omega arith) (omega arith) (omega arith)
+        (λ y u. bands.rows_lowered CardState (Four ℕ) card_meaning 0xA0000 65536 band start rows top height window (Drawn rest e d copying)
+        (cell_moved law rest e d on) n count y f (omega arith) (λ l. some (omega arith)) u) t in
+        record {
+          cells = x.cells;
+          shown = x.shown;
+          fact = shifts.gone_down (Four ℕ) w h start left width top height wide high window.across n few (lined false (colour % 16) 0xFF) (λ x q.
+              masked (colour % 16) (filling_byte (plain 0xFF) x.place.place.turn) (masked 0x0F (filling_byte (plain 0x00) x.place.place.turn) q)) (λ x q.
+              filling_is (colour % 16) x.place.place.turn q) f x.fact.mid x.cells x.fact.moved x.fact.edited;
+        }

@@ -40,7 +40,8 @@ use Rattle.bios_screen.proofs.Text.Writes.{inside_test, before_test, behind_test
 use Rattle.bios_screen.proofs.Planar.Settings.{at_rest, without_drawing}
 use Rattle.bios_screen.proofs.Planar.Bits.{nibble_of}
 use Rattle.bios_screen.proofs.Planar.Characters.{Drawn, lined, dotted_by, glyph_by, glyph_drawn, pixel_lined}
-use Rattle.bios_screen.proofs.Base.CellPlaces.{cell_of, line_of, strip_at, strip_of_cell, cell_of_strip, line_of_strip, strip_within, pixel_cell_is, pixel_line_is}
+use Rattle.bios_screen.proofs.Base.CellPlaces.{cell_of, line_of, strip_at, strip_of_cell, cell_of_strip, line_of_strip, strip_within, pixel_cell_is}
+use Rattle.bios_screen.proofs.Base.CellPlaces.{pixel_line_is}
 use Rattle.bios_screen.proofs.Planar.Screens as screens
 use Rattle.bios_screen.proofs.Planar.Reads.{enabled_by}
 use Rattle.bios_screen.proofs.Pixels.Writes as writes
@@ -89,11 +90,13 @@ one_wide : (w left : ℕ) → left < w → 1 * (min left (w - 1) + 1 - left) ≡
 one_wide w left l = omega arith
 
 -- a band of one byte
-plan_is : (band : Band) (row : ℕ) (fonts : FontSet) (character colour : ℕ) → planar_plan (record band { width = 1 }) row fonts character colour ≡ glyph_by (is_set colour 7) (λ r. address_in band row r 0) (glyph_line fonts band.lines character) band.lines (colour % 16)
+plan_is : (band : Band) (row : ℕ) (fonts : FontSet) (character colour : ℕ) → planar_plan (record band { width = 1 }) row fonts character colour
+    ≡ glyph_by (is_set colour 7) (λ r. address_in band row r 0) (glyph_line fonts band.lines character) band.lines (colour % 16)
 unfolding planar_plan plain_plan xor_plan put_glyph put_glyph_over fill_row fill_line
 plan_is band row fonts character colour = refl
 
-module _ (law : KeepsBounds) (m : Planes) (c : CardState) (d : BiosData) (t : IsPlanar m c d) (e : row_at d.mode d.height ≡ Some (row_of m)) (z : IsCard c) where
+module _ (law : KeepsBounds) (m : Planes) (c : CardState) (d : BiosData) (t : IsPlanar m c d) (e : row_at d.mode d.height ≡ Some (row_of m))
+    (z : IsCard c) where
   abbrev s : Screen
   s = pixel_screen (row_of m) c d
 
@@ -120,9 +123,11 @@ module _ (law : KeepsBounds) (m : Planes) (c : CardState) (d : BiosData) (t : Is
   place p q r = d.size * p + strip_at w h q r
 
   pub address_is : (p q r : ℕ) → address_in (column_by Planar d p (q % w)) (q / w) r 0 ≡ 0xA0000 + place p q r
-  address_is p q r = ap (λ n. n + d.size * p + 1 * w * (h * (q / w) + r) + 1 * (q % w) + 0) (ap page_base t.number ∙ base_by m) ∙ address_sum (d.size * p) w h (q / w) r (q % w)
+  address_is p q r = ap (λ n. n + d.size * p + 1 * w * (h * (q / w) + r) + 1 * (q % w) + 0) (ap page_base t.number ∙ base_by m)
+      ∙ address_sum (d.size * p) w h (q / w) r (q % w)
 
-  character_is : (fonts : FontSet) (p q character : ℕ) (colouring : Colouring) → character_plan fonts d p q character colouring ≡ glyph_by (is_set colouring.colour 7) (λ r. 0xA0000 + place p q r) (glyph_line fonts h character) h (colouring.colour % 16)
+  character_is : (fonts : FontSet) (p q character : ℕ) (colouring : Colouring) → character_plan fonts d p q character colouring
+      ≡ glyph_by (is_set colouring.colour 7) (λ r. 0xA0000 + place p q r) (glyph_line fonts h character) h (colouring.colour % 16)
   unfolding character_by
   character_is fonts p q character colouring =
       let kind = ap kind_of t.number ∙ kind_by m in
@@ -153,16 +158,19 @@ module _ (law : KeepsBounds) (m : Planes) (c : CardState) (d : BiosData) (t : Is
   Lines n = Turn (λ _. Turn (λ _. Unit {0}) 0 h) 0 n
 
   abbrev AreDrawn : FontSet → ℕ → ℕ → ℕ → ℕ → ℕ → (ℕ → Four ℕ) → (ℕ → Four ℕ) → Type 0
-  AreDrawn fonts p q n character colour f = Edited (Four ℕ) (Lines n) (λ i. place p (q + i.turn) i.place.turn) (λ i x. lined (is_set colour 7) (colour % 16) (glyph_line fonts h character i.place.turn) x) f
+  AreDrawn fonts p q n character colour f = Edited (Four ℕ) (Lines n) (λ i. place p (q + i.turn) i.place.turn) (λ i x.
+      lined (is_set colour 7) (colour % 16) (glyph_line fonts h character i.place.turn) x) f
 
   characters : (fonts : FontSet) (p q n character : ℕ) (colouring : Colouring) → p < (row_of m).pages → q + n ≤ cells_of d
-      → Leaves CardState (Four ℕ) (Drawn (without_drawing c) misc clocking at_rest) (run card_meaning (characters_plan fonts d p q character colouring n) c).0 (AreDrawn fonts p q n character colouring.colour old)
+      → Leaves CardState (Four ℕ) (Drawn (without_drawing c) misc clocking at_rest) (run card_meaning (characters_plan fonts d p q character colouring n) c).0
+      (AreDrawn fonts p q n character colouring.colour old)
   unfolding characters_plan
   characters fonts p q n character colouring lp lq =
       let b = is_set colouring.colour 7 in
       let mask = colouring.colour % 16 in
       let g = glyph_line fonts h character in
-      edits CardState (Four ℕ) card_meaning (λ i. character_plan fonts d p (q + i) character colouring) (λ _. Drawn (without_drawing c) misc clocking at_rest) 0 n (λ _. Turn (λ _. Unit {0}) 0 h)
+      edits CardState (Four ℕ) card_meaning (λ i. character_plan fonts d p (q + i) character colouring) (λ _. Drawn (without_drawing c) misc clocking at_rest) 0
+      n (λ _. Turn (λ _. Unit {0}) 0 h)
       (λ i r. place p (q + i) r.turn) (λ i r x. lined b mask (g r.turn) x)
       (λ i j r k lb lo hi y.
       let a = cell_of_strip w h (q + i) r.turn wide r.before in
@@ -170,7 +178,8 @@ module _ (law : KeepsBounds) (m : Planes) (c : CardState) (d : BiosData) (t : Is
       let same : strip_at w h (q + i) r.turn ≡ strip_at w h (q + j) k.turn = omega arith in
       let one = ap (cell_of w h) same in
       absurd (omega arith))
-      (λ i u f lb l v. subst (λ plan. Leaves CardState (Four ℕ) (Drawn (without_drawing c) misc clocking at_rest) (run card_meaning plan u).0 (Edited (Four ℕ) (Turn (λ _. Unit {0}) 0 h) (λ r. place p (q + i) r.turn) (λ r x. lined b mask (g r.turn) x) f))
+      (λ i u f lb l v. subst (λ plan. Leaves CardState (Four ℕ) (Drawn (without_drawing c) misc clocking at_rest) (run card_meaning plan u).0
+      (Edited (Four ℕ) (Turn (λ _. Unit {0}) 0 h) (λ r. place p (q + i) r.turn) (λ r x. lined b mask (g r.turn) x) f))
       (sym (character_is fonts p (q + i) character colouring))
       (glyph_drawn law (without_drawing c) misc clocking (enabled_by m) (place p (q + i)) h (λ r lr. (within p (q + i) r lp (omega arith) lr).1)
       (λ j k lo hi y.
@@ -184,16 +193,20 @@ module _ (law : KeepsBounds) (m : Planes) (c : CardState) (d : BiosData) (t : Is
 
   -- what a dot makes of a pixel, in a mode of sixteen colours
   dot_is : (colour : ℕ) (is_dot : Bool) (x : ℕ) → dotted_by (is_set colour 7) (colour % 16) is_dot x ≡ glyph_pixel d.mode colour is_dot x
-  dot_is colour is_dot x = sym (ap (λ b. if is_dot then (if b then colour else if is_set colour 7 then Rattle.std.specs.Prelude.bit_xor x (colour % 16) else colour % 16) else if not b && is_set colour 7 then x else 0) (ap is_packed t.number ∙ packed_by m))
+  dot_is colour is_dot x = sym (ap (λ b. if is_dot then (if b then colour else if is_set colour 7 then Rattle.std.specs.Prelude.bit_xor x (colour % 16)
+      else colour % 16) else if not b && is_set colour 7 then x else 0) (ap is_packed t.number ∙ packed_by m))
 
-  pub characters_shown : (fonts : FontSet) (p q n character : ℕ) (colouring : Colouring) → p < (row_of m).pages → q + n ≤ cells_of d → shown (run card_meaning (characters_plan fonts d p q character colouring n) c).0 d ≡ Some (with_pixels s p (draw_characters fonts s q n character colouring.colour))
+  pub characters_shown : (fonts : FontSet) (p q n character : ℕ) (colouring : Colouring) → p < (row_of m).pages → q + n ≤ cells_of d →
+      shown (run card_meaning (characters_plan fonts d p q character colouring n) c).0 d
+      ≡ Some (with_pixels s p (draw_characters fonts s q n character colouring.colour))
   characters_shown fonts p q n character colouring lp lq =
       let after = characters fonts p q n character colouring lp lq in
       let f = after.cells in
       let b = is_set colouring.colour 7 in
       let mask = colouring.colour % 16 in
       let g = glyph_line fonts h character in
-      screens.page_redrawn m c d t e z p (run card_meaning (characters_plan fonts d p q character colouring n) c).0 f after.shown.latches (draw_characters fonts s q n character colouring.colour) lp after.shown.is
+      screens.page_redrawn m c d t e z p (run card_meaning (characters_plan fonts d p q character colouring n) c).0 f after.shown.latches
+      (draw_characters fonts s q n character colouring.colour) lp after.shown.is
       (λ k lk.
       let i = k / 8 in
       let j = k % 8 in
@@ -202,7 +215,9 @@ module _ (law : KeepsBounds) (m : Planes) (c : CardState) (d : BiosData) (t : Is
       let was = screens.pixel_is m c d t e z p k lp lk in
       let cell_is : pixel_cell s k ≡ cell = pixel_cell_is w h k wide in
       let line_is : pixel_line s k ≡ line = pixel_line_is w h k wide in
-      let stays : (nat_le q (pixel_cell s k) && nat_lt (pixel_cell s k) (q + n)) ≡ false → ((x : Lines n) → d.size * p + i ≢ place p (q + x.turn) x.place.turn) → nibble_of (f (d.size * p + i)) j ≡ draw_characters fonts s q n character colouring.colour (pixel_of s p) k = λ test o.
+      let stays : (nat_le q (pixel_cell s k) && nat_lt (pixel_cell s k) (q + n)) ≡ false →
+      ((x : Lines n) → d.size * p + i ≢ place p (q + x.turn) x.place.turn) → nibble_of (f (d.size * p + i)) j
+      ≡ draw_characters fonts s q n character colouring.colour (pixel_of s p) k = λ test o.
       ap (λ (x : Four ℕ). nibble_of x j) (after.fact.outside (d.size * p + i) o) ∙ sym was
       ∙ sym (ap (λ v. if v then glyph_pixel d.mode colouring.colour (is_set (g (pixel_line s k)) (7 - j)) (pixel_of s p k) else pixel_of s p k) test) in
       let other : (x : Lines n) → d.size * p + i ≡ place p (q + x.turn) x.place.turn → cell ≡ q + x.turn = λ x y.
@@ -213,9 +228,15 @@ module _ (law : KeepsBounds) (m : Planes) (c : CardState) (d : BiosData) (t : Is
       (λ (lo : q ≤ pixel_cell s k). ⊎_elim
       (λ (hi : pixel_cell s k < q + n).
       let u = pixel_cell s k - q in
-      let x : Lines n = record { turn = u; from = omega arith; before = omega arith; place = record { turn = line; from = omega arith; before = mod-lt (i / w) high; place = tt } } in
+      let x : Lines n = record {
+        turn = u;
+        from = omega arith;
+        before = omega arith;
+        place = record { turn = line; from = omega arith; before = mod-lt (i / w) high; place = tt };
+      } in
       let cell_u : q + u ≡ cell = omega arith in
-      let at : place p (q + u) line ≡ d.size * p + i = ap (λ v. d.size * p + strip_at w h v line) cell_u ∙ ap (λ v. d.size * p + v) (strip_of_cell w h i wide high) in
+      let at : place p (q + u) line ≡ d.size * p + i = ap (λ v. d.size * p + strip_at w h v line) cell_u
+      ∙ ap (λ v. d.size * p + v) (strip_of_cell w h i wide high) in
       ap (λ v. nibble_of (f v) j) (sym at)
       ∙ ap (λ (v : Four ℕ). nibble_of v j) (after.fact.inside x)
       ∙ ap (λ v. nibble_of (lined b mask (g line) (old v)) j) at
@@ -223,7 +244,8 @@ module _ (law : KeepsBounds) (m : Planes) (c : CardState) (d : BiosData) (t : Is
       ∙ ap (dotted_by b mask (is_set (g line) (7 - j))) (sym was)
       ∙ dot_is colouring.colour (is_set (g line) (7 - j)) (pixel_of s p k)
       ∙ ap (λ v. glyph_pixel d.mode colouring.colour (is_set (g v) (7 - j)) (pixel_of s p k)) (sym line_is)
-      ∙ sym (ap (λ v. if v then glyph_pixel d.mode colouring.colour (is_set (g (pixel_line s k)) (7 - j)) (pixel_of s p k) else pixel_of s p k) (inside_test q (pixel_cell s k) n lo hi)))
+      ∙ sym (ap (λ v. if v then glyph_pixel d.mode colouring.colour (is_set (g (pixel_line s k)) (7 - j)) (pixel_of s p k)
+      else pixel_of s p k) (inside_test q (pixel_cell s k) n lo hi)))
       (λ (hi : q + n ≤ pixel_cell s k). stays (behind_test q (pixel_cell s k) n hi) (λ x y. let v = other x y in let l = x.before in absurd (omega arith)))
       (cases_lt (pixel_cell s k) (q + n)))
       (cases_lt (pixel_cell s k) q))
@@ -233,4 +255,5 @@ module _ (law : KeepsBounds) (m : Planes) (c : CardState) (d : BiosData) (t : Is
       ⊎_elim (λ (a : o < d.size * p). absurd (omega arith)) (λ (a : d.size * p + d.size ≤ o). absurd (omega arith)) out))
 
   pub write_cells : (cells : CellRun) (fonts : FontSet) (r : Regs) (block : List ℕ) → IsServed (WriteCells cells) fonts r block c d s
-  write_cells cells fonts r block = writes.write_cells (row_of m) c d e cells fonts r block (λ p q lp lq. characters_shown fonts p q cells.count cells.character cells.colouring lp lq)
+  write_cells cells fonts r block = writes.write_cells (row_of m) c d e cells fonts r block (λ p q lp lq.
+      characters_shown fonts p q cells.count cells.character cells.colouring lp lq)

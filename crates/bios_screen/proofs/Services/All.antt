@@ -14,7 +14,8 @@ use Rattle.bios_services.specs.declared.cell_run.CellRun.{CellRun}
 use Rattle.bios_services.specs.declared.strings.StringCall.{StringCall}
 use Rattle.bios_services.specs.declared.colours.ColourService.{ColourService}
 use Rattle.bios_services.specs.declared.call.Service.{Service}
-use Rattle.bios_services.specs.declared.call.Service.TheVariants.{SetCursorType, SetCursor, ReadCursor, SelectPage, ReadCell, WriteCells, ScrollUp, ScrollDown, WritePixel, ReadPixel, Teletype, ReadMode, Colours, ReadAdapter, WriteString, ReadDisplay}
+use Rattle.bios_services.specs.declared.call.Service.TheVariants.{SetCursorType, SetCursor, ReadCursor, SelectPage, ReadCell, WriteCells, ScrollUp, ScrollDown}
+use Rattle.bios_services.specs.declared.call.Service.TheVariants.{WritePixel, ReadPixel, Teletype, ReadMode, Colours, ReadAdapter, WriteString, ReadDisplay}
 use Rattle.bios_screen.specs.Shown.{pixel_screen}
 use Rattle.bios_screen.specs.Served.{FitsBytes, IsServed, Serves, ServesText}
 use Rattle.bios_modes.specs.Bounds.{AreBytes}
@@ -46,7 +47,9 @@ use Rattle.bios_screen.proofs.Services.Strings as strings
 use Rattle.bios_screen.proofs.Services.Palette as coloured
 
 -- in text, and in graphics
-serves_both : (service : Service) → ((fonts : FontSet) (r : Regs) (block : List ℕ) (c : CardState) (d : BiosData) (h : IsShown c d) → IsBda d → IsServed service fonts r block c d (screen_shown c d h)) → ((fonts : FontSet) (r : Regs) (block : List ℕ) (c : CardState) (d : BiosData) (h : IsPixels c d) → IsServed service fonts r block c d (pixels_shown c d h)) → Serves service
+serves_both : (service : Service) → ((fonts : FontSet) (r : Regs) (block : List ℕ) (c : CardState) (d : BiosData) (h : IsShown c d) → IsBda d →
+    IsServed service fonts r block c d (screen_shown c d h)) → ((fonts : FontSet) (r : Regs) (block : List ℕ) (c : CardState) (d : BiosData)
+    (h : IsPixels c d) → IsServed service fonts r block c d (pixels_shown c d h)) → Serves service
 serves_both service f g fonts r block c d s bytes z bda e = by_kind (is_text d.mode) refl
   where
     by_kind : (b : Bool) → is_text d.mode ≡ b → IsServed service fonts r block c d s
@@ -54,8 +57,10 @@ serves_both service f g fonts r block c d s bytes z bda e = by_kind (is_text d.m
     by_kind false t = let x = pixels_of_shown c d s t e in subst (IsServed service fonts r block c d) x.screen (g fonts r block c d x.is)
 
 -- in all modes alike
-serves_any : (service : Service) → ((fonts : FontSet) (r : Regs) (block : List ℕ) (c : CardState) (d : BiosData) (h : IsAny c d) → AreBytes block → IsCard c → IsBda d → IsServed service fonts r block c d (any_screen c d h c)) → Serves service
-serves_any service f fonts r block c d s bytes z bda e = let x = any_is c d s e in subst (IsServed service fonts r block c d) x.screen (f fonts r block c d x.is bytes z bda)
+serves_any : (service : Service) → ((fonts : FontSet) (r : Regs) (block : List ℕ) (c : CardState) (d : BiosData) (h : IsAny c d) → AreBytes block → IsCard c →
+    IsBda d → IsServed service fonts r block c d (any_screen c d h c)) → Serves service
+serves_any service f fonts r block c d s bytes z bda e = let x = any_is c d s e in
+    subst (IsServed service fonts r block c d) x.screen (f fonts r block c d x.is bytes z bda)
 
 pub read_cursor : (page : ℕ) → Serves (ReadCursor page)
 read_cursor page = serves_any (ReadCursor page) (λ fonts r block c d h bytes z bda. any.read_cursor page fonts r block c d h)
@@ -70,21 +75,28 @@ pub read_display : Serves ReadDisplay
 read_display = serves_any ReadDisplay (λ fonts r block c d h bytes z bda. any.read_display fonts r block c d h)
 
 -- in text, in 16 colours and in 256
-serves_each : (service : Service) → ((fonts : FontSet) (r : Regs) (block : List ℕ) (c : CardState) (d : BiosData) (h : IsShown c d) → IsCard c → IsServed service fonts r block c d (screen_shown c d h))
-    → ((m : Planes) (fonts : FontSet) (r : Regs) (block : List ℕ) (c : CardState) (d : BiosData) → IsPlanar m c d → row_at d.mode d.height ≡ Some (row_of m) → IsCard c → IsServed service fonts r block c d (pixel_screen (row_of m) c d))
-    → ((fonts : FontSet) (r : Regs) (block : List ℕ) (c : CardState) (d : BiosData) → IsPacked c d → row_at d.mode d.height ≡ Some bytes_320_by_200 → IsCard c → IsServed service fonts r block c d (pixel_screen bytes_320_by_200 c d))
+serves_each : (service : Service) → ((fonts : FontSet) (r : Regs) (block : List ℕ) (c : CardState) (d : BiosData) (h : IsShown c d) → IsCard c →
+    IsServed service fonts r block c d (screen_shown c d h))
+    → ((m : Planes) (fonts : FontSet) (r : Regs) (block : List ℕ) (c : CardState) (d : BiosData) → IsPlanar m c d → row_at d.mode d.height ≡ Some (row_of m) →
+    IsCard c → IsServed service fonts r block c d (pixel_screen (row_of m) c d))
+    → ((fonts : FontSet) (r : Regs) (block : List ℕ) (c : CardState) (d : BiosData) → IsPacked c d → row_at d.mode d.height ≡ Some bytes_320_by_200 → IsCard c →
+    IsServed service fonts r block c d (pixel_screen bytes_320_by_200 c d))
     → Serves service
 serves_each service text planar packed fonts r block c d s bytes z bda e = by_kind (is_text d.mode) refl
   where
     by_kind : (b : Bool) → is_text d.mode ≡ b → IsServed service fonts r block c d s
     by_kind true t = let x = shown_is c d s t e in subst (IsServed service fonts r block c d) x.screen (text fonts r block c d x.is z)
-    by_kind false t = by_colours c d (IsServed service fonts r block c d) (λ m is row. planar m fonts r block c d is row z) (λ is row. packed fonts r block c d is row z) s t e
+    by_kind false t = by_colours c d (IsServed service fonts r block c d) (λ m is row. planar m fonts r block c d is row z) (λ is row.
+        packed fonts r block c d is row z) s t e
 
 pub write_pixel : KeepsBounds → (page x y colour : ℕ) → colour < 256 → Serves (WritePixel page x y colour)
-write_pixel law page x y colour l = serves_each (WritePixel page x y colour) (λ fonts r block c d h z. readers.write_pixel page x y colour fonts r block c d h) (λ m fonts r block c d t e z. planar_dots.write_pixel law m c d t e z page x y colour fonts r block) (λ fonts r block c d t e z. packed_pixels.write_pixel c d t e z page x y colour fonts r block l)
+write_pixel law page x y colour l = serves_each (WritePixel page x y colour) (λ fonts r block c d h z. readers.write_pixel page x y colour fonts r block c d h)
+    (λ m fonts r block c d t e z. planar_dots.write_pixel law m c d t e z page x y colour fonts r block) (λ fonts r block c d t e z.
+    packed_pixels.write_pixel c d t e z page x y colour fonts r block l)
 
 pub read_pixel : (page x y : ℕ) → Serves (ReadPixel page x y)
-read_pixel page x y = serves_each (ReadPixel page x y) (λ fonts r block c d h z. readers.read_pixel page x y fonts r block c d h) (λ m fonts r block c d t e z. planar_reads.read_pixel m c d t e z page x y fonts r block) (λ fonts r block c d t e z. packed_pixels.read_pixel c d t e z page x y fonts r block)
+read_pixel page x y = serves_each (ReadPixel page x y) (λ fonts r block c d h z. readers.read_pixel page x y fonts r block c d h) (λ m fonts r block c d t e z.
+    planar_reads.read_pixel m c d t e z page x y fonts r block) (λ fonts r block c d t e z. packed_pixels.read_pixel c d t e z page x y fonts r block)
 
 -- in text whatever the arguments are
 pub dot_refused : (page x y colour : ℕ) → ServesText (WritePixel page x y colour)
@@ -98,28 +110,38 @@ read_refused page x y fonts r block c d s bytes z bda e text =
     subst (IsServed (ReadPixel page x y) fonts r block c d) x1.screen (readers.read_pixel page x y fonts r block c d x1.is)
 
 pub set_cursor_type : (type : ℕ) → Serves (SetCursorType type)
-set_cursor_type type = serves_both (SetCursorType type) (λ fonts r block c d h bda. cursors.set_cursor_type type fonts r block c d h) (λ fonts r block c d h. pixel_cursors.set_cursor_type c d h type fonts r block)
+set_cursor_type type = serves_both (SetCursorType type) (λ fonts r block c d h bda. cursors.set_cursor_type type fonts r block c d h) (λ fonts r block c d h.
+    pixel_cursors.set_cursor_type c d h type fonts r block)
 
 pub set_cursor : (page place : ℕ) → place < 65536 → Serves (SetCursor page place)
-set_cursor page place l = serves_both (SetCursor page place) (λ fonts r block c d h bda. cursors.set_cursor page place fonts r block c d h l bda) (λ fonts r block c d h. pixel_cursors.set_cursor c d h page place fonts r block)
+set_cursor page place l = serves_both (SetCursor page place) (λ fonts r block c d h bda. cursors.set_cursor page place fonts r block c d h l bda)
+    (λ fonts r block c d h. pixel_cursors.set_cursor c d h page place fonts r block)
 
 pub select_page : (page : ℕ) → Serves (SelectPage page)
-select_page page = serves_both (SelectPage page) (λ fonts r block c d h bda. cursors.select_page page fonts r block c d h bda) (λ fonts r block c d h. pixel_cursors.select_page c d h page fonts r block)
+select_page page = serves_both (SelectPage page) (λ fonts r block c d h bda. cursors.select_page page fonts r block c d h bda) (λ fonts r block c d h.
+    pixel_cursors.select_page c d h page fonts r block)
 
 pub read_cell : KeepsBounds → (page : ℕ) → Serves (ReadCell page)
-read_cell law page = serves_each (ReadCell page) (λ fonts r block c d h z. writes.read_cell page fonts r block c d h z) (λ m fonts r block c d t e z. planar_cells.read_cell law m c d t e z page fonts r block) (λ fonts r block c d t e z. packed_cells.read_cell law c d t e z page fonts r block)
+read_cell law page = serves_each (ReadCell page) (λ fonts r block c d h z. writes.read_cell page fonts r block c d h z) (λ m fonts r block c d t e z.
+    planar_cells.read_cell law m c d t e z page fonts r block) (λ fonts r block c d t e z. packed_cells.read_cell law c d t e z page fonts r block)
 
 pub write_cells : KeepsBounds → (cells : CellRun) → cells.character < 256 → cells.colouring.colour < 256 → Serves (WriteCells cells)
-write_cells law cells lv la = serves_each (WriteCells cells) (λ fonts r block c d h z. writes.write_cells cells fonts r block c d h z lv la) (λ m fonts r block c d t e z. planar_writes.write_cells law m c d t e z cells fonts r block) (λ fonts r block c d t e z. packed_writes.write_cells law c d t e z cells fonts r block la)
+write_cells law cells lv la = serves_each (WriteCells cells) (λ fonts r block c d h z. writes.write_cells cells fonts r block c d h z lv la)
+    (λ m fonts r block c d t e z. planar_writes.write_cells law m c d t e z cells fonts r block) (λ fonts r block c d t e z.
+    packed_writes.write_cells law c d t e z cells fonts r block la)
 
 pub scroll_up : KeepsBounds → (window : Scroll) → window.fill < 256 → Serves (ScrollUp window)
-scroll_up law window l = serves_each (ScrollUp window) (λ fonts r block c d h z. windows.scroll_up window fonts r block c d h z l) (λ m fonts r block c d t e z. planar_scrolls.scroll_up law m c d t e z window fonts r block) (λ fonts r block c d t e z. packed_scrolls.scroll_up law c d t e z window l fonts r block)
+scroll_up law window l = serves_each (ScrollUp window) (λ fonts r block c d h z. windows.scroll_up window fonts r block c d h z l) (λ m fonts r block c d t e z.
+    planar_scrolls.scroll_up law m c d t e z window fonts r block) (λ fonts r block c d t e z. packed_scrolls.scroll_up law c d t e z window l fonts r block)
 
 pub scroll_down : KeepsBounds → (window : Scroll) → window.fill < 256 → Serves (ScrollDown window)
-scroll_down law window l = serves_each (ScrollDown window) (λ fonts r block c d h z. windows.scroll_down window fonts r block c d h z l) (λ m fonts r block c d t e z. planar_scrolls.scroll_down law m c d t e z window fonts r block) (λ fonts r block c d t e z. packed_scrolls.scroll_down law c d t e z window l fonts r block)
+scroll_down law window l = serves_each (ScrollDown window) (λ fonts r block c d h z. windows.scroll_down window fonts r block c d h z l)
+    (λ m fonts r block c d t e z. planar_scrolls.scroll_down law m c d t e z window fonts r block) (λ fonts r block c d t e z.
+    packed_scrolls.scroll_down law c d t e z window l fonts r block)
 
 pub teletype : KeepsBounds → (character colour : ℕ) → character < 256 → colour < 256 → Serves (Teletype character colour)
-teletype law character colour l k = serves_any (Teletype character colour) (λ fonts r block c d h bytes z bda. teletypes.teletype law character colour l k fonts c d h z bda r block)
+teletype law character colour l k = serves_any (Teletype character colour) (λ fonts r block c d h bytes z bda.
+    teletypes.teletype law character colour l k fonts c d h z bda r block)
 
 pub write_string : KeepsBounds → (call : StringCall) → call.colour < 256 → Serves (WriteString call)
 write_string law call l = serves_any (WriteString call) (λ fonts r block c d h bytes z bda. strings.write_string law call fonts r block c d h bytes l z bda)

@@ -18,7 +18,8 @@ use Rattle.bios_screen.proofs.Shows.Any.{IsAny, any_screen, still_any}
 pub any_meant : (c : CardState) (d : BiosData) (h : IsAny c d) (page : ℕ) → page_named d page ≡ page_meant (any_screen c d h c) page
 any_meant c d h page = named_page h.row d h.mode page
 
-pub read_cursor : (page : ℕ) (fonts : FontSet) (r : Regs) (block : List ℕ) (c : CardState) (d : BiosData) (h : IsAny c d) → IsServed (ReadCursor page) fonts r block c d (any_screen c d h c)
+pub read_cursor : (page : ℕ) (fonts : FontSet) (r : Regs) (block : List ℕ) (c : CardState) (d : BiosData) (h : IsAny c d) →
+    IsServed (ReadCursor page) fonts r block c d (any_screen c d h c)
 unfolding plan_of refusal_in_mode refusal_on next answer_on
 read_cursor page fonts r block c d h = record {
   refusal = ap (λ n. no_page n (page_among n page)) (pages_are h.row d h.mode);
@@ -27,14 +28,17 @@ read_cursor page fonts r block c d h = record {
   beam = refl;
 }
 
-pub read_mode : (fonts : FontSet) (r : Regs) (block : List ℕ) (c : CardState) (d : BiosData) (h : IsAny c d) → IsServed ReadMode fonts r block c d (any_screen c d h c)
+pub read_mode : (fonts : FontSet) (r : Regs) (block : List ℕ) (c : CardState) (d : BiosData) (h : IsAny c d) →
+    IsServed ReadMode fonts r block c d (any_screen c d h c)
 unfolding plan_of refusal_in_mode refusal_on next answer_on
 read_mode fonts r block c d h = record { refusal = refl; answer = λ _. refl; shows = λ _. still_any c d h; beam = refl }
 
-pub read_adapter : (fonts : FontSet) (r : Regs) (block : List ℕ) (c : CardState) (d : BiosData) (h : IsAny c d) → IsServed ReadAdapter fonts r block c d (any_screen c d h c)
+pub read_adapter : (fonts : FontSet) (r : Regs) (block : List ℕ) (c : CardState) (d : BiosData) (h : IsAny c d) →
+    IsServed ReadAdapter fonts r block c d (any_screen c d h c)
 unfolding plan_of refusal_in_mode refusal_on next answer_on
 read_adapter fonts r block c d h = record { refusal = refl; answer = λ _. refl; shows = λ _. still_any c d h; beam = refl }
 
-pub read_display : (fonts : FontSet) (r : Regs) (block : List ℕ) (c : CardState) (d : BiosData) (h : IsAny c d) → IsServed ReadDisplay fonts r block c d (any_screen c d h c)
+pub read_display : (fonts : FontSet) (r : Regs) (block : List ℕ) (c : CardState) (d : BiosData) (h : IsAny c d) →
+    IsServed ReadDisplay fonts r block c d (any_screen c d h c)
 unfolding plan_of refusal_in_mode refusal_on next answer_on
 read_display fonts r block c d h = record { refusal = refl; answer = λ _. refl; shows = λ _. still_any c d h; beam = refl }

@@ -15,7 +15,8 @@ use Rattle.bios_services.specs.declared.call.Call.TheVariants.{SetMode, InMode}
 use Rattle.bios_services.specs.declared.call.Service.{Service}
 use Rattle.bios_services.specs.declared.call.Service.TheVariants.{ReadDisplay}
 use Rattle.bios_services.specs.Plan.{Plan, run, Done, ◌>>=◌}
-use Rattle.bios_services.specs.declared.colours.ColourService.TheVariants.{SetRegister, SetOverscan, SetPalette, SetBlinking, ReadRegister, ReadOverscan, SetEntry, SetEntries, ReadEntry, SetMask, ReadMask}
+use Rattle.bios_services.specs.declared.colours.ColourService.TheVariants.{SetRegister, SetOverscan, SetPalette, SetBlinking, ReadRegister, ReadOverscan}
+use Rattle.bios_services.specs.declared.colours.ColourService.TheVariants.{SetEntry, SetEntries, ReadEntry, SetMask, ReadMask}
 use Rattle.bios_services.specs.Registers.{high, low}
 use Rattle.bios_services.specs.CellRuns.{cell_run_of}
 use Rattle.bios_services.specs.Strings.{string_of}
@@ -111,39 +112,47 @@ call_is_served law r w =
 -- ---- the call around a service
 
 -- what a service's plan leaves, wrapped as an answer of a call
-pub record IsDone (service : Service) (fonts : FontSet) (r : Regs) (block : List ℕ) (c : CardState) (d : BiosData) (s : Screen) (x : CardState × Answered) : Type 0 where
+pub record IsDone (service : Service) (fonts : FontSet) (r : Regs) (block : List ℕ) (c : CardState) (d : BiosData) (s : Screen)
+    (x : CardState × Answered) : Type 0 where
   pub reply : x.1.0 ≡ reply_unless (refusal_on s service (length block)) (answer_on fonts s service r)
   pub shows : shown x.0 x.1.1 ≡ Some (screen_unless (refusal_on s service (length block)) s (next fonts s service block))
 
-done_unless : (service : Service) (fonts : FontSet) (r : Regs) (block : List ℕ) (c : CardState) (d : BiosData) (s : Screen) → shown c d ≡ Some s → IsServed service fonts r block c d s → IsDone service fonts r block c d s (run card_meaning (unless (refusal_on s service (length block)) service fonts d r block) c)
+done_unless : (service : Service) (fonts : FontSet) (r : Regs) (block : List ℕ) (c : CardState) (d : BiosData) (s : Screen) → shown c d ≡ Some s →
+    IsServed service fonts r block c d s → IsDone service fonts r block c d s (run card_meaning
+    (unless (refusal_on s service (length block)) service fonts d r block) c)
 unfolding unless
 done_unless service fonts r block c d s old i = by_refusal (refusal_on s service (length block)) refl
   where
     done : Outcome → Plan Answered
     done outcome = Done (answer_of outcome.0 outcome.1)
 
-    by_refusal : (x : Option Refusal) → refusal_on s service (length block) ≡ x → IsDone service fonts r block c d s (run card_meaning (unless (refusal_on s service (length block)) service fonts d r block) c)
+    by_refusal : (x : Option Refusal) → refusal_on s service (length block) ≡ x →
+        IsDone service fonts r block c d s (run card_meaning (unless (refusal_on s service (length block)) service fonts d r block) c)
     by_refusal (Some why) e =
-        let runs : run card_meaning (unless (refusal_on s service (length block)) service fonts d r block) c ≡ (c, (Err why, d)) = ap (λ x. run card_meaning (unless x service fonts d r block) c) e in
+        let runs : run card_meaning (unless (refusal_on s service (length block)) service fonts d r block) c ≡ (c, (Err why, d)) =
+        ap (λ x. run card_meaning (unless x service fonts d r block) c) e in
         record {
           reply = ap (λ x. x.1.0) runs ∙ sym (ap (λ x. reply_unless x (answer_on fonts s service r)) e);
           shows = ap (λ x. shown x.0 x.1.1) runs ∙ old ∙ sym (ap (λ x. Some (screen_unless x s (next fonts s service block))) e);
         }
     by_refusal None e =
-        let runs : run card_meaning (unless (refusal_on s service (length block)) service fonts d r block) c ≡ run card_meaning (plan_of service fonts d r block >>= done) c = ap (λ x. run card_meaning (unless x service fonts d r block) c) e in
+        let runs : run card_meaning (unless (refusal_on s service (length block)) service fonts d r block) c
+        ≡ run card_meaning (plan_of service fonts d r block >>= done) c = ap (λ x. run card_meaning (unless x service fonts d r block) c) e in
         let bound = run_bind card_meaning (plan_of service fonts d r block) done c in
         record {
           reply = ap (λ x. x.1.0) (runs ∙ bound) ∙ ap (λ q. reply_unless None q) (i.answer e) ∙ sym (ap (λ x. reply_unless x (answer_on fonts s service r)) e);
           shows = ap (λ x. shown x.0 x.1.1) (runs ∙ bound) ∙ i.shows e ∙ sym (ap (λ x. Some (screen_unless x s (next fonts s service block))) e);
         }
 
-call_done : (service : Service) (fonts : FontSet) (r : Regs) (block : List ℕ) (c : CardState) (d : BiosData) (s : Screen) → call_of r ≡ Some (InMode service) → shown c d ≡ Some s → IsServed service fonts r block c d s → IsCalled service fonts r block c d s
+call_done : (service : Service) (fonts : FontSet) (r : Regs) (block : List ℕ) (c : CardState) (d : BiosData) (s : Screen) → call_of r ≡ Some (InMode service) →
+    shown c d ≡ Some s → IsServed service fonts r block c d s → IsCalled service fonts r block c d s
 unfolding in_mode_plan
 call_done service fonts r block c d s e old i =
     let plan = unless (refusal_on s service (length block)) service fonts d r block in
     let runs : after_call fonts r block c d ≡ run card_meaning plan c =
     ap (λ (q : Option Call). run card_meaning (call_plan q fonts d r block) c) e
-    ∙ ap (λ b. run card_meaning (if b then refuse NoMode d else unless (refusal_in_mode service d (length block)) service fonts d r block) c) (mode_of_shown c d s old).set
+    ∙ ap (λ b. run card_meaning (if b then refuse NoMode d else unless (refusal_in_mode service d (length block)) service fonts d r block) c)
+    (mode_of_shown c d s old).set
     ∙ ap (λ q. run card_meaning (unless q service fonts d r block) c) i.refusal in
     let t = done_unless service fonts r block c d s old i in
     record {
@@ -155,19 +164,22 @@ call_done service fonts r block c d s e old i =
 served_if : (x : Option Call) (service : Service) → x ≡ Some (InMode service) → IsServedCall x → Serves service
 served_if x service e f = subst IsServedCall e f
 
-pub calls_lead : KeepsBounds → (service : Service) (fonts : FontSet) (r : Regs) (block : List ℕ) (c : CardState) (d : BiosData) (s : Screen) → IsCard c → IsBda d → AreWords r → AreBytes block → shown c d ≡ Some s → call_of r ≡ Some (InMode service) → IsCalled service fonts r block c d s
+pub calls_lead : KeepsBounds → (service : Service) (fonts : FontSet) (r : Regs) (block : List ℕ) (c : CardState) (d : BiosData) (s : Screen) → IsCard c →
+    IsBda d → AreWords r → AreBytes block → shown c d ≡ Some s → call_of r ≡ Some (InMode service) → IsCalled service fonts r block c d s
 calls_lead law service fonts r block c d s z bda w bytes old e =
     let serves = served_if (call_of r) service e (call_is_served law r w) in
     call_done service fonts r block c d s e old (serves fonts r block c d s bytes z bda old)
 
 -- a call for no service is refused
-pub unknown_refused : (fonts : FontSet) (r : Regs) (block : List ℕ) (c : CardState) (d : BiosData) (s : Screen) → shown c d ≡ Some s → call_of r ≡ None → after_call fonts r block c d ≡ (c, (Err BadFunction, d))
+pub unknown_refused : (fonts : FontSet) (r : Regs) (block : List ℕ) (c : CardState) (d : BiosData) (s : Screen) → shown c d ≡ Some s → call_of r ≡ None →
+    after_call fonts r block c d ≡ (c, (Err BadFunction, d))
 unknown_refused fonts r block c d s old e =
     ap (λ (q : Option Call). run card_meaning (call_plan q fonts d r block) c) e
     ∙ ap (λ b. let y : CardState × Answered = (c, (Err (if b then NoMode else BadFunction), d)) in y) (mode_of_shown c d s old).set
 
 -- and so is one for a mode that there is not
-pub mode_refused : (mode : ℕ) (keeps : Bool) (fonts : FontSet) (r : Regs) (block : List ℕ) (c : CardState) (d : BiosData) → call_of r ≡ Some (SetMode mode keeps) → mode_row mode ≡ None → after_call fonts r block c d ≡ (c, (Err BadMode, d))
+pub mode_refused : (mode : ℕ) (keeps : Bool) (fonts : FontSet) (r : Regs) (block : List ℕ) (c : CardState) (d : BiosData) →
+    call_of r ≡ Some (SetMode mode keeps) → mode_row mode ≡ None → after_call fonts r block c d ≡ (c, (Err BadMode, d))
 unfolding set_mode_plan
 mode_refused mode keeps fonts r block c d e none =
     ap (λ (q : Option Call). run card_meaning (call_plan q fonts d r block) c) e

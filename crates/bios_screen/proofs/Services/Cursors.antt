@@ -21,7 +21,8 @@ use Rattle.bios_services.specs.Plan.{Plan, run, Done, ◌>>=◌, ◌>>◌}
 use Rattle.bios_services.specs.Registers.{high, low}
 use Rattle.bios_services.specs.Cycles.{crtc}
 use Rattle.bios_modes.specs.Kinds.{is_text}
-use Rattle.bios_services.specs.Cursor.{word_plan, cursor_plan, page_plan, cursor_address, start_address, place_of, with_place, with_page, move_cursor_plan, cursor_type_plan}
+use Rattle.bios_services.specs.Cursor.{word_plan, cursor_plan, page_plan, cursor_address, start_address, place_of, with_place, with_page, move_cursor_plan}
+use Rattle.bios_services.specs.Cursor.{cursor_type_plan}
 use Rattle.bios_services.specs.Reasons.{no_page}
 use Rattle.bios_services.specs.Refusals.{page_among, page_named, refusal_in_mode}
 use Rattle.bios_services.specs.Service.{plan_of, Outcome}
@@ -51,7 +52,10 @@ with_crtc c l i = record c { crtc = record c.crtc { registers = l; index = i } }
 
 -- ---- the registers, which are literals but for what the data say
 
-type_by : (mode : Tabled) (c : CardState) (row : ModeRow) (type start location new : ℕ) → (run card_meaning (crtc (port_of mode) 0x0A (high new) >> crtc (port_of mode) 0x0B (low new)) (card_at (with_crtc c (crtc_registers row type start location) c.crtc.index) (setting_of mode))).0 ≡ with_crtc (card_at c (setting_of mode)) (crtc_registers row new start location) 0x0B
+type_by : (mode : Tabled) (c : CardState) (row : ModeRow) (type start location new : ℕ) →
+    (run card_meaning (crtc (port_of mode) 0x0A (high new) >> crtc (port_of mode) 0x0B (low new))
+    (card_at (with_crtc c (crtc_registers row type start location) c.crtc.index) (setting_of mode))).0
+    ≡ with_crtc (card_at c (setting_of mode)) (crtc_registers row new start location) 0x0B
 unfolding reached_by crtc_port_of out_at after_crtc
 type_by (OfText Colour) c row type start location new = refl
 type_by (OfText Monochrome) c row type start location new = refl
@@ -60,7 +64,9 @@ type_by (OfPixels (Sixteen Middle)) c row type start location new = refl
 type_by (OfPixels (Sixteen High)) c row type start location new = refl
 type_by (OfPixels Many) c row type start location new = refl
 
-pub type_set : (mode : Tabled) (c : CardState) (row : ModeRow) (type start location new : ℕ) → setting c ≡ setting_of mode → c.crtc.registers ≡ crtc_registers row type start location → (run card_meaning (crtc (port_of mode) 0x0A (high new) >> crtc (port_of mode) 0x0B (low new)) c).0 ≡ with_crtc c (crtc_registers row new start location) 0x0B
+pub type_set : (mode : Tabled) (c : CardState) (row : ModeRow) (type start location new : ℕ) → setting c ≡ setting_of mode →
+    c.crtc.registers ≡ crtc_registers row type start location → (run card_meaning (crtc (port_of mode) 0x0A (high new)
+    >> crtc (port_of mode) 0x0B (low new)) c).0 ≡ with_crtc c (crtc_registers row new start location) 0x0B
 type_set mode c row type start location new e r =
     let plan = crtc (port_of mode) 0x0A (high new) >> crtc (port_of mode) 0x0B (low new) in
     ap (λ s. (run card_meaning plan (card_at c s)).0) e
@@ -72,7 +78,9 @@ type_set mode c row type start location new e r =
 abbrev located : ModeRow → ℕ → ℕ → ℕ → ℕ → List ℕ
 located row type start h l = slice_set (slice_set (crtc_registers row type start 0) 0x0E h) 0x0F l
 
-location_by : (mode : Tabled) (c : CardState) (row : ModeRow) (type start location n : ℕ) → (run card_meaning (word_plan (port_of mode) 0x0E n) (card_at (with_crtc c (crtc_registers row type start location) c.crtc.index) (setting_of mode))).0 ≡ with_crtc (card_at c (setting_of mode)) (located row type start (bit_and (n / 256) 0xFF) (bit_and (n % 256) 0xFF)) 0x0F
+location_by : (mode : Tabled) (c : CardState) (row : ModeRow) (type start location n : ℕ) →
+    (run card_meaning (word_plan (port_of mode) 0x0E n) (card_at (with_crtc c (crtc_registers row type start location) c.crtc.index) (setting_of mode))).0
+    ≡ with_crtc (card_at c (setting_of mode)) (located row type start (bit_and (n / 256) 0xFF) (bit_and (n % 256) 0xFF)) 0x0F
 unfolding word_plan reached_by crtc_port_of out_at after_crtc
 location_by (OfText Colour) c row type start location n = refl
 location_by (OfText Monochrome) c row type start location n = refl
@@ -81,7 +89,9 @@ location_by (OfPixels (Sixteen Middle)) c row type start location n = refl
 location_by (OfPixels (Sixteen High)) c row type start location n = refl
 location_by (OfPixels Many) c row type start location n = refl
 
-pub location_set : (mode : Tabled) (c : CardState) (row : ModeRow) (type start location n : ℕ) → setting c ≡ setting_of mode → c.crtc.registers ≡ crtc_registers row type start location → n < 65536 → (run card_meaning (word_plan (port_of mode) 0x0E n) c).0 ≡ with_crtc c (crtc_registers row type start n) 0x0F
+pub location_set : (mode : Tabled) (c : CardState) (row : ModeRow) (type start location n : ℕ) → setting c ≡ setting_of mode →
+    c.crtc.registers ≡ crtc_registers row type start location → n < 65536 → (run card_meaning (word_plan (port_of mode) 0x0E n) c).0
+    ≡ with_crtc c (crtc_registers row type start n) 0x0F
 location_set mode c row type start location n e r l =
     ap (λ s. (run card_meaning (word_plan (port_of mode) 0x0E n) (card_at c s)).0) e
     ∙ ap (λ x. (run card_meaning (word_plan (port_of mode) 0x0E n) (card_at (with_crtc c x c.crtc.index) (setting_of mode))).0) r
@@ -94,7 +104,9 @@ location_set mode c row type start location n e r l =
 abbrev started_at : ModeRow → ℕ → ℕ → ℕ → ℕ → List ℕ
 started_at row type location h l = slice_set (slice_set (crtc_registers row type 0 location) 0x0C h) 0x0D l
 
-start_by : (mode : Tabled) (c : CardState) (row : ModeRow) (type start location n : ℕ) → (run card_meaning (word_plan (port_of mode) 0x0C n) (card_at (with_crtc c (crtc_registers row type start location) c.crtc.index) (setting_of mode))).0 ≡ with_crtc (card_at c (setting_of mode)) (started_at row type location (bit_and (n / 256) 0xFF) (bit_and (n % 256) 0xFF)) 0x0D
+start_by : (mode : Tabled) (c : CardState) (row : ModeRow) (type start location n : ℕ) →
+    (run card_meaning (word_plan (port_of mode) 0x0C n) (card_at (with_crtc c (crtc_registers row type start location) c.crtc.index) (setting_of mode))).0
+    ≡ with_crtc (card_at c (setting_of mode)) (started_at row type location (bit_and (n / 256) 0xFF) (bit_and (n % 256) 0xFF)) 0x0D
 unfolding word_plan reached_by crtc_port_of out_at after_crtc
 start_by (OfText Colour) c row type start location n = refl
 start_by (OfText Monochrome) c row type start location n = refl
@@ -103,7 +115,9 @@ start_by (OfPixels (Sixteen Middle)) c row type start location n = refl
 start_by (OfPixels (Sixteen High)) c row type start location n = refl
 start_by (OfPixels Many) c row type start location n = refl
 
-pub start_set : (mode : Tabled) (c : CardState) (row : ModeRow) (type start location n : ℕ) → setting c ≡ setting_of mode → c.crtc.registers ≡ crtc_registers row type start location → n < 65536 → (run card_meaning (word_plan (port_of mode) 0x0C n) c).0 ≡ with_crtc c (crtc_registers row type n location) 0x0D
+pub start_set : (mode : Tabled) (c : CardState) (row : ModeRow) (type start location n : ℕ) → setting c ≡ setting_of mode →
+    c.crtc.registers ≡ crtc_registers row type start location → n < 65536 → (run card_meaning (word_plan (port_of mode) 0x0C n) c).0
+    ≡ with_crtc c (crtc_registers row type n location) 0x0D
 start_set mode c row type start location n e r l =
     ap (λ s. (run card_meaning (word_plan (port_of mode) 0x0C n) (card_at c s)).0) e
     ∙ ap (λ x. (run card_meaning (word_plan (port_of mode) 0x0C n) (card_at (with_crtc c x c.crtc.index) (setting_of mode))).0) r
@@ -115,17 +129,20 @@ start_set mode c row type start location n e r l =
 -- ---- the services
 
 -- a screen with other data: the tests that look at the BIOS data and at the CRT controller are given anew
-pub other_data : (c y : CardState) (d e : BiosData) (h : IsShown c d) → e.mode ≡ d.mode → (setting y ≡ setting c) → shows_attribute h.row y.attr ≡ true → shows_data h.row e ≡ true → y.crtc.registers ≡ text_crtc h.row e → shown y e ≡ Some (text_screen h.row y e)
-other_data c y d e h m s a data_test crtc = shown_of y e h.row (ap (λ n. row_at n e.height) m ∙ ap (row_at d.mode) ((data_is h.row e data_test).height ∙ sym h.has.height) ∙ h.mode) (record {
-  is_text = ap is_text m ∙ h.tests.is_text;
-  memory = ap (λ (x : Setting). (x.misc == h.row.misc) && (bytes_eq x.seq h.row.sequencer && bytes_eq x.gfx h.row.graphics)) s ∙ h.tests.memory;
-  data_test = data_test;
-  crtc = crtc;
-  attribute = a;
-})
+pub other_data : (c y : CardState) (d e : BiosData) (h : IsShown c d) → e.mode ≡ d.mode → (setting y ≡ setting c) → shows_attribute h.row y.attr ≡ true →
+    shows_data h.row e ≡ true → y.crtc.registers ≡ text_crtc h.row e → shown y e ≡ Some (text_screen h.row y e)
+other_data c y d e h m s a data_test crtc = shown_of y e h.row (ap (λ n. row_at n e.height) m
+    ∙ ap (row_at d.mode) ((data_is h.row e data_test).height ∙ sym h.has.height) ∙ h.mode) (record {
+      is_text = ap is_text m ∙ h.tests.is_text;
+      memory = ap (λ (x : Setting). (x.misc == h.row.misc) && (bytes_eq x.seq h.row.sequencer && bytes_eq x.gfx h.row.graphics)) s ∙ h.tests.memory;
+      data_test = data_test;
+      crtc = crtc;
+      attribute = a;
+    })
 
 -- no location of a cursor is past 65535
-location_small : (d : BiosData) (row : ModeRow) (disp : Display) (p place : ℕ) → IsTextRow disp d.mode row → HasData row d → p < row.pages → place < 65536 → d.size * p / 2 + (d.columns * (place / 256) + place % 256) < 65536
+location_small : (d : BiosData) (row : ModeRow) (disp : Display) (p place : ℕ) → IsTextRow disp d.mode row → HasData row d → p < row.pages → place < 65536 →
+    d.size * p / 2 + (d.columns * (place / 256) + place % 256) < 65536
 location_small d row disp p place text has lp l =
     let at : d.size * p / 2 ≡ text.half * p = half_start d.size text.half p (has.size ∙ text.even) in
     let pages = ends_before text.half p row.pages lp in
@@ -135,7 +152,9 @@ location_small d row disp p place text has lp l =
     omega arith
 
 -- the cursor of the active page is shown, and that of another page is not
-cursor_active : (disp : Display) (c : CardState) (row : ModeRow) (e : BiosData) (p type start location : ℕ) → is_text e.mode ≡ true → e.crtc_address ≡ text_port disp → setting c ≡ text_setting disp → c.crtc.registers ≡ crtc_registers row type start location → cursor_address e p < 65536 → p ≡ e.page → (run card_meaning (cursor_plan e p) c).0 ≡ with_crtc c (crtc_registers row type start (cursor_address e p)) 0x0F
+cursor_active : (disp : Display) (c : CardState) (row : ModeRow) (e : BiosData) (p type start location : ℕ) → is_text e.mode ≡ true →
+    e.crtc_address ≡ text_port disp → setting c ≡ text_setting disp → c.crtc.registers ≡ crtc_registers row type start location → cursor_address e p < 65536 →
+    p ≡ e.page → (run card_meaning (cursor_plan e p) c).0 ≡ with_crtc c (crtc_registers row type start (cursor_address e p)) 0x0F
 unfolding cursor_plan
 cursor_active disp c row e p type start location text port set r small active =
     let test : (p == e.page) ≡ true = grind (arith, nat_tests) in
@@ -157,7 +176,8 @@ cursor_hidden c e p other =
     neither false = refl
 
 -- the cursor at another place of a page: in the data, and on the active page in the registers
-pub placed_shown : (c : CardState) (d : BiosData) (h : IsShown c d) (p place : ℕ) → IsBda d → p < h.row.pages → place < 65536 → shown (run card_meaning (cursor_plan (with_place d p place) p) c).0 (with_place d p place) ≡ Some (placed_on (screen_shown c d h) p place)
+pub placed_shown : (c : CardState) (d : BiosData) (h : IsShown c d) (p place : ℕ) → IsBda d → p < h.row.pages → place < 65536 →
+    shown (run card_meaning (cursor_plan (with_place d p place) p) c).0 (with_place d p place) ≡ Some (placed_on (screen_shown c d h) p place)
 placed_shown c d h p place bda lp l =
     let row = h.row in
     let t = h.tests in
@@ -165,17 +185,20 @@ placed_shown c d h p place bda lp l =
     let few = h.text.pages in
     let eight = bda.places in
     let new : place_of e p ≡ place = get_or-set_same d.cursor_places p place 0 (omega arith) in
-    let at : cursor_address e p ≡ d.size * p / 2 + (d.columns * (place / 256) + place % 256) = ap (λ k. d.size * p / 2 + (d.columns * (k / 256) + k % 256)) new in
+    let at : cursor_address e p ≡ d.size * p / 2 + (d.columns * (place / 256) + place % 256) =
+    ap (λ k. d.size * p / 2 + (d.columns * (k / 256) + k % 256)) new in
     let small : cursor_address e p < 65536 = let k = location_small d row h.display p place h.text h.has lp l in omega arith in
     ⊎_elim
     (λ (z : p ≡ d.page).
     let y = with_crtc c (crtc_registers row d.cursor_type (start_address d d.page) (cursor_address e p)) 0x0F in
-    let runs = cursor_active h.display c row e p d.cursor_type (start_address d d.page) (cursor_address d d.page) t.is_text (h.has.port ∙ h.text.port) h.setting t.crtc small z in
+    let runs = cursor_active h.display c row e p d.cursor_type (start_address d d.page) (cursor_address d d.page) t.is_text (h.has.port
+    ∙ h.text.port) h.setting t.crtc small z in
     ap (λ s. shown s e) runs
     ∙ other_data c y d e h refl refl t.attribute t.data_test (ap (λ q. crtc_registers row d.cursor_type (start_address d d.page) (cursor_address e q)) z))
     (λ (o : p ≢ d.page).
     let other : place_of e d.page ≡ place_of d d.page = get_or-set_other d.cursor_places p d.page place 0 (λ q. o (sym q)) in
-    let same_list : text_crtc row d ≡ text_crtc row e = ap (λ k. crtc_registers row d.cursor_type (start_address d d.page) (d.size * d.page / 2 + (d.columns * (k / 256) + k % 256))) (sym other) in
+    let same_list : text_crtc row d ≡ text_crtc row e = ap (λ k. crtc_registers row d.cursor_type (start_address d d.page)
+    (d.size * d.page / 2 + (d.columns * (k / 256) + k % 256))) (sym other) in
     ap (λ s. shown s e) (cursor_hidden c e p o)
     ∙ other_data c c d e h refl refl t.attribute t.data_test (t.crtc ∙ same_list))
     (cases_eq p d.page)
@@ -186,10 +209,12 @@ placed_shown c d h p place bda lp l =
 abbrev pub then_data : Plan BiosData → Regs → Plan Outcome
 then_data p r = p >>= λ after. Done (r, after)
 
-pub data_runs : (p : Plan BiosData) (r : Regs) (c : CardState) → run card_meaning (then_data p r) c ≡ (let x = run card_meaning p c in let y : CardState × Outcome = (x.0, (r, x.1)) in y)
+pub data_runs : (p : Plan BiosData) (r : Regs) (c : CardState) → run card_meaning (then_data p r) c
+    ≡ (let x = run card_meaning p c in let y : CardState × Outcome = (x.0, (r, x.1)) in y)
 data_runs p r c = run_bind card_meaning p (λ after. Done (r, after)) c
 
-pub set_cursor_type : (type : ℕ) (fonts : FontSet) (r : Regs) (block : List ℕ) (c : CardState) (d : BiosData) (h : IsShown c d) → IsServed (SetCursorType type) fonts r block c d (screen_shown c d h)
+pub set_cursor_type : (type : ℕ) (fonts : FontSet) (r : Regs) (block : List ℕ) (c : CardState) (d : BiosData) (h : IsShown c d) →
+    IsServed (SetCursorType type) fonts r block c d (screen_shown c d h)
 unfolding plan_of cursor_type_plan refusal_in_mode refusal_on next answer_on
 set_cursor_type type fonts r block c d h =
     let t = h.tests in
@@ -207,14 +232,16 @@ set_cursor_type type fonts r block c d h =
     }
 
 -- the cursor is moved, and its data follow
-pub moved_shown : (c : CardState) (d : BiosData) (h : IsShown c d) (p place : ℕ) → IsBda d → p < h.row.pages → place < 65536 → (let x = run card_meaning (move_cursor_plan d p place) c in shown x.0 x.1) ≡ Some (placed_on (screen_shown c d h) p place)
+pub moved_shown : (c : CardState) (d : BiosData) (h : IsShown c d) (p place : ℕ) → IsBda d → p < h.row.pages → place < 65536 →
+    (let x = run card_meaning (move_cursor_plan d p place) c in shown x.0 x.1) ≡ Some (placed_on (screen_shown c d h) p place)
 unfolding move_cursor_plan
 moved_shown c d h p place bda lp l =
     let plan = cursor_plan (with_place d p place) p in
     let done : Plan BiosData = Done (with_place d p place) in
     ap (λ x. shown x.0 x.1) (run_bind card_meaning plan (λ _. done) c) ∙ placed_shown c d h p place bda lp l
 
-pub set_cursor : (page place : ℕ) (fonts : FontSet) (r : Regs) (block : List ℕ) (c : CardState) (d : BiosData) (h : IsShown c d) → place < 65536 → IsBda d → IsServed (SetCursor page place) fonts r block c d (screen_shown c d h)
+pub set_cursor : (page place : ℕ) (fonts : FontSet) (r : Regs) (block : List ℕ) (c : CardState) (d : BiosData) (h : IsShown c d) → place < 65536 → IsBda d →
+    IsServed (SetCursor page place) fonts r block c d (screen_shown c d h)
 unfolding plan_of refusal_in_mode refusal_on next answer_on
 set_cursor page place fonts r block c d h l bda =
     let s = screen_shown c d h in
@@ -249,7 +276,8 @@ page_data row d page h l =
     (both_are (d.height == row.height) _ f.0 (both_are (d.crtc_address == row.crtc_address) _ g.0
     (both_are (d.size * page == d.size * page) (nat_lt page row.pages) (same_test (d.size * page)) (lt_test page row.pages l))))))
 
-pub page_shown : (c : CardState) (d : BiosData) (h : IsShown c d) (page : ℕ) → IsBda d → page < h.row.pages → (let x = run card_meaning (page_plan d page) c in shown x.0 x.1) ≡ Some (record (screen_shown c d h) { page = page })
+pub page_shown : (c : CardState) (d : BiosData) (h : IsShown c d) (page : ℕ) → IsBda d → page < h.row.pages →
+    (let x = run card_meaning (page_plan d page) c in shown x.0 x.1) ≡ Some (record (screen_shown c d h) { page = page })
 unfolding page_plan
 page_shown c d h page bda lp =
     let row = h.row in
@@ -274,7 +302,8 @@ page_shown c d h page bda lp =
     ∙ ap (λ s. shown s e) (cursor_active h.display c1 row e page d.cursor_type n (cursor_address d d.page) text port h.setting refl small refl)
     ∙ other_data c y d e h refl refl t.attribute (page_data row d page t.data_test lp) refl
 
-pub select_page : (page : ℕ) (fonts : FontSet) (r : Regs) (block : List ℕ) (c : CardState) (d : BiosData) (h : IsShown c d) → IsBda d → IsServed (SelectPage page) fonts r block c d (screen_shown c d h)
+pub select_page : (page : ℕ) (fonts : FontSet) (r : Regs) (block : List ℕ) (c : CardState) (d : BiosData) (h : IsShown c d) → IsBda d →
+    IsServed (SelectPage page) fonts r block c d (screen_shown c d h)
 unfolding plan_of refusal_in_mode refusal_on next answer_on
 select_page page fonts r block c d h bda =
     let plan = page_plan d page in

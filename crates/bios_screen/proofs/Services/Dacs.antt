@@ -1,5 +1,6 @@
 -- What services do to the entries of the DAC.
-use Rattle.std.proofs.Common.{◌≡◌, ℕ, zero, suc, ◌+◌, ◌-◌, ◌*◌, ◌%◌, ◌<◌, ◌≤◌, ⊎_elim, refl, sym, ap, ◌∙◌, subst, arith, List, [], ◌∷◌, length, Bool, true, false}
+use Rattle.std.proofs.Common.{◌≡◌, ℕ, zero, suc, ◌+◌, ◌-◌, ◌*◌, ◌%◌, ◌<◌, ◌≤◌, ⊎_elim, refl, sym, ap, ◌∙◌, subst, arith, List, [], ◌∷◌, length, Bool, true}
+use Rattle.std.proofs.Common.{false}
 use Rattle.std.specs.Prelude.{◌&&◌, nat_lt, nat_le, if◌then◌else◌, slice_index}
 use Rattle.std.proofs.lemmas.Bool.{cases_lt}
 use Rattle.vga_dac.specs.declared.component.Component.TheVariants.{Red}
@@ -36,7 +37,8 @@ triple block r = slice_index block (3 * r + 0) ∷ slice_index block (3 * r + 1)
 abbrev byte : List ℕ → ℕ → Plan (Unit {0})
 byte block i = out 0x3C9 (slice_index block i)
 
-colours_are : (block : List ℕ) (n j : ℕ) (c : CardState) → run card_meaning (each (byte block) (3 * n) (3 * j)) c ≡ run card_meaning (each (λ r. colour_plan (triple block r)) n j) c
+colours_are : (block : List ℕ) (n j : ℕ) (c : CardState) → run card_meaning (each (byte block) (3 * n) (3 * j)) c
+    ≡ run card_meaning (each (λ r. colour_plan (triple block r)) n j) c
 unfolding colour_plan
 colours_are block zero j c = refl
 colours_are block (suc n) j c =
@@ -46,18 +48,23 @@ colours_are block (suc n) j c =
     let behind : 3 * j + 1 + 1 + 1 ≡ 3 * (j + 1) = omega arith in
     let c3 = (run card_meaning (colour_plan (triple block j)) c).0 in
     ap (λ m. run card_meaning (each (byte block) m (3 * j)) c) count
-    ∙ ap (λ k. run card_meaning (out 0x3C9 (slice_index block k) >> (out 0x3C9 (slice_index block (3 * j + 1)) >> (out 0x3C9 (slice_index block (3 * j + 1 + 1)) >> each (byte block) (3 * n) (3 * j + 1 + 1 + 1)))) c) first
-    ∙ ap (λ k. run card_meaning (out 0x3C9 (slice_index block (3 * j + 0)) >> (out 0x3C9 (slice_index block (3 * j + 1)) >> (out 0x3C9 (slice_index block k) >> each (byte block) (3 * n) (3 * j + 1 + 1 + 1)))) c) third
+    ∙ ap (λ k. run card_meaning (out 0x3C9 (slice_index block k) >> (out 0x3C9 (slice_index block (3 * j + 1))
+    >> (out 0x3C9 (slice_index block (3 * j + 1 + 1)) >> each (byte block) (3 * n) (3 * j + 1 + 1 + 1)))) c) first
+    ∙ ap (λ k. run card_meaning (out 0x3C9 (slice_index block (3 * j + 0)) >> (out 0x3C9 (slice_index block (3 * j + 1))
+    >> (out 0x3C9 (slice_index block k) >> each (byte block) (3 * n) (3 * j + 1 + 1 + 1)))) c) third
     ∙ ap (λ k. run card_meaning (each (byte block) (3 * n) k) c3) behind
     ∙ colours_are block n (j + 1) c3
 
 -- ---- entries are set
 
 -- a list of entries with some from a block
-component_is : (old new block : List ℕ) (first count i : ℕ) → length old ≡ 256 → length new ≡ 256 → ((k : ℕ) → k < 256 → slice_index new k ≡ (if nat_le first k && nat_lt k (first + count) then six_bits (slice_index block (3 * (k - first) + i)) else slice_index old k)) → new ≡ component_over old first count block i
+component_is : (old new block : List ℕ) (first count i : ℕ) → length old ≡ 256 → length new ≡ 256 →
+    ((k : ℕ) → k < 256 → slice_index new k ≡ (if nat_le first k && nat_lt k (first + count) then six_bits (slice_index block (3 * (k - first) + i))
+    else slice_index old k)) → new ≡ component_over old first count block i
 component_is old new block first count i eo en h =
     let f : ℕ → ℕ = λ k. if nat_le first k && nat_lt k (first + count) then six_bits (slice_index block (3 * (k - first) + i)) else slice_index old k in
-    same_elements new (listing f 0 (length old)) (en ∙ sym (length_listing f 0 (length old) ∙ eo)) (λ k l. h k (omega arith) ∙ sym (listed_at f (length old) k 0 (omega arith)))
+    same_elements new (listing f 0 (length old)) (en ∙ sym (length_listing f 0 (length old) ∙ eo)) (λ k l. h k (omega arith)
+    ∙ sym (listed_at f (length old) k 0 (omega arith)))
 
 -- the DAC's lists are those of the screen's step
 pub record AreEntries (old new : DacState) (first count : ℕ) (block : List ℕ) : Type 0 where
@@ -70,7 +77,9 @@ pub record IsLoaded (c y : CardState) (first count : ℕ) (block : List ℕ) : T
   pub others : without_entries y ≡ without_entries c
 
 -- an entry of the DAC by the place of its colour
-entry_is : (first count : ℕ) (block : List ℕ) (f g : ℕ → Colour) → Edited Colour (Turn (λ _. Unit {0}) 0 count) (λ h. first + h.turn) (λ h x. kept_colour (colour_of (triple block h.turn))) f g → (k : ℕ) → g k ≡ (if nat_le first k && nat_lt k (first + count) then kept_colour (colour_of (triple block (k - first))) else f k)
+entry_is : (first count : ℕ) (block : List ℕ) (f g : ℕ → Colour) → Edited Colour (Turn (λ _. Unit {0}) 0 count) (λ h. first + h.turn) (λ h x.
+    kept_colour (colour_of (triple block h.turn))) f g → (k : ℕ) → g k ≡ (if nat_le first k && nat_lt k (first + count)
+    then kept_colour (colour_of (triple block (k - first))) else f k)
 entry_is first count block f g edited k = ⊎_elim
     (λ (a : k < first). outside (before_test first k count a) (λ h. omega arith))
     (λ (a : first ≤ k). ⊎_elim
@@ -83,7 +92,8 @@ entry_is first count block f g edited k = ⊎_elim
     (cases_lt k (first + count)))
     (cases_lt k first)
   where
-    outside : (nat_le first k && nat_lt k (first + count)) ≡ false → ((h : Turn (λ _. Unit {0}) 0 count) → (k ≡ first + h.turn) → ⊥) → g k ≡ (if nat_le first k && nat_lt k (first + count) then kept_colour (colour_of (triple block (k - first))) else f k)
+    outside : (nat_le first k && nat_lt k (first + count)) ≡ false → ((h : Turn (λ _. Unit {0}) 0 count) → (k ≡ first + h.turn) → ⊥) →
+        g k ≡ (if nat_le first k && nat_lt k (first + count) then kept_colour (colour_of (triple block (k - first))) else f k)
     outside t o = edited.outside k o ∙ ap (λ b. if b then kept_colour (colour_of (triple block (k - first))) else f k) (sym t)
 
 -- one component of it
@@ -92,7 +102,9 @@ taken true x y part = refl
 taken false x y part = refl
 
 -- the index is written, and then colours from there on
-loaded_from : (c s : CardState) (first count : ℕ) (block : List ℕ) → IsDac c.dac → first + count ≤ 256 → first < 256 → s ≡ with_dac c (record c.dac { index = first; component = Red }) → IsLoaded c (run card_meaning (each (λ r. colour_plan (triple block r)) count 0) s).0 first count block
+loaded_from : (c s : CardState) (first count : ℕ) (block : List ℕ) → IsDac c.dac → first + count ≤ 256 → first < 256 →
+    s ≡ with_dac c (record c.dac { index = first; component = Red }) → IsLoaded c (run card_meaning (each (λ r. colour_plan (triple block r)) count 0) s).0
+    first count block
 loaded_from c s first count block z l few e =
     let z0 : first + 0 ≡ first = omega arith in
     let small : first ≡ (first + 0) % 256 = omega arith in
@@ -107,19 +119,26 @@ loaded_from c s first count block z l few e =
       others = refl;
     } in
     let there : HasEntries (without_entries c) (first + 0) s f = subst (λ x. HasEntries (without_entries c) (first + 0) x f) (sym e) start in
-    let done = edits CardState Colour card_meaning (λ r. colour_plan (triple block r)) (λ r. HasEntries (without_entries c) (first + r)) 0 count (λ _. Unit {0}) (λ r h. first + r) (λ r h x. kept_colour (colour_of (triple block r))) (λ j k a b lb lo hi q. absurd (omega arith))
-    (λ r x g lb w t. let a : first + r + 1 ≡ first + (r + 1) = omega arith in let one = one_entry (without_entries c) (triple block r) (first + r) x g (omega arith) t in
-    subst (λ n. Leaves CardState Colour (HasEntries (without_entries c) n) (run card_meaning (colour_plan (triple block r)) x).0 (Edited Colour (Unit {0}) (λ _. first + r) (λ _ x. kept_colour (colour_of (triple block r))) g)) a one)
+    let done = edits CardState Colour card_meaning (λ r. colour_plan (triple block r)) (λ r. HasEntries (without_entries c) (first + r)) 0 count (λ _. Unit {0})
+    (λ r h. first + r) (λ r h x. kept_colour (colour_of (triple block r))) (λ j k a b lb lo hi q. absurd (omega arith))
+    (λ r x g lb w t. let a : first + r + 1 ≡ first + (r + 1) = omega arith in let one =
+    one_entry (without_entries c) (triple block r) (first + r) x g (omega arith) t in
+    subst (λ n. Leaves CardState Colour (HasEntries (without_entries c) n) (run card_meaning (colour_plan (triple block r)) x).0
+    (Edited Colour (Unit {0}) (λ _. first + r) (λ _ x. kept_colour (colour_of (triple block r))) g)) a one)
     count 0 s f (omega arith) (omega arith) there in
     let y = (run card_meaning (each (λ r. colour_plan (triple block r)) count 0) s).0 in
-    let at : (k : ℕ) → k < 256 → entry_at y.dac k ≡ (if nat_le first k && nat_lt k (first + count) then kept_colour (colour_of (triple block (k - first))) else f k) = λ k m. done.shown.entry k m ∙ entry_is first count block f done.cells done.fact k in
+    let at : (k : ℕ) → k < 256 → entry_at y.dac k ≡ (if nat_le first k && nat_lt k (first + count) then kept_colour (colour_of (triple block (k - first)))
+    else f k) = λ k m. done.shown.entry k m ∙ entry_is first count block f done.cells done.fact k in
     let test : ℕ → Bool = λ k. nat_le first k && nat_lt k (first + count) in
     let new : ℕ → Colour = λ k. kept_colour (colour_of (triple block (k - first))) in
     record {
       entries = record {
-        reds = component_is c.dac.reds y.dac.reds block first count 0 z.reds done.shown.reds (λ k m. ap (λ (x : Colour). x.red) (at k m) ∙ taken (test k) (new k) (f k) (λ (x : Colour). x.red));
-        greens = component_is c.dac.greens y.dac.greens block first count 1 z.greens done.shown.greens (λ k m. ap (λ (x : Colour). x.green) (at k m) ∙ taken (test k) (new k) (f k) (λ (x : Colour). x.green));
-        blues = component_is c.dac.blues y.dac.blues block first count 2 z.blues done.shown.blues (λ k m. ap (λ (x : Colour). x.blue) (at k m) ∙ taken (test k) (new k) (f k) (λ (x : Colour). x.blue));
+        reds = component_is c.dac.reds y.dac.reds block first count 0 z.reds done.shown.reds (λ k m. ap (λ (x : Colour). x.red) (at k m)
+            ∙ taken (test k) (new k) (f k) (λ (x : Colour). x.red));
+        greens = component_is c.dac.greens y.dac.greens block first count 1 z.greens done.shown.greens (λ k m. ap (λ (x : Colour). x.green) (at k m)
+            ∙ taken (test k) (new k) (f k) (λ (x : Colour). x.green));
+        blues = component_is c.dac.blues y.dac.blues block first count 2 z.blues done.shown.blues (λ k m. ap (λ (x : Colour). x.blue) (at k m)
+            ∙ taken (test k) (new k) (f k) (λ (x : Colour). x.blue));
       };
       others = done.shown.others;
     }
@@ -128,7 +147,8 @@ index_by : (c : CardState) (v : ℕ) → (run card_meaning (out 0x3C8 v) c).0 �
 unfolding port_of out_at
 index_by c v = refl
 
-pub entries_loaded : (c : CardState) (first count : ℕ) (block : List ℕ) → IsDac c.dac → first + count ≤ 256 → first < 256 → length block ≡ 3 * count → IsLoaded c (run card_meaning (set_entries_plan first block) c).0 first count block
+pub entries_loaded : (c : CardState) (first count : ℕ) (block : List ℕ) → IsDac c.dac → first + count ≤ 256 → first < 256 → length block ≡ 3 * count →
+    IsLoaded c (run card_meaning (set_entries_plan first block) c).0 first count block
 unfolding set_entries_plan components_plan
 entries_loaded c first count block z l few e =
     let s = (run card_meaning (out 0x3C8 first) c).0 in
@@ -137,15 +157,26 @@ entries_loaded c first count block z l few e =
     ap (λ n. (run card_meaning (each (byte block) n 0) s).0) e ∙ ap (λ r. r.0) (colours_are block count 0 s) in
     subst (λ y. IsLoaded c y first count block) (sym (then_runs (out 0x3C8 first) (each (byte block) (length block) 0) c ∙ same_plan)) done
 
-one_by : (c : CardState) (entry r g b : ℕ) → (run card_meaning (set_entry_plan entry r g b) c).0 ≡ (run card_meaning (set_entries_plan entry (r ∷ g ∷ b ∷ [])) c).0
+one_by : (c : CardState) (entry r g b : ℕ) → (run card_meaning (set_entry_plan entry r g b) c).0
+    ≡ (run card_meaning (set_entries_plan entry (r ∷ g ∷ b ∷ [])) c).0
 unfolding set_entry_plan set_entries_plan components_plan
 one_by c entry r g b = refl
 
-pub entry_loaded : (c : CardState) (entry r g b : ℕ) → IsDac c.dac → entry < 256 → IsLoaded c (run card_meaning (set_entry_plan entry r g b) c).0 entry 1 (r ∷ g ∷ b ∷ [])
-entry_loaded c entry r g b z l = subst (λ y. IsLoaded c y entry 1 (r ∷ g ∷ b ∷ [])) (sym (one_by c entry r g b)) (entries_loaded c entry 1 (r ∷ g ∷ b ∷ []) z (omega arith) l refl)
+pub entry_loaded : (c : CardState) (entry r g b : ℕ) → IsDac c.dac → entry < 256 →
+    IsLoaded c (run card_meaning (set_entry_plan entry r g b) c).0 entry 1 (r ∷ g ∷ b ∷ [])
+entry_loaded c entry r g b z l = subst (λ y. IsLoaded c y entry 1 (r ∷ g ∷ b ∷ [])) (sym (one_by c entry r g b))
+    (entries_loaded c entry 1 (r ∷ g ∷ b ∷ []) z (omega arith) l refl)
 
 -- ---- an entry is read, and the mask
 
-pub entry_read : (c : CardState) (entry : ℕ) (r : Regs) → run card_meaning (read_entry_plan entry r) c ≡ (with_dac c (record c.dac { index = (entry + 1) % 256; component = Red }), record r { cx = 256 * slice_index c.dac.greens entry + slice_index c.dac.blues entry; dx = with_high r.dx (slice_index c.dac.reds entry) })
+pub entry_read : (c : CardState) (entry : ℕ) (r : Regs) → run card_meaning (read_entry_plan entry r) c
+    ≡ (
+      with_dac c (record c.dac { index = (entry + 1) % 256; component = Red }),
+      record r {
+        cx =
+            256 * slice_index c.dac.greens entry + slice_index c.dac.blues entry;
+        dx = with_high r.dx (slice_index c.dac.reds entry);
+      },
+    )
 unfolding read_entry_plan port_of out_at inp_at
 entry_read c entry r = refl

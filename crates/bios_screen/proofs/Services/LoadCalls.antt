@@ -53,11 +53,16 @@ some_text a b f e = f (cc)
 lines_are : (disp : Display) (height : ℕ) (text : TextRow) → text_row (number_of disp) height ≡ Some text → HasLines disp height text
 lines_are disp height text e = by_display disp e
   where
-    by_tests : (k : Display) (a b f : Bool) (u8 u14 u16 : ℕ) → (height == 8) ≡ a → (height == 14) ≡ b → (height == 16) ≡ f → fifty_rows u8 ≡ lines_of k Eight → twenty_eight_rows u14 ≡ lines_of k Fourteen → twenty_five_rows u16 ≡ lines_of k Sixteen
-        → (let x : Option TextRow = (if a then Some (fifty_rows u8) else if b then Some (twenty_eight_rows u14) else if f then Some (twenty_five_rows u16) else None) in x) ≡ Some text → HasLines k height text
-    by_tests k true b f u8 u14 u16 ea eb ef e8 e14 e16 h = some_text (fifty_rows u8) text (λ q. record { new = Eight; is = sym q ∙ e8; few = grind (arith, nat_tests) }) h
-    by_tests k false true f u8 u14 u16 ea eb ef e8 e14 e16 h = some_text (twenty_eight_rows u14) text (λ q. record { new = Fourteen; is = sym q ∙ e14; few = grind (arith, nat_tests) }) h
-    by_tests k false false true u8 u14 u16 ea eb ef e8 e14 e16 h = some_text (twenty_five_rows u16) text (λ q. record { new = Sixteen; is = sym q ∙ e16; few = grind (arith, nat_tests) }) h
+    by_tests : (k : Display) (a b f : Bool) (u8 u14 u16 : ℕ) → (height == 8) ≡ a → (height == 14) ≡ b → (height == 16) ≡ f → fifty_rows u8 ≡ lines_of k Eight →
+        twenty_eight_rows u14 ≡ lines_of k Fourteen → twenty_five_rows u16 ≡ lines_of k Sixteen
+        → (let x : Option TextRow = (if a then Some (fifty_rows u8) else if b then Some (twenty_eight_rows u14) else if f then Some (twenty_five_rows u16)
+        else None) in x) ≡ Some text → HasLines k height text
+    by_tests k true b f u8 u14 u16 ea eb ef e8 e14 e16 h = some_text (fifty_rows u8) text (λ q.
+        record { new = Eight; is = sym q ∙ e8; few = grind (arith, nat_tests) }) h
+    by_tests k false true f u8 u14 u16 ea eb ef e8 e14 e16 h = some_text (twenty_eight_rows u14) text (λ q.
+        record { new = Fourteen; is = sym q ∙ e14; few = grind (arith, nat_tests) }) h
+    by_tests k false false true u8 u14 u16 ea eb ef e8 e14 e16 h = some_text (twenty_five_rows u16) text (λ q.
+        record { new = Sixteen; is = sym q ∙ e16; few = grind (arith, nat_tests) }) h
     by_tests k false false false u8 u14 u16 ea eb ef e8 e14 e16 h = absurd (cc)
 
     by_display : (k : Display) → text_row (number_of k) height ≡ Some text → HasLines k height text
@@ -98,15 +103,18 @@ record Leads (why : Option Refusal) (r : Regs) (s new : Screen) (x : CardState �
   reply : x.1.0 ≡ reply_unless why r
   shows : shown x.0 x.1.1 ≡ Some (screen_unless why s new)
 
-refused_leads : (why : Refusal) (r : Regs) (s new : Screen) (c : CardState) (d : BiosData) → shown c d ≡ Some s → Leads (Some why) r s new (run card_meaning (refuse why d) c)
+refused_leads : (why : Refusal) (r : Regs) (s new : Screen) (c : CardState) (d : BiosData) → shown c d ≡ Some s →
+    Leads (Some why) r s new (run card_meaning (refuse why d) c)
 refused_leads why r s new c d e = record { reply = refl; shows = e }
 
-module _ (law : KeepsBounds) (fonts : FontSet) (load : GlyphLoad) (r : Regs) (block : List ℕ) (bytes : AreBytes block) (are : AreFonts fonts) (c : CardState) (d : BiosData) (s : Screen) (z : IsCard c) (old : shown c d ≡ Some s) where
+module _ (law : KeepsBounds) (fonts : FontSet) (load : GlyphLoad) (r : Regs) (block : List ℕ) (bytes : AreBytes block) (are : AreFonts fonts) (c : CardState)
+    (d : BiosData) (s : Screen) (z : IsCard c) (old : shown c d ≡ Some s) where
   abbrev new : Screen
   new = load_glyphs fonts s load block
 
   -- glyphs that are allowed, where there is a row of their height
-  row_leads : (a : IsAllowed load d.mode (length block)) (text : TextRow) → text_row d.mode load.height ≡ Some text → Leads None r s (load_at_height (Some text) fonts s load block) (run card_meaning (load_at (row_at d.mode load.height) load fonts d r block) c)
+  row_leads : (a : IsAllowed load d.mode (length block)) (text : TextRow) → text_row d.mode load.height ≡ Some text →
+      Leads None r s (load_at_height (Some text) fonts s load block) (run card_meaning (load_at (row_at d.mode load.height) load fonts d r block) c)
   unfolding load_at
   row_leads a text e =
       let x = shown_is c d s a.text old in
@@ -115,11 +123,13 @@ module _ (law : KeepsBounds) (fonts : FontSet) (load : GlyphLoad) (r : Regs) (bl
       let there_is : text_row (number_of disp) load.height ≡ Some text = ap (λ m. text_row m load.height) (sym h.number) ∙ e in
       let lines = lines_are disp load.height text there_is in
       let row = row_with disp lines.new in
-      let at : row_at d.mode load.height ≡ Some row = ap (λ m. row_at m load.height) h.number ∙ rows_agree disp load.height ∙ ap (with_height (row_of disp)) there_is ∙ ap (λ (t : TextRow). with_height (row_of disp) (Some t)) lines.is in
+      let at : row_at d.mode load.height ≡ Some row = ap (λ m. row_at m load.height) h.number ∙ rows_agree disp load.height
+      ∙ ap (with_height (row_of disp)) there_is ∙ ap (λ (t : TextRow). with_height (row_of disp) (Some t)) lines.is in
       let there : AreThere load (length block) = record { height = lines.few; last = a.last; whole = a.whole } in
       let plan = load_plan fonts load block row in
       let done : Plan Answered = Done (answer_of r (data_of_mode d.mode row)) in
-      let runs : run card_meaning (load_at (row_at d.mode load.height) load fonts d r block) c ≡ run card_meaning (plan >> done) c = ap (λ q. run card_meaning (load_at q load fonts d r block) c) at in
+      let runs : run card_meaning (load_at (row_at d.mode load.height) load fonts d r block) c ≡ run card_meaning (plan >> done) c =
+      ap (λ q. run card_meaning (load_at q load fonts d r block) c) at in
       record {
         reply = ap (λ y. y.1.0) runs ∙ ap (λ (y : Answered). y.0) (then_answers plan done c);
         shows = ap (λ y. shown y.0 y.1.1) runs
@@ -131,17 +141,21 @@ module _ (law : KeepsBounds) (fonts : FontSet) (load : GlyphLoad) (r : Regs) (bl
       }
 
   -- where there is none it is refused
-  height_leads : (a : IsAllowed load d.mode (length block)) (q : Option TextRow) → text_row d.mode load.height ≡ q → Leads (height_refusal_on q) r s (load_at_height q fonts s load block) (run card_meaning (load_at (row_at d.mode load.height) load fonts d r block) c)
+  height_leads : (a : IsAllowed load d.mode (length block)) (q : Option TextRow) → text_row d.mode load.height ≡ q →
+      Leads (height_refusal_on q) r s (load_at_height q fonts s load block) (run card_meaning (load_at (row_at d.mode load.height) load fonts d r block) c)
   unfolding load_at
   height_leads a (Some text) e = row_leads a text e
   height_leads a None e =
       let x = shown_is c d s a.text old in
       let h = x.is in
-      let at : row_at d.mode load.height ≡ None = ap (λ m. row_at m load.height) h.number ∙ rows_agree h.display load.height ∙ ap (with_height (row_of h.display)) (ap (λ m. text_row m load.height) (sym h.number) ∙ e) in
+      let at : row_at d.mode load.height ≡ None = ap (λ m. row_at m load.height) h.number ∙ rows_agree h.display load.height
+      ∙ ap (with_height (row_of h.display)) (ap (λ m. text_row m load.height) (sym h.number) ∙ e) in
       let runs = ap (λ (q : Option ModeRow). run card_meaning (load_at q load fonts d r block) c) at in
       record { reply = ap (λ y. y.1.0) runs; shows = ap (λ y. shown y.0 y.1.1) runs ∙ old }
 
-  unless_leads : (why : Option Refusal) → load_refusal load d.mode (length block) ≡ why → Leads (why or height_refusal_on (text_row d.mode load.height)) r s (load_at_height (text_row d.mode load.height) fonts s load block) (run card_meaning (load_unless why load fonts d r block) c)
+  unless_leads : (why : Option Refusal) → load_refusal load d.mode (length block) ≡ why →
+      Leads (why or height_refusal_on (text_row d.mode load.height)) r s (load_at_height (text_row d.mode load.height) fonts s load block)
+      (run card_meaning (load_unless why load fonts d r block) c)
   unfolding load_unless
   unless_leads (Some why) e = refused_leads why r s _ c d old
   unless_leads None e = height_leads (allowed_of load d.mode (length block) e) (text_row d.mode load.height) refl
@@ -158,7 +172,9 @@ module _ (law : KeepsBounds) (fonts : FontSet) (load : GlyphLoad) (r : Regs) (bl
       let t = unless_leads why refl in
       let same = sym mode.is in
       record {
-        reply = ap (λ y. y.1.0) runs ∙ t.reply ∙ ap (λ m. reply_unless (load_refusal load m (length block) or height_refusal_on (text_row m load.height)) r) same;
-        shows = ap (λ y. shown y.0 y.1.1) runs ∙ t.shows ∙ ap (λ m. Some (screen_unless (load_refusal load m (length block) or height_refusal_on (text_row m load.height)) s (load_at_height (text_row m load.height) fonts s load block))) same;
+        reply = ap (λ y. y.1.0) runs ∙ t.reply ∙ ap (λ m. reply_unless (load_refusal load m (length block) or height_refusal_on (text_row m load.height)) r)
+            same;
+        shows = ap (λ y. shown y.0 y.1.1) runs ∙ t.shows ∙ ap (λ m. Some (screen_unless (load_refusal load m (length block)
+            or height_refusal_on (text_row m load.height)) s (load_at_height (text_row m load.height) fonts s load block))) same;
         beam = ap (λ y. y.0.crtc.beam) runs ∙ plan_beam plan c;
       }

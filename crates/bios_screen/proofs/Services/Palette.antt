@@ -21,7 +21,8 @@ use Rattle.bios_modes.specs.Bounds.{AreBytes}
 use Rattle.bios_modes.specs.Fonts.{FontSet}
 use Rattle.bios_services.specs.declared.regs.Regs.{Regs}
 use Rattle.bios_services.specs.declared.colours.ColourService.{ColourService}
-use Rattle.bios_services.specs.declared.colours.ColourService.TheVariants.{SetRegister, SetOverscan, SetPalette, SetBlinking, ReadRegister, ReadOverscan, SetEntry, SetEntries, ReadEntry, SetMask, ReadMask}
+use Rattle.bios_services.specs.declared.colours.ColourService.TheVariants.{SetRegister, SetOverscan, SetPalette, SetBlinking, ReadRegister, ReadOverscan}
+use Rattle.bios_services.specs.declared.colours.ColourService.TheVariants.{SetEntry, SetEntries, ReadEntry, SetMask, ReadMask}
 use Rattle.bios_services.specs.declared.call.Service.TheVariants.{Colours}
 use Rattle.bios_services.specs.Registers.{with_high, with_low}
 use Rattle.bios_services.specs.Plan.{Plan, run, Done, out, ◌>>=◌, ◌>>◌}
@@ -69,27 +70,40 @@ module _ (c : CardState) (d : BiosData) (h : IsAny c d) where
   -- ---- the attribute controller
 
   -- the test looks at bits of mode control, and at the registers behind the overscan
-  rest_is : ((bit_and (slice_index registers 0x10) 0xF7 == bit_and (slice_index h.row.attribute 0x10) 0xF7) && bytes_eq (drop 0x12 registers) (drop 0x12 h.row.attribute)) ≡ true
+  rest_is : ((bit_and (slice_index registers 0x10) 0xF7 == bit_and (slice_index h.row.attribute 0x10) 0xF7)
+      && bytes_eq (drop 0x12 registers) (drop 0x12 h.row.attribute)) ≡ true
   rest_is = (both_true (is_palette_shown c.attr) _ h.tests.attribute).1
 
-  attribute_stays : (l : List ℕ) (i : ℕ) → is_set i 5 ≡ true → bit_and (slice_index l 0x10) 0xF7 ≡ bit_and (slice_index registers 0x10) 0xF7 → drop 0x12 l ≡ drop 0x12 registers → shows_attribute h.row (with_attr c l i false).attr ≡ true
+  attribute_stays : (l : List ℕ) (i : ℕ) → is_set i 5 ≡ true → bit_and (slice_index l 0x10) 0xF7 ≡ bit_and (slice_index registers 0x10) 0xF7 →
+      drop 0x12 l ≡ drop 0x12 registers → shows_attribute h.row (with_attr c l i false).attr ≡ true
   attribute_stays l i e control rest =
-      ap (λ b. b && ((bit_and (slice_index l 0x10) 0xF7 == bit_and (slice_index h.row.attribute 0x10) 0xF7) && bytes_eq (drop 0x12 l) (drop 0x12 h.row.attribute))) e
+      ap (λ b. b && ((bit_and (slice_index l 0x10) 0xF7 == bit_and (slice_index h.row.attribute 0x10) 0xF7)
+      && bytes_eq (drop 0x12 l) (drop 0x12 h.row.attribute))) e
       ∙ ap (λ n. (n == bit_and (slice_index h.row.attribute 0x10) 0xF7) && bytes_eq (drop 0x12 l) (drop 0x12 h.row.attribute)) control
       ∙ ap (λ m. (bit_and (slice_index registers 0x10) 0xF7 == bit_and (slice_index h.row.attribute 0x10) 0xF7) && bytes_eq m (drop 0x12 h.row.attribute)) rest
       ∙ rest_is
 
   -- other registers show other colours
-  attribute_shown : (l : List ℕ) (i : ℕ) → is_set i 5 ≡ true → bit_and (slice_index l 0x10) 0xF7 ≡ bit_and (slice_index registers 0x10) 0xF7 → drop 0x12 l ≡ drop 0x12 registers → (values : List ℕ) (overscan : ℕ) (blink : Bool) → take 16 l ≡ values → slice_index l 0x11 ≡ overscan → is_set (slice_index l 0x10) 3 ≡ blink
+  attribute_shown : (l : List ℕ) (i : ℕ) → is_set i 5 ≡ true → bit_and (slice_index l 0x10) 0xF7 ≡ bit_and (slice_index registers 0x10) 0xF7 →
+      drop 0x12 l ≡ drop 0x12 registers → (values : List ℕ) (overscan : ℕ) (blink : Bool) → take 16 l ≡ values → slice_index l 0x11 ≡ overscan →
+      is_set (slice_index l 0x10) 3 ≡ blink
       → shown (with_attr c l i false) d ≡ Some (record s { palette = record s.palette { values = values }; overscan = overscan; is_blink = blink })
   attribute_shown l i e control rest values overscan blink ev eo eb =
       any_shown c (with_attr c l i false) d h refl refl (attribute_stays l i e control rest)
-      ∙ ap (λ k. let x : Screen = record s { palette = record s.palette { values = k }; overscan = slice_index l 0x11; is_blink = is_set (slice_index l 0x10) 3 } in Some x) ev
-      ∙ ap (λ k. let x : Screen = record s { palette = record s.palette { values = values }; overscan = k; is_blink = is_set (slice_index l 0x10) 3 } in Some x) eo
+      ∙ ap (λ k. let x : Screen = record s {
+        palette = record s.palette { values = k };
+        overscan = slice_index l 0x11;
+        is_blink = is_set (slice_index l 0x10) 3;
+      } in Some x) ev
+      ∙ ap (λ k. let x : Screen = record s { palette = record s.palette { values = values }; overscan = k; is_blink = is_set (slice_index l 0x10) 3 } in Some x)
+      eo
       ∙ ap (λ k. let x : Screen = record s { palette = record s.palette { values = values }; overscan = overscan; is_blink = k } in Some x) eb
 
   -- another DAC too
-  pub dac_shown : (new : DacState) → shown (with_dac c new) d ≡ Some (record s { palette = record s.palette { reds = new.reds; greens = new.greens; blues = new.blues; mask = new.mask } })
+  pub dac_shown : (new : DacState) → shown (with_dac c new) d ≡ Some (record s {
+    palette =
+        record s.palette { reds = new.reds; greens = new.greens; blues = new.blues; mask = new.mask };
+  })
   dac_shown new = any_shown c (with_dac c new) d h refl refl h.tests.attribute
 
   loaded_shown : (y : CardState) (first count : ℕ) (block : List ℕ) → IsLoaded c y first count block → shown y d ≡ Some (with_entries s first count block)
@@ -98,21 +112,27 @@ module _ (c : CardState) (d : BiosData) (h : IsAny c d) where
       let n = with_entries s first count block in
       ap (λ x. shown x d) (ap (λ x. with_dac x y.dac) t.others)
       ∙ dac_shown y.dac
-      ∙ ap (λ k. let x : Screen = record s { palette = record p { reds = k; greens = y.dac.greens; blues = y.dac.blues; mask = y.dac.mask } } in Some x) t.entries.reds
-      ∙ ap (λ k. let x : Screen = record s { palette = record p { reds = n.palette.reds; greens = k; blues = y.dac.blues; mask = y.dac.mask } } in Some x) t.entries.greens
-      ∙ ap (λ k. let x : Screen = record s { palette = record p { reds = n.palette.reds; greens = n.palette.greens; blues = k; mask = y.dac.mask } } in Some x) t.entries.blues
+      ∙ ap (λ k. let x : Screen = record s { palette = record p { reds = k; greens = y.dac.greens; blues = y.dac.blues; mask = y.dac.mask } } in Some x)
+      t.entries.reds
+      ∙ ap (λ k. let x : Screen = record s { palette = record p { reds = n.palette.reds; greens = k; blues = y.dac.blues; mask = y.dac.mask } } in Some x)
+      t.entries.greens
+      ∙ ap (λ k. let x : Screen = record s { palette = record p { reds = n.palette.reds; greens = n.palette.greens; blues = k; mask = y.dac.mask } } in Some x)
+      t.entries.blues
       ∙ ap (λ k. let x : Screen = record n { palette = record n.palette { mask = k } } in Some x) (ap (λ x. x.dac.mask) t.others)
 
   -- ---- services that set
 
   -- a plan, and then the same registers
-  setting_served : (service : ColourService) (r : Regs) (block : List ℕ) (p : ℕ → Plan (Unit {0})) → colours_plan service d.crtc_address r block ≡ (p d.crtc_address >> Done r) → colours_answer s service r ≡ r → shown (run card_meaning (p (port_of h.kind)) c).0 d ≡ Some (with_colours s service block) → IsColoured service r block c d s
+  setting_served : (service : ColourService) (r : Regs) (block : List ℕ) (p : ℕ → Plan (Unit {0})) →
+      colours_plan service d.crtc_address r block ≡ (p d.crtc_address >> Done r) → colours_answer s service r ≡ r →
+      shown (run card_meaning (p (port_of h.kind)) c).0 d ≡ Some (with_colours s service block) → IsColoured service r block c d s
   setting_served service r block p e a t =
       let q = p d.crtc_address in
       let done : Plan Regs = Done r in
       record {
         answer = ap (λ w. (run card_meaning w c).1) e ∙ then_answers q done c ∙ sym a;
-        shows = ap (λ w. shown (run card_meaning w c).0 d) e ∙ ap (λ x. shown x d) (then_runs q done c) ∙ ap (λ n. shown (run card_meaning (p n) c).0 d) port_is ∙ t;
+        shows = ap (λ w. shown (run card_meaning w c).0 d) e ∙ ap (λ x. shown x d) (then_runs q done c) ∙ ap (λ n. shown (run card_meaning (p n) c).0 d) port_is
+            ∙ t;
       }
 
   masks_are : (i : ℕ) → i < 16 → slice_index attr_masks i ≡ 0x3F
@@ -126,7 +146,8 @@ module _ (c : CardState) (d : BiosData) (h : IsAny c d) where
       ap (λ y. shown y d) (register_set h.kind c i v h.setting (omega arith))
       ∙ ap (λ m. shown (with_attr c (slice_set registers i (bit_and v m)) 0x20 false) d) (masks_are i l)
       ∙ attribute_shown new 0x20 refl (ap (λ n. bit_and n 0xF7) control) (drop-set-lt 0x12 registers i x (omega arith))
-      (slice_set s.palette.values i x) s.overscan s.is_blink (take-set-lt 16 registers i x l) (get_or-set_other registers i 0x11 x 0 (omega arith)) (ap (λ n. is_set n 3) control)
+      (slice_set s.palette.values i x) s.overscan s.is_blink (take-set-lt 16 registers i x l) (get_or-set_other registers i 0x11 x 0 (omega arith))
+      (ap (λ n. is_set n 3) control)
 
   overscan_shown : (v : ℕ) → v < 256 → IsCard c → shown (run card_meaning (set_register_plan (port_of h.kind) 0x11 v) c).0 d ≡ Some (record s { overscan = v })
   overscan_shown v l z =
@@ -136,9 +157,11 @@ module _ (c : CardState) (d : BiosData) (h : IsAny c d) where
       ap (λ y. shown y d) (register_set h.kind c 0x11 v h.setting (omega arith))
       ∙ ap (λ m. shown (with_attr c (slice_set registers 0x11 m) 0x20 false) d) (and_255 v l)
       ∙ attribute_shown new 0x20 refl (ap (λ n. bit_and n 0xF7) control) (drop-set-lt 0x12 registers 0x11 v (omega arith))
-      s.palette.values v s.is_blink (take-set-le 16 registers 0x11 v (omega arith)) (get_or-set_same registers 0x11 v 0 (omega arith)) (ap (λ n. is_set n 3) control)
+      s.palette.values v s.is_blink (take-set-le 16 registers 0x11 v (omega arith)) (get_or-set_same registers 0x11 v 0 (omega arith))
+      (ap (λ n. is_set n 3) control)
 
-  palette_shown : (block : List ℕ) → AreBytes block → IsCard c → length block ≡ 17 → shown (run card_meaning (set_palette_plan (port_of h.kind) block) c).0 d ≡ Some (with_block s block)
+  palette_shown : (block : List ℕ) → AreBytes block → IsCard c → length block ≡ 17 →
+      shown (run card_meaning (set_palette_plan (port_of h.kind) block) c).0 d ≡ Some (with_block s block)
   palette_shown block bytes z e =
       let values = take 16 block in
       let v = slice_index block 16 in
@@ -151,7 +174,8 @@ module _ (c : CardState) (d : BiosData) (h : IsAny c d) where
       (and_255 v (bytes 16)) refl
 
   -- blinking is bit 3 of mode control, whose other bits are the mode's
-  blink_by : (k : Tabled) (b : ℕ) → b < 2 → (bit_and (bit_and (bit_or (control_of k) (8 * b)) 0xEF) 0xF7 ≡ control_of k) × (is_set (bit_and (bit_or (control_of k) (8 * b)) 0xEF) 3 ≡ (b == 1))
+  blink_by : (k : Tabled) (b : ℕ) → b < 2 → (bit_and (bit_and (bit_or (control_of k) (8 * b)) 0xEF) 0xF7 ≡ control_of k)
+      × (is_set (bit_and (bit_or (control_of k) (8 * b)) 0xEF) 3 ≡ (b == 1))
   blink_by (OfText Colour) zero l = (refl, refl)
   blink_by (OfText Colour) (suc zero) l = (refl, refl)
   blink_by (OfText Monochrome) zero l = (refl, refl)
@@ -168,11 +192,13 @@ module _ (c : CardState) (d : BiosData) (h : IsAny c d) where
       let v = bit_and (bit_or (bit_and (slice_index registers 0x10) 0xF7) (8 * b)) 0xEF in
       let new = with_blinking registers b in
       let at : slice_index new 0x10 ≡ v = get_or-set_same registers 0x10 v 0 (omega arith) in
-      let value : slice_index new 0x10 ≡ bit_and (bit_or (control_of h.kind) (8 * b)) 0xEF = at ∙ ap (λ n. bit_and (bit_or n (8 * b)) 0xEF) (any_control c d h) in
+      let value : slice_index new 0x10 ≡ bit_and (bit_or (control_of h.kind) (8 * b)) 0xEF = at
+      ∙ ap (λ n. bit_and (bit_or n (8 * b)) 0xEF) (any_control c d h) in
       let by = blink_by h.kind b l in
       ap (λ y. shown y d) (blinking_set h.kind c b h.setting)
       ∙ attribute_shown new 0x20 refl (ap (λ n. bit_and n 0xF7) value ∙ by.0 ∙ sym (any_control c d h)) (drop-set-lt 0x12 registers 0x10 v (omega arith))
-      s.palette.values s.overscan (b == 1) (take-set-le 16 registers 0x10 v (omega arith)) (get_or-set_other registers 0x10 0x11 v 0 (omega arith)) (ap (λ n. is_set n 3) value ∙ by.1)
+      s.palette.values s.overscan (b == 1) (take-set-le 16 registers 0x10 v (omega arith)) (get_or-set_other registers 0x10 0x11 v 0 (omega arith))
+      (ap (λ n. is_set n 3) value ∙ by.1)
 
   mask_by : (v : ℕ) → (run card_meaning (out 0x3C6 v) c).0 ≡ with_dac c (record c.dac { mask = v })
   unfolding reached_by out_at
@@ -181,7 +207,8 @@ module _ (c : CardState) (d : BiosData) (h : IsAny c d) where
   -- ---- services that read
 
   -- a register of the attribute controller is read into BH
-  register_in_bh : (i : ℕ) (r : Regs) → i < 18 → run card_meaning (read_register_in_bh d.crtc_address i r) c ≡ (with_attr c registers (0x20 + i) false, record r { bx = with_high r.bx (slice_index registers i) })
+  register_in_bh : (i : ℕ) (r : Regs) → i < 18 → run card_meaning (read_register_in_bh d.crtc_address i r) c
+      ≡ (with_attr c registers (0x20 + i) false, record r { bx = with_high r.bx (slice_index registers i) })
   unfolding read_register_in_bh
   register_in_bh i r l =
       let done : ℕ → Plan Regs = λ value. Done (record r { bx = with_high r.bx value }) in
@@ -220,12 +247,17 @@ module _ (c : CardState) (d : BiosData) (h : IsAny c d) where
 
   -- ---- each subfunction
 
-  pub is_coloured : (service : ColourService) (r : Regs) (block : List ℕ) → FitsBytes service → AreBytes block → IsCard c → colour_refusal service (length block) ≡ None → IsColoured service r block c d s
+  pub is_coloured : (service : ColourService) (r : Regs) (block : List ℕ) → FitsBytes service → AreBytes block → IsCard c →
+      colour_refusal service (length block) ≡ None → IsColoured service r block c d s
   unfolding colour_refusal colours_plan with_colours colours_answer
-  is_coloured (SetRegister i v) r block fits bytes z e = setting_served (SetRegister i v) r block (λ p. set_register_plan p i v) refl refl (value_shown i v (register_allowed i e))
-  is_coloured (SetOverscan v) r block fits bytes z e = setting_served (SetOverscan v) r block (λ p. set_register_plan p 0x11 v) refl refl (overscan_shown v fits z)
-  is_coloured SetPalette r block fits bytes z e = setting_served SetPalette r block (λ p. set_palette_plan p block) refl refl (palette_shown block bytes z (block_allowed 17 (length block) e))
-  is_coloured (SetBlinking b) r block fits bytes z e = setting_served (SetBlinking b) r block (λ p. set_blinking_plan p b) refl refl (blink_shown b (blink_allowed b e) z)
+  is_coloured (SetRegister i v) r block fits bytes z e = setting_served (SetRegister i v) r block (λ p. set_register_plan p i v) refl refl
+      (value_shown i v (register_allowed i e))
+  is_coloured (SetOverscan v) r block fits bytes z e = setting_served (SetOverscan v) r block (λ p. set_register_plan p 0x11 v) refl refl
+      (overscan_shown v fits z)
+  is_coloured SetPalette r block fits bytes z e = setting_served SetPalette r block (λ p. set_palette_plan p block) refl refl
+      (palette_shown block bytes z (block_allowed 17 (length block) e))
+  is_coloured (SetBlinking b) r block fits bytes z e = setting_served (SetBlinking b) r block (λ p. set_blinking_plan p b) refl refl
+      (blink_shown b (blink_allowed b e) z)
   is_coloured (ReadRegister i) r block fits bytes z e =
       let l = register_allowed i e in
       let runs = register_in_bh i r (omega arith) in
@@ -238,7 +270,8 @@ module _ (c : CardState) (d : BiosData) (h : IsAny c d) where
       record { answer = ap (λ x. x.1) runs; shows = ap (λ x. shown x.0 d) runs ∙ index_moved 0x11 (omega arith) }
   is_coloured (SetEntry entry red green blue) r block fits bytes z e =
       setting_served (SetEntry entry red green blue) r block (λ p. set_entry_plan entry red green blue) refl refl
-      (loaded_shown (run card_meaning (set_entry_plan entry red green blue) c).0 entry 1 (red ∷ green ∷ blue ∷ []) (entry_loaded c entry red green blue z.dac (entry_allowed entry e)))
+      (loaded_shown (run card_meaning (set_entry_plan entry red green blue) c).0 entry 1 (red ∷ green ∷ blue ∷ [])
+      (entry_loaded c entry red green blue z.dac (entry_allowed entry e)))
   is_coloured (SetEntries first count) r block fits bytes z e =
       let a = entries_allowed first count (length block) e in
       setting_served (SetEntries first count) r block (λ p. set_entries_plan first block) refl refl
@@ -254,7 +287,8 @@ module _ (c : CardState) (d : BiosData) (h : IsAny c d) where
 
 -- ---- function 10
 
-pub set_colours : (service : ColourService) (fonts : FontSet) (r : Regs) (block : List ℕ) (c : CardState) (d : BiosData) (h : IsAny c d) → FitsBytes service → AreBytes block → IsCard c → IsServed (Colours service) fonts r block c d (any_screen c d h c)
+pub set_colours : (service : ColourService) (fonts : FontSet) (r : Regs) (block : List ℕ) (c : CardState) (d : BiosData) (h : IsAny c d) → FitsBytes service →
+    AreBytes block → IsCard c → IsServed (Colours service) fonts r block c d (any_screen c d h c)
 unfolding plan_of refusal_in_mode refusal_on next answer_on
 set_colours service fonts r block c d h fits bytes z =
     let plan = colours_plan service d.crtc_address r block in

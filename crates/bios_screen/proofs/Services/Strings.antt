@@ -36,7 +36,8 @@ use Rattle.bios_screen.proofs.Services.Teletypes.{can_type, moved}
 
 -- ---- characters one after another
 
-module _ (law : KeepsBounds) (fonts : FontSet) (d : BiosData) (p : ℕ) (lp : p < pages_of d) (call : StringCall) (block : List ℕ) (bytes : AreBytes block) (colour : call.colour < 256) where
+module _ (law : KeepsBounds) (fonts : FontSet) (d : BiosData) (p : ℕ) (lp : p < pages_of d) (call : StringCall) (block : List ℕ) (bytes : AreBytes block)
+    (colour : call.colour < 256) where
   colouring_small : (i : ℕ) → (colouring_at call block i).colour < 256
   colouring_small i = by_test call.has_attributes
     where
@@ -49,7 +50,8 @@ module _ (law : KeepsBounds) (fonts : FontSet) (d : BiosData) (p : ℕ) (lp : p 
   one i place = type_plan fonts d p place (character_at call block i) (colouring_at call block i)
 
   -- n characters from character i on
-  all_typed : (n i place : ℕ) (c : CardState) (s : Screen) → shown c d ≡ Some s → IsCard c → Inside (d.last_row + 1) d.columns place → LeadsInside (fold one n i place) c d (type_characters fonts call block p n i (s, place))
+  all_typed : (n i place : ℕ) (c : CardState) (s : Screen) → shown c d ≡ Some s → IsCard c → Inside (d.last_row + 1) d.columns place →
+      LeadsInside (fold one n i place) c d (type_characters fonts call block p n i (s, place))
   all_typed zero i place c s e z l = record { leads = record { answer = refl; shows = e }; inside = l }
   all_typed (suc n) i place c s e z l =
       let v = character_at call block i in
@@ -62,9 +64,11 @@ module _ (law : KeepsBounds) (fonts : FontSet) (d : BiosData) (p : ℕ) (lp : p 
         inside = rest.inside;
       }
 
-  string_shown : (c : CardState) (s : Screen) → shown c d ≡ Some s → IsCard c → IsBda d → Inside (d.last_row + 1) d.columns call.place → (let x = run card_meaning (string_plan fonts d p call block) c in shown x.0 x.1) ≡ Some (type_string fonts s p call block)
+  string_shown : (c : CardState) (s : Screen) → shown c d ≡ Some s → IsCard c → IsBda d → Inside (d.last_row + 1) d.columns call.place →
+      (let x = run card_meaning (string_plan fonts d p call block) c in shown x.0 x.1) ≡ Some (type_string fonts s p call block)
   unfolding string_plan type_string_plan
-  string_shown c s e z bda l = ap (λ y. shown y.0 y.1) (run_bind card_meaning (type_string_plan fonts d p call block) cursor c) ∙ ap (λ k. let y = run card_meaning (cursor k) c1 in shown y.0 y.1) all.leads.answer ∙ by_test call.moves_cursor
+  string_shown c s e z bda l = ap (λ y. shown y.0 y.1) (run_bind card_meaning (type_string_plan fonts d p call block) cursor c)
+      ∙ ap (λ k. let y = run card_meaning (cursor k) c1 in shown y.0 y.1) all.leads.answer ∙ by_test call.moves_cursor
     where
       after : Screen × ℕ
       after = type_characters fonts call block p call.count 0 (s, call.place)
@@ -78,7 +82,8 @@ module _ (law : KeepsBounds) (fonts : FontSet) (d : BiosData) (p : ℕ) (lp : p 
       all : LeadsInside (fold one call.count 0 call.place) c d after
       all = all_typed call.count 0 call.place c s e z l
 
-      by_test : (b : Bool) → (let q : Plan BiosData = (if b then move_cursor_plan d p after.1 else Done d) in shown (run card_meaning q c1).0 (run card_meaning q c1).1) ≡ Some (if b then placed_on after.0 p after.1 else after.0)
+      by_test : (b : Bool) → (let q : Plan BiosData = (if b then move_cursor_plan d p after.1 else Done d) in
+          shown (run card_meaning q c1).0 (run card_meaning q c1).1) ≡ Some (if b then placed_on after.0 p after.1 else after.0)
       by_test true = moved c1 d after.0 p after.1 all.leads.shows bda lp all.inside
       by_test false = all.leads.shows
 
@@ -88,13 +93,15 @@ record StringAllowed (pages p rows columns place : ℕ) : Type 0 where
   page : p < pages
   inside : Inside rows columns place
 
-string_allowed : (pages p rows columns place : ℕ) (wrong : Option Refusal) → (no_page pages p or outside_page rows columns place or wrong) ≡ None → StringAllowed pages p rows columns place
+string_allowed : (pages p rows columns place : ℕ) (wrong : Option Refusal) → (no_page pages p or outside_page rows columns place or wrong) ≡ None →
+    StringAllowed pages p rows columns place
 string_allowed pages p rows columns place wrong e =
     let page = neither (no_page pages p) (outside_page rows columns place or wrong) e in
     let inside = neither (outside_page rows columns place) wrong page.1 in
     record { page = page_allowed pages p page.0; inside = place_allowed rows columns place inside.0 }
 
-pub write_string : (law : KeepsBounds) (call : StringCall) (fonts : FontSet) (r : Regs) (block : List ℕ) (c : CardState) (d : BiosData) (h : IsAny c d) → AreBytes block → call.colour < 256 → IsCard c → IsBda d → IsServed (WriteString call) fonts r block c d (any_screen c d h c)
+pub write_string : (law : KeepsBounds) (call : StringCall) (fonts : FontSet) (r : Regs) (block : List ℕ) (c : CardState) (d : BiosData) (h : IsAny c d) →
+    AreBytes block → call.colour < 256 → IsCard c → IsBda d → IsServed (WriteString call) fonts r block c d (any_screen c d h c)
 unfolding plan_of refusal_in_mode refusal_on next answer_on
 write_string law call fonts r block c d h bytes colour z bda =
     let s = any_screen c d h c in
@@ -102,7 +109,8 @@ write_string law call fonts r block c d h bytes colour z bda =
     let q = page_meant s call.page in
     let runs = data_runs (string_plan fonts d p call block) r c in
     record {
-      refusal = ap (λ n. no_page n (page_among n call.page) or outside_page (d.last_row + 1) d.columns call.place or wrong_block (string_len call) (length block))
+      refusal = ap (λ n. no_page n (page_among n call.page) or outside_page (d.last_row + 1) d.columns call.place
+          or wrong_block (string_len call) (length block))
           (pages_are h.row d h.mode);
       answer = λ _. ap (λ x. x.1.0) runs;
       shows = λ allowed.

@@ -53,7 +53,9 @@ use Rattle.bios_screen.proofs.Services.Palette.{port_is, index_moved, dac_shown}
 abbrev values_of : List ℕ → List ℕ
 values_of l = take 16 l ++ slice_index l 0x11 ∷ []
 
-palette_by : (mode : Tabled) (c : CardState) (l : List ℕ) → run card_meaning (read_palette_plan (port_of mode)) (with_attr (card_at c (setting_of mode)) (listing (slice_index l) 0 21) c.attr.index c.attr.is_data) ≡ (with_attr (card_at c (setting_of mode)) (listing (slice_index l) 0 21) 0x31 false, values_of (listing (slice_index l) 0 21))
+palette_by : (mode : Tabled) (c : CardState) (l : List ℕ) → run card_meaning (read_palette_plan (port_of mode))
+    (with_attr (card_at c (setting_of mode)) (listing (slice_index l) 0 21) c.attr.index c.attr.is_data)
+    ≡ (with_attr (card_at c (setting_of mode)) (listing (slice_index l) 0 21) 0x31 false, values_of (listing (slice_index l) 0 21))
 unfolding read_palette_plan registers_plan register_plan reached_by crtc_port_of out_at inp_at
 palette_by (OfText Colour) c l = refl
 palette_by (OfText Monochrome) c l = refl
@@ -62,7 +64,8 @@ palette_by (OfPixels (Sixteen Middle)) c l = refl
 palette_by (OfPixels (Sixteen High)) c l = refl
 palette_by (OfPixels Many) c l = refl
 
-palette_read : (mode : Tabled) (c : CardState) → setting c ≡ setting_of mode → IsCard c → run card_meaning (read_palette_plan (port_of mode)) c ≡ (with_attr c c.attr.registers 0x31 false, values_of c.attr.registers)
+palette_read : (mode : Tabled) (c : CardState) → setting c ≡ setting_of mode → IsCard c →
+    run card_meaning (read_palette_plan (port_of mode)) c ≡ (with_attr c c.attr.registers 0x31 false, values_of c.attr.registers)
 palette_read mode c e z =
     let l = c.attr.registers in
     let plan = read_palette_plan (port_of mode) in
@@ -85,18 +88,22 @@ next_byte i = inp 0x3C9
 abbrev with_byte : ℕ → List ℕ → Plan (List ℕ)
 with_byte x l = Done (x ∷ l)
 
-three_more : (p : Plan (List ℕ)) (x y z : ℕ) (c : CardState) → run card_meaning (((p >>= with_byte z) >>= with_byte y) >>= with_byte x) c ≡ (let r = run card_meaning p c in let q : CardState × List ℕ = (r.0, x ∷ y ∷ z ∷ r.1) in q)
+three_more : (p : Plan (List ℕ)) (x y z : ℕ) (c : CardState) → run card_meaning (((p >>= with_byte z) >>= with_byte y) >>= with_byte x) c
+    ≡ (let r = run card_meaning p c in let q : CardState × List ℕ = (r.0, x ∷ y ∷ z ∷ r.1) in q)
 three_more p x y z c =
     run_bind card_meaning ((p >>= with_byte z) >>= with_byte y) (with_byte x) c
     ∙ ap (λ (r : CardState × List ℕ). run card_meaning (with_byte x r.1) r.0) (run_bind card_meaning (p >>= with_byte z) (with_byte y) c)
     ∙ ap (λ (r : CardState × List ℕ). let q : CardState × List ℕ = (r.0, x ∷ y ∷ r.1) in q) (run_bind card_meaning p (with_byte z) c)
 
-entry_by : (c : CardState) (n i k : ℕ) → run card_meaning (gather next_byte (suc (suc (suc n))) i) (at_entry c k) ≡ run card_meaning (((gather next_byte n (i + 1 + 1 + 1) >>= with_byte (slice_index c.dac.blues k)) >>= with_byte (slice_index c.dac.greens k)) >>= with_byte (slice_index c.dac.reds k)) (at_entry c ((k + 1) % 256))
+entry_by : (c : CardState) (n i k : ℕ) → run card_meaning (gather next_byte (suc (suc (suc n))) i) (at_entry c k)
+    ≡ run card_meaning (((gather next_byte n (i + 1 + 1 + 1) >>= with_byte (slice_index c.dac.blues k)) >>= with_byte (slice_index c.dac.greens k))
+    >>= with_byte (slice_index c.dac.reds k)) (at_entry c ((k + 1) % 256))
 unfolding reached_by inp_at
 entry_by c n i k = refl
 
 -- so many entries from one on
-entries_by : (c : CardState) (n i k : ℕ) → k + n ≤ 256 → run card_meaning (gather next_byte (3 * n) i) (at_entry c (k % 256)) ≡ (at_entry c ((k + n) % 256), entries_from (palette_in c) k n)
+entries_by : (c : CardState) (n i k : ℕ) → k + n ≤ 256 → run card_meaning (gather next_byte (3 * n) i) (at_entry c (k % 256))
+    ≡ (at_entry c ((k + n) % 256), entries_from (palette_in c) k n)
 entries_by c zero i k l = let z : k ≡ k + 0 = omega arith in ap (λ j. let p : CardState × List ℕ = (at_entry c (j % 256), []) in p) z
 entries_by c (suc n) i k l =
     let count : 3 * suc n ≡ suc (suc (suc (3 * n))) = omega arith in
@@ -116,7 +123,8 @@ index_by : (c : CardState) (v : ℕ) → (run card_meaning (out 0x3C7 v) c).0 �
 unfolding reached_by out_at
 index_by c v = refl
 
-entries_read : (c : CardState) (first count : ℕ) → first < 256 → first + count ≤ 256 → run card_meaning (read_entries_plan first count) c ≡ (at_entry c ((first + count) % 256), entries_from (palette_in c) first count)
+entries_read : (c : CardState) (first count : ℕ) → first < 256 → first + count ≤ 256 →
+    run card_meaning (read_entries_plan first count) c ≡ (at_entry c ((first + count) % 256), entries_from (palette_in c) first count)
 unfolding read_entries_plan read_components_plan
 entries_read c first count begin few =
     let small : first ≡ first % 256 = omega arith in
@@ -140,7 +148,8 @@ record IsTable (service : TableService) (c : CardState) (d : BiosData) (s : Scre
   answer : (run card_meaning (table_plan service d.crtc_address) c).1 ≡ table_answer s service
   shows : shown (run card_meaning (table_plan service d.crtc_address) c).0 d ≡ Some s
 
-is_table : (service : TableService) (c : CardState) (d : BiosData) (h : IsAny c d) → IsCard c → table_refusal service ≡ None → IsTable service c d (any_screen c d h c)
+is_table : (service : TableService) (c : CardState) (d : BiosData) (h : IsAny c d) → IsCard c → table_refusal service ≡ None →
+    IsTable service c d (any_screen c d h c)
 unfolding table_plan
 is_table ReadPalette c d h z e =
     let done : List ℕ → Plan Table = λ values. Done (PaletteTable values) in
@@ -155,11 +164,16 @@ is_table (ReadEntries first count) c d h z e =
     let runs =
     run_bind card_meaning (read_entries_plan first count) done c
     ∙ ap (λ (x : CardState × List ℕ). run card_meaning (done x.1) x.0) (entries_read c first count a.begin a.all) in
-    record { answer = ap (λ x. x.1) runs; shows = ap (λ x. shown x.0 d) runs ∙ dac_shown c d h (record c.dac { index = (first + count) % 256; component = Red }) }
+    record {
+      answer = ap (λ x. x.1) runs;
+      shows = ap (λ x. shown x.0 d) runs ∙ dac_shown c d h
+          (record c.dac { index = (first + count) % 256; component = Red });
+    }
 
 -- ---- the call
 
-call_read : (service : TableService) (fonts : FontSet) (r : Regs) (block : List ℕ) (c : CardState) (d : BiosData) (h : IsAny c d) → IsCard c → shown c d ≡ Some (any_screen c d h c) → call_of r ≡ Some (ReadTable service) → IsRead service fonts r block c d (any_screen c d h c)
+call_read : (service : TableService) (fonts : FontSet) (r : Regs) (block : List ℕ) (c : CardState) (d : BiosData) (h : IsAny c d) → IsCard c →
+    shown c d ≡ Some (any_screen c d h c) → call_of r ≡ Some (ReadTable service) → IsRead service fonts r block c d (any_screen c d h c)
 unfolding table_in_mode_plan table_unless
 call_read service fonts r block c d h z old e = by_refusal (table_refusal service) refl
   where
@@ -169,7 +183,8 @@ call_read service fonts r block c d h z old e = by_refusal (table_refusal servic
     runs : after_call fonts r block c d ≡ run card_meaning (table_unless (table_refusal service) service d r) c
     runs =
         ap (λ (q : Option Call). run card_meaning (call_plan q fonts d r block) c) e
-        ∙ ap (λ b. run card_meaning (if b then refuse NoMode d else table_unless (table_refusal service) service d r) c) (mode_of_shown c d (any_screen c d h c) old).set
+        ∙ ap (λ b. run card_meaning (if b then refuse NoMode d else table_unless (table_refusal service) service d r) c)
+        (mode_of_shown c d (any_screen c d h c) old).set
 
     beam_is : (after_call fonts r block c d).0.crtc.beam ≡ c.crtc.beam
     beam_is = ap (λ y. y.0.crtc.beam) runs ∙ plan_beam (table_unless (table_refusal service) service d r) c
@@ -186,16 +201,19 @@ call_read service fonts r block c d h z old e = by_refusal (table_refusal servic
         let t = is_table service c d h z q in
         let all = runs ∙ ap (λ x. run card_meaning (table_unless x service d r) c) q ∙ run_bind card_meaning (table_plan service d.crtc_address) done c in
         record {
-          reply = ap (λ x. x.1.0) all ∙ ap (λ k. replied_unless None k r) t.answer ∙ sym (ap (λ x. replied_unless x (table_answer (any_screen c d h c) service) r) q);
+          reply = ap (λ x. x.1.0) all ∙ ap (λ k. replied_unless None k r) t.answer
+              ∙ sym (ap (λ x. replied_unless x (table_answer (any_screen c d h c) service) r) q);
           shows = ap (λ x. shown x.0 x.1.1) all ∙ t.shows;
           beam = beam_is;
         }
 
-pub tables_read : (service : TableService) (fonts : FontSet) (r : Regs) (block : List ℕ) (c : CardState) (d : BiosData) (s : Screen) → IsCard c → shown c d ≡ Some s → call_of r ≡ Some (ReadTable service) → IsRead service fonts r block c d s
+pub tables_read : (service : TableService) (fonts : FontSet) (r : Regs) (block : List ℕ) (c : CardState) (d : BiosData) (s : Screen) → IsCard c →
+    shown c d ≡ Some s → call_of r ≡ Some (ReadTable service) → IsRead service fonts r block c d s
 tables_read service fonts r block c d s z old e =
     let x = any_is c d s old in
     subst (IsRead service fonts r block c d) x.screen (call_read service fonts r block c d x.is z (old ∙ ap Some (sym x.screen)) e)
 
 -- where there is no memory nothing has changed
-pub memory_wanted : (fonts : FontSet) (r : Regs) (block : List ℕ) (c y : CardState) (d after : BiosData) (s : Screen) → shown c d ≡ Some s → WantsMemory fonts r block c d y after → IsLeft c s y after
+pub memory_wanted : (fonts : FontSet) (r : Regs) (block : List ℕ) (c y : CardState) (d after : BiosData) (s : Screen) → shown c d ≡ Some s →
+    WantsMemory fonts r block c d y after → IsLeft c s y after
 memory_wanted fonts r block c y d after s old h = record { shows = ap (λ x. shown x after) h.0 ∙ ap (shown c) h.1 ∙ old; beam = ap (λ x. x.crtc.beam) h.0 }

@@ -43,7 +43,8 @@ can_type law fonts d p lp = by_kind (is_text d.mode) refl
     by_kind false t = can_type_pixels law fonts d p lp t
 
 -- the cursor goes to a place of the page
-pub moved : (c : CardState) (d : BiosData) (s : Screen) (p place : ℕ) → shown c d ≡ Some s → IsBda d → p < pages_of d → Inside (d.last_row + 1) d.columns place → (let x = run card_meaning (move_cursor_plan d p place) c in shown x.0 x.1) ≡ Some (placed_on s p place)
+pub moved : (c : CardState) (d : BiosData) (s : Screen) (p place : ℕ) → shown c d ≡ Some s → IsBda d → p < pages_of d →
+    Inside (d.last_row + 1) d.columns place → (let x = run card_meaning (move_cursor_plan d p place) c in shown x.0 x.1) ≡ Some (placed_on s p place)
 moved c d s p place e bda lp i = by_kind (is_text d.mode) refl
   where
     by_kind : (b : Bool) → is_text d.mode ≡ b → (let x = run card_meaning (move_cursor_plan d p place) c in shown x.0 x.1) ≡ Some (placed_on s p place)
@@ -55,14 +56,16 @@ moved c d s p place e bda lp i = by_kind (is_text d.mode) refl
 
 -- ---- function 0E
 
-module _ (law : KeepsBounds) (v colour : ℕ) (lv : v < 256) (la : colour < 256) (fonts : FontSet) (c : CardState) (d : BiosData) (h : IsAny c d) (z : IsCard c) (bda : IsBda d) where
+module _ (law : KeepsBounds) (v colour : ℕ) (lv : v < 256) (la : colour < 256) (fonts : FontSet) (c : CardState) (d : BiosData) (h : IsAny c d) (z : IsCard c)
+    (bda : IsBda d) where
   abbrev s : Screen
   s = any_screen c d h c
 
   abbrev at : ℕ
   at = place_of d d.page
 
-  typed_at : d.page < pages_of d → Inside (d.last_row + 1) d.columns at → (let x = run card_meaning (teletype_plan fonts d v colour) c in shown x.0 x.1) ≡ Some (type_at_cursor fonts s v colour)
+  typed_at : d.page < pages_of d → Inside (d.last_row + 1) d.columns at → (let x = run card_meaning (teletype_plan fonts d v colour) c in shown x.0 x.1)
+      ≡ Some (type_at_cursor fonts s v colour)
   unfolding teletype_plan
   typed_at lp inside = by_test (v == 0x07)
     where
@@ -75,7 +78,8 @@ module _ (law : KeepsBounds) (v colour : ℕ) (lv : v < 256) (la : colour < 256)
       after : Screen × ℕ
       after = type_character fonts s d.page at v (dots_in colour)
 
-      by_test : (b : Bool) → (let q : Plan BiosData = (if b then Done d else (plan >>= cursor)) in shown (run card_meaning q c).0 (run card_meaning q c).1) ≡ Some (if b then s else placed_on after.0 d.page after.1)
+      by_test : (b : Bool) → (let q : Plan BiosData = (if b then Done d else (plan >>= cursor)) in shown (run card_meaning q c).0 (run card_meaning q c).1)
+          ≡ Some (if b then s else placed_on after.0 d.page after.1)
       by_test true = still_any c d h
       by_test false =
           let t = is_typed law fonts d d.page (can_type law fonts d d.page lp) c s at v (dots_in colour) z (still_any c d h) inside lv la in
@@ -92,6 +96,7 @@ module _ (law : KeepsBounds) (v colour : ℕ) (lv : v < 256) (la : colour < 256)
       record {
         refusal = refl;
         answer = λ _. ap (λ x. x.1.0) runs;
-        shows = λ allowed. ap (λ x. shown x.0 x.1.1) runs ∙ typed_at (cut_is c d s (still_any c d h)).active (place_allowed (d.last_row + 1) d.columns at allowed);
+        shows = λ allowed. ap (λ x. shown x.0 x.1.1) runs ∙ typed_at (cut_is c d s (still_any c d h)).active
+            (place_allowed (d.last_row + 1) d.columns at allowed);
         beam = plan_beam (then_data plan r) c;
       }

@@ -44,7 +44,8 @@ module _ (c : CardState) (d : BiosData) (h : IsShown c d) (page x y : ℕ) where
 refused_never : {Y : Type 0} (why : Refusal) → Some why ≡ None → Y
 refused_never why e = absurd (cc)
 
-pub write_pixel : (page x y colour : ℕ) (fonts : FontSet) (r : Regs) (block : List ℕ) (c : CardState) (d : BiosData) (h : IsShown c d) → IsServed (WritePixel page x y colour) fonts r block c d (screen_shown c d h)
+pub write_pixel : (page x y colour : ℕ) (fonts : FontSet) (r : Regs) (block : List ℕ) (c : CardState) (d : BiosData) (h : IsShown c d) →
+    IsServed (WritePixel page x y colour) fonts r block c d (screen_shown c d h)
 unfolding refusal_in_mode refusal_on
 write_pixel page x y colour fonts r block c d h = record {
   refusal = refused c d h page x y ∙ sym (refused_too c d h page x y);
@@ -53,7 +54,8 @@ write_pixel page x y colour fonts r block c d h = record {
   beam = plan_beam (plan_of (WritePixel page x y colour) fonts d r block) c;
 }
 
-pub read_pixel : (page x y : ℕ) (fonts : FontSet) (r : Regs) (block : List ℕ) (c : CardState) (d : BiosData) (h : IsShown c d) → IsServed (ReadPixel page x y) fonts r block c d (screen_shown c d h)
+pub read_pixel : (page x y : ℕ) (fonts : FontSet) (r : Regs) (block : List ℕ) (c : CardState) (d : BiosData) (h : IsShown c d) →
+    IsServed (ReadPixel page x y) fonts r block c d (screen_shown c d h)
 unfolding refusal_in_mode refusal_on
 read_pixel page x y fonts r block c d h = record {
   refusal = refused c d h page x y ∙ sym (refused_too c d h page x y);

@@ -64,12 +64,14 @@ pub record LeadsInside (p : Plan ℕ) (c : CardState) (d : BiosData) (to : Scree
   pub inside : Inside (d.last_row + 1) d.columns to.1
 
 -- one of two plans leads to one of two screens
-leads_if : (b : Bool) (p q : Plan ℕ) (c : CardState) (d : BiosData) (x y : Screen × ℕ) → Leads p c d x → Leads q c d y → Leads (if b then p else q) c d (if b then x else y)
+leads_if : (b : Bool) (p q : Plan ℕ) (c : CardState) (d : BiosData) (x y : Screen × ℕ) → Leads p c d x → Leads q c d y →
+    Leads (if b then p else q) c d (if b then x else y)
 leads_if true p q c d x y f g = f
 leads_if false p q c d x y f g = g
 
 -- one plan, and then another that knows the place
-pub leads_on : (p : Plan ℕ) (f : ℕ → Plan ℕ) (c : CardState) (d : BiosData) (x y : Screen × ℕ) → Leads p c d x → Leads (f x.1) (run card_meaning p c).0 d y → Leads (p >>= f) c d y
+pub leads_on : (p : Plan ℕ) (f : ℕ → Plan ℕ) (c : CardState) (d : BiosData) (x y : Screen × ℕ) → Leads p c d x → Leads (f x.1) (run card_meaning p c).0 d y →
+    Leads (p >>= f) c d y
 leads_on p f c d x y first second =
     let c1 = (run card_meaning p c).0 in
     let bound = run_bind card_meaning p f c in
@@ -79,7 +81,8 @@ leads_on p f c d x y first second =
     }
 
 -- a plan without an answer, and then another
-pub leads_after : (p : Plan (Unit {0})) (q : Plan ℕ) (c : CardState) (d : BiosData) (y : Screen × ℕ) → Leads q (run card_meaning p c).0 d y → Leads (p >> q) c d y
+pub leads_after : (p : Plan (Unit {0})) (q : Plan ℕ) (c : CardState) (d : BiosData) (y : Screen × ℕ) → Leads q (run card_meaning p c).0 d y →
+    Leads (p >> q) c d y
 leads_after p q c d y second = record {
   answer = then_answers p q c ∙ second.answer;
   shows = ap (λ x. shown x d) (then_runs p q c) ∙ second.shows;
@@ -93,38 +96,52 @@ rise_plan d p place = line_feed_fill d p place >>= λ colour. (up_plan (band_of 
 
 -- in every mode a character is put at a place of a page, and the page goes up by a row
 pub record CanType (fonts : FontSet) (d : BiosData) (p : ℕ) : Type 0 where
-  pub put : (c : CardState) (s : Screen) (place v : ℕ) (colouring : Colouring) → IsCard c → shown c d ≡ Some s → Inside (d.last_row + 1) d.columns place → v < 256 → colouring.colour < 256
+  pub put : (c : CardState) (s : Screen) (place v : ℕ) (colouring : Colouring) → IsCard c → shown c d ≡ Some s → Inside (d.last_row + 1) d.columns place →
+      v < 256 → colouring.colour < 256
       → shown (run card_meaning (character_plan fonts d p (cell_number d place) v colouring) c).0 d ≡ Some (put_character fonts s p place v colouring)
-  pub rise : (c : CardState) (s : Screen) (place : ℕ) → IsCard c → shown c d ≡ Some s → column_of place < d.columns → Leads (rise_plan d p place) c d (risen s p place, place)
+  pub rise : (c : CardState) (s : Screen) (place : ℕ) → IsCard c → shown c d ≡ Some s → column_of place < d.columns →
+      Leads (rise_plan d p place) c d (risen s p place, place)
 
 -- ---- typing
 
 module _ (law : KeepsBounds) (fonts : FontSet) (d : BiosData) (p : ℕ) (can : CanType fonts d p) where
-  feeds : (c : CardState) (s : Screen) (place : ℕ) → IsCard c → shown c d ≡ Some s → column_of place < d.columns → Leads (line_feed_plan d p place) c d (line_feed s p place)
+  feeds : (c : CardState) (s : Screen) (place : ℕ) → IsCard c → shown c d ≡ Some s → column_of place < d.columns →
+      Leads (line_feed_plan d p place) c d (line_feed s p place)
   unfolding line_feed_plan
   feeds c s place z e lc =
       let cut = cut_is c d s e in
       let last : s.layout.rows - 1 ≡ d.last_row = let a = cut.rows in omega arith in
-      subst (λ n. Leads (if nat_lt (row_of place) d.last_row then Done (place + 256) else rise_plan d p place) c d (if nat_lt (row_of place) n then (s, place + 256) else (risen s p place, place))) (sym last)
-      (leads_if (nat_lt (row_of place) d.last_row) (Done (place + 256)) (rise_plan d p place) c d (s, place + 256) (risen s p place, place) (record { answer = refl; shows = e }) (can.rise c s place z e lc))
+      subst (λ n. Leads (if nat_lt (row_of place) d.last_row then Done (place + 256) else rise_plan d p place) c d (if nat_lt (row_of place) n
+      then (s, place + 256) else (risen s p place, place))) (sym last)
+      (leads_if (nat_lt (row_of place) d.last_row) (Done (place + 256)) (rise_plan d p place) c d (s, place + 256) (
+        risen s p place,
+        place,
+      ) (record { answer = refl; shows = e }) (can.rise c s place z e lc))
 
-  advances : (c : CardState) (s : Screen) (place : ℕ) → IsCard c → shown c d ≡ Some s → column_of place < d.columns → Leads (cursor_advance_plan d p place) c d (cursor_advance s p place)
+  advances : (c : CardState) (s : Screen) (place : ℕ) → IsCard c → shown c d ≡ Some s → column_of place < d.columns →
+      Leads (cursor_advance_plan d p place) c d (cursor_advance s p place)
   unfolding cursor_advance_plan
   advances c s place z e lc =
       let below = feeds c s place z e lc in
       let start : ℕ → Plan ℕ = λ x. Done (line_start x) in
       let next : Screen × ℕ = ((line_feed s p place).0, line_start (line_feed s p place).1) in
-      subst (λ n. Leads (if nat_lt (column_of place + 1) d.columns then Done (place + 1) else (line_feed_plan d p place >>= start)) c d (if nat_lt (column_of place + 1) n then (s, place + 1) else next)) (sym (cut_is c d s e).columns)
-      (leads_if (nat_lt (column_of place + 1) d.columns) (Done (place + 1)) (line_feed_plan d p place >>= start) c d (s, place + 1) next (record { answer = refl; shows = e })
+      subst (λ n. Leads (if nat_lt (column_of place + 1) d.columns then Done (place + 1)
+      else (line_feed_plan d p place >>= start)) c d (if nat_lt (column_of place + 1) n then (s, place + 1) else next)) (sym (cut_is c d s e).columns)
+      (leads_if (nat_lt (column_of place + 1) d.columns) (Done (place + 1)) (line_feed_plan d p place >>= start) c d (
+        s,
+        place + 1,
+      ) next (record { answer = refl; shows = e })
       (leads_on (line_feed_plan d p place) start c d (line_feed s p place) next below (record { answer = refl; shows = below.shows })))
 
-  module _ (c : CardState) (s : Screen) (place v : ℕ) (colouring : Colouring) (z : IsCard c) (e : shown c d ≡ Some s) (i : Inside (d.last_row + 1) d.columns place) (lv : v < 256) (la : colouring.colour < 256) where
+  module _ (c : CardState) (s : Screen) (place v : ℕ) (colouring : Colouring) (z : IsCard c) (e : shown c d ≡ Some s)
+      (i : Inside (d.last_row + 1) d.columns place) (lv : v < 256) (la : colouring.colour < 256) where
     shows : Leads (show_plan fonts d p place v colouring) c d (cursor_advance (put_character fonts s p place v colouring) p place)
     unfolding show_plan
     shows =
         let write = character_plan fonts d p (cell_number d place) v colouring in
         leads_after write (cursor_advance_plan d p place) c d (cursor_advance (put_character fonts s p place v colouring) p place)
-        (advances (run card_meaning write c).0 (put_character fonts s p place v colouring) place (plan_bounds law write c z) (can.put c s place v colouring z e i lv la) i.column)
+        (advances (run card_meaning write c).0 (put_character fonts s p place v colouring) place (plan_bounds law write c z)
+        (can.put c s place v colouring z e i lv la) i.column)
 
     -- what is typed, and where the cursor is then
     leads : Leads (type_plan fonts d p place v colouring) c d (type_character fonts s p place v colouring)
@@ -140,7 +157,9 @@ module _ (law : KeepsBounds) (fonts : FontSet) (d : BiosData) (p : ℕ) (can : C
         on : Screen × ℕ
         on = cursor_advance (put_character fonts s p place v colouring) p place
 
-        by_tests : (a b f g : Bool) → Leads (if a then Done place else if b then Done back else if f then line_feed_plan d p place else if g then Done (line_start place) else show_plan fonts d p place v colouring) c d (if a then (s, place) else if b then (s, back) else if f then line_feed s p place else if g then (s, line_start place) else on)
+        by_tests : (a b f g : Bool) → Leads (if a then Done place else if b then Done back else if f then line_feed_plan d p place else if g
+            then Done (line_start place) else show_plan fonts d p place v colouring) c d (if a then (s, place) else if b then (s, back) else if f
+            then line_feed s p place else if g then (s, line_start place) else on)
         by_tests true b f g = stays place
         by_tests false true f g = stays back
         by_tests false false true g = feeds c s place z e i.column
@@ -148,4 +167,8 @@ module _ (law : KeepsBounds) (fonts : FontSet) (d : BiosData) (p : ℕ) (can : C
         by_tests false false false false = shows
 
     pub is_typed : LeadsInside (type_plan fonts d p place v colouring) c d (type_character fonts s p place v colouring)
-    is_typed = let cut = cut_is c d s e in record { leads = leads; inside = typed_inside (d.last_row + 1) d.columns cut.narrow fonts s p place v colouring cut.rows cut.columns i }
+    is_typed = let cut = cut_is c d s e in record {
+      leads = leads;
+      inside = typed_inside (d.last_row + 1) d.columns cut.narrow fonts s p place v colouring
+          cut.rows cut.columns i;
+    }

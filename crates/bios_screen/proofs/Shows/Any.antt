@@ -10,7 +10,8 @@ use Rattle.bios_modes.specs.Heights.{row_at}
 use Rattle.bios_modes.specs.Bda.{BiosData}
 use Rattle.bios_modes.specs.Kinds.{is_text}
 use Rattle.bios_screen.specs.Screen.{Contents, Cells, Pixels, Screen}
-use Rattle.bios_screen.specs.Shown.{shows_attribute, cells_in, glyphs_in, all_cells, pixel_pages, page_pixels, crtc_shown, screen_by, screen_of, shown_by, shown}
+use Rattle.bios_screen.specs.Shown.{shows_attribute, cells_in, glyphs_in, all_cells, pixel_pages, page_pixels, crtc_shown, screen_by, screen_of, shown_by}
+use Rattle.bios_screen.specs.Shown.{shown}
 use Rattle.bios_screen.proofs.Base.Tests.{both_true, same}
 use Rattle.bios_screen.proofs.Base.Setting.{Setting, setting}
 use Rattle.bios_screen.proofs.Modes.TextModes.{control_by as text_control_by}
@@ -42,7 +43,8 @@ abbrev pub any_screen : (c : CardState) (d : BiosData) → IsAny c d → (y : Ca
 any_screen c d h y = screen_by h.row y d h.distance (h.contents y.host.memory) (h.glyphs y.host.memory)
 
 -- the test in another state, where registers that memory looks at and those of the CRT controller are the same
-pub same_tests : (row : ModeRow) (c y : CardState) (d : BiosData) → setting y ≡ setting c → y.crtc.registers ≡ c.crtc.registers → shows_attribute row y.attr ≡ true → AllTests row c d → AllTests row y d
+pub same_tests : (row : ModeRow) (c y : CardState) (d : BiosData) → setting y ≡ setting c → y.crtc.registers ≡ c.crtc.registers →
+    shows_attribute row y.attr ≡ true → AllTests row c d → AllTests row y d
 same_tests row c y d s e a t = record {
   memory = ap (λ (x : Setting). (x.misc == row.misc) && (bytes_eq x.seq row.sequencer && bytes_eq x.gfx row.graphics)) s ∙ t.memory;
   data_test = t.data_test;
@@ -51,7 +53,8 @@ same_tests row c y d s e a t = record {
 }
 
 -- other registers that are shown, where those of the CRT controller and those that memory looks at stay
-pub any_shown : (c y : CardState) (d : BiosData) (h : IsAny c d) → setting y ≡ setting c → y.crtc.registers ≡ c.crtc.registers → shows_attribute h.row y.attr ≡ true → shown y d ≡ Some (any_screen c d h y)
+pub any_shown : (c y : CardState) (d : BiosData) (h : IsAny c d) → setting y ≡ setting c → y.crtc.registers ≡ c.crtc.registers →
+    shows_attribute h.row y.attr ≡ true → shown y d ≡ Some (any_screen c d h y)
 any_shown c y d h s e a =
     ap (λ x. shown_by x y d) h.mode
     ∙ ap (λ b. if b then Some (screen_of h.row y d) else None) (shows_by h.row y d (same_tests h.row c y d s e a h.tests))
@@ -108,7 +111,8 @@ pixel_setting c d h =
     record {
       kind = g.kind;
       row_is = g.row_is;
-      setting = setting_by h.row c h.tests.memory ∙ ap (λ (r : ModeRow). let q : Setting = record { misc = r.misc; seq = r.sequencer; gfx = r.graphics } in q) (sym g.row_is);
+      setting = setting_by h.row c h.tests.memory ∙ ap (λ (r : ModeRow). let q : Setting = record { misc = r.misc; seq = r.sequencer; gfx = r.graphics } in q)
+          (sym g.row_is);
       port = h.has.port ∙ ap (λ (r : ModeRow). r.crtc_address) (sym g.row_is) ∙ row_port g.kind;
     }
 

@@ -6,16 +6,19 @@ use Rattle.bios_modes.specs.Fonts.{FontSet}
 use Rattle.bios_services.specs.declared.colouring.Colouring.{Colouring}
 use Rattle.bios_services.specs.declared.strings.StringCall.{StringCall}
 use Rattle.bios_services.specs.declared.colours.ColourService.{ColourService}
-use Rattle.bios_services.specs.declared.colours.ColourService.TheVariants.{SetRegister, SetOverscan, SetPalette, SetBlinking, ReadRegister, ReadOverscan, SetEntry, SetEntries, ReadEntry, SetMask, ReadMask}
+use Rattle.bios_services.specs.declared.colours.ColourService.TheVariants.{SetRegister, SetOverscan, SetPalette, SetBlinking, ReadRegister, ReadOverscan}
+use Rattle.bios_services.specs.declared.colours.ColourService.TheVariants.{SetEntry, SetEntries, ReadEntry, SetMask, ReadMask}
 use Rattle.bios_services.specs.declared.call.Service.{Service}
-use Rattle.bios_services.specs.declared.call.Service.TheVariants.{SetCursorType, SetCursor, ReadCursor, SelectPage, ScrollUp, ScrollDown, ReadCell, WriteCells, WritePixel, ReadPixel, Teletype, ReadMode, Colours, ReadAdapter, WriteString, ReadDisplay}
+use Rattle.bios_services.specs.declared.call.Service.TheVariants.{SetCursorType, SetCursor, ReadCursor, SelectPage, ScrollUp, ScrollDown, ReadCell, WriteCells}
+use Rattle.bios_services.specs.declared.call.Service.TheVariants.{WritePixel, ReadPixel, Teletype, ReadMode, Colours, ReadAdapter, WriteString, ReadDisplay}
 use Rattle.bios_services.specs.Teletype.{line_start, dots_in}
 use Rattle.bios_services.specs.Strings.{character_at, colouring_at}
 use Rattle.bios_services.specs.Cursor.{row_of, column_of}
 use Rattle.bios_screen.specs.Screen.{Screen, cursor_place}
 use Rattle.bios_screen.specs.Colours.{with_colours}
 use Rattle.bios_screen.specs.Called.{screen_unless}
-use Rattle.bios_screen.specs.Step.{page_meant, last_colour, whole_page, window_up, line_feed, cursor_advance, put_character, type_character, type_characters, with_place, next}
+use Rattle.bios_screen.specs.Step.{page_meant, last_colour, whole_page, window_up, line_feed, cursor_advance, put_character, type_character, type_characters}
+use Rattle.bios_screen.specs.Step.{with_place, next}
 
 -- t has the mode of s, and is cut as s is
 pub record IsCutAs (s t : Screen) : Type 0 where
@@ -37,12 +40,19 @@ cut_either s true x y h k = h
 cut_either s false x y h k = k
 
 fed_cut : (s : Screen) (page place : ℕ) → IsCutAs s (line_feed s page place).0
-fed_cut s page place = cut_if s (nat_lt (row_of place) (s.layout.rows - 1)) (s, place + 256) (window_up s page (whole_page s (last_colour s page place)), place) (uncut s) (record { mode = refl; layout = refl })
+fed_cut s page place = cut_if s (nat_lt (row_of place) (s.layout.rows - 1)) (s, place + 256) (
+  window_up s page (whole_page s (last_colour s page place)),
+  place,
+) (uncut s) (record { mode = refl; layout = refl })
 
 advanced_cut : (s : Screen) (page place : ℕ) → IsCutAs s (cursor_advance s page place).0
-advanced_cut s page place = cut_if s (nat_lt (column_of place + 1) s.layout.columns) (s, place + 1) ((line_feed s page place).0, line_start (line_feed s page place).1) (uncut s) (fed_cut s page place)
+advanced_cut s page place = cut_if s (nat_lt (column_of place + 1) s.layout.columns) (s, place + 1) (
+  (line_feed s page place).0,
+  line_start (line_feed s page place).1,
+) (uncut s) (fed_cut s page place)
 
-typed_cut : (fonts : FontSet) (s : Screen) (page place character : ℕ) (colouring : Colouring) → IsCutAs s (type_character fonts s page place character colouring).0
+typed_cut : (fonts : FontSet) (s : Screen) (page place character : ℕ) (colouring : Colouring) →
+    IsCutAs s (type_character fonts s page place character colouring).0
 unfolding type_character
 typed_cut fonts s page place character colouring =
     let put = put_character fonts s page place character colouring in
@@ -52,7 +62,8 @@ typed_cut fonts s page place character colouring =
     (cut_if s (character == 0x0A) (line_feed s page place) _ (fed_cut s page place)
     (cut_if s (character == 0x0D) (s, line_start place) (cursor_advance put page place) (uncut s) (cut_on is_put (advanced_cut put page place)))))
 
-string_cut : (fonts : FontSet) (call : StringCall) (block : List ℕ) (page n i : ℕ) (at : Screen × ℕ) → IsCutAs at.0 (type_characters fonts call block page n i at).0
+string_cut : (fonts : FontSet) (call : StringCall) (block : List ℕ) (page n i : ℕ) (at : Screen × ℕ) →
+    IsCutAs at.0 (type_characters fonts call block page n i at).0
 string_cut fonts call block page zero i at = uncut at.0
 string_cut fonts call block page (suc n) i at =
     let after = type_character fonts at.0 page at.1 (character_at call block i) (colouring_at call block i) in
@@ -99,6 +110,7 @@ next_cut fonts s (WriteString call) block =
     cut_either s call.moves_cursor (with_place after.0 page after.1) after.0 (record { mode = is.mode; layout = is.layout }) is
 next_cut fonts s ReadDisplay block = uncut s
 
-pub unless_cut : (why : Option Refusal) (fonts : FontSet) (s : Screen) (service : Service) (block : List ℕ) → IsCutAs s (screen_unless why s (next fonts s service block))
+pub unless_cut : (why : Option Refusal) (fonts : FontSet) (s : Screen) (service : Service) (block : List ℕ) →
+    IsCutAs s (screen_unless why s (next fonts s service block))
 unless_cut None fonts s service block = next_cut fonts s service block
 unless_cut (Some why) fonts s service block = uncut s

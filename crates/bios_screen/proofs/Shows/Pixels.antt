@@ -44,7 +44,8 @@ pixels_of_shown c d s t h = by_row (row_at d.mode d.height) refl h
         }
 
 -- and back
-pub pixels_shown_of : (c : CardState) (d : BiosData) (row : ModeRow) → row_at d.mode d.height ≡ Some row → is_text d.mode ≡ false → AllTests row c d → shown c d ≡ Some (pixel_screen row c d)
+pub pixels_shown_of : (c : CardState) (d : BiosData) (row : ModeRow) → row_at d.mode d.height ≡ Some row → is_text d.mode ≡ false → AllTests row c d →
+    shown c d ≡ Some (pixel_screen row c d)
 pixels_shown_of c d row e t tests =
     ap (λ x. shown_by x c d) e
     ∙ ap (λ b. if b then Some (screen_of row c d) else None) (shows_by row c d tests)

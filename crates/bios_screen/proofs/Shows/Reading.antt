@@ -1,5 +1,6 @@
 -- What a reading has found so far, and lists by their elements.
-use Rattle.std.proofs.Common.{◌≡◌, ℕ, zero, suc, ◌+◌, ◌*◌, ◌/◌, ◌%◌, ◌<◌, ◌≤◌, ⊎_elim, refl, sym, ap, subst, ◌∙◌, arith, List, [], ◌∷◌, ◌++◌, length, append_assoc, get_or, Bool, true, false, Some, None, IsTrue}
+use Rattle.std.proofs.Common.{◌≡◌, ℕ, zero, suc, ◌+◌, ◌*◌, ◌/◌, ◌%◌, ◌<◌, ◌≤◌, ⊎_elim, refl, sym, ap, subst, ◌∙◌, arith, List, [], ◌∷◌, ◌++◌, length}
+use Rattle.std.proofs.Common.{append_assoc, get_or, Bool, true, false, Some, None, IsTrue}
 use Rattle.std.specs.Prelude.{slice_index, slice_set, take, bit_and, nat_lt, ◌&&◌, if◌then◌else◌}
 use Rattle.std.specs.Str.{bytes_eq}
 use Rattle.std.proofs.lemmas.Bool.{cases_lt}
@@ -15,7 +16,8 @@ use Rattle.bios_services.specs.Cursor.{start_address}
 use Rattle.bios_screen.specs.Listing.{listing}
 use Rattle.bios_screen.specs.Screen.{Cell, Contents, Cells, Pixels, Layout, Screen, no_cell, cell_of}
 use Rattle.bios_screen.specs.Parts.{text_cell, page_pixel, cut_pages, pixel_count, contents_of, IsLaidOut}
-use Rattle.bios_screen.specs.Shown.{cell_in, cells_in, glyph_byte, glyphs_in, pixel_in, pixels_in, page_pixels, pixel_pages, layout_of, screen_by, pixel_screen, crtc_registers, crtc_shown, location_shown, shows}
+use Rattle.bios_screen.specs.Shown.{cell_in, cells_in, glyph_byte, glyphs_in, pixel_in, pixels_in, page_pixels, pixel_pages, layout_of, screen_by, pixel_screen}
+use Rattle.bios_screen.specs.Shown.{crtc_registers, crtc_shown, location_shown, shows}
 use Rattle.bios_screen.specs.Raster.{join}
 use Rattle.bios_screen.proofs.Base.Lists.{spelled, same_elements, same_from_0, length_listing, listed_at}
 use Rattle.bios_screen.proofs.Base.Places.{ends_before}
@@ -79,7 +81,8 @@ joined_length f n (suc m) h =
     length-append (join f m) (f m) ∙ ap (λ k. k + length (f m)) (joined_length f n m (λ q l. h q (omega arith))) ∙ ap (λ k. n * m + k) (h m (omega arith)) ∙ z
 
 -- pixel k of page p, where each page has n of them
-joined_at : (f : ℕ → List ℕ) (n pages p k : ℕ) → ((q : ℕ) → q < pages → length (f q) ≡ n) → p < pages → k < n → slice_index (join f pages) (n * p + k) ≡ slice_index (f p) k
+joined_at : (f : ℕ → List ℕ) (n pages p k : ℕ) → ((q : ℕ) → q < pages → length (f q) ≡ n) → p < pages → k < n →
+    slice_index (join f pages) (n * p + k) ≡ slice_index (f p) k
 unfolding join
 joined_at f n zero p k size lp lk = absurd (omega arith)
 joined_at f n (suc m) p k size lp lk = ⊎_elim
@@ -98,7 +101,8 @@ pub cut_joined : (f : ℕ → List ℕ) (n pages : ℕ) → ((q : ℕ) → q < p
 unfolding cut_pages
 cut_joined f n pages size =
     same_from_0 f (λ p. listing (λ k. slice_index (join f pages) (n * p + k)) 0 n) pages
-    (λ p lp. same_from_0 (slice_index (f p)) (λ k. slice_index (join f pages) (n * p + k)) n (λ k lk. joined_at f n pages p k size lp lk) ∙ sym (spelled (f p) n (size p lp)))
+    (λ p lp. same_from_0 (slice_index (f p)) (λ k. slice_index (join f pages) (n * p + k)) n (λ k lk. joined_at f n pages p k size lp lk)
+    ∙ sym (spelled (f p) n (size p lp)))
 
 -- and back: pixel k of page p is that of the list
 pub cut_at : (pixels : List ℕ) (n pages p k : ℕ) → p < pages → k < n → slice_index (get_or (cut_pages pixels n pages) p []) k ≡ slice_index pixels (n * p + k)
@@ -115,7 +119,8 @@ pub more_pixels : (mode : ℕ) (m : Four (List ℕ)) (z n : ℕ) → pixels_in m
 unfolding pixels_in
 more_pixels mode m z n = listed_more (pixel_in mode m z) n
 
-pub pixel_pushed : (mode : ℕ) (m : Four (List ℕ)) (z n : ℕ) (old items : List ℕ) → items ≡ old ++ pixels_in mode m z n → items ++ pixel_in mode m z n ∷ [] ≡ old ++ pixels_in mode m z (n + 1)
+pub pixel_pushed : (mode : ℕ) (m : Four (List ℕ)) (z n : ℕ) (old items : List ℕ) → items ≡ old ++ pixels_in mode m z n → items ++ pixel_in mode m z n ∷ [] ≡ old
+    ++ pixels_in mode m z (n + 1)
 pixel_pushed mode m z n old items e =
     ap (λ l. l ++ pixel_in mode m z n ∷ []) e
     ∙ append_assoc old (pixels_in mode m z n) (pixel_in mode m z n ∷ [])
@@ -126,23 +131,30 @@ unfolding pixels_in
 pages_length mode m size n pages = joined_length (λ p. pixels_in mode m (size * p) n) n pages (λ q l. length_listing (pixel_in mode m (size * q)) 0 n)
 
 -- the pages are those of the memory
-pub pages_are : (mode : ℕ) (m : Four (List ℕ)) (size n pages : ℕ) → cut_pages (join (λ p. pixels_in mode m (size * p) n) pages) n pages ≡ pixel_pages mode m size n pages
+pub pages_are : (mode : ℕ) (m : Four (List ℕ)) (size n pages : ℕ) → cut_pages (join (λ p. pixels_in mode m (size * p) n) pages) n pages
+    ≡ pixel_pages mode m size n pages
 unfolding pixels_in pixel_pages
 pages_are mode m size n pages = cut_joined (λ p. pixels_in mode m (size * p) n) n pages (λ q l. length_listing (pixel_in mode m (size * q)) 0 n)
 
 -- ---- parts of a screen
 
-pub text_cell_is : (mode : ℕ) (l : Layout) (cells : List Cell) (pixels : List ℕ) (k : ℕ) → is_text mode ≡ true → text_cell (contents_of mode l cells pixels) k ≡ Some (cell_of cells k)
-text_cell_is mode l cells pixels k t = ap (λ b. let x : Contents = (if b then Cells cells else Pixels (cut_pages pixels (pixel_count l) l.pages)) in text_cell x k) t
+pub text_cell_is : (mode : ℕ) (l : Layout) (cells : List Cell) (pixels : List ℕ) (k : ℕ) → is_text mode ≡ true →
+    text_cell (contents_of mode l cells pixels) k ≡ Some (cell_of cells k)
+text_cell_is mode l cells pixels k t = ap (λ b. let x : Contents = (if b then Cells cells else Pixels (cut_pages pixels (pixel_count l) l.pages)) in
+    text_cell x k) t
 
-pub page_pixel_is : (mode : ℕ) (l : Layout) (cells : List Cell) (pixels : List ℕ) (p k : ℕ) → is_text mode ≡ false → p < l.pages → k < pixel_count l → page_pixel (contents_of mode l cells pixels) p k ≡ Some (slice_index pixels (pixel_count l * p + k))
+pub page_pixel_is : (mode : ℕ) (l : Layout) (cells : List Cell) (pixels : List ℕ) (p k : ℕ) → is_text mode ≡ false → p < l.pages → k < pixel_count l →
+    page_pixel (contents_of mode l cells pixels) p k ≡ Some (slice_index pixels (pixel_count l * p + k))
 page_pixel_is mode l cells pixels p k t lp lk =
     ap (λ b. let x : Contents = (if b then Cells cells else Pixels (cut_pages pixels (pixel_count l) l.pages)) in page_pixel x p k) t
     ∙ ap (λ (n : ℕ). Some n) (cut_at pixels (pixel_count l) l.pages p k lp lk)
 
 -- a cell of a page, where there is one
-pub cell_there : (mode : ℕ) (l : Layout) (cells : List Cell) (pixels : List ℕ) (page row column : ℕ) (x : Cell) → is_text mode ≡ true → page < l.pages → row < l.rows → column < l.columns → l.distance * page + (l.columns * row + column) < length cells → x ≡ get_or cells (l.distance * page + (l.columns * row + column)) x
-    → Some x ≡ (if nat_lt page l.pages && (nat_lt row l.rows && nat_lt column l.columns) then text_cell (contents_of mode l cells pixels) (l.distance * page + (l.columns * row + column)) else None)
+pub cell_there : (mode : ℕ) (l : Layout) (cells : List Cell) (pixels : List ℕ) (page row column : ℕ) (x : Cell) → is_text mode ≡ true → page < l.pages →
+    row < l.rows → column < l.columns → l.distance * page + (l.columns * row + column) < length cells →
+    x ≡ get_or cells (l.distance * page + (l.columns * row + column)) x
+    → Some x ≡ (if nat_lt page l.pages && (nat_lt row l.rows && nat_lt column l.columns)
+    then text_cell (contents_of mode l cells pixels) (l.distance * page + (l.columns * row + column)) else None)
 cell_there mode l cells pixels page row column x t lp lr lc within e =
     let k = l.distance * page + (l.columns * row + column) in
     let q = text_cell (contents_of mode l cells pixels) k in
@@ -157,8 +169,10 @@ abbrev pub pixels_within : Layout → ℕ → ℕ → ℕ → ℕ → Type 0
 pixels_within l page x y n = pixel_count l * page + (8 * l.columns * y + x) < n
 
 -- a pixel of a page, where there is one
-pub pixel_there : (mode : ℕ) (l : Layout) (cells : List Cell) (pixels : List ℕ) (page x y n : ℕ) → is_text mode ≡ false → page < l.pages → x < 8 * l.columns → y < l.height * l.rows → pixels_within l page x y (length pixels) → n ≡ get_or pixels (pixel_count l * page + (8 * l.columns * y + x)) n
-    → Some n ≡ (if nat_lt page l.pages && (nat_lt x (8 * l.columns) && nat_lt y (l.height * l.rows)) then page_pixel (contents_of mode l cells pixels) page (8 * l.columns * y + x) else None)
+pub pixel_there : (mode : ℕ) (l : Layout) (cells : List Cell) (pixels : List ℕ) (page x y n : ℕ) → is_text mode ≡ false → page < l.pages → x < 8 * l.columns →
+    y < l.height * l.rows → pixels_within l page x y (length pixels) → n ≡ get_or pixels (pixel_count l * page + (8 * l.columns * y + x)) n
+    → Some n ≡ (if nat_lt page l.pages && (nat_lt x (8 * l.columns) && nat_lt y (l.height * l.rows))
+    then page_pixel (contents_of mode l cells pixels) page (8 * l.columns * y + x) else None)
 pixel_there mode l cells pixels page x y n t lp lx ly within e =
     let k = 8 * l.columns * y + x in
     let q = page_pixel (contents_of mode l cells pixels) page k in
@@ -169,8 +183,10 @@ pixel_there mode l cells pixels page x y n t lp lx ly within e =
     ∙ ap (λ b. if b then q else None) (lt_test y (l.height * l.rows) ly)
     ∙ page_pixel_is mode l cells pixels page k t lp (omega arith))
 
-pub cell_inside : (distance columns rows page pages row column n : ℕ) → page < pages → row < rows → column < columns → columns * rows ≤ distance → distance * pages ≤ n → distance * page + (columns * row + column) < n
-cell_inside distance columns rows page pages row column n lp lr lc fits all = let a = ends_before distance page pages lp in let b = ends_before columns row rows lr in omega arith
+pub cell_inside : (distance columns rows page pages row column n : ℕ) → page < pages → row < rows → column < columns → columns * rows ≤ distance →
+    distance * pages ≤ n → distance * page + (columns * row + column) < n
+cell_inside distance columns rows page pages row column n lp lr lc fits all = let a = ends_before distance page pages lp in let b =
+    ends_before columns row rows lr in omega arith
 
 pub pixel_inside : (w v page pages x y : ℕ) → page < pages → x < w → y < v → w * v * page + (w * y + x) < w * v * pages
 pixel_inside w v page pages x y lp lx ly = let a = ends_before (w * v) page pages lp in let b = ends_before w y v ly in omega arith
@@ -180,7 +196,9 @@ pixel_inside w v page pages x y lp lx ly = let a = ends_before (w * v) page page
 is_both : {Y : Type 0} (b : Bool) → b ≡ true → b ≡ false → Y
 is_both b t f = absurd (cc)
 
-pub text_laid_out : (row : ModeRow) (c : CardState) (d : BiosData) → row_at d.mode d.height ≡ Some row → is_text d.mode ≡ true → shows row c d ≡ true → (mode : ℕ) (l : Layout) (n m : ℕ) → mode ≡ d.mode → l.columns ≡ d.columns → l.rows ≡ d.last_row + 1 → l.distance ≡ d.size / 2 → l.pages ≡ row.pages → n ≡ 16384 → IsLaidOut mode l n m
+pub text_laid_out : (row : ModeRow) (c : CardState) (d : BiosData) → row_at d.mode d.height ≡ Some row → is_text d.mode ≡ true → shows row c d ≡ true →
+    (mode : ℕ) (l : Layout) (n m : ℕ) → mode ≡ d.mode → l.columns ≡ d.columns → l.rows ≡ d.last_row + 1 → l.distance ≡ d.size / 2 → l.pages ≡ row.pages →
+    n ≡ 16384 → IsLaidOut mode l n m
 text_laid_out row c d e t h mode l n m em ec er ed ep en =
     let tests = tests_of row c d t h in
     let has = data_is row d tests.data_test in
@@ -211,18 +229,25 @@ numbers_by (Sixteen Middle) = record { columns_few = omega arith; height_few = o
 numbers_by (Sixteen High) = record { columns_few = omega arith; height_few = omega arith; all = omega arith; page = omega arith; packed = λ e. absurd (cc) }
 numbers_by Many = record { columns_few = omega arith; height_few = omega arith; all = omega arith; page = omega arith; packed = λ e. omega arith }
 
-pub pixel_numbers : (row : ModeRow) (c : CardState) (d : BiosData) → row_at d.mode d.height ≡ Some row → is_text d.mode ≡ false → shows row c d ≡ true → PixelNumbers row d.mode d.columns d.height d.size (page_pixels d)
+pub pixel_numbers : (row : ModeRow) (c : CardState) (d : BiosData) → row_at d.mode d.height ≡ Some row → is_text d.mode ≡ false → shows row c d ≡ true →
+    PixelNumbers row d.mode d.columns d.height d.size (page_pixels d)
 pixel_numbers row c d e t h =
     let has = data_is row d (all_tests_of row c d h).data_test in
     let g = graphics_row d.mode d.height row t e in
-    let at : PixelNumbers row d.mode row.columns row.height row.size (pixels_of row) = subst (λ r. PixelNumbers r d.mode r.columns r.height r.size (pixels_of r)) g.row_is (subst (λ m. PixelNumbers (row_in g.kind) m (row_in g.kind).columns (row_in g.kind).height (row_in g.kind).size (pixels_of (row_in g.kind))) (sym g.number) (numbers_by g.kind)) in
-    let n : pixels_of row ≡ page_pixels d = sym (ap (λ i. 8 * i * (d.height * (d.last_row + 1))) has.columns ∙ ap (λ i. 8 * row.columns * (i * (d.last_row + 1))) has.height ∙ ap (λ i. 8 * row.columns * (row.height * (i + 1))) has.last_row) in
+    let at : PixelNumbers row d.mode row.columns row.height row.size (pixels_of row) =
+    subst (λ r. PixelNumbers r d.mode r.columns r.height r.size (pixels_of r)) g.row_is
+    (subst (λ m. PixelNumbers (row_in g.kind) m (row_in g.kind).columns (row_in g.kind).height (row_in g.kind).size (pixels_of (row_in g.kind)))
+    (sym g.number) (numbers_by g.kind)) in
+    let n : pixels_of row ≡ page_pixels d = sym (ap (λ i. 8 * i * (d.height * (d.last_row + 1))) has.columns
+    ∙ ap (λ i. 8 * row.columns * (i * (d.last_row + 1))) has.height ∙ ap (λ i. 8 * row.columns * (row.height * (i + 1))) has.last_row) in
     subst (λ i. PixelNumbers row d.mode i d.height d.size (page_pixels d)) (sym has.columns)
     (subst (λ i. PixelNumbers row d.mode row.columns i d.size (page_pixels d)) (sym has.height)
     (subst (λ i. PixelNumbers row d.mode row.columns row.height i (page_pixels d)) (sym has.size)
     (subst (PixelNumbers row d.mode row.columns row.height row.size) n at)))
 
-pub pixels_laid_out : (d : BiosData) (f : Four (List ℕ)) (mode : ℕ) (l : Layout) (n m size count pages : ℕ) (pixels : List ℕ) → is_text d.mode ≡ false → mode ≡ d.mode → count ≡ pixel_count l → pages ≡ l.pages → m ≡ length pixels → pixels ≡ join (λ p. pixels_in mode f (size * p) count) pages → IsLaidOut mode l n m
+pub pixels_laid_out : (d : BiosData) (f : Four (List ℕ)) (mode : ℕ) (l : Layout) (n m size count pages : ℕ) (pixels : List ℕ) → is_text d.mode ≡ false →
+    mode ≡ d.mode → count ≡ pixel_count l → pages ≡ l.pages → m ≡ length pixels → pixels ≡ join (λ p. pixels_in mode f (size * p) count) pages →
+    IsLaidOut mode l n m
 pixels_laid_out d f mode l n m size count pages pixels t em ec ep el e = record {
   page = λ f. is_both (is_text mode) f (ap is_text em ∙ t);
   cells = λ f. is_both (is_text mode) f (ap is_text em ∙ t);
@@ -230,7 +255,9 @@ pixels_laid_out d f mode l n m size count pages pixels t em ec ep el e = record 
 }
 
 -- what is read in graphics is the screen of pixels
-pub pixel_screen_is : (row : ModeRow) (c : CardState) (d : BiosData) (cells : List Cell) (pixels : List ℕ) (s : Screen) → is_text d.mode ≡ false → pixels ≡ join (λ p. pixels_in d.mode c.host.memory (d.size * p) (page_pixels d)) row.pages → s ≡ screen_by row c d 0 (contents_of d.mode (layout_of row d 0) cells pixels) [] → s ≡ pixel_screen row c d
+pub pixel_screen_is : (row : ModeRow) (c : CardState) (d : BiosData) (cells : List Cell) (pixels : List ℕ) (s : Screen) → is_text d.mode ≡ false →
+    pixels ≡ join (λ p. pixels_in d.mode c.host.memory (d.size * p) (page_pixels d)) row.pages →
+    s ≡ screen_by row c d 0 (contents_of d.mode (layout_of row d 0) cells pixels) [] → s ≡ pixel_screen row c d
 pixel_screen_is row c d cells pixels s t e h =
     let n = page_pixels d in
     h
@@ -241,12 +268,15 @@ pixel_screen_is row c d cells pixels s t e h =
 -- the registers that show the active page are those of the mode but for six
 abbrev pub set_registers : List ℕ → ℕ → ℕ → ℕ → List ℕ
 set_registers l type start location =
-    slice_set (slice_set (slice_set (slice_set (slice_set (slice_set l 0x0A (bit_and (type / 256) 0x3F)) 0x0B (bit_and (type % 256) 0x7F)) 0x0C (start / 256)) 0x0D (start % 256)) 0x0E (location / 256)) 0x0F (location % 256)
+    slice_set (slice_set (slice_set (slice_set (slice_set (slice_set l 0x0A (bit_and (type / 256) 0x3F)) 0x0B (bit_and (type % 256) 0x7F)) 0x0C (start / 256))
+    0x0D (start % 256)) 0x0E (location / 256)) 0x0F (location % 256)
 
-pub set_is : (row : ModeRow) (type start location : ℕ) → length row.crtc ≡ 25 → set_registers row.crtc type start location ≡ crtc_registers row type start location
+pub set_is : (row : ModeRow) (type start location : ℕ) → length row.crtc ≡ 25 → set_registers row.crtc type start location
+    ≡ crtc_registers row type start location
 set_is row type start location e = ap (λ l. set_registers l type start location) (spelled row.crtc 25 e)
 
-pub wanted_is : (row : ModeRow) (d : BiosData) (l : List ℕ) (type start location : ℕ) → length row.crtc ≡ 25 → type ≡ d.cursor_type → start ≡ start_address d d.page → location ≡ location_shown d l → set_registers row.crtc type start location ≡ crtc_shown row d l
+pub wanted_is : (row : ModeRow) (d : BiosData) (l : List ℕ) (type start location : ℕ) → length row.crtc ≡ 25 → type ≡ d.cursor_type →
+    start ≡ start_address d d.page → location ≡ location_shown d l → set_registers row.crtc type start location ≡ crtc_shown row d l
 wanted_is row d l type start location e et es el =
     set_is row type start location e
     ∙ ap (λ n. crtc_registers row n start location) et

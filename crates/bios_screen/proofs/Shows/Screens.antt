@@ -16,10 +16,12 @@ use Rattle.bios_services.specs.Refusals.{page_among, page_named}
 use Rattle.bios_modes.specs.Kinds.{is_text, kind_of, is_text_kind}
 use Rattle.bios_services.specs.Cursor.{cursor_address, start_address}
 use Rattle.bios_screen.specs.Screen.{Screen}
-use Rattle.bios_screen.specs.Shown.{shows_memory, crtc_registers, crtc_shown, shows_attribute, shows_data, shows, text_screen, pixel_screen, screen_of, shown_by, shown}
+use Rattle.bios_screen.specs.Shown.{shows_memory, crtc_registers, crtc_shown, shows_attribute, shows_data, shows, text_screen, pixel_screen, screen_of}
+use Rattle.bios_screen.specs.Shown.{shown_by, shown}
 use Rattle.bios_screen.proofs.Base.Tests.{both_true, if_some, none_some, same, lt_is}
 use Rattle.bios_screen.proofs.Base.Setting.{Setting, setting}
-use Rattle.bios_screen.proofs.Modes.TextModes.{Display, text_setting, text_sequencer, misc_of, IsTextRow, text_row_is, Height, row_with, number_of, control_of, control_by}
+use Rattle.bios_screen.proofs.Modes.TextModes.{Display, text_setting, text_sequencer, misc_of, IsTextRow, text_row_is, Height, row_with, number_of, control_of}
+use Rattle.bios_screen.proofs.Modes.TextModes.{control_by}
 
 -- the data as numbers
 pub record HasData (row : ModeRow) (d : BiosData) : Type 0 where
@@ -89,7 +91,8 @@ abbrev pub text_crtc : ModeRow → BiosData → List ℕ
 text_crtc row d = crtc_registers row d.cursor_type (start_address d d.page) (cursor_address d d.page)
 
 text_crtc_is : (row : ModeRow) (d : BiosData) (l : List ℕ) → is_text d.mode ≡ true → crtc_shown row d l ≡ text_crtc row d
-text_crtc_is row d l t = ap (λ b. crtc_registers row d.cursor_type (start_address d d.page) (if b then cursor_address d d.page else 256 * slice_index l 0x0E + slice_index l 0x0F)) t
+text_crtc_is row d l t = ap (λ b. crtc_registers row d.cursor_type (start_address d d.page) (if b then cursor_address d d.page
+    else 256 * slice_index l 0x0E + slice_index l 0x0F)) t
 
 -- the test's parts in text
 pub record Tests (row : ModeRow) (c : CardState) (d : BiosData) : Type 0 where
@@ -105,7 +108,12 @@ tests_of row c d text h =
     record { is_text = text; memory = t.memory; data_test = t.data_test; crtc = t.crtc ∙ text_crtc_is row d c.crtc.registers text; attribute = t.attribute }
 
 pub all_of : (row : ModeRow) (c : CardState) (d : BiosData) → Tests row c d → AllTests row c d
-all_of row c d t = record { memory = t.memory; data_test = t.data_test; crtc = t.crtc ∙ sym (text_crtc_is row d c.crtc.registers t.is_text); attribute = t.attribute }
+all_of row c d t = record {
+  memory = t.memory;
+  data_test = t.data_test;
+  crtc = t.crtc ∙ sym (text_crtc_is row d c.crtc.registers t.is_text);
+  attribute = t.attribute;
+}
 
 pub test_of : (row : ModeRow) (c : CardState) (d : BiosData) → Tests row c d → shows row c d ≡ true
 test_of row c d t = shows_by row c d (all_of row c d t)
@@ -153,7 +161,18 @@ shown_is c d s t h = by_row (row_at d.mode d.height) refl h
         let tests = tests_of row c d t parts.0 in
         let text = text_row_is d.mode d.height row t e in
         record {
-          is = record { row = row; mode = e; display = text.display; height = text.height; text = text.is; row_is = text.row_is; number = text.number; tests = tests; has = data_is row d tests.data_test; setting = setting_is text.display d.mode row c text.is tests.memory };
+          is = record {
+            row = row;
+            mode = e;
+            display = text.display;
+            height = text.height;
+            text = text.is;
+            row_is = text.row_is;
+            number = text.number;
+            tests = tests;
+            has = data_is row d tests.data_test;
+            setting = setting_is text.display d.mode row c text.is tests.memory;
+          };
           screen = sym (screen_is_text row c d t) ∙ parts.1;
         }
 

@@ -74,11 +74,13 @@ pub record SameFrames (c : CardState) (d : BiosData) (y : CardState) (after : Bi
   pub beam : (a f n : ℕ) → beam_at (character_width c) c.crtc.registers a f n ≡ beam_at (character_width y) y.crtc.registers a f n
   pub begins : (g : ℕ) → start_address d g ≡ start_address after g
 
-pub same_frames : (c : CardState) (d : BiosData) (s : Screen) (y : CardState) (after : BiosData) (t : Screen) → shown c d ≡ Some s → shown y after ≡ Some t → t.mode ≡ s.mode → t.layout ≡ s.layout → SameFrames c d y after
+pub same_frames : (c : CardState) (d : BiosData) (s : Screen) (y : CardState) (after : BiosData) (t : Screen) → shown c d ≡ Some s → shown y after ≡ Some t →
+    t.mode ≡ s.mode → t.layout ≡ s.layout → SameFrames c d y after
 same_frames c d s y after t e g m l =
     let old = row_shown c d s e in
     let new = row_shown y after t g in
-    let row : old.row ≡ new.row = some_same old.row new.row (sym old.mode ∙ ap (λ k. row_at k s.layout.height) (sym m) ∙ ap (λ (k : Layout). row_at t.mode k.height) (sym l) ∙ new.mode) in
+    let row : old.row ≡ new.row = some_same old.row new.row (sym old.mode ∙ ap (λ k. row_at k s.layout.height) (sym m)
+    ∙ ap (λ (k : Layout). row_at t.mode k.height) (sym l) ∙ new.mode) in
     record {
       beam = λ a f n. old.beam a f n ∙ ap (λ (r : ModeRow). beam_at (row_width r) r.crtc a f n) row ∙ sym (new.beam a f n);
       begins = λ p.

@@ -46,7 +46,8 @@ with_character f k v = set_cell f k (v, (f k).1)
 abbrev pub with_attribute : (ℕ → Cell) → ℕ → ℕ → ℕ → Cell
 with_attribute f k a = set_cell f k ((f k).0, a)
 
-pub character_put : (disp : Display) (rest c : CardState) (f : ℕ → Cell) (at k v : ℕ) → at ≡ base_of disp + 2 * k → k < 16384 → v < 256 → IsCells disp rest c f → IsCells disp rest (run card_meaning (put at v) c).0 (with_character f k v)
+pub character_put : (disp : Display) (rest c : CardState) (f : ℕ → Cell) (at k v : ℕ) → at ≡ base_of disp + 2 * k → k < 16384 → v < 256 →
+    IsCells disp rest c f → IsCells disp rest (run card_meaning (put at v) c).0 (with_character f k v)
 character_put disp rest c f at k v e l lv t =
     let m = t.bytes in
     let new : ℕ → ℕ = set_cell m (2 * k) v in
@@ -67,7 +68,8 @@ character_put disp rest c f at k v e l lv t =
           (cases_eq j k);
     })
 
-pub attribute_put : (disp : Display) (rest c : CardState) (f : ℕ → Cell) (at k v : ℕ) → at ≡ base_of disp + 2 * k → k < 16384 → v < 256 → IsCells disp rest c f → IsCells disp rest (run card_meaning (put (at + 1) v) c).0 (with_attribute f k v)
+pub attribute_put : (disp : Display) (rest c : CardState) (f : ℕ → Cell) (at k v : ℕ) → at ≡ base_of disp + 2 * k → k < 16384 → v < 256 →
+    IsCells disp rest c f → IsCells disp rest (run card_meaning (put (at + 1) v) c).0 (with_attribute f k v)
 attribute_put disp rest c f at k v e l lv t =
     let m = t.bytes in
     let new : ℕ → ℕ = set_cell m (2 * k + 1) v in
@@ -102,17 +104,21 @@ over_is f k v a j =
     (λ (n : j ≢ k). set_other f k y j n ∙ sym (set_other f k x j n) ∙ sym (set_other g k w j n))
     (cases_eq j k)
 
-pub cell_given : (disp : Display) (rest c : CardState) (f : ℕ → Cell) (at k v a : ℕ) → at ≡ base_of disp + 2 * k → k < 16384 → v < 256 → a < 256 → IsCells disp rest c f → IsCells disp rest (run card_meaning (put at v >> put (at + 1) a) c).0 (set_cell f k (v, a))
+pub cell_given : (disp : Display) (rest c : CardState) (f : ℕ → Cell) (at k v a : ℕ) → at ≡ base_of disp + 2 * k → k < 16384 → v < 256 → a < 256 →
+    IsCells disp rest c f → IsCells disp rest (run card_meaning (put at v >> put (at + 1) a) c).0 (set_cell f k (v, a))
 cell_given disp rest c f at k v a e l lv la t =
     let c1 = (run card_meaning (put at v) c).0 in
     cells_same disp rest (run card_meaning (put (at + 1) a) c1).0 (with_attribute (with_character f k v) k a) (set_cell f k (v, a)) (over_is f k v a)
     (attribute_put disp rest c1 (with_character f k v) at k a e l la (character_put disp rest c f at k v e l lv t))
 
-pub cell_written : (disp : Display) (rest c : CardState) (f : ℕ → Cell) (at k v : ℕ) (colouring : Colouring) → at ≡ base_of disp + 2 * k → k < 16384 → v < 256 → colouring.colour < 256 → IsCells disp rest c f → IsCells disp rest (run card_meaning (write_cell_plan at v colouring) c).0 (set_cell f k (character_over v colouring (f k)))
+pub cell_written : (disp : Display) (rest c : CardState) (f : ℕ → Cell) (at k v : ℕ) (colouring : Colouring) → at ≡ base_of disp + 2 * k → k < 16384 → v < 256 →
+    colouring.colour < 256 → IsCells disp rest c f → IsCells disp rest (run card_meaning (write_cell_plan at v colouring) c).0
+    (set_cell f k (character_over v colouring (f k)))
 unfolding write_cell_plan
 cell_written disp rest c f at k v colouring e l lv la t = by_test colouring.is_attribute
   where
-    by_test : (b : Bool) → IsCells disp rest (run card_meaning (put at v >> (if b then put (at + 1) colouring.colour else Done tt)) c).0 (set_cell f k (let x : Cell = (v, if b then colouring.colour else (f k).1) in x))
+    by_test : (b : Bool) → IsCells disp rest (run card_meaning (put at v >> (if b then put (at + 1) colouring.colour else Done tt)) c).0
+        (set_cell f k (let x : Cell = (v, if b then colouring.colour else (f k).1) in x))
     by_test false = character_put disp rest c f at k v e l lv t
     by_test true = cell_given disp rest c f at k v colouring.colour e l lv la t
 
@@ -122,7 +128,8 @@ pub record IsRead (disp : Display) (rest : CardState) (f : ℕ → Cell) (v : �
   pub cells : IsCells disp rest r.0 f
   pub answer : r.1 ≡ v
 
-pub character_get : (disp : Display) (rest c : CardState) (f : ℕ → Cell) (at k : ℕ) → at ≡ base_of disp + 2 * k → k < 16384 → IsCells disp rest c f → IsRead disp rest f (f k).0 (run card_meaning (get at) c)
+pub character_get : (disp : Display) (rest c : CardState) (f : ℕ → Cell) (at k : ℕ) → at ≡ base_of disp + 2 * k → k < 16384 → IsCells disp rest c f →
+    IsRead disp rest f (f k).0 (run card_meaning (get at) c)
 character_get disp rest c f at k e l t =
     let a = text_get disp rest c t.bytes (2 * k) (omega arith) t.is in
     subst (λ x. IsRead disp rest f (f k).0 (run card_meaning (get x) c)) (sym e) (record {
@@ -130,7 +137,8 @@ character_get disp rest c f at k e l t =
       answer = a.answer ∙ sym (t.character k l);
     })
 
-pub attribute_get : (disp : Display) (rest c : CardState) (f : ℕ → Cell) (at k : ℕ) → at ≡ base_of disp + 2 * k → k < 16384 → IsCells disp rest c f → IsRead disp rest f (f k).1 (run card_meaning (get (at + 1)) c)
+pub attribute_get : (disp : Display) (rest c : CardState) (f : ℕ → Cell) (at k : ℕ) → at ≡ base_of disp + 2 * k → k < 16384 → IsCells disp rest c f →
+    IsRead disp rest f (f k).1 (run card_meaning (get (at + 1)) c)
 attribute_get disp rest c f at k e l t =
     let a = text_get disp rest c t.bytes (2 * k + 1) (omega arith) t.is in
     let there : base_of disp + (2 * k + 1) ≡ at + 1 = omega arith in
@@ -146,7 +154,8 @@ abbrev pub woven : List ℕ → List ℕ → ℕ → ℕ
 woven p0 p1 w = if w % 2 == 0 then slice_index p0 w else slice_index p1 (w - 1)
 
 pub woven_even : (p0 p1 : List ℕ) (q : ℕ) → slice_index p0 (2 * q) ≡ woven p0 p1 (2 * q)
-woven_even p0 p1 q = let t : (2 * q % 2 == 0) ≡ true = grind (arith, nat_tests) in sym (ap (λ b. if b then slice_index p0 (2 * q) else slice_index p1 (2 * q - 1)) t)
+woven_even p0 p1 q = let t : (2 * q % 2 == 0) ≡ true = grind (arith, nat_tests) in
+    sym (ap (λ b. if b then slice_index p0 (2 * q) else slice_index p1 (2 * q - 1)) t)
 
 pub woven_odd : (p0 p1 : List ℕ) (q : ℕ) → slice_index p1 (2 * q) ≡ woven p0 p1 (2 * q + 1)
 woven_odd p0 p1 q =
@@ -162,7 +171,8 @@ woven_small p0 p1 w h k = by_test (w % 2 == 0)
     by_test false = k (w - 1)
 
 -- an adapter in text, whose planes are memory, has the bytes of its planes
-pub has_bytes : (disp : Display) (c : CardState) → setting c ≡ text_setting disp → IsHost c.host → IsTextual disp (without_text c) c (woven c.host.memory.plane0 c.host.memory.plane1)
+pub has_bytes : (disp : Display) (c : CardState) → setting c ≡ text_setting disp → IsHost c.host →
+    IsTextual disp (without_text c) c (woven c.host.memory.plane0 c.host.memory.plane1)
 has_bytes disp c e z =
     let p0 = c.host.memory.plane0 in
     let p1 = c.host.memory.plane1 in
@@ -177,7 +187,8 @@ has_bytes disp c e z =
     }
 
 -- and their cells
-pub has_cells : (disp : Display) (c : CardState) → setting c ≡ text_setting disp → IsHost c.host → IsCells disp (without_text c) c (cell_in c.host.memory.plane0 c.host.memory.plane1)
+pub has_cells : (disp : Display) (c : CardState) → setting c ≡ text_setting disp → IsHost c.host →
+    IsCells disp (without_text c) c (cell_in c.host.memory.plane0 c.host.memory.plane1)
 has_cells disp c e z = record {
   bytes = woven c.host.memory.plane0 c.host.memory.plane1;
   is = has_bytes disp c e z;
@@ -186,7 +197,8 @@ has_cells disp c e z = record {
 }
 
 -- and the other way round
-pub cells_are : (disp : Display) (rest c : CardState) (f : ℕ → Cell) (k : ℕ) → k < 16384 → IsCells disp rest c f → cell_in c.host.memory.plane0 c.host.memory.plane1 k ≡ f k
+pub cells_are : (disp : Display) (rest c : CardState) (f : ℕ → Cell) (k : ℕ) → k < 16384 → IsCells disp rest c f →
+    cell_in c.host.memory.plane0 c.host.memory.plane1 k ≡ f k
 cells_are disp rest c f k l t =
     let x : slice_index c.host.memory.plane0 (2 * k) ≡ (f k).0 = t.is.character k l ∙ sym (t.character k l) in
     let y : slice_index c.host.memory.plane1 (2 * k) ≡ (f k).1 = t.is.attribute k l ∙ sym (t.attribute k l) in

@@ -47,10 +47,12 @@ unfolding byte_of written_bit combined_bit
 glyph_byte disp h v l = byte_bits v l
 
 -- plane 2 alone is reached, by computation
-glyph_memory : (disp : Display) (h : HostState) (a v : ℕ) → v < 256 → memory_after_put (host_at h (glyph_setting disp)) a v ≡ record h.memory { plane2 = slice_set h.memory.plane2 a v }
+glyph_memory : (disp : Display) (h : HostState) (a v : ℕ) → v < 256 → memory_after_put (host_at h (glyph_setting disp)) a v
+    ≡ record h.memory { plane2 = slice_set h.memory.plane2 a v }
 glyph_memory disp h a v l = ap (λ x. let m : Four (List ℕ) = record h.memory { plane2 = slice_set h.memory.plane2 a x } in m) (glyph_byte disp h v l)
 
-glyph_put : (disp : Display) (rest c : CardState) (g : ℕ → ℕ) (a v : ℕ) → a < 65536 → v < 256 → IsLoading disp rest c g → IsLoading disp rest (run card_meaning (put (0xA0000 + a) v) c).0 (set_cell g a v)
+glyph_put : (disp : Display) (rest c : CardState) (g : ℕ → ℕ) (a v : ℕ) → a < 65536 → v < 256 → IsLoading disp rest c g →
+    IsLoading disp rest (run card_meaning (put (0xA0000 + a) v) c).0 (set_cell g a v)
 glyph_put disp rest c g a v l h t =
     let p = c.host.memory.plane2 in
     let after = with_memory c (record c.host.memory { plane2 = slice_set p a v }) in
@@ -64,30 +66,39 @@ glyph_put disp rest c g a v l h t =
       others = t.others;
     } in
     subst (λ x. IsLoading disp rest x (set_cell g a v))
-    (sym (put_decoded c (glyph_setting disp) (0xA0000 + a) v t.mode (glyph_decoded disp c.host a l) ∙ ap (λ o. with_memory c (memory_after_put (host_at c.host (glyph_setting disp)) o v)) (glyph_window disp c.host a l) ∙ ap (with_memory c) (glyph_memory disp c.host a v h)))
+    (sym (put_decoded c (glyph_setting disp) (0xA0000 + a) v t.mode (glyph_decoded disp c.host a l)
+    ∙ ap (λ o. with_memory c (memory_after_put (host_at c.host (glyph_setting disp)) o v)) (glyph_window disp c.host a l)
+    ∙ ap (with_memory c) (glyph_memory disp c.host a v h)))
     still
 
-glyph_loaded : (disp : Display) (rest c : CardState) (g : ℕ → ℕ) (line : ℕ → ℕ → ℕ) (height ch : ℕ) → ch < 256 → height ≤ 16 → ((r : ℕ) → line ch r < 256) → IsLoading disp rest c g → Leaves CardState ℕ (IsLoading disp rest) (run card_meaning (glyph_plan line height ch) c).0 (Edited ℕ (Turn (λ _. Unit {0}) 0 height) (λ h. 32 * ch + h.turn) (λ h x. line ch h.turn) g)
+glyph_loaded : (disp : Display) (rest c : CardState) (g : ℕ → ℕ) (line : ℕ → ℕ → ℕ) (height ch : ℕ) → ch < 256 → height ≤ 16 → ((r : ℕ) → line ch r < 256) →
+    IsLoading disp rest c g → Leaves CardState ℕ (IsLoading disp rest) (run card_meaning (glyph_plan line height ch) c).0
+    (Edited ℕ (Turn (λ _. Unit {0}) 0 height) (λ h. 32 * ch + h.turn) (λ h x. line ch h.turn) g)
 unfolding glyph_plan
 glyph_loaded disp rest c g line height ch lc lh small t =
-    edits CardState ℕ card_meaning (λ r. put (0xA0000 + 32 * ch + r) (line ch r)) (λ _. IsLoading disp rest) 0 height (λ _. Unit {0}) (λ r _. 32 * ch + r) (λ r _ x. line ch r)
+    edits CardState ℕ card_meaning (λ r. put (0xA0000 + 32 * ch + r) (line ch r)) (λ _. IsLoading disp rest) 0 height (λ _. Unit {0}) (λ r _. 32 * ch + r)
+    (λ r _ x. line ch r)
     (λ a b _ _ lb lo hi. omega arith)
     (λ r s x lb w u.
     let e : 0xA0000 + (32 * ch + r) ≡ 0xA0000 + 32 * ch + r = omega arith in
     let new : ℕ → ℕ = set_cell x (32 * ch + r) (line ch r) in
     record {
       cells = new;
-      shown = subst (λ a. IsLoading disp rest (run card_meaning (put a (line ch r)) s).0 new) e (glyph_put disp rest s x (32 * ch + r) (line ch r) (omega arith) (small r) u);
+      shown = subst (λ a. IsLoading disp rest (run card_meaning (put a (line ch r)) s).0 new) e
+          (glyph_put disp rest s x (32 * ch + r) (line ch r) (omega arith) (small r) u);
       fact = one_edit (32 * ch + r) (line ch r) x;
     })
     height 0 c g (omega arith) (omega arith) t
 
 -- the lines of n characters from one on
-pub glyphs_loaded : (disp : Display) (rest c : CardState) (g : ℕ → ℕ) (line : ℕ → ℕ → ℕ) (height n first : ℕ) → first + n ≤ 256 → height ≤ 16 → ((ch r : ℕ) → line ch r < 256) → IsLoading disp rest c g
-    → Leaves CardState ℕ (IsLoading disp rest) (run card_meaning (glyphs_plan line height n first) c).0 (Edited ℕ (Turn (λ _. Turn (λ _. Unit {0}) 0 height) first (first + n)) (λ h. 32 * h.turn + h.place.turn) (λ h x. line h.turn h.place.turn) g)
+pub glyphs_loaded : (disp : Display) (rest c : CardState) (g : ℕ → ℕ) (line : ℕ → ℕ → ℕ) (height n first : ℕ) → first + n ≤ 256 → height ≤ 16 →
+    ((ch r : ℕ) → line ch r < 256) → IsLoading disp rest c g
+    → Leaves CardState ℕ (IsLoading disp rest) (run card_meaning (glyphs_plan line height n first) c).0
+    (Edited ℕ (Turn (λ _. Turn (λ _. Unit {0}) 0 height) first (first + n)) (λ h. 32 * h.turn + h.place.turn) (λ h x. line h.turn h.place.turn) g)
 unfolding glyphs_plan
 glyphs_loaded disp rest c g line height n first lc lh small t =
-    edits CardState ℕ card_meaning (glyph_plan line height) (λ _. IsLoading disp rest) first (first + n) (λ _. Turn (λ _. Unit {0}) 0 height) (λ ch h. 32 * ch + h.turn) (λ ch h x. line ch h.turn)
+    edits CardState ℕ card_meaning (glyph_plan line height) (λ _. IsLoading disp rest) first (first + n) (λ _. Turn (λ _. Unit {0}) 0 height) (λ ch h.
+    32 * ch + h.turn) (λ ch h x. line ch h.turn)
     (λ a b g h lb lo hi. let x = g.before in let y = h.before in omega arith)
     (λ ch s x lb w u. glyph_loaded disp rest s x line height ch (omega arith) lh (small ch) u)
     n first c g (omega arith) (omega arith) t

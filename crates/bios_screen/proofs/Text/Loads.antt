@@ -49,12 +49,14 @@ use Rattle.bios_screen.proofs.Modes.TextFresh.{but_glyphs, font_is, glyphs_on, g
 abbrev pub through : CardState → Setting → CardState
 through c s = record c { host = record c.host { seq = s.seq; gfx = s.gfx; seq_index = 4; gfx_index = 6 } }
 
-on_by : (disp : Display) (c : CardState) → (run card_meaning glyphs_on (card_at c (text_setting disp))).0 ≡ through (card_at c (text_setting disp)) (glyph_setting disp)
+on_by : (disp : Display) (c : CardState) → (run card_meaning glyphs_on (card_at c (text_setting disp))).0
+    ≡ through (card_at c (text_setting disp)) (glyph_setting disp)
 unfolding reached_by out_at
 on_by Colour c = refl
 on_by Monochrome c = refl
 
-off_by : (disp : Display) (c : CardState) → (run card_meaning (glyphs_off (window_of disp)) (card_at c (glyph_setting disp))).0 ≡ through (card_at c (glyph_setting disp)) (text_setting disp)
+off_by : (disp : Display) (c : CardState) → (run card_meaning (glyphs_off (window_of disp)) (card_at c (glyph_setting disp))).0
+    ≡ through (card_at c (glyph_setting disp)) (text_setting disp)
 unfolding reached_by out_at
 off_by Colour c = refl
 off_by Monochrome c = refl
@@ -67,7 +69,8 @@ height_plan port row =
     >> (word_plan port 0x0C 0 >> word_plan port 0x0E 0))))
 
 height_by : (disp : Display) (new : Height) (old : TextRow) (c : CardState) (type start location : ℕ)
-    → (run card_meaning (height_plan (port_of disp) (row_with disp new)) (card_at (with_crtc c (crtc_registers (with_text (row_of disp) old) type start location) c.crtc.index) (text_setting disp))).0
+    → (run card_meaning (height_plan (port_of disp) (row_with disp new)) (card_at
+    (with_crtc c (crtc_registers (with_text (row_of disp) old) type start location) c.crtc.index) (text_setting disp))).0
     ≡ with_crtc (card_at c (text_setting disp)) (crtc_registers (row_with disp new) (row_with disp new).cursor_type 0 0) 0x0F
 unfolding word_plan reached_by crtc_port_of out_at after_crtc
 height_by Colour Eight old c type start location = refl
@@ -79,15 +82,18 @@ height_by Monochrome Sixteen old c type start location = refl
 
 -- the plan's parts
 load_is : (fonts : FontSet) (load : GlyphLoad) (block : List ℕ) (row : ModeRow) (c : CardState)
-    → (run card_meaning (load_plan fonts load block row) c).0 ≡ (run card_meaning (height_plan row.crtc_address row) (run card_meaning (font_plan (loaded_line fonts load block) load.height load.count load.first (slice_index row.graphics 6)) c).0).0
+    → (run card_meaning (load_plan fonts load block row) c).0 ≡ (run card_meaning (height_plan row.crtc_address row)
+    (run card_meaning (font_plan (loaded_line fonts load block) load.height load.count load.first (slice_index row.graphics 6)) c).0).0
 unfolding load_plan
-load_is fonts load block row c = then_runs (font_plan (loaded_line fonts load block) load.height load.count load.first (slice_index row.graphics 6)) (height_plan row.crtc_address row) c
+load_is fonts load block row c = then_runs (font_plan (loaded_line fonts load block) load.height load.count load.first (slice_index row.graphics 6))
+    (height_plan row.crtc_address row) c
 
 -- ---- the glyphs
 
 -- lines of glyphs that are loaded over others
 abbrev pub AreLoaded : FontSet → GlyphLoad → List ℕ → (ℕ → ℕ) → (ℕ → ℕ) → Type 0
-AreLoaded fonts load block old new = Edited ℕ (Turn (λ _. Turn (λ _. Unit {0}) 0 load.height) load.first (load.first + load.count)) (λ h. 32 * h.turn + h.place.turn) (λ h x. loaded_line fonts load block h.turn h.place.turn) old new
+AreLoaded fonts load block old new = Edited ℕ (Turn (λ _. Turn (λ _. Unit {0}) 0 load.height) load.first (load.first + load.count)) (λ h.
+    32 * h.turn + h.place.turn) (λ h x. loaded_line fonts load block h.turn h.place.turn) old new
 
 -- a byte of the glyphs is the new one where it is loaded, and else the old one
 glyph_is : (fonts : FontSet) (load : GlyphLoad) (block : List ℕ) (old new : ℕ → ℕ) (i : ℕ) → load.height ≤ 16 → AreLoaded fonts load block old new
@@ -97,27 +103,35 @@ glyph_is fonts load block old new i few edited =
   where
     by_test : (a b e : Bool) → nat_le load.first (i / 16) ≡ a → nat_lt (i / 16) (load.first + load.count) ≡ b → nat_lt (i % 16) load.height ≡ e
         → new (32 * (i / 16) + i % 16) ≡ (if a && (b && e) then loaded_line fonts load block (i / 16) (i % 16) else old (32 * (i / 16) + i % 16))
-    by_test true true true ea eb ee = edited.inside (record { turn = i / 16; from = grind (arith, nat_tests); before = grind (arith, nat_tests); place = record { turn = i % 16; from = omega arith; before = grind (arith, nat_tests); place = tt } })
+    by_test true true true ea eb ee = edited.inside (record {
+      turn = i / 16;
+      from = grind (arith, nat_tests);
+      before = grind (arith, nat_tests);
+      place = record { turn = i % 16; from = omega arith; before = grind (arith, nat_tests); place = tt };
+    })
     by_test false b e ea eb ee = edited.outside (32 * (i / 16) + i % 16) (λ h q. let x = h.from in let y = h.place.before in grind (arith, nat_tests))
     by_test true false e ea eb ee = edited.outside (32 * (i / 16) + i % 16) (λ h q. let x = h.before in let y = h.place.before in grind (arith, nat_tests))
     by_test true true false ea eb ee = edited.outside (32 * (i / 16) + i % 16) (λ h q. let y = h.place.before in grind (arith, nat_tests))
 
 -- and so are all of them
-glyphs_are : (fonts : FontSet) (load : GlyphLoad) (block old new : List ℕ) (cells : ℕ → ℕ) → load.height ≤ 16 → AreLoaded fonts load block (slice_index old) cells → ((o : ℕ) → o < 65536 → slice_index new o ≡ cells o)
+glyphs_are : (fonts : FontSet) (load : GlyphLoad) (block old new : List ℕ) (cells : ℕ → ℕ) → load.height ≤ 16 →
+    AreLoaded fonts load block (slice_index old) cells → ((o : ℕ) → o < 65536 → slice_index new o ≡ cells o)
     → glyphs_in new 4096 ≡ listing (load_byte fonts load block (slice_index (glyphs_in old 4096))) 0 (length (glyphs_in old 4096))
 unfolding glyphs_in
 glyphs_are fonts load block old new cells few edited row =
     same_from_0 (load_byte fonts load block (slice_index (listing (glyph_byte old) 0 4096))) (glyph_byte new) 4096 (λ i l.
     row (32 * (i / 16) + i % 16) (omega arith)
     ∙ glyph_is fonts load block (slice_index old) cells i few edited
-    ∙ ap (λ x. if nat_le load.first (i / 16) && (nat_lt (i / 16) (load.first + load.count) && nat_lt (i % 16) load.height) then loaded_line fonts load block (i / 16) (i % 16) else x) (sym (listed_at (glyph_byte old) 4096 i 0 l)))
+    ∙ ap (λ x. if nat_le load.first (i / 16) && (nat_lt (i / 16) (load.first + load.count) && nat_lt (i % 16) load.height)
+    then loaded_line fonts load block (i / 16) (i % 16) else x) (sym (listed_at (glyph_byte old) 4096 i 0 l)))
     ∙ ap (listing (load_byte fonts load block (slice_index (listing (glyph_byte old) 0 4096))) 0) (sym (length_listing (glyph_byte old) 0 4096))
 
 -- ---- what the plan leaves
 
 -- other glyphs and other registers of the CRT controller, and text is reached
 abbrev pub left : Display → CardState → List ℕ → List ℕ → CardState
-left disp c glyphs registers = with_crtc (through (record c { host = record c.host { memory = record c.host.memory { plane2 = glyphs } } }) (text_setting disp)) registers 0x0F
+left disp c glyphs registers = with_crtc (through (record c { host = record c.host { memory = record c.host.memory { plane2 = glyphs } } }) (text_setting disp))
+    registers 0x0F
 
 window_by : (disp : Display) → slice_index (row_of disp).graphics 6 ≡ window_of disp
 window_by Colour = refl
@@ -147,7 +161,8 @@ line_small fonts load block bytes are ch r = by_source load.is_block
     by_source true = bytes (load.height * (ch - load.first) + r)
     by_source false = by_height (load.height == 8) (load.height == 14)
 
-module _ (law : KeepsBounds) (fonts : FontSet) (load : GlyphLoad) (block : List ℕ) (bytes : AreBytes block) (are : AreFonts fonts) (there : AreThere load (length block)) (c : CardState) (d : BiosData) (h : IsShown c d) (z : IsCard c) (new : Height) where
+module _ (law : KeepsBounds) (fonts : FontSet) (load : GlyphLoad) (block : List ℕ) (bytes : AreBytes block) (are : AreFonts fonts)
+    (there : AreThere load (length block)) (c : CardState) (d : BiosData) (h : IsShown c d) (z : IsCard c) (new : Height) where
   abbrev pub disp : Display
   disp = h.display
 
@@ -165,9 +180,12 @@ module _ (law : KeepsBounds) (fonts : FontSet) (load : GlyphLoad) (block : List 
       let e1 : (run card_meaning glyphs_on c).0 ≡ c1 =
       ap (λ x. (run card_meaning glyphs_on (card_at c x)).0) h.setting ∙ on_by disp c ∙ ap (λ x. through (card_at c x) (glyph_setting disp)) (sym h.setting) in
       let z1 : IsCard c1 = subst IsCard e1 (plan_bounds law glyphs_on c z) in
-      let at1 : setting c1 ≡ glyph_setting disp = ap (λ (x : Setting). let q : Setting = record { misc = x.misc; seq = (glyph_setting disp).seq; gfx = (glyph_setting disp).gfx } in q) h.setting in
-      let start : IsLoading disp (without_glyphs c1) c1 (slice_index c1.host.memory.plane2) = record { mode = at1; size2 = z1.host.memory.size 2 (omega arith); row = λ o l. refl; others = refl } in
-      let loaded = glyphs_loaded disp (without_glyphs c1) c1 (slice_index c1.host.memory.plane2) line load.height load.count load.first there.last there.height (line_small fonts load block bytes are) start in
+      let at1 : setting c1 ≡ glyph_setting disp = ap (λ (x : Setting). let q : Setting =
+      record { misc = x.misc; seq = (glyph_setting disp).seq; gfx = (glyph_setting disp).gfx } in q) h.setting in
+      let start : IsLoading disp (without_glyphs c1) c1 (slice_index c1.host.memory.plane2) =
+      record { mode = at1; size2 = z1.host.memory.size 2 (omega arith); row = λ o l. refl; others = refl } in
+      let loaded = glyphs_loaded disp (without_glyphs c1) c1 (slice_index c1.host.memory.plane2) line load.height load.count load.first there.last there.height
+      (line_small fonts load block bytes are) start in
       let s2 = (run card_meaning loading c1).0 in
       let l2 = s2.host.memory.plane2 in
       let c2 : CardState = record c1 { host = record c1.host { memory = record c1.host.memory { plane2 = l2 } } } in
@@ -178,8 +196,10 @@ module _ (law : KeepsBounds) (fonts : FontSet) (load : GlyphLoad) (block : List 
       ∙ ap (λ x. (run card_meaning (glyphs_off (window_of disp)) (card_at c2 x)).0) at1
       ∙ off_by disp c2
       ∙ ap (λ x. through (card_at c2 x) (text_setting disp)) (sym at1) in
-      let at3 : setting c3 ≡ text_setting disp = ap (λ (x : Setting). let q : Setting = record { misc = x.misc; seq = (text_setting disp).seq; gfx = (text_setting disp).gfx } in q) h.setting in
-      let registers : c3.crtc.registers ≡ crtc_registers (with_text (row_of disp) (lines_of disp h.height)) d.cursor_type (start_address d d.page) (cursor_address d d.page) =
+      let at3 : setting c3 ≡ text_setting disp = ap (λ (x : Setting). let q : Setting =
+      record { misc = x.misc; seq = (text_setting disp).seq; gfx = (text_setting disp).gfx } in q) h.setting in
+      let registers : c3.crtc.registers ≡ crtc_registers (with_text (row_of disp) (lines_of disp h.height)) d.cursor_type (start_address d d.page)
+      (cursor_address d d.page) =
       h.tests.crtc ∙ ap (λ r. crtc_registers r d.cursor_type (start_address d d.page) (cursor_address d d.page)) h.row_is in
       let plan = height_plan row.crtc_address row in
       let e4 : (run card_meaning plan c3).0 ≡ with_crtc c3 (crtc_registers row row.cursor_type 0 0) 0x0F =
@@ -221,7 +241,8 @@ data_by Monochrome Eight mode = refl
 data_by Monochrome Fourteen mode = refl
 data_by Monochrome Sixteen mode = refl
 
-crtc_by : (disp : Display) (new : Height) → (let d = data_of_mode (number_of disp) (row_with disp new) in crtc_registers (row_with disp new) (row_with disp new).cursor_type 0 0 ≡ text_crtc (row_with disp new) d)
+crtc_by : (disp : Display) (new : Height) → (let d = data_of_mode (number_of disp) (row_with disp new) in
+    crtc_registers (row_with disp new) (row_with disp new).cursor_type 0 0 ≡ text_crtc (row_with disp new) d)
 crtc_by Colour Eight = refl
 crtc_by Colour Fourteen = refl
 crtc_by Colour Sixteen = refl
@@ -229,17 +250,21 @@ crtc_by Monochrome Eight = refl
 crtc_by Monochrome Fourteen = refl
 crtc_by Monochrome Sixteen = refl
 
-memory_by : (disp : Display) → (let s = text_setting disp in let row = row_of disp in (s.misc == row.misc) && (bytes_eq s.seq row.sequencer && bytes_eq s.gfx row.graphics)) ≡ true
+memory_by : (disp : Display) → (let s = text_setting disp in let row = row_of disp in (s.misc == row.misc)
+    && (bytes_eq s.seq row.sequencer && bytes_eq s.gfx row.graphics)) ≡ true
 memory_by Colour = refl
 memory_by Monochrome = refl
 
 -- the tests of attributes look at the row's attributes alone
 attribute_stays : (row other : ModeRow) (a : AttrState) → row.attribute ≡ other.attribute → shows_attribute row a ≡ true → shows_attribute other a ≡ true
 attribute_stays row other a e t =
-    sym (ap (λ (l : List ℕ). is_palette_shown a && ((bit_and (slice_index a.registers 0x10) 0xF7 == bit_and (slice_index l 0x10) 0xF7) && bytes_eq (drop 0x12 a.registers) (drop 0x12 l))) e) ∙ t
+    sym (ap (λ (l : List ℕ). is_palette_shown a && ((bit_and (slice_index a.registers 0x10) 0xF7 == bit_and (slice_index l 0x10) 0xF7)
+    && bytes_eq (drop 0x12 a.registers) (drop 0x12 l))) e) ∙ t
 
-pub load_shown : (law : KeepsBounds) (fonts : FontSet) (load : GlyphLoad) (block : List ℕ) → AreBytes block → AreFonts fonts → AreThere load (length block) → (c : CardState) (d : BiosData) (h : IsShown c d) → IsCard c → (new : Height)
-    → (let row = row_with h.display new in shown (run card_meaning (load_plan fonts load block row) c).0 (data_of_mode d.mode row) ≡ Some (load_at_height (Some (lines_of h.display new)) fonts (screen_shown c d h) load block))
+pub load_shown : (law : KeepsBounds) (fonts : FontSet) (load : GlyphLoad) (block : List ℕ) → AreBytes block → AreFonts fonts → AreThere load (length block) →
+    (c : CardState) (d : BiosData) (h : IsShown c d) → IsCard c → (new : Height)
+    → (let row = row_with h.display new in shown (run card_meaning (load_plan fonts load block row) c).0 (data_of_mode d.mode row)
+    ≡ Some (load_at_height (Some (lines_of h.display new)) fonts (screen_shown c d h) load block))
 load_shown law fonts load block bytes are there c d h z new =
     let disp = h.display in
     let row = row_with disp new in
@@ -248,7 +273,8 @@ load_shown law fonts load block bytes are there c d h z new =
     let y = left disp c t.plane2 registers in
     let after : BiosData = data_of_mode d.mode row in
     let s = screen_shown c d h in
-    let set : setting y ≡ text_setting disp = ap (λ (x : Setting). let q : Setting = record { misc = x.misc; seq = (text_setting disp).seq; gfx = (text_setting disp).gfx } in q) h.setting in
+    let set : setting y ≡ text_setting disp = ap (λ (x : Setting). let q : Setting =
+    record { misc = x.misc; seq = (text_setting disp).seq; gfx = (text_setting disp).gfx } in q) h.setting in
     let own : row_at d.mode row.height ≡ Some row = ap (λ m. row_at m row.height) h.number ∙ own_row disp new in
     let tests : Tests row y after = record {
       is_text = h.tests.is_text;
@@ -260,5 +286,18 @@ load_shown law fonts load block bytes are there c d h z new =
     let columns : row.columns ≡ d.columns = sym (h.has.columns ∙ ap (λ (r : ModeRow). r.columns) h.row_is) in
     ap (λ x. shown x after) t.is
     ∙ shown_of y after row own tests
-    ∙ ap (λ g. let x : Screen = record (text_screen row y after) { glyphs = g } in Some x) (glyphs_are fonts load block c.host.memory.plane2 t.plane2 t.cells there.height t.glyphs t.byte)
-    ∙ ap (λ n. let x : Screen = record s { layout = record { columns = n; rows = row.last_row + 1; height = row.height; distance = row.size / 2; pages = row.pages }; places = replicate 8 0; cursor_type = row.cursor_type; page = 0; glyphs = listing (load_byte fonts load block (slice_index s.glyphs)) 0 (length s.glyphs) } in Some x) columns
+    ∙ ap (λ g. let x : Screen = record (text_screen row y after) { glyphs = g } in Some x)
+    (glyphs_are fonts load block c.host.memory.plane2 t.plane2 t.cells there.height t.glyphs t.byte)
+    ∙ ap (λ n. let x : Screen = record s {
+      layout = record {
+        columns = n;
+        rows = row.last_row + 1;
+        height = row.height;
+        distance = row.size / 2;
+        pages = row.pages;
+      };
+      places = replicate 8 0;
+      cursor_type = row.cursor_type;
+      page = 0;
+      glyphs = listing (load_byte fonts load block (slice_index s.glyphs)) 0 (length s.glyphs);
+    } in Some x) columns

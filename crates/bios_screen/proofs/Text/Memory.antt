@@ -25,7 +25,12 @@ bits_of b = byte_of (bit_at b)
 
 -- all of an adapter but the planes of characters and attributes, and the latches
 abbrev pub without_text : CardState → CardState
-without_text c = record c { host = record c.host { memory = record c.host.memory { plane0 = []; plane1 = [] }; latches = record { plane0 = 0; plane1 = 0; plane2 = 0; plane3 = 0 } } }
+without_text c = record c {
+  host = record c.host {
+    memory = record c.host.memory { plane0 = []; plane1 = [] };
+    latches = record { plane0 = 0; plane1 = 0; plane2 = 0; plane3 = 0 };
+  };
+}
 
 -- an adapter in text, its bytes by place in the window; all else is as in `rest`
 pub record IsTextual (disp : Display) (rest : CardState) (c : CardState) (m : ℕ → ℕ) : Type 0 where
@@ -56,17 +61,21 @@ reached_memory h even odd o v w = record h.memory {
 }
 
 -- the planes that a Put reaches, by computation
-memory_by : (disp : Display) (h : HostState) (w b : ℕ) → memory_after_put (host_at h (text_setting disp)) w b ≡ reached_memory h (0 == w % 2) (1 == w % 2) (w / 2 * 2) (written_byte (host_at h (text_setting disp)) b 0) (written_byte (host_at h (text_setting disp)) b 1)
+memory_by : (disp : Display) (h : HostState) (w b : ℕ) → memory_after_put (host_at h (text_setting disp)) w b
+    ≡ reached_memory h (0 == w % 2) (1 == w % 2) (w / 2 * 2) (written_byte (host_at h (text_setting disp)) b 0)
+    (written_byte (host_at h (text_setting disp)) b 1)
 memory_by Colour h w b = refl
 memory_by Monochrome h w b = refl
 
-memory_is : (disp : Display) (h : HostState) (w b : ℕ) → b < 256 → memory_after_put (host_at h (text_setting disp)) w b ≡ reached_memory h (0 == w % 2) (1 == w % 2) (w / 2 * 2) b b
+memory_is : (disp : Display) (h : HostState) (w b : ℕ) → b < 256 → memory_after_put (host_at h (text_setting disp)) w b
+    ≡ reached_memory h (0 == w % 2) (1 == w % 2) (w / 2 * 2) b b
 memory_is disp h w b l =
     memory_by disp h w b
     ∙ ap (λ v. reached_memory h (0 == w % 2) (1 == w % 2) (w / 2 * 2) v (written_byte (host_at h (text_setting disp)) b 1)) (written disp h b 0 (omega arith) l)
     ∙ ap (λ v. reached_memory h (0 == w % 2) (1 == w % 2) (w / 2 * 2) b v) (written disp h b 1 (omega arith) l)
 
-even_memory : (disp : Display) (h : HostState) (q b : ℕ) → b < 256 → memory_after_put (host_at h (text_setting disp)) (2 * q) b ≡ record h.memory { plane0 = slice_set h.memory.plane0 (2 * q) b }
+even_memory : (disp : Display) (h : HostState) (q b : ℕ) → b < 256 → memory_after_put (host_at h (text_setting disp)) (2 * q) b
+    ≡ record h.memory { plane0 = slice_set h.memory.plane0 (2 * q) b }
 even_memory disp h q b l =
     let even : (0 == 2 * q % 2) ≡ true = grind (arith, nat_tests) in
     let odd : (1 == 2 * q % 2) ≡ false = grind (arith, nat_tests) in
@@ -76,7 +85,8 @@ even_memory disp h q b l =
     ∙ ap (λ t. reached_memory h true t (2 * q / 2 * 2) b b) odd
     ∙ ap (λ o. reached_memory h true false o b b) place
 
-odd_memory : (disp : Display) (h : HostState) (q b : ℕ) → b < 256 → memory_after_put (host_at h (text_setting disp)) (2 * q + 1) b ≡ record h.memory { plane1 = slice_set h.memory.plane1 (2 * q) b }
+odd_memory : (disp : Display) (h : HostState) (q b : ℕ) → b < 256 → memory_after_put (host_at h (text_setting disp)) (2 * q + 1) b
+    ≡ record h.memory { plane1 = slice_set h.memory.plane1 (2 * q) b }
 odd_memory disp h q b l =
     let even : (0 == (2 * q + 1) % 2) ≡ false = grind (arith, nat_tests) in
     let odd : (1 == (2 * q + 1) % 2) ≡ true = grind (arith, nat_tests) in
@@ -90,15 +100,18 @@ pub window_is : (disp : Display) (h : HostState) (w : ℕ) → w < 32768 → win
 window_is Colour h w l = omega arith
 window_is Monochrome h w l = omega arith
 
-put_at : (disp : Display) (c : CardState) (w v : ℕ) → setting c ≡ text_setting disp → w < 32768 → (run card_meaning (put (base_of disp + w) v) c).0 ≡ with_memory c (memory_after_put (host_at c.host (text_setting disp)) w v)
+put_at : (disp : Display) (c : CardState) (w v : ℕ) → setting c ≡ text_setting disp → w < 32768 →
+    (run card_meaning (put (base_of disp + w) v) c).0 ≡ with_memory c (memory_after_put (host_at c.host (text_setting disp)) w v)
 put_at disp c w v e l =
     put_decoded c (text_setting disp) (base_of disp + w) v e (decoded disp c.host w l)
     ∙ ap (λ o. with_memory c (memory_after_put (host_at c.host (text_setting disp)) o v)) (window_is disp c.host w l)
 
 small_cell : (m : ℕ → ℕ) (a b : ℕ) → b < 256 → ((w : ℕ) → w < 32768 → m w < 256) → (w : ℕ) → w < 32768 → set_cell m a b w < 256
-small_cell m a b h t w l = ⊎_elim (λ (e : w ≡ a). let z = set_same m a b w e in omega arith) (λ (n : w ≢ a). let z = set_other m a b w n in let y = t w l in omega arith) (cases_eq w a)
+small_cell m a b h t w l = ⊎_elim (λ (e : w ≡ a). let z = set_same m a b w e in omega arith) (λ (n : w ≢ a). let z = set_other m a b w n in let y = t w l in
+    omega arith) (cases_eq w a)
 
-even_put : (disp : Display) (rest c : CardState) (m : ℕ → ℕ) (q b : ℕ) → q < 16384 → b < 256 → IsTextual disp rest c m → IsTextual disp rest (run card_meaning (put (base_of disp + 2 * q) b) c).0 (set_cell m (2 * q) b)
+even_put : (disp : Display) (rest c : CardState) (m : ℕ → ℕ) (q b : ℕ) → q < 16384 → b < 256 → IsTextual disp rest c m →
+    IsTextual disp rest (run card_meaning (put (base_of disp + 2 * q) b) c).0 (set_cell m (2 * q) b)
 even_put disp rest c m q b l h t =
     let p = c.host.memory.plane0 in
     let after = with_memory c (record c.host.memory { plane0 = slice_set p (2 * q) b }) in
@@ -108,8 +121,10 @@ even_put disp rest c m q b l h t =
       size0 = length-set p (2 * q) b ∙ t.size0;
       size1 = t.size1;
       character = λ r k. ⊎_elim
-          (λ (e : r ≡ q). let z : 2 * r ≡ 2 * q = omega arith in ap (slice_index (slice_set p (2 * q) b)) z ∙ get_or-set_same p (2 * q) b 0 (omega (arith, t.size0)) ∙ sym (set_same m (2 * q) b (2 * r) z))
-          (λ (n : r ≢ q). let z : 2 * r ≢ 2 * q = omega arith in get_or-set_other p (2 * q) (2 * r) b 0 z ∙ t.character r k ∙ sym (set_other m (2 * q) b (2 * r) z))
+          (λ (e : r ≡ q). let z : 2 * r ≡ 2 * q = omega arith in ap (slice_index (slice_set p (2 * q) b)) z
+          ∙ get_or-set_same p (2 * q) b 0 (omega (arith, t.size0)) ∙ sym (set_same m (2 * q) b (2 * r) z))
+          (λ (n : r ≢ q). let z : 2 * r ≢ 2 * q = omega arith in get_or-set_other p (2 * q) (2 * r) b 0 z ∙ t.character r k
+          ∙ sym (set_other m (2 * q) b (2 * r) z))
           (cases_eq r q);
       attribute = λ r k. t.attribute r k ∙ sym (set_other m (2 * q) b (2 * r + 1) (omega arith));
       small = small_cell m (2 * q) b h t.small;
@@ -117,7 +132,8 @@ even_put disp rest c m q b l h t =
     } in
     subst (λ x. IsTextual disp rest x d) (sym (put_at disp c (2 * q) b t.mode (omega arith) ∙ ap (with_memory c) (even_memory disp c.host q b h))) still
 
-odd_put : (disp : Display) (rest c : CardState) (m : ℕ → ℕ) (q b : ℕ) → q < 16384 → b < 256 → IsTextual disp rest c m → IsTextual disp rest (run card_meaning (put (base_of disp + (2 * q + 1)) b) c).0 (set_cell m (2 * q + 1) b)
+odd_put : (disp : Display) (rest c : CardState) (m : ℕ → ℕ) (q b : ℕ) → q < 16384 → b < 256 → IsTextual disp rest c m →
+    IsTextual disp rest (run card_meaning (put (base_of disp + (2 * q + 1)) b) c).0 (set_cell m (2 * q + 1) b)
 odd_put disp rest c m q b l h t =
     let p = c.host.memory.plane1 in
     let after = with_memory c (record c.host.memory { plane1 = slice_set p (2 * q) b }) in
@@ -128,8 +144,10 @@ odd_put disp rest c m q b l h t =
       size1 = length-set p (2 * q) b ∙ t.size1;
       character = λ r k. t.character r k ∙ sym (set_other m (2 * q + 1) b (2 * r) (omega arith));
       attribute = λ r k. ⊎_elim
-          (λ (e : r ≡ q). let z : 2 * r ≡ 2 * q = omega arith in let y : 2 * r + 1 ≡ 2 * q + 1 = omega arith in ap (slice_index (slice_set p (2 * q) b)) z ∙ get_or-set_same p (2 * q) b 0 (omega (arith, t.size1)) ∙ sym (set_same m (2 * q + 1) b (2 * r + 1) y))
-          (λ (n : r ≢ q). let z : 2 * r ≢ 2 * q = omega arith in let y : 2 * r + 1 ≢ 2 * q + 1 = omega arith in get_or-set_other p (2 * q) (2 * r) b 0 z ∙ t.attribute r k ∙ sym (set_other m (2 * q + 1) b (2 * r + 1) y))
+          (λ (e : r ≡ q). let z : 2 * r ≡ 2 * q = omega arith in let y : 2 * r + 1 ≡ 2 * q + 1 = omega arith in ap (slice_index (slice_set p (2 * q) b)) z
+          ∙ get_or-set_same p (2 * q) b 0 (omega (arith, t.size1)) ∙ sym (set_same m (2 * q + 1) b (2 * r + 1) y))
+          (λ (n : r ≢ q). let z : 2 * r ≢ 2 * q = omega arith in let y : 2 * r + 1 ≢ 2 * q + 1 = omega arith in get_or-set_other p (2 * q) (2 * r) b 0 z
+          ∙ t.attribute r k ∙ sym (set_other m (2 * q + 1) b (2 * r + 1) y))
           (cases_eq r q);
       small = small_cell m (2 * q + 1) b h t.small;
       others = t.others;
@@ -137,8 +155,11 @@ odd_put disp rest c m q b l h t =
     subst (λ x. IsTextual disp rest x d) (sym (put_at disp c (2 * q + 1) b t.mode (omega arith) ∙ ap (with_memory c) (odd_memory disp c.host q b h))) still
 
 -- a Put anywhere in the window
-pub text_put : (disp : Display) (rest c : CardState) (m : ℕ → ℕ) (w b : ℕ) → w < 32768 → b < 256 → IsTextual disp rest c m → IsTextual disp rest (run card_meaning (put (base_of disp + w) b) c).0 (set_cell m w b)
+pub text_put : (disp : Display) (rest c : CardState) (m : ℕ → ℕ) (w b : ℕ) → w < 32768 → b < 256 → IsTextual disp rest c m →
+    IsTextual disp rest (run card_meaning (put (base_of disp + w) b) c).0 (set_cell m w b)
 text_put disp rest c m w b l h t = ⊎_elim
-    (λ (e : w % 2 ≡ 0). let z : 2 * (w / 2) ≡ w = omega arith in subst (λ x. IsTextual disp rest (run card_meaning (put (base_of disp + x) b) c).0 (set_cell m x b)) z (even_put disp rest c m (w / 2) b (omega arith) h t))
-    (λ (n : w % 2 ≢ 0). let z : 2 * (w / 2) + 1 ≡ w = omega arith in subst (λ x. IsTextual disp rest (run card_meaning (put (base_of disp + x) b) c).0 (set_cell m x b)) z (odd_put disp rest c m (w / 2) b (omega arith) h t))
+    (λ (e : w % 2 ≡ 0). let z : 2 * (w / 2) ≡ w = omega arith in subst (λ x. IsTextual disp rest (run card_meaning (put (base_of disp + x) b) c).0
+    (set_cell m x b)) z (even_put disp rest c m (w / 2) b (omega arith) h t))
+    (λ (n : w % 2 ≢ 0). let z : 2 * (w / 2) + 1 ≡ w = omega arith in subst (λ x. IsTextual disp rest (run card_meaning (put (base_of disp + x) b) c).0
+    (set_cell m x b)) z (odd_put disp rest c m (w / 2) b (omega arith) h t))
     (cases_eq (w % 2) 0)

@@ -18,7 +18,8 @@ pub cells_at : (p0 p1 : List ℕ) (n k : ℕ) → k < n → cell_of (cells_in p0
 unfolding cells_in
 cells_at p0 p1 n k l = listed_at (cell_in p0 p1) n k no_cell l
 
-cells_renewed : (p0 p1 q0 q1 : List ℕ) (n : ℕ) (h : ℕ → Cell) → ((k : ℕ) → k < n → cell_in p0 p1 k ≡ h k) → cells_in p0 p1 n ≡ listing h 0 (length (cells_in q0 q1 n))
+cells_renewed : (p0 p1 q0 q1 : List ℕ) (n : ℕ) (h : ℕ → Cell) → ((k : ℕ) → k < n → cell_in p0 p1 k ≡ h k) →
+    cells_in p0 p1 n ≡ listing h 0 (length (cells_in q0 q1 n))
 unfolding cells_in
 cells_renewed p0 p1 q0 q1 n h e = same_from_0 h (cell_in p0 p1) n e ∙ ap (listing h 0) (sym (length_listing (cell_in q0 q1) 0 n))
 
@@ -32,7 +33,9 @@ unfolding shows
 test_stays row c y d e = ap (λ x. shows row x d) e
 
 -- where text alone has changed, a screen with other cells is shown
-pub renewed_shown : (disp : Display) (rest c y : CardState) (d : BiosData) (h : IsShown c d) (new : (ℕ → Cell) → ℕ → Cell) (g : ℕ → Cell) → without_text y ≡ without_text c → IsCells disp rest y g → ((k : ℕ) → k < 16384 → g k ≡ new (cell_on (screen_shown c d h)) k) → shown y d ≡ Some (with_cells (screen_shown c d h) new)
+pub renewed_shown : (disp : Display) (rest c y : CardState) (d : BiosData) (h : IsShown c d) (new : (ℕ → Cell) → ℕ → Cell) (g : ℕ → Cell) →
+    without_text y ≡ without_text c → IsCells disp rest y g → ((k : ℕ) → k < 16384 → g k ≡ new (cell_on (screen_shown c d h)) k) →
+    shown y d ≡ Some (with_cells (screen_shown c d h) new)
 renewed_shown disp rest c y d h new g others t e =
     let row = h.row in
     let m = c.host.memory in
@@ -45,11 +48,13 @@ renewed_shown disp rest c y d h new g others t e =
     ∙ ap (λ x. Some (screen_with row x d cells)) others
 
 -- where nothing of it has changed, the same screen is shown
-pub same_shown : (disp : Display) (rest c y : CardState) (d : BiosData) (h : IsShown c d) (g : ℕ → Cell) → without_text y ≡ without_text c → IsCells disp rest y g → ((k : ℕ) → k < 16384 → g k ≡ cell_in c.host.memory.plane0 c.host.memory.plane1 k) → shown y d ≡ Some (screen_shown c d h)
+pub same_shown : (disp : Display) (rest c y : CardState) (d : BiosData) (h : IsShown c d) (g : ℕ → Cell) → without_text y ≡ without_text c →
+    IsCells disp rest y g → ((k : ℕ) → k < 16384 → g k ≡ cell_in c.host.memory.plane0 c.host.memory.plane1 k) → shown y d ≡ Some (screen_shown c d h)
 same_shown disp rest c y d h g others t e =
     let row = h.row in
     let m = c.host.memory in
     let old = cells_in m.plane0 m.plane1 all_cells in
     shown_of y d row h.mode (tests_of row y d h.tests.is_text (test_stays row c y d others ∙ test_of row c d h.tests))
-    ∙ ap (λ k. Some (screen_with row y d k)) (cells_same_list y.host.memory.plane0 y.host.memory.plane1 m.plane0 m.plane1 all_cells (λ k l. cells_are disp rest y g k l t ∙ e k l))
+    ∙ ap (λ k. Some (screen_with row y d k)) (cells_same_list y.host.memory.plane0 y.host.memory.plane1 m.plane0 m.plane1 all_cells (λ k l.
+    cells_are disp rest y g k l t ∙ e k l))
     ∙ ap (λ x. Some (screen_with row x d old)) others

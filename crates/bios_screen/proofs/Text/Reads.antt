@@ -18,38 +18,48 @@ use Rattle.bios_screen.proofs.Modes.TextModes.Display.{Colour, Monochrome}
 use Rattle.bios_screen.proofs.Text.Memory.{bits_of, IsTextual, decoded, window_is}
 
 -- the byte that a read answers, by computation
-read_at : (disp : Display) (h : HostState) (w : ℕ) → byte_of (λ i. read_bit (host_at h (text_setting disp)) w (bytes_at h.memory (plane_offset (host_at h (text_setting disp)) w)) i) ≡ bits_of (of_plane (bytes_at h.memory (w / 2 * 2)) (0 + w % 2))
+read_at : (disp : Display) (h : HostState) (w : ℕ) → byte_of (λ i. read_bit (host_at h (text_setting disp)) w
+    (bytes_at h.memory (plane_offset (host_at h (text_setting disp)) w)) i) ≡ bits_of (of_plane (bytes_at h.memory (w / 2 * 2)) (0 + w % 2))
 unfolding byte_of read_bit
 read_at Colour h w = refl
 read_at Monochrome h w = refl
 
-read_is : (disp : Display) (h : HostState) (w : ℕ) → w < 32768 → read_byte (host_at h (text_setting disp)) (base_of disp + w) ≡ bits_of (of_plane (bytes_at h.memory (w / 2 * 2)) (0 + w % 2))
-read_is disp h w l = ap (λ o. byte_of (λ i. read_bit (host_at h (text_setting disp)) o (bytes_at h.memory (plane_offset (host_at h (text_setting disp)) o)) i)) (window_is disp h w l) ∙ read_at disp h w
+read_is : (disp : Display) (h : HostState) (w : ℕ) → w < 32768 → read_byte (host_at h (text_setting disp)) (base_of disp + w)
+    ≡ bits_of (of_plane (bytes_at h.memory (w / 2 * 2)) (0 + w % 2))
+read_is disp h w l = ap (λ o. byte_of (λ i. read_bit (host_at h (text_setting disp)) o (bytes_at h.memory (plane_offset (host_at h (text_setting disp)) o)) i))
+    (window_is disp h w l) ∙ read_at disp h w
 
-even_read : (disp : Display) (h : HostState) (q : ℕ) → q < 16384 → read_byte (host_at h (text_setting disp)) (base_of disp + 2 * q) ≡ bits_of (slice_index h.memory.plane0 (2 * q))
+even_read : (disp : Display) (h : HostState) (q : ℕ) → q < 16384 → read_byte (host_at h (text_setting disp)) (base_of disp + 2 * q)
+    ≡ bits_of (slice_index h.memory.plane0 (2 * q))
 even_read disp h q l =
     let z : 0 + 2 * q % 2 ≡ 0 = omega arith in
     let o : 2 * q / 2 * 2 ≡ 2 * q = omega arith in
-    read_is disp h (2 * q) (omega arith) ∙ ap (λ p. bits_of (of_plane (bytes_at h.memory (2 * q / 2 * 2)) p)) z ∙ ap (λ k. bits_of (slice_index h.memory.plane0 k)) o
+    read_is disp h (2 * q) (omega arith) ∙ ap (λ p. bits_of (of_plane (bytes_at h.memory (2 * q / 2 * 2)) p)) z
+    ∙ ap (λ k. bits_of (slice_index h.memory.plane0 k)) o
 
-odd_read : (disp : Display) (h : HostState) (q : ℕ) → q < 16384 → read_byte (host_at h (text_setting disp)) (base_of disp + (2 * q + 1)) ≡ bits_of (slice_index h.memory.plane1 (2 * q))
+odd_read : (disp : Display) (h : HostState) (q : ℕ) → q < 16384 → read_byte (host_at h (text_setting disp)) (base_of disp + (2 * q + 1))
+    ≡ bits_of (slice_index h.memory.plane1 (2 * q))
 odd_read disp h q l =
     let z : 0 + (2 * q + 1) % 2 ≡ 1 = omega arith in
     let o : (2 * q + 1) / 2 * 2 ≡ 2 * q = omega arith in
-    read_is disp h (2 * q + 1) (omega arith) ∙ ap (λ p. bits_of (of_plane (bytes_at h.memory ((2 * q + 1) / 2 * 2)) p)) z ∙ ap (λ k. bits_of (slice_index h.memory.plane1 k)) o
+    read_is disp h (2 * q + 1) (omega arith) ∙ ap (λ p. bits_of (of_plane (bytes_at h.memory ((2 * q + 1) / 2 * 2)) p)) z
+    ∙ ap (λ k. bits_of (slice_index h.memory.plane1 k)) o
 
-answer_is : (disp : Display) (rest c : CardState) (m : ℕ → ℕ) (w : ℕ) → w < 32768 → IsTextual disp rest c m → read_byte (host_at c.host (text_setting disp)) (base_of disp + w) ≡ m w
+answer_is : (disp : Display) (rest c : CardState) (m : ℕ → ℕ) (w : ℕ) → w < 32768 → IsTextual disp rest c m →
+    read_byte (host_at c.host (text_setting disp)) (base_of disp + w) ≡ m w
 answer_is disp rest c m w l t = ⊎_elim
     (λ (e : w % 2 ≡ 0).
     let z : 2 * (w / 2) ≡ w = omega arith in
     let s = t.small w l in
     let k : m (2 * (w / 2)) < 256 = subst (λ x. m x < 256) (sym z) s in
-    subst (λ x. read_byte (host_at c.host (text_setting disp)) (base_of disp + x) ≡ m x) z (even_read disp c.host (w / 2) (omega arith) ∙ ap bits_of (t.character (w / 2) (omega arith)) ∙ byte_bits (m (2 * (w / 2))) k))
+    subst (λ x. read_byte (host_at c.host (text_setting disp)) (base_of disp + x) ≡ m x) z (even_read disp c.host (w / 2) (omega arith)
+    ∙ ap bits_of (t.character (w / 2) (omega arith)) ∙ byte_bits (m (2 * (w / 2))) k))
     (λ (n : w % 2 ≢ 0).
     let z : 2 * (w / 2) + 1 ≡ w = omega arith in
     let s = t.small w l in
     let k : m (2 * (w / 2) + 1) < 256 = subst (λ x. m x < 256) (sym z) s in
-    subst (λ x. read_byte (host_at c.host (text_setting disp)) (base_of disp + x) ≡ m x) z (odd_read disp c.host (w / 2) (omega arith) ∙ ap bits_of (t.attribute (w / 2) (omega arith)) ∙ byte_bits (m (2 * (w / 2) + 1)) k))
+    subst (λ x. read_byte (host_at c.host (text_setting disp)) (base_of disp + x) ≡ m x) z (odd_read disp c.host (w / 2) (omega arith)
+    ∙ ap bits_of (t.attribute (w / 2) (omega arith)) ∙ byte_bits (m (2 * (w / 2) + 1)) k))
     (cases_eq (w % 2) 0)
 
 -- a read in text leaves the text, and answers the byte at its place
@@ -57,7 +67,8 @@ pub record Answers (disp : Display) (rest : CardState) (m : ℕ → ℕ) (w : �
   pub text : IsTextual disp rest r.0 m
   pub answer : r.1 ≡ m w
 
-pub text_get : (disp : Display) (rest c : CardState) (m : ℕ → ℕ) (w : ℕ) → w < 32768 → IsTextual disp rest c m → Answers disp rest m w (run card_meaning (get (base_of disp + w)) c)
+pub text_get : (disp : Display) (rest c : CardState) (m : ℕ → ℕ) (w : ℕ) → w < 32768 → IsTextual disp rest c m →
+    Answers disp rest m w (run card_meaning (get (base_of disp + w)) c)
 text_get disp rest c m w l t =
     let x : CardState = record c { host = record c.host { latches = loaded (host_at c.host (text_setting disp)) (base_of disp + w) } } in
     let p : CardState × ℕ = (x, read_byte (host_at c.host (text_setting disp)) (base_of disp + w)) in

@@ -54,7 +54,8 @@ module _ (law : KeepsBounds) (d : BiosData) (p : ℕ) (lp : p < pages_of d) wher
     last = page_start s p + (d.columns * d.last_row + column_of place)
 
     last_within : last < 16384
-    last_within = let a = ends_before d.columns d.last_row (d.last_row + 1) (omega arith) in let b = page_fits c d h p (page_in d h.row p h.mode lp) (whole_page s 0) in omega arith
+    last_within = let a = ends_before d.columns d.last_row (d.last_row + 1) (omega arith) in let b =
+        page_fits c d h p (page_in d h.row p h.mode lp) (whole_page s 0) in omega arith
 
     colour_is : last_colour s p place ≡ (cell_in c.host.memory.plane0 c.host.memory.plane1 last).1
     colour_is =
@@ -80,7 +81,8 @@ module _ (law : KeepsBounds) (d : BiosData) (p : ℕ) (lp : p < pages_of d) wher
         let m = c.host.memory in
         let f = cell_in m.plane0 m.plane1 in
         let has = has_cells h.display c h.setting z.host in
-        let read = attribute_get h.display (without_text c) c f (cell_address d p (d.columns * d.last_row + column_of place)) last (address_is d h.display h.row.pages p (d.columns * d.last_row + column_of place) (lies c d h)) last_within has in
+        let read = attribute_get h.display (without_text c) c f (cell_address d p (d.columns * d.last_row + column_of place)) last
+        (address_is d h.display h.row.pages p (d.columns * d.last_row + column_of place) (lies c d h)) last_within has in
         record {
           answer = read.answer ∙ sym colour_is;
           shows = same_shown h.display (without_text c) c (run card_meaning fill c).0 d h f read.cells.is.others read.cells (λ k l. refl);
@@ -111,10 +113,12 @@ module _ (law : KeepsBounds) (d : BiosData) (p : ℕ) (lp : p < pages_of d) wher
 
 -- ---- a character
 
-one_written : (first v : ℕ) (colouring : Colouring) (f old : ℕ → Cell) (k : ℕ) → old k ≡ f k → set_cell f first (character_over v colouring (f first)) k ≡ write_characters first 1 v colouring old k
+one_written : (first v : ℕ) (colouring : Colouring) (f old : ℕ → Cell) (k : ℕ) → old k ≡ f k →
+    set_cell f first (character_over v colouring (f first)) k ≡ write_characters first 1 v colouring old k
 one_written first v colouring f old k same = ⊎_elim
     (λ (e : k ≡ first).
-    set_same f first (character_over v colouring (f first)) k e ∙ ap (λ n. character_over v colouring (f n)) (sym e) ∙ ap (character_over v colouring) (sym same)
+    set_same f first (character_over v colouring (f first)) k e ∙ ap (λ n. character_over v colouring (f n)) (sym e)
+    ∙ ap (character_over v colouring) (sym same)
     ∙ ap (λ b. if b then character_over v colouring (old k) else old k) (sym (inside_test first k 1 (omega arith) (omega arith))))
     (λ (n : k ≢ first). ⊎_elim
     (λ (l : k < first). other n (before_test first k 1 l))
@@ -122,10 +126,13 @@ one_written first v colouring f old k same = ⊎_elim
     (cases_lt k first))
     (cases_eq k first)
   where
-    other : k ≢ first → (nat_le first k && nat_lt k (first + 1)) ≡ false → set_cell f first (character_over v colouring (f first)) k ≡ write_characters first 1 v colouring old k
-    other n t = set_other f first (character_over v colouring (f first)) k n ∙ sym same ∙ ap (λ b. if b then character_over v colouring (old k) else old k) (sym t)
+    other : k ≢ first → (nat_le first k && nat_lt k (first + 1)) ≡ false → set_cell f first (character_over v colouring (f first)) k
+        ≡ write_characters first 1 v colouring old k
+    other n t = set_other f first (character_over v colouring (f first)) k n ∙ sym same
+        ∙ ap (λ b. if b then character_over v colouring (old k) else old k) (sym t)
 
-module _ (fonts : FontSet) (d : BiosData) (p : ℕ) (lp : p < pages_of d) (place v : ℕ) (colouring : Colouring) (lv : v < 256) (la : colouring.colour < 256) (c : CardState) (h : IsShown c d) (z : IsCard c) (i : Inside (d.last_row + 1) d.columns place) where
+module _ (fonts : FontSet) (d : BiosData) (p : ℕ) (lp : p < pages_of d) (place v : ℕ) (colouring : Colouring) (lv : v < 256) (la : colouring.colour < 256)
+    (c : CardState) (h : IsShown c d) (z : IsCard c) (i : Inside (d.last_row + 1) d.columns place) where
   abbrev old : Screen
   old = screen_shown c d h
 
@@ -150,16 +157,19 @@ module _ (fonts : FontSet) (d : BiosData) (p : ℕ) (lp : p < pages_of d) (place
       let f = cell_in m.plane0 m.plane1 in
       let at = cell_address d p (cell_number d place) in
       let y = (run card_meaning (write_cell_plan at v colouring) c).0 in
-      let done = cell_written h.display (without_text c) c f at first v colouring (address_is d h.display h.row.pages p (cell_number d place) (lies c d h)) first_within lv la (has_cells h.display c h.setting z.host) in
+      let done = cell_written h.display (without_text c) c f at first v colouring (address_is d h.display h.row.pages p (cell_number d place) (lies c d h))
+      first_within lv la (has_cells h.display c h.setting z.host) in
       ap (λ q. shown (run card_meaning q c).0 d) character_is
-      ∙ renewed_shown h.display (without_text c) c y d h (write_characters first 1 v colouring) (set_cell f first (character_over v colouring (f first))) done.is.others done
+      ∙ renewed_shown h.display (without_text c) c y d h (write_characters first 1 v colouring) (set_cell f first (character_over v colouring (f first)))
+      done.is.others done
       (λ k l. one_written first v colouring f (cell_on old) k (cells_at m.plane0 m.plane1 all_cells k l))
 
 pub can_type : KeepsBounds → (fonts : FontSet) (d : BiosData) (p : ℕ) → p < pages_of d → is_text d.mode ≡ true → CanType fonts d p
 can_type law fonts d p lp t = record {
   put = λ c s place v colouring z e i lv la.
       let x = shown_is c d s t e in
-      subst (λ (w : Screen). shown (run card_meaning (character_plan fonts d p (cell_number d place) v colouring) c).0 d ≡ Some (put_character fonts w p place v colouring)) x.screen (is_put fonts d p lp place v colouring lv la c x.is z i);
+      subst (λ (w : Screen). shown (run card_meaning (character_plan fonts d p (cell_number d place) v colouring) c).0 d
+      ≡ Some (put_character fonts w p place v colouring)) x.screen (is_put fonts d p lp place v colouring lv la c x.is z i);
   rise = λ c s place z e lc.
       let x = shown_is c d s t e in
       subst (λ (w : Screen). Leads (rise_plan d p place) c d (risen w p place, place)) x.screen (rises law d p lp place c x.is z lc);

@@ -23,7 +23,8 @@ use Rattle.bios_services.specs.Refusals.{refusal_in_mode}
 use Rattle.bios_services.specs.Service.{plan_of, Outcome}
 use Rattle.bios_screen.specs.Screen.{Cell, Screen, page_start}
 use Rattle.bios_screen.specs.Shown.{cell_in, all_cells, shown}
-use Rattle.bios_screen.specs.Step.{row_on, column_on, window_rows, window_columns, window_lines, is_inside, blank_of, cells_up, cells_down, refusal_on, next, answer_on, cell_on, with_cells}
+use Rattle.bios_screen.specs.Step.{row_on, column_on, window_rows, window_columns, window_lines, is_inside, blank_of, cells_up, cells_down, refusal_on, next}
+use Rattle.bios_screen.specs.Step.{answer_on, cell_on, with_cells}
 use Rattle.bios_screen.specs.Served.{IsServed}
 use Rattle.bios_screen.proofs.Base.Flat.{Turn, Leaves, set_cell}
 use Rattle.bios_screen.proofs.Base.Plans.{run_bind, then_runs, then_answers}
@@ -71,7 +72,14 @@ module _ (c : CardState) (d : BiosData) (h : IsShown c d) (p : ℕ) (lp : p < h.
   text_band = record { kind = Text; start = page_address d p; pitch = 2 * d.columns; lines = 1; left = 2 * w.left; width = 2 * window_columns s w }
 
   pub band_is : band_of d p w.left w.right ≡ text_band
-  band_is = ap (λ k. let x : Band = record { kind = k; start = page_address d p; pitch = column_bytes k * d.columns; lines = row_lines k d.height; left = column_bytes k * w.left; width = column_bytes k * window_columns s w } in x) (kind_is c d h)
+  band_is = ap (λ k. let x : Band = record {
+    kind = k;
+    start = page_address d p;
+    pitch = column_bytes k * d.columns;
+    lines = row_lines k d.height;
+    left = column_bytes k * w.left;
+    width = column_bytes k * window_columns s w;
+  } in x) (kind_is c d h)
 
   page_bytes : d.size * p ≡ 2 * first
   page_bytes = (lies c d h).even p
@@ -82,7 +90,8 @@ module _ (c : CardState) (d : BiosData) (h : IsShown c d) (p : ℕ) (lp : p < h.
   pub window_is : IsWindow (base_of h.display) 32768 text_band (d.size * p) (d.last_row + 1) w.top height
   window_is = record {
     address = ap (λ b. b + d.size * p) (lies c d h).base;
-    memory = let a = page_bytes in let b = page_fits in let e : 2 * d.columns * (1 * (d.last_row + 1)) ≡ 2 * (d.columns * (d.last_row + 1)) = ap (λ n. 2 * d.columns * n) one ∙ twice d.columns (d.last_row + 1) in omega arith;
+    memory = let a = page_bytes in let b = page_fits in let e : 2 * d.columns * (1 * (d.last_row + 1)) ≡ 2 * (d.columns * (d.last_row + 1)) =
+        ap (λ n. 2 * d.columns * n) one ∙ twice d.columns (d.last_row + 1) in omega arith;
     inside = inside_rows;
     across = λ i l. let z = some_columns in omega arith;
   }
@@ -128,7 +137,8 @@ module _ (c : CardState) (d : BiosData) (h : IsShown c d) (p : ℕ) (lp : p < h.
         behind = lt_is column (w.left + window_columns s w) g.1;
       }
 
-  outside_of : (k : ℕ) → is_inside s p w k ≡ false → (row column : ℕ) → w.top ≤ row → row < w.top + height → w.left ≤ column → column < w.left + window_columns s w → k ≢ cell_at row column
+  outside_of : (k : ℕ) → is_inside s p w k ≡ false → (row column : ℕ) → w.top ≤ row → row < w.top + height → w.left ≤ column →
+      column < w.left + window_columns s w → k ≢ cell_at row column
   outside_of k t row column a b e g q =
       let low : first ≤ k = omega arith in
       let less : column < d.columns = across_page column e g in
@@ -141,7 +151,8 @@ module _ (c : CardState) (d : BiosData) (h : IsShown c d) (p : ℕ) (lp : p < h.
       let yes : is_inside s p w k ≡ true =
       both_are (nat_le first k) _ (le_test first k low) (both_are (nat_le w.top (row_on s p k)) _ (le_test w.top (row_on s p k) (omega arith))
       (both_are (nat_lt (row_on s p k) (w.top + height)) _ (lt_test (row_on s p k) (w.top + height) (omega arith))
-      (both_are (nat_le w.left (column_on s p k)) (nat_lt (column_on s p k) (w.left + window_columns s w)) (le_test w.left (column_on s p k) (omega arith)) (lt_test (column_on s p k) (w.left + window_columns s w) (omega arith))))) in
+      (both_are (nat_le w.left (column_on s p k)) (nat_lt (column_on s p k) (w.left + window_columns s w)) (le_test w.left (column_on s p k) (omega arith))
+      (lt_test (column_on s p k) (w.left + window_columns s w) (omega arith))))) in
       no_test (sym yes ∙ t)
     where
       no_test : true ≡ false → ⊥
@@ -155,64 +166,86 @@ module _ (c : CardState) (d : BiosData) (h : IsShown c d) (p : ℕ) (lp : p < h.
 
   -- the window has gone up by n rows, or down, and the rows that are left are blank
   pub record Risen (n colour : ℕ) (f g : ℕ → Cell) : Type 0 where
-    pub moved : (row column : ℕ) → w.top ≤ row → row + n < w.top + height → w.left ≤ column → column < w.left + window_columns s w → g (cell_at row column) ≡ f (cell_at (row + n) column)
-    pub blank : (row column : ℕ) → w.top ≤ row → w.top + height ≤ row + n → row < w.top + height → w.left ≤ column → column < w.left + window_columns s w → g (cell_at row column) ≡ (0x20, colour)
+    pub moved : (row column : ℕ) → w.top ≤ row → row + n < w.top + height → w.left ≤ column → column < w.left + window_columns s w →
+        g (cell_at row column) ≡ f (cell_at (row + n) column)
+    pub blank : (row column : ℕ) → w.top ≤ row → w.top + height ≤ row + n → row < w.top + height → w.left ≤ column → column < w.left + window_columns s w →
+        g (cell_at row column) ≡ (0x20, colour)
     pub outside : (k : ℕ) → IsOutside k → g k ≡ f k
 
   pub record Sunk (n colour : ℕ) (f g : ℕ → Cell) : Type 0 where
-    pub moved : (row column : ℕ) → w.top ≤ row → row + n < w.top + height → w.left ≤ column → column < w.left + window_columns s w → g (cell_at (row + n) column) ≡ f (cell_at row column)
-    pub blank : (row column : ℕ) → w.top ≤ row → row < w.top + n → w.left ≤ column → column < w.left + window_columns s w → g (cell_at row column) ≡ (0x20, colour)
+    pub moved : (row column : ℕ) → w.top ≤ row → row + n < w.top + height → w.left ≤ column → column < w.left + window_columns s w →
+        g (cell_at (row + n) column) ≡ f (cell_at row column)
+    pub blank : (row column : ℕ) → w.top ≤ row → row < w.top + n → w.left ≤ column → column < w.left + window_columns s w →
+        g (cell_at row column) ≡ (0x20, colour)
     pub outside : (k : ℕ) → IsOutside k → g k ≡ f k
 
   -- a byte of the window, as a turn of rows, of lines and of columns
   abbrev ByteTurn : ℕ → ℕ → Type 0
   ByteTurn i e = Turn (λ _. bands.Line CardState ℕ card_meaning (base_of h.display) 32768 text_band (d.size * p) (d.last_row + 1) w.top height window_is) i e
 
-  byte_line : (column j : ℕ) → w.left ≤ column → column < w.left + window_columns s w → j < 2 → bands.Line CardState ℕ card_meaning (base_of h.display) 32768 text_band (d.size * p) (d.last_row + 1) w.top height window_is
-  byte_line column j a b l = record { turn = 0; from = omega arith; before = omega arith; place = record { turn = 2 * (column - w.left) + j; from = omega arith; before = omega arith; place = tt } }
+  byte_line : (column j : ℕ) → w.left ≤ column → column < w.left + window_columns s w → j < 2 →
+      bands.Line CardState ℕ card_meaning (base_of h.display) 32768 text_band (d.size * p) (d.last_row + 1) w.top height window_is
+  byte_line column j a b l = record {
+    turn = 0;
+    from = omega arith;
+    before = omega arith;
+    place = record { turn = 2 * (column - w.left) + j; from = omega arith; before = omega arith; place = tt };
+  }
 
   byte_turn : (i e row column j : ℕ) → i ≤ row → row < e → w.left ≤ column → column < w.left + window_columns s w → j < 2 → ByteTurn i e
   byte_turn i e row column j a b lc hc l = record { turn = row; from = a; before = b; place = byte_line column j lc hc l }
 
   -- bytes that nothing in the window is
-  byte_outside : (k j : ℕ) → j < 2 → IsOutside k → (i e : ℕ) → (t : ByteTurn i e) → w.top ≤ t.turn → t.turn < w.top + height → 2 * k + j ≢ byte_at t.turn t.place.turn t.place.place.turn
+  byte_outside : (k j : ℕ) → j < 2 → IsOutside k → (i e : ℕ) → (t : ByteTurn i e) → w.top ≤ t.turn → t.turn < w.top + height →
+      2 * k + j ≢ byte_at t.turn t.place.turn t.place.place.turn
   byte_outside k j lj o i e t low high q =
       let inner = t.place.place.before in
-      o t.turn (w.left + t.place.place.turn / 2) low high (omega arith) (omega arith) (byte_of_cell k j t.turn t.place.turn t.place.place.turn lj t.place.before q)
+      o t.turn (w.left + t.place.place.turn / 2) low high (omega arith) (omega arith)
+      (byte_of_cell k j t.turn t.place.turn t.place.place.turn lj t.place.before q)
 
   abbrev Textual : CardState → (ℕ → ℕ) → Type 0
   Textual = IsTextual h.display (without_text c)
 
-  text_moved : (from to i j : ℕ) (x : CardState) (f : ℕ → ℕ) → from ≡ base_of h.display + i → to ≡ base_of h.display + j → i < 32768 → j < 32768 → Textual x f → Textual (run card_meaning (move from to) x).0 (set_cell f j (f i))
+  text_moved : (from to i j : ℕ) (x : CardState) (f : ℕ → ℕ) → from ≡ base_of h.display + i → to ≡ base_of h.display + j → i < 32768 → j < 32768 → Textual x f →
+      Textual (run card_meaning (move from to) x).0 (set_cell f j (f i))
   text_moved from to i j x f ei ej li lj t =
       let read = text_get h.display (without_text c) x f i li t in
       let y = (run card_meaning (get (base_of h.display + i)) x).0 in
-      let put_there = subst (λ v. Textual (run card_meaning (put (base_of h.display + j) v) y).0 (set_cell f j (f i))) (sym read.answer) (text_put h.display (without_text c) y f j (f i) lj (t.small i li) read.text) in
-      subst (λ n. Textual (run card_meaning (move n to) x).0 (set_cell f j (f i))) (sym ei) (subst (λ n. Textual (run card_meaning (move (base_of h.display + i) n) x).0 (set_cell f j (f i))) (sym ej) put_there)
+      let put_there = subst (λ v. Textual (run card_meaning (put (base_of h.display + j) v) y).0 (set_cell f j (f i))) (sym read.answer)
+      (text_put h.display (without_text c) y f j (f i) lj (t.small i li) read.text) in
+      subst (λ n. Textual (run card_meaning (move n to) x).0 (set_cell f j (f i))) (sym ei)
+      (subst (λ n. Textual (run card_meaning (move (base_of h.display + i) n) x).0 (set_cell f j (f i))) (sym ej) put_there)
 
-  text_stored : (at j v : ℕ) (x : CardState) (f : ℕ → ℕ) → at ≡ base_of h.display + j → j < 32768 → v < 256 → Textual x f → Textual (run card_meaning (put at v) x).0 (set_cell f j v)
-  text_stored at j v x f e l lv t = subst (λ n. Textual (run card_meaning (put n v) x).0 (set_cell f j v)) (sym e) (text_put h.display (without_text c) x f j v l lv t)
+  text_stored : (at j v : ℕ) (x : CardState) (f : ℕ → ℕ) → at ≡ base_of h.display + j → j < 32768 → v < 256 → Textual x f →
+      Textual (run card_meaning (put at v) x).0 (set_cell f j v)
+  text_stored at j v x f e l lv t = subst (λ n. Textual (run card_meaning (put n v) x).0 (set_cell f j v)) (sym e)
+      (text_put h.display (without_text c) x f j v l lv t)
 
   -- the bytes of a blank
   blank_byte : (colour q j : ℕ) → j < 2 → filling_byte (blank colour) (2 * q + j) ≡ (if j == 0 then 0x20 else colour)
   blank_byte colour q j l = let e : ((2 * q + j) % 2 == 0) ≡ (j == 0) = grind (arith, nat_tests) in ap (λ b. if b then 0x20 else colour) e
 
-  pub went_up : (n colour : ℕ) (x : CardState) (f : ℕ → ℕ) → n ≤ height → (0 < height → 0 < n) → colour < 256 → Textual x f → Leaves CardState ℕ Textual (run card_meaning (up_plan text_band w.top height n colour) x).0 (λ g. Risen n colour (cells_of_bytes f) (cells_of_bytes g))
+  pub went_up : (n colour : ℕ) (x : CardState) (f : ℕ → ℕ) → n ≤ height → (0 < height → 0 < n) → colour < 256 → Textual x f →
+      Leaves CardState ℕ Textual (run card_meaning (up_plan text_band w.top height n colour) x).0 (λ g. Risen n colour (cells_of_bytes f) (cells_of_bytes g))
   unfolding up_plan fill_plan byte_line byte_turn
   went_up n colour x f few some lv t =
       let count = height - n in
       let top = w.top in
       let x1 = (run card_meaning (raise_rows text_band n top count) x).0 in
-      let a = bands.rows_raised CardState ℕ card_meaning (base_of h.display) 32768 text_band (d.size * p) (d.last_row + 1) top height window_is Textual text_moved n count x f (omega arith) (λ l. some (omega arith)) t in
-      let b = bands.rows_filled CardState ℕ card_meaning (base_of h.display) 32768 text_band (d.size * p) (d.last_row + 1) top height window_is Textual (λ v _. v) text_stored (blank colour) (omega arith) lv (top + count) n x1 a.cells (omega arith) (omega arith) a.shown in
+      let a = bands.rows_raised CardState ℕ card_meaning (base_of h.display) 32768 text_band (d.size * p) (d.last_row + 1) top height window_is Textual
+      text_moved n count x f (omega arith) (λ l. some (omega arith)) t in
+      let b = bands.rows_filled CardState ℕ card_meaning (base_of h.display) 32768 text_band (d.size * p) (d.last_row + 1) top height window_is Textual (λ v _.
+      v) text_stored (blank colour) (omega arith) lv (top + count) n x1 a.cells (omega arith) (omega arith) a.shown in
       let apart = bands.rows_apart CardState ℕ card_meaning (base_of h.display) 32768 text_band (d.size * p) (d.last_row + 1) top height window_is in
-      let all : Leaves CardState ℕ Textual (run card_meaning (fill_rows text_band (blank colour) (top + count) n) x1).0 (λ g. Risen n colour (cells_of_bytes f) (cells_of_bytes g)) = record {
+      let all : Leaves CardState ℕ Textual (run card_meaning (fill_rows text_band (blank colour) (top + count) n) x1).0 (λ g.
+      Risen n colour (cells_of_bytes f) (cells_of_bytes g)) = record {
         cells = b.cells;
         shown = b.shown;
         fact = record {
           moved = λ row column lr hr lc hc. same_cell b.cells f (cell_at row column) (cell_at (row + n) column) (λ j lj.
               ap b.cells (sym (byte_is row column j lc))
-              ∙ b.fact.outside (byte_at row 0 (2 * (column - w.left) + j)) (λ k. let kf = k.from in apart row k.turn (byte_line column j lc hc lj) k.place (omega arith))
+              ∙ b.fact.outside (byte_at row 0 (2 * (column - w.left) + j)) (λ k. let kf = k.from in
+              apart row k.turn (byte_line column j lc hc lj) k.place (omega arith))
               ∙ a.fact.inside (byte_turn top (top + count) row column j lr (omega arith) lc hc lj)
               ∙ ap f (byte_is (row + n) column j lc));
           blank = λ row column lr br hr lc hc. blank_cell b.cells colour (cell_at row column) (λ j lj.
@@ -220,28 +253,36 @@ module _ (c : CardState) (d : BiosData) (h : IsShown c d) (p : ℕ) (lp : p < h.
               ∙ b.fact.inside (byte_turn (top + count) (top + count + n) row column j (omega arith) (omega arith) lc hc lj)
               ∙ blank_byte colour (column - w.left) j lj);
           outside = λ k o. same_cell b.cells f k k (λ j lj.
-              b.fact.outside (2 * k + j) (λ i. let lf = i.from in let lb = i.before in byte_outside k j lj o (top + count) (top + count + n) i (omega arith) (omega arith))
-              ∙ a.fact.outside (2 * k + j) (λ i. let lf = i.from in let lb = i.before in byte_outside k j lj o top (top + count) i (omega arith) (omega arith)));
+              b.fact.outside (2 * k + j) (λ i. let lf = i.from in let lb = i.before in
+              byte_outside k j lj o (top + count) (top + count + n) i (omega arith) (omega arith))
+              ∙ a.fact.outside (2 * k + j) (λ i. let lf = i.from in let lb = i.before in
+              byte_outside k j lj o top (top + count) i (omega arith) (omega arith)));
         };
       } in
-      subst (λ r. Leaves CardState ℕ Textual r.0 (λ g. Risen n colour (cells_of_bytes f) (cells_of_bytes g))) (sym (run_bind card_meaning (raise_rows text_band n top count) (λ _. fill_rows text_band (blank colour) (top + count) n) x)) all
+      subst (λ r. Leaves CardState ℕ Textual r.0 (λ g. Risen n colour (cells_of_bytes f) (cells_of_bytes g)))
+      (sym (run_bind card_meaning (raise_rows text_band n top count) (λ _. fill_rows text_band (blank colour) (top + count) n) x)) all
 
-  pub went_down : (n colour : ℕ) (x : CardState) (f : ℕ → ℕ) → n ≤ height → (0 < height → 0 < n) → colour < 256 → Textual x f → Leaves CardState ℕ Textual (run card_meaning (down_plan text_band w.top height n colour) x).0 (λ g. Sunk n colour (cells_of_bytes f) (cells_of_bytes g))
+  pub went_down : (n colour : ℕ) (x : CardState) (f : ℕ → ℕ) → n ≤ height → (0 < height → 0 < n) → colour < 256 → Textual x f →
+      Leaves CardState ℕ Textual (run card_meaning (down_plan text_band w.top height n colour) x).0 (λ g. Sunk n colour (cells_of_bytes f) (cells_of_bytes g))
   unfolding down_plan fill_plan byte_line byte_turn
   went_down n colour x f few some lv t =
       let count = height - n in
       let top = w.top in
       let x1 = (run card_meaning (lower_rows text_band n top count) x).0 in
-      let a = bands.rows_lowered CardState ℕ card_meaning (base_of h.display) 32768 text_band (d.size * p) (d.last_row + 1) top height window_is Textual text_moved n count x f (omega arith) (λ l. some (omega arith)) t in
-      let b = bands.rows_filled CardState ℕ card_meaning (base_of h.display) 32768 text_band (d.size * p) (d.last_row + 1) top height window_is Textual (λ v _. v) text_stored (blank colour) (omega arith) lv top n x1 a.cells (omega arith) (omega arith) a.shown in
+      let a = bands.rows_lowered CardState ℕ card_meaning (base_of h.display) 32768 text_band (d.size * p) (d.last_row + 1) top height window_is Textual
+      text_moved n count x f (omega arith) (λ l. some (omega arith)) t in
+      let b = bands.rows_filled CardState ℕ card_meaning (base_of h.display) 32768 text_band (d.size * p) (d.last_row + 1) top height window_is Textual (λ v _.
+      v) text_stored (blank colour) (omega arith) lv top n x1 a.cells (omega arith) (omega arith) a.shown in
       let apart = bands.rows_apart CardState ℕ card_meaning (base_of h.display) 32768 text_band (d.size * p) (d.last_row + 1) top height window_is in
-      let all : Leaves CardState ℕ Textual (run card_meaning (fill_rows text_band (blank colour) top n) x1).0 (λ g. Sunk n colour (cells_of_bytes f) (cells_of_bytes g)) = record {
+      let all : Leaves CardState ℕ Textual (run card_meaning (fill_rows text_band (blank colour) top n) x1).0 (λ g.
+      Sunk n colour (cells_of_bytes f) (cells_of_bytes g)) = record {
         cells = b.cells;
         shown = b.shown;
         fact = record {
           moved = λ row column lr hr lc hc. same_cell b.cells f (cell_at (row + n) column) (cell_at row column) (λ j lj.
               ap b.cells (sym (byte_is (row + n) column j lc))
-              ∙ b.fact.outside (byte_at (row + n) 0 (2 * (column - w.left) + j)) (λ k. let kb = k.before in apart (row + n) k.turn (byte_line column j lc hc lj) k.place (omega arith))
+              ∙ b.fact.outside (byte_at (row + n) 0 (2 * (column - w.left) + j)) (λ k. let kb = k.before in
+              apart (row + n) k.turn (byte_line column j lc hc lj) k.place (omega arith))
               ∙ a.fact.inside (byte_turn top (top + count) row column j lr (omega arith) lc hc lj)
               ∙ ap f (byte_is row column j lc));
           blank = λ row column lr hr lc hc. blank_cell b.cells colour (cell_at row column) (λ j lj.
@@ -253,16 +294,20 @@ module _ (c : CardState) (d : BiosData) (h : IsShown c d) (p : ℕ) (lp : p < h.
               ∙ a.fact.outside (2 * k + j) (λ i. let lf = i.from in let lb = i.before in byte_outside_below k j lj o n i (omega arith) (omega arith)));
         };
       } in
-      subst (λ r. Leaves CardState ℕ Textual r.0 (λ g. Sunk n colour (cells_of_bytes f) (cells_of_bytes g))) (sym (run_bind card_meaning (lower_rows text_band n top count) (λ _. fill_rows text_band (blank colour) top n) x)) all
+      subst (λ r. Leaves CardState ℕ Textual r.0 (λ g. Sunk n colour (cells_of_bytes f) (cells_of_bytes g)))
+      (sym (run_bind card_meaning (lower_rows text_band n top count) (λ _. fill_rows text_band (blank colour) top n) x)) all
     where
-      byte_outside_below : (k j : ℕ) → j < 2 → IsOutside k → (n : ℕ) (t : ByteTurn w.top (w.top + (height - n))) → w.top ≤ t.turn + n → t.turn + n < w.top + height → 2 * k + j ≢ byte_at (t.turn + n) t.place.turn t.place.place.turn
+      byte_outside_below : (k j : ℕ) → j < 2 → IsOutside k → (n : ℕ) (t : ByteTurn w.top (w.top + (height - n))) → w.top ≤ t.turn + n →
+          t.turn + n < w.top + height → 2 * k + j ≢ byte_at (t.turn + n) t.place.turn t.place.place.turn
       byte_outside_below k j lj o n t low high q =
           let inner = t.place.place.before in
-          o (t.turn + n) (w.left + t.place.place.turn / 2) low high (omega arith) (omega arith) (byte_of_cell k j (t.turn + n) t.place.turn t.place.place.turn lj t.place.before q)
+          o (t.turn + n) (w.left + t.place.place.turn / 2) low high (omega arith) (omega arith)
+          (byte_of_cell k j (t.turn + n) t.place.turn t.place.place.turn lj t.place.before q)
 
   -- ---- the cells as the screen's step has them
 
-  pub risen_is : (f g old : ℕ → Cell) → ((k : ℕ) → k < 16384 → old k ≡ f k) → Risen (window_lines s w) w.fill f g → (k : ℕ) → k < 16384 → g k ≡ cells_up s p w old k
+  pub risen_is : (f g old : ℕ → Cell) → ((k : ℕ) → k < 16384 → old k ≡ f k) → Risen (window_lines s w) w.fill f g → (k : ℕ) → k < 16384 →
+      g k ≡ cells_up s p w old k
   risen_is f g old same up k l = by_test (is_inside s p w k) refl
     where
       n : ℕ
@@ -298,7 +343,8 @@ module _ (c : CardState) (d : BiosData) (h : IsShown c d) (p : ℕ) (lp : p < h.
           ∙ ap (λ b. if b then old (k + d.columns * n) else blank) (sym (not_lt (row + n) (w.top + height) m)))
           (cases_lt (row + n) (w.top + height))
 
-  pub sunk_is : (f g old : ℕ → Cell) → ((k : ℕ) → k < 16384 → old k ≡ f k) → Sunk (window_lines s w) w.fill f g → (k : ℕ) → k < 16384 → g k ≡ cells_down s p w old k
+  pub sunk_is : (f g old : ℕ → Cell) → ((k : ℕ) → k < 16384 → old k ≡ f k) → Sunk (window_lines s w) w.fill f g → (k : ℕ) → k < 16384 →
+      g k ≡ cells_down s p w old k
   sunk_is f g old same down k l = by_test (is_inside s p w k) refl
     where
       n : ℕ
@@ -372,14 +418,16 @@ module _ (c : CardState) (d : BiosData) (h : IsShown c d) (p : ℕ) (lp : p < h.
           let b = i.below in
           let e = i.before in
           let g = i.behind in
-          let yes : has_window d w ≡ true = both_are (nat_le w.top (min w.bottom d.last_row)) (nat_le w.left (min w.right (d.columns - 1))) (le_test w.top (min w.bottom d.last_row) (omega arith)) (le_test w.left (min w.right (d.columns - 1)) (omega arith)) in
+          let yes : has_window d w ≡ true = both_are (nat_le w.top (min w.bottom d.last_row)) (nat_le w.left (min w.right (d.columns - 1)))
+          (le_test w.top (min w.bottom d.last_row) (omega arith)) (le_test w.left (min w.right (d.columns - 1)) (omega arith)) in
           contrary (sym yes ∙ none)
 
   -- the cells of the planes are those of the bytes
   planes_are : (k : ℕ) → k < 16384 → cell_in c.host.memory.plane0 c.host.memory.plane1 k ≡ cells_of_bytes (woven c.host.memory.plane0 c.host.memory.plane1) k
   planes_are k l = same_pair (woven_even c.host.memory.plane0 c.host.memory.plane1 k) (woven_odd c.host.memory.plane0 c.host.memory.plane1 k)
 
-  pub up_shown : IsCard c → w.fill < 256 → shown (run card_meaning (up_plan (band_of d p w.left w.right) w.top (height_of d w) (lines_of d w) w.fill) c).0 d ≡ Some (with_cells s (cells_up s p w))
+  pub up_shown : IsCard c → w.fill < 256 → shown (run card_meaning (up_plan (band_of d p w.left w.right) w.top (height_of d w) (lines_of d w) w.fill) c).0 d
+      ≡ Some (with_cells s (cells_up s p w))
   up_shown z lv =
       let m = c.host.memory in
       let f = woven m.plane0 m.plane1 in
@@ -388,10 +436,12 @@ module _ (c : CardState) (d : BiosData) (h : IsShown c d) (p : ℕ) (lp : p < h.
       ap (λ b. shown (run card_meaning (up_plan b w.top (height_of d w) (lines_of d w) w.fill) c).0 d) band_is
       ∙ ap (λ n. shown (run card_meaning (up_plan text_band w.top n (lines_of d w) w.fill) c).0 d) height_is
       ∙ ap (λ n. shown (run card_meaning (up_plan text_band w.top height n w.fill) c).0 d) lines_are
-      ∙ renewed_shown h.display (without_text c) c y d h (cells_up s p w) (cells_of_bytes done.cells) done.shown.others (bytes_are_cells h.display (without_text c) y done.cells done.shown)
+      ∙ renewed_shown h.display (without_text c) c y d h (cells_up s p w) (cells_of_bytes done.cells) done.shown.others
+      (bytes_are_cells h.display (without_text c) y done.cells done.shown)
       (risen_is (cells_of_bytes f) (cells_of_bytes done.cells) (cell_on s) (λ k l. cells_at m.plane0 m.plane1 all_cells k l ∙ planes_are k l) done.fact)
 
-  pub down_shown : IsCard c → w.fill < 256 → shown (run card_meaning (down_plan (band_of d p w.left w.right) w.top (height_of d w) (lines_of d w) w.fill) c).0 d ≡ Some (with_cells s (cells_down s p w))
+  pub down_shown : IsCard c → w.fill < 256 → shown (run card_meaning (down_plan (band_of d p w.left w.right) w.top (height_of d w) (lines_of d w) w.fill) c).0 d
+      ≡ Some (with_cells s (cells_down s p w))
   down_shown z lv =
       let m = c.host.memory in
       let f = woven m.plane0 m.plane1 in
@@ -400,7 +450,8 @@ module _ (c : CardState) (d : BiosData) (h : IsShown c d) (p : ℕ) (lp : p < h.
       ap (λ b. shown (run card_meaning (down_plan b w.top (height_of d w) (lines_of d w) w.fill) c).0 d) band_is
       ∙ ap (λ n. shown (run card_meaning (down_plan text_band w.top n (lines_of d w) w.fill) c).0 d) height_is
       ∙ ap (λ n. shown (run card_meaning (down_plan text_band w.top height n w.fill) c).0 d) lines_are
-      ∙ renewed_shown h.display (without_text c) c y d h (cells_down s p w) (cells_of_bytes done.cells) done.shown.others (bytes_are_cells h.display (without_text c) y done.cells done.shown)
+      ∙ renewed_shown h.display (without_text c) c y d h (cells_down s p w) (cells_of_bytes done.cells) done.shown.others
+      (bytes_are_cells h.display (without_text c) y done.cells done.shown)
       (sunk_is (cells_of_bytes f) (cells_of_bytes done.cells) (cell_on s) (λ k l. cells_at m.plane0 m.plane1 all_cells k l ∙ planes_are k l) done.fact)
 
   -- a plan that leaves all, where the window has nothing
@@ -412,31 +463,40 @@ module _ (c : CardState) (d : BiosData) (h : IsShown c d) (p : ℕ) (lp : p < h.
 
   pub scrolled_up : IsCard c → w.fill < 256 → p ≡ d.page → shown (run card_meaning (scroll_up_plan d w) c).0 d ≡ Some (with_cells s (cells_up s p w))
   unfolding scroll_up_plan
-  scrolled_up z lv active = subst (λ n. shown (run card_meaning (if has_window d w then up_plan (band_of d n w.left w.right) w.top (height_of d w) (lines_of d w) w.fill else Done tt) c).0 d ≡ Some (with_cells s (cells_up s p w))) active (by_test (has_window d w) refl)
+  scrolled_up z lv active = subst (λ n. shown (run card_meaning (if has_window d w
+      then up_plan (band_of d n w.left w.right) w.top (height_of d w) (lines_of d w) w.fill else Done tt) c).0 d ≡ Some (with_cells s (cells_up s p w))) active
+      (by_test (has_window d w) refl)
     where
       plan : Plan (Unit {0})
       plan = up_plan (band_of d p w.left w.right) w.top (height_of d w) (lines_of d w) w.fill
 
-      by_test : (b : Bool) → has_window d w ≡ b → shown (run card_meaning (if has_window d w then plan else Done tt) c).0 d ≡ Some (with_cells s (cells_up s p w))
+      by_test : (b : Bool) → has_window d w ≡ b → shown (run card_meaning (if has_window d w then plan else Done tt) c).0 d
+          ≡ Some (with_cells s (cells_up s p w))
       by_test true e = ap (λ b. shown (run card_meaning (if b then plan else Done tt) c).0 d) e ∙ up_shown z lv
       by_test false e = ap (λ b. shown (run card_meaning (if b then plan else Done tt) c).0 d) e
-          ∙ left_shown z (cells_up s p w) (λ k. ap (λ b. if b then (if nat_lt (row_on s p k + window_lines s w) (w.top + height) then cell_on s (k + d.columns * window_lines s w) else blank_of w) else cell_on s k) (nothing_inside e k))
+          ∙ left_shown z (cells_up s p w) (λ k. ap (λ b. if b then (if nat_lt (row_on s p k + window_lines s w) (w.top + height)
+          then cell_on s (k + d.columns * window_lines s w) else blank_of w) else cell_on s k) (nothing_inside e k))
 
   pub scrolled_down : IsCard c → w.fill < 256 → p ≡ d.page → shown (run card_meaning (scroll_down_plan d w) c).0 d ≡ Some (with_cells s (cells_down s p w))
   unfolding scroll_down_plan
-  scrolled_down z lv active = subst (λ n. shown (run card_meaning (if has_window d w then down_plan (band_of d n w.left w.right) w.top (height_of d w) (lines_of d w) w.fill else Done tt) c).0 d ≡ Some (with_cells s (cells_down s p w))) active (by_test (has_window d w) refl)
+  scrolled_down z lv active = subst (λ n. shown (run card_meaning (if has_window d w
+      then down_plan (band_of d n w.left w.right) w.top (height_of d w) (lines_of d w) w.fill else Done tt) c).0 d ≡ Some (with_cells s (cells_down s p w)))
+      active (by_test (has_window d w) refl)
     where
       plan : Plan (Unit {0})
       plan = down_plan (band_of d p w.left w.right) w.top (height_of d w) (lines_of d w) w.fill
 
-      by_test : (b : Bool) → has_window d w ≡ b → shown (run card_meaning (if has_window d w then plan else Done tt) c).0 d ≡ Some (with_cells s (cells_down s p w))
+      by_test : (b : Bool) → has_window d w ≡ b → shown (run card_meaning (if has_window d w then plan else Done tt) c).0 d
+          ≡ Some (with_cells s (cells_down s p w))
       by_test true e = ap (λ b. shown (run card_meaning (if b then plan else Done tt) c).0 d) e ∙ down_shown z lv
       by_test false e = ap (λ b. shown (run card_meaning (if b then plan else Done tt) c).0 d) e
-          ∙ left_shown z (cells_down s p w) (λ k. ap (λ b. if b then (if nat_le (w.top + window_lines s w) (row_on s p k) then cell_on s (k - d.columns * window_lines s w) else blank_of w) else cell_on s k) (nothing_inside e k))
+          ∙ left_shown z (cells_down s p w) (λ k. ap (λ b. if b then (if nat_le (w.top + window_lines s w) (row_on s p k)
+          then cell_on s (k - d.columns * window_lines s w) else blank_of w) else cell_on s k) (nothing_inside e k))
 
 -- ---- functions 06 and 07
 
-pub scroll_up : (w : Scroll) (fonts : FontSet) (r : Regs) (block : List ℕ) (c : CardState) (d : BiosData) (h : IsShown c d) → IsCard c → w.fill < 256 → IsServed (ScrollUp w) fonts r block c d (screen_shown c d h)
+pub scroll_up : (w : Scroll) (fonts : FontSet) (r : Regs) (block : List ℕ) (c : CardState) (d : BiosData) (h : IsShown c d) → IsCard c → w.fill < 256 →
+    IsServed (ScrollUp w) fonts r block c d (screen_shown c d h)
 unfolding plan_of refusal_in_mode refusal_on next answer_on
 scroll_up w fonts r block c d h z lv =
     let plan = scroll_up_plan d w in
@@ -451,7 +511,8 @@ scroll_up w fonts r block c d h z lv =
       beam = plan_beam (plan >> done) c;
     }
 
-pub scroll_down : (w : Scroll) (fonts : FontSet) (r : Regs) (block : List ℕ) (c : CardState) (d : BiosData) (h : IsShown c d) → IsCard c → w.fill < 256 → IsServed (ScrollDown w) fonts r block c d (screen_shown c d h)
+pub scroll_down : (w : Scroll) (fonts : FontSet) (r : Regs) (block : List ℕ) (c : CardState) (d : BiosData) (h : IsShown c d) → IsCard c → w.fill < 256 →
+    IsServed (ScrollDown w) fonts r block c d (screen_shown c d h)
 unfolding plan_of refusal_in_mode refusal_on next answer_on
 scroll_down w fonts r block c d h z lv =
     let plan = scroll_down_plan d w in

@@ -59,7 +59,8 @@ lies c d h =
       base = h.text.base;
       even = λ p. ap (λ n. n * p) size ∙ twice half p ∙ ap (λ n. 2 * (n * p)) (sym halved);
       fits =
-          let a : d.columns * (d.last_row + 1) ≡ h.row.columns * (h.row.last_row + 1) = ap (λ n. n * (d.last_row + 1)) h.has.columns ∙ ap (λ n. h.row.columns * (n + 1)) h.has.last_row in
+          let a : d.columns * (d.last_row + 1) ≡ h.row.columns * (h.row.last_row + 1) = ap (λ n. n * (d.last_row + 1)) h.has.columns
+          ∙ ap (λ n. h.row.columns * (n + 1)) h.has.last_row in
           let b = h.text.fits in
           omega arith;
       within = λ p l.
@@ -82,19 +83,25 @@ address_is d disp pages p q w =
 -- ---- writing
 
 -- some cells of a page from one on
-pub cells_written : (d : BiosData) (disp : Display) (pages : ℕ) (w : Lies d disp pages) (rest c : CardState) (f : ℕ → Cell) (p q v n : ℕ) (colouring : Colouring) → d.size / 2 * p + q + n ≤ 16384 → v < 256 → colouring.colour < 256 → IsCells disp rest c f → Leaves CardState Cell (IsCells disp rest) (run card_meaning (each (λ i. write_cell_plan (cell_address d p (q + i)) v colouring) n 0) c).0 (Edited Cell (Turn (λ _. Unit {0}) 0 n) (λ h. d.size / 2 * p + q + h.turn) (λ h y. character_over v colouring y) f)
+pub cells_written : (d : BiosData) (disp : Display) (pages : ℕ) (w : Lies d disp pages) (rest c : CardState) (f : ℕ → Cell) (p q v n : ℕ)
+    (colouring : Colouring) → d.size / 2 * p + q + n ≤ 16384 → v < 256 → colouring.colour < 256 → IsCells disp rest c f →
+    Leaves CardState Cell (IsCells disp rest) (run card_meaning (each (λ i. write_cell_plan (cell_address d p (q + i)) v colouring) n 0) c).0
+    (Edited Cell (Turn (λ _. Unit {0}) 0 n) (λ h. d.size / 2 * p + q + h.turn) (λ h y. character_over v colouring y) f)
 cells_written d disp pages w rest c f p q v n colouring l lv la t =
     let k = d.size / 2 * p + q in
-    edits CardState Cell card_meaning (λ i. write_cell_plan (cell_address d p (q + i)) v colouring) (λ _. IsCells disp rest) 0 n (λ _. Unit {0}) (λ r h. k + r) (λ r h y. character_over v colouring y) (λ i j g h lb lo hi. omega arith)
+    edits CardState Cell card_meaning (λ i. write_cell_plan (cell_address d p (q + i)) v colouring) (λ _. IsCells disp rest) 0 n (λ _. Unit {0}) (λ r h. k + r)
+    (λ r h y. character_over v colouring y) (λ i j g h lb lo hi. omega arith)
     (λ r s x lb hi u. record {
       cells = set_cell x (k + r) (character_over v colouring (x (k + r)));
-      shown = cell_written disp rest s x (cell_address d p (q + r)) (k + r) v colouring (let e = address_is d disp pages p (q + r) w in omega arith) (omega arith) lv la u;
+      shown = cell_written disp rest s x (cell_address d p (q + r)) (k + r) v colouring (let e = address_is d disp pages p (q + r) w in omega arith)
+          (omega arith) lv la u;
       fact = changed_edit (k + r) (character_over v colouring) x;
     })
     n 0 c f (omega arith) (omega arith) t
 
 -- in text the plan of some characters is that of their cells
-characters_are : (fonts : FontSet) (c : CardState) (d : BiosData) (h : IsShown c d) (p q v n : ℕ) (colouring : Colouring) → characters_plan fonts d p q v colouring n ≡ each (λ i. write_cell_plan (cell_address d p (q + i)) v colouring) n 0
+characters_are : (fonts : FontSet) (c : CardState) (d : BiosData) (h : IsShown c d) (p q v n : ℕ) (colouring : Colouring) →
+    characters_plan fonts d p q v colouring n ≡ each (λ i. write_cell_plan (cell_address d p (q + i)) v colouring) n 0
 unfolding characters_plan character_by
 characters_are fonts c d h p q v n colouring = ap (λ k. each (λ i. character_by k fonts d p (q + i) v colouring) n 0) (kind_is c d h)
 
@@ -108,7 +115,8 @@ pub behind_test : (first k n : ℕ) → first + n ≤ k → (nat_le first k && n
 behind_test first k n a = grind (arith, nat_tests)
 
 -- each cell is as the screen's step has it
-pub written_is : (first n v : ℕ) (colouring : Colouring) (f g old : ℕ → Cell) → Edited Cell (Turn (λ _. Unit {0}) 0 n) (λ h. first + h.turn) (λ h y. character_over v colouring y) f g → (k : ℕ) → old k ≡ f k → g k ≡ write_characters first n v colouring old k
+pub written_is : (first n v : ℕ) (colouring : Colouring) (f g old : ℕ → Cell) → Edited Cell (Turn (λ _. Unit {0}) 0 n) (λ h. first + h.turn) (λ h y.
+    character_over v colouring y) f g → (k : ℕ) → old k ≡ f k → g k ≡ write_characters first n v colouring old k
 written_is first n v colouring f g old edited k same = ⊎_elim
     (λ (a : k < first). outside (before_test first k n a) (λ h. omega arith))
     (λ (a : first ≤ k). ⊎_elim
@@ -122,7 +130,8 @@ written_is first n v colouring f g old edited k same = ⊎_elim
     (cases_lt k (first + n)))
     (cases_lt k first)
   where
-    outside : (nat_le first k && nat_lt k (first + n)) ≡ false → ((h : Turn (λ _. Unit {0}) 0 n) → k ≢ first + h.turn) → g k ≡ write_characters first n v colouring old k
+    outside : (nat_le first k && nat_lt k (first + n)) ≡ false → ((h : Turn (λ _. Unit {0}) 0 n) → k ≢ first + h.turn) →
+        g k ≡ write_characters first n v colouring old k
     outside t o = edited.outside k o ∙ sym same ∙ ap (λ b. if b then character_over v colouring (old k) else old k) (sym t)
 
 -- ---- refusals
@@ -141,7 +150,8 @@ pub record CountAllowed (pages p place count cells : ℕ) : Type 0 where
   pub page : p < pages
   pub within : place + count ≤ cells
 
-pub count_allowed : (pages p place count cells : ℕ) → (no_page pages p or outside_cells cells place or past_cells cells place count) ≡ None → CountAllowed pages p place count cells
+pub count_allowed : (pages p place count cells : ℕ) → (no_page pages p or outside_cells cells place or past_cells cells place count) ≡ None →
+    CountAllowed pages p place count cells
 count_allowed pages p place count cells e =
     let page = neither (no_page pages p) (outside_cells cells place or past_cells cells place count) e in
     let past = neither (outside_cells cells place) (past_cells cells place count) page.1 in
@@ -153,8 +163,10 @@ first_cell d p = d.size / 2 * p + cell_number d (place_of d p)
 
 -- ---- functions 09 and 0A
 
-write_shown : (fonts : FontSet) (c : CardState) (d : BiosData) (h : IsShown c d) (p : ℕ) (cells : CellRun) → IsCard c → CountAllowed h.row.pages p (cell_number d (place_of d p)) cells.count (cells_of d) → cells.character < 256 → cells.colouring.colour < 256
-    → shown (run card_meaning (cell_run_plan fonts d p cells) c).0 d ≡ Some (with_cells (screen_shown c d h) (write_characters (cursor_cell (screen_shown c d h) p) cells.count cells.character cells.colouring))
+write_shown : (fonts : FontSet) (c : CardState) (d : BiosData) (h : IsShown c d) (p : ℕ) (cells : CellRun) → IsCard c →
+    CountAllowed h.row.pages p (cell_number d (place_of d p)) cells.count (cells_of d) → cells.character < 256 → cells.colouring.colour < 256
+    → shown (run card_meaning (cell_run_plan fonts d p cells) c).0 d ≡ Some (with_cells (screen_shown c d h)
+    (write_characters (cursor_cell (screen_shown c d h) p) cells.count cells.character cells.colouring))
 write_shown fonts c d h p cells z allowed lv la =
     let m = c.host.memory in
     let f = cell_in m.plane0 m.plane1 in
@@ -163,12 +175,16 @@ write_shown fonts c d h p cells z allowed lv la =
     let first = first_cell d p in
     let plan = each (λ i. write_cell_plan (cell_address d p (q + i)) cells.character cells.colouring) cells.count 0 in
     let fits : first + cells.count ≤ 16384 = let a = allowed.within in let b = w.fits in let e = w.within p allowed.page in omega arith in
-    let done = cells_written d h.display h.row.pages w (without_text c) c f p q cells.character cells.count cells.colouring fits lv la (has_cells h.display c h.setting z.host) in
+    let done = cells_written d h.display h.row.pages w (without_text c) c f p q cells.character cells.count cells.colouring fits lv la
+    (has_cells h.display c h.setting z.host) in
     ap (λ x. shown (run card_meaning x c).0 d) (characters_are fonts c d h p q cells.character cells.count cells.colouring)
-    ∙ renewed_shown h.display (without_text c) c (run card_meaning plan c).0 d h (write_characters first cells.count cells.character cells.colouring) done.cells done.shown.is.others done.shown
-    (λ k l. written_is first cells.count cells.character cells.colouring f done.cells (cell_on (screen_shown c d h)) done.fact k (cells_at m.plane0 m.plane1 all_cells k l))
+    ∙ renewed_shown h.display (without_text c) c (run card_meaning plan c).0 d h (write_characters first cells.count cells.character cells.colouring) done.cells
+    done.shown.is.others done.shown
+    (λ k l. written_is first cells.count cells.character cells.colouring f done.cells (cell_on (screen_shown c d h)) done.fact k
+    (cells_at m.plane0 m.plane1 all_cells k l))
 
-pub write_cells : (cells : CellRun) (fonts : FontSet) (r : Regs) (block : List ℕ) (c : CardState) (d : BiosData) (h : IsShown c d) → IsCard c → cells.character < 256 → cells.colouring.colour < 256 → IsServed (WriteCells cells) fonts r block c d (screen_shown c d h)
+pub write_cells : (cells : CellRun) (fonts : FontSet) (r : Regs) (block : List ℕ) (c : CardState) (d : BiosData) (h : IsShown c d) → IsCard c →
+    cells.character < 256 → cells.colouring.colour < 256 → IsServed (WriteCells cells) fonts r block c d (screen_shown c d h)
 unfolding plan_of refusal_in_mode refusal_on next answer_on
 write_cells cells fonts r block c d h z lv la =
     let s = screen_shown c d h in
@@ -178,7 +194,8 @@ write_cells cells fonts r block c d h z lv la =
     let plan = cell_run_plan fonts d p cells in
     let done : Plan Outcome = Done (r, d) in
     record {
-      refusal = ap (λ n. let at : ℕ = cell_at_cursor d (page_among n cells.page) in no_page n (page_among n cells.page) or outside_cells (cells_of d) at or past_cells (cells_of d) at cells.count)
+      refusal = ap (λ n. let at : ℕ = cell_at_cursor d (page_among n cells.page) in no_page n (page_among n cells.page) or outside_cells (cells_of d) at
+          or past_cells (cells_of d) at cells.count)
           (pages_are h.row d h.mode);
       answer = λ _. ap (λ (x : Outcome). x.0) (then_answers plan done c);
       shows = λ allowed.
@@ -198,14 +215,16 @@ text_read d r p = read_cell_plan (cell_address d p (cell_at_cursor d p)) >>= λ 
 read_is : (fonts : FontSet) (r : Regs) (c : CardState) (d : BiosData) (h : IsShown c d) (p : ℕ) → read_cell_service fonts p d r ≡ text_read d r p
 unfolding read_cell_service
 read_is fonts r c d h p =
-    let dots : Plan Regs = read_character_plan (cell_band d p (cell_at_cursor d p)) (cell_row d (cell_at_cursor d p)) fonts >>= λ character. Done (record r { ax = with_low r.ax character }) in
+    let dots : Plan Regs = read_character_plan (cell_band d p (cell_at_cursor d p)) (cell_row d (cell_at_cursor d p)) fonts
+    >>= λ character. Done (record r { ax = with_low r.ax character }) in
     ap (λ b. let x : Plan Regs = (if b then text_read d r p else dots) in x) h.tests.is_text
 
 record ReadBack (r : Regs) (c : CardState) (d : BiosData) (h : IsShown c d) (p : ℕ) : Type 0 where
   answer : (run card_meaning (text_read d r p) c).1 ≡ record r { ax = cell_word (screen_shown c d h) p }
   shows : shown (run card_meaning (text_read d r p) c).0 d ≡ Some (screen_shown c d h)
 
-read_back : (r : Regs) (c : CardState) (d : BiosData) (h : IsShown c d) (p : ℕ) → IsCard c → CursorAllowed h.row.pages p (cell_number d (place_of d p)) (cells_of d) → ReadBack r c d h p
+read_back : (r : Regs) (c : CardState) (d : BiosData) (h : IsShown c d) (p : ℕ) → IsCard c →
+    CursorAllowed h.row.pages p (cell_number d (place_of d p)) (cells_of d) → ReadBack r c d h p
 unfolding read_cell_plan
 read_back r c d h p z allowed =
     let m = c.host.memory in
@@ -227,7 +246,8 @@ read_back r c d h p z allowed =
       shows = same_shown h.display (without_text c) c c2 d h f second.cells.is.others second.cells (λ j b. refl);
     }
 
-pub read_cell : (page : ℕ) (fonts : FontSet) (r : Regs) (block : List ℕ) (c : CardState) (d : BiosData) (h : IsShown c d) → IsCard c → IsServed (ReadCell page) fonts r block c d (screen_shown c d h)
+pub read_cell : (page : ℕ) (fonts : FontSet) (r : Regs) (block : List ℕ) (c : CardState) (d : BiosData) (h : IsShown c d) → IsCard c →
+    IsServed (ReadCell page) fonts r block c d (screen_shown c d h)
 unfolding plan_of refusal_in_mode refusal_on next answer_on
 read_cell page fonts r block c d h z =
     let s = screen_shown c d h in
@@ -235,13 +255,15 @@ read_cell page fonts r block c d h z =
     let q = page_meant s page in
     let named : p ≡ q = meant_is c d h page in
     let done : Regs → Plan Outcome = λ after. Done (after, d) in
-    let runs : run card_meaning (read_cell_service fonts p d r >>= done) c ≡ (let x = run card_meaning (text_read d r q) c in let y : CardState × Outcome = (x.0, (x.1, d)) in y) =
+    let runs : run card_meaning (read_cell_service fonts p d r >>= done) c ≡ (let x = run card_meaning (text_read d r q) c in let y : CardState
+    × Outcome = (x.0, (x.1, d)) in y) =
     run_bind card_meaning (read_cell_service fonts p d r) done c
     ∙ ap (λ n. let x = run card_meaning (read_cell_service fonts n d r) c in let y : CardState × Outcome = (x.0, (x.1, d)) in y) named
     ∙ ap (λ w. let x = run card_meaning w c in let y : CardState × Outcome = (x.0, (x.1, d)) in y) (read_is fonts r c d h q) in
     record {
       refusal = ap (λ n. no_page n (page_among n page) or outside_cells (cells_of d) (cell_at_cursor d (page_among n page))) (pages_are h.row d h.mode);
-      answer = λ allowed. ap (λ x. x.1.0) runs ∙ (read_back r c d h q z (cursor_allowed h.row.pages q (cell_number d (place_of d q)) (cells_of d) allowed)).answer;
+      answer = λ allowed. ap (λ x. x.1.0) runs ∙ (read_back r c d h q z (cursor_allowed h.row.pages q (cell_number d (place_of d q)) (cells_of d)
+          allowed)).answer;
       shows = λ allowed. ap (λ x. shown x.0 x.1.1) runs
           ∙ (read_back r c d h q z (cursor_allowed h.row.pages q (cell_number d (place_of d q)) (cells_of d) allowed)).shows;
       beam = plan_beam (read_cell_service fonts p d r >>= done) c;

@@ -1,4 +1,5 @@
-//! A runtime in memory: files, words, and what is printed. It keeps what the program does, in order.
+//! A runtime in memory: files, words, and what is printed. It keeps what the program does, in
+//! order.
 
 use std::alloc::Global;
 use std::cell::RefCell;

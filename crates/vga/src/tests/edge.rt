@@ -20,8 +20,8 @@ const REPORT: &str = "1 ok\n2 ok\n3 63\n";
 /// How many bytes a font file has.
 const FONTS_LEN: usize = 9_728;
 
-/// What the program did with some words: its status, the files that it asked for, what it made, and what it
-/// printed on standard output and on standard error.
+/// What the program did with some words: its status, the files that it asked for, what it made, and
+/// what it printed on standard output and on standard error.
 #[derive(Drop)]
 struct Outcome {
     status: u8,
@@ -47,7 +47,8 @@ fn status_over<'a>(
     status_of_job(&desk)
 }
 
-/// The status of the program over a text, its script, a bad text, a font file and one that is too short.
+/// The status of the program over a text, its script, a bad text, a font file and one that is too
+/// short.
 fn status_with<'a>(alloc: Global, words: &'a [&'a str], fonts: &'a [u8], deeds: &'a Deeds) -> u8 {
     let files: [(&str, &[u8]); 5] = [
         ("text", TEXT),

@@ -30,14 +30,15 @@ fn clear_at_first_dot(beam: Beam, canvas: &mut Canvas)
     }
 }
 
-/// Adds the dot at the beam, if it is a display dot, and moves the beam. Where a frame begins, its start
-/// is taken first. A character is `width` dots wide, 8 or 9.
+/// Adds the dot at the beam, if it is a display dot, and moves the beam. Where a frame begins, its
+/// start is taken first. A character is `width` dots wide, 8 or 9.
 #[tactic(auto, unfolding(crate::specs::Dots::display_dot))]
 fn draw_dot(host: &Host, crtc: &mut Crtc, attr: &Attr, dac: &Dac, canvas: &mut Canvas, width: u8)
     requires place { IsDrawnTo crtc.old.beam 0 canvas.old.line canvas.old.width }
     requires width { (width ≡ 8) ⊎ (width ≡ 9) }
     ensures crtc { crtc.new ≡ after_dot crtc.old width }
-    ensures dots { canvas.new.dots ≡ canvas.old.dots ++ display_dot host.now (after_start crtc.old) attr.now dac.now }
+    ensures dots { canvas.new.dots ≡ canvas.old.dots
+        ++ display_dot host.now (after_start crtc.old) attr.now dac.now }
     ensures place { IsDrawnTo (after_start crtc.old).beam 1 canvas.new.line canvas.new.width }
 {
     start_is_taken_once();
@@ -121,9 +122,9 @@ impl Card {
         }
     }
 
-    /// Lets the clock run for `n` dots, at most 16,777,216: the display dots among them join the picture
-    /// of their frame. Registers and memory stay. It is refused with `TooFar`, and then changes nothing,
-    /// where there are more.
+    /// Lets the clock run for `n` dots, at most 16,777,216: the display dots among them join the
+    /// picture of their frame. Registers and memory stay. It is refused with `TooFar`, and then
+    /// changes nothing, where there are more.
     pub fn advance(&mut self, n: u32) -> Result<(), Refusal>
         ensures few { IsOk result ↔ (n ≤ most_dots) }
         ensures ok { OnOk result (self.new ≡ dots n self.old) }

@@ -4,8 +4,8 @@ ghost use Rattle.vga_crtc.specs.Bounds.{IsCrtc};
 use super::Crtc;
 
 impl Crtc {
-    /// Each register holds the bits that it keeps alone, and the beam stays within bounds, whatever was
-    /// written. The clause is for proofs: nothing runs.
+    /// Each register holds the bits that it keeps alone, and the beam stays within bounds, whatever
+    /// was written. The clause is for proofs: nothing runs.
     pub fn bounds(&self)
         ensures { IsCrtc self.now }
     {

@@ -6,8 +6,9 @@ ghost use Rattle.vga_crtc.specs.Raster.{dots_in_line, dots_in_frame, IsLineTaken
 use super::Crtc;
 
 impl Crtc {
-    /// Takes the start of a frame, if the beam is there: the start address with byte panning, and the
-    /// first scan line. Elsewhere nothing happens. A dot leads to the same place after this as without.
+    /// Takes the start of a frame, if the beam is there: the start address with byte panning, and
+    /// the first scan line. Elsewhere nothing happens. A dot leads to the same place after this as
+    /// without.
     #[tactic(auto, unfolding(crate::specs::Beam::after_start))]
     pub fn take_start(&mut self)
         ensures started { self.new ≡ after_start self.old }
@@ -16,8 +17,8 @@ impl Crtc {
         self.beam.take_start(&self.registers);
     }
 
-    /// Moves the beam by one dot; a character is `cw` dots wide, 8 or 9. Where a frame begins, its start
-    /// is taken first.
+    /// Moves the beam by one dot; a character is `cw` dots wide, 8 or 9. Where a frame begins, its
+    /// start is taken first.
     #[tactic(auto, unfolding(crate::specs::Beam::after_dot))]
     pub fn step_dot(&mut self, cw: u8)
         requires { (cw ≡ 8) ⊎ (cw ≡ 9) }
@@ -52,8 +53,8 @@ impl Crtc {
         after as u32 * line + self.dots_in_line(cw)
     }
 
-    /// Moves the beam dot by dot, at least one, until it is at the first dot of a line again; a character
-    /// is `cw` dots wide, 8 or 9. The beam goes there at once.
+    /// Moves the beam dot by dot, at least one, until it is at the first dot of a line again; a
+    /// character is `cw` dots wide, 8 or 9. The beam goes there at once.
     pub fn step_line(&mut self, cw: u8)
         requires { (cw ≡ 8) ⊎ (cw ≡ 9) }
         ensures { IsLineTaken cw self.old self.new }

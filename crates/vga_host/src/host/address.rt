@@ -2,7 +2,8 @@
 ghost use Rattle.std.specs.Prelude.{◌≡◌, IsTrue};
 ghost use Rattle.std.specs.Option.{SomeIff};
 ghost use Rattle.vga_bits.specs.Bits.{is_set};
-ghost use Rattle.vga_host.specs.Address.{window_start, window_len, is_decoded, window_offset, plane_offset};
+ghost use Rattle.vga_host.specs.Address.{window_start, window_len, is_decoded, window_offset};
+ghost use Rattle.vga_host.specs.Address.{plane_offset};
 ghost use Rattle.vga_host.specs.Address.{is_addressed, is_reached};
 
 use super::Host;
@@ -33,7 +34,8 @@ impl Host {
 
     /// The offset of an address in the window, where it is decoded.
     pub(super) fn decoded(&self, address: u32, misc: u8) -> Option<u16>
-        ensures { SomeIff result (IsTrue (is_decoded self.now misc address)) (window_offset self.now address) }
+        ensures { SomeIff result (IsTrue (is_decoded self.now misc address))
+            (window_offset self.now address) }
     {
         let (start, len) = self.window();
         let offset = address.wrapping_sub(start);

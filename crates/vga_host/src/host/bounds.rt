@@ -4,7 +4,8 @@ ghost use Rattle.vga_host.specs.Bounds.{IsHost};
 use super::Host;
 
 impl Host {
-    /// Memory and latches are bytes, and each register holds bits of its mask alone, whatever was written.
+    /// Memory and latches are bytes, and each register holds bits of its mask alone, whatever was
+    /// written.
     /// The clause is for proofs: nothing runs.
     pub fn bounds(&self)
         ensures { IsHost self.now }

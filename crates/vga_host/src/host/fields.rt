@@ -1,14 +1,21 @@
-//! The fields of the sequencer's and the graphics controller's registers, in the order of the registers.
+//! The fields of the sequencer's and the graphics controller's registers, in the order of the
+//! registers.
 ghost use Rattle.std.specs.Prelude.{◌≡◌, ◌<◌, ◌⊎◌, ℕ};
 ghost use Rattle.std.specs.Int.{bit_at};
 ghost use Rattle.vga_bits.specs.Bits.{is_set as is_set_of};
 ghost use Rattle.vga_host.specs.Fields.{is_memory_enabled as is_memory_enabled_of};
-ghost use Rattle.vga_host.specs.Fields.{is_eight_dots, character_width, is_screen_off, is_in_map_mask};
-ghost use Rattle.vga_host.specs.Fields.{character_map_a, character_map_b, is_odd_even_off, is_chain_four};
-ghost use Rattle.vga_host.specs.Fields.{set_reset, is_set_reset_enabled, colour_compare, rotate_count};
-ghost use Rattle.vga_host.specs.Fields.{function_select, read_map_select, read_map_pair, write_mode};
-ghost use Rattle.vga_host.specs.Fields.{is_read_compare, is_odd_even_read, is_shift_256, is_graphics};
-ghost use Rattle.vga_host.specs.Fields.{is_256_colours, is_chain_odd_even, memory_map, is_compared, bit_mask};
+ghost use Rattle.vga_host.specs.Fields.{is_eight_dots, character_width, is_screen_off};
+ghost use Rattle.vga_host.specs.Fields.{is_in_map_mask};
+ghost use Rattle.vga_host.specs.Fields.{character_map_a, character_map_b, is_odd_even_off};
+ghost use Rattle.vga_host.specs.Fields.{is_chain_four};
+ghost use Rattle.vga_host.specs.Fields.{set_reset, is_set_reset_enabled, colour_compare};
+ghost use Rattle.vga_host.specs.Fields.{rotate_count};
+ghost use Rattle.vga_host.specs.Fields.{function_select, read_map_select, read_map_pair};
+ghost use Rattle.vga_host.specs.Fields.{write_mode};
+ghost use Rattle.vga_host.specs.Fields.{is_read_compare, is_odd_even_read, is_shift_256};
+ghost use Rattle.vga_host.specs.Fields.{is_graphics};
+ghost use Rattle.vga_host.specs.Fields.{is_256_colours, is_chain_odd_even, memory_map, is_compared};
+ghost use Rattle.vga_host.specs.Fields.{bit_mask};
 
 use super::Host;
 use vga_bits::is_set;

@@ -5,7 +5,8 @@ ghost use Rattle.vga_bits.specs.Bits.{byte_of};
 ghost use Rattle.vga_bits.specs.Four.{of_plane};
 ghost use Rattle.vga_bits.specs.Words.{word_bit};
 ghost use Rattle.vga_host.specs.Address.{is_decoded};
-ghost use Rattle.vga_host.specs.MemoryRead.{agrees, compared_bit, read_bit, picked_plane, read_byte, after_get};
+ghost use Rattle.vga_host.specs.MemoryRead.{agrees, compared_bit, read_bit, picked_plane};
+ghost use Rattle.vga_host.specs.MemoryRead.{read_byte, after_get};
 
 use super::Host;
 use crate::bytes::clear_in_all;
@@ -31,7 +32,8 @@ impl Host {
 
     /// In read mode 1, the bits in which each plane does not agree with its compare bit.
     fn differing(&self, bytes: Latch) -> u32
-        ensures { (p i : ℕ) → p < 4 → i < 8 → word_bit result p i ≡ (if agrees self.now bytes p i then 0 else 1) }
+        ensures { (p i : ℕ) → p < 4 → i < 8 → word_bit result p i
+            ≡ (if agrees self.now bytes p i then 0 else 1) }
     {
         let word = bytes.word();
         let wanted = filled(self.colour_compare());
@@ -65,12 +67,13 @@ impl Host {
         self.read_bits(place, bytes)
     }
 
-    /// Reads a byte of display memory, and loads the latches with the four bytes at its offset; `misc`
-    /// is the miscellaneous output register. It is refused with `NotDecoded`, and then changes nothing,
-    /// where the address is not decoded.
+    /// Reads a byte of display memory, and loads the latches with the four bytes at its offset;
+    /// `misc` is the miscellaneous output register. It is refused with `NotDecoded`, and then
+    /// changes nothing, where the address is not decoded.
     pub fn get(&mut self, address: u32, misc: u8) -> Result<u8, Refusal>
         ensures decoded { IsOk result ↔ IsTrue (is_decoded self.old misc address) }
-        ensures ok { IfOk result (λ v. (v ≡ read_byte self.old address) × (self.new ≡ after_get self.old address)) }
+        ensures ok { IfOk result (λ v. (v ≡ read_byte self.old address)
+            × (self.new ≡ after_get self.old address)) }
         ensures refused { IfErr result (λ e. (e ≡ Refusal.NotDecoded) × (self.new ≡ self.old)) }
     {
         let Some(place) = self.decoded(address, misc) else {

@@ -5,7 +5,8 @@ ghost use Rattle.vga_bits.specs.Four.{four};
 ghost use Rattle.vga_host.specs.Address.{is_decoded};
 ghost use Rattle.vga_host.specs.Fields.{bit_mask, set_reset, is_set_reset_enabled};
 ghost use Rattle.vga_bits.specs.Words.{word_bit};
-ghost use Rattle.vga_host.specs.MemoryWrite.{rotated_bit, data_bit, mask_bit, combined_bit, written_bit, written_byte, after_put};
+ghost use Rattle.vga_host.specs.MemoryWrite.{rotated_bit, data_bit, mask_bit, combined_bit};
+ghost use Rattle.vga_host.specs.MemoryWrite.{written_bit, written_byte, after_put};
 
 use super::Host;
 use crate::bytes::{combined, rotated};
@@ -23,7 +24,9 @@ impl Host {
 
     /// The data of the four planes in write mode 0, before the function and the mask.
     fn data_in_mode_0(&self, v: u8) -> u32
-        ensures { (p i : ℕ) → p < 4 → i < 8 → word_bit result p i ≡ (if is_set_reset_enabled self.now p then set_reset self.now p else rotated_bit self.now v i) }
+        ensures { (p i : ℕ) → p < 4 → i < 8 → word_bit result p i
+            ≡ (if is_set_reset_enabled self.now p then set_reset self.now p
+            else rotated_bit self.now v i) }
     {
         let fill = filled(self.set_reset());
         let enabled = filled(self.set_reset_enabled());

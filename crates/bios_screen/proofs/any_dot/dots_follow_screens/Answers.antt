@@ -10,7 +10,19 @@ returns-clause-starts c = start_of
 
 pub returns-clause-dots : goal.returns-clause-dots
 returns-clause-dots c = dots_follow (record {
-  of_dots = record { none = c.dots_split.ensures.none; place = c.start_is_taken_once.ensures.place; first = c.start_is_taken_once.ensures.there; left = c.start_is_taken_once.ensures.frame; by_number = c.beam_at_dot.ensures.by_number; any = c.beam_goes_on.ensures.any; counted = c.frame_left.ensures; keep = c.dots_keep.ensures; ends = c.frame_ends_first.ensures; places = c.dots_are_places.ensures; regular_shape = c.regular_shape.ensures };
+  of_dots = record {
+    none = c.dots_split.ensures.none;
+    place = c.start_is_taken_once.ensures.place;
+    first = c.start_is_taken_once.ensures.there;
+    left = c.start_is_taken_once.ensures.frame;
+    by_number = c.beam_at_dot.ensures.by_number;
+    any = c.beam_goes_on.ensures.any;
+    counted = c.frame_left.ensures;
+    keep = c.dots_keep.ensures;
+    ends = c.frame_ends_first.ensures;
+    places = c.dots_are_places.ensures;
+    regular_shape = c.regular_shape.ensures;
+  };
   moves = c.beam_goes_on.ensures.dots;
   past = c.beam_at_dot.ensures.past_start;
   split = c.dots_split-2.ensures.split;
@@ -19,7 +31,19 @@ returns-clause-dots c = dots_follow (record {
 
 pub returns-clause-frame : goal.returns-clause-frame
 returns-clause-frame c = frame_follows (record {
-  of_dots = record { none = c.dots_split.ensures.none; place = c.start_is_taken_once.ensures.place; first = c.start_is_taken_once.ensures.there; left = c.start_is_taken_once.ensures.frame; by_number = c.beam_at_dot.ensures.by_number; any = c.beam_goes_on.ensures.any; counted = c.frame_left.ensures; keep = c.dots_keep.ensures; ends = c.frame_ends_first.ensures; places = c.dots_are_places.ensures; regular_shape = c.regular_shape.ensures };
+  of_dots = record {
+    none = c.dots_split.ensures.none;
+    place = c.start_is_taken_once.ensures.place;
+    first = c.start_is_taken_once.ensures.there;
+    left = c.start_is_taken_once.ensures.frame;
+    by_number = c.beam_at_dot.ensures.by_number;
+    any = c.beam_goes_on.ensures.any;
+    counted = c.frame_left.ensures;
+    keep = c.dots_keep.ensures;
+    ends = c.frame_ends_first.ensures;
+    places = c.dots_are_places.ensures;
+    regular_shape = c.regular_shape.ensures;
+  };
   moves = c.beam_goes_on.ensures.dots;
   past = c.beam_at_dot.ensures.past_start;
   split = c.dots_split-2.ensures.split;
@@ -28,7 +52,19 @@ returns-clause-frame c = frame_follows (record {
 
 pub returns-clause-joins : goal.returns-clause-joins
 returns-clause-joins c = rows_join (record {
-  of_dots = record { none = c.dots_split.ensures.none; place = c.start_is_taken_once.ensures.place; first = c.start_is_taken_once.ensures.there; left = c.start_is_taken_once.ensures.frame; by_number = c.beam_at_dot.ensures.by_number; any = c.beam_goes_on.ensures.any; counted = c.frame_left.ensures; keep = c.dots_keep.ensures; ends = c.frame_ends_first.ensures; places = c.dots_are_places.ensures; regular_shape = c.regular_shape.ensures };
+  of_dots = record {
+    none = c.dots_split.ensures.none;
+    place = c.start_is_taken_once.ensures.place;
+    first = c.start_is_taken_once.ensures.there;
+    left = c.start_is_taken_once.ensures.frame;
+    by_number = c.beam_at_dot.ensures.by_number;
+    any = c.beam_goes_on.ensures.any;
+    counted = c.frame_left.ensures;
+    keep = c.dots_keep.ensures;
+    ends = c.frame_ends_first.ensures;
+    places = c.dots_are_places.ensures;
+    regular_shape = c.regular_shape.ensures;
+  };
   moves = c.beam_goes_on.ensures.dots;
   past = c.beam_at_dot.ensures.past_start;
   split = c.dots_split-2.ensures.split;

@@ -6,19 +6,49 @@ use Rattle.bios_screen.proofs.Modes.PixelModes.Graphics.{Sixteen, Many}
 use Rattle.bios_screen.proofs.laws.mode_set_is_fresh.Goals as goal
 
 pub returns-clause-colour : goal.returns-clause-colour
-returns-clause-colour c = sets_fresh Colour (record { out = c.bounds_stay.ensures.out; inp = c.bounds_stay.ensures.inp; put = c.bounds_stay.ensures.put; get = c.bounds_stay.ensures.get })
+returns-clause-colour c = sets_fresh Colour (record {
+  out = c.bounds_stay.ensures.out;
+  inp = c.bounds_stay.ensures.inp;
+  put = c.bounds_stay.ensures.put;
+  get = c.bounds_stay.ensures.get;
+})
 
 pub returns-clause-monochrome : goal.returns-clause-monochrome
-returns-clause-monochrome c = sets_fresh Monochrome (record { out = c.bounds_stay.ensures.out; inp = c.bounds_stay.ensures.inp; put = c.bounds_stay.ensures.put; get = c.bounds_stay.ensures.get })
+returns-clause-monochrome c = sets_fresh Monochrome (record {
+  out = c.bounds_stay.ensures.out;
+  inp = c.bounds_stay.ensures.inp;
+  put = c.bounds_stay.ensures.put;
+  get = c.bounds_stay.ensures.get;
+})
 
 pub returns-clause-planes_320_by_200 : goal.returns-clause-planes_320_by_200
-returns-clause-planes_320_by_200 c = sets_pixels (Sixteen Low) (record { out = c.bounds_stay.ensures.out; inp = c.bounds_stay.ensures.inp; put = c.bounds_stay.ensures.put; get = c.bounds_stay.ensures.get })
+returns-clause-planes_320_by_200 c = sets_pixels (Sixteen Low) (record {
+  out = c.bounds_stay.ensures.out;
+  inp = c.bounds_stay.ensures.inp;
+  put = c.bounds_stay.ensures.put;
+  get = c.bounds_stay.ensures.get;
+})
 
 pub returns-clause-planes_640_by_350 : goal.returns-clause-planes_640_by_350
-returns-clause-planes_640_by_350 c = sets_pixels (Sixteen Middle) (record { out = c.bounds_stay.ensures.out; inp = c.bounds_stay.ensures.inp; put = c.bounds_stay.ensures.put; get = c.bounds_stay.ensures.get })
+returns-clause-planes_640_by_350 c = sets_pixels (Sixteen Middle) (record {
+  out = c.bounds_stay.ensures.out;
+  inp = c.bounds_stay.ensures.inp;
+  put = c.bounds_stay.ensures.put;
+  get = c.bounds_stay.ensures.get;
+})
 
 pub returns-clause-planes_640_by_480 : goal.returns-clause-planes_640_by_480
-returns-clause-planes_640_by_480 c = sets_pixels (Sixteen High) (record { out = c.bounds_stay.ensures.out; inp = c.bounds_stay.ensures.inp; put = c.bounds_stay.ensures.put; get = c.bounds_stay.ensures.get })
+returns-clause-planes_640_by_480 c = sets_pixels (Sixteen High) (record {
+  out = c.bounds_stay.ensures.out;
+  inp = c.bounds_stay.ensures.inp;
+  put = c.bounds_stay.ensures.put;
+  get = c.bounds_stay.ensures.get;
+})
 
 pub returns-clause-bytes_320_by_200 : goal.returns-clause-bytes_320_by_200
-returns-clause-bytes_320_by_200 c = sets_pixels Many (record { out = c.bounds_stay.ensures.out; inp = c.bounds_stay.ensures.inp; put = c.bounds_stay.ensures.put; get = c.bounds_stay.ensures.get })
+returns-clause-bytes_320_by_200 c = sets_pixels Many (record {
+  out = c.bounds_stay.ensures.out;
+  inp = c.bounds_stay.ensures.inp;
+  put = c.bounds_stay.ensures.put;
+  get = c.bounds_stay.ensures.get;
+})

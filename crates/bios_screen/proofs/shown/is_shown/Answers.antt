@@ -25,4 +25,5 @@ page_not_shown row c d x r same page fails =
 
 pub returns-else-shows_page : goal.returns-else-shows_page
 returns-else-shows_page c =
-    page_not_shown c.args.row.now c.args.card.now c.args.bda.now c.regs-regs.result.crtc.now c.shows_page.result c.regs-regs.ensures.crtc c.shows_page.ensures c.if-shows_page.false
+    page_not_shown c.args.row.now c.args.card.now c.args.bda.now c.regs-regs.result.crtc.now c.shows_page.result c.regs-regs.ensures.crtc c.shows_page.ensures
+    c.if-shows_page.false

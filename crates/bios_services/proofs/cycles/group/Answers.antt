@@ -5,4 +5,5 @@ use Rattle.bios_services.proofs.cycles.group.Goals as goal
 
 pub loop-i-preserved : goal.loop-i-preserved
 loop-i-preserved g c =
-    next_turn g.B.Bus.meaning (λ i. indexed c.args.port i (slice_index c.args.values.now i)) c.loop-i.i (length c.args.values.now) c.loop-i.bus c.indexed.new.bus _ (omega arith) c.indexed.ensures c.loop-i.invariant
+    next_turn g.B.Bus.meaning (λ i. indexed c.args.port i (slice_index c.args.values.now i)) c.loop-i.i (length c.args.values.now) c.loop-i.bus
+    c.indexed.new.bus _ (omega arith) c.indexed.ensures c.loop-i.invariant

@@ -5,4 +5,5 @@ use Rattle.bios_services.proofs.dac.write_components.Goals as goal
 
 pub loop-i-preserved : goal.loop-i-preserved
 loop-i-preserved g c =
-    next_turn g.B.Bus.meaning (λ i. out 0x3C9 (slice_index c.args.block.now i)) c.loop-i.i (length c.args.block.now) c.loop-i.bus c.out.new.bus _ (omega arith) c.out.ensures c.loop-i.invariant
+    next_turn g.B.Bus.meaning (λ i. out 0x3C9 (slice_index c.args.block.now i)) c.loop-i.i (length c.args.block.now) c.loop-i.bus c.out.new.bus _ (omega arith)
+    c.out.ensures c.loop-i.invariant

@@ -6,11 +6,13 @@ use Rattle.bios_services.proofs.glyphs.first_character.Goals as goal
 pub returns-then-has_lines : goal.returns-then-has_lines
 unfolding first_character
 returns-then-has_lines c =
-    found_first (has_lines c.args.fonts.now c.args.height c.args.lines.now) c.loop-character.character c.args.n _ (omega arith) (sym c.has_lines.ensures ∙ c.if-has_lines.true) c.loop-character.invariant
+    found_first (has_lines c.args.fonts.now c.args.height c.args.lines.now) c.loop-character.character c.args.n _ (omega arith) (sym c.has_lines.ensures
+    ∙ c.if-has_lines.true) c.loop-character.invariant
 
 pub loop-character-preserved : goal.loop-character-preserved
 loop-character-preserved c =
-    next_first (has_lines c.args.fonts.now c.args.height c.args.lines.now) c.loop-character.character c.args.n _ (omega arith) (sym c.has_lines.ensures ∙ c.if-has_lines.false) c.loop-character.invariant
+    next_first (has_lines c.args.fonts.now c.args.height c.args.lines.now) c.loop-character.character c.args.n _ (omega arith) (sym c.has_lines.ensures
+    ∙ c.if-has_lines.false) c.loop-character.invariant
 
 pub returns : goal.returns
 unfolding first_character

@@ -7,4 +7,6 @@ use Rattle.bios_services.proofs.mode_set.write_palette.Goals as goal
 
 pub loop-i-preserved : goal.loop-i-preserved
 loop-i-preserved g c =
-    next_turn g.B.Bus.meaning (λ i. colour_plan (dac_entry c.args.mode i)) c.loop-i.i c.args.n c.loop-i.bus c.write_colour.new.bus _ (omega arith) (c.write_colour.ensures ∙ ap (λ colour. (run g.B.Bus.meaning (colour_plan colour) c.loop-i.bus).0) (c.entry.ensures ∙ ap (λ palette. palette_entry palette c.loop-i.i) c.palette_of-palette.ensures)) c.loop-i.invariant
+    next_turn g.B.Bus.meaning (λ i. colour_plan (dac_entry c.args.mode i)) c.loop-i.i c.args.n c.loop-i.bus c.write_colour.new.bus _ (omega arith)
+    (c.write_colour.ensures ∙ ap (λ colour. (run g.B.Bus.meaning (colour_plan colour) c.loop-i.bus).0) (c.entry.ensures
+    ∙ ap (λ palette. palette_entry palette c.loop-i.i) c.palette_of-palette.ensures)) c.loop-i.invariant

@@ -9,8 +9,10 @@ pub loop-i-preserved : goal.loop-i-preserved
 loop-i-preserved g c =
     let m = g.B.Bus.meaning in
     let now = c.register.ensures ∙ ap (λ i. run m (register_plan c.args.port i) c.loop-i.bus) c.palette_register.ensures.value in
-    next_read m (λ i. register_plan c.args.port (palette_register i)) c.loop-i.i 17 c.loop-i.bus c.register.new.bus c.register.result c.loop-i.values _ (omega arith) (omega arith) now c.loop-i.invariant
+    next_read m (λ i. register_plan c.args.port (palette_register i)) c.loop-i.i 17 c.loop-i.bus c.register.new.bus c.register.result c.loop-i.values _
+    (omega arith) (omega arith) now c.loop-i.invariant
 
 pub returns : goal.returns
 returns g c =
-    all_read g.B.Bus.meaning (λ i. register_plan c.args.port (palette_register i)) c.loop-i.i 17 c.loop-i.bus c.loop-i.values _ (omega arith) (omega arith) c.loop-i.invariant
+    all_read g.B.Bus.meaning (λ i. register_plan c.args.port (palette_register i)) c.loop-i.i 17 c.loop-i.bus c.loop-i.values _ (omega arith) (omega arith)
+    c.loop-i.invariant

@@ -5,7 +5,8 @@ use Rattle.vga_bits.proofs.limited_reading.read_front.Given as goal
 
 -- the bytes so far are a front of what the reader had
 abbrev pub invariant-loop-buffer : goal.invariant-loop-buffer
-invariant-loop-buffer g l = Taken (g.R.Read.remaining (inner_of l.initial.reader)) (g.R.Read.remaining (inner_of l.reader)) (has_failed l.reader) (taken_of l.initial.reader) (taken_of l.reader) l.bytes.items (vec_len l.bytes) l.most
+invariant-loop-buffer g l = Taken (g.R.Read.remaining (inner_of l.initial.reader)) (g.R.Read.remaining (inner_of l.reader)) (has_failed l.reader)
+    (taken_of l.initial.reader) (taken_of l.reader) l.bytes.items (vec_len l.bytes) l.most
 
 abbrev pub decreases-loop-buffer : goal.decreases-loop-buffer
 decreases-loop-buffer g l = l.most - vec_len l.bytes

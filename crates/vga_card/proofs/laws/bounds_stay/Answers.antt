@@ -1,4 +1,5 @@
-use Rattle.vga_card.proofs.BoundLemmas.{power_on_bounds, out_bounds, inp_bounds, put_bounds, get_bounds, out_word_bounds, inp_word_bounds, put_word_bounds, get_word_bounds, dots_bounds}
+use Rattle.vga_card.proofs.BoundLemmas.{power_on_bounds, out_bounds, inp_bounds, put_bounds, get_bounds, out_word_bounds, inp_word_bounds, put_word_bounds}
+use Rattle.vga_card.proofs.BoundLemmas.{get_word_bounds, dots_bounds}
 use Rattle.vga_card.proofs.laws.bounds_stay.Goals as goal
 
 pub returns-clause-first : goal.returns-clause-first

@@ -55,7 +55,8 @@ returns-else-underlines-clause-dots c = λ i l.
     let n = c.args.counter in
     let cell = c.args.cell in
     let line = c.args.line.now in
-    let row = c.byte-row.ensures ∙ ap (λ m. byte_at m 2 c.glyph_place.result) c.planes.ensures ∙ row_of_glyph h r a line c.requires.line cell _ c.glyph_place.ensures in
+    let row = c.byte-row.ensures ∙ ap (λ m. byte_at m 2 c.glyph_place.result) c.planes.ensures
+    ∙ row_of_glyph h r a line c.requires.line cell _ c.glyph_place.ensures in
     c.glyph_dots.ensures.dots i l
     ∙ ap (λ (x : AttrState). is_glyph_dot x cell.character c.byte-row.result i) c.attr.ensures
     ∙ ap (λ row. is_glyph_dot a cell.character row i) row

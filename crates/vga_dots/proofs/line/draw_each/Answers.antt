@@ -10,4 +10,5 @@ loop-x-preserved g c =
     let d = c.args.display.now in
     let x = c.loop-x.x in
     characters_more g.row.CW x (unpanned_colour d) c.args.row.now c.loop-x.row c.put.new.row c.loop-x.invariant
-    (subst (λ (b : Beam). AreDotsPut g.row.CW (x * g.row.CW) (λ i. source_colour d (dot_of ((b.base + x) % 65536) i)) c.loop-x.row c.put.new.row) c.beam-base.ensures.value c.put.ensures)
+    (subst (λ (b : Beam). AreDotsPut g.row.CW (x * g.row.CW) (λ i. source_colour d (dot_of ((b.base + x) % 65536) i)) c.loop-x.row c.put.new.row)
+    c.beam-base.ensures.value c.put.ensures)

@@ -7,7 +7,8 @@ use Rattle.vga_run.proofs.report.write_lines.Goals as goal
 pub returns-in_err-write_step-clause-text : goal.returns-in_err-write_step-clause-text
 returns-in_err-write_step-clause-text g c =
     let p = err_from_is_err_and c.from_residual.result c.from_residual.ensures.1 in
-    rw (p.1, p.2) (reported_err _ _ _ _ _ _ _ _ c.args.first _ _ _ _ _ c.loop-step.invariant.reported c.loop-step.invariant.number (omega arith) c.step-item.is c.in_err-write_step.ensures.text)
+    rw (p.1, p.2) (reported_err _ _ _ _ _ _ _ _ c.args.first _ _ _ _ _ c.loop-step.invariant.reported c.loop-step.invariant.number (omega arith) c.step-item.is
+    c.in_err-write_step.ensures.text)
 
 -- one more line
 pub loop-step-preserved : goal.loop-step-preserved
@@ -15,7 +16,8 @@ loop-step-preserved g c =
     let number = c.loop-step.invariant.number in
     let w = c.in_ok-write_step.ensures.text in
     record {
-      reported = reported_more _ _ _ _ _ _ _ _ c.args.first _ _ _ _ _ c.loop-step.invariant.reported number (omega arith) c.step-item.is c.in_ok-write_step.ensures.after w.0 w.1 c.in_ok-write_step.ensures.valid;
+      reported = reported_more _ _ _ _ _ _ _ _ c.args.first _ _ _ _ _ c.loop-step.invariant.reported number (omega arith) c.step-item.is
+          c.in_ok-write_step.ensures.after w.0 w.1 c.in_ok-write_step.ensures.valid;
       number = omega (arith, c.count_up.ensures, c.in_ok-write_step.ensures.number, number);
     }
 

@@ -6,6 +6,7 @@ use Rattle.vga_run.proofs.report.write_lines.Given as goal
 -- the lines of the steps so far are written, and the next has the next number
 abbrev pub invariant-loop-step : goal.invariant-loop-step
 invariant-loop-step g l = record {
-  reported : Reported (g.W.Write.contents (inner_of l.initial.out)) (g.W.Write.contents (inner_of l.out)) (has_failed l.out) l.initial.machine l.machine l.first l.steps l.step-index;
+  reported : Reported (g.W.Write.contents (inner_of l.initial.out)) (g.W.Write.contents (inner_of l.out)) (has_failed l.out) l.initial.machine l.machine l.first
+      l.steps l.step-index;
   number : l.line ≡ l.first + l.step-index;
 }

@@ -10,8 +10,10 @@ returns-clause-runs g c =
 
 -- and its report is one
 pub returns-clause-screens : goal.returns-clause-screens
-returns-clause-screens g c = run_of_screens c.reports_are_screens.ensures c.one_list.ensures c.steps_fit.ensures _ _ _ _ _ _ c.bytes_fit.ensures c.run_steps.ensures.answer
+returns-clause-screens g c = run_of_screens c.reports_are_screens.ensures c.one_list.ensures c.steps_fit.ensures _ _ _ _ _ _ c.bytes_fit.ensures
+    c.run_steps.ensures.answer
 
 -- so it is dot by dot
 pub returns-clause-dots : goal.returns-clause-dots
-returns-clause-dots g c = run_of_dots c.reports_are_dots.ensures c.one_list.ensures c.steps_fit.ensures _ _ _ _ _ _ c.bytes_fit.ensures c.run_steps.ensures.answer
+returns-clause-dots g c = run_of_dots c.reports_are_dots.ensures c.one_list.ensures c.steps_fit.ensures _ _ _ _ _ _ c.bytes_fit.ensures
+    c.run_steps.ensures.answer

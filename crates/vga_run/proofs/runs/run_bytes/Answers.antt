@@ -11,8 +11,10 @@ returns-clause-screens g c =
     let before = g.W.Write.contents (inner_of c.args.out.now) in
     let after = g.W.Write.contents (inner_of c.run_bytes_over.new.out) in
     let over = c.run_bytes_over in
-    run_of_screens c.reports_are_screens.ensures c.one_list.ensures c.steps_fit.ensures c.args.until c.args.fonts.now (Some c.args.script.now) before after over.result c.bytes_fit.ensures
-    (file_answers c.args.until c.args.fonts.now c.in_ok-fonts.fonts (Some c.args.script.now) before after over.result c.in_ok-fonts.ensures.ok over.ensures.answer)
+    run_of_screens c.reports_are_screens.ensures c.one_list.ensures c.steps_fit.ensures c.args.until c.args.fonts.now (Some c.args.script.now) before after
+    over.result c.bytes_fit.ensures
+    (file_answers c.args.until c.args.fonts.now c.in_ok-fonts.fonts (Some c.args.script.now) before after over.result c.in_ok-fonts.ensures.ok
+    over.ensures.answer)
 
 -- so it is dot by dot
 pub returns-clause-dots : goal.returns-clause-dots
@@ -20,5 +22,7 @@ returns-clause-dots g c =
     let before = g.W.Write.contents (inner_of c.args.out.now) in
     let after = g.W.Write.contents (inner_of c.run_bytes_over.new.out) in
     let over = c.run_bytes_over in
-    run_of_dots c.reports_are_dots.ensures c.one_list.ensures c.steps_fit.ensures c.args.until c.args.fonts.now (Some c.args.script.now) before after over.result c.bytes_fit.ensures
-    (file_answers c.args.until c.args.fonts.now c.in_ok-fonts.fonts (Some c.args.script.now) before after over.result c.in_ok-fonts.ensures.ok over.ensures.answer)
+    run_of_dots c.reports_are_dots.ensures c.one_list.ensures c.steps_fit.ensures c.args.until c.args.fonts.now (Some c.args.script.now) before after
+    over.result c.bytes_fit.ensures
+    (file_answers c.args.until c.args.fonts.now c.in_ok-fonts.fonts (Some c.args.script.now) before after over.result c.in_ok-fonts.ensures.ok
+    over.ensures.answer)

@@ -14,5 +14,7 @@ returns-in_err-write_first g c =
 pub returns : goal.returns
 returns g c =
     let w = rw c.of-line.ensures at c.in_ok-write_first.ensures.text in
-    let number : c.number.result ≡ 1 + length (take c.args.most c.args.steps) = c.number.ensures ∙ (rw c.of-line.ensures at c.in_ok-write_first.ensures.number) in
-    writes_others _ _ _ _ _ c.args.machine.now _ 1 _ (take c.args.most c.args.steps) last_dumps c.in_ok-write_first.ensures.after number w.0 c.write_last_dumps.ensures
+    let number : c.number.result ≡ 1 + length (take c.args.most c.args.steps) = c.number.ensures
+    ∙ (rw c.of-line.ensures at c.in_ok-write_first.ensures.number) in
+    writes_others _ _ _ _ _ c.args.machine.now _ 1 _ (take c.args.most c.args.steps) last_dumps c.in_ok-write_first.ensures.after number w.0
+    c.write_last_dumps.ensures

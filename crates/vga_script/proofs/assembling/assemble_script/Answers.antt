@@ -10,7 +10,12 @@ of_bytes-requires-clause-spelled c = text_is_script c.args.text.now c.in_ok-byte
 
 -- and are read as it
 pub returns-clause-found : goal.returns-clause-found
-returns-clause-found c = (search rules, subst (SpellsText c.args.text.now) (sym c.of_bytes.ensures) (text_reads c.args.text.now c.in_ok-bytes.bytes.items c.in_ok-bytes.ensures.found))
+returns-clause-found c = (
+  search rules,
+  subst (SpellsText c.args.text.now) (sym c.of_bytes.ensures)
+      (text_reads c.args.text.now c.in_ok-bytes.bytes.items c.in_ok-bytes.ensures.found),
+)
 
 pub returns-clause-script : goal.returns-clause-script
-returns-clause-script c = subst IsScript (sym c.of_bytes.ensures) (text_fits c.args.text.now c.in_ok-bytes.bytes.items c.in_ok-bytes.ensures.found (search rules))
+returns-clause-script c = subst IsScript (sym c.of_bytes.ensures) (text_fits c.args.text.now c.in_ok-bytes.bytes.items c.in_ok-bytes.ensures.found
+    (search rules))

@@ -6,7 +6,8 @@ use Rattle.vga_script.proofs.assembling.items_of_text.Goals as goal
 pub returns-then-has_word-clause-one : goal.returns-then-has_word-clause-one
 returns-then-has_word-clause-one c one =
     let h = subst (λ (l : Option (Bor (List ℕ))). HasBlank c.args.text.now c.loop-left.number (option_copied l)) c.in-Some.is c.loop-left.invariant in
-    not_two c.args.text.now c.in-Some.rest.now c.first_line.result.0.now (option_copied c.first_line.result.1) c.loop-left.number h c.first_line.ensures.line (c.has_word.ensures.some c.if-has_word.true)
+    not_two c.args.text.now c.in-Some.rest.now c.first_line.result.0.now (option_copied c.first_line.result.1) c.loop-left.number h c.first_line.ensures.line
+    (c.has_word.ensures.some c.if-has_word.true)
     (λ is. never c.says_version_two.result c.if-says_version_two.false (c.says_version_two.ensures.1 is))
 
 -- one more line without a word
@@ -19,4 +20,5 @@ loop-left-preserved c =
 -- no line has a word
 pub returns-clause-one : goal.returns-clause-one
 returns-clause-one c one =
-    none_two c.args.text.now c.loop-left.number (subst (λ (l : Option (Bor (List ℕ))). HasBlank c.args.text.now c.loop-left.number (option_copied l)) c.in_default.is c.loop-left.invariant)
+    none_two c.args.text.now c.loop-left.number (subst (λ (l : Option (Bor (List ℕ))). HasBlank c.args.text.now c.loop-left.number (option_copied l))
+    c.in_default.is c.loop-left.invariant)

@@ -9,4 +9,5 @@ returns-in-Some-default-eq50 c =
     let word = c.in-Some-default-eq50.field-0-1.now in
     let one : length word ≡ 1 = omega arith in
     let digit : get_or word 0 0 ≡ 50 = search rules in
-    version_two (words c.args.line.now) c.in-Some-default-eq50.name.now word c.is_name.result c.in-Some-default-eq50.ensures.found (one_byte word 50 one digit) c.is_name.ensures
+    version_two (words c.args.line.now) c.in-Some-default-eq50.name.now word c.is_name.result c.in-Some-default-eq50.ensures.found (one_byte word 50 one digit)
+    c.is_name.ensures

@@ -5,7 +5,11 @@ use Rattle.vga_script.proofs.input.read_script.Goals as goal
 -- one byte more than a script may have was read
 pub returns-then-len-gt-SCRIPT_LIMIT-clause-fault : goal.returns-then-len-gt-SCRIPT_LIMIT-clause-fault
 returns-then-len-gt-SCRIPT_LIMIT-clause-fault g c =
-    inr (inl (refl, front_is_long 16777217 16777216 _ c.in_ok-bytes.bytes.items c.in_ok-bytes.ensures.front.1 (omega (arith, c.len.ensures, c.if-len-gt-SCRIPT_LIMIT))))
+    inr (inl (
+      refl,
+      front_is_long 16777217 16777216 _ c.in_ok-bytes.bytes.items c.in_ok-bytes.ensures.front.1
+          (omega (arith, c.len.ensures, c.if-len-gt-SCRIPT_LIMIT)),
+    ))
 
 -- the reader ended before
 pub returns-clause-input : goal.returns-clause-input

@@ -12,11 +12,14 @@ returns-in-End-clause-found c =
     let ends : rest ≡ opcode_end ∷ c.in-End.others.now = subst (λ (b : Behind). StandsBehind b rest) c.in-End.is c.behind_steps-len.ensures.stop in
     let some : 0 < c.in-Ok.count = omega arith in
     let small : c.in-Ok.count < 2 ^ 16 = search rules in
-    block_found c.args.version c.args.bytes.now c.args.fields.now c.in-Ok.body.now rest c.in-End.others.now c.split_at.result.0.now c.in-Ok.count c.behind_steps-len.result.0 c.requires.allowed c.requires.fields c.in-Ok.ensures.found some small c.behind_steps-len.ensures.good ends c.split_at.ensures.front
+    block_found c.args.version c.args.bytes.now c.args.fields.now c.in-Ok.body.now rest c.in-End.others.now c.split_at.result.0.now c.in-Ok.count
+    c.behind_steps-len.result.0 c.requires.allowed c.requires.fields c.in-Ok.ensures.found some small c.behind_steps-len.ensures.good ends
+    c.split_at.ensures.front
 
 pub returns-in-End-clause-body : goal.returns-in-End-clause-body
 returns-in-End-clause-body c =
-    let counted = block_counted c.in-Ok.body.now c.behind_steps-len.result.1.now c.split_at.result.0.now c.behind_steps-len.result.0 c.behind_steps-len.ensures.good c.split_at.ensures.front in
+    let counted = block_counted c.in-Ok.body.now c.behind_steps-len.result.1.now c.split_at.result.0.now c.behind_steps-len.result.0
+    c.behind_steps-len.ensures.good c.split_at.ensures.front in
     let short = counted.2 in
     let whole = ap length c.requires.fields in
     let fields = ap length c.in-Ok.ensures.found in
@@ -32,5 +35,6 @@ returns-in-Nothing-clause-fault c taken =
     let small : c.in-Ok.count < 2 ^ 16 = search rules in
     let place = length c.args.bytes.now - length rest in
     block_cut c.args.version taken c.args.offset place c.args.bytes.now rest
-    (block_open c.args.version c.args.bytes.now c.args.fields.now c.in-Ok.body.now rest c.in-Ok.count c.behind_steps-len.result.0 place c.requires.allowed c.requires.fields c.in-Ok.ensures.found some small c.behind_steps-len.ensures.good refl)
+    (block_open c.args.version c.args.bytes.now c.args.fields.now c.in-Ok.body.now rest c.in-Ok.count c.behind_steps-len.result.0 place c.requires.allowed
+    c.requires.fields c.in-Ok.ensures.found some small c.behind_steps-len.ensures.good refl)
     none

@@ -23,23 +23,27 @@ loop-opcode-preserved-then-opcode-eq-END c =
 pub loop-opcode-preserved : goal.loop-opcode-preserved
 loop-opcode-preserved c =
     let is = c.in-Ok.ensures.found ∙ ap (λ (o : ℕ). o ∷ c.in-Ok.others.now) c.if-opcode-eq-REPEAT.true in
-    through _ _ _ _ _ _ _ _ _ c.loop-opcode.invariant (empty_block _ _ _ _ _ _ _ c.loop-opcode.invariant.stands is c.count_at-count.ensures.fields c.count_at-count.ensures.small c.in-Some.ensures.found)
+    through _ _ _ _ _ _ _ _ _ c.loop-opcode.invariant (empty_block _ _ _ _ _ _ _ c.loop-opcode.invariant.stands is c.count_at-count.ensures.fields
+    c.count_at-count.ensures.small c.in-Some.ensures.found)
 
 -- one of some steps
 pub overflow_sub-result-in-None : goal.overflow_sub-result-in-None
 overflow_sub-result-in-None c =
     let is = c.in-Ok.ensures.found ∙ ap (λ (o : ℕ). o ∷ c.in-Ok.others.now) c.if-opcode-eq-REPEAT.true in
-    (block_begins c.args.place.left _ _ _ _ _ c.loop-opcode.invariant.stands is c.count_at-count.ensures.fields c.count_at-count.ensures.small c.in-None.ensures.none).0
+    (block_begins c.args.place.left _ _ _ _ _ c.loop-opcode.invariant.stands is c.count_at-count.ensures.fields c.count_at-count.ensures.small
+    c.in-None.ensures.none).0
 
 pub returns-in-None-clause-reached : goal.returns-in-None-clause-reached
 returns-in-None-clause-reached c =
     let is = c.in-Ok.ensures.found ∙ ap (λ (o : ℕ). o ∷ c.in-Ok.others.now) c.if-opcode-eq-REPEAT.true in
-    through _ _ _ _ _ _ _ _ _ c.loop-opcode.invariant (block_begins _ _ _ _ _ _ c.loop-opcode.invariant.stands is c.count_at-count.ensures.fields c.count_at-count.ensures.small c.in-None.ensures.none).1
+    through _ _ _ _ _ _ _ _ _ c.loop-opcode.invariant (block_begins _ _ _ _ _ _ c.loop-opcode.invariant.stands is c.count_at-count.ensures.fields
+    c.count_at-count.ensures.small c.in-None.ensures.none).1
 
 pub returns-in-None-clause-front : goal.returns-in-None-clause-front
 returns-in-None-clause-front c =
     let is = c.in-Ok.ensures.found ∙ ap (λ (o : ℕ). o ∷ c.in-Ok.others.now) c.if-opcode-eq-REPEAT.true in
-    (block_begins c.args.place.left _ _ _ _ _ c.loop-opcode.invariant.stands is c.count_at-count.ensures.fields c.count_at-count.ensures.small c.in-None.ensures.none).2
+    (block_begins c.args.place.left _ _ _ _ _ c.loop-opcode.invariant.stands is c.count_at-count.ensures.fields c.count_at-count.ensures.small
+    c.in-None.ensures.none).2
 
 -- a step
 pub returns-else-opcode-eq-REPEAT-clause-front : goal.returns-else-opcode-eq-REPEAT-clause-front

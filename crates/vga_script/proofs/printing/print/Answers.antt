@@ -11,7 +11,8 @@ use Rattle.vga_script.proofs.printing.print.Goals as goal
 pub print_items-requires-clause-spelled : goal.print_items-requires-clause-spelled
 print_items-requires-clause-spelled c =
     let e = c.as_bytes.ensures in
-    subst₂ (λ (v : Version) (l : List ℕ). SpellsItems v l (items_in l)) (sym c.version-version.ensures) (sym c.split_at.ensures.back) (items_spelled c.as_bytes.result.now c.args.script.now e.spelled).1
+    subst₂ (λ (v : Version) (l : List ℕ). SpellsItems v l (items_in l)) (sym c.version-version.ensures) (sym c.split_at.ensures.back)
+    (items_spelled c.as_bytes.result.now c.args.script.now e.spelled).1
 
 pub print_items-requires-clause-few : goal.print_items-requires-clause-few
 print_items-requires-clause-few c =
@@ -24,5 +25,6 @@ print_items-requires-clause-few c =
 -- the line of the version, and the items
 pub returns-clause-ok : goal.returns-clause-ok
 returns-clause-ok c =
-    script_printed c.as_bytes.result.now _ _ _ _ c.split_at.result.1.now c.version-version.result c.args.script.now c.as_bytes.ensures.spelled c.version-version.ensures c.new-out.ensures.items c.in_ok-append.ensures.ok c.version_text.ensures
+    script_printed c.as_bytes.result.now _ _ _ _ c.split_at.result.1.now c.version-version.result c.args.script.now c.as_bytes.ensures.spelled
+    c.version-version.ensures c.new-out.ensures.items c.in_ok-append.ensures.ok c.version_text.ensures
     c.split_at.ensures.back c.in_ok-print_items.ensures.ok

@@ -51,7 +51,28 @@ returns-clause-past_the_end c =
     let rest : List ℕ = 0x0C ∷ 0x04 ∷ 0 ∷ 0xFF ∷ 0xFF ∷ 2 ∷ 0 ∷ [] in
     inr (
       omega arith,
-      (listing One [], 5, rest, begins One rest, inl (refl, inl (inr (0, 0xFFFF, 2, [], omega arith, omega arith, refl, λ h. let end = h.3 in absurd (omega arith)), no_blocks rest))),
+      (
+        listing One [],
+        5,
+        rest,
+        begins One rest,
+        inl (
+          refl,
+          inl (
+            inr (
+              0,
+              0xFFFF,
+              2,
+              [],
+              omega arith,
+              omega arith,
+              refl,
+              λ h. let end = h.3 in absurd (omega arith),
+            ),
+            no_blocks rest,
+          ),
+        ),
+      ),
     )
 
 pub returns-clause-no_block : goal.returns-clause-no_block

@@ -17,7 +17,10 @@ returns-clause-good c = (
   lines (codes "out 3c4 2 ; map mask\nINT ax=13\n"),
   (refl, refl),
   (
-    record { lines = codes "out 3c4 2 ; map mask" ∷ []; items = Once (Out 0x3C4 2) ∷ [] } ∷ record { lines = codes "INT ax=13" ∷ []; items = Once (Int 0x13 0 0 0 []) ∷ [] } ∷ record { lines = [] ∷ []; items = [] } ∷ [],
+    record { lines = codes "out 3c4 2 ; map mask" ∷ []; items = Once (Out 0x3C4 2) ∷ [] } ∷ record {
+      lines = codes "INT ax=13" ∷ [];
+      items = Once (Int 0x13 0 0 0 []) ∷ [];
+    } ∷ record { lines = [] ∷ []; items = [] } ∷ [],
     refl,
     refl,
     (
@@ -26,7 +29,25 @@ returns-clause-good c = (
         Out 0x3C4 2 ∷ [],
         refl,
         refl,
-        (Out 0x3C4 2, refl, refl, (codes "3c4", codes "2", refl, (omega arith, (omega arith, (lt_test _ _ refl, (lt_test _ _ refl, (lt_test _ _ refl, tt))), refl)), (omega arith, (omega arith, (lt_test _ _ refl, tt), refl)))),
+        (
+          Out 0x3C4 2,
+          refl,
+          refl,
+          (
+            codes "3c4",
+            codes "2",
+            refl,
+            (
+              omega arith,
+              (
+                omega arith,
+                (lt_test _ _ refl, (lt_test _ _ refl, (lt_test _ _ refl, tt))),
+                refl,
+              ),
+            ),
+            (omega arith, (omega arith, (lt_test _ _ refl, tt), refl)),
+          ),
+        ),
       ),
       (
         inl (
@@ -34,7 +55,24 @@ returns-clause-good c = (
           Int 0x13 0 0 0 [] ∷ [],
           refl,
           refl,
-          (Int 0x13 0 0 0 [], refl, refl, (codes "ax=13" ∷ [], [], [], [], [], refl, inr (codes "ax=", codes "13", refl, refl, (omega arith, (omega arith, (lt_test _ _ refl, (lt_test _ _ refl, tt)), refl))), inl (refl, refl), inl (refl, refl), inl (refl, refl), inl (refl, refl))),
+          (
+            Int 0x13 0 0 0 [],
+            refl,
+            refl,
+            (
+              codes "ax=13" ∷ [],
+              [],
+              [],
+              [],
+              [],
+              refl,
+              inr (codes "ax=", codes "13", refl, refl, (omega arith, (omega arith, (lt_test _ _ refl, (lt_test _ _ refl, tt)), refl))),
+              inl (refl, refl),
+              inl (refl, refl),
+              inl (refl, refl),
+              inl (refl, refl),
+            ),
+          ),
         ),
         (inl ([], [], refl, refl, refl), tt),
       ),
@@ -70,6 +108,17 @@ returns-clause-bad c =
           few = omega arith;
           number = refl;
         },
-        inl (refl, (line, [], refl, (λ steps. line_bad _ (codes "out") (codes "3C4" ∷ []) keyword.Out steps refl refl refl, λ allowed count h. absurd allowed))),
+        inl (
+          refl,
+          (
+            line,
+            [],
+            refl,
+            (
+              λ steps. line_bad _ (codes "out") (codes "3C4" ∷ []) keyword.Out steps refl refl refl,
+              λ allowed count h. absurd allowed,
+            ),
+          ),
+        ),
       ),
     )

@@ -24,5 +24,7 @@ loop-row-preserved g c =
 pub returns : goal.returns
 returns g c =
     let e = c.last_row-row-end.ensures in
-    let t = c.loop-row-test.false in
-    (written_all _ _ _ _ _ c.loop-row.invariant (rows_none c.args.card.now c.args.bda.now (c.args.bda.now.last_row + 1) c.loop-row.row (omega arith)), c.loop-row.invariant.sound)
+    let t = c.loop-row-test.false in (
+      written_all _ _ _ _ _ c.loop-row.invariant (rows_none c.args.card.now c.args.bda.now (c.args.bda.now.last_row + 1) c.loop-row.row (omega arith)),
+      c.loop-row.invariant.sound,
+    )

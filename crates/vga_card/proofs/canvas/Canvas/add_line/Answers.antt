@@ -16,7 +16,8 @@ put_line-requires-clause-room g c =
     let v = c.beam-line.result.line in
     let n = c.args.count * g.row.CW in
     let here = ap (λ (b : Beam). b.line) c.beam-line.ensures.value in
-    let room = line_shown _ _ a.widths.items a.line v n c.self.view_is (omega (arith, here, c.requires.lines)) (omega (arith, here, c.requires.after)) c.requires.few (λ same. c.requires.room (sym here ∙ same)) in
+    let room = line_shown _ _ a.widths.items a.line v n c.self.view_is (omega (arith, here, c.requires.lines)) (omega (arith, here, c.requires.after))
+    c.requires.few (λ same. c.requires.room (sym here ∙ same)) in
     omega (arith, bytes_fit a.buffer.cap bytes a.widths.items a.line v n c.self.invariant.1 room, length-take a.used a.buffer.items)
 
 pub invariant_of-self : goal.invariant_of-self
@@ -32,10 +33,14 @@ invariant_of-self g c =
     let long : length row ≡ 3 * n = omega (arith, length-take (3 * n) drawn.row, drawn.long, count) in
     let within : v < length a.widths.items = omega (arith, here) in
     let was = get_or_read a.widths.items v c.index_mut-width.result.now within c.index_mut-width.ensures.value 0 in
-    let room = line_shown _ _ a.widths.items a.line v n c.self.view_is (omega (arith, here, c.requires.lines)) (omega (arith, here, c.requires.after)) c.requires.few (λ same. c.requires.room (sym here ∙ same)) in
+    let room = line_shown _ _ a.widths.items a.line v n c.self.view_is (omega (arith, here, c.requires.lines)) (omega (arith, here, c.requires.after))
+    c.requires.few (λ same. c.requires.room (sym here ∙ same)) in
     let whole = drawn.whole ∙ ap (λ m. bytes ++ take m drawn.row) (sym count) in
-    rw (whole, was)
-    (c.put_line.ensures.len, roomier a.buffer.cap _ _ _ _ c.put_line.ensures.capacity (canvas_more a.buffer.cap bytes row a.widths.items a.line v n c.self.invariant.1 room long))
+    rw (whole, was) (
+      c.put_line.ensures.len,
+      roomier a.buffer.cap _ _ _ _ c.put_line.ensures.capacity
+          (canvas_more a.buffer.cap bytes row a.widths.items a.line v n c.self.invariant.1 room long),
+    )
 
 pub returns-clause-dots : goal.returns-clause-dots
 returns-clause-dots g c =
@@ -59,4 +64,5 @@ returns-clause-dots g c =
     (stored_line a.widths.items bytes row v n within later c.self.invariant.1.counted
     ∙ ap (λ (s : CanvasState). s.dots ++ dots_from (replicate n v) row) c.self.view_is
     ∙ ap (λ m. old ++ dots_from (replicate n v) (take m drawn.row)) count
-    ∙ ap (λ (x : List Dot). old ++ x) (appended_line c.args.display.now g.row.CW n v drawn.row drawn.blank c.requires.width some c.requires.shown (ap (λ m. m * g.row.CW) c.requires.count) here drawn.drawn drawn.long))
+    ∙ ap (λ (x : List Dot). old ++ x) (appended_line c.args.display.now g.row.CW n v drawn.row drawn.blank c.requires.width some c.requires.shown
+    (ap (λ m. m * g.row.CW) c.requires.count) here drawn.drawn drawn.long))

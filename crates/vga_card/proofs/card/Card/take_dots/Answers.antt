@@ -11,7 +11,8 @@ pub loop-left-smaller-then-dots_in_line-left : goal.loop-left-smaller-then-dots_
 loop-left-smaller-then-dots_in_line-left c =
     let a = c.self-in-loop-left.inside in
     let s = c.loop-left.self in
-    let count : c.dots_in_line-left.result ≡ line_count s = c.dots_in_line-left.ensures.value ∙ ap (λ w. dots_in_line w a.crtc.registers a.crtc.beam) c.loop-left.invariant.1
+    let count : c.dots_in_line-left.result ≡ line_count s = c.dots_in_line-left.ensures.value
+    ∙ ap (λ w. dots_in_line w a.crtc.registers a.crtc.beam) c.loop-left.invariant.1
     ∙ ap (λ (x : CardState). dots_in_line (character_width s) x.crtc.registers x.crtc.beam) c.self-in-loop-left.view_is in
     some_taken c.loop-left.left c.dots_in_line-left.result s count (omega arith)
 
@@ -20,16 +21,22 @@ loop-left-preserved-then-dots_in_line-left c =
     let a = c.self-in-loop-left.inside in
     let s = c.loop-left.self in
     let same : c.dots_in_line-left.result ≡ c.dots_in_line.result = c.dots_in_line-left.ensures.value ∙ sym c.dots_in_line.ensures.value in
-    let count : c.dots_in_line-left.result ≡ line_count s = c.dots_in_line-left.ensures.value ∙ ap (λ w. dots_in_line w a.crtc.registers a.crtc.beam) c.loop-left.invariant.1
+    let count : c.dots_in_line-left.result ≡ line_count s = c.dots_in_line-left.ensures.value
+    ∙ ap (λ w. dots_in_line w a.crtc.registers a.crtc.beam) c.loop-left.invariant.1
     ∙ ap (λ (x : CardState). dots_in_line (character_width s) x.crtc.registers x.crtc.beam) c.self-in-loop-left.view_is in
-    let taken : c.take_line.new.self ≡ dots (line_count s) s = c.take_line.ensures in
-    (line_went c.loop-left.left c.dots_in_line-left.result s c.take_line.new.self _ (omega (arith, same)) count taken c.loop-left.invariant.0, c.loop-left.invariant.1 ∙ width_kept (line_count s) s c.take_line.new.self taken)
+    let taken : c.take_line.new.self ≡ dots (line_count s) s = c.take_line.ensures in (
+      line_went c.loop-left.left c.dots_in_line-left.result s c.take_line.new.self _ (omega (arith, same)) count taken c.loop-left.invariant.0,
+      c.loop-left.invariant.1 ∙ width_kept (line_count s) s c.take_line.new.self taken,
+    )
 
 pub loop-left-preserved : goal.loop-left-preserved
 loop-left-preserved c =
     let s = c.loop-left.self in
-    let taken : c.take_dot.new.self ≡ dot s = c.take_dot.ensures in
-    (dot_went c.loop-left.left s c.take_dot.new.self _ (omega arith) taken c.loop-left.invariant.0, c.loop-left.invariant.1 ∙ width_kept_dot s c.take_dot.new.self taken)
+    let taken : c.take_dot.new.self ≡ dot s = c.take_dot.ensures in (
+      dot_went c.loop-left.left s c.take_dot.new.self _ (omega arith) taken c.loop-left.invariant.0,
+      c.loop-left.invariant.1
+          ∙ width_kept_dot s c.take_dot.new.self taken,
+    )
 
 pub returns : goal.returns
 returns c =

@@ -13,12 +13,19 @@ use Rattle.vga_card.proofs.card.Card.take_line.Goals as goal
 
 pub draw_row-requires-clause-place : goal.draw_row-requires-clause-place
 draw_row-requires-clause-place c =
-    rw (ap (λ (x : DisplayState). x.crtc) c.new-display.ensures, c.take_start.ensures.started, c.clear_at_first_dot.ensures.line, c.clear_at_first_dot.ensures.width, c.beam.ensures.value) (drawn_started c.start_is_taken_once.ensures.place c.self.inside.crtc 0 _ _ c.self.invariant)
+    rw (
+      ap (λ (x : DisplayState). x.crtc) c.new-display.ensures,
+      c.take_start.ensures.started,
+      c.clear_at_first_dot.ensures.line,
+      c.clear_at_first_dot.ensures.width,
+      c.beam.ensures.value,
+    ) (drawn_started c.start_is_taken_once.ensures.place c.self.inside.crtc 0 _ _ c.self.invariant)
 
 pub draw_row-requires-clause-start : goal.draw_row-requires-clause-start
 draw_row-requires-clause-start c =
     let here = subst (λ (x : CardState). IsLineStart x.crtc.beam) (sym c.self.view_is) c.requires in
-    rw (ap (λ (x : DisplayState). x.crtc) c.new-display.ensures, c.take_start.ensures.started) (started_start c.start_is_taken_once.ensures.place c.self.inside.crtc here)
+    rw (ap (λ (x : DisplayState). x.crtc) c.new-display.ensures, c.take_start.ensures.started)
+    (started_start c.start_is_taken_once.ensures.place c.self.inside.crtc here)
 
 pub invariant_of-self : goal.invariant_of-self
 invariant_of-self c =
@@ -32,8 +39,11 @@ returns c =
     let here = subst (λ (x : CardState). IsLineStart x.crtc.beam) (sym c.self.view_is) c.requires in
     let draws = c.draw_row.ensures.dots
     ∙ ap (λ (x : DisplayState). c.clear_at_first_dot.new.canvas.dots ++ line_dots x) c.new-display.ensures
-    ∙ ap (λ (x : CrtcState). c.clear_at_first_dot.new.canvas.dots ++ line_dots (record { host = a.host; crtc = x; attr = a.attr; dac = a.dac })) c.take_start.ensures.started
-    ∙ ap (λ (dots : List Dot). dots ++ line_dots (started_display old)) (c.clear_at_first_dot.ensures.dots ∙ ap (λ (b : Beam). fresh_dots b a.canvas.dots) c.beam.ensures.value) in
+    ∙ ap (λ (x : CrtcState). c.clear_at_first_dot.new.canvas.dots ++ line_dots (record { host = a.host; crtc = x; attr = a.attr; dac = a.dac }))
+    c.take_start.ensures.started
+    ∙ ap (λ (dots : List Dot). dots ++ line_dots (started_display old)) (c.clear_at_first_dot.ensures.dots
+    ∙ ap (λ (b : Beam). fresh_dots b a.canvas.dots) c.beam.ensures.value) in
     let moves = rw (c.take_start.ensures.started, c.character_width-width.ensures.value) at c.step_line.ensures in
-    line_is c.start_is_taken_once.ensures.place c.start_is_taken_once.ensures.dots c.beam_in_line.ensures.place c.beam_in_line.ensures.count c.frame_ends.ensures
+    line_is c.start_is_taken_once.ensures.place c.start_is_taken_once.ensures.dots c.beam_in_line.ensures.place c.beam_in_line.ensures.count
+    c.frame_ends.ensures
     old c.step_line.new.self c.draw_row.new.canvas.dots here moves draws ∙ ap (λ (x : CardState). dots (line_count x) x) c.self.view_is

@@ -11,5 +11,6 @@ pub returns-else-is_display-clause-dots : goal.returns-else-is_display-clause-do
 returns-else-is_display-clause-dots c =
     let d = c.args.display.now in
     let old = c.args.canvas.now.dots in
-    let past = is_hidden d.crtc.registers d.crtc.beam c.requires.start.character (ap (λ (k : CrtcState). is_display k.registers k.beam) (sym c.crtc-crtc.ensures) ∙ sym c.is_display.ensures.value ∙ c.if-is_display.false) in
+    let past = is_hidden d.crtc.registers d.crtc.beam c.requires.start.character (ap (λ (k : CrtcState). is_display k.registers k.beam)
+    (sym c.crtc-crtc.ensures) ∙ sym c.is_display.ensures.value ∙ c.if-is_display.false) in
     sym (ap (λ x. old ++ x) (hidden_line d (host_width d.host) refl (wide _) past) ∙ append-nil old)

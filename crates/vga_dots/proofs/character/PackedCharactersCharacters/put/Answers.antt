@@ -15,7 +15,8 @@ returns g c =
     let n = c.args.counter in
     let memory = d.host.memory in
     let address = fetch_address d.crtc.registers n in
-    let fetched : (p v : ℕ) → v ≡ of_plane c.load-fetched.result p → of_plane (bytes_at memory address) p ≡ byte_at memory p address → v ≡ byte_at memory p address =
+    let fetched : (p v : ℕ) → v ≡ of_plane c.load-fetched.result p → of_plane (bytes_at memory address) p ≡ byte_at memory p address →
+    v ≡ byte_at memory p address =
     λ p v e same. e ∙ ap (λ l. of_plane l p) c.load-fetched.ensures ∙ ap (λ m. of_plane (bytes_at m c.fetch_address-address.result) p) c.planes.ensures
     ∙ ap (λ o. of_plane (bytes_at memory o) p) c.fetch_address-address.ensures ∙ same in
     let colour : (q : List ℕ) (v w : ℕ) → q ≡ masked c.dac-dac.result.now v → v ≡ w → q ≡ masked d.dac w =

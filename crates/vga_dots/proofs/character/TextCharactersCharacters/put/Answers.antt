@@ -23,11 +23,15 @@ returns g c =
     let back = c.shade_in-back.result in
     let fetched = c.cell_at-cell.result in
     let ground = c.background.result in
-    let is_cell : fetched ≡ cell d n = c.cell_at-cell.ensures ∙ ap (λ (x : HostState). cell_at x c.fetch_address.result) c.host.ensures ∙ ap (cell_at d.host) c.fetch_address.ensures in
-    let is_fore = c.shade_in-fore.ensures ∙ ap (λ t. slice_index_or t (fetched.attribute % 16) []) draws.table ∙ shades_at d.attr d.dac (fetched.attribute % 16) (omega arith)
+    let is_cell : fetched ≡ cell d n = c.cell_at-cell.ensures ∙ ap (λ (x : HostState). cell_at x c.fetch_address.result) c.host.ensures
+    ∙ ap (cell_at d.host) c.fetch_address.ensures in
+    let is_fore = c.shade_in-fore.ensures ∙ ap (λ t. slice_index_or t (fetched.attribute % 16) []) draws.table
+    ∙ shades_at d.attr d.dac (fetched.attribute % 16) (omega arith)
     ∙ ap (shade d.attr d.dac) (low fetched.attribute) ∙ ap (λ (x : Cell). shade d.attr d.dac (field x.attribute 3 0)) is_cell in
     let is_back = c.shade_in-back.ensures ∙ ap (λ t. slice_index_or t ground []) draws.table ∙ shades_at d.attr d.dac ground c.background.ensures.small
-    ∙ ap (shade d.attr d.dac) (background_of d.host d.crtc d.attr c.args.self.now.line draws.line fetched _ c.background.ensures.value ∙ ap (background d.attr) is_cell) in
-    dots_alike g.row.CW c.args.at (λ i. if is_set c.lit_dots-lit.result (8 - i) then fore else back) (λ i. source_colour d (dot_of n i)) c.args.row.now c.put_glyph.new.row c.put_glyph.ensures
+    ∙ ap (shade d.attr d.dac) (background_of d.host d.crtc d.attr c.args.self.now.line draws.line fetched _ c.background.ensures.value
+    ∙ ap (background d.attr) is_cell) in
+    dots_alike g.row.CW c.args.at (λ i. if is_set c.lit_dots-lit.result (8 - i) then fore
+    else back) (λ i. source_colour d (dot_of n i)) c.args.row.now c.put_glyph.new.row c.put_glyph.ensures
     (λ i l. text_dot d n fore back (is_set c.lit_dots-lit.result (8 - i)) i draws.shows is_fore is_back
     (c.lit_dots-lit.ensures.dots i (omega (arith, l, c.requires.width)) ∙ ap (is_foreground d.host d.crtc d.attr (dot_of n i)) is_cell))

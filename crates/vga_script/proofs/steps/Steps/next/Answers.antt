@@ -5,7 +5,8 @@ use Rattle.vga_script.proofs.steps.Steps.next.Goals as goal
 -- nothing is left
 pub returns-then-is_empty-clause-taken : goal.returns-then-is_empty-clause-taken
 returns-then-is_empty-clause-taken c =
-    let is : c.args.self.now ≡ [] = sym c.self.view_is ∙ none_left c.self.inside.left c.self.inside.body.now c.self.inside.rest.now c.self.invariant (search rules) in (is, is)
+    let is : c.args.self.now ≡ [] = sym c.self.view_is ∙ none_left c.self.inside.left c.self.inside.body.now c.self.inside.rest.now c.self.invariant
+    (search rules) in (is, is)
 
 -- a step stands here
 pub invariant_of-self : goal.invariant_of-self
@@ -21,8 +22,10 @@ returns-then-is_empty-2-clause-taken c =
 
 -- a step stands behind marks
 pub invariant_of-self-in-Ok-step_at : goal.invariant_of-self-in-Ok-step_at
-invariant_of-self-in-Ok-step_at c = (step_taken c.skip_marks-place.result.left _ _ _ _ c.skip_marks-place.ensures.reached.stands c.in-Ok-step_at.ensures.found).1
+invariant_of-self-in-Ok-step_at c = (step_taken c.skip_marks-place.result.left _ _ _ _ c.skip_marks-place.ensures.reached.stands
+    c.in-Ok-step_at.ensures.found).1
 
 pub returns-in-Err-clause-taken : goal.returns-in-Err-clause-taken
 returns-in-Err-clause-taken c =
-    absurd (is_found c.skip_marks-place.result.rest.now c.in-Err.field-0 c.skip_marks-place.ensures.front (search rules) (λ is. c.in-Err.ensures.bad (cc)) (λ is. c.in-Err.ensures.cut (cc)))
+    absurd (is_found c.skip_marks-place.result.rest.now c.in-Err.field-0 c.skip_marks-place.ensures.front (search rules) (λ is. c.in-Err.ensures.bad (cc))
+    (λ is. c.in-Err.ensures.cut (cc)))
