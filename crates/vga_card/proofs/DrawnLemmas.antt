@@ -3,6 +3,8 @@ use Rattle.std.proofs.Common.{◌≡◌, ◌∙◌, ℕ, ◌+◌, ◌/◌, ◌%�
 use Rattle.std.specs.Prelude.{◌==◌}
 use Rattle.vga_bits.specs.declared.refusal.Refusal.{Refusal}
 use Rattle.vga_host.specs.Address.{is_decoded}
+use Rattle.vga_bits.specs.declared.paired_port.PairedPort.TheVariants.{Data}
+use Rattle.vga_host.specs.declared.group.Group.TheVariants.{Sequencer, Graphics}
 use Rattle.vga_host.specs.Ports.{is_refused_out, is_refused_inp}
 use Rattle.vga_crtc.specs.Ports.{is_refused_out as is_refused_crtc, is_refused_inp as is_refused_crtc_inp}
 use Rattle.vga_attr.specs.Attr.{is_refused_write, is_refused_read}
@@ -42,7 +44,7 @@ out_kept c (Some AttributeRegister) v = refl
 out_kept c (Some MiscellaneousWrite) v = refl
 out_kept c (Some SubsystemEnable) v = refl
 out_kept c (Some SequencerIndex) v = refl
-out_kept c (Some SequencerData) v = written_kept (is_refused_out c.host 0x3C5 v) c _ refl
+out_kept c (Some SequencerData) v = written_kept (is_refused_out c.host Sequencer Data v) c _ refl
 out_kept c (Some DacMask) v = refl
 out_kept c (Some DacReadIndex) v = refl
 out_kept c (Some DacWriteIndex) v = refl
@@ -50,9 +52,9 @@ out_kept c (Some DacData) v = refl
 out_kept c (Some FeatureControl) v = refl
 out_kept c (Some MiscellaneousRead) v = refl
 out_kept c (Some GraphicsIndex) v = refl
-out_kept c (Some GraphicsData) v = written_kept (is_refused_out c.host 0x3CF v) c _ refl
+out_kept c (Some GraphicsData) v = written_kept (is_refused_out c.host Graphics Data v) c _ refl
 out_kept c (Some CrtcIndex) v = refl
-out_kept c (Some CrtcData) v = written_kept (is_refused_crtc c.crtc true v) c _ refl
+out_kept c (Some CrtcData) v = written_kept (is_refused_crtc c.crtc Data v) c _ refl
 out_kept c (Some InputStatus1) v = refl
 
 inp_kept : (c : CardState) (reached : Option Port) → (inp_at c reached).0.drawn ≡ c.drawn
@@ -63,7 +65,7 @@ inp_kept c (Some AttributeRegister) = answered_kept (is_refused_read c.attr) c c
 inp_kept c (Some MiscellaneousWrite) = refl
 inp_kept c (Some SubsystemEnable) = refl
 inp_kept c (Some SequencerIndex) = refl
-inp_kept c (Some SequencerData) = answered_kept (is_refused_inp c.host 0x3C5) c c _ refl
+inp_kept c (Some SequencerData) = answered_kept (is_refused_inp c.host Sequencer Data) c c _ refl
 inp_kept c (Some DacMask) = refl
 inp_kept c (Some DacReadIndex) = refl
 inp_kept c (Some DacWriteIndex) = refl
@@ -71,9 +73,9 @@ inp_kept c (Some DacData) = refl
 inp_kept c (Some FeatureControl) = refl
 inp_kept c (Some MiscellaneousRead) = refl
 inp_kept c (Some GraphicsIndex) = refl
-inp_kept c (Some GraphicsData) = answered_kept (is_refused_inp c.host 0x3CF) c c _ refl
+inp_kept c (Some GraphicsData) = answered_kept (is_refused_inp c.host Graphics Data) c c _ refl
 inp_kept c (Some CrtcIndex) = refl
-inp_kept c (Some CrtcData) = answered_kept (is_refused_crtc_inp c.crtc true) c c _ refl
+inp_kept c (Some CrtcData) = answered_kept (is_refused_crtc_inp c.crtc Data) c c _ refl
 inp_kept c (Some InputStatus1) = refl
 
 pub out_drawn : (c : CardState) (port v : ℕ) → (out_cycle c port v).0.drawn ≡ c.drawn

@@ -1,6 +1,8 @@
 -- What every plan keeps: the adapter's bounds, and the beam.
 use Rattle.std.proofs.Common.{◌≡◌, ℕ, Bool, true, false, Option, Some, None, refl, ◌∙◌}
 use Rattle.std.specs.Prelude.{slice_index, slice_set, bit_and, not, ◌==◌, if◌then◌else◌}
+use Rattle.vga_bits.specs.declared.paired_port.PairedPort.{PairedPort}
+use Rattle.vga_bits.specs.declared.paired_port.PairedPort.TheVariants.{Index, Data}
 use Rattle.vga_crtc.specs.Crtc.{CrtcState}
 use Rattle.vga_crtc.specs.Ports.{after_out as after_crtc, is_write_protected}
 use Rattle.vga_card.specs.declared.port.Port.{Port}
@@ -54,10 +56,10 @@ read_where_beam true c x v e = e
 read_where_beam false c x v e = refl
 
 -- whatever of its tests is true, a write to the CRT controller moves no beam
-crtc_beam : (c : CrtcState) (at_data : Bool) (v : ℕ) → (after_crtc c at_data v).beam ≡ c.beam
+crtc_beam : (c : CrtcState) (port : PairedPort) (v : ℕ) → (after_crtc c port v).beam ≡ c.beam
 unfolding after_crtc
-crtc_beam c false v = refl
-crtc_beam c true v = by_test (is_write_protected c)
+crtc_beam c Index v = refl
+crtc_beam c Data v = by_test (is_write_protected c)
   where
     by_test : (b : Bool) → (let x : CrtcState = (if not b then record c {
       registers =
@@ -91,8 +93,8 @@ out_beam c (Some FeatureControl) v = refl
 out_beam c (Some MiscellaneousRead) v = refl
 out_beam c (Some GraphicsIndex) v = refl
 out_beam c (Some GraphicsData) v = unless_beam _ c _ refl
-out_beam c (Some CrtcIndex) v = crtc_beam c.crtc false v
-out_beam c (Some CrtcData) v = unless_beam _ c _ (crtc_beam c.crtc true v)
+out_beam c (Some CrtcIndex) v = crtc_beam c.crtc Index v
+out_beam c (Some CrtcData) v = unless_beam _ c _ (crtc_beam c.crtc Data v)
 out_beam c (Some InputStatus1) v = refl
 
 inp_beam : (c : CardState) (reached : Option Port) → (inp_at c reached).0.crtc.beam ≡ c.crtc.beam
