@@ -106,27 +106,26 @@ impl Band {
         }
     }
 
-    /// Copies to the rows from one to another what stands n rows below, the highest first.
+    /// Copies to some rows from `top` on what stands n rows below, the highest first.
     #[tactic(auto, using(crate::proofs::PlanRuns::run_bind), unfolding(crate::specs::Bands::raise_rows))]
-    fn raise_rows<B: Bus>(self, bus: &mut B, n: u32, top: u32, end: u32)
+    fn raise_rows<B: Bus>(self, bus: &mut B, n: u32, top: u32, count: u32)
         requires band { IsBand self }
-        requires end { end + n ≤ reached_rows }
-        ensures { bus.new ≡ (run B.meaning (raise_rows_plan self n top (end - top)) bus.old).0 }
+        requires rows { top + count + n ≤ reached_rows }
+        ensures { bus.new ≡ (run B.meaning (raise_rows_plan self n top count) bus.old).0 }
     {
-        for row in top..end {
+        for row in top..top + count {
             self.copy_row(bus, row + n, row);
         }
     }
 
-    /// Copies the rows from one to another to n rows below, the lowest first.
+    /// Copies some rows from `top` on to n rows below, the lowest first.
     #[tactic(auto, using(crate::proofs::PlanRuns::run_bind), unfolding(crate::specs::Bands::lower_rows))]
-    fn lower_rows<B: Bus>(self, bus: &mut B, n: u32, top: u32, end: u32)
+    fn lower_rows<B: Bus>(self, bus: &mut B, n: u32, top: u32, count: u32)
         requires band { IsBand self }
-        requires end { end + n ≤ reached_rows }
-        requires order { top ≤ end }
-        ensures { bus.new ≡ (run B.meaning (lower_rows_plan self n top (end - top)) bus.old).0 }
+        requires rows { top + count + n ≤ reached_rows }
+        ensures { bus.new ≡ (run B.meaning (lower_rows_plan self n top count) bus.old).0 }
     {
-        for row in (top..end).rev() {
+        for row in (top..top + count).rev() {
             self.copy_row(bus, row, row + n);
         }
     }
@@ -156,37 +155,35 @@ impl Band {
         }
     }
 
-    /// Fills the rows from one to another.
+    /// Fills some rows from `top` on.
     #[tactic(auto, using(crate::proofs::PlanRuns::run_bind), unfolding(crate::specs::Bands::fill_rows))]
-    fn fill_rows<B: Bus>(self, bus: &mut B, filling: Filling, top: u32, end: u32)
+    fn fill_rows<B: Bus>(self, bus: &mut B, filling: Filling, top: u32, count: u32)
         requires band { IsBand self }
-        requires end { end ≤ reached_rows }
-        ensures { bus.new ≡ (run B.meaning (fill_rows_plan self filling top (end - top))
-            bus.old).0 }
+        requires rows { top + count ≤ reached_rows }
+        ensures { bus.new ≡ (run B.meaning (fill_rows_plan self filling top count) bus.old).0 }
     {
-        for row in top..end {
+        for row in top..top + count {
             self.fill_row(bus, filling, row);
         }
     }
 
-    /// Fills the rows from one to another with an attribute or a colour.
+    /// Fills some rows from `top` on with an attribute or a colour.
     #[tactic(auto, using(crate::proofs::PlanRuns::run_bind), unfolding(crate::specs::Bands::fill_plan))]
-    fn fill<B: Bus>(self, bus: &mut B, colour: u8, top: u32, end: u32)
+    fn fill<B: Bus>(self, bus: &mut B, colour: u8, top: u32, count: u32)
         requires band { IsBand self }
-        requires end { end ≤ reached_rows }
-        ensures { bus.new ≡ (run B.meaning (fill_plan self.kind self colour top (end - top))
-            bus.old).0 }
+        requires rows { top + count ≤ reached_rows }
+        ensures { bus.new ≡ (run B.meaning (fill_plan self.kind self colour top count) bus.old).0 }
     {
         by_kind!(
             self.kind,
-            Text => self.fill_rows(bus, Filling::blank(colour), top, end),
+            Text => self.fill_rows(bus, Filling::blank(colour), top, count),
             Planar => {
-                self.fill_rows(bus, Filling::plain(0x00), top, end);
+                self.fill_rows(bus, Filling::plain(0x00), top, count);
                 sequencer(bus, MAP_MASK, colour % 16);
-                self.fill_rows(bus, Filling::plain(ALL_BITS), top, end);
+                self.fill_rows(bus, Filling::plain(ALL_BITS), top, count);
                 sequencer(bus, MAP_MASK, ALL_PLANES);
             },
-            Packed => self.fill_rows(bus, Filling::plain(colour), top, end),
+            Packed => self.fill_rows(bus, Filling::plain(colour), top, count),
         )
     }
 
@@ -200,9 +197,9 @@ impl Band {
     {
         let kept = height - n;
         set_access(bus, self.kind, COPY_LATCHES);
-        self.raise_rows(bus, n, top, top + kept);
+        self.raise_rows(bus, n, top, kept);
         set_access(bus, self.kind, PLAIN);
-        self.fill(bus, colour, top + kept, top + height);
+        self.fill(bus, colour, top + kept, n);
     }
 
     /// Scrolls rows down by n: so many of the first are filled then.
@@ -215,8 +212,8 @@ impl Band {
     {
         let kept = height - n;
         set_access(bus, self.kind, COPY_LATCHES);
-        self.lower_rows(bus, n, top, top + kept);
+        self.lower_rows(bus, n, top, kept);
         set_access(bus, self.kind, PLAIN);
-        self.fill(bus, colour, top, top + n);
+        self.fill(bus, colour, top, n);
     }
 }

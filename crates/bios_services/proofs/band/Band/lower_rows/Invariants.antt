@@ -8,5 +8,5 @@ abbrev pub invariant-loop-row : goal.invariant-loop-row
 invariant-loop-row g l = record {
   above : l.top ≤ l.row;
   left : run g.B.Bus.meaning (each_down (λ row. copy_row l.self row (row + l.n)) (l.row - l.top) l.top) l.bus
-      ≡ run g.B.Bus.meaning (lower_rows l.self l.n l.top (l.end - l.top)) l.fn.bus;
+      ≡ run g.B.Bus.meaning (lower_rows l.self l.n l.top l.count) l.fn.bus;
 }
