@@ -19,11 +19,8 @@ pub(crate) struct Palette {
 fn read_values(attr: &Attr) -> [u8; 16]
     ensures { result ≡ take 16 attr.now.registers }
 {
-    attr.bounds();
     let mut values = [0; 16];
-    for i in 0..16 {
-        values[i] = attr.regs(i);
-    }
+    values.copy_from_slice(&attr.regs()[..16]);
     values
 }
 

@@ -12,39 +12,6 @@ use bios_modes::{Bda, ModeRow, is_text};
 use vga_attr::Attr;
 use vga_card::Card;
 use vga_crtc::Crtc;
-use vga_host::Host;
-
-/// The registers of the sequencer.
-fn sequencer_of(host: &Host) -> [u8; 5]
-    ensures { result ≡ host.now.seq }
-{
-    host.bounds();
-    [
-        host.seq(0),
-        host.seq(1),
-        host.seq(2),
-        host.seq(3),
-        host.seq(4),
-    ]
-}
-
-/// The registers of the graphics controller.
-fn graphics_of(host: &Host) -> [u8; 9]
-    ensures { result ≡ host.now.gfx }
-{
-    host.bounds();
-    [
-        host.gfx(0),
-        host.gfx(1),
-        host.gfx(2),
-        host.gfx(3),
-        host.gfx(4),
-        host.gfx(5),
-        host.gfx(6),
-        host.gfx(7),
-        host.gfx(8),
-    ]
-}
 
 /// Whether the registers that memory cycles look at are the mode's.
 fn shows_memory(card: &Card, row: &ModeRow) -> bool
@@ -52,8 +19,8 @@ fn shows_memory(card: &Card, row: &ModeRow) -> bool
 {
     let regs = card.regs();
     regs.misc == row.misc
-        && sequencer_of(regs.host) == row.sequencer
-        && graphics_of(regs.host) == row.graphics
+        && *regs.host.seq() == row.sequencer
+        && *regs.host.gfx() == row.graphics
 }
 
 /// Whether the data are those of the mode, and the page is one of its pages.
@@ -96,7 +63,7 @@ fn location_of(bda: &Bda, crtc: &Crtc) -> u32
         let cell = bda.columns() as u32 * (place / 256) as u32 + (place % 256) as u32;
         bda.size() as u32 * bda.page() as u32 / 2 + cell
     } else {
-        256 * crtc.regs(0x0E) as u32 + crtc.regs(0x0F) as u32
+        256 * crtc.regs()[0x0E] as u32 + crtc.regs()[0x0F] as u32
     }
 }
 
@@ -121,37 +88,11 @@ fn wanted_registers(bda: &Bda, crtc: &Crtc, row: &ModeRow) -> [u8; 25]
     registers
 }
 
-/// Whether the CRT controller has these registers.
-fn has_registers(crtc: &Crtc, wanted: &[u8]) -> bool
-    requires { length wanted.now ≡ 25 }
-    ensures { result ≡ bytes_eq crtc.now.registers wanted.now }
-{
-    crtc.bounds();
-    for i in 0..25 {
-        if crtc.regs(i) != wanted[i] {
-            return false;
-        }
-    }
-    true
-}
-
 /// The registers of the attribute controller behind the overscan.
-fn registers_behind_overscan(attr: &Attr) -> [u8; 3]
-    ensures { result ≡ drop 0x12 attr.now.registers }
+fn behind_overscan(registers: &[u8; 21]) -> &[u8]
+    ensures { result.now ≡ drop 0x12 registers.now }
 {
-    attr.bounds();
-    [attr.regs(0x12), attr.regs(0x13), attr.regs(0x14)]
-}
-
-/// Those of a mode.
-fn row_behind_overscan(row: &ModeRow) -> [u8; 3]
-    ensures { result ≡ drop 0x12 row.now.attribute }
-{
-    [
-        row.attribute[0x12],
-        row.attribute[0x13],
-        row.attribute[0x14],
-    ]
+    &registers[0x12..]
 }
 
 /// Whether the attribute controller shows its palette, and its registers are the mode's but for
@@ -159,9 +100,10 @@ fn row_behind_overscan(row: &ModeRow) -> [u8; 3]
 fn shows_attribute(attr: &Attr, row: &ModeRow) -> bool
     ensures { result ≡ shows_attribute_of row.now attr.now }
 {
+    let registers = attr.regs();
     attr.is_palette_shown()
-        && attr.regs(0x10) & 0xF7 == row.attribute[0x10] & 0xF7
-        && registers_behind_overscan(attr) == row_behind_overscan(row)
+        && registers[0x10] & 0xF7 == row.attribute[0x10] & 0xF7
+        && behind_overscan(registers) == behind_overscan(&row.attribute)
 }
 
 /// Whether the CRT controller shows the active page of data that are those of the mode.
@@ -170,7 +112,7 @@ fn shows_page(crtc: &Crtc, bda: &Bda, row: &ModeRow) -> bool
     requires data { shows_data_of row.now bda.now ≡ true }
     ensures { result ≡ bytes_eq crtc.now.registers (crtc_shown row.now bda.now crtc.now.registers) }
 {
-    has_registers(crtc, &wanted_registers(bda, crtc, row))
+    *crtc.regs() == wanted_registers(bda, crtc, row)
 }
 
 /// Whether the adapter and the data show a screen of the mode.

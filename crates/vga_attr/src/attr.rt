@@ -1,5 +1,5 @@
 //! The attribute controller's registers, its index, and the flip-flop of port 3C0.
-ghost use Rattle.std.specs.Prelude.{◌≡◌, ◌<◌, ◌↔◌, IsTrue, OnOk, IfOk, IfErr, IsErr, slice_index};
+ghost use Rattle.std.specs.Prelude.{◌≡◌, ◌<◌, ◌↔◌, IsTrue, OnOk, IfOk, IfErr, IsErr};
 
 mod fields;
 
@@ -145,12 +145,11 @@ impl Attr {
         self.is_data = false;
     }
 
-    /// What register `i`, 0 to 20, holds.
-    pub fn regs(&self, i: usize) -> u8
-        requires { i < 21 }
-        ensures { result ≡ slice_index self.now.registers i }
+    /// What the registers hold, from register 0 to 20.
+    pub fn regs(&self) -> &[u8; 21]
+        ensures { result.now ≡ self.now.registers }
     {
-        self.registers.read(i)
+        self.registers.values()
     }
 
     /// Whether the next write is data.

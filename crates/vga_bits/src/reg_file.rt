@@ -48,6 +48,13 @@ impl<const N: usize> RegFile<N> {
         self.values[i]
     }
 
+    /// What each register holds, from register 0.
+    pub fn values(&self) -> &[u8; N]
+        ensures { result.now ≡ self.now.values }
+    {
+        &self.values
+    }
+
     /// Register `i`, below N, keeps the bits of `v` under its mask. The others stay.
     #[tactic(auto, using(crate::proofs::RegisterLemmas::kept_set))]
     pub fn write(&mut self, i: usize, v: u8)

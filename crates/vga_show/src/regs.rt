@@ -1,19 +1,17 @@
 //! All registers as text.
-ghost use Rattle.std.specs.Prelude.{◌≡◌, ◌+◌, ◌≤◌, [], ◌∷◌, ◌++◌, length, false};
+ghost use Rattle.std.specs.Prelude.{◌≡◌, ◌+◌, ◌*◌, ◌≤◌, [], ◌∷◌, ◌++◌, length, false};
 ghost use Rattle.vga_bits.specs.Tracked.{inner_of, has_failed, Writes};
 ghost use Rattle.vga_show.specs.Lines.{room};
-ghost use Rattle.vga_show.specs.Regs.{misc_line, seq_line, crtc_line, gfx_line, attr_line};
+ghost use Rattle.vga_show.specs.Regs.{misc_line, group_line, attr_line};
 ghost use Rattle.vga_show.specs.Regs.{component_letter as component_letter_of, dac_line};
 ghost use Rattle.vga_show.specs.Regs.{regs_text as regs_text_of};
 
-use super::text::{DumpText, push_byte};
+use super::text::{DumpText, push_byte, push_bytes};
 use std::io::Write;
 use vga_attr::Attr;
 use vga_bits::{Fault, Tracked, write_whole};
 use vga_card::{Card, Regs};
-use vga_crtc::Crtc;
 use vga_dac::{Component, Dac};
-use vga_host::Host;
 
 /// Puts the line of the miscellaneous output register at the end.
 #[tactic(auto, using(crate::proofs::TextLemmas::joins), unfolding(crate::specs::Regs::misc_line))]
@@ -27,56 +25,24 @@ fn push_misc(text: &mut DumpText, misc: u8)
     text.push(b"\n");
 }
 
-/// Puts the line of the sequencer at the end.
-#[tactic(auto, using(crate::proofs::TextLemmas::listing), unfolding(crate::specs::Regs::seq_line))]
-fn push_seq(text: &mut DumpText, host: &Host)
-    requires { length text.old + 23 ≤ room }
-    ensures items { text.new ≡ text.old ++ seq_line host.now }
-    ensures len { length text.new ≡ length text.old + 23 }
+/// Puts the line of a group at the end: its name, its index, and what its registers hold.
+#[tactic(auto, using(crate::proofs::TextLemmas::joins))]
+fn push_group(text: &mut DumpText, name: &[u8], index: u8, registers: &[u8])
+    requires { length text.old + length name.now + 3 * length registers.now + 5 ≤ room }
+    ensures items { text.new ≡ text.old
+        ++ group_line name.now index (length registers.now) registers.now }
+    ensures len { length text.new
+        ≡ length text.old + length name.now + 3 * length registers.now + 5 }
 {
-    text.push(b"seq");
-    push_byte(text, host.seq_index());
+    text.push(name);
+    push_byte(text, index);
     text.push(b":");
-    for i in 0..5 {
-        push_byte(text, host.seq(i));
-    }
-    text.push(b"\n");
-}
-
-/// Puts the line of the CRT controller at the end.
-#[tactic(auto, using(crate::proofs::TextLemmas::listing), unfolding(crate::specs::Regs::crtc_line))]
-fn push_crtc(text: &mut DumpText, crtc: &Crtc)
-    requires { length text.old + 84 ≤ room }
-    ensures items { text.new ≡ text.old ++ crtc_line crtc.now }
-    ensures len { length text.new ≡ length text.old + 84 }
-{
-    text.push(b"crtc");
-    push_byte(text, crtc.index());
-    text.push(b":");
-    for i in 0..25 {
-        push_byte(text, crtc.regs(i));
-    }
-    text.push(b"\n");
-}
-
-/// Puts the line of the graphics controller at the end.
-#[tactic(auto, using(crate::proofs::TextLemmas::listing), unfolding(crate::specs::Regs::gfx_line))]
-fn push_gfx(text: &mut DumpText, host: &Host)
-    requires { length text.old + 35 ≤ room }
-    ensures items { text.new ≡ text.old ++ gfx_line host.now }
-    ensures len { length text.new ≡ length text.old + 35 }
-{
-    text.push(b"gfx");
-    push_byte(text, host.gfx_index());
-    text.push(b":");
-    for i in 0..9 {
-        push_byte(text, host.gfx(i));
-    }
+    push_bytes(text, registers);
     text.push(b"\n");
 }
 
 /// Puts the line of the attribute controller at the end.
-#[tactic(auto, using(crate::proofs::TextLemmas::listing), unfolding(crate::specs::Regs::attr_line))]
+#[tactic(auto, using(crate::proofs::TextLemmas::joins), unfolding(crate::specs::Regs::attr_line))]
 fn push_attr(text: &mut DumpText, attr: &Attr)
     requires { length text.old + 74 ≤ room }
     ensures items { text.new ≡ text.old ++ attr_line attr.now }
@@ -85,9 +51,7 @@ fn push_attr(text: &mut DumpText, attr: &Attr)
     text.push(b"attr");
     push_byte(text, attr.read_index());
     text.push(if attr.is_data() { b" d:" } else { b" i:" });
-    for i in 0..21 {
-        push_byte(text, attr.regs(i));
-    }
+    push_bytes(text, attr.regs());
     text.push(b"\n");
 }
 
@@ -120,7 +84,7 @@ fn push_dac(text: &mut DumpText, dac: &Dac)
 }
 
 /// The six lines of all registers.
-#[tactic(auto, using(crate::proofs::TextLemmas::joins))]
+#[tactic(auto, using(crate::proofs::TextLemmas::joins), unfolding(crate::specs::Regs::seq_line, crate::specs::Regs::crtc_line, crate::specs::Regs::gfx_line))]
 fn regs_text(card: &Card) -> DumpText
     ensures { result ≡ regs_text_of card.now }
 {
@@ -133,9 +97,9 @@ fn regs_text(card: &Card) -> DumpText
     } = card.regs();
     let mut text = DumpText::new();
     push_misc(&mut text, misc);
-    push_seq(&mut text, host);
-    push_crtc(&mut text, crtc);
-    push_gfx(&mut text, host);
+    push_group(&mut text, b"seq", host.seq_index(), host.seq());
+    push_group(&mut text, b"crtc", crtc.index(), crtc.regs());
+    push_group(&mut text, b"gfx", host.gfx_index(), host.gfx());
     push_attr(&mut text, attr);
     push_dac(&mut text, dac);
     text

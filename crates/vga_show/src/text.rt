@@ -1,7 +1,8 @@
 //! The text of a dump: words, each behind a blank.
-ghost use Rattle.std.specs.Prelude.{◌≡◌, ◌+◌, ◌≤◌, ◌++◌, length, codes, decimal};
+ghost use Rattle.std.specs.Prelude.{◌≡◌, ◌+◌, ◌*◌, ◌≤◌, ◌++◌, length, slice_index, codes};
+ghost use Rattle.std.specs.Prelude.{decimal};
 ghost use Rattle.vga_bits.specs.Hex.{hex_byte, hex_word};
-ghost use Rattle.vga_show.specs.Lines.{room};
+ghost use Rattle.vga_show.specs.Lines.{room, behind_blanks, hex_bytes};
 
 /// Room for the longest text: a line of 256 bytes of a plane.
 const ROOM: usize = 782;
@@ -17,6 +18,19 @@ pub(crate) fn push_byte(text: &mut DumpText, v: u8)
 {
     text.push(b" ");
     text.push_hex_byte(v);
+}
+
+/// Puts a blank and two digits for each of some bytes at the end.
+#[tactic(auto, using(crate::proofs::TextLemmas::listing))]
+pub(crate) fn push_bytes(text: &mut DumpText, bytes: &[u8])
+    requires { length text.old + 3 * length bytes.now ≤ room }
+    ensures items { text.new ≡ text.old ++ behind_blanks
+        (hex_bytes (slice_index bytes.now) 0 (length bytes.now)) }
+    ensures len { length text.new ≡ length text.old + 3 * length bytes.now }
+{
+    for i in 0..bytes.len() {
+        push_byte(text, bytes[i]);
+    }
 }
 
 /// Puts a blank and the four digits of a word at the end.
