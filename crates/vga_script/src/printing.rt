@@ -35,79 +35,46 @@ fn end_line(out: &mut Vec<u8>, mut line: Line) -> Result<(), Fault>
     append(out, line.as_slice())
 }
 
-/// Prints a name and a port. It fails with `OutOfMemory` alone.
-#[tactic(auto, unfolding(crate::specs::Printing::line_of))]
-fn print_port(out: &mut Vec<u8>, name: &[u8], port: u16) -> Result<(), Fault>
+/// The line of a name and a port.
+fn port_line(name: &[u8], port: u16) -> Line
     requires { length name.now ≤ 16 }
-    ensures ok { OnOk result (out.new.items ≡ out.old.items
-        ++ line_of (name.now ∷ port_text port ∷ [])) }
-    ensures err { IsOkUnless result Fault.OutOfMemory }
+    ensures items { result ≡ name.now ++ (codes " " ++ port_text port) }
+    ensures len { length result ≤ 25 }
 {
     let mut line = Line::new();
     line.push(name);
     line.push(b" ");
     push_port(&mut line, port);
-    end_line(out, line)
+    line
 }
 
-/// Prints a name, a port, and a value of so many digits. It fails with `OutOfMemory` alone.
-#[tactic(auto, unfolding(crate::specs::Printing::line_of))]
-fn print_port_and_value(
-    out: &mut Vec<u8>,
-    name: &[u8],
-    port: u16,
-    value: u16,
-    digits: usize,
-) -> Result<(), Fault>
-    requires name { length name.now ≤ 16 }
-    requires digits { digits ≤ 4 }
-    ensures ok { OnOk result (out.new.items ≡ out.old.items
-        ++ line_of (name.now ∷ port_text port ∷ hex digits value ∷ [])) }
-    ensures err { IsOkUnless result Fault.OutOfMemory }
-{
-    let mut line = Line::new();
-    line.push(name);
-    line.push(b" ");
-    push_port(&mut line, port);
-    line.push(b" ");
-    line.push_hex(value as u32, digits);
-    end_line(out, line)
-}
-
-/// Prints a name and an address. It fails with `OutOfMemory` alone.
-#[tactic(auto, unfolding(crate::specs::Printing::line_of))]
-fn print_address(out: &mut Vec<u8>, name: &[u8], address: u32) -> Result<(), Fault>
+/// The line of a name and an address.
+fn address_line(name: &[u8], address: u32) -> Line
     requires { length name.now ≤ 16 }
-    ensures ok { OnOk result (out.new.items ≡ out.old.items
-        ++ line_of (name.now ∷ address_text address ∷ [])) }
-    ensures err { IsOkUnless result Fault.OutOfMemory }
+    ensures items { result ≡ name.now ++ (codes " " ++ address_text address) }
+    ensures len { length result ≤ 25 }
 {
     let mut line = Line::new();
     line.push(name);
     line.push(b" ");
     push_address(&mut line, address);
-    end_line(out, line)
+    line
 }
 
-/// Prints a name, an address, and a value of so many digits. It fails with `OutOfMemory` alone.
-#[tactic(auto, unfolding(crate::specs::Printing::line_of))]
-fn print_address_and_value(
+/// Puts a value of so many digits, and a newline behind it, at the end of a line, and the line at
+/// the end of a text. It fails with `OutOfMemory` alone.
+fn end_with_value(
     out: &mut Vec<u8>,
-    name: &[u8],
-    address: u32,
+    mut line: Line,
     value: u16,
     digits: usize,
 ) -> Result<(), Fault>
-    requires name { length name.now ≤ 16 }
+    requires line { length line ≤ 25 }
     requires digits { digits ≤ 4 }
     ensures ok { OnOk result (out.new.items ≡ out.old.items
-        ++ line_of (name.now ∷ address_text address ∷ hex digits value ∷ [])) }
+        ++ (line ++ (codes " " ++ (hex digits value ++ 0x0A ∷ [])))) }
     ensures err { IsOkUnless result Fault.OutOfMemory }
 {
-    let mut line = Line::new();
-    line.push(name);
-    line.push(b" ");
-    push_address(&mut line, address);
     line.push(b" ");
     line.push_hex(value as u32, digits);
     end_line(out, line)
@@ -253,23 +220,26 @@ fn print_call(
 }
 
 /// Prints a step. It fails with `OutOfMemory` alone.
+#[tactic(auto, unfolding(crate::specs::Printing::line_of))]
 fn print_step(alloc: Global, out: &mut Vec<u8>, step: &Step<'_>) -> Result<(), Fault>
     ensures ok { OnOk result (out.new.items ≡ out.old.items ++ printed_line step.now) }
     ensures err { IsOkUnless result Fault.OutOfMemory }
 {
     match step {
-        Step::Out { port, value } => print_port_and_value(out, b"out", *port, *value as u16, 2),
-        Step::OutWord { port, value } => print_port_and_value(out, b"outw", *port, *value, 4),
-        Step::In { port } => print_port(out, b"in", *port),
-        Step::InWord { port } => print_port(out, b"inw", *port),
+        Step::Out { port, value } => {
+            end_with_value(out, port_line(b"out", *port), *value as u16, 2)
+        }
+        Step::OutWord { port, value } => end_with_value(out, port_line(b"outw", *port), *value, 4),
+        Step::In { port } => end_line(out, port_line(b"in", *port)),
+        Step::InWord { port } => end_line(out, port_line(b"inw", *port)),
         Step::Put { address, value } => {
-            print_address_and_value(out, b"put", *address, *value as u16, 2)
+            end_with_value(out, address_line(b"put", *address), *value as u16, 2)
         }
         Step::PutWord { address, value } => {
-            print_address_and_value(out, b"putw", *address, *value, 4)
+            end_with_value(out, address_line(b"putw", *address), *value, 4)
         }
-        Step::Get { address } => print_address(out, b"get", *address),
-        Step::GetWord { address } => print_address(out, b"getw", *address),
+        Step::Get { address } => end_line(out, address_line(b"get", *address)),
+        Step::GetWord { address } => end_line(out, address_line(b"getw", *address)),
         Step::Int {
             ax,
             bx,
