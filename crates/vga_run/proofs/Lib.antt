@@ -1,4 +1,3 @@
-pub mod DumpLemmas
 pub mod NumberLemmas
 pub mod ReportLemmas
 pub mod TakenLemmas

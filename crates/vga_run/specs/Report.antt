@@ -63,12 +63,6 @@ line n (Picture width height bytes) =
 line n Ragged = decimal n ++ codes " ragged\n"
 line n (Dump text) = number_text n ++ text
 
--- what stands behind the number of a step that shows something: the dump, or the name of the
--- refusal
-abbrev pub dump_or_refusal : Option Refusal → List ℕ → List ℕ
-dump_or_refusal None text = text
-dump_or_refusal (Some why) text = refusal_name why ++ codes "\n"
-
 -- the lines of the steps from this machine on, of which the first has the number n
 abbrev pub report_from : Machine → ℕ → List Step → List ℕ
 report_from m n [] = []

@@ -2,7 +2,6 @@
 #![tactic(auto)]
 
 mod answer;
-mod cell_line;
 mod laws;
 pub mod machine;
 mod numbered_line;

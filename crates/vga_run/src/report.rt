@@ -4,19 +4,18 @@ ghost use Rattle.std.specs.Prelude.{decimal};
 ghost use Rattle.vga_bits.specs.Tracked.{inner_of, has_failed, Writes};
 ghost use Rattle.vga_card.specs.Frames.{IsSmall};
 ghost use Rattle.vga_card.specs.Picture.{widest, highest};
-ghost use Rattle.vga_run.specs.Answer.{Picture, Ragged, of_drawn, of_dump};
-ghost use Rattle.vga_run.specs.Step.{after_step, after_steps, dump_text, dump_refusal};
+ghost use Rattle.vga_run.specs.Answer.{Dump, Picture, Ragged, of_drawn};
+ghost use Rattle.vga_run.specs.Step.{after_step, after_steps, dump_text};
 ghost use Rattle.vga_run.specs.Run.{WritesStep, WritesReport};
 ghost use Rattle.vga_script.specs.Step.{IsInRange, AreInRange};
 ghost use Rattle.vga_script.specs.declared.step.Step.TheVariants.{Int};
 ghost use Rattle.vga_script.specs.DumpRange.{IsShownInRange};
-ghost use Rattle.vga_run.specs.Report.{line as line_of, dump_or_refusal};
+ghost use Rattle.vga_run.specs.Report.{line as line_of};
 ghost use Rattle.vga_run.specs.Report.{picture_line as picture_line_of, last_dumps};
 ghost use Rattle.vga_show.specs.Ppm.{ppm};
 ghost use Rattle.bios_modes.specs.Valid.{IsValid};
 
 use super::answer::Answer;
-use super::cell_line::write_cells;
 use super::machine::Machine;
 use super::numbered_line::NumberedLine;
 use super::served::write_reply;
@@ -28,7 +27,7 @@ use vga_bits::{Fault, Tracked, write_whole};
 use vga_card::Drawn;
 use vga_script::{Shown, Step};
 use vga_show::{
-    dump_bda, dump_beam, dump_dac, dump_latches, dump_plane, dump_regs, ppm_length, write_ppm,
+    dump_bda, dump_beam, dump_cells, dump_dac, dump_latches, dump_plane, dump_regs, ppm_length, write_ppm,
 };
 
 /// The line of step n that stands before a picture: how many bytes the picture has.
@@ -104,15 +103,14 @@ fn write_drawn<W: Write>(out: &mut Tracked<W>, n: usize, drawn: Drawn<'_>) -> Re
     }
 }
 
-/// Writes the dump of what a step shows, behind its number, or the name of the refusal.
-#[tactic(auto, unfolding(crate::specs::Step::dump_text, crate::specs::Step::dump_refusal))]
+/// Writes the dump of what a step shows, and nothing where that is refused.
+#[tactic(auto, unfolding(crate::specs::Step::dump_text))]
 fn write_dump<W: Write>(out: &mut Tracked<W>, machine: &Machine, shown: Shown) -> Result<(), Fault>
     requires writer { has_failed out.old ≡ false }
     requires range { IsShownInRange shown }
     requires valid { IsValid machine.now.bda }
     ensures { Writes (W.contents (inner_of out.old)) (W.contents (inner_of out.new))
-        (has_failed out.new) result (dump_or_refusal (dump_refusal machine.now shown)
-        (dump_text machine.now shown)) }
+        (has_failed out.new) result (dump_text machine.now shown) }
 {
     match shown {
         Shown::Registers => dump_regs(out, &machine.card),
@@ -125,12 +123,15 @@ fn write_dump<W: Write>(out: &mut Tracked<W>, machine: &Machine, shown: Shown) -
             count,
         } => dump_plane(out, &machine.card, plane, offset, count),
         Shown::BiosData => dump_bda(out, &machine.bda),
-        Shown::Cells => write_cells(out, machine),
+        Shown::Cells => {
+            let _ = dump_cells(out, &machine.card, &machine.bda)?;
+            Ok(())
+        }
     }
 }
 
-/// Writes the number of step n, and the dump of what it shows, or why it is refused.
-#[tactic(auto, using(crate::proofs::DumpLemmas::writes_dump, crate::proofs::DumpLemmas::front_of_dump))]
+/// Writes the number of step n, and the dump of what it shows.
+#[tactic(auto, unfolding(crate::specs::Report::line), using(vga_bits::proofs::WritingLemmas::writes_after, vga_bits::proofs::WritingLemmas::front_of_more))]
 fn write_shown<W: Write>(
     out: &mut Tracked<W>,
     n: usize,
@@ -141,8 +142,7 @@ fn write_shown<W: Write>(
     requires range { IsShownInRange shown }
     requires valid { IsValid machine.now.bda }
     ensures { Writes (W.contents (inner_of out.old)) (W.contents (inner_of out.new))
-        (has_failed out.new) result (line_of n (of_dump (dump_refusal machine.now shown)
-        (dump_text machine.now shown))) }
+        (has_failed out.new) result (line_of n (Dump (dump_text machine.now shown))) }
 {
     write_whole(out, numbered(n).as_slice())?;
     write_dump(out, machine, shown)
@@ -227,7 +227,12 @@ pub(crate) fn write_step<W: Write>(
         }
         Step::Advance { dots } => Answer::of_write(machine.card.advance(*dots)),
         Step::Frame => return write_drawn(out, line.number(), machine.card.frame()),
-        Step::Show { shown } => return write_shown(out, line.number(), machine, *shown),
+        Step::Show { shown } => {
+            match machine.dump_refusal(*shown) {
+                None => return write_shown(out, line.number(), machine, *shown),
+                Some(why) => Answer::Refused(why),
+            }
+        }
     };
     line.write(out, answer)
 }

@@ -14,10 +14,11 @@ use std::io::Write;
 use vga_bits::{Fault, Refusal, Tracked, write_whole};
 use vga_card::Card;
 
-/// Why a mode has no cells.
-fn cells_refusal(mode: u8) -> Option<Refusal>
-    ensures { result ≡ cells_refusal_of mode }
+/// Why there are no cells to dump: `NoMode` before a mode is set, and `WrongKind` in graphics.
+pub fn cells_refusal(bda: &Bda) -> Option<Refusal>
+    ensures { result ≡ cells_refusal_of bda.now.mode }
 {
+    let mode = bda.mode();
     if mode == 0 {
         Some(Refusal::NoMode)
     } else if is_text(mode) {
@@ -84,9 +85,8 @@ fn write_rows<W: Write>(out: &mut Tracked<W>, card: &Card, bda: &Bda) -> Result<
 }
 
 /// Writes the cells of the active page in hexadecimal, a line for each row: `row 00:` and for each
-/// column a blank, character and attribute. It is refused, with `NoMode` before a mode is set and
-/// with `WrongKind` in graphics, before a byte is written. The BIOS data must be valid, and the
-/// writer must not have failed before.
+/// column a blank, character and attribute. Where `cells_refusal` has a reason it is refused, before a
+/// byte is written. The BIOS data must be valid, and the writer must not have failed before.
 ///
 /// It fails, with `WriteFault`, only where the writer does, which then has a front of the text.
 pub fn dump_cells<W: Write>(
@@ -104,7 +104,7 @@ pub fn dump_cells<W: Write>(
     ensures refused { IfSome (cells_refusal_of bda.now.mode) (λ why. (result ≡ Ok (Err why))
         × (out.new ≡ out.old)) }
 {
-    if let Some(why) = cells_refusal(bda.mode()) {
+    if let Some(why) = cells_refusal(bda) {
         return Ok(Err(why));
     }
     write_rows(out, card, bda)?;

@@ -13,7 +13,7 @@ mod text;
 
 pub use bda::dump_bda;
 pub use beam::dump_beam;
-pub use cells::dump_cells;
+pub use cells::{cells_refusal, dump_cells};
 pub use dac::dump_dac;
 pub use latches::dump_latches;
 pub use plane::dump_plane;
