@@ -1,4 +1,4 @@
--- What every call keeps: the adapter's bounds, and that BIOS data are valid and their places words.
+-- What every call keeps of the BIOS data: that they are valid, and their places words.
 use Rattle.std.proofs.Common.{◌≡◌, ◌≢◌, ℕ, zero, suc, ◌+◌, ◌-◌, ◌<◌, ◌≤◌, inl, refl, ◌∙◌, arith, List, [], ◌∷◌, length, get_or, set, replicate, Option, Some}
 use Rattle.std.proofs.Common.{None, IfSome, Bool, true, false}
 use Rattle.std.specs.Prelude.{◌==◌, ◌&&◌, nat_lt, if◌then◌else◌}
@@ -6,10 +6,8 @@ use Rattle.std.proofs.lemmas.Bool.Decides.{nat_tests}
 use Rattle.std.proofs.lemmas.List.{length-set}
 use Rattle.vga_bits.specs.declared.refusal.Refusal.{Refusal}
 use Rattle.vga_bits.specs.declared.refusal.Refusal.TheVariants.{BadPage, Outside}
-use Rattle.vga_card.specs.Bounds.{IsCard}
 use Rattle.vga_card.specs.Card.{CardState}
-use Rattle.vga_card.specs.Cycles.{out_cycle, inp_cycle, put_cycle, get_cycle}
-use Rattle.vga_card.specs.Bus.{Place, AtPort, AtAddress, Meaning, card_meaning, card_write, card_read}
+use Rattle.vga_card.specs.Bus.{Meaning, card_meaning}
 use Rattle.bios_modes.specs.declared.modes.ModeRow.{ModeRow}
 use Rattle.bios_modes.specs.Modes.{mode_row}
 use Rattle.bios_modes.specs.Heights.{row_at}
@@ -51,33 +49,6 @@ use Rattle.bios_services.specs.Service.{Outcome, Answered, answer_of, answer_wit
 use Rattle.bios_services.specs.Service.{read_cell_service, read_pixel_service, service, set_mode_plan, table_in_mode_plan, table_unless, unless}
 use Rattle.bios_services.proofs.ReasonLemmas.{neither, holds}
 use Rattle.bios_services.proofs.BoundLemmas.{set_of_valid, stays_valid, begins_valid, begins_valid_at}
-
--- ---- the adapter
-
--- that every cycle keeps the bounds, as the adapter's law has it
-pub record KeepsBounds : Type 0 where
-  pub out : (c : CardState) (port v : ℕ) → IsCard c → IsCard (out_cycle c port v).0
-  pub inp : (c : CardState) (port : ℕ) → IsCard c → IsCard (inp_cycle c port).0
-  pub put : (c : CardState) (address v : ℕ) → IsCard c → IsCard (put_cycle c address v).0
-  pub get : (c : CardState) (address : ℕ) → IsCard c → IsCard (get_cycle c address).0
-
-write_bounds : KeepsBounds → (c : CardState) (place : Place) (v : ℕ) → IsCard c → IsCard (card_write c place v).0
-write_bounds law c (AtPort port) v z = law.out c port v z
-write_bounds law c (AtAddress address) v z = law.put c address v z
-
-read_bounds : KeepsBounds → (c : CardState) (place : Place) → IsCard c → IsCard (card_read c place).0
-read_bounds law c (AtPort port) z = law.inp c port z
-read_bounds law c (AtAddress address) z = law.get c address z
-
--- so does a plan
-plan_bounds : {A : Type 0} → KeepsBounds → (p : Plan A) (c : CardState) → IsCard c → IsCard (run card_meaning p c).0
-plan_bounds law (Done a) c z = z
-plan_bounds law (Write place v rest) c z = plan_bounds law rest (card_write c place v).0 (write_bounds law c place v z)
-plan_bounds law (Read place rest) c z = plan_bounds law (rest (byte_of (card_read c place).1)) (card_read c place).0 (read_bounds law c place z)
-
-pub card_stays : KeepsBounds → (fonts : FontSet) (d : BiosData) (r : Regs) (block : List ℕ) (c : CardState) → IsCard c →
-    IsCard (run card_meaning (service fonts d r block) c).0
-card_stays law fonts d r block = plan_bounds law (service fonts d r block)
 
 -- ---- what holds of the answer of a plan, whatever bytes it reads
 

@@ -3,5 +3,5 @@ pub mod GlyphLemmas
 pub mod ReasonLemmas
 pub mod BoundLemmas
 pub mod RefusedLemmas
+pub mod CardLemmas
 pub mod KeptLemmas
-pub mod DrawnLemmas

@@ -1,7 +1,7 @@
 -- What plans leave, one after another and turn by turn.
 use Rattle.std.proofs.Common.{◌≡◌, ℕ, suc, ◌+◌, ◌-◌, ◌<◌, ◌≤◌, refl, sym, ap, ◌∙◌, arith, List, [], ◌∷◌, ◌++◌, take, set, length, append_assoc}
 use Rattle.std.proofs.lemmas.List.{take_more_set, take_all, append-nil}
-use Rattle.vga_card.specs.Bus.{Meaning}
+use Rattle.vga_card.specs.Bus.{Meaning, Place}
 use Rattle.bios_services.specs.Plan.{Plan, Done, Write, Read, ◌>>=◌, run, byte_of, each, each_down, fold, gather}
 
 -- a plan and then another leaves what the other leaves after it
@@ -9,6 +9,14 @@ pub run_bind : {S A B : Type 0} (m : Meaning S) (p : Plan A) (f : A → Plan B) 
 run_bind m (Done a) f s = refl
 run_bind m (Write place v rest) f s = run_bind m rest f (m.write s place v).0
 run_bind m (Read place rest) f s = let r = m.read s place in run_bind m (rest (byte_of r.1)) f r.0
+
+-- what each cycle keeps, a plan keeps
+pub run_keeps : {S A : Type 0} (m : Meaning S) (P : S → Type 0) → ((s : S) (place : Place) (v : ℕ) → P s → P (m.write s place v).0)
+    → ((s : S) (place : Place) → P s → P (m.read s place).0) → (p : Plan A) (s : S) → P s → P (run m p s).0
+run_keeps m P writes reads (Done a) s k = k
+run_keeps m P writes reads (Write place v rest) s k = run_keeps m P writes reads rest (m.write s place v).0 (writes s place v k)
+run_keeps m P writes reads (Read place rest) s k =
+    let r = m.read s place in run_keeps m P writes reads (rest (byte_of r.1)) r.0 (reads s place k)
 
 -- the first of some turns, and then the others
 pub run_each : {S : Type 0} (m : Meaning S) (f : ℕ → Plan (Unit {0})) (i e : ℕ) (s : S) → i < e →

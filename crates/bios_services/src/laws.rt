@@ -11,7 +11,6 @@ ghost use Rattle.bios_services.specs.Plan.{run};
 ghost use Rattle.bios_services.specs.Service.{service, RefusedDoNothing};
 
 use vga_card::Bus;
-use vga_card::laws::{bounds_stay, cycles_draw_nothing};
 
 /// A refused service leaves the bus, whichever it is, and the BIOS data.
 pub fn refused_services_do_nothing<B: Bus>()
@@ -26,14 +25,10 @@ pub fn calls_keep_bounds()
         IsCard c → IsCard (run card_meaning (service fonts d r block) c).0 }
     ensures bda { (fonts : FontSet) (d : BiosData) (r : Regs) (block : List ℕ) (c : CardState) →
         r.dx < 65536 → AreData d → AreData (run card_meaning (service fonts d r block) c).1.1 }
-{
-    bounds_stay();
-}
+{}
 
 /// No call draws a dot or takes one away: what is drawn of a frame stays.
 pub fn calls_draw_nothing()
     ensures { (fonts : FontSet) (d : BiosData) (r : Regs) (block : List ℕ) (c : CardState) →
         (run card_meaning (service fonts d r block) c).0.drawn ≡ c.drawn }
-{
-    cycles_draw_nothing();
-}
+{}

@@ -1,9 +1,10 @@
--- No cycle draws a dot, or takes one away.
+-- No cycle draws a dot, or takes one away, or moves the beam.
 use Rattle.std.proofs.Common.{◌≡◌, ◌∙◌, ℕ, ◌+◌, ◌/◌, ◌%◌, Bool, true, false, Option, Some, None, Result, Ok, Err, if◌then◌else◌, refl}
 use Rattle.std.specs.Prelude.{◌==◌}
 use Rattle.vga_bits.specs.declared.refusal.Refusal.{Refusal}
 use Rattle.vga_host.specs.Address.{is_decoded}
-use Rattle.vga_bits.specs.declared.paired_port.PairedPort.TheVariants.{Data}
+use Rattle.vga_bits.specs.declared.paired_port.PairedPort.TheVariants.{Index, Data}
+use Rattle.vga_crtc.proofs.Ports.{out_beam}
 use Rattle.vga_host.specs.declared.group.Group.TheVariants.{Sequencer, Graphics}
 use Rattle.vga_host.specs.Ports.{is_refused_out, is_refused_inp}
 use Rattle.vga_crtc.specs.Ports.{is_refused_out as is_refused_crtc, is_refused_inp as is_refused_crtc_inp}
@@ -20,75 +21,98 @@ use Rattle.vga_card.specs.Words.{both_written, both_read, out_word_cycle, inp_wo
 
 -- ---- a byte
 
-written_kept : (refused : Bool) (old new : CardState) → new.drawn ≡ old.drawn → (written_unless refused old new).0.drawn ≡ old.drawn
-written_kept true old new e = refl
-written_kept false old new e = e
+-- nothing is drawn, and the beam stays
+pub record IsStill (old new : CardState) : Type 0 where
+  pub drawn : new.drawn ≡ old.drawn
+  pub beam : new.crtc.beam ≡ old.crtc.beam
 
-answered_kept : (refused : Bool) (old new : CardState) (v : ℕ) → new.drawn ≡ old.drawn → (answered_unless refused old new v).0.drawn ≡ old.drawn
-answered_kept true old new v e = refl
-answered_kept false old new v e = e
+pub still : {old new : CardState} → new.drawn ≡ old.drawn → new.crtc.beam ≡ old.crtc.beam → IsStill old new
+still e f = record { drawn = e; beam = f }
 
-written_where_kept : (decoded : Bool) (old new : CardState) → new.drawn ≡ old.drawn → (written_where decoded old new).0.drawn ≡ old.drawn
-written_where_kept true old new e = e
-written_where_kept false old new e = refl
+pub still_after : {old mid new : CardState} → IsStill old mid → IsStill mid new → IsStill old new
+still_after a b = still (b.drawn ∙ a.drawn) (b.beam ∙ a.beam)
 
-answered_where_kept : (decoded : Bool) (old new : CardState) (v : ℕ) → new.drawn ≡ old.drawn → (answered_where decoded old new v).0.drawn ≡ old.drawn
-answered_where_kept true old new v e = e
-answered_where_kept false old new v e = refl
+unless_still : (refused : Bool) (old new : CardState) → IsStill old new → IsStill old (written_unless refused old new).0
+unless_still true old new e = still refl refl
+unless_still false old new e = e
 
-out_kept : (c : CardState) (reached : Option Port) (v : ℕ) → (out_at c reached v).0.drawn ≡ c.drawn
+answered_still : (refused : Bool) (old new : CardState) (v : ℕ) → IsStill old new → IsStill old (answered_unless refused old new v).0
+answered_still true old new v e = still refl refl
+answered_still false old new v e = e
+
+where_still : (decoded : Bool) (old new : CardState) → IsStill old new → IsStill old (written_where decoded old new).0
+where_still true old new e = e
+where_still false old new e = still refl refl
+
+answered_where_still : (decoded : Bool) (old new : CardState) (v : ℕ) → IsStill old new → IsStill old (answered_where decoded old new v).0
+answered_where_still true old new v e = e
+answered_where_still false old new v e = still refl refl
+
+out_at_still : (c : CardState) (reached : Option Port) (v : ℕ) → IsStill c (out_at c reached v).0
 unfolding out_at
-out_kept c None v = refl
-out_kept c (Some Attribute) v = written_kept (is_refused_write c.attr) c _ refl
-out_kept c (Some AttributeRegister) v = refl
-out_kept c (Some MiscellaneousWrite) v = refl
-out_kept c (Some SubsystemEnable) v = refl
-out_kept c (Some SequencerIndex) v = refl
-out_kept c (Some SequencerData) v = written_kept (is_refused_out c.host Sequencer Data v) c _ refl
-out_kept c (Some DacMask) v = refl
-out_kept c (Some DacReadIndex) v = refl
-out_kept c (Some DacWriteIndex) v = refl
-out_kept c (Some DacData) v = refl
-out_kept c (Some FeatureControl) v = refl
-out_kept c (Some MiscellaneousRead) v = refl
-out_kept c (Some GraphicsIndex) v = refl
-out_kept c (Some GraphicsData) v = written_kept (is_refused_out c.host Graphics Data v) c _ refl
-out_kept c (Some CrtcIndex) v = refl
-out_kept c (Some CrtcData) v = written_kept (is_refused_crtc c.crtc Data v) c _ refl
-out_kept c (Some InputStatus1) v = refl
+out_at_still c None v = still refl refl
+out_at_still c (Some Attribute) v = unless_still (is_refused_write c.attr) c _ (still refl refl)
+out_at_still c (Some AttributeRegister) v = still refl refl
+out_at_still c (Some MiscellaneousWrite) v = still refl refl
+out_at_still c (Some SubsystemEnable) v = still refl refl
+out_at_still c (Some SequencerIndex) v = still refl refl
+out_at_still c (Some SequencerData) v = unless_still (is_refused_out c.host Sequencer Data v) c _ (still refl refl)
+out_at_still c (Some DacMask) v = still refl refl
+out_at_still c (Some DacReadIndex) v = still refl refl
+out_at_still c (Some DacWriteIndex) v = still refl refl
+out_at_still c (Some DacData) v = still refl refl
+out_at_still c (Some FeatureControl) v = still refl refl
+out_at_still c (Some MiscellaneousRead) v = still refl refl
+out_at_still c (Some GraphicsIndex) v = still refl refl
+out_at_still c (Some GraphicsData) v = unless_still (is_refused_out c.host Graphics Data v) c _ (still refl refl)
+out_at_still c (Some CrtcIndex) v = still refl (out_beam c.crtc Index v)
+out_at_still c (Some CrtcData) v = unless_still (is_refused_crtc c.crtc Data v) c _ (still refl (out_beam c.crtc Data v))
+out_at_still c (Some InputStatus1) v = still refl refl
 
-inp_kept : (c : CardState) (reached : Option Port) → (inp_at c reached).0.drawn ≡ c.drawn
+inp_at_still : (c : CardState) (reached : Option Port) → IsStill c (inp_at c reached).0
 unfolding inp_at
-inp_kept c None = refl
-inp_kept c (Some Attribute) = refl
-inp_kept c (Some AttributeRegister) = answered_kept (is_refused_read c.attr) c c _ refl
-inp_kept c (Some MiscellaneousWrite) = refl
-inp_kept c (Some SubsystemEnable) = refl
-inp_kept c (Some SequencerIndex) = refl
-inp_kept c (Some SequencerData) = answered_kept (is_refused_inp c.host Sequencer Data) c c _ refl
-inp_kept c (Some DacMask) = refl
-inp_kept c (Some DacReadIndex) = refl
-inp_kept c (Some DacWriteIndex) = refl
-inp_kept c (Some DacData) = refl
-inp_kept c (Some FeatureControl) = refl
-inp_kept c (Some MiscellaneousRead) = refl
-inp_kept c (Some GraphicsIndex) = refl
-inp_kept c (Some GraphicsData) = answered_kept (is_refused_inp c.host Graphics Data) c c _ refl
-inp_kept c (Some CrtcIndex) = refl
-inp_kept c (Some CrtcData) = answered_kept (is_refused_crtc_inp c.crtc Data) c c _ refl
-inp_kept c (Some InputStatus1) = refl
+inp_at_still c None = still refl refl
+inp_at_still c (Some Attribute) = still refl refl
+inp_at_still c (Some AttributeRegister) = answered_still (is_refused_read c.attr) c c _ (still refl refl)
+inp_at_still c (Some MiscellaneousWrite) = still refl refl
+inp_at_still c (Some SubsystemEnable) = still refl refl
+inp_at_still c (Some SequencerIndex) = still refl refl
+inp_at_still c (Some SequencerData) = answered_still (is_refused_inp c.host Sequencer Data) c c _ (still refl refl)
+inp_at_still c (Some DacMask) = still refl refl
+inp_at_still c (Some DacReadIndex) = still refl refl
+inp_at_still c (Some DacWriteIndex) = still refl refl
+inp_at_still c (Some DacData) = still refl refl
+inp_at_still c (Some FeatureControl) = still refl refl
+inp_at_still c (Some MiscellaneousRead) = still refl refl
+inp_at_still c (Some GraphicsIndex) = still refl refl
+inp_at_still c (Some GraphicsData) = answered_still (is_refused_inp c.host Graphics Data) c c _ (still refl refl)
+inp_at_still c (Some CrtcIndex) = still refl refl
+inp_at_still c (Some CrtcData) = answered_still (is_refused_crtc_inp c.crtc Data) c c _ (still refl refl)
+inp_at_still c (Some InputStatus1) = still refl refl
+
+pub out_still : (c : CardState) (port v : ℕ) → IsStill c (out_cycle c port v).0
+out_still c port v = out_at_still c (port_of c.misc port) v
+
+pub inp_still : (c : CardState) (port : ℕ) → IsStill c (inp_cycle c port).0
+inp_still c port = inp_at_still c (port_of c.misc port)
+
+pub put_still : (c : CardState) (address v : ℕ) → IsStill c (put_cycle c address v).0
+put_still c address v = where_still (is_decoded c.host c.misc address) c _ (still refl refl)
+
+pub get_still : (c : CardState) (address : ℕ) → IsStill c (get_cycle c address).0
+get_still c address = answered_where_still (is_decoded c.host c.misc address) c _ _ (still refl refl)
 
 pub out_drawn : (c : CardState) (port v : ℕ) → (out_cycle c port v).0.drawn ≡ c.drawn
-out_drawn c port v = out_kept c (port_of c.misc port) v
+out_drawn c port v = (out_still c port v).drawn
 
 pub inp_drawn : (c : CardState) (port : ℕ) → (inp_cycle c port).0.drawn ≡ c.drawn
-inp_drawn c port = inp_kept c (port_of c.misc port)
+inp_drawn c port = (inp_still c port).drawn
 
 pub put_drawn : (c : CardState) (address v : ℕ) → (put_cycle c address v).0.drawn ≡ c.drawn
-put_drawn c address v = written_where_kept (is_decoded c.host c.misc address) c _ refl
+put_drawn c address v = (put_still c address v).drawn
 
 pub get_drawn : (c : CardState) (address : ℕ) → (get_cycle c address).0.drawn ≡ c.drawn
-get_drawn c address = answered_where_kept (is_decoded c.host c.misc address) c _ _ refl
+get_drawn c address = (get_still c address).drawn
 
 -- ---- a word
 

@@ -1,0 +1,38 @@
+-- What every plan keeps of an adapter, whatever it reads: its bounds, what is drawn, and the beam.
+use Rattle.std.proofs.Common.{◌≡◌, ℕ, refl}
+use Rattle.vga_card.specs.Bounds.{IsCard}
+use Rattle.vga_card.specs.Bus.{Place, AtPort, AtAddress, card_meaning, card_write, card_read}
+use Rattle.vga_card.specs.Card.{CardState}
+use Rattle.vga_card.proofs.BoundLemmas.{out_bounds, inp_bounds, put_bounds, get_bounds}
+use Rattle.vga_card.proofs.DrawnLemmas.{IsStill, still, still_after, out_still, inp_still, put_still, get_still}
+use Rattle.bios_services.specs.Plan.{Plan, run}
+use Rattle.bios_services.proofs.PlanRuns.{run_keeps}
+
+write_bounds : (c : CardState) (place : Place) (v : ℕ) → IsCard c → IsCard (card_write c place v).0
+write_bounds c (AtPort port) v z = out_bounds c port v z
+write_bounds c (AtAddress address) v z = put_bounds c address v z
+
+read_bounds : (c : CardState) (place : Place) → IsCard c → IsCard (card_read c place).0
+read_bounds c (AtPort port) z = inp_bounds c port z
+read_bounds c (AtAddress address) z = get_bounds c address z
+
+pub plan_bounds : {A : Type 0} (p : Plan A) (c : CardState) → IsCard c → IsCard (run card_meaning p c).0
+plan_bounds p c z = run_keeps card_meaning IsCard write_bounds read_bounds p c z
+
+write_still : (c : CardState) (place : Place) (v : ℕ) → IsStill c (card_write c place v).0
+write_still c (AtPort port) v = out_still c port v
+write_still c (AtAddress address) v = put_still c address v
+
+read_still : (c : CardState) (place : Place) → IsStill c (card_read c place).0
+read_still c (AtPort port) = inp_still c port
+read_still c (AtAddress address) = get_still c address
+
+plan_still : {A : Type 0} (p : Plan A) (c : CardState) → IsStill c (run card_meaning p c).0
+plan_still p c = run_keeps card_meaning (IsStill c) (λ s place v k. still_after k (write_still s place v)) (λ s place k. still_after k (read_still s place)) p c
+    (still refl refl)
+
+pub plan_drawn : {A : Type 0} (p : Plan A) (c : CardState) → (run card_meaning p c).0.drawn ≡ c.drawn
+plan_drawn p c = (plan_still p c).drawn
+
+pub plan_beam : {A : Type 0} (p : Plan A) (c : CardState) → (run card_meaning p c).0.crtc.beam ≡ c.crtc.beam
+plan_beam p c = (plan_still p c).beam
