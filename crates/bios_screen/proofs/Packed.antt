@@ -4,5 +4,4 @@ pub mod Pixels
 pub mod Screens
 pub mod Writes
 pub mod Scrolls
-pub mod Typing
 pub mod Cells

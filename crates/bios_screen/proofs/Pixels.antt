@@ -3,6 +3,5 @@ pub mod Cursors
 pub mod NewPixels
 pub mod Writes
 pub mod Windows
-pub mod Typing
 pub mod Reads
 pub mod Dots

@@ -8,6 +8,4 @@ pub mod Characters
 pub mod Writes
 pub mod Windows
 pub mod Scrolls
-pub mod Typing
-pub mod Glyphs
 pub mod Cells

@@ -1,6 +1,7 @@
 -- The services by their numbers, and calls.
 pub mod TextReaders
 pub mod Cursors
+pub mod Characters
 pub mod Typing
 pub mod Teletypes
 pub mod Strings

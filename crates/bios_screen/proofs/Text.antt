@@ -5,6 +5,5 @@ pub mod Cells
 pub mod NewCells
 pub mod Writes
 pub mod Windows
-pub mod Typing
 pub mod Glyphs
 pub mod Loads

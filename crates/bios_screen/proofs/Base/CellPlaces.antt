@@ -1,5 +1,5 @@
 -- Where the cells of characters lie on a page of pixels: columns and rows by division, whatever their numbers are.
-use Rattle.std.proofs.Common.{◌≡◌, ℕ, ◌+◌, ◌*◌, ◌/◌, ◌%◌, ◌<◌, ◌≤◌, ⊎_elim, ap, ◌∙◌, arith}
+use Rattle.std.proofs.Common.{◌≡◌, ℕ, ◌+◌, ◌*◌, ◌/◌, ◌%◌, ◌<◌, ◌≤◌, ⊎_elim, sym, ap, ◌∙◌, arith}
 use Rattle.std.proofs.Math.Nat.{mod-lt}
 use Rattle.std.proofs.lemmas.Bool.{cases_lt}
 use Rattle.std.proofs.lemmas.Nat.{div-mul-add, mod-mul-add, mul-add-lt, mul-le}
@@ -43,6 +43,10 @@ cell_of_strip w h q r lw lr =
 
 pub line_of_strip : (w h q r : ℕ) → 0 < w → r < h → line_of w h (strip_at w h q r) ≡ r
 line_of_strip w h q r lw lr = ap (λ n. n % h) (line_over w h q r lw) ∙ rest h (q / w) r lr
+
+-- two lines of a cell have two strips
+pub same_line : (w h q r v : ℕ) → 0 < w → r < h → v < h → strip_at w h q r ≡ strip_at w h q v → r ≡ v
+same_line w h q r v lw lr lv e = sym (line_of_strip w h q r lw lr) ∙ ap (line_of w h) e ∙ line_of_strip w h q v lw lv
 
 -- a cell of a page of so many rows has its strips there
 pub strip_within : (w h rows q r : ℕ) → 0 < w → r < h → q < w * rows → strip_at w h q r < w * (h * rows)

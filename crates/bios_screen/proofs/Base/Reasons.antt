@@ -1,11 +1,11 @@
 -- What is known where there is no reason to refuse.
-use Rattle.std.proofs.Common.{◌≡◌, ℕ, ◌<◌, refl, Bool, true, false, Option, Some, None}
-use Rattle.std.specs.Prelude.{◌==◌, nat_lt}
+use Rattle.std.proofs.Common.{◌≡◌, ℕ, ◌+◌, ◌<◌, ◌≤◌, refl, Bool, true, false, Option, Some, None}
+use Rattle.std.specs.Prelude.{◌==◌, nat_lt, nat_le}
 use Rattle.vga_bits.specs.declared.refusal.Refusal.{Refusal}
-use Rattle.vga_bits.specs.declared.refusal.Refusal.TheVariants.{BadPage, Outside, BadBlock}
+use Rattle.vga_bits.specs.declared.refusal.Refusal.TheVariants.{BadPage, Outside, CountPast, BadBlock}
 use Rattle.bios_services.specs.Cursor.{row_of, column_of}
-use Rattle.bios_services.specs.Reasons.{◌or◌, refuse_unless, no_page, outside_page, wrong_block}
-use Rattle.bios_screen.proofs.Base.Tests.{both_true, lt_is, same}
+use Rattle.bios_services.specs.Reasons.{◌or◌, refuse_unless, no_page, outside_cells, outside_page, past_cells, wrong_block}
+use Rattle.bios_screen.proofs.Base.Tests.{both_true, lt_is, le_is, same}
 use Rattle.bios_screen.proofs.Base.TypedPlaces.{Inside}
 
 -- neither of two reasons is there
@@ -29,3 +29,16 @@ place_allowed rows columns place e =
 
 pub block_allowed : (taken len : ℕ) → wrong_block taken len ≡ None → len ≡ taken
 block_allowed taken len e = same (holds (len == taken) BadBlock e)
+
+-- a cell of a page is one of so many, and so are some from it on
+pub cell_allowed : (pages page at cells : ℕ) → (no_page pages page or outside_cells cells at) ≡ None → (page < pages) × (at < cells)
+cell_allowed pages page at cells e =
+    let both = neither (no_page pages page) (outside_cells cells at) e in
+    (page_allowed pages page both.0, lt_is at cells (holds (nat_lt at cells) Outside both.1))
+
+pub cells_allowed : (pages page at count cells : ℕ) → (no_page pages page or outside_cells cells at or past_cells cells at count) ≡ None →
+    (page < pages) × (at + count ≤ cells)
+cells_allowed pages page at count cells e =
+    let both = neither (no_page pages page) (outside_cells cells at or past_cells cells at count) e in
+    let past = neither (outside_cells cells at) (past_cells cells at count) both.1 in
+    (page_allowed pages page both.0, le_is (at + count) cells (holds (nat_le (at + count) cells) CountPast past.1))

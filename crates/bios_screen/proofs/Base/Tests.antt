@@ -1,5 +1,5 @@
 -- What tests say, and what makes them so.
-use Rattle.std.proofs.Common.{◌≡◌, ℕ, ◌<◌, ◌≤◌, refl, ap, ◌∙◌, arith, Bool, true, false, Some, None}
+use Rattle.std.proofs.Common.{◌≡◌, ◌≢◌, ℕ, ◌+◌, ◌<◌, ◌≤◌, refl, ap, ◌∙◌, arith, Bool, true, false, Some, None}
 use Rattle.std.specs.Prelude.{◌==◌, ◌&&◌, nat_lt, nat_le, if◌then◌else◌}
 use Rattle.std.proofs.lemmas.Bool.Decides.{nat_tests}
 
@@ -40,3 +40,13 @@ not_lt a b m = grind (arith, nat_tests)
 
 pub not_le : (a b : ℕ) → b < a → nat_le a b ≡ false
 not_le a b m = grind (arith, nat_tests)
+
+-- what is one thing for the numbers of a run, and another for those before and behind it
+pub of_run : {Y : Type 0} (first count k : ℕ) (r x y : Y) → (first ≤ k → k < first + count → r ≡ x)
+    → (((j : ℕ) → j < count → k ≢ first + j) → r ≡ y) → r ≡ (if nat_le first k && nat_lt k (first + count) then x else y)
+of_run first count k r x y inside outside = by_tests (nat_le first k) (nat_lt k (first + count)) refl refl
+  where
+    by_tests : (a b : Bool) → nat_le first k ≡ a → nat_lt k (first + count) ≡ b → r ≡ (if a && b then x else y)
+    by_tests true true e g = inside (le_is first k e) (lt_is k (first + count) g)
+    by_tests true false e g = outside (λ j l same. let t = lt_test k (first + count) (omega arith) in cc)
+    by_tests false b e g = outside (λ j l same. let t = le_test first k (omega arith) in cc)

@@ -1,5 +1,5 @@
 -- The character at the cursor of 256 colours is the first whose glyph its pixels are.
-use Rattle.std.proofs.Common.{◌≡◌, ℕ, zero, suc, ◌+◌, ◌-◌, ◌*◌, ◌/◌, ◌%◌, ◌<◌, refl, sym, ap, ◌∙◌, subst, arith, List, ◌∷◌, Some, Bool, true, false}
+use Rattle.std.proofs.Common.{◌≡◌, ℕ, zero, suc, ◌+◌, ◌-◌, ◌*◌, ◌%◌, ◌<◌, refl, sym, ap, ◌∙◌, subst, arith, Some, Bool, true, false}
 use Rattle.std.specs.Prelude.{◌==◌, if◌then◌else◌}
 use Rattle.vga_bits.specs.Bits.{byte_of}
 use Rattle.vga_card.specs.Bounds.{IsCard}
@@ -11,31 +11,25 @@ use Rattle.bios_modes.specs.Bda.{BiosData}
 use Rattle.bios_modes.specs.Fonts.{FontSet}
 use Rattle.bios_services.specs.declared.regs.Regs.{Regs}
 use Rattle.bios_modes.specs.declared.kind.Kind.TheVariants.{Packed}
-use Rattle.bios_services.specs.declared.call.Service.TheVariants.{ReadCell}
 use Rattle.bios_services.specs.Cells.{cells_of}
-use Rattle.bios_services.specs.Drawing.{cell_band, cell_row}
-use Rattle.bios_services.specs.Glyphs.{first_character}
 use Rattle.bios_modes.specs.Kinds.{kind_of}
-use Rattle.bios_services.specs.Plan.{Plan, run, get, gather, fold, Done, ◌>>=◌}
-use Rattle.bios_services.specs.CharacterReading.{shift_dot, packed_line, line_plan, lines_plan, read_character_plan}
-use Rattle.bios_screen.specs.Listing.{listing}
+use Rattle.bios_services.specs.Cursor.{cursor_cell}
+use Rattle.bios_services.specs.Plan.{Plan, run, get, fold}
+use Rattle.bios_services.specs.CharacterReading.{shift_dot, packed_line, line_plan}
 use Rattle.bios_screen.specs.Screen.{Screen}
-use Rattle.bios_screen.specs.Shown.{packed_pixel, pixel_screen, shown}
+use Rattle.bios_screen.specs.Shown.{packed_pixel, pixel_screen}
 use Rattle.bios_screen.specs.Step.{pixel_of, cell_line}
-use Rattle.bios_screen.specs.Served.{IsServed}
-use Rattle.bios_screen.proofs.Base.Lists.{same_from_0}
 use Rattle.bios_screen.proofs.Base.Plans.{run_bind}
 use Rattle.bios_screen.proofs.Base.Kept.{KeepsBounds}
 use Rattle.bios_screen.proofs.Dots.PackedDots.{IsPacked}
 use Rattle.bios_screen.proofs.Packed.Screens as screens
 use Rattle.bios_screen.proofs.Packed.Screens.{IsFlat, get_flat}
 use Rattle.bios_screen.proofs.Packed.Writes as writes
-use Rattle.bios_screen.proofs.Planar.Glyphs.{as_dot, byte_same}
 use Rattle.bios_screen.proofs.Planar.Settings.{without_drawing}
-use Rattle.bios_screen.proofs.Planar.Writes.{column_by}
 use Rattle.bios_screen.proofs.Base.CellPlaces.{strip_at}
 use Rattle.bios_screen.proofs.Pixels.Reads as reads
-use Rattle.bios_screen.proofs.Pixels.Reads.{IsSeen}
+use Rattle.bios_screen.proofs.Pixels.Reads.{as_dot, byte_same, IsSeen}
+use Rattle.bios_screen.proofs.Text.Writes.{IsCellRead}
 
 dot_small : (n : ℕ) → as_dot n < 2
 dot_small n = by_test (n == 0)
@@ -77,11 +71,8 @@ module _ (law : KeepsBounds) (rest : CardState) where
   abbrev one : ℕ → ℕ → ℕ → Plan ℕ
   one a i x = shift_dot (0xA0000 + a + i) x
 
-  record AreShifted (a n i x : ℕ) (c : CardState) (f : ℕ → ℕ) : Type 0 where
-    still : IsFlat rest (run card_meaning (fold (one a) n i x) c).0 f
-    value : (run card_meaning (fold (one a) n i x) c).1 ≡ shifted (λ j. f (a + j)) n i x
-
-  dots_shifted : (a n i x : ℕ) (c : CardState) (f : ℕ → ℕ) → a + i + n < 65536 → IsFlat rest c f → AreShifted a n i x c f
+  dots_shifted : (a n i x : ℕ) (c : CardState) (f : ℕ → ℕ) → a + i + n < 65536 → IsFlat rest c f →
+      IsSeen (λ y. IsFlat rest y f) (fold (one a) n i x) (shifted (λ j. f (a + j)) n i x) c
   unfolding shift_dot
   dots_shifted a zero i x c f l t = record { still = t; value = refl }
   dots_shifted a (suc n) i x c f l t =
@@ -100,85 +91,41 @@ module _ (law : KeepsBounds) (rest : CardState) where
         value = ap (λ r. r.1) runs ∙ more.value ∙ ap (λ k. shifted (λ j. f (a + j)) n (i + 1) ((2 * x + as_dot k) % 256)) value;
       }
 
-  record AreLinesSeen (at : ℕ → ℕ) (n i : ℕ) (c : CardState) (f : ℕ → ℕ) : Type 0 where
-    still : IsFlat rest (run card_meaning (gather (λ r. line_plan Packed (0xA0000 + at r)) n i) c).0 f
-    value : (run card_meaning (gather (λ r. line_plan Packed (0xA0000 + at r)) n i) c).1 ≡ listing (λ r. byte_of (λ j. as_dot (f (at r + (7 - j))))) i n
-
-  lines_seen : (at : ℕ → ℕ) (n i : ℕ) (c : CardState) (f : ℕ → ℕ) → ((r : ℕ) → r < i + n → at r + 8 < 65536) → IsFlat rest c f → AreLinesSeen at n i c f
+  line_seen : (a : ℕ) (c : CardState) (f : ℕ → ℕ) → a + 8 < 65536 → IsFlat rest c f →
+      IsSeen (λ y. IsFlat rest y f) (line_plan Packed (0xA0000 + a)) (byte_of (λ j. as_dot (f (a + (7 - j))))) c
   unfolding line_plan packed_line
-  lines_seen at zero i c f within t = record { still = t; value = refl }
-  lines_seen at (suc n) i c f within t =
-      let w = within i (omega arith) in
-      let first = dots_shifted (at i) 8 0 0 c f (omega arith) t in
-      let plan = line_plan Packed (0xA0000 + at i) in
-      let more : Plan (List ℕ) = gather (λ r. line_plan Packed (0xA0000 + at r)) n (i + 1) in
-      let join : ℕ → List ℕ → Plan (List ℕ) = λ x xs. Done (x ∷ xs) in
-      let c1 = (run card_meaning plan c).0 in
-      let x = (run card_meaning plan c).1 in
-      let rest_seen = lines_seen at n (i + 1) c1 f (λ r l. within r (omega arith)) first.still in
-      let runs = run_bind card_meaning plan (λ y. more >>= join y) c ∙ run_bind card_meaning more (join x) c1 in
-      record {
-        still = subst (λ r. IsFlat rest r.0 f) (sym runs) rest_seen.still;
-        value = ap (λ r. r.1) runs ∙ ap (λ y. y ∷ (run card_meaning more c1).1) (first.value ∙ byte_shifted (λ j. f (at i + j)))
-            ∙ ap (λ ys. byte_of (λ j. as_dot (f (at i + (7 - j)))) ∷ ys) rest_seen.value;
-      }
-
--- the plan by its addresses
-abbrev seen_by : (ℕ → ℕ) → ℕ → FontSet → Plan ℕ
-seen_by at h fonts = do
-  lines ← gather (λ r. line_plan Packed (at r)) h 0
-  Done (first_character fonts h lines 256)
+  line_seen a c f l t =
+      let seen = dots_shifted a 8 0 0 c f (omega arith) t in
+      record { still = seen.still; value = seen.value ∙ byte_shifted (λ j. f (a + j)) }
 
 module _ (law : KeepsBounds) (c : CardState) (d : BiosData) (t : IsPacked c d) (e : row_at d.mode d.height ≡ Some bytes_320_by_200) (z : IsCard c) where
   abbrev s : Screen
   s = pixel_screen bytes_320_by_200 c d
 
-  abbrev w : ℕ
-  w = d.columns
-
-  abbrev h : ℕ
-  h = d.height
-
   abbrev place : ℕ → ℕ → ℕ
-  place q r = 8 * strip_at w h q r
-
-  plan_is : (fonts : FontSet) (q : ℕ) → read_character_plan (cell_band d 0 q) (cell_row d q) fonts ≡ seen_by (λ r. 0xA0000 + place q r) h fonts
-  unfolding read_character_plan lines_plan
-  plan_is fonts q =
-      let kind = ap kind_of t.number in
-      let sum : (n : ℕ) → 0xA0000 + (n + 0) ≡ 0xA0000 + n = λ n. omega arith in
-      ap (λ k. read_character_plan (column_by k d 0 (q % w)) (q / w) fonts) kind
-      ∙ ap (λ a. seen_by a h fonts) (λ j r. (writes.address_is law c d t e z q r 0 ∙ sum (place q r)) j)
+  place q r = 8 * strip_at d.columns d.height q r
 
   abbrev old : ℕ → ℕ
   old = packed_pixel c.host.memory
 
-  line_is : (q r : ℕ) → q < cells_of d → r < h → byte_of (λ j. as_dot (old (place q r + (7 - j)))) ≡ cell_line s 0 q r
+  line_is : (q r : ℕ) → q < cells_of d → r < d.height → byte_of (λ j. as_dot (old (place q r + (7 - j)))) ≡ cell_line s 0 q r
   line_is q r lq lr =
       let l = writes.strip_small law c d t e z q r lq lr in
       let all = screens.all_pixels c d t e z in
       byte_same (λ j. as_dot (old (place q r + (7 - j)))) (λ j. as_dot (pixel_of s 0 (place q r + (7 - j)))) (λ j lj.
       ap as_dot (sym (screens.pixel_is c d t e z (place q r + (7 - j)) (omega arith))))
 
-  seen_at_0 : (fonts : FontSet) (q : ℕ) → q < cells_of d → IsSeen bytes_320_by_200 c d e (screens.text c d t e z) fonts 0 q
-  seen_at_0 fonts q lq =
-      let at = place q in
-      let lines : Plan (List ℕ) = gather (λ r. line_plan Packed (0xA0000 + at r)) h 0 in
-      let after : List ℕ → Plan ℕ = λ l. Done (first_character fonts h l 256) in
-      let x = lines_seen law (without_drawing c) at h 0 c old (λ r l. let k = writes.strip_small law c d t e z q r lq (omega arith) in omega arith)
-      (screens.begins c d t e z) in
-      let runs = run_bind card_meaning lines after c in
-      let plan = plan_is fonts q in
-      record {
-        answer = ap (λ i. (run card_meaning i c).1) plan ∙ ap (λ r. r.1) runs
-            ∙ ap (λ l. first_character fonts h l 256) (x.value ∙ same_from_0 (cell_line s 0 q) (λ r. byte_of (λ j. as_dot (old (at r + (7 - j))))) h (λ r l.
-            line_is q r lq l));
-        shows = ap (λ i. shown (run card_meaning i c).0 d) plan ∙ ap (λ r. shown r.0 d) runs ∙ screens.stays c d t e z (run card_meaning lines c).0 x.still;
-      }
-
-  pub read_cell : (page : ℕ) (fonts : FontSet) (r : Regs) (block : List ℕ) → IsServed (ReadCell page) fonts r block c d s
-  read_cell page fonts r block =
-      let seen : (p q : ℕ) → p < 1 → q < cells_of d → IsSeen bytes_320_by_200 c d e (screens.text c d t e z) fonts p q = λ p q lp lq.
-      let first : 0 ≡ p = omega arith in
-      subst (λ i. IsSeen bytes_320_by_200 c d e (screens.text c d t e z) fonts i q) first (seen_at_0 fonts q lq) in
-      reads.read_cell bytes_320_by_200 c d e (screens.text c d t e z) page fonts r block seen
+  pub cell_read : (fonts : FontSet) (r : Regs) (p : ℕ) → p < bytes_320_by_200.pages → cursor_cell d p < cells_of d → IsCellRead fonts r c d p s
+  cell_read fonts r p lp lq =
+      let first : p ≡ 0 = omega arith in
+      let q = cursor_cell d 0 in
+      let l : q < cells_of d = subst (λ i. cursor_cell d i < cells_of d) first lq in
+      let rest = without_drawing c in
+      let sum : (n : ℕ) → 0xA0000 + (n + 0) ≡ 0xA0000 + n = λ n. omega arith in
+      subst (λ i. IsCellRead fonts r c d i s) (sym first)
+      (reads.cell_read bytes_320_by_200 c d fonts r 0 (screens.text c d t e z)
+      (reads.character_seen bytes_320_by_200 c d fonts 0 q Packed (λ r. 0xA0000 + place q r) (λ y. IsFlat rest y old)
+      (λ r y lr u. let seen = line_seen law rest (place q r) y old (let k = writes.strip_small law c d t e z q r l lr in omega arith) u in
+      record { still = seen.still; value = seen.value ∙ line_is q r l lr })
+      (ap kind_of t.number) refl (λ r. writes.address_is law c d t e z q r 0 ∙ sum (place q r))
+      (screens.begins c d t e z) (λ y u. screens.stays c d t e z y u)))

@@ -11,8 +11,6 @@ use Rattle.bios_modes.specs.Fonts.{FontSet}
 use Rattle.bios_services.specs.declared.regs.Regs.{Regs}
 use Rattle.bios_services.specs.declared.call.Service.TheVariants.{WritePixel, ReadPixel}
 use Rattle.bios_services.specs.Registers.{with_low}
-use Rattle.bios_services.specs.Bounds.{pages_in}
-use Rattle.bios_modes.specs.Kinds.{is_text}
 use Rattle.bios_services.specs.Plan.{Plan, run, Done, ◌>>=◌, ◌>>◌}
 use Rattle.bios_services.specs.Pixels.{dots_across, dots_down, write_pixel_plan, read_pixel_plan}
 use Rattle.bios_services.specs.Reasons.{◌or◌, no_pixels, no_page, outside_pixels}

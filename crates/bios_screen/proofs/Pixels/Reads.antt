@@ -1,78 +1,127 @@
--- Function 08 in graphics: the service around the lines of the cell at the cursor.
-use Rattle.std.proofs.Common.{◌≡◌, ℕ, ◌<◌, ap, ◌∙◌, List, Some, false}
-use Rattle.std.specs.Prelude.{if◌then◌else◌}
+-- The character at a cell of pixels is read: its lines, one after another, and the first glyph that they are.
+use Rattle.std.proofs.Common.{◌≡◌, ℕ, zero, suc, ◌+◌, ◌%◌, ◌/◌, ◌<◌, ◌≤◌, refl, sym, ap, ◌∙◌, subst, arith, List, ◌∷◌, Some, false}
+use Rattle.std.specs.Prelude.{◌==◌, if◌then◌else◌}
+use Rattle.vga_bits.specs.Bits.{byte_of}
 use Rattle.vga_card.specs.Bus.{card_meaning}
 use Rattle.vga_card.specs.Card.{CardState}
 use Rattle.bios_modes.specs.declared.modes.ModeRow.{ModeRow}
-use Rattle.bios_modes.specs.Heights.{row_at}
+use Rattle.bios_modes.specs.declared.kind.Kind.{Kind}
 use Rattle.bios_modes.specs.Bda.{BiosData}
 use Rattle.bios_modes.specs.Fonts.{FontSet}
+use Rattle.bios_modes.specs.Kinds.{is_text, kind_of}
 use Rattle.bios_services.specs.declared.regs.Regs.{Regs}
-use Rattle.bios_services.specs.declared.call.Service.TheVariants.{ReadCell}
-use Rattle.bios_services.specs.Cells.{cells_of, cell_address, read_cell_plan}
-use Rattle.bios_services.specs.Cursor.{cell_number, place_of, cursor_cell}
+use Rattle.bios_services.specs.Bands.{address_in, access_plan}
+use Rattle.bios_services.specs.Cells.{cell_address, read_cell_plan}
+use Rattle.bios_services.specs.CharacterReading.{line_plan, lines_plan, read_character_plan}
+use Rattle.bios_services.specs.Cursor.{cursor_cell}
 use Rattle.bios_services.specs.Drawing.{cell_band, cell_row}
 use Rattle.bios_services.specs.Glyphs.{first_character}
-use Rattle.bios_modes.specs.Kinds.{is_text}
-use Rattle.bios_services.specs.Plan.{Plan, run, Done, ◌>>=◌}
-use Rattle.bios_services.specs.CharacterReading.{read_character_plan}
-use Rattle.bios_services.specs.Reasons.{◌or◌, no_page, outside_cells}
-use Rattle.bios_services.specs.Refusals.{page_among, page_named, refusal_in_mode}
+use Rattle.bios_services.specs.Kinds.{row_lines}
+use Rattle.bios_services.specs.Plan.{Plan, run, Done, gather, ◌>>=◌, ◌>>◌}
 use Rattle.bios_services.specs.Registers.{with_low}
-use Rattle.bios_services.specs.Service.{plan_of, read_cell_service, Outcome}
+use Rattle.bios_services.specs.Service.{read_cell_service}
 use Rattle.bios_screen.specs.Listing.{listing}
 use Rattle.bios_screen.specs.Screen.{Screen}
 use Rattle.bios_screen.specs.Shown.{pixel_screen, shown}
-use Rattle.bios_screen.specs.Step.{page_meant, cell_line, refusal_on, next, answer_on}
-use Rattle.bios_screen.specs.Served.{IsServed}
+use Rattle.bios_screen.specs.Step.{cell_line}
 use Rattle.bios_screen.proofs.Base.Plans.{run_bind}
-use Rattle.bios_screen.proofs.Base.Kept.{plan_beam}
-use Rattle.bios_screen.proofs.Shows.Screens.{pages_are, named_page}
-use Rattle.bios_screen.proofs.Text.Writes.{cursor_allowed}
+use Rattle.bios_screen.proofs.Pixels.Writes.{column_by}
+use Rattle.bios_screen.proofs.Text.Writes.{IsCellRead}
 
-module _ (row : ModeRow) (c : CardState) (d : BiosData) (e : row_at d.mode d.height ≡ Some row) (text : is_text d.mode ≡ false) where
+-- a pixel as a dot
+abbrev pub as_dot : ℕ → ℕ
+as_dot pixel = if pixel == 0 then 0 else 1
+
+-- bytes of the same bits
+pub byte_same : (f g : ℕ → ℕ) → ((i : ℕ) → i < 8 → f i ≡ g i) → byte_of f ≡ byte_of g
+unfolding byte_of
+byte_same f g h =
+    let h0 = h 0 (omega arith) in let h1 = h 1 (omega arith) in let h2 = h 2 (omega arith) in let h3 = h 3 (omega arith) in
+    let h4 = h 4 (omega arith) in let h5 = h 5 (omega arith) in let h6 = h 6 (omega arith) in let h7 = h 7 (omega arith) in
+    omega arith
+
+-- a plan that reads answers a number, and leaves what holds
+pub record IsSeen (R : CardState → Type 0) (plan : Plan ℕ) (v : ℕ) (c : CardState) : Type 0 where
+  pub still : R (run card_meaning plan c).0
+  pub value : (run card_meaning plan c).1 ≡ v
+
+record AreSeen (R : CardState → Type 0) (plan : Plan (List ℕ)) (l : List ℕ) (c : CardState) : Type 0 where
+  still : R (run card_meaning plan c).0
+  value : (run card_meaning plan c).1 ≡ l
+
+-- the plan by its addresses
+abbrev reading : Kind → (ℕ → ℕ) → ℕ → FontSet → Plan ℕ
+reading k at n fonts = do
+  access_plan k 0x08
+  lines ← gather (λ r. line_plan k (at r)) n 0
+  access_plan k 0x00
+  Done (first_character fonts n lines 256)
+
+module _ (row : ModeRow) (c : CardState) (d : BiosData) (fonts : FontSet) (p q : ℕ) (k : Kind) (at : ℕ → ℕ) (R : CardState → Type 0) where
   abbrev s : Screen
   s = pixel_screen row c d
 
-  abbrev reading : FontSet → ℕ → Plan ℕ
-  reading fonts p = read_character_plan (cell_band d p (cursor_cell d p)) (cell_row d (cursor_cell d p)) fonts
+  abbrev h : ℕ
+  h = d.height
 
-  -- what a reading of the cell q of a page leaves and answers
-  pub record IsSeen (fonts : FontSet) (p q : ℕ) : Type 0 where
-    pub answer : (run card_meaning (read_character_plan (cell_band d p q) (cell_row d q) fonts) c).1
-        ≡ first_character fonts d.height (listing (cell_line s p q) 0 d.height) 256
-    pub shows : shown (run card_meaning (read_character_plan (cell_band d p q) (cell_row d q) fonts) c).0 d ≡ Some s
+  plan_is : kind_of d.mode ≡ k → row_lines k h ≡ h → ((r : ℕ) → address_in (column_by k d p (q % d.columns)) (q / d.columns) r 0 ≡ at r) →
+      read_character_plan (cell_band d p q) (cell_row d q) fonts ≡ reading k at h fonts
+  unfolding read_character_plan lines_plan
+  plan_is kind lines there =
+      ap (λ i. read_character_plan (column_by i d p (q % d.columns)) (q / d.columns) fonts) kind
+      ∙ ap (λ n. reading k (λ r. address_in (column_by k d p (q % d.columns)) (q / d.columns) r 0) n fonts) lines
+      ∙ ap (λ a. reading k a h fonts) (λ j r. there r j)
 
-  abbrev answered : FontSet → Regs → ℕ → Plan Regs
-  answered fonts r p = reading fonts p >>= λ character. Done (record r { ax = with_low r.ax character })
+  module _ (line : (r : ℕ) (y : CardState) → r < h → R y → IsSeen R (line_plan k (at r)) (cell_line s p q r) y) where
+    lines_seen : (n i : ℕ) (y : CardState) → i + n ≤ h → R y → AreSeen R (gather (λ r. line_plan k (at r)) n i) (listing (cell_line s p q) i n) y
+    lines_seen zero i y l t = record { still = t; value = refl }
+    lines_seen (suc n) i y l t =
+        let first = line_plan k (at i) in
+        let more : Plan (List ℕ) = gather (λ r. line_plan k (at r)) n (i + 1) in
+        let join : ℕ → List ℕ → Plan (List ℕ) = λ x xs. Done (x ∷ xs) in
+        let seen = line i y (omega arith) t in
+        let y1 = (run card_meaning first y).0 in
+        let x = (run card_meaning first y).1 in
+        let rest = lines_seen n (i + 1) y1 (omega arith) seen.still in
+        let runs = run_bind card_meaning first (λ v. more >>= join v) y ∙ run_bind card_meaning more (join x) y1 in
+        record {
+          still = subst (λ v. R v.0) (sym runs) rest.still;
+          value = ap (λ v. v.1) runs ∙ ap (λ v. v ∷ (run card_meaning more y1).1) seen.value ∙ ap (λ l. cell_line s p q i ∷ l) rest.value;
+        }
 
-  service_is : (fonts : FontSet) (r : Regs) (p : ℕ) → read_cell_service fonts p d r ≡ answered fonts r p
-  unfolding read_cell_service
-  service_is fonts r p =
-      let cell : Plan Regs = read_cell_plan (cell_address d p (cursor_cell d p)) >>= λ ax. Done (record r { ax = ax }) in
-      ap (λ b. let x : Plan Regs = (if b then cell else answered fonts r p) in x) text
+    -- from a state that shows the screen back to one
+    pub character_seen : kind_of d.mode ≡ k → row_lines k h ≡ h → ((r : ℕ) → address_in (column_by k d p (q % d.columns)) (q / d.columns) r 0 ≡ at r)
+        → R (run card_meaning (access_plan k 0x08) c).0
+        → ((y : CardState) → R y → shown (run card_meaning (access_plan k 0x00) y).0 d ≡ Some s)
+        → IsSeen (λ y. shown y d ≡ Some s) (read_character_plan (cell_band d p q) (cell_row d q) fonts)
+        (first_character fonts h (listing (cell_line s p q) 0 h) 256) c
+    character_seen kind lines there begins ends =
+        let begin : Plan (Unit {0}) = access_plan k 0x08 in
+        let end : Plan (Unit {0}) = access_plan k 0x00 in
+        let all : Plan (List ℕ) = gather (λ r. line_plan k (at r)) h 0 in
+        let found : List ℕ → Plan ℕ = λ l. Done (first_character fonts h l 256) in
+        let y = (run card_meaning begin c).0 in
+        let seen = lines_seen h 0 y (omega arith) begins in
+        let runs = ap (λ plan. run card_meaning plan c) (plan_is kind lines there)
+        ∙ run_bind card_meaning begin (λ _. all >>= λ l. end >> found l) c
+        ∙ run_bind card_meaning all (λ l. end >> found l) y
+        ∙ run_bind card_meaning end (λ _. found (run card_meaning all y).1) (run card_meaning all y).0 in
+        record {
+          still = ap (λ v. shown v.0 d) runs ∙ ends (run card_meaning all y).0 seen.still;
+          value = ap (λ v. v.1) runs ∙ ap (λ l. first_character fonts h l 256) seen.value;
+        }
 
-  pub read_cell : (page : ℕ) (fonts : FontSet) (r : Regs) (block : List ℕ) → ((p q : ℕ) → p < row.pages → q < cells_of d → IsSeen fonts p q) →
-      IsServed (ReadCell page) fonts r block c d s
-  unfolding plan_of refusal_in_mode refusal_on next answer_on
-  read_cell page fonts r block seen =
-      let p = page_meant s page in
-      let plan = read_cell_service fonts (page_named d page) d r in
-      let done : Regs → Plan Outcome = λ after. Done (after, d) in
-      let put_in : ℕ → Plan Regs = λ character. Done (record r { ax = with_low r.ax character }) in
-      let runs : run card_meaning (plan >>= done) c ≡ (let x = run card_meaning (reading fonts p) c in let y : CardState
-      × Outcome = (x.0, (record r { ax = with_low r.ax x.1 }, d)) in y) =
-      run_bind card_meaning plan done c
-      ∙ ap (λ i. let x = run card_meaning (read_cell_service fonts i d r) c in let y : CardState × Outcome = (x.0, (x.1, d)) in y) (named_page row d e page)
-      ∙ ap (λ i. let x = run card_meaning i c in let y : CardState × Outcome = (x.0, (x.1, d)) in y) (service_is fonts r p)
-      ∙ ap (λ (x : CardState × Regs). let y : CardState × Outcome = (x.0, (x.1, d)) in y) (run_bind card_meaning (reading fonts p) put_in c) in
-      record {
-        refusal = ap (λ n. no_page n (page_among n page) or outside_cells (cells_of d) (cursor_cell d (page_among n page))) (pages_are row d e);
-        answer = λ allowed.
-            let h = cursor_allowed row.pages p (cell_number d (place_of d p)) (cells_of d) allowed in
-            ap (λ q. q.1.0) runs ∙ ap (λ n. let x : Regs = record r { ax = with_low r.ax n } in x) (seen p (cursor_cell d p) h.page h.within).answer;
-        shows = λ allowed.
-            let h = cursor_allowed row.pages p (cell_number d (place_of d p)) (cells_of d) allowed in
-            ap (λ q. shown q.0 q.1.1) runs ∙ (seen p (cursor_cell d p) h.page h.within).shows;
-        beam = plan_beam (plan >>= done) c;
-      }
+-- function 08 where the character is read
+pub cell_read : (row : ModeRow) (c : CardState) (d : BiosData) (fonts : FontSet) (r : Regs) (p : ℕ) → is_text d.mode ≡ false
+    → (let s = pixel_screen row c d in let q = cursor_cell d p in
+    IsSeen (λ y. shown y d ≡ Some s) (read_character_plan (cell_band d p q) (cell_row d q) fonts)
+    (first_character fonts d.height (listing (cell_line s p q) 0 d.height) 256) c) → IsCellRead fonts r c d p (pixel_screen row c d)
+unfolding read_cell_service
+cell_read row c d fonts r p text seen =
+    let q = cursor_cell d p in
+    let answered : ℕ → Regs = λ character. record r { ax = with_low r.ax character } in
+    let dots = read_character_plan (cell_band d p q) (cell_row d q) fonts in
+    let cell : Plan Regs = read_cell_plan (cell_address d p q) >>= λ ax. Done (record r { ax = ax }) in
+    let runs = ap (λ b. let x : Plan Regs = (if b then cell else (dots >>= λ v. Done (answered v))) in run card_meaning x c) text
+    ∙ run_bind card_meaning dots (λ v. Done (answered v)) c in
+    record { answer = ap (λ x. x.1) runs ∙ ap answered seen.value; shows = ap (λ x. shown x.0 d) runs ∙ seen.still }

@@ -1,70 +1,128 @@
--- Functions 09 and 0A in graphics: what a loop of characters leaves is the next screen.
-use Rattle.std.proofs.Common.{◌≡◌, ℕ, ◌+◌, ◌<◌, ◌≤◌, sym, ap, ◌∙◌, arith, List, Some}
+-- Characters at some cells of a page of pixels, from the screen to the next, however memory has the pixels.
+use Rattle.std.proofs.Common.{◌≡◌, ◌≢◌, ℕ, ◌+◌, ◌-◌, ◌*◌, ◌/◌, ◌%◌, ◌<◌, ◌≤◌, sym, ap, ◌∙◌, arith, Some}
+use Rattle.std.specs.Prelude.{min}
+use Rattle.std.proofs.Math.Nat.{mod-lt}
+use Rattle.vga_bits.specs.Bits.{is_set}
 use Rattle.vga_card.specs.Bus.{card_meaning}
 use Rattle.vga_card.specs.Card.{CardState}
+use Rattle.bios_modes.specs.declared.kind.Kind.{Kind}
 use Rattle.bios_modes.specs.declared.modes.ModeRow.{ModeRow}
-use Rattle.bios_modes.specs.Heights.{row_at}
 use Rattle.bios_modes.specs.Bda.{BiosData}
 use Rattle.bios_modes.specs.Fonts.{FontSet}
-use Rattle.bios_services.specs.declared.regs.Regs.{Regs}
-use Rattle.bios_services.specs.declared.cell_run.CellRun.{CellRun}
+use Rattle.bios_services.specs.declared.band.Band.{Band}
 use Rattle.bios_services.specs.declared.colouring.Colouring.{Colouring}
-use Rattle.bios_services.specs.declared.call.Service.TheVariants.{WriteCells}
-use Rattle.bios_services.specs.Cells.{cells_of}
-use Rattle.bios_services.specs.CellRuns.{cell_run_plan}
-use Rattle.bios_services.specs.Cursor.{row_of, column_of, cell_number, cursor_cell, place_of}
+use Rattle.bios_services.specs.Cells.{page_address, cells_of}
 use Rattle.bios_services.specs.Drawing.{character_plan, characters_plan}
-use Rattle.bios_services.specs.Plan.{Plan, run, Done, ◌>>◌}
-use Rattle.bios_services.specs.Reasons.{◌or◌, no_page, outside_cells, past_cells}
-use Rattle.bios_services.specs.Refusals.{page_among, page_named, refusal_in_mode}
-use Rattle.bios_services.specs.Service.{plan_of, Outcome}
+use Rattle.bios_services.specs.Glyphs.{glyph_line}
+use Rattle.bios_services.specs.Kinds.{column_bytes, row_lines}
+use Rattle.bios_services.specs.Plan.{run}
 use Rattle.bios_screen.specs.Screen.{Screen}
-use Rattle.bios_screen.specs.Shown.{pixel_screen, shown}
-use Rattle.bios_screen.specs.Step.{page_meant, refusal_on, next, answer_on, with_pixels, draw_characters}
-use Rattle.bios_screen.specs.Served.{IsServed}
-use Rattle.bios_screen.proofs.Base.Plans.{run_bind, then_runs}
-use Rattle.bios_screen.proofs.Base.Places.{ends_before}
-use Rattle.bios_screen.proofs.Base.Kept.{plan_beam}
-use Rattle.bios_screen.proofs.Shows.Screens.{pages_are, named_page}
-use Rattle.bios_screen.proofs.Text.Writes.{count_allowed}
+use Rattle.bios_screen.specs.Shown.{page_pixels, pixel_screen, shown}
+use Rattle.bios_screen.specs.Step.{pixel_of, pixel_cell, pixel_line, with_pixels, glyph_pixel, draw_characters}
+use Rattle.bios_screen.proofs.Base.Flat.{Edited, Turn, Leaves}
+use Rattle.bios_screen.proofs.Base.Edits.{edits}
+use Rattle.bios_screen.proofs.Base.Tests.{of_run}
+use Rattle.bios_screen.proofs.Base.CellPlaces.{cell_of, line_of, strip_at, strip_of_cell, cell_of_strip, strip_within, pixel_cell_is, pixel_line_is}
 
--- a character is a run of one
-pub one_character : (fonts : FontSet) (d : BiosData) (p q character : ℕ) (colouring : Colouring) (c : CardState) →
-    (run card_meaning (character_plan fonts d p q character colouring) c).0 ≡ (run card_meaning (characters_plan fonts d p q character colouring 1) c).0
-unfolding characters_plan
-one_character fonts d p q character colouring c =
-    let same : q ≡ q + 0 = omega arith in
-    ap (λ i. (run card_meaning (character_plan fonts d p i character colouring) c).0) same
-    ∙ sym (then_runs (character_plan fonts d p (q + 0) character colouring) (Done tt) c)
+-- one column of a page, as the kind of memory has it
+abbrev pub column_by : Kind → BiosData → ℕ → ℕ → Band
+column_by k d page left = record {
+  kind = k;
+  start = page_address d page;
+  pitch = column_bytes k * d.columns;
+  lines = row_lines k d.height;
+  left = column_bytes k * left;
+  width = column_bytes k * (min left (d.columns - 1) + 1 - left);
+}
 
--- the cell at a place is one of its page
-pub place_within : (d : BiosData) (place : ℕ) → row_of place < d.last_row + 1 → column_of place < d.columns → cell_number d place + 1 ≤ cells_of d
-place_within d place lr lc = let a = ends_before d.columns (row_of place) (d.last_row + 1) lr in omega arith
-
-module _ (row : ModeRow) (c : CardState) (d : BiosData) (e : row_at d.mode d.height ≡ Some row) where
+-- memory has each strip of eight pixels of a page at some places, of which dot k has pixel k as a shade of what is there
+module _ (row : ModeRow) (c : CardState) (d : BiosData) (wide : 0 < d.columns) (high : 0 < d.height) (X D : Type 0) (p : ℕ) (at : ℕ → D → ℕ)
+    (dot : ℕ → D) (shade : X → ℕ → ℕ) (old : ℕ → X) (R : CardState → (ℕ → X) → Type 0) where
   abbrev s : Screen
   s = pixel_screen row c d
 
-  pub write_cells : (cells : CellRun) (fonts : FontSet) (r : Regs) (block : List ℕ)
-      → ((p q : ℕ) → p < row.pages → q + cells.count ≤ cells_of d → shown (run card_meaning
-      (characters_plan fonts d p q cells.character cells.colouring cells.count) c).0 d
-      ≡ Some (with_pixels s p (draw_characters fonts s q cells.count cells.character cells.colouring.colour)))
-      → IsServed (WriteCells cells) fonts r block c d s
-  unfolding plan_of refusal_in_mode refusal_on next answer_on
-  write_cells cells fonts r block shows =
-      let p = page_meant s cells.page in
-      let plan = cell_run_plan fonts d (page_named d cells.page) cells in
-      let done : Plan Outcome = Done (r, d) in
-      let runs = run_bind card_meaning plan (λ _. done) c in
-      record {
-        refusal = ap (λ n. let at : ℕ = cursor_cell d (page_among n cells.page) in no_page n (page_among n cells.page) or outside_cells (cells_of d) at
-            or past_cells (cells_of d) at cells.count)
-            (pages_are row d e);
-        answer = λ _. ap (λ q. q.1.0) runs;
-        shows = λ allowed.
-            let h = count_allowed row.pages p (cell_number d (place_of d p)) cells.count (cells_of d) allowed in
-            ap (λ q. shown q.0 q.1.1) runs
-            ∙ ap (λ i. shown (run card_meaning (cell_run_plan fonts d i cells) c).0 d) (named_page row d e cells.page)
-            ∙ shows p (cell_number d (place_of d p)) h.page h.within;
-        beam = plan_beam (plan >> done) c;
-      }
+  abbrev w : ℕ
+  w = d.columns
+
+  abbrev h : ℕ
+  h = d.height
+
+  abbrev strips : ℕ
+  strips = w * (h * (d.last_row + 1))
+
+  -- the places of a character, and of some one after another
+  abbrev pub Lines : Type 0
+  Lines = Turn (λ _. D) 0 h
+
+  abbrev Cells : ℕ → Type 0
+  Cells n = Turn (λ _. Lines) 0 n
+
+  -- what is known of memory: two strips have no place in common, a pixel is a shade, and other pixels are another page
+  pub record IsCanvas : Type 0 where
+    pub apart : (a b : ℕ) (x y : D) → at a x ≡ at b y → a ≡ b
+    pub pixel : (k : ℕ) → k < page_pixels d → pixel_of s p k ≡ shade (old (at (k / 8) (dot k))) k
+    pub begins : R c old
+    pub redrawn : (y : CardState) (f : ℕ → X) (change : (ℕ → ℕ) → ℕ → ℕ) → R y f
+        → ((k : ℕ) → k < page_pixels d → shade (f (at (k / 8) (dot k))) k ≡ change (pixel_of s p) k)
+        → ((o : ℕ) → ((b : ℕ) (x : D) → b < strips → o ≢ at b x) → f o ≡ old o)
+        → shown y d ≡ Some (with_pixels s p change)
+
+  -- a character that is drawn at a cell: line r of its glyph makes F r of what is there
+  module _ (is : IsCanvas) (fonts : FontSet) (character : ℕ) (colouring : Colouring) (F : ℕ → D → X → X)
+      (shaded : (k r : ℕ) (x : X) → shade (F r (dot k) x) k
+      ≡ glyph_pixel d.mode colouring.colour (is_set (glyph_line fonts h character r) (7 - k % 8)) (shade x k))
+      (drawn : (q : ℕ) (y : CardState) (f : ℕ → X) → q < cells_of d → R y f
+      → Leaves CardState X R (run card_meaning (character_plan fonts d p q character colouring) y).0
+      (Edited X Lines (λ x. at (strip_at w h q x.turn) x.place) (λ x. F x.turn x.place) f)) where
+    abbrev AreDrawn : ℕ → ℕ → (ℕ → X) → Type 0
+    AreDrawn q n f = Edited X (Cells n) (λ x. at (strip_at w h (q + x.turn) x.place.turn) x.place.place) (λ x. F x.place.turn x.place.place) old f
+
+    all_drawn : (q n : ℕ) → q + n ≤ cells_of d
+        → Leaves CardState X R (run card_meaning (characters_plan fonts d p q character colouring n) c).0 (AreDrawn q n)
+    unfolding characters_plan
+    all_drawn q n l =
+        edits CardState X card_meaning (λ i. character_plan fonts d p (q + i) character colouring) (λ _. R) 0 n (λ _. Lines)
+        (λ i x. at (strip_at w h (q + i) x.turn) x.place) (λ i x. F x.turn x.place)
+        (λ i j x y lb lo hi same.
+        let a = cell_of_strip w h (q + i) x.turn wide x.before in
+        let b = cell_of_strip w h (q + j) y.turn wide y.before in
+        let one = ap (cell_of w h) (is.apart (strip_at w h (q + i) x.turn) (strip_at w h (q + j) y.turn) x.place y.place same) in
+        absurd (omega arith))
+        (λ i y f lb lo u. drawn (q + i) y f (omega arith) u)
+        n 0 c old (omega arith) (omega arith) is.begins
+
+    pub characters_shown : (q n : ℕ) → q + n ≤ cells_of d → shown (run card_meaning (characters_plan fonts d p q character colouring n) c).0 d
+        ≡ Some (with_pixels s p (draw_characters fonts s q n character colouring.colour))
+    characters_shown q n l =
+        let after = all_drawn q n l in
+        let f = after.cells in
+        let made : ℕ → ℕ → ℕ → ℕ = λ k r x. glyph_pixel d.mode colouring.colour (is_set (glyph_line fonts h character r) (7 - k % 8)) x in
+        is.redrawn (run card_meaning (characters_plan fonts d p q character colouring n) c).0 f (draw_characters fonts s q n character colouring.colour)
+        after.shown
+        (λ k lk.
+        let b = k / 8 in
+        let i = dot k in
+        let cell = cell_of w h b in
+        let line = line_of w h b in
+        let was = is.pixel k lk in
+        let cell_is : pixel_cell s k ≡ cell = pixel_cell_is w h k wide in
+        let line_is : pixel_line s k ≡ line = pixel_line_is w h k wide in
+        of_run q n (pixel_cell s k) (shade (f (at b i)) k) (made k (pixel_line s k) (pixel_of s p k)) (pixel_of s p k)
+        (λ lo hi.
+        let u = cell - q in
+        let x : Cells n = record {
+          turn = u;
+          from = omega arith;
+          before = omega arith;
+          place = record { turn = line; from = omega arith; before = mod-lt (b / w) high; place = i };
+        } in
+        let there : q + u ≡ cell = omega arith in
+        let same : at (strip_at w h (q + u) line) i ≡ at b i = ap (λ v. at (strip_at w h v line) i) there
+        ∙ ap (λ v. at v i) (strip_of_cell w h b wide high) in
+        ap (λ v. shade (f v) k) (sym same) ∙ ap (λ v. shade v k) (after.fact.inside x) ∙ ap (λ v. shade (F line i (old v)) k) same
+        ∙ shaded k line (old (at b i)) ∙ ap (made k line) (sym was) ∙ ap (λ v. made k v (pixel_of s p k)) (sym line_is))
+        (λ out. ap (λ v. shade v k) (after.fact.outside (at b i) (λ x y.
+        let one = ap (cell_of w h) (is.apart b (strip_at w h (q + x.turn) x.place.turn) i x.place.place y) in
+        out x.turn x.before (cell_is ∙ one ∙ cell_of_strip w h (q + x.turn) x.place.turn wide x.place.before))) ∙ sym was))
+        (λ o out. after.fact.outside o (λ x. let lx = x.before in out (strip_at w h (q + x.turn) x.place.turn) x.place.place
+        (strip_within w h (d.last_row + 1) (q + x.turn) x.place.turn wide x.place.before (omega arith))))

@@ -1,53 +1,92 @@
--- The character at the cursor of sixteen colours is the first whose glyph its pixels are.
-use Rattle.std.proofs.Common.{◌≡◌, ℕ, ◌+◌, ◌-◌, ◌*◌, ◌/◌, ◌%◌, ◌<◌, refl, sym, ap, ◌∙◌, arith, List, Some}
-use Rattle.std.specs.Prelude.{slice_index}
+-- The character at a cell of sixteen colours is read from planes, which the graphics controller compares with 0.
+use Rattle.std.proofs.Common.{◌≡◌, ℕ, ◌+◌, ◌-◌, ◌*◌, ◌/◌, ◌%◌, ◌<◌, refl, sym, ap, ◌∙◌, arith, Some, true}
+use Rattle.std.specs.Prelude.{slice_index, ◌==◌, ◌&&◌, if◌then◌else◌}
+use Rattle.std.specs.Int.{bit_at}
+use Rattle.std.proofs.lemmas.Bool.Decides.{nat_tests}
+use Rattle.vga_bits.specs.Bits.{is_set, byte_of}
 use Rattle.vga_bits.specs.Four.{Four}
 use Rattle.vga_planes.specs.Planes.{bytes_at}
+use Rattle.vga_host.specs.Host.{HostState}
+use Rattle.vga_host.specs.MemoryRead.{read_bit, read_byte}
 use Rattle.vga_card.specs.Bounds.{IsCard}
 use Rattle.vga_card.specs.Bus.{card_meaning}
 use Rattle.vga_card.specs.Card.{CardState}
 use Rattle.bios_modes.specs.Heights.{row_at}
 use Rattle.bios_modes.specs.Bda.{BiosData}
 use Rattle.bios_modes.specs.Fonts.{FontSet}
-use Rattle.bios_services.specs.declared.regs.Regs.{Regs}
-use Rattle.bios_modes.specs.declared.kind.Kind.TheVariants.{Planar}
-use Rattle.bios_services.specs.declared.call.Service.TheVariants.{ReadCell}
-use Rattle.bios_services.specs.Cells.{cells_of}
-use Rattle.bios_services.specs.Cycles.{graphics}
-use Rattle.bios_services.specs.Drawing.{cell_band, cell_row}
-use Rattle.bios_services.specs.Glyphs.{first_character}
 use Rattle.bios_modes.specs.Kinds.{kind_of}
-use Rattle.bios_services.specs.Plan.{Plan, run, gather, Done, ◌>>=◌, ◌>>◌}
-use Rattle.bios_services.specs.CharacterReading.{line_plan, lines_plan, read_character_plan}
+use Rattle.bios_modes.specs.declared.kind.Kind.TheVariants.{Planar}
+use Rattle.bios_services.specs.declared.regs.Regs.{Regs}
+use Rattle.bios_services.specs.Cells.{cells_of}
+use Rattle.bios_services.specs.CharacterReading.{line_plan}
+use Rattle.bios_services.specs.Cursor.{cursor_cell}
+use Rattle.bios_services.specs.Cycles.{graphics}
+use Rattle.bios_services.specs.Plan.{run}
 use Rattle.bios_screen.specs.Screen.{Screen}
-use Rattle.bios_screen.specs.Shown.{page_pixels, pixel_screen, shown}
+use Rattle.bios_screen.specs.Shown.{page_pixels, pixel_screen}
 use Rattle.bios_screen.specs.Step.{pixel_of, cell_line}
-use Rattle.bios_screen.specs.Served.{IsServed}
-use Rattle.bios_screen.proofs.Base.Lists.{same_from_0}
-use Rattle.bios_screen.proofs.Base.Plans.{run_bind}
-use Rattle.bios_screen.proofs.Base.Kept.{KeepsBounds}
-use Rattle.bios_screen.proofs.Modes.PixelModes.{Planes, row_of}
-use Rattle.bios_screen.proofs.Dots.PlanarDots.{IsPlanar}
 use Rattle.bios_screen.proofs.Base.CellPlaces.{strip_at, strip_within}
-use Rattle.bios_screen.proofs.Planar.Settings.{at_rest, without_drawing, mode_set}
+use Rattle.bios_screen.proofs.Base.Kept.{KeepsBounds}
+use Rattle.bios_screen.proofs.Base.Setting.{host_at, reached, offset_is, get_decoded}
+use Rattle.bios_screen.proofs.Modes.PixelModes.{Planes, row_of}
+use Rattle.bios_screen.proofs.Text.Writes.{IsCellRead}
+use Rattle.bios_screen.proofs.Pixels.Reads as reads
+use Rattle.bios_screen.proofs.Pixels.Reads.{as_dot, byte_same, IsSeen}
+use Rattle.bios_screen.proofs.Dots.PlanarDots.{IsPlanar}
+use Rattle.bios_screen.proofs.Planar.Settings.{Hand, at_rest, drawing, without_drawing, get_loads, mode_set}
 use Rattle.bios_screen.proofs.Planar.Bits.{nibble_of}
 use Rattle.bios_screen.proofs.Planar.Reads.{enabled_by}
 use Rattle.bios_screen.proofs.Planar.Characters.{Drawn}
-use Rattle.bios_screen.proofs.Planar.Glyphs.{seeing, dots_of, as_dot, byte_same}
-use Rattle.bios_screen.proofs.Planar.Glyphs as glyphs
-use Rattle.bios_screen.proofs.Planar.Writes.{kind_by, base_by, column_by, address_sum}
+use Rattle.bios_screen.proofs.Planar.Writes.{kind_by}
 use Rattle.bios_screen.proofs.Planar.Writes as writes
 use Rattle.bios_screen.proofs.Planar.Screens as screens
-use Rattle.bios_screen.proofs.Pixels.Reads as reads
-use Rattle.bios_screen.proofs.Pixels.Reads.{IsSeen}
 
--- the plan by its addresses
-abbrev seen_by : (ℕ → ℕ) → ℕ → FontSet → Plan ℕ
-seen_by at h fonts = do
-  graphics 5 0x08
-  lines ← gather (λ r. line_plan Planar (at r)) h 0
-  graphics 5 0x00
-  Done (first_character fonts h lines 256)
+-- read mode 1
+abbrev pub seeing : Hand
+seeing = record { mask = 0x0F; turn = 0x00; mode = 0x08; bits = 0xFF }
+
+-- bits of four planes that are all 0
+abbrev none_of : Four ℕ → ℕ → ℕ
+none_of q i = if (bit_at q.plane0 i == 0) && ((bit_at q.plane1 i == 0) && ((bit_at q.plane2 i == 0) && (bit_at q.plane3 i == 0))) then 1 else 0
+
+abbrev nibble : Four ℕ → ℕ → ℕ
+nibble q i = bit_at q.plane0 i + 2 * bit_at q.plane1 i + 4 * bit_at q.plane2 i + 8 * bit_at q.plane3 i
+
+-- which pixels are not 0, the first as the highest bit
+abbrev pub dots_of : Four ℕ → ℕ
+dots_of q = byte_of (λ i. if nibble_of q (7 - i) == 0 then 0 else 1)
+
+byte_is : (h : HostState) (e d a : ℕ) → a < 65536 → read_byte (host_at h (drawing e d seeing)) (0xA0000 + a) ≡ byte_of (none_of (bytes_at h.memory a))
+unfolding byte_of read_bit
+byte_is h e d a l = ap (λ o. byte_of (none_of (bytes_at h.memory o))) (offset_is a l)
+
+complement : (f g : ℕ → ℕ) → ((i : ℕ) → f i + g i ≡ 1) → 255 - byte_of f ≡ byte_of g
+unfolding byte_of
+complement f g h =
+    let h0 = h 0 in let h1 = h 1 in let h2 = h 2 in let h3 = h 3 in let h4 = h 4 in let h5 = h 5 in let h6 = h 6 in let h7 = h 7 in
+    omega arith
+
+either : (q : Four ℕ) (i : ℕ) → none_of q i + (if nibble q i == 0 then 0 else 1) ≡ 1
+either q i = by_bits (bit_at q.plane0 i) (bit_at q.plane1 i) (bit_at q.plane2 i) (bit_at q.plane3 i)
+  where
+    by_bits : (a b e f : ℕ) → (if (a == 0) && ((b == 0) && ((e == 0) && (f == 0))) then 1 else 0) + (if a + 2 * b + 4 * e + 8 * f == 0 then 0 else 1) ≡ 1
+    by_bits a b e f = grind (arith, nat_tests)
+
+dots_are : (q : Four ℕ) → byte_of (λ i. if nibble q i == 0 then 0 else 1) ≡ dots_of q
+unfolding byte_of
+dots_are q = refl
+
+-- a line of a cell
+line_seen : (law : KeepsBounds) (rest : CardState) (e d : ℕ) → is_set e 1 ≡ true → (a : ℕ) (c : CardState) (f : ℕ → Four ℕ) → a < 65536 →
+    Drawn rest e d seeing c f → IsSeen (λ y. Drawn rest e d seeing y f) (line_plan Planar (0xA0000 + a)) (dots_of (f a)) c
+unfolding line_plan
+line_seen law rest e d on a c f la t =
+    let got = get_decoded c (drawing e d seeing) (0xA0000 + a) t.is.mode (reached (is_set e 1) a on la) in
+    record {
+      still = record { latches = f a; is = get_loads law rest e d a seeing t.latches c f on t.is la };
+      value = ap (λ n. 255 - n) (ap (λ r. r.1) got ∙ byte_is c.host e d a la ∙ ap (λ q. byte_of (none_of q)) (t.is.cell a))
+          ∙ complement (none_of (f a)) (λ i. if nibble (f a) i == 0 then 0 else 1) (either (f a)) ∙ dots_are (f a);
+    }
 
 module _ (law : KeepsBounds) (m : Planes) (c : CardState) (d : BiosData) (t : IsPlanar m c d) (e : row_at d.mode d.height ≡ Some (row_of m))
     (z : IsCard c) where
@@ -62,13 +101,6 @@ module _ (law : KeepsBounds) (m : Planes) (c : CardState) (d : BiosData) (t : Is
 
   abbrev place : ℕ → ℕ → ℕ → ℕ
   place p q r = d.size * p + strip_at w h q r
-
-  plan_is : (fonts : FontSet) (p q : ℕ) → read_character_plan (cell_band d p q) (cell_row d q) fonts ≡ seen_by (λ r. 0xA0000 + place p q r) h fonts
-  unfolding read_character_plan lines_plan
-  plan_is fonts p q =
-      let kind = ap kind_of t.number ∙ kind_by m in
-      ap (λ k. read_character_plan (column_by k d p (q % w)) (q / w) fonts) kind
-      ∙ ap (λ a. seen_by a h fonts) (λ j r. writes.address_is law m c d t e z p q r j)
 
   abbrev old : ℕ → Four ℕ
   old = bytes_at c.host.memory
@@ -88,31 +120,19 @@ module _ (law : KeepsBounds) (m : Planes) (c : CardState) (d : BiosData) (t : Is
       ap as_dot (sym (screens.pixel_is m c d t e z p k lp less ∙ ap (λ x. nibble_of (old (d.size * p + x)) (k % 8)) strip
       ∙ ap (nibble_of (old (d.size * p + b))) dot)))
 
-  seen : (fonts : FontSet) (p q : ℕ) → p < (row_of m).pages → q < cells_of d → IsSeen (row_of m) c d e (screens.text m c d t e z) fonts p q
-  seen fonts p q lp lq =
+  pub cell_read : (fonts : FontSet) (r : Regs) (p : ℕ) → p < (row_of m).pages → cursor_cell d p < cells_of d → IsCellRead fonts r c d p s
+  cell_read fonts r p lp lq =
+      let q = cursor_cell d p in
       let misc = (row_of m).misc in
       let clocking = slice_index (row_of m).sequencer 1 in
       let rest = without_drawing c in
-      let at = place p q in
-      let lines : Plan (List ℕ) = gather (λ r. line_plan Planar (0xA0000 + at r)) h 0 in
-      let after : List ℕ → Plan ℕ = λ l. graphics 5 0x00 >>= λ _. Done (first_character fonts h l 256) in
-      let c1 = (run card_meaning (graphics 5 0x08) c).0 in
-      let t1 : Drawn rest misc clocking seeing c1 old = record {
-        latches = c.host.latches;
-        is = mode_set law rest misc clocking 0x08 at_rest c.host.latches c old refl refl (screens.begins m c d t e z);
-      } in
-      let x = glyphs.lines_seen law rest misc clocking (enabled_by m) at h 0 c1 old (λ r l. (writes.within law m c d t e z p q r lp lq (omega arith)).1) t1 in
-      let c2 = (run card_meaning lines c1).0 in
-      let runs : run card_meaning (seen_by (λ r. 0xA0000 + at r) h fonts) c ≡ run card_meaning (after (run card_meaning lines c1).1) c2 =
-      run_bind card_meaning lines after c1 in
-      let t3 = mode_set law rest misc clocking 0x00 seeing x.still.latches c2 old refl refl x.still.is in
-      let plan = plan_is fonts p q in
-      record {
-        answer = ap (λ i. (run card_meaning i c).1) plan ∙ ap (λ r. r.1) runs
-            ∙ ap (λ l. first_character fonts h l 256) (x.value ∙ same_from_0 (cell_line s p q) (λ r. dots_of (old (at r))) h (λ r l. line_is p q r lp lq l));
-        shows = ap (λ i. shown (run card_meaning i c).0 d) plan ∙ ap (λ r. shown r.0 d) runs
-            ∙ screens.stays m c d t e z (run card_meaning (graphics 5 0x00) c2).0 old x.still.latches t3 (λ o. refl);
-      }
-
-  pub read_cell : (page : ℕ) (fonts : FontSet) (r : Regs) (block : List ℕ) → IsServed (ReadCell page) fonts r block c d s
-  read_cell page fonts r block = reads.read_cell (row_of m) c d e (screens.text m c d t e z) page fonts r block (λ p q lp lq. seen fonts p q lp lq)
+      let text = screens.text m c d t e z in
+      let R : CardState → Type 0 = λ y. Drawn rest misc clocking seeing y old in
+      reads.cell_read (row_of m) c d fonts r p text
+      (reads.character_seen (row_of m) c d fonts p q Planar (λ r. 0xA0000 + place p q r) R
+      (λ r y lr u. let seen = line_seen law rest misc clocking (enabled_by m) (place p q r) y old (writes.within law m c d t e z p q r lp lq lr).1 u in
+      record { still = seen.still; value = seen.value ∙ line_is p q r lp lq lr })
+      (ap kind_of t.number ∙ kind_by m) refl (λ r. writes.address_is law m c d t e z p q r)
+      (record { latches = c.host.latches; is = mode_set law rest misc clocking 0x08 at_rest c.host.latches c old refl refl (screens.begins m c d t e z) })
+      (λ y u. screens.stays m c d t e z (run card_meaning (graphics 5 0x00) y).0 old u.latches
+      (mode_set law rest misc clocking 0x00 seeing u.latches y old refl refl u.is) (λ o. refl)))

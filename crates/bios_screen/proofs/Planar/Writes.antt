@@ -1,8 +1,7 @@
 -- Characters in sixteen colours at some cells of a page, from the screen to the next.
-use Rattle.std.proofs.Common.{◌≡◌, ◌≢◌, ℕ, ◌+◌, ◌-◌, ◌*◌, ◌/◌, ◌%◌, ◌<◌, ◌≤◌, ⊎_elim, refl, sym, ap, ◌∙◌, subst, arith, List, Some, Bool, false}
+use Rattle.std.proofs.Common.{◌≡◌, ℕ, ◌+◌, ◌-◌, ◌*◌, ◌/◌, ◌%◌, ◌<◌, ◌≤◌, ⊎_elim, refl, sym, ap, ◌∙◌, subst, arith, Some, Bool}
 use Rattle.std.specs.Prelude.{slice_index, ◌==◌, ◌&&◌, nat_le, nat_lt, min, not, if◌then◌else◌}
 use Rattle.std.proofs.Math.Nat.{mod-lt}
-use Rattle.std.proofs.lemmas.Bool.{cases_lt}
 use Rattle.vga_bits.specs.Bits.{is_set}
 use Rattle.vga_bits.specs.Four.{Four}
 use Rattle.vga_planes.specs.Planes.{bytes_at}
@@ -12,39 +11,31 @@ use Rattle.vga_card.specs.Card.{CardState}
 use Rattle.bios_modes.specs.Heights.{row_at}
 use Rattle.bios_modes.specs.Bda.{BiosData}
 use Rattle.bios_modes.specs.Fonts.{FontSet}
-use Rattle.bios_services.specs.declared.regs.Regs.{Regs}
 use Rattle.bios_services.specs.declared.band.Band.{Band}
-use Rattle.bios_services.specs.declared.cell_run.CellRun.{CellRun}
 use Rattle.bios_services.specs.declared.colouring.Colouring.{Colouring}
-use Rattle.bios_modes.specs.declared.kind.Kind.{Kind}
 use Rattle.bios_modes.specs.declared.kind.Kind.TheVariants.{Planar}
-use Rattle.bios_services.specs.declared.call.Service.TheVariants.{WriteCells}
 use Rattle.bios_services.specs.Bands.{address_in, fill_line, fill_row}
-use Rattle.bios_services.specs.Cells.{page_base, page_address, cells_of}
+use Rattle.bios_services.specs.Cells.{page_base, cells_of}
 use Rattle.bios_services.specs.Drawing.{put_glyph, put_glyph_over, plain_plan, xor_plan, planar_plan, character_by, character_plan, characters_plan}
 use Rattle.bios_services.specs.Glyphs.{glyph_line}
 use Rattle.bios_modes.specs.Kinds.{kind_of, is_packed}
-use Rattle.bios_services.specs.Kinds.{column_bytes, row_lines}
 use Rattle.bios_services.specs.Plan.{run}
 use Rattle.bios_screen.specs.Screen.{Screen}
 use Rattle.bios_screen.specs.Shown.{pixel_screen, shown}
-use Rattle.bios_screen.specs.Step.{pixel_of, pixel_cell, pixel_line, with_pixels, glyph_pixel, draw_characters}
-use Rattle.bios_screen.specs.Served.{IsServed}
+use Rattle.bios_screen.specs.Step.{glyph_pixel, put_characters}
 use Rattle.bios_screen.proofs.Base.Flat.{Edited, Turn, Leaves}
-use Rattle.bios_screen.proofs.Base.Edits.{edits}
 use Rattle.bios_screen.proofs.Base.Kept.{KeepsBounds}
 use Rattle.bios_screen.proofs.Modes.PixelModes.{Planes, row_of, number_of, packed_by}
 use Rattle.bios_screen.proofs.Modes.PixelModes.Planes.{Low, Middle, High}
 use Rattle.bios_screen.proofs.Dots.PlanarDots.{IsPlanar}
-use Rattle.bios_screen.proofs.Text.Writes.{inside_test, before_test, behind_test}
 use Rattle.bios_screen.proofs.Planar.Settings.{at_rest, without_drawing}
 use Rattle.bios_screen.proofs.Planar.Bits.{nibble_of}
 use Rattle.bios_screen.proofs.Planar.Characters.{Drawn, lined, dotted_by, glyph_by, glyph_drawn, pixel_lined}
-use Rattle.bios_screen.proofs.Base.CellPlaces.{cell_of, line_of, strip_at, strip_of_cell, cell_of_strip, line_of_strip, strip_within, pixel_cell_is}
-use Rattle.bios_screen.proofs.Base.CellPlaces.{pixel_line_is}
+use Rattle.bios_screen.proofs.Base.CellPlaces.{strip_at, same_line, strip_within}
 use Rattle.bios_screen.proofs.Planar.Screens as screens
 use Rattle.bios_screen.proofs.Planar.Reads.{enabled_by}
 use Rattle.bios_screen.proofs.Pixels.Writes as writes
+use Rattle.bios_screen.proofs.Pixels.Writes.{column_by, IsCanvas}
 
 pub kind_by : (m : Planes) → kind_of (number_of m) ≡ Planar
 kind_by Low = refl
@@ -65,17 +56,6 @@ high_by : (m : Planes) → 0 < (row_of m).height
 high_by Low = omega arith
 high_by Middle = omega arith
 high_by High = omega arith
-
--- one column of a page, as the kind has it
-abbrev pub column_by : Kind → BiosData → ℕ → ℕ → Band
-column_by k d page left = record {
-  kind = k;
-  start = page_address d page;
-  pitch = column_bytes k * d.columns;
-  lines = row_lines k d.height;
-  left = column_bytes k * left;
-  width = column_bytes k * (min left (d.columns - 1) + 1 - left);
-}
 
 -- the plan by its addresses
 pub address_sum : (start w h row r left : ℕ) → 0xA0000 + start + 1 * w * (h * row + r) + 1 * left + 0 ≡ 0xA0000 + (start + (w * (h * row + r) + left))
@@ -150,46 +130,17 @@ module _ (law : KeepsBounds) (m : Planes) (c : CardState) (d : BiosData) (t : Is
       let small = screens.strip_small m c d t e z b l in
       (small.1, subst (λ n. d.size * p + n < 65536) k (screens.in_memory m c d t e z p (8 * b) lp small.0))
 
-  abbrev old : ℕ → Four ℕ
-  old = bytes_at c.host.memory
-
-  -- the lines of n cells
-  abbrev Lines : ℕ → Type 0
-  Lines n = Turn (λ _. Turn (λ _. Unit {0}) 0 h) 0 n
-
-  abbrev AreDrawn : FontSet → ℕ → ℕ → ℕ → ℕ → ℕ → (ℕ → Four ℕ) → (ℕ → Four ℕ) → Type 0
-  AreDrawn fonts p q n character colour f = Edited (Four ℕ) (Lines n) (λ i. place p (q + i.turn) i.place.turn) (λ i x.
-      lined (is_set colour 7) (colour % 16) (glyph_line fonts h character i.place.turn) x) f
-
-  characters : (fonts : FontSet) (p q n character : ℕ) (colouring : Colouring) → p < (row_of m).pages → q + n ≤ cells_of d
-      → Leaves CardState (Four ℕ) (Drawn (without_drawing c) misc clocking at_rest) (run card_meaning (characters_plan fonts d p q character colouring n) c).0
-      (AreDrawn fonts p q n character colouring.colour old)
-  unfolding characters_plan
-  characters fonts p q n character colouring lp lq =
-      let b = is_set colouring.colour 7 in
-      let mask = colouring.colour % 16 in
-      let g = glyph_line fonts h character in
-      edits CardState (Four ℕ) card_meaning (λ i. character_plan fonts d p (q + i) character colouring) (λ _. Drawn (without_drawing c) misc clocking at_rest) 0
-      n (λ _. Turn (λ _. Unit {0}) 0 h)
-      (λ i r. place p (q + i) r.turn) (λ i r x. lined b mask (g r.turn) x)
-      (λ i j r k lb lo hi y.
-      let a = cell_of_strip w h (q + i) r.turn wide r.before in
-      let f = cell_of_strip w h (q + j) k.turn wide k.before in
-      let same : strip_at w h (q + i) r.turn ≡ strip_at w h (q + j) k.turn = omega arith in
-      let one = ap (cell_of w h) same in
-      absurd (omega arith))
-      (λ i u f lb l v. subst (λ plan. Leaves CardState (Four ℕ) (Drawn (without_drawing c) misc clocking at_rest) (run card_meaning plan u).0
-      (Edited (Four ℕ) (Turn (λ _. Unit {0}) 0 h) (λ r. place p (q + i) r.turn) (λ r x. lined b mask (g r.turn) x) f))
-      (sym (character_is fonts p (q + i) character colouring))
-      (glyph_drawn law (without_drawing c) misc clocking (enabled_by m) (place p (q + i)) h (λ r lr. (within p (q + i) r lp (omega arith) lr).1)
-      (λ j k lo hi y.
-      let same : strip_at w h (q + i) j ≡ strip_at w h (q + i) k = omega arith in
-      let one = ap (line_of w h) same in
-      let a = line_of_strip w h (q + i) j wide (omega arith) in
-      let f = line_of_strip w h (q + i) k wide hi in
-      absurd (omega arith))
-      b mask g u f (omega arith) v))
-      n 0 c old (omega arith) (omega arith) (record { latches = c.host.latches; is = screens.begins m c d t e z })
+  -- a place is of one strip, and pixels are those of its byte of each plane
+  canvas : (p : ℕ) → p < (row_of m).pages → IsCanvas (row_of m) c d wide high (Four ℕ) (Unit {0}) p (λ b _. d.size * p + b) (λ _. tt)
+      (λ x k. nibble_of x (k % 8)) (bytes_at c.host.memory) (Drawn (without_drawing c) misc clocking at_rest)
+  canvas p lp = record {
+    apart = λ a b _ _ y. omega arith;
+    pixel = λ k lk. screens.pixel_is m c d t e z p k lp lk;
+    begins = record { latches = c.host.latches; is = screens.begins m c d t e z };
+    redrawn = λ y f change u inside outside. screens.page_redrawn m c d t e z p y f u.latches change lp u.is inside (λ o out. outside o (λ b _ l same.
+        let small = (screens.strip_small m c d t e z b l).1 in
+        ⊎_elim (λ (a : o < d.size * p). absurd (omega arith)) (λ (a : d.size * p + d.size ≤ o). absurd (omega arith)) out));
+  }
 
   -- what a dot makes of a pixel, in a mode of sixteen colours
   dot_is : (colour : ℕ) (is_dot : Bool) (x : ℕ) → dotted_by (is_set colour 7) (colour % 16) is_dot x ≡ glyph_pixel d.mode colour is_dot x
@@ -197,63 +148,20 @@ module _ (law : KeepsBounds) (m : Planes) (c : CardState) (d : BiosData) (t : Is
       else colour % 16) else if not b && is_set colour 7 then x else 0) (ap is_packed t.number ∙ packed_by m))
 
   pub characters_shown : (fonts : FontSet) (p q n character : ℕ) (colouring : Colouring) → p < (row_of m).pages → q + n ≤ cells_of d →
-      shown (run card_meaning (characters_plan fonts d p q character colouring n) c).0 d
-      ≡ Some (with_pixels s p (draw_characters fonts s q n character colouring.colour))
+      shown (run card_meaning (characters_plan fonts d p q character colouring n) c).0 d ≡ Some (put_characters fonts s p q n character colouring)
   characters_shown fonts p q n character colouring lp lq =
-      let after = characters fonts p q n character colouring lp lq in
-      let f = after.cells in
+      let R = Drawn (without_drawing c) misc clocking at_rest in
       let b = is_set colouring.colour 7 in
       let mask = colouring.colour % 16 in
       let g = glyph_line fonts h character in
-      screens.page_redrawn m c d t e z p (run card_meaning (characters_plan fonts d p q character colouring n) c).0 f after.shown.latches
-      (draw_characters fonts s q n character colouring.colour) lp after.shown.is
-      (λ k lk.
-      let i = k / 8 in
-      let j = k % 8 in
-      let cell = cell_of w h i in
-      let line = line_of w h i in
-      let was = screens.pixel_is m c d t e z p k lp lk in
-      let cell_is : pixel_cell s k ≡ cell = pixel_cell_is w h k wide in
-      let line_is : pixel_line s k ≡ line = pixel_line_is w h k wide in
-      let stays : (nat_le q (pixel_cell s k) && nat_lt (pixel_cell s k) (q + n)) ≡ false →
-      ((x : Lines n) → d.size * p + i ≢ place p (q + x.turn) x.place.turn) → nibble_of (f (d.size * p + i)) j
-      ≡ draw_characters fonts s q n character colouring.colour (pixel_of s p) k = λ test o.
-      ap (λ (x : Four ℕ). nibble_of x j) (after.fact.outside (d.size * p + i) o) ∙ sym was
-      ∙ sym (ap (λ v. if v then glyph_pixel d.mode colouring.colour (is_set (g (pixel_line s k)) (7 - j)) (pixel_of s p k) else pixel_of s p k) test) in
-      let other : (x : Lines n) → d.size * p + i ≡ place p (q + x.turn) x.place.turn → cell ≡ q + x.turn = λ x y.
-      let same : i ≡ strip_at w h (q + x.turn) x.place.turn = omega arith in
-      ap (cell_of w h) same ∙ cell_of_strip w h (q + x.turn) x.place.turn wide x.place.before in
-      ⊎_elim
-      (λ (lo : pixel_cell s k < q). stays (before_test q (pixel_cell s k) n lo) (λ x y. let v = other x y in absurd (omega arith)))
-      (λ (lo : q ≤ pixel_cell s k). ⊎_elim
-      (λ (hi : pixel_cell s k < q + n).
-      let u = pixel_cell s k - q in
-      let x : Lines n = record {
-        turn = u;
-        from = omega arith;
-        before = omega arith;
-        place = record { turn = line; from = omega arith; before = mod-lt (i / w) high; place = tt };
-      } in
-      let cell_u : q + u ≡ cell = omega arith in
-      let at : place p (q + u) line ≡ d.size * p + i = ap (λ v. d.size * p + strip_at w h v line) cell_u
-      ∙ ap (λ v. d.size * p + v) (strip_of_cell w h i wide high) in
-      ap (λ v. nibble_of (f v) j) (sym at)
-      ∙ ap (λ (v : Four ℕ). nibble_of v j) (after.fact.inside x)
-      ∙ ap (λ v. nibble_of (lined b mask (g line) (old v)) j) at
-      ∙ pixel_lined b mask (g line) j (old (d.size * p + i)) (omega arith) (omega arith)
-      ∙ ap (dotted_by b mask (is_set (g line) (7 - j))) (sym was)
-      ∙ dot_is colouring.colour (is_set (g line) (7 - j)) (pixel_of s p k)
-      ∙ ap (λ v. glyph_pixel d.mode colouring.colour (is_set (g v) (7 - j)) (pixel_of s p k)) (sym line_is)
-      ∙ sym (ap (λ v. if v then glyph_pixel d.mode colouring.colour (is_set (g (pixel_line s k)) (7 - j)) (pixel_of s p k)
-      else pixel_of s p k) (inside_test q (pixel_cell s k) n lo hi)))
-      (λ (hi : q + n ≤ pixel_cell s k). stays (behind_test q (pixel_cell s k) n hi) (λ x y. let v = other x y in let l = x.before in absurd (omega arith)))
-      (cases_lt (pixel_cell s k) (q + n)))
-      (cases_lt (pixel_cell s k) q))
-      (λ o out. after.fact.outside o (λ x y.
-      let l = x.before in
-      let v = (within p (q + x.turn) x.place.turn lp (omega arith) x.place.before).0 in
-      ⊎_elim (λ (a : o < d.size * p). absurd (omega arith)) (λ (a : d.size * p + d.size ≤ o). absurd (omega arith)) out))
-
-  pub write_cells : (cells : CellRun) (fonts : FontSet) (r : Regs) (block : List ℕ) → IsServed (WriteCells cells) fonts r block c d s
-  write_cells cells fonts r block = writes.write_cells (row_of m) c d e cells fonts r block (λ p q lp lq.
-      characters_shown fonts p q cells.count cells.character cells.colouring lp lq)
+      writes.characters_shown (row_of m) c d wide high (Four ℕ) (Unit {0}) p (λ b _. d.size * p + b) (λ _. tt) (λ x k. nibble_of x (k % 8))
+      (bytes_at c.host.memory) R (canvas p lp) fonts character colouring (λ r _ x. lined b mask (g r) x)
+      (λ k r x. pixel_lined b mask (g r) (k % 8) x (omega arith) (omega arith)
+      ∙ dot_is colouring.colour (is_set (g r) (7 - k % 8)) (nibble_of x (k % 8)))
+      (λ i y f li u. subst (λ plan. Leaves CardState (Four ℕ) R (run card_meaning plan y).0
+      (Edited (Four ℕ) (Turn (λ _. Unit {0}) 0 h) (λ r. place p i r.turn) (λ r x. lined b mask (g r.turn) x) f))
+      (sym (character_is fonts p i character colouring))
+      (glyph_drawn law (without_drawing c) misc clocking (enabled_by m) (place p i) h (λ r lr. (within p i r lp li lr).1)
+      (λ j k lo hi same. let one = same_line w h i j k wide (omega arith) hi (omega arith) in absurd (omega arith))
+      b mask g y f (omega arith) u))
+      q n lq

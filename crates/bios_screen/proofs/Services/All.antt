@@ -1,5 +1,5 @@
 -- The laws of the services.
-use Rattle.std.proofs.Common.{◌≡◌, ℕ, ◌<◌, refl, subst, Bool, true, false, List, Some}
+use Rattle.std.proofs.Common.{◌≡◌, ℕ, ◌<◌, subst, List, Some}
 use Rattle.vga_card.specs.Bounds.{IsCard}
 use Rattle.vga_card.specs.Card.{CardState}
 use Rattle.bios_modes.specs.Bda.{BiosData}
@@ -7,7 +7,6 @@ use Rattle.bios_modes.specs.Fonts.{FontSet}
 use Rattle.bios_modes.specs.Bounds.{IsBda}
 use Rattle.bios_modes.specs.Modes.{bytes_320_by_200}
 use Rattle.bios_modes.specs.Heights.{row_at}
-use Rattle.bios_modes.specs.Kinds.{is_text}
 use Rattle.bios_services.specs.declared.regs.Regs.{Regs}
 use Rattle.bios_services.specs.declared.scroll.Scroll.{Scroll}
 use Rattle.bios_services.specs.declared.cell_run.CellRun.{CellRun}
@@ -21,25 +20,21 @@ use Rattle.bios_screen.specs.Served.{FitsBytes, IsServed, Serves, ServesText}
 use Rattle.bios_modes.specs.Bounds.{AreBytes}
 use Rattle.bios_screen.proofs.Shows.Screens.{IsShown, screen_shown, shown_is, text_shown}
 use Rattle.bios_screen.proofs.Dots.PackedDots.{IsPacked}
-use Rattle.bios_screen.proofs.Shows.Kinds.{by_colours}
+use Rattle.bios_screen.proofs.Shows.Kinds.{by_contents, by_modes}
 use Rattle.bios_screen.proofs.Packed.Pixels as packed_pixels
 use Rattle.bios_screen.proofs.Dots.PlanarDots.{IsPlanar}
 use Rattle.bios_screen.proofs.Planar.Reads as planar_reads
 use Rattle.bios_screen.proofs.Planar.Dots as planar_dots
-use Rattle.bios_screen.proofs.Planar.Writes as planar_writes
-use Rattle.bios_screen.proofs.Packed.Writes as packed_writes
-use Rattle.bios_screen.proofs.Planar.Cells as planar_cells
-use Rattle.bios_screen.proofs.Packed.Cells as packed_cells
 use Rattle.bios_screen.proofs.Planar.Scrolls as planar_scrolls
 use Rattle.bios_screen.proofs.Packed.Scrolls as packed_scrolls
 use Rattle.bios_screen.proofs.Modes.PixelModes.{Planes, row_of}
 use Rattle.bios_screen.proofs.Services.TextReaders as readers
-use Rattle.bios_screen.proofs.Shows.Pixels.{IsPixels, pixels_shown, pixels_of_shown}
+use Rattle.bios_screen.proofs.Shows.Pixels.{IsPixels, pixels_shown}
 use Rattle.bios_screen.proofs.Shows.Any.{IsAny, any_screen, any_is}
 use Rattle.bios_screen.proofs.Services.AnyReaders as any
 use Rattle.bios_screen.proofs.Pixels.Cursors as pixel_cursors
 use Rattle.bios_screen.proofs.Services.Cursors as cursors
-use Rattle.bios_screen.proofs.Text.Writes as writes
+use Rattle.bios_screen.proofs.Services.Characters as characters
 use Rattle.bios_screen.proofs.Base.Kept.{KeepsBounds}
 use Rattle.bios_screen.proofs.Text.Windows as windows
 use Rattle.bios_screen.proofs.Services.Teletypes as teletypes
@@ -50,11 +45,8 @@ use Rattle.bios_screen.proofs.Services.Palette as coloured
 serves_both : (service : Service) → ((fonts : FontSet) (r : Regs) (block : List ℕ) (c : CardState) (d : BiosData) (h : IsShown c d) → IsBda d →
     IsServed service fonts r block c d (screen_shown c d h)) → ((fonts : FontSet) (r : Regs) (block : List ℕ) (c : CardState) (d : BiosData)
     (h : IsPixels c d) → IsServed service fonts r block c d (pixels_shown c d h)) → Serves service
-serves_both service f g fonts r block c d s bytes z bda e = by_kind (is_text d.mode) refl
-  where
-    by_kind : (b : Bool) → is_text d.mode ≡ b → IsServed service fonts r block c d s
-    by_kind true t = let x = shown_is c d s t e in subst (IsServed service fonts r block c d) x.screen (f fonts r block c d x.is bda)
-    by_kind false t = let x = pixels_of_shown c d s t e in subst (IsServed service fonts r block c d) x.screen (g fonts r block c d x.is)
+serves_both service f g fonts r block c d s bytes z bda e =
+    by_contents c d (IsServed service fonts r block c d) (λ h. f fonts r block c d h bda) (λ h. g fonts r block c d h) s e
 
 -- in all modes alike
 serves_any : (service : Service) → ((fonts : FontSet) (r : Regs) (block : List ℕ) (c : CardState) (d : BiosData) (h : IsAny c d) → AreBytes block → IsCard c →
@@ -82,12 +74,9 @@ serves_each : (service : Service) → ((fonts : FontSet) (r : Regs) (block : Lis
     → ((fonts : FontSet) (r : Regs) (block : List ℕ) (c : CardState) (d : BiosData) → IsPacked c d → row_at d.mode d.height ≡ Some bytes_320_by_200 → IsCard c →
     IsServed service fonts r block c d (pixel_screen bytes_320_by_200 c d))
     → Serves service
-serves_each service text planar packed fonts r block c d s bytes z bda e = by_kind (is_text d.mode) refl
-  where
-    by_kind : (b : Bool) → is_text d.mode ≡ b → IsServed service fonts r block c d s
-    by_kind true t = let x = shown_is c d s t e in subst (IsServed service fonts r block c d) x.screen (text fonts r block c d x.is z)
-    by_kind false t = by_colours c d (IsServed service fonts r block c d) (λ m is row. planar m fonts r block c d is row z) (λ is row.
-        packed fonts r block c d is row z) s t e
+serves_each service text planar packed fonts r block c d s bytes z bda e =
+    by_modes c d (IsServed service fonts r block c d) (λ h. text fonts r block c d h z) (λ m is row. planar m fonts r block c d is row z) (λ is row.
+    packed fonts r block c d is row z) s e
 
 pub write_pixel : KeepsBounds → (page x y colour : ℕ) → colour < 256 → Serves (WritePixel page x y colour)
 write_pixel law page x y colour l = serves_each (WritePixel page x y colour) (λ fonts r block c d h z. readers.write_pixel page x y colour fonts r block c d h)
@@ -122,13 +111,10 @@ select_page page = serves_both (SelectPage page) (λ fonts r block c d h bda. cu
     pixel_cursors.select_page c d h page fonts r block)
 
 pub read_cell : KeepsBounds → (page : ℕ) → Serves (ReadCell page)
-read_cell law page = serves_each (ReadCell page) (λ fonts r block c d h z. writes.read_cell page fonts r block c d h z) (λ m fonts r block c d t e z.
-    planar_cells.read_cell law m c d t e z page fonts r block) (λ fonts r block c d t e z. packed_cells.read_cell law c d t e z page fonts r block)
+read_cell law page = serves_any (ReadCell page) (λ fonts r block c d h bytes z bda. characters.read_cell law fonts r block c d h z page)
 
 pub write_cells : KeepsBounds → (cells : CellRun) → cells.character < 256 → cells.colouring.colour < 256 → Serves (WriteCells cells)
-write_cells law cells lv la = serves_each (WriteCells cells) (λ fonts r block c d h z. writes.write_cells cells fonts r block c d h z lv la)
-    (λ m fonts r block c d t e z. planar_writes.write_cells law m c d t e z cells fonts r block) (λ fonts r block c d t e z.
-    packed_writes.write_cells law c d t e z cells fonts r block la)
+write_cells law cells lv la = serves_any (WriteCells cells) (λ fonts r block c d h bytes z bda. characters.write_cells law fonts r block c d h z cells lv la)
 
 pub scroll_up : KeepsBounds → (window : Scroll) → window.fill < 256 → Serves (ScrollUp window)
 scroll_up law window l = serves_each (ScrollUp window) (λ fonts r block c d h z. windows.scroll_up window fonts r block c d h z l) (λ m fonts r block c d t e z.

@@ -1,8 +1,7 @@
 -- What services do to the entries of the DAC.
-use Rattle.std.proofs.Common.{◌≡◌, ℕ, zero, suc, ◌+◌, ◌-◌, ◌*◌, ◌%◌, ◌<◌, ◌≤◌, ⊎_elim, refl, sym, ap, ◌∙◌, subst, arith, List, [], ◌∷◌, length, Bool, true}
+use Rattle.std.proofs.Common.{◌≡◌, ℕ, zero, suc, ◌+◌, ◌-◌, ◌*◌, ◌%◌, ◌<◌, ◌≤◌, refl, sym, ap, ◌∙◌, subst, arith, List, [], ◌∷◌, length, Bool, true}
 use Rattle.std.proofs.Common.{false}
 use Rattle.std.specs.Prelude.{◌&&◌, nat_lt, nat_le, if◌then◌else◌, slice_index}
-use Rattle.std.proofs.lemmas.Bool.{cases_lt}
 use Rattle.vga_dac.specs.declared.component.Component.TheVariants.{Red}
 use Rattle.vga_dac.specs.Dac.{DacState, IsDac}
 use Rattle.vga_card.specs.Bus.{card_meaning}
@@ -20,7 +19,7 @@ use Rattle.bios_screen.specs.Colours.{six_bits, component_over}
 use Rattle.bios_screen.proofs.Base.Flat.{Edited, Turn, Leaves}
 use Rattle.bios_screen.proofs.Base.Plans.{then_runs}
 use Rattle.bios_screen.proofs.Base.Lists.{length_listing, listed_at, same_elements}
-use Rattle.bios_screen.proofs.Text.Writes.{inside_test, before_test, behind_test}
+use Rattle.bios_screen.proofs.Base.Tests.{of_run}
 use Rattle.bios_screen.proofs.Base.Edits.{edits}
 use Rattle.bios_screen.proofs.Modes.Entries.{Colour, colour_of, kept_colour, entry_at, without_entries, HasEntries, one_entry}
 
@@ -80,21 +79,12 @@ pub record IsLoaded (c y : CardState) (first count : ℕ) (block : List ℕ) : T
 entry_is : (first count : ℕ) (block : List ℕ) (f g : ℕ → Colour) → Edited Colour (Turn (λ _. Unit {0}) 0 count) (λ h. first + h.turn) (λ h x.
     kept_colour (colour_of (triple block h.turn))) f g → (k : ℕ) → g k ≡ (if nat_le first k && nat_lt k (first + count)
     then kept_colour (colour_of (triple block (k - first))) else f k)
-entry_is first count block f g edited k = ⊎_elim
-    (λ (a : k < first). outside (before_test first k count a) (λ h. omega arith))
-    (λ (a : first ≤ k). ⊎_elim
-    (λ (b : k < first + count).
-    let j = k - first in
-    let e : first + j ≡ k = omega arith in
-    ap g (sym e) ∙ edited.inside (record { turn = j; from = omega arith; before = omega arith; place = tt })
-    ∙ ap (λ t. if t then kept_colour (colour_of (triple block (k - first))) else f k) (sym (inside_test first k count a b)))
-    (λ (b : first + count ≤ k). outside (behind_test first k count b) (λ h. let z = h.before in omega arith))
-    (cases_lt k (first + count)))
-    (cases_lt k first)
-  where
-    outside : (nat_le first k && nat_lt k (first + count)) ≡ false → ((h : Turn (λ _. Unit {0}) 0 count) → (k ≡ first + h.turn) → ⊥) →
-        g k ≡ (if nat_le first k && nat_lt k (first + count) then kept_colour (colour_of (triple block (k - first))) else f k)
-    outside t o = edited.outside k o ∙ ap (λ b. if b then kept_colour (colour_of (triple block (k - first))) else f k) (sym t)
+entry_is first count block f g edited k =
+    of_run first count k (g k) (kept_colour (colour_of (triple block (k - first)))) (f k)
+    (λ lo hi.
+    let there : first + (k - first) ≡ k = omega arith in
+    ap g (sym there) ∙ edited.inside (record { turn = k - first; from = omega arith; before = omega arith; place = tt }))
+    (λ out. edited.outside k (λ h. out h.turn h.before))
 
 -- one component of it
 taken : (b : Bool) (x y : Colour) (part : Colour → ℕ) → part (if b then x else y) ≡ (if b then part x else part y)

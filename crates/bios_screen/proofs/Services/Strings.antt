@@ -26,13 +26,13 @@ use Rattle.bios_screen.specs.Served.{IsServed}
 use Rattle.bios_screen.proofs.Base.Plans.{run_bind}
 use Rattle.bios_screen.proofs.Base.Kept.{KeepsBounds, plan_bounds, plan_beam}
 use Rattle.bios_screen.proofs.Base.Reasons.{neither, page_allowed, place_allowed}
-use Rattle.bios_screen.proofs.Shows.Screens.{pages_are}
+use Rattle.bios_screen.proofs.Shows.Screens.{pages_are, page_of}
 use Rattle.bios_screen.proofs.Shows.Any.{IsAny, any_screen, still_any}
 use Rattle.bios_screen.proofs.Services.AnyReaders.{any_meant}
 use Rattle.bios_screen.proofs.Services.Cursors.{then_data, data_runs}
 use Rattle.bios_screen.proofs.Base.TypedPlaces.{Inside}
-use Rattle.bios_screen.proofs.Services.Typing.{page_of, LeadsInside, leads_on, is_typed}
-use Rattle.bios_screen.proofs.Services.Teletypes.{can_type, moved}
+use Rattle.bios_screen.proofs.Services.Typing.{LeadsInside, leads_on, is_typed}
+use Rattle.bios_screen.proofs.Services.Teletypes.{moved}
 
 -- ---- characters one after another
 
@@ -56,7 +56,7 @@ module _ (law : KeepsBounds) (fonts : FontSet) (d : BiosData) (p : ℕ) (lp : p 
   all_typed (suc n) i place c s e z l =
       let v = character_at call block i in
       let colouring = colouring_at call block i in
-      let t = is_typed law fonts d p (can_type law fonts d p lp) c s place v colouring z e l (bytes _) (colouring_small i) in
+      let t = is_typed law fonts d p lp c s place v colouring z e l (bytes _) (colouring_small i) in
       let after = type_character fonts s p place v colouring in
       let rest = all_typed n (i + 1) after.1 (run card_meaning (one i place) c).0 after.0 t.leads.shows (plan_bounds law (one i place) c z) t.inside in
       record {
@@ -117,6 +117,6 @@ write_string law call fonts r block c d h bytes colour z bda =
           let a = string_allowed h.row.pages q (d.last_row + 1) d.columns call.place (wrong_block (string_len call) (length block)) allowed in
           ap (λ x. shown x.0 x.1.1) runs
           ∙ ap (λ n. let x = run card_meaning (string_plan fonts d n call block) c in shown x.0 x.1) (any_meant c d h call.page)
-          ∙ string_shown law fonts d q (page_of d h.row q h.mode a.page) call block bytes colour c s (still_any c d h) z bda a.inside;
+          ∙ string_shown law fonts d q (page_of h.row d q h.mode a.page) call block bytes colour c s (still_any c d h) z bda a.inside;
       beam = plan_beam (then_data (string_plan fonts d p call block) r) c;
     }

@@ -10,7 +10,6 @@ use Rattle.bios_modes.specs.Fonts.{FontSet}
 use Rattle.bios_services.specs.declared.regs.Regs.{Regs}
 use Rattle.bios_services.specs.declared.call.Service.TheVariants.{Teletype}
 use Rattle.bios_services.specs.Bounds.{pages_of}
-use Rattle.bios_modes.specs.Kinds.{is_text}
 use Rattle.bios_services.specs.Plan.{Plan, run, Done, ◌>>=◌}
 use Rattle.bios_services.specs.Cursor.{place_of, move_cursor_plan}
 use Rattle.bios_services.specs.Teletype.{dots_in, type_plan, teletype_plan}
@@ -23,36 +22,23 @@ use Rattle.bios_screen.specs.Served.{IsServed}
 use Rattle.bios_screen.proofs.Base.Plans.{run_bind}
 use Rattle.bios_screen.proofs.Base.Kept.{KeepsBounds, plan_beam}
 use Rattle.bios_screen.proofs.Base.Reasons.{place_allowed}
-use Rattle.bios_screen.proofs.Shows.Screens.{shown_is}
-use Rattle.bios_screen.proofs.Shows.Pixels.{pixels_of_shown}
+use Rattle.bios_screen.proofs.Shows.Screens.{page_in}
 use Rattle.bios_screen.proofs.Shows.Any.{IsAny, any_screen, still_any}
+use Rattle.bios_screen.proofs.Shows.Kinds.{by_contents}
 use Rattle.bios_screen.proofs.Services.Cursors.{then_data, data_runs, moved_shown}
 use Rattle.bios_screen.proofs.Pixels.Cursors.{moved_shown as moved_in_pixels}
 use Rattle.bios_screen.proofs.Base.TypedPlaces.{Inside, inside_word}
-use Rattle.bios_screen.proofs.Services.Typing.{page_in, cut_is, CanType, is_typed}
-use Rattle.bios_screen.proofs.Text.Typing.{can_type as can_type_text}
-use Rattle.bios_screen.proofs.Pixels.Typing.{can_type as can_type_pixels}
-
--- ---- what typing stands on, in every mode
-
-pub can_type : KeepsBounds → (fonts : FontSet) (d : BiosData) (p : ℕ) → p < pages_of d → CanType fonts d p
-can_type law fonts d p lp = by_kind (is_text d.mode) refl
-  where
-    by_kind : (b : Bool) → is_text d.mode ≡ b → CanType fonts d p
-    by_kind true t = can_type_text law fonts d p lp t
-    by_kind false t = can_type_pixels law fonts d p lp t
+use Rattle.bios_screen.proofs.Services.Typing.{cut_is, is_typed}
 
 -- the cursor goes to a place of the page
 pub moved : (c : CardState) (d : BiosData) (s : Screen) (p place : ℕ) → shown c d ≡ Some s → IsBda d → p < pages_of d →
     Inside (d.last_row + 1) d.columns place → (let x = run card_meaning (move_cursor_plan d p place) c in shown x.0 x.1) ≡ Some (placed_on s p place)
-moved c d s p place e bda lp i = by_kind (is_text d.mode) refl
-  where
-    by_kind : (b : Bool) → is_text d.mode ≡ b → (let x = run card_meaning (move_cursor_plan d p place) c in shown x.0 x.1) ≡ Some (placed_on s p place)
-    by_kind true t =
-        let x = shown_is c d s t e in
-        let small = inside_word (d.last_row + 1) d.columns (cut_is c d s e).narrow place (cut_is c d s e).low i in
-        moved_shown c d x.is p place bda (page_in d x.is.row p x.is.mode lp) small ∙ ap (λ (w : Screen). Some (placed_on w p place)) x.screen
-    by_kind false t = let x = pixels_of_shown c d s t e in moved_in_pixels c d x.is p place ∙ ap (λ (w : Screen). Some (placed_on w p place)) x.screen
+moved c d s p place e bda lp i =
+    let cut = cut_is c d s e in
+    by_contents c d (λ w. (let x = run card_meaning (move_cursor_plan d p place) c in shown x.0 x.1) ≡ Some (placed_on w p place))
+    (λ h. moved_shown c d h p place bda (page_in h.row d p h.mode lp) (inside_word (d.last_row + 1) d.columns cut.narrow place cut.low i))
+    (λ h. moved_in_pixels c d h p place)
+    s e
 
 -- ---- function 0E
 
@@ -82,7 +68,7 @@ module _ (law : KeepsBounds) (v colour : ℕ) (lv : v < 256) (la : colour < 256)
           ≡ Some (if b then s else placed_on after.0 d.page after.1)
       by_test true = still_any c d h
       by_test false =
-          let t = is_typed law fonts d d.page (can_type law fonts d d.page lp) c s at v (dots_in colour) z (still_any c d h) inside lv la in
+          let t = is_typed law fonts d d.page lp c s at v (dots_in colour) z (still_any c d h) inside lv la in
           let c1 = (run card_meaning plan c).0 in
           ap (λ r. shown r.0 r.1) (run_bind card_meaning plan cursor c)
           ∙ ap (λ n. let x = run card_meaning (cursor n) c1 in shown x.0 x.1) t.leads.answer

@@ -1,35 +1,40 @@
 -- Typing a character in any mode: from a state that shows a screen to one that shows the next, plan after plan.
-use Rattle.std.proofs.Common.{◌≡◌, ℕ, ◌+◌, ◌-◌, ◌<◌, ◌≤◌, refl, sym, ap, ◌∙◌, subst, arith, Option, Some, Bool, true, false}
-use Rattle.std.specs.Prelude.{◌==◌, nat_lt, if◌then◌else◌}
+use Rattle.std.proofs.Common.{◌≡◌, ℕ, ◌+◌, ◌-◌, ◌*◌, ◌<◌, ◌≤◌, refl, sym, ap, ◌∙◌, subst, arith, Some, Bool, true, false}
+use Rattle.std.specs.Prelude.{◌==◌, ◌||◌, nat_lt, if◌then◌else◌}
 use Rattle.vga_card.specs.Bounds.{IsCard}
 use Rattle.vga_card.specs.Bus.{card_meaning}
 use Rattle.vga_card.specs.Card.{CardState}
-use Rattle.bios_modes.specs.declared.modes.ModeRow.{ModeRow}
-use Rattle.bios_modes.specs.Heights.{row_at}
 use Rattle.bios_modes.specs.Bda.{BiosData}
 use Rattle.bios_modes.specs.Fonts.{FontSet}
+use Rattle.bios_modes.specs.Modes.{bytes_320_by_200}
 use Rattle.bios_services.specs.declared.colouring.Colouring.{Colouring}
-use Rattle.bios_services.specs.Bounds.{pages_in, pages_of}
-use Rattle.bios_services.specs.Plan.{Plan, run, Done, ◌>>=◌, ◌>>◌}
+use Rattle.bios_services.specs.Bounds.{pages_of}
+use Rattle.bios_services.specs.Plan.{Plan, run, Done, get, ◌>>=◌, ◌>>◌}
 use Rattle.bios_services.specs.Bands.{band_of, up_plan}
-use Rattle.bios_services.specs.Cursor.{row_of, column_of, cell_number}
-use Rattle.bios_services.specs.Drawing.{character_plan}
+use Rattle.bios_services.specs.Cells.{cell_address}
+use Rattle.bios_services.specs.Cursor.{row_of as text_row_of, column_of, cell_number}
+use Rattle.bios_services.specs.Drawing.{character_plan, characters_plan}
+use Rattle.bios_services.specs.Scroll.{height_of, lines_of}
 use Rattle.bios_services.specs.Teletype.{line_start, line_feed_fill, line_feed_plan, cursor_advance_plan, show_plan, type_plan}
-use Rattle.bios_screen.specs.Screen.{Screen}
-use Rattle.bios_screen.specs.Shown.{shown}
-use Rattle.bios_screen.specs.Step.{line_feed, cursor_advance, put_character, type_character}
+use Rattle.bios_screen.specs.Screen.{Screen, page_start}
+use Rattle.bios_screen.specs.Shown.{pixel_screen, shown}
+use Rattle.bios_screen.specs.Step.{cell_on, whole_page, last_colour, window_up, line_feed, cursor_advance, put_characters, put_character, type_character}
 use Rattle.bios_screen.proofs.Base.Plans.{run_bind, then_runs, then_answers}
+use Rattle.bios_screen.proofs.Base.Places.{ends_before}
+use Rattle.bios_screen.proofs.Base.Tests.{not_lt}
 use Rattle.bios_screen.proofs.Base.Kept.{KeepsBounds, plan_bounds}
-use Rattle.bios_screen.proofs.Shows.Screens.{data_is}
-use Rattle.bios_screen.proofs.Shows.Any.{any_is}
 use Rattle.bios_screen.proofs.Base.TypedPlaces.{Inside, risen, typed_inside}
-
--- a page of the mode is one of its row, and back
-pub page_in : (d : BiosData) (row : ModeRow) (p : ℕ) → row_at d.mode d.height ≡ Some row → p < pages_of d → p < row.pages
-page_in d row p e l = subst (λ (x : Option ModeRow). p < pages_in x) e l
-
-pub page_of : (d : BiosData) (row : ModeRow) (p : ℕ) → row_at d.mode d.height ≡ Some row → p < row.pages → p < pages_of d
-page_of d row p e l = subst (λ (x : Option ModeRow). p < pages_in x) (sym e) l
+use Rattle.bios_screen.proofs.Modes.PixelModes.{row_of}
+use Rattle.bios_screen.proofs.Shows.Screens.{data_is, page_in, page_of, screen_shown}
+use Rattle.bios_screen.proofs.Shows.Pixels.{pixels_shown, pixels_shown_of}
+use Rattle.bios_screen.proofs.Shows.Any.{any_is}
+use Rattle.bios_screen.proofs.Shows.Kinds.{by_contents, by_modes}
+use Rattle.bios_screen.proofs.Text.Writes.{attribute_read}
+use Rattle.bios_screen.proofs.Text.Windows as text
+use Rattle.bios_screen.proofs.Pixels.Windows.{page_raised}
+use Rattle.bios_screen.proofs.Planar.Scrolls as planar
+use Rattle.bios_screen.proofs.Packed.Scrolls as packed
+use Rattle.bios_screen.proofs.Services.Characters.{characters_shown}
 
 -- how the data say that the page of a screen is cut
 pub record IsCut (d : BiosData) (s : Screen) : Type 0 where
@@ -48,7 +53,7 @@ cut_is c d s e =
       rows = refl;
       narrow = let a = has.columns in let b = x.is.columns in omega arith;
       low = let a = has.last_row in let b = x.is.last_row in omega arith;
-      active = page_of d x.is.row d.page x.is.mode has.page;
+      active = page_of x.is.row d d.page x.is.mode has.page;
     })
 
 -- ---- plans that lead to a screen and a place
@@ -94,29 +99,102 @@ leads_after p q c d y second = record {
 abbrev pub rise_plan : BiosData → ℕ → ℕ → Plan ℕ
 rise_plan d p place = line_feed_fill d p place >>= λ colour. (up_plan (band_of d p 0 (d.columns - 1)) 0 (d.last_row + 1) 1 colour >> Done place)
 
--- in every mode a character is put at a place of a page, and the page goes up by a row
-pub record CanType (fonts : FontSet) (d : BiosData) (p : ℕ) : Type 0 where
-  pub put : (c : CardState) (s : Screen) (place v : ℕ) (colouring : Colouring) → IsCard c → shown c d ≡ Some s → Inside (d.last_row + 1) d.columns place →
+module _ (law : KeepsBounds) (fonts : FontSet) (d : BiosData) (p : ℕ) (lp : p < pages_of d) where
+  -- a character at a place is a run of one
+  put : (c : CardState) (s : Screen) (place v : ℕ) (colouring : Colouring) → IsCard c → shown c d ≡ Some s → Inside (d.last_row + 1) d.columns place →
       v < 256 → colouring.colour < 256
       → shown (run card_meaning (character_plan fonts d p (cell_number d place) v colouring) c).0 d ≡ Some (put_character fonts s p place v colouring)
-  pub rise : (c : CardState) (s : Screen) (place : ℕ) → IsCard c → shown c d ≡ Some s → column_of place < d.columns →
+  unfolding characters_plan
+  put c s place v colouring z e i lv la =
+      let q = cell_number d place in
+      let same : q ≡ q + 0 = omega arith in
+      let lc = i.column in
+      let within = ends_before d.columns (text_row_of place) (d.last_row + 1) i.row in
+      ap (λ n. shown (run card_meaning (character_plan fonts d p n v colouring) c).0 d) same
+      ∙ sym (ap (λ x. shown x d) (then_runs (character_plan fonts d p (q + 0) v colouring) (Done tt) c))
+      ∙ characters_shown law fonts c d s p q 1 v colouring e z lp (omega arith) lv la
+      ∙ ap (λ n. Some (put_characters fonts s p (n * text_row_of place + column_of place) 1 v colouring)) (sym (cut_is c d s e).columns)
+
+  -- the page goes up by a row of a colour
+  goes_up : (c : CardState) (s : Screen) (colour : ℕ) → IsCard c → shown c d ≡ Some s → colour < 256 →
+      shown (run card_meaning (up_plan (band_of d p 0 (d.columns - 1)) 0 (d.last_row + 1) 1 colour) c).0 d ≡ Some (window_up s p (whole_page s colour))
+  goes_up c s colour z e l =
+      let up : ℕ → ℕ → Plan (Unit {0}) = λ rows n. up_plan (band_of d p 0 (d.columns - 1)) 0 rows n colour in
+      by_modes c d (λ w. shown (run card_meaning (up (d.last_row + 1) 1) c).0 d ≡ Some (window_up w p (whole_page w colour)))
+      (λ h.
+      let page = whole_page (screen_shown c d h) colour in
+      let rows : height_of d page ≡ d.last_row + 1 = omega arith in
+      let lines : lines_of d page ≡ 1 = ap (λ n. if (1 == 0) || nat_lt n 1 then n else 1) rows
+      ∙ ap (λ b. if b then d.last_row + 1 else 1) (not_lt (d.last_row + 1) 1 (omega arith)) in
+      ap (λ n. shown (run card_meaning (up n 1) c).0 d) (sym rows) ∙ ap (λ n. shown (run card_meaning (up (height_of d page) n) c).0 d) (sym lines)
+      ∙ text.up_shown c d h p (page_in h.row d p h.mode lp) page z l)
+      (λ m t row. page_raised (row_of m) c d p colour
+      (planar.up_shown law m c d t row z p (page_in (row_of m) d p row lp) (whole_page (pixel_screen (row_of m) c d) colour)))
+      (λ t row. page_raised bytes_320_by_200 c d p colour
+      (packed.up_shown law c d t row z p (page_in bytes_320_by_200 d p row lp) (whole_page (pixel_screen bytes_320_by_200 c d) colour) l))
+      s e
+
+  -- the colour of a line feed's row: in text the attribute in the last row, which is read, and in graphics 0
+  record IsFilled (c : CardState) (place : ℕ) (s : Screen) : Type 0 where
+    leads : Leads (line_feed_fill d p place) c d (s, last_colour s p place)
+    small : last_colour s p place < 256
+
+  filled : (c : CardState) (s : Screen) (place : ℕ) → IsCard c → shown c d ≡ Some s → column_of place < d.columns → IsFilled c place s
+  unfolding line_feed_fill
+  filled c s place z e lc =
+      let q = d.columns * d.last_row + column_of place in
+      let fill : Bool → Plan ℕ = λ b. if b then get (cell_address d p q + 1) else Done 0 in
+      by_contents c d (IsFilled c place)
+      (λ h.
+      let y = screen_shown c d h in
+      let within = ends_before d.columns d.last_row (d.last_row + 1) (omega arith) in
+      let read = attribute_read c d h z p q (page_in h.row d p h.mode lp) (omega arith) in
+      let last : d.last_row ≡ d.last_row + 1 - 1 = omega arith in
+      let there = ap (λ n. (cell_on y (page_start y p + (d.columns * n + column_of place))).1) last in
+      record {
+        leads = subst (λ b. Leads (fill b) c d (y, last_colour y p place)) (sym h.tests.is_text) (record {
+          answer = read.answer ∙ there;
+          shows = read.shows;
+        });
+        small = subst (λ n. n < 256) there read.small;
+      })
+      (λ h. record {
+        leads = subst (λ b. Leads (fill b) c d (pixels_shown c d h, 0)) (sym h.text) (record {
+          answer = refl;
+          shows = pixels_shown_of c d h.row h.mode h.text h.tests;
+        });
+        small = omega arith;
+      })
+      s e
+
+  rises : (c : CardState) (s : Screen) (place : ℕ) → IsCard c → shown c d ≡ Some s → column_of place < d.columns →
       Leads (rise_plan d p place) c d (risen s p place, place)
+  rises c s place z e lc =
+      let fill = line_feed_fill d p place in
+      let up : ℕ → Plan (Unit {0}) = up_plan (band_of d p 0 (d.columns - 1)) 0 (d.last_row + 1) 1 in
+      let colour = last_colour s p place in
+      let x = filled c s place z e lc in
+      let c1 = (run card_meaning fill c).0 in
+      leads_on fill (λ n. up n >> Done place) c d (s, colour) (risen s p place, place) x.leads
+      (leads_after (up colour) (Done place) c1 d (risen s p place, place) (record {
+        answer = refl;
+        shows = goes_up c1 s colour (plan_bounds law fill c z) x.leads.shows x.small;
+      }))
 
--- ---- typing
+  -- ---- typing
 
-module _ (law : KeepsBounds) (fonts : FontSet) (d : BiosData) (p : ℕ) (can : CanType fonts d p) where
   feeds : (c : CardState) (s : Screen) (place : ℕ) → IsCard c → shown c d ≡ Some s → column_of place < d.columns →
       Leads (line_feed_plan d p place) c d (line_feed s p place)
   unfolding line_feed_plan
   feeds c s place z e lc =
       let cut = cut_is c d s e in
       let last : s.layout.rows - 1 ≡ d.last_row = let a = cut.rows in omega arith in
-      subst (λ n. Leads (if nat_lt (row_of place) d.last_row then Done (place + 256) else rise_plan d p place) c d (if nat_lt (row_of place) n
+      subst (λ n. Leads (if nat_lt (text_row_of place) d.last_row then Done (place + 256) else rise_plan d p place) c d (if nat_lt (text_row_of place) n
       then (s, place + 256) else (risen s p place, place))) (sym last)
-      (leads_if (nat_lt (row_of place) d.last_row) (Done (place + 256)) (rise_plan d p place) c d (s, place + 256) (
+      (leads_if (nat_lt (text_row_of place) d.last_row) (Done (place + 256)) (rise_plan d p place) c d (s, place + 256) (
         risen s p place,
         place,
-      ) (record { answer = refl; shows = e }) (can.rise c s place z e lc))
+      ) (record { answer = refl; shows = e }) (rises c s place z e lc))
 
   advances : (c : CardState) (s : Screen) (place : ℕ) → IsCard c → shown c d ≡ Some s → column_of place < d.columns →
       Leads (cursor_advance_plan d p place) c d (cursor_advance s p place)
@@ -141,7 +219,7 @@ module _ (law : KeepsBounds) (fonts : FontSet) (d : BiosData) (p : ℕ) (can : C
         let write = character_plan fonts d p (cell_number d place) v colouring in
         leads_after write (cursor_advance_plan d p place) c d (cursor_advance (put_character fonts s p place v colouring) p place)
         (advances (run card_meaning write c).0 (put_character fonts s p place v colouring) place (plan_bounds law write c z)
-        (can.put c s place v colouring z e i lv la) i.column)
+        (put c s place v colouring z e i lv la) i.column)
 
     -- what is typed, and where the cursor is then
     leads : Leads (type_plan fonts d p place v colouring) c d (type_character fonts s p place v colouring)

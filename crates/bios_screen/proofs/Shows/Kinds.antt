@@ -1,5 +1,5 @@
--- A screen of pixels has sixteen colours or 256.
-use Rattle.std.proofs.Common.{◌≡◌, sym, ap, ◌∙◌, subst, false, Some}
+-- A screen is of text or of pixels, and one of pixels has sixteen colours or 256.
+use Rattle.std.proofs.Common.{◌≡◌, refl, sym, ap, ◌∙◌, subst, Bool, true, false, Some}
 use Rattle.vga_card.specs.Card.{CardState}
 use Rattle.bios_modes.specs.declared.modes.ModeRow.{ModeRow}
 use Rattle.bios_modes.specs.Modes.{bytes_320_by_200}
@@ -8,8 +8,8 @@ use Rattle.bios_modes.specs.Bda.{BiosData}
 use Rattle.bios_modes.specs.Kinds.{is_text}
 use Rattle.bios_screen.specs.Screen.{Screen}
 use Rattle.bios_screen.specs.Shown.{pixel_screen, shown}
-use Rattle.bios_screen.proofs.Shows.Screens.{AllTests, data_is}
-use Rattle.bios_screen.proofs.Shows.Pixels.{pixels_of_shown}
+use Rattle.bios_screen.proofs.Shows.Screens.{AllTests, data_is, IsShown, screen_shown, shown_is}
+use Rattle.bios_screen.proofs.Shows.Pixels.{IsPixels, pixels_shown, pixels_of_shown}
 use Rattle.bios_screen.proofs.Modes.PixelModes.{Planes, Graphics, row_of, row_in, number_in, graphics_row}
 use Rattle.bios_screen.proofs.Modes.PixelModes.Graphics.{Sixteen, Many}
 use Rattle.bios_screen.proofs.Dots.PlanarDots.{IsPlanar}
@@ -29,3 +29,23 @@ by_colours c d Q planar packed s t e =
     by_mode : (k : Graphics) → d.mode ≡ number_in k → AllTests (row_in k) c d → row_at d.mode d.height ≡ Some (row_in k) → Q (pixel_screen (row_in k) c d)
     by_mode (Sixteen m) n tests there = planar m (record { number = n; tests = tests; has = data_is (row_of m) d tests.data_test }) there
     by_mode Many n tests there = packed (record { number = n; tests = tests; has = data_is bytes_320_by_200 d tests.data_test }) there
+
+-- what holds of every screen of text that is shown, and of every one of pixels, holds of every screen that is shown
+pub by_contents : (c : CardState) (d : BiosData) (Q : Screen → Type 0) → ((h : IsShown c d) → Q (screen_shown c d h)) →
+    ((h : IsPixels c d) → Q (pixels_shown c d h)) → (s : Screen) → shown c d ≡ Some s → Q s
+by_contents c d Q text pixels s e = by_kind (is_text d.mode) refl
+  where
+    by_kind : (b : Bool) → is_text d.mode ≡ b → Q s
+    by_kind true t = let x = shown_is c d s t e in subst Q x.screen (text x.is)
+    by_kind false t = let x = pixels_of_shown c d s t e in subst Q x.screen (pixels x.is)
+
+-- in text, in sixteen colours and in 256
+pub by_modes : (c : CardState) (d : BiosData) (Q : Screen → Type 0) → ((h : IsShown c d) → Q (screen_shown c d h))
+    → ((m : Planes) → IsPlanar m c d → row_at d.mode d.height ≡ Some (row_of m) → Q (pixel_screen (row_of m) c d))
+    → (IsPacked c d → row_at d.mode d.height ≡ Some bytes_320_by_200 → Q (pixel_screen bytes_320_by_200 c d))
+    → (s : Screen) → shown c d ≡ Some s → Q s
+by_modes c d Q text planar packed s e = by_kind (is_text d.mode) refl
+  where
+    by_kind : (b : Bool) → is_text d.mode ≡ b → Q s
+    by_kind true t = let x = shown_is c d s t e in subst Q x.screen (text x.is)
+    by_kind false t = by_colours c d Q planar packed s t e

@@ -1,12 +1,11 @@
 -- What a shown screen says of registers and data, and what has to be known for a screen to be shown.
-use Rattle.std.proofs.Common.{◌≡◌, ℕ, ◌+◌, ◌*◌, ◌<◌, refl, sym, ap, ◌∙◌, Bool, true, false, List, Option, Some, None}
+use Rattle.std.proofs.Common.{◌≡◌, ℕ, ◌+◌, ◌*◌, ◌<◌, refl, sym, ap, ◌∙◌, subst, Bool, true, false, List, Option, Some, None}
 use Rattle.std.specs.Prelude.{slice_index, bit_and, ◌==◌, ◌&&◌, if◌then◌else◌}
 use Rattle.std.specs.Str.{bytes_eq}
 use Rattle.std.proofs.lemmas.Slice.Eq.{bytes_eq-Decides}
 use Rattle.vga_attr.specs.Fields.{is_palette_shown}
 use Rattle.vga_card.specs.Card.{CardState}
 use Rattle.bios_modes.specs.declared.modes.ModeRow.{ModeRow}
-use Rattle.bios_modes.specs.Heights.{row_at}
 use Rattle.bios_modes.specs.Heights.{row_at}
 use Rattle.bios_modes.specs.Bda.{BiosData}
 use Rattle.bios_modes.specs.declared.kind.Kind.{Kind}
@@ -33,9 +32,15 @@ pub record HasData (row : ModeRow) (d : BiosData) : Type 0 where
   pub start : d.start ≡ d.size * d.page
   pub page : d.page < row.pages
 
--- how many pages a mode has with this row, and the page that a call names there
+-- how many pages a mode has with this row, those that it has, and the page that a call names there
 pub pages_are : (row : ModeRow) (d : BiosData) → row_at d.mode d.height ≡ Some row → pages_of d ≡ row.pages
 pages_are row d e = ap pages_in e
+
+pub page_in : (row : ModeRow) (d : BiosData) (p : ℕ) → row_at d.mode d.height ≡ Some row → p < pages_of d → p < row.pages
+page_in row d p e l = subst (λ n. p < n) (pages_are row d e) l
+
+pub page_of : (row : ModeRow) (d : BiosData) (p : ℕ) → row_at d.mode d.height ≡ Some row → p < row.pages → p < pages_of d
+page_of row d p e l = subst (λ n. p < n) (sym (pages_are row d e)) l
 
 pub named_page : (row : ModeRow) (d : BiosData) → row_at d.mode d.height ≡ Some row → (page : ℕ) → page_named d page ≡ page_among row.pages page
 named_page row d e page = ap (λ n. page_among n page) (pages_are row d e)

@@ -1,0 +1,102 @@
+-- Functions 08, 09 and 0A in any mode: the character at the cursor is read, and characters are written from there on.
+use Rattle.std.proofs.Common.{◌≡◌, ℕ, ◌+◌, ◌<◌, ◌≤◌, ap, ◌∙◌, List, Some, None}
+use Rattle.vga_card.specs.Bounds.{IsCard}
+use Rattle.vga_card.specs.Bus.{card_meaning}
+use Rattle.vga_card.specs.Card.{CardState}
+use Rattle.bios_modes.specs.Bda.{BiosData}
+use Rattle.bios_modes.specs.Fonts.{FontSet}
+use Rattle.bios_modes.specs.Modes.{bytes_320_by_200}
+use Rattle.bios_services.specs.declared.regs.Regs.{Regs}
+use Rattle.bios_services.specs.declared.cell_run.CellRun.{CellRun}
+use Rattle.bios_services.specs.declared.colouring.Colouring.{Colouring}
+use Rattle.bios_services.specs.declared.call.Service.TheVariants.{ReadCell, WriteCells}
+use Rattle.bios_services.specs.Bounds.{pages_of}
+use Rattle.bios_services.specs.Cells.{cells_of}
+use Rattle.bios_services.specs.CellRuns.{cell_run_plan}
+use Rattle.bios_services.specs.Cursor.{cursor_cell}
+use Rattle.bios_services.specs.Drawing.{characters_plan}
+use Rattle.bios_services.specs.Plan.{Plan, run, Done, ◌>>=◌, ◌>>◌}
+use Rattle.bios_services.specs.Reasons.{◌or◌, no_page, outside_cells, past_cells}
+use Rattle.bios_services.specs.Refusals.{page_among, page_named, refusal_in_mode}
+use Rattle.bios_services.specs.Service.{plan_of, read_cell_service, Outcome}
+use Rattle.bios_screen.specs.Screen.{Screen}
+use Rattle.bios_screen.specs.Shown.{shown}
+use Rattle.bios_screen.specs.Step.{page_meant, refusal_on, next, answer_on, put_characters}
+use Rattle.bios_screen.specs.Served.{IsServed}
+use Rattle.bios_screen.proofs.Base.Plans.{run_bind}
+use Rattle.bios_screen.proofs.Base.Kept.{KeepsBounds, plan_beam}
+use Rattle.bios_screen.proofs.Base.Reasons.{cell_allowed, cells_allowed}
+use Rattle.bios_screen.proofs.Modes.PixelModes.{row_of}
+use Rattle.bios_screen.proofs.Shows.Screens.{pages_are, page_in, page_of, named_page}
+use Rattle.bios_screen.proofs.Shows.Any.{IsAny, any_screen, still_any}
+use Rattle.bios_screen.proofs.Shows.Kinds.{by_modes}
+use Rattle.bios_screen.proofs.Text.Writes as text
+use Rattle.bios_screen.proofs.Text.Writes.{IsCellRead}
+use Rattle.bios_screen.proofs.Planar.Writes as planar
+use Rattle.bios_screen.proofs.Planar.Cells as planar_cells
+use Rattle.bios_screen.proofs.Packed.Writes as packed
+use Rattle.bios_screen.proofs.Packed.Cells as packed_cells
+
+-- what a loop of characters leaves is the screen with them
+pub characters_shown : KeepsBounds → (fonts : FontSet) (c : CardState) (d : BiosData) (s : Screen) (p q n v : ℕ) (colouring : Colouring) → shown c d ≡ Some s →
+    IsCard c → p < pages_of d → q + n ≤ cells_of d → v < 256 → colouring.colour < 256
+    → shown (run card_meaning (characters_plan fonts d p q v colouring n) c).0 d ≡ Some (put_characters fonts s p q n v colouring)
+characters_shown law fonts c d s p q n v colouring e z lp lq lv la =
+    by_modes c d (λ w. shown (run card_meaning (characters_plan fonts d p q v colouring n) c).0 d ≡ Some (put_characters fonts w p q n v colouring))
+    (λ h. text.characters_shown fonts c d h z p q n v colouring (page_in h.row d p h.mode lp) lq lv la)
+    (λ m t row. planar.characters_shown law m c d t row z fonts p q n v colouring (page_in (row_of m) d p row lp) lq)
+    (λ t row. packed.characters_shown law c d t row z fonts p q n v colouring (page_in bytes_320_by_200 d p row lp) lq la)
+    s e
+
+-- the character at a cursor is answered, and the screen stays
+cell_read : KeepsBounds → (fonts : FontSet) (r : Regs) (c : CardState) (d : BiosData) (s : Screen) (p : ℕ) → shown c d ≡ Some s → IsCard c → p < pages_of d →
+    cursor_cell d p < cells_of d → IsCellRead fonts r c d p s
+cell_read law fonts r c d s p e z lp lq = by_modes c d (IsCellRead fonts r c d p)
+    (λ h. text.cell_read fonts r c d h p z (page_in h.row d p h.mode lp) lq)
+    (λ m t row. planar_cells.cell_read law m c d t row z fonts r p (page_in (row_of m) d p row lp) lq)
+    (λ t row. packed_cells.cell_read law c d t row z fonts r p (page_in bytes_320_by_200 d p row lp) lq)
+    s e
+
+module _ (law : KeepsBounds) (fonts : FontSet) (r : Regs) (block : List ℕ) (c : CardState) (d : BiosData) (h : IsAny c d) (z : IsCard c) where
+  abbrev s : Screen
+  s = any_screen c d h c
+
+  pub write_cells : (cells : CellRun) → cells.character < 256 → cells.colouring.colour < 256 → IsServed (WriteCells cells) fonts r block c d s
+  unfolding plan_of refusal_in_mode refusal_on next answer_on
+  write_cells cells lv la =
+      let p = page_meant s cells.page in
+      let plan = cell_run_plan fonts d (page_named d cells.page) cells in
+      let done : Plan Outcome = Done (r, d) in
+      let runs = run_bind card_meaning plan (λ _. done) c in
+      record {
+        refusal = ap (λ n. let at : ℕ = cursor_cell d (page_among n cells.page) in no_page n (page_among n cells.page) or outside_cells (cells_of d) at
+            or past_cells (cells_of d) at cells.count)
+            (pages_are h.row d h.mode);
+        answer = λ _. ap (λ q. q.1.0) runs;
+        shows = λ allowed.
+            let l = cells_allowed h.row.pages p (cursor_cell d p) cells.count (cells_of d) allowed in
+            ap (λ q. shown q.0 q.1.1) runs
+            ∙ ap (λ i. shown (run card_meaning (cell_run_plan fonts d i cells) c).0 d) (named_page h.row d h.mode cells.page)
+            ∙ characters_shown law fonts c d s p (cursor_cell d p) cells.count cells.character cells.colouring (still_any c d h) z
+            (page_of h.row d p h.mode l.0) l.1 lv la;
+        beam = plan_beam (plan >> done) c;
+      }
+
+  pub read_cell : (page : ℕ) → IsServed (ReadCell page) fonts r block c d s
+  unfolding plan_of refusal_in_mode refusal_on next answer_on
+  read_cell page =
+      let p = page_meant s page in
+      let plan = read_cell_service fonts (page_named d page) d r in
+      let done : Regs → Plan Outcome = λ after. Done (after, d) in
+      let runs = run_bind card_meaning plan done c
+      ∙ ap (λ i. let x = run card_meaning (read_cell_service fonts i d r) c in let y : CardState × Outcome = (x.0, (x.1, d)) in y)
+      (named_page h.row d h.mode page) in
+      let read : (no_page h.row.pages p or outside_cells (cells_of d) (cursor_cell d p)) ≡ None → IsCellRead fonts r c d p s = λ allowed.
+      let l = cell_allowed h.row.pages p (cursor_cell d p) (cells_of d) allowed in
+      cell_read law fonts r c d s p (still_any c d h) z (page_of h.row d p h.mode l.0) l.1 in
+      record {
+        refusal = ap (λ n. no_page n (page_among n page) or outside_cells (cells_of d) (cursor_cell d (page_among n page))) (pages_are h.row d h.mode);
+        answer = λ allowed. ap (λ q. q.1.0) runs ∙ (read allowed).answer;
+        shows = λ allowed. ap (λ q. shown q.0 q.1.1) runs ∙ (read allowed).shows;
+        beam = plan_beam (plan >>= done) c;
+      }
