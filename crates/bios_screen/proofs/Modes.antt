@@ -1,8 +1,9 @@
 -- The rows of the mode table, what their registers say, and what a clearing mode set leaves.
 pub mod TextModes
-pub mod Registers
-pub mod Entries
-pub mod TextFresh
 pub mod PixelModes
 pub mod AnyModes
+pub mod Registers
+pub mod Entries
+pub mod Fresh
+pub mod TextFresh
 pub mod PixelFresh

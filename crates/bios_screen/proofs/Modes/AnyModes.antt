@@ -1,14 +1,24 @@
--- The six modes as one table: the registers that memory cycles look at, the port of the CRT controller, and mode control.
+-- The six modes as one table: their numbers and rows, the registers that memory cycles look at, and mode control.
 use Rattle.std.proofs.Common.{ℕ}
+use Rattle.bios_modes.specs.declared.modes.ModeRow.{ModeRow}
 use Rattle.bios_screen.proofs.Base.Setting.{Setting}
-use Rattle.bios_screen.proofs.Modes.TextModes.{Display, text_setting, port_of as text_port, control_of as text_control}
-use Rattle.bios_screen.proofs.Modes.PixelModes.{Graphics, setting_in}
+use Rattle.bios_screen.proofs.Modes.TextModes.{Display, text_setting, port_of as text_port, control_of as text_control, row_of as text_row, number_of as text_number}
+use Rattle.bios_screen.proofs.Modes.PixelModes.{Graphics, setting_in, row_in, number_in}
 use Rattle.bios_screen.proofs.Modes.PixelModes.Graphics.{Sixteen, Many}
 
 -- the six modes
 pub data Tabled : Type 0 where
   OfText : Display → Tabled
   OfPixels : Graphics → Tabled
+
+-- the row as a mode set leaves it, and the number
+abbrev pub row_of : Tabled → ModeRow
+row_of (OfText disp) = text_row disp
+row_of (OfPixels k) = row_in k
+
+abbrev pub number_of : Tabled → ℕ
+number_of (OfText disp) = text_number disp
+number_of (OfPixels k) = number_in k
 
 abbrev pub setting_of : Tabled → Setting
 setting_of (OfText disp) = text_setting disp

@@ -1,7 +1,7 @@
 -- The DAC of a mode set.
-use Rattle.std.proofs.Common.{◌≡◌, ◌≢◌, ℕ, ◌+◌, ◌%◌, ◌<◌, ◌≤◌, ⊎_elim, refl, sym, ap, ◌∙◌, subst, arith, List, [], length, true}
-use Rattle.std.specs.Prelude.{◌==◌, slice_index, slice_set, bit_and}
-use Rattle.std.proofs.lemmas.Bool.{cases_eq, agree_below_at}
+use Rattle.std.proofs.Common.{◌≡◌, ◌≢◌, ℕ, ◌+◌, ◌%◌, ◌<◌, ◌≤◌, ⊎_elim, refl, sym, ap, ◌∙◌, subst, arith, List, [], length, Bool, true}
+use Rattle.std.specs.Prelude.{◌==◌, ◌&&◌, slice_index, slice_set, bit_and}
+use Rattle.std.proofs.lemmas.Bool.{cases_eq, agree_below, agree_below_at}
 use Rattle.std.proofs.lemmas.List.{get_or-set_same, get_or-set_other, length-set}
 use Rattle.vga_dac.specs.declared.component.Component.TheVariants.{Red}
 use Rattle.vga_dac.specs.Dac.{DacState}
@@ -14,7 +14,12 @@ use Rattle.bios_services.specs.Plan.{run, each}
 use Rattle.bios_services.specs.ModeSet.{colour_plan}
 use Rattle.bios_screen.proofs.Base.Flat.{Edited, Leaves, set_cell, set_same, set_other}
 use Rattle.bios_screen.proofs.Base.Edits.{one_edit, edits}
-use Rattle.bios_screen.proofs.Base.Tests.{same}
+use Rattle.bios_screen.proofs.Base.Tests.{both_true, same}
+use Rattle.bios_screen.proofs.Modes.TextModes.Display.{Colour as OfColours, Monochrome}
+use Rattle.bios_screen.proofs.Modes.PixelModes.Planes.{Low, Middle, High}
+use Rattle.bios_screen.proofs.Modes.PixelModes.Graphics.{Sixteen, Many}
+use Rattle.bios_screen.proofs.Modes.AnyModes.{Tabled, number_of}
+use Rattle.bios_screen.proofs.Modes.AnyModes.Tabled.{OfText, OfPixels}
 
 pub record Colour : Type 0 where
   pub red : ℕ
@@ -111,46 +116,24 @@ entries_set rest mode n s c l small t =
     n 0 s c (omega arith) (omega arith) t in
     record { cells = all.cells; shown = all.shown; fact = λ k h. all.fact.inside (record { turn = k; from = omega arith; before = h; place = tt }) ∙ small k h }
 
--- where that is so of each component
-keeps_by : (mode : ℕ) → ((k : ℕ) → k < 256 → (bit_and (colour_of (dac_entry mode k)).red 0x3F == (colour_of (dac_entry mode k)).red) ≡ true) →
-    ((k : ℕ) → k < 256 → (bit_and (colour_of (dac_entry mode k)).green 0x3F == (colour_of (dac_entry mode k)).green) ≡ true) →
-    ((k : ℕ) → k < 256 → (bit_and (colour_of (dac_entry mode k)).blue 0x3F == (colour_of (dac_entry mode k)).blue) ≡ true) → keeps_entries mode 256
-keeps_by mode f g h k l =
+-- where that is so of each component, which is computed
+abbrev is_kept : List ℕ → Bool
+is_kept l = (bit_and (slice_index l 0) 0x3F == slice_index l 0)
+    && ((bit_and (slice_index l 1) 0x3F == slice_index l 1) && (bit_and (slice_index l 2) 0x3F == slice_index l 2))
+
+keeps_by : (mode : ℕ) → agree_below (λ n. is_kept (dac_entry mode n)) (λ _. true) 256 ≡ true → keeps_entries mode 256
+keeps_by mode all k l =
     let x = colour_of (dac_entry mode k) in
-    ap (λ n. let y : Colour = record { red = n; green = bit_and x.green 0x3F; blue = bit_and x.blue 0x3F } in y) (same (f k l))
-    ∙ ap (λ n. let y : Colour = record { red = x.red; green = n; blue = bit_and x.blue 0x3F } in y) (same (g k l))
-    ∙ ap (λ n. let y : Colour = record { red = x.red; green = x.green; blue = n } in y) (same (h k l))
+    let a = both_true (bit_and x.red 0x3F == x.red) _ (agree_below_at (λ n. is_kept (dac_entry mode n)) (λ _. true) 256 k all l) in
+    let b = both_true (bit_and x.green 0x3F == x.green) (bit_and x.blue 0x3F == x.blue) a.1 in
+    ap (λ n. let y : Colour = record { red = n; green = bit_and x.green 0x3F; blue = bit_and x.blue 0x3F } in y) (same a.0)
+    ∙ ap (λ n. let y : Colour = record { red = x.red; green = n; blue = bit_and x.blue 0x3F } in y) (same b.0)
+    ∙ ap (λ n. let y : Colour = record { red = x.red; green = x.green; blue = n } in y) (same b.1)
 
-pub keeps_3 : keeps_entries 3 256
-keeps_3 k l =
-    let r = agree_below_at (λ n. bit_and (colour_of (dac_entry 3 n)).red 0x3F == (colour_of (dac_entry 3 n)).red) (λ _. true) 256 k refl l in
-    let g = agree_below_at (λ n. bit_and (colour_of (dac_entry 3 n)).green 0x3F == (colour_of (dac_entry 3 n)).green) (λ _. true) 256 k refl l in
-    let b = agree_below_at (λ n. bit_and (colour_of (dac_entry 3 n)).blue 0x3F == (colour_of (dac_entry 3 n)).blue) (λ _. true) 256 k refl l in
-    let r' : bit_and (colour_of (dac_entry 3 k)).red 0x3F ≡ (colour_of (dac_entry 3 k)).red = same r in
-    let g' : bit_and (colour_of (dac_entry 3 k)).green 0x3F ≡ (colour_of (dac_entry 3 k)).green = same g in
-    let b' : bit_and (colour_of (dac_entry 3 k)).blue 0x3F ≡ (colour_of (dac_entry 3 k)).blue = same b in
-    ap (λ x. let y : Colour = record {
-      red = x;
-      green = bit_and (colour_of (dac_entry 3 k)).green 0x3F;
-      blue = bit_and (colour_of (dac_entry 3 k)).blue 0x3F;
-    } in y) r'
-    ∙ ap (λ x. let y : Colour = record { red = (colour_of (dac_entry 3 k)).red; green = x; blue = bit_and (colour_of (dac_entry 3 k)).blue 0x3F } in y) g'
-    ∙ ap (λ x. let y : Colour = record { red = (colour_of (dac_entry 3 k)).red; green = (colour_of (dac_entry 3 k)).green; blue = x } in y) b'
-
-pub keeps_7 : keeps_entries 7 256
-keeps_7 k l =
-    let r = agree_below_at (λ n. bit_and (colour_of (dac_entry 7 n)).red 0x3F == (colour_of (dac_entry 7 n)).red) (λ _. true) 256 k refl l in
-    let r' : bit_and (colour_of (dac_entry 7 k)).red 0x3F ≡ (colour_of (dac_entry 7 k)).red = same r in
-    ap (λ x. let y : Colour = record { red = x; green = x; blue = x } in y) r'
-
-pub keeps_0D : keeps_entries 0x0D 256
-keeps_0D = keeps_by 0x0D
-    (λ k l. agree_below_at (λ n. bit_and (colour_of (dac_entry 0x0D n)).red 0x3F == (colour_of (dac_entry 0x0D n)).red) (λ _. true) 256 k refl l)
-    (λ k l. agree_below_at (λ n. bit_and (colour_of (dac_entry 0x0D n)).green 0x3F == (colour_of (dac_entry 0x0D n)).green) (λ _. true) 256 k refl l)
-    (λ k l. agree_below_at (λ n. bit_and (colour_of (dac_entry 0x0D n)).blue 0x3F == (colour_of (dac_entry 0x0D n)).blue) (λ _. true) 256 k refl l)
-
-pub keeps_13 : keeps_entries 0x13 256
-keeps_13 = keeps_by 0x13
-    (λ k l. agree_below_at (λ n. bit_and (colour_of (dac_entry 0x13 n)).red 0x3F == (colour_of (dac_entry 0x13 n)).red) (λ _. true) 256 k refl l)
-    (λ k l. agree_below_at (λ n. bit_and (colour_of (dac_entry 0x13 n)).green 0x3F == (colour_of (dac_entry 0x13 n)).green) (λ _. true) 256 k refl l)
-    (λ k l. agree_below_at (λ n. bit_and (colour_of (dac_entry 0x13 n)).blue 0x3F == (colour_of (dac_entry 0x13 n)).blue) (λ _. true) 256 k refl l)
+pub keeps : (k : Tabled) → keeps_entries (number_of k) 256
+keeps (OfText OfColours) = keeps_by 0x03 refl
+keeps (OfText Monochrome) = keeps_by 0x07 refl
+keeps (OfPixels (Sixteen Low)) = keeps_by 0x0D refl
+keeps (OfPixels (Sixteen Middle)) = keeps_by 0x10 refl
+keeps (OfPixels (Sixteen High)) = keeps_by 0x12 refl
+keeps (OfPixels Many) = keeps_by 0x13 refl

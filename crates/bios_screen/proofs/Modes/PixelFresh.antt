@@ -1,6 +1,6 @@
 -- A clearing mode set to graphics: from any state to one that shows the fresh screen.
 use Rattle.std.proofs.Common.{◌≡◌, ◌≢◌, ℕ, zero, suc, ◌+◌, ◌-◌, ◌*◌, ◌/◌, ◌%◌, ◌<◌, ◌≤◌, ⊎_elim, refl, sym, ap, ◌∙◌, subst, arith, List, [], length, replicate}
-use Rattle.std.proofs.Common.{Option, Some, None, true, false}
+use Rattle.std.proofs.Common.{Some, None, true, false}
 use Rattle.std.specs.Prelude.{slice_index, slice_set, ◌==◌, if◌then◌else◌}
 use Rattle.std.specs.Int.{bit_at}
 use Rattle.std.proofs.lemmas.Bool.{cases_eq, cases_lt}
@@ -10,7 +10,6 @@ use Rattle.std.proofs.lemmas.Nat.Bits.{bit_at-zero}
 use Rattle.vga_bits.specs.Bits.{byte_of}
 use Rattle.vga_bits.specs.Four.{Four, four, of_plane}
 use Rattle.vga_planes.specs.Planes.{byte_at}
-use Rattle.vga_dac.specs.declared.component.Component.TheVariants.{Red}
 use Rattle.vga_dac.specs.Dac.{DacState}
 use Rattle.vga_host.specs.Host.{HostState}
 use Rattle.vga_host.specs.Address.{is_decoded, window_offset}
@@ -18,37 +17,26 @@ use Rattle.vga_host.specs.MemoryWrite.{written_bit, combined_bit, memory_after_p
 use Rattle.vga_card.specs.Bounds.{IsCard}
 use Rattle.vga_card.specs.Bus.{card_meaning}
 use Rattle.vga_card.specs.Card.{CardState}
-use Rattle.vga_card.specs.Port.{port_of as reached_by}
-use Rattle.vga_card.specs.Cycles.{out_at}
 use Rattle.bios_modes.specs.declared.modes.ModeRow.{ModeRow}
 use Rattle.bios_modes.specs.Heights.{row_at}
-use Rattle.bios_modes.specs.Palette.{dac_entry}
-use Rattle.bios_modes.specs.Fonts.{FontSet}
 use Rattle.bios_modes.specs.Begin.{data_of_mode}
 use Rattle.bios_modes.specs.Bda.{BiosData}
-use Rattle.bios_services.specs.declared.regs.Regs.{Regs}
-use Rattle.bios_services.specs.declared.call.Call.{Call}
-use Rattle.bios_services.specs.declared.call.Call.TheVariants.{SetMode}
-use Rattle.bios_services.specs.Service.{call_plan, set_mode_plan, answer_of, Answered, service as whole_service}
-use Rattle.bios_services.specs.Plan.{Plan, Done, run, put, each, ◌>>◌}
+use Rattle.bios_services.specs.Plan.{Plan, run, put, each}
 use Rattle.bios_modes.specs.Kinds.{is_text}
-use Rattle.bios_services.specs.ModeSet.{registers_plan, colour_plan, palette_plan, clear_plan, memory_plan, mode_set_plan}
-use Rattle.bios_screen.specs.Screen.{Pixels, Screen}
+use Rattle.bios_services.specs.ModeSet.{clear_plan, memory_plan, mode_set_plan}
+use Rattle.bios_screen.specs.Screen.{Pixels, Palette, Screen}
 use Rattle.bios_screen.specs.Shown.{planar_pixel, packed_pixel, pixel_in, pixels_in, pixel_pages, shows, screen_by, text_screen, pixel_screen, screen_of, shown}
 use Rattle.bios_screen.specs.Shown.{shown_by}
-use Rattle.bios_screen.specs.Fresh.{default_component, blank_pixels, fresh_text, fresh_pixels, fresh_screen}
+use Rattle.bios_screen.specs.Fresh.{blank_pixels, fresh_text, fresh_pixels}
 use Rattle.bios_screen.specs.Served.{SetsFresh}
-use Rattle.bios_screen.proofs.Base.Plans.{then_runs, then_answers}
 use Rattle.bios_screen.proofs.Base.Lists.{blank_listing}
-use Rattle.bios_screen.proofs.Base.Kept.{KeepsBounds, plan_bounds, plan_beam}
+use Rattle.bios_screen.proofs.Base.Kept.{KeepsBounds, plan_bounds}
 use Rattle.bios_screen.proofs.Base.Setting.{setting, host_at, with_memory, put_decoded}
-use Rattle.bios_screen.proofs.Modes.Registers.{in_mode, registers_0D, registers_10, registers_12, registers_13}
-use Rattle.bios_screen.proofs.Modes.Entries.{Colour as Entry, colour_of, entry_at, without_entries, HasEntries, keeps_entries, keeps_3, keeps_0D, keeps_13}
-use Rattle.bios_screen.proofs.Modes.Entries.{entries_set}
-use Rattle.bios_screen.proofs.Modes.TextFresh.{but_entries, component_same}
+use Rattle.bios_screen.proofs.Modes.Fresh.{palette_is, coloured, prepared, ShowsFresh, sets_fresh}
 use Rattle.bios_screen.proofs.Modes.PixelModes.{Planes, row_of, Graphics, row_in, setting_in, number_in, text_by, packed_by}
 use Rattle.bios_screen.proofs.Modes.PixelModes.Planes.{Low, Middle, High}
 use Rattle.bios_screen.proofs.Modes.PixelModes.Graphics.{Sixteen, Many}
+use Rattle.bios_screen.proofs.Modes.AnyModes.Tabled.{OfPixels}
 
 -- ---- memory is cleared
 
@@ -219,27 +207,6 @@ text_in : (k : Graphics) → is_text (number_in k) ≡ false
 text_in (Sixteen m) = text_by m
 text_in Many = refl
 
-keeps : (k : Graphics) → keeps_entries (number_in k) 256
-keeps (Sixteen Low) = keeps_0D
-keeps (Sixteen Middle) = keeps_3
-keeps (Sixteen High) = keeps_3
-keeps Many = keeps_13
-
-registers_by : (k : Graphics) (c : CardState) → IsCard c → (run card_meaning (registers_plan (row_in k)) c).0 ≡ in_mode (row_in k) c
-registers_by (Sixteen Low) c z = registers_0D c z
-registers_by (Sixteen Middle) c z = registers_10 c z
-registers_by (Sixteen High) c z = registers_12 c z
-registers_by Many c z = registers_13 c z
-
--- the DAC's mask is set and its index is 0
-abbrev masked : CardState → CardState
-masked c = record c { dac = record c.dac { mask = 0xFF; index = 0; component = Red } }
-
-palette_by : (k : Graphics) (c : CardState) (n : ℕ) → (run card_meaning (palette_plan (number_in k) n) c).0
-    ≡ (run card_meaning (each (λ i. colour_plan (dac_entry (number_in k) i)) n 0) (masked c)).0
-unfolding palette_plan reached_by out_at
-palette_by k c n = refl
-
 memory_is : (k : Graphics) (font : List ℕ) (c : CardState) → (run card_meaning (memory_plan (number_in k) (row_in k) false font) c).0
     ≡ (run card_meaning (clear_plan 0x10000) c).0
 unfolding memory_plan
@@ -248,14 +215,11 @@ memory_is (Sixteen Middle) font c = refl
 memory_is (Sixteen High) font c = refl
 memory_is Many font c = refl
 
-abbrev coloured : Graphics → CardState → DacState → CardState
-coloured k c d = record (in_mode (row_in k) c) { dac = d }
-
-setting_by : (k : Graphics) (c : CardState) (d : DacState) → setting (coloured k c d) ≡ setting_in k
+setting_by : (k : Graphics) (c : CardState) (d : DacState) → setting (coloured (row_in k) c d) ≡ setting_in k
 setting_by k c d = refl
 
 -- the test, where all is literal
-test_by : (k : Graphics) (c : CardState) (d : DacState) → shows (row_in k) (coloured k c d) (data_of_mode (number_in k) (row_in k)) ≡ true
+test_by : (k : Graphics) (c : CardState) (d : DacState) → shows (row_in k) (coloured (row_in k) c d) (data_of_mode (number_in k) (row_in k)) ≡ true
 unfolding shows
 test_by (Sixteen Low) c d = refl
 test_by (Sixteen Middle) c d = refl
@@ -267,114 +231,28 @@ test_stays : (row : ModeRow) (c y : CardState) (d : BiosData) → without_memory
 unfolding shows
 test_stays row c y d e = ap (λ x. shows row x d) e
 
-record FreshState (k : Graphics) (c s : CardState) : Type 0 where
-  dac : DacState
-  others : without_memory s ≡ without_memory (coloured k c dac)
-  mask : dac.mask ≡ 0xFF
-  reds : dac.reds ≡ default_component (number_in k) 0 256
-  greens : dac.greens ≡ default_component (number_in k) 1 256
-  blues : dac.blues ≡ default_component (number_in k) 2 256
-  clear : (w : ℕ) → w < 65536 → IsClear k s.host.memory w
-
-fresh_state : (k : Graphics) (law : KeepsBounds) (c : CardState) (fonts : FontSet) → IsCard c →
-    FreshState k c (run card_meaning (mode_set_plan (number_in k) (row_in k) false fonts) c).0
+shows_fresh : (k : Graphics) → KeepsBounds → ShowsFresh (OfPixels k)
 unfolding mode_set_plan
-fresh_state k law c fonts z =
+shows_fresh k law c fonts z small =
     let mode = number_in k in
     let row = row_in k in
     let font = fonts.f16 in
-    let entries = each (λ i. colour_plan (dac_entry mode i)) 256 0 in
-    let y0 = in_mode row c in
-    let z0 : IsCard y0 = subst IsCard (registers_by k c z) (plan_bounds law (registers_plan row) c z) in
-    let y1 = masked y0 in
-    let z1 : IsCard y1 = record {
-      host = z0.host;
-      crtc = z0.crtc;
-      attr = z0.attr;
-      dac = record { reds = z0.dac.reds; greens = z0.dac.greens; blues = z0.dac.blues };
-    } in
-    let s2 = (run card_meaning entries y1).0 in
-    let start : HasEntries (without_entries y1) 0 y1 (entry_at y1.dac) = record {
-      index = refl;
-      component = refl;
-      reds = z1.dac.reds;
-      greens = z1.dac.greens;
-      blues = z1.dac.blues;
-      entry = λ k l. refl;
-      others = refl;
-    } in
-    let colours = entries_set (without_entries y1) mode 256 y1 (entry_at y1.dac) (omega arith) (keeps k) start in
-    let d2 : DacState = record s2.dac { mask = 0xFF } in
-    let y2 = coloured k c d2 in
-    let e2 : s2 ≡ y2 = but_entries s2 y1 colours.shown.others in
-    let z2 : IsCard y2 = subst IsCard e2 (plan_bounds law entries y1 z1) in
-    let done = memory_clear k law y2 z2 (setting_by k c d2) in
-    let whole : (run card_meaning (mode_set_plan mode row false fonts) c).0 ≡ (run card_meaning (clear_plan 0x10000) y2).0 =
-    then_runs (registers_plan row) (palette_plan mode 256 >> memory_plan mode row false font) c
-    ∙ ap (λ x. (run card_meaning (palette_plan mode 256 >> memory_plan mode row false font) x).0) (registers_by k c z)
-    ∙ then_runs (palette_plan mode 256) (memory_plan mode row false font) y0
-    ∙ ap (λ x. (run card_meaning (memory_plan mode row false font) x).0) (palette_by k y0 256 ∙ e2)
-    ∙ memory_is k font y2 in
-    let entry : (j : ℕ) → j < 256 → entry_at d2 j ≡ colour_of (dac_entry mode j) = λ j l. colours.shown.entry j l ∙ colours.fact j l in
-    subst (FreshState k c) (sym whole) (record {
-      dac = d2;
-      others = done.others;
-      mask = refl;
-      reds = component_same mode 0 256 d2.reds colours.shown.reds (λ j l. ap (λ (x : Entry). x.red) (entry j l));
-      greens = component_same mode 1 256 d2.greens colours.shown.greens (λ j l. ap (λ (x : Entry). x.green) (entry j l));
-      blues = component_same mode 2 256 d2.blues colours.shown.blues (λ j l. ap (λ (x : Entry). x.blue) (entry j l));
-      clear = done.clear;
-    })
-
-mode_shown : (k : Graphics) (law : KeepsBounds) (c : CardState) (fonts : FontSet) → IsCard c →
-    shown (run card_meaning (mode_set_plan (number_in k) (row_in k) false fonts) c).0 (data_of_mode (number_in k) (row_in k))
-    ≡ Some (fresh_screen (number_in k) (row_in k) fonts.f16 c.crtc.beam.frame)
-mode_shown k law c fonts z =
-    let mode = number_in k in
-    let row = row_in k in
-    let s = (run card_meaning (mode_set_plan mode row false fonts) c).0 in
     let d = data_of_mode mode row in
-    let t = fresh_state k law c fonts z in
-    let y = coloured k c t.dac in
+    let first = prepared (OfPixels k) law c z in
+    let y = coloured row c first.dac in
+    let s = (run card_meaning (clear_plan 0x10000) y).0 in
+    let t = memory_clear k law y first.bounds (setting_by k c first.dac) in
     let new = fresh_pixels mode row c.crtc.beam.frame in
-    let text = fresh_text mode row fonts.f16 c.crtc.beam.frame in
+    let text = fresh_text mode row font c.crtc.beam.frame in
     let pages = replicate row.pages (blank_pixels (pixels_of row)) in
-    ap (λ x. shown_by x s d) (row_by k)
-    ∙ ap (λ b. if b then Some (screen_of row s d) else None) (test_stays row y s d t.others ∙ test_by k c t.dac)
+    ap (λ x. shown x d) (first.runs (memory_plan mode row false font) ∙ memory_is k font y)
+    ∙ ap (λ x. shown_by x s d) (row_by k)
+    ∙ ap (λ b. if b then Some (screen_of row s d) else None) (test_stays row y s d t.others ∙ test_by k c first.dac)
     ∙ ap (λ b. let x : Screen = (if b then text_screen row s d else pixel_screen row s d) in Some x) (text_in k)
     ∙ ap (λ p. Some (screen_by row s d 0 (Pixels p) [])) (pages_blank k s.host.memory t.clear)
     ∙ ap (λ x. Some (screen_by row x d 0 (Pixels pages) [])) t.others
-    ∙ ap (λ j. let x : Screen = record new { palette = record new.palette { reds = t.dac.reds; greens = t.dac.greens; blues = t.dac.blues; mask = j } } in
-    Some x) t.mask
-    ∙ ap (λ j. let x : Screen = record new { palette = record new.palette { reds = j; greens = t.dac.greens; blues = t.dac.blues } } in Some x) t.reds
-    ∙ ap (λ j. let x : Screen = record new { palette = record new.palette { greens = j; blues = t.dac.blues } } in Some x) t.greens
-    ∙ ap (λ j. let x : Screen = record new { palette = record new.palette { blues = j } } in Some x) t.blues
+    ∙ ap (λ (p : Palette). let x : Screen = record new { palette = p } in Some x) (palette_is mode row c first.dac first.colours)
     ∙ sym (ap (λ b. let x : Screen = (if b then text else new) in Some x) (text_in k))
 
--- the call's plan is the mode's
-call_is : (k : Graphics) (fonts : FontSet) (r : Regs) (block : List ℕ) (d : BiosData) (c : CardState) →
-    run card_meaning (call_plan (Some (SetMode (number_in k) false)) fonts d r block) c
-    ≡ run card_meaning (mode_set_plan (number_in k) (row_in k) false fonts >> (let q : Plan Answered =
-    Done (answer_of r (data_of_mode (number_in k) (row_in k))) in q)) c
-unfolding set_mode_plan
-call_is (Sixteen Low) fonts r block d c = refl
-call_is (Sixteen Middle) fonts r block d c = refl
-call_is (Sixteen High) fonts r block d c = refl
-call_is Many fonts r block d c = refl
-
-pub sets_fresh : (k : Graphics) (law : KeepsBounds) → SetsFresh (number_in k) (row_in k)
-sets_fresh k law fonts r block c d z small e =
-    let mode = number_in k in
-    let row = row_in k in
-    let plan = mode_set_plan mode row false fonts in
-    let done : Plan Answered = Done (answer_of r (data_of_mode mode row)) in
-    let runs : run card_meaning (whole_service fonts d r block) c ≡ run card_meaning (plan >> done) c =
-    ap (λ (x : Option Call). run card_meaning (call_plan x fonts d r block) c) e ∙ call_is k fonts r block d c in
-    record {
-      answer = ap (λ x. x.1.0) runs ∙ ap (λ (x : Answered). x.0) (then_answers plan done c);
-      shows = ap (λ x. shown x.0 x.1.1) runs
-          ∙ ap (λ y. shown y (run card_meaning (plan >> done) c).1.1) (then_runs plan done c)
-          ∙ ap (λ (x : Answered). shown (run card_meaning plan c).0 x.1) (then_answers plan done c)
-          ∙ mode_shown k law c fonts z;
-      beam = ap (λ x. x.0.crtc.beam) runs ∙ plan_beam (plan >> done) c;
-    }
+pub pixels_set_fresh : (k : Graphics) → KeepsBounds → SetsFresh (number_in k) (row_in k)
+pixels_set_fresh k law = sets_fresh (OfPixels k) (shows_fresh k law)

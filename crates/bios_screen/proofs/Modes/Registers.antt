@@ -1,5 +1,5 @@
 -- The registers of a mode set, from any state.
-use Rattle.std.proofs.Common.{◌≡◌, ℕ, ap, ◌∙◌, List, false}
+use Rattle.std.proofs.Common.{◌≡◌, ℕ, refl, ap, ◌∙◌, List, false}
 use Rattle.std.specs.Prelude.{slice_index}
 use Rattle.vga_crtc.specs.Ports.{after_out as after_crtc}
 use Rattle.vga_crtc.specs.Fields.{is_protected, overflow}
@@ -9,12 +9,16 @@ use Rattle.vga_card.specs.Card.{CardState}
 use Rattle.vga_card.specs.Port.{port_of, crtc_port_of}
 use Rattle.vga_card.specs.Cycles.{out_at, inp_at}
 use Rattle.bios_modes.specs.declared.modes.ModeRow.{ModeRow}
-use Rattle.bios_modes.specs.Modes.{colour_text, monochrome_text, planes_320_by_200, planes_640_by_350, planes_640_by_480, bytes_320_by_200}
 use Rattle.bios_services.specs.Plan.{run}
 use Rattle.bios_services.specs.Cycles.{group, attribute_group}
 use Rattle.bios_services.specs.ModeSet.{registers_plan}
 use Rattle.bios_screen.specs.Listing.{listing}
 use Rattle.bios_screen.proofs.Base.Lists.{spelled}
+use Rattle.bios_screen.proofs.Modes.TextModes.Display.{Colour, Monochrome}
+use Rattle.bios_screen.proofs.Modes.PixelModes.Planes.{Low, Middle, High}
+use Rattle.bios_screen.proofs.Modes.PixelModes.Graphics.{Sixteen, Many}
+use Rattle.bios_screen.proofs.Modes.AnyModes.{Tabled, row_of}
+use Rattle.bios_screen.proofs.Modes.AnyModes.Tabled.{OfText, OfPixels}
 
 abbrev with_registers : CardState → List ℕ → List ℕ → List ℕ → List ℕ → CardState
 with_registers c seq gfx crtc attr = record c {
@@ -45,26 +49,14 @@ in_mode row c = record c {
   misc = row.misc;
 }
 
-pub registers_3 : (c : CardState) → IsCard c → (run card_meaning (registers_plan colour_text) c).0 ≡ in_mode colour_text c
+registers_by : (k : Tabled) (c : CardState) → (run card_meaning (registers_plan (row_of k)) (spelled_card c)).0 ≡ in_mode (row_of k) c
 unfolding registers_plan group attribute_group port_of crtc_port_of out_at inp_at after_crtc is_protected overflow
-registers_3 c z = ap (λ x. (run card_meaning (registers_plan colour_text) x).0) (card_spelled c z)
+registers_by (OfText Colour) c = refl
+registers_by (OfText Monochrome) c = refl
+registers_by (OfPixels (Sixteen Low)) c = refl
+registers_by (OfPixels (Sixteen Middle)) c = refl
+registers_by (OfPixels (Sixteen High)) c = refl
+registers_by (OfPixels Many) c = refl
 
-pub registers_7 : (c : CardState) → IsCard c → (run card_meaning (registers_plan monochrome_text) c).0 ≡ in_mode monochrome_text c
-unfolding registers_plan group attribute_group port_of crtc_port_of out_at inp_at after_crtc is_protected overflow
-registers_7 c z = ap (λ x. (run card_meaning (registers_plan monochrome_text) x).0) (card_spelled c z)
-
-pub registers_0D : (c : CardState) → IsCard c → (run card_meaning (registers_plan planes_320_by_200) c).0 ≡ in_mode planes_320_by_200 c
-unfolding registers_plan group attribute_group port_of crtc_port_of out_at inp_at after_crtc is_protected overflow
-registers_0D c z = ap (λ x. (run card_meaning (registers_plan planes_320_by_200) x).0) (card_spelled c z)
-
-pub registers_10 : (c : CardState) → IsCard c → (run card_meaning (registers_plan planes_640_by_350) c).0 ≡ in_mode planes_640_by_350 c
-unfolding registers_plan group attribute_group port_of crtc_port_of out_at inp_at after_crtc is_protected overflow
-registers_10 c z = ap (λ x. (run card_meaning (registers_plan planes_640_by_350) x).0) (card_spelled c z)
-
-pub registers_12 : (c : CardState) → IsCard c → (run card_meaning (registers_plan planes_640_by_480) c).0 ≡ in_mode planes_640_by_480 c
-unfolding registers_plan group attribute_group port_of crtc_port_of out_at inp_at after_crtc is_protected overflow
-registers_12 c z = ap (λ x. (run card_meaning (registers_plan planes_640_by_480) x).0) (card_spelled c z)
-
-pub registers_13 : (c : CardState) → IsCard c → (run card_meaning (registers_plan bytes_320_by_200) c).0 ≡ in_mode bytes_320_by_200 c
-unfolding registers_plan group attribute_group port_of crtc_port_of out_at inp_at after_crtc is_protected overflow
-registers_13 c z = ap (λ x. (run card_meaning (registers_plan bytes_320_by_200) x).0) (card_spelled c z)
+pub registers_set : (k : Tabled) (c : CardState) → IsCard c → (run card_meaning (registers_plan (row_of k)) c).0 ≡ in_mode (row_of k) c
+registers_set k c z = ap (λ x. (run card_meaning (registers_plan (row_of k)) x).0) (card_spelled c z) ∙ registers_by k c

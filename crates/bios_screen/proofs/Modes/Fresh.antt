@@ -1,0 +1,165 @@
+-- A clearing mode set, down to its memory: registers and the DAC's entries; and the call around it.
+use Rattle.std.proofs.Common.{◌≡◌, ℕ, ◌<◌, refl, ap, ◌∙◌, subst, arith, List, length, Option, Some, false}
+use Rattle.std.specs.Prelude.{slice_index}
+use Rattle.vga_dac.specs.declared.component.Component.TheVariants.{Red}
+use Rattle.vga_dac.specs.Dac.{DacState}
+use Rattle.vga_card.specs.Bounds.{IsCard}
+use Rattle.vga_card.specs.Bus.{card_meaning}
+use Rattle.vga_card.specs.Card.{CardState}
+use Rattle.vga_card.specs.Port.{port_of as reached_by}
+use Rattle.vga_card.specs.Cycles.{out_at}
+use Rattle.bios_modes.specs.declared.modes.ModeRow.{ModeRow}
+use Rattle.bios_modes.specs.Palette.{dac_entry}
+use Rattle.bios_modes.specs.Fonts.{FontSet}
+use Rattle.bios_modes.specs.Begin.{data_of_mode}
+use Rattle.bios_modes.specs.Bda.{BiosData}
+use Rattle.bios_modes.specs.Bounds.{AreBytes}
+use Rattle.bios_services.specs.declared.regs.Regs.{Regs}
+use Rattle.bios_services.specs.declared.call.Call.{Call}
+use Rattle.bios_services.specs.declared.call.Call.TheVariants.{SetMode}
+use Rattle.bios_services.specs.Service.{call_plan, set_mode_plan, answer_of, Answered, service as whole_service}
+use Rattle.bios_services.specs.Plan.{Plan, Done, run, each, ◌>>◌}
+use Rattle.bios_services.specs.ModeSet.{registers_plan, colour_plan, palette_plan, mode_set_plan}
+use Rattle.bios_screen.specs.Screen.{Palette}
+use Rattle.bios_screen.specs.Shown.{palette_in, shown}
+use Rattle.bios_screen.specs.Fresh.{default_component, fresh_palette, fresh_screen}
+use Rattle.bios_screen.specs.Served.{SetsFresh}
+use Rattle.bios_screen.proofs.Base.Plans.{then_runs, then_answers}
+use Rattle.bios_screen.proofs.Base.Lists.{same_from_0, spelled}
+use Rattle.bios_screen.proofs.Base.Kept.{KeepsBounds, plan_bounds, plan_beam}
+use Rattle.bios_screen.proofs.Modes.TextModes.Display.{Colour, Monochrome}
+use Rattle.bios_screen.proofs.Modes.PixelModes.Planes.{Low, Middle, High}
+use Rattle.bios_screen.proofs.Modes.PixelModes.Graphics.{Sixteen, Many}
+use Rattle.bios_screen.proofs.Modes.AnyModes.{Tabled, row_of, number_of}
+use Rattle.bios_screen.proofs.Modes.AnyModes.Tabled.{OfText, OfPixels}
+use Rattle.bios_screen.proofs.Modes.Registers.{in_mode, registers_set}
+use Rattle.bios_screen.proofs.Modes.Entries.{Colour as Entry, colour_of, entry_at, without_entries, HasEntries, keeps, entries_set}
+
+-- ---- the DAC
+
+-- states that agree but for entries are one but for those
+but_entries : (x y : CardState) → without_entries x ≡ without_entries y → x ≡ record y { dac = record x.dac { mask = y.dac.mask } }
+but_entries x y e = ap (λ s. let r : CardState = record s { dac = record x.dac { mask = s.dac.mask } } in r) e
+
+component_same : (mode i n : ℕ) (l : List ℕ) → length l ≡ n → ((k : ℕ) → k < n → slice_index l k ≡ slice_index (dac_entry mode k) i) →
+    l ≡ default_component mode i n
+unfolding default_component
+component_same mode i n l e h = spelled l n e ∙ same_from_0 (λ k. slice_index (dac_entry mode k) i) (slice_index l) n h
+
+-- the DAC's mask is set and its index is 0
+abbrev masked : CardState → CardState
+masked c = record c { dac = record c.dac { mask = 0xFF; index = 0; component = Red } }
+
+masked_is : (mode : ℕ) (c : CardState) (n : ℕ) → (run card_meaning (palette_plan mode n) c).0
+    ≡ (run card_meaning (each (λ i. colour_plan (dac_entry mode i)) n 0) (masked c)).0
+unfolding palette_plan reached_by out_at
+masked_is mode c n = refl
+
+-- a DAC has the colours of a mode
+pub record HasColours (mode : ℕ) (d : DacState) : Type 0 where
+  pub mask : d.mask ≡ 0xFF
+  pub reds : d.reds ≡ default_component mode 0 256
+  pub greens : d.greens ≡ default_component mode 1 256
+  pub blues : d.blues ≡ default_component mode 2 256
+
+-- the adapter with a mode's registers and this DAC
+abbrev pub coloured : ModeRow → CardState → DacState → CardState
+coloured row c d = record (in_mode row c) { dac = d }
+
+-- then its palette is the fresh screen's
+pub palette_is : (mode : ℕ) (row : ModeRow) (c : CardState) (d : DacState) → HasColours mode d → palette_in (coloured row c d) ≡ fresh_palette mode row
+palette_is mode row c d t =
+    ap (λ k. let p : Palette = record (palette_in (coloured row c d)) { mask = k } in p) t.mask
+    ∙ ap (λ k. let p : Palette = record (fresh_palette mode row) { reds = k; greens = d.greens; blues = d.blues } in p) t.reds
+    ∙ ap (λ k. let p : Palette = record (fresh_palette mode row) { greens = k; blues = d.blues } in p) t.greens
+    ∙ ap (λ k. let p : Palette = record (fresh_palette mode row) { blues = k } in p) t.blues
+
+-- what registers and palette of a mode leave, before the rest of its plan
+pub record Prepared (mode : ℕ) (row : ModeRow) (c : CardState) : Type 0 where
+  pub dac : DacState
+  pub colours : HasColours mode dac
+  pub bounds : IsCard (coloured row c dac)
+  pub runs : (rest : Plan (Unit {0})) → (run card_meaning (registers_plan row >> (palette_plan mode 256 >> rest)) c).0
+      ≡ (run card_meaning rest (coloured row c dac)).0
+
+pub prepared : (k : Tabled) → KeepsBounds → (c : CardState) → IsCard c → Prepared (number_of k) (row_of k) c
+prepared k law c z =
+    let mode = number_of k in
+    let row = row_of k in
+    let entries = each (λ i. colour_plan (dac_entry mode i)) 256 0 in
+    let y0 = in_mode row c in
+    let z0 : IsCard y0 = subst IsCard (registers_set k c z) (plan_bounds law (registers_plan row) c z) in
+    let y1 = masked y0 in
+    let z1 : IsCard y1 = record {
+      host = z0.host;
+      crtc = z0.crtc;
+      attr = z0.attr;
+      dac = record { reds = z0.dac.reds; greens = z0.dac.greens; blues = z0.dac.blues };
+    } in
+    let s2 = (run card_meaning entries y1).0 in
+    let start : HasEntries (without_entries y1) 0 y1 (entry_at y1.dac) = record {
+      index = refl;
+      component = refl;
+      reds = z1.dac.reds;
+      greens = z1.dac.greens;
+      blues = z1.dac.blues;
+      entry = λ i l. refl;
+      others = refl;
+    } in
+    let set = entries_set (without_entries y1) mode 256 y1 (entry_at y1.dac) (omega arith) (keeps k) start in
+    let d : DacState = record s2.dac { mask = 0xFF } in
+    let e : s2 ≡ coloured row c d = but_entries s2 y1 set.shown.others in
+    let entry : (i : ℕ) → i < 256 → entry_at d i ≡ colour_of (dac_entry mode i) = λ i l. set.shown.entry i l ∙ set.fact i l in
+    record {
+      dac = d;
+      colours = record {
+        mask = refl;
+        reds = component_same mode 0 256 d.reds set.shown.reds (λ i l. ap (λ (x : Entry). x.red) (entry i l));
+        greens = component_same mode 1 256 d.greens set.shown.greens (λ i l. ap (λ (x : Entry). x.green) (entry i l));
+        blues = component_same mode 2 256 d.blues set.shown.blues (λ i l. ap (λ (x : Entry). x.blue) (entry i l));
+      };
+      bounds = subst IsCard e (plan_bounds law entries y1 z1);
+      runs = λ rest.
+          then_runs (registers_plan row) (palette_plan mode 256 >> rest) c
+          ∙ ap (λ x. (run card_meaning (palette_plan mode 256 >> rest) x).0) (registers_set k c z)
+          ∙ then_runs (palette_plan mode 256) rest y0
+          ∙ ap (λ x. (run card_meaning rest x).0) (masked_is mode y0 256 ∙ e);
+    }
+
+-- ---- the call
+
+-- its plan is the mode's
+call_is : (k : Tabled) (fonts : FontSet) (r : Regs) (block : List ℕ) (d : BiosData) (c : CardState) →
+    run card_meaning (call_plan (Some (SetMode (number_of k) false)) fonts d r block) c
+    ≡ run card_meaning (mode_set_plan (number_of k) (row_of k) false fonts >> (let q : Plan Answered =
+    Done (answer_of r (data_of_mode (number_of k) (row_of k))) in q)) c
+unfolding set_mode_plan
+call_is (OfText Colour) fonts r block d c = refl
+call_is (OfText Monochrome) fonts r block d c = refl
+call_is (OfPixels (Sixteen Low)) fonts r block d c = refl
+call_is (OfPixels (Sixteen Middle)) fonts r block d c = refl
+call_is (OfPixels (Sixteen High)) fonts r block d c = refl
+call_is (OfPixels Many) fonts r block d c = refl
+
+-- the plan shows the fresh screen
+abbrev pub ShowsFresh : Tabled → Type 0
+ShowsFresh k = (c : CardState) (fonts : FontSet) → IsCard c → AreBytes fonts.f16 →
+    shown (run card_meaning (mode_set_plan (number_of k) (row_of k) false fonts) c).0 (data_of_mode (number_of k) (row_of k))
+    ≡ Some (fresh_screen (number_of k) (row_of k) fonts.f16 c.crtc.beam.frame)
+
+pub sets_fresh : (k : Tabled) → ShowsFresh k → SetsFresh (number_of k) (row_of k)
+sets_fresh k shows_fresh fonts r block c d z small e =
+    let mode = number_of k in
+    let row = row_of k in
+    let plan = mode_set_plan mode row false fonts in
+    let done : Plan Answered = Done (answer_of r (data_of_mode mode row)) in
+    let runs : run card_meaning (whole_service fonts d r block) c ≡ run card_meaning (plan >> done) c =
+    ap (λ (x : Option Call). run card_meaning (call_plan x fonts d r block) c) e ∙ call_is k fonts r block d c in
+    record {
+      answer = ap (λ x. x.1.0) runs ∙ ap (λ (x : Answered). x.0) (then_answers plan done c);
+      shows = ap (λ x. shown x.0 x.1.1) runs
+          ∙ ap (λ y. shown y (run card_meaning (plan >> done) c).1.1) (then_runs plan done c)
+          ∙ ap (λ (x : Answered). shown (run card_meaning plan c).0 x.1) (then_answers plan done c)
+          ∙ shows_fresh c fonts z small;
+      beam = ap (λ x. x.0.crtc.beam) runs ∙ plan_beam (plan >> done) c;
+    }
