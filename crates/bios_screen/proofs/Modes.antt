@@ -1,4 +1,5 @@
 -- The rows of the mode table, what their registers say, and what a clearing mode set leaves.
+pub mod Frames
 pub mod TextModes
 pub mod PixelModes
 pub mod AnyModes

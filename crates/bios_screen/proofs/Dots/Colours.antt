@@ -18,10 +18,14 @@ use Rattle.vga_dots.specs.Colour.{nibble, colour_number, dot_colour}
 use Rattle.vga_card.specs.Bounds.{IsCard}
 use Rattle.vga_card.specs.Card.{CardState}
 use Rattle.bios_modes.specs.declared.modes.ModeRow.{ModeRow}
+use Rattle.bios_modes.specs.Bda.{BiosData}
 use Rattle.bios_screen.specs.Shown.{shows_attribute, palette_in}
 use Rattle.bios_screen.specs.Picture.{shade}
 use Rattle.bios_screen.proofs.Base.Lists.{listed_at, spelled}
 use Rattle.bios_screen.proofs.Base.Tests.{both_true, same}
+use Rattle.bios_screen.proofs.Base.Setting.{Setting}
+use Rattle.bios_screen.proofs.Modes.Frames.{HasShades}
+use Rattle.bios_screen.proofs.Shows.Screens.{AllTests, setting_by}
 
 -- ---- what the test says of the attribute controller
 
@@ -65,6 +69,20 @@ pub record Coloured (c : CardState) : Type 0 where
   pub planes : slice_index c.attr.registers 0x12 ≡ 0x0F
   pub select : slice_index c.attr.registers 0x14 ≡ 0
   pub shown : is_palette_shown c.attr ≡ true
+
+-- in a mode whose row says so
+pub coloured : (row : ModeRow) (c : CardState) (d : BiosData) → HasShades row → length row.attribute ≡ 21 → AllTests row c d → IsCard c → Coloured c
+coloured row c d h size t z =
+    let set = setting_by row c t.memory in
+    let a = attribute_is row c.attr z.attr size t.attribute in
+    record {
+      on = ap (λ (s : Setting). is_set (slice_index s.seq 1) 5) set ∙ h.on;
+      many = ap (λ (s : Setting). is_set (slice_index s.gfx 6) 0 && is_set (slice_index s.gfx 5) 6) set ∙ h.many;
+      wide = control_bit (slice_index c.attr.registers 0x10) (bit_and (slice_index row.attribute 0x10) 0xF7) 7 a.control refl ∙ h.wide;
+      planes = a.planes ∙ h.planes;
+      select = a.select ∙ h.select;
+      shown = a.shown;
+    }
 
 low_fields : (p : ℕ) → p < 64 → field p 3 0 + 16 * field p 5 4 + 64 * 0 ≡ p
 low_fields p l = omega arith

@@ -1,26 +1,25 @@
 -- The dot at a place of a text screen's frame is the screen's.
-use Rattle.std.proofs.Common.{◌≡◌, ℕ, ◌+◌, ◌-◌, ◌*◌, ◌/◌, ◌%◌, ◌<◌, refl, sym, ap, subst, ◌∙◌, arith, Bool, true, false, List, length}
+use Rattle.std.proofs.Common.{◌≡◌, ℕ, ◌+◌, ◌-◌, ◌*◌, ◌/◌, ◌%◌, ◌<◌, refl, sym, ap, subst, ◌∙◌, arith, Bool, true, false, List}
 use Rattle.std.specs.Prelude.{nat_lt, nat_le, not, if◌then◌else◌, ◌==◌, ◌&&◌, slice_index, bit_and}
 use Rattle.std.specs.Int.{bit_at}
 use Rattle.std.proofs.lemmas.Nat.{and_mask}
 use Rattle.vga_bits.specs.Bits.{is_set, field}
 use Rattle.vga_planes.specs.Planes.{byte_at}
-use Rattle.vga_host.specs.Fields.{is_eight_dots, character_width as host_width, is_screen_off, character_map_a, character_map_b, is_graphics, is_256_colours}
+use Rattle.vga_host.specs.Fields.{character_map_a, character_map_b, is_graphics, is_256_colours}
 use Rattle.vga_crtc.specs.declared.beam.Beam.{Beam}
 use Rattle.vga_crtc.specs.Crtc.{CrtcState}
 use Rattle.vga_crtc.specs.Fields.{cursor_start, is_cursor_off, cursor_end, cursor_location, underline_location}
 use Rattle.vga_crtc.specs.Raster.{regular_beam}
-use Rattle.vga_attr.specs.Fields.{is_palette_shown, is_monochrome, is_line_graphics, is_colour_select_wide, panning}
+use Rattle.vga_attr.specs.Fields.{is_monochrome, is_line_graphics}
 use Rattle.vga_dots.specs.declared.source_dot.SourceDot.{SourceDot}
 use Rattle.vga_dots.specs.declared.text.Cell.{Cell as DotCell}
-use Rattle.vga_dots.specs.SourceDot.{panned, counter_of, source_at, source_dot, fetch_address}
+use Rattle.vga_dots.specs.SourceDot.{source_dot, fetch_address}
 use Rattle.vga_dots.specs.Text.{cell_at, map_start, glyph_row as row_of_glyph, is_glyph_dot as is_dot_of_glyph, is_underlined as is_cell_underlined}
 use Rattle.vga_dots.specs.Text.{is_blinked_away as is_cell_blinked, is_cursor_at, is_foreground as is_cell_foreground, cell_nibble, text_nibble}
 use Rattle.vga_dots.specs.Graphics.{planar_nibble}
 use Rattle.vga_dots.specs.Colour.{nibble as dot_nibble, dot_colour}
 use Rattle.vga_card.specs.Bounds.{IsCard}
 use Rattle.vga_card.specs.Card.{CardState}
-use Rattle.bios_modes.specs.declared.modes.ModeRow.{ModeRow}
 use Rattle.bios_modes.specs.Bda.{BiosData}
 use Rattle.bios_services.specs.Registers.{high, low}
 use Rattle.bios_services.specs.Cursor.{cursor_address, start_address, cell_number, place_of}
@@ -29,17 +28,18 @@ use Rattle.bios_screen.specs.Shown.{cell_in, glyph_byte, glyphs_in, all_cells}
 use Rattle.bios_screen.specs.Step.{cell_on}
 use Rattle.bios_screen.specs.Picture.{glyph_row, is_glyph_dot, is_underlined, is_blinked_away, is_cursor, is_foreground, background, nibble, shade}
 use Rattle.bios_screen.proofs.Base.Lists.{listed_at}
-use Rattle.bios_screen.proofs.Base.Tests.{lt_test}
 use Rattle.bios_screen.proofs.Base.Setting.{Setting}
 use Rattle.std.proofs.lemmas.Nat.{mod_below}
 use Rattle.std.proofs.Math.Nat.{div-lt_iff_lt-mul}
 use Rattle.bios_modes.specs.Palette.{is_monochrome_mode}
 use Rattle.bios_screen.proofs.Base.Places.{ends_before}
-use Rattle.bios_screen.proofs.Dots.Colours.{HasAttribute, attribute_is, control_bit, Coloured, dot_shade}
-use Rattle.bios_screen.proofs.Dots.TextRows.{IsTextFrame, frame_of}
-use Rattle.bios_screen.proofs.Modes.TextModes.{Display, row_of, number_of, window_of, control_of}
+use Rattle.bios_screen.proofs.Dots.Colours.{control_bit, coloured, dot_shade}
+use Rattle.bios_screen.proofs.Dots.Frames as frames
+use Rattle.bios_screen.proofs.Dots.TextRows.{IsTextFrame, text_raster, cursor_by, frame_of}
+use Rattle.bios_screen.proofs.Modes.Frames.{underline_stays}
+use Rattle.bios_screen.proofs.Modes.TextModes.{Display, number_of, window_of, control_of}
 use Rattle.bios_screen.proofs.Modes.TextModes.Display.{Colour, Monochrome}
-use Rattle.bios_screen.proofs.Shows.Screens.{IsShown, screen_shown, control_is}
+use Rattle.bios_screen.proofs.Shows.Screens.{IsShown, screen_shown, all_of, control_is}
 use Rattle.bios_screen.proofs.Text.NewCells.{cells_at}
 use Rattle.bios_screen.proofs.Text.Writes.{lies}
 
@@ -56,26 +56,6 @@ mono_by Monochrome = refl
 line_by : (k : Display) → is_set (control_of k) 2 ≡ true
 line_by Colour = refl
 line_by Monochrome = refl
-
-wide_by : (k : Display) → is_set (control_of k) 7 ≡ false
-wide_by Colour = refl
-wide_by Monochrome = refl
-
-attributes_by : (k : Display) → length (row_of k).attribute ≡ 21
-attributes_by Colour = refl
-attributes_by Monochrome = refl
-
-planes_by : (k : Display) → slice_index (row_of k).attribute 0x12 ≡ 0x0F
-planes_by Colour = refl
-planes_by Monochrome = refl
-
-panning_by : (k : Display) → slice_index (row_of k).attribute 0x13 ≡ 0x08
-panning_by Colour = refl
-panning_by Monochrome = refl
-
-select_by : (k : Display) → slice_index (row_of k).attribute 0x14 ≡ 0
-select_by Colour = refl
-select_by Monochrome = refl
 
 -- ---- numbers
 
@@ -165,35 +145,11 @@ module _ (c : CardState) (d : BiosData) (h : IsShown c d) (z : IsCard c) (g : �
   many_colours_off : is_256_colours c.host ≡ false
   many_colours_off = ap (λ w. w && is_set (slice_index c.host.gfx 5) 6) graphics_off
 
-  eight_dots_off : is_eight_dots c.host ≡ false
-  eight_dots_off = ap (λ (t : Setting). is_set (slice_index t.seq 1) 0) h.setting
-
-  screen_on : is_screen_off c.host ≡ false
-  screen_on = ap (λ (t : Setting). is_set (slice_index t.seq 1) 5) h.setting
-
-  attribute : HasAttribute h.row c.attr
-  attribute = attribute_is h.row c.attr z.attr (ap (λ (r : ModeRow). length r.attribute) h.row_is ∙ attributes_by disp) h.tests.attribute
-
-  palette_on : is_palette_shown c.attr ≡ true
-  palette_on = attribute.shown
-
-  planes_are : slice_index c.attr.registers 0x12 ≡ 0x0F
-  planes_are = attribute.planes ∙ ap (λ (r : ModeRow). slice_index r.attribute 0x12) h.row_is ∙ planes_by disp
-
-  panning_is : panning c.attr ≡ 8
-  panning_is = attribute.panning ∙ ap (λ (r : ModeRow). slice_index r.attribute 0x13) h.row_is ∙ panning_by disp
-
-  select_is : slice_index c.attr.registers 0x14 ≡ 0
-  select_is = attribute.select ∙ ap (λ (r : ModeRow). slice_index r.attribute 0x14) h.row_is ∙ select_by disp
-
   mono_is : is_monochrome c.attr ≡ is_monochrome_mode d.mode
   mono_is = control_bit (slice_index c.attr.registers 0x10) (control_of disp) 1 (control_is c d h) refl ∙ mono_by disp ∙ ap is_monochrome_mode (sym h.number)
 
   line_is : is_line_graphics c.attr ≡ true
   line_is = control_bit (slice_index c.attr.registers 0x10) (control_of disp) 2 (control_is c d h) refl ∙ line_by disp
-
-  wide_is : is_colour_select_wide c.attr ≡ false
-  wide_is = control_bit (slice_index c.attr.registers 0x10) (control_of disp) 7 (control_is c d h) refl ∙ wide_by disp
 
   -- ---- where a dot comes from
 
@@ -206,29 +162,14 @@ module _ (c : CardState) (d : BiosData) (h : IsShown c d) (z : IsCard c) (g : �
       let some = h.text.some_columns in
       let there = place_there v 0 lv some in
       let small = within (columns * (v / height) + 0) there in
-      ap (λ r. regular_beam r (half * g) c.crtc.beam.frame v x k) h.tests.crtc
-      ∙ t.beam d.cursor_type (start_address d d.page) (cursor_address d d.page) (half * g) c.crtc.beam.frame v x k
+      frames.beam_is (text_raster h.row) h.row t.frame c d (all_of h.row c d h.tests) (half * g) c.crtc.beam.frame v x k
+      ∙ t.beam (half * g) c.crtc.beam.frame v x k
       ∙ ap (λ b. record (text_beam c.crtc.beam.frame v x k) { base = b }) (base_is (half * g) (columns * (v / height)) (omega arith))
-
-  unpanned : (v x k : ℕ) → panned c.host (placed v x k) c.attr ≡ 0
-  unfolding panned
-  unpanned v x k =
-      let p = panning c.attr in
-      ap (λ w. if w then bit_and p 6 else if is_eight_dots c.host then p % 8 else if p == 8 then 0 else p % 8 + 1) many_colours_off
-      ∙ ap (λ w. if w then p % 8 else if p == 8 then 0 else p % 8 + 1) eight_dots_off
-      ∙ ap (λ n. if n == 8 then 0 else n % 8 + 1) panning_is
 
   source_is : (v x k : ℕ) → v < height * rows → x < columns → k < 9 → source_dot c.host (placed v x k) c.attr
       ≡ record { counter = half * g + (columns * (v / height) + x); dot = k }
-  unfolding source_dot
   source_is v x k lv lx lk =
-      let at = placed v x k in
-      let none : k + 0 ≡ k = omega arith in
-      ap (λ p. source_at at (host_width c.host) (k + p)) (unpanned v x k)
-      ∙ ap (source_at at (host_width c.host)) none
-      ∙ ap (λ w. source_at at (if w then 8 else 9) k) eight_dots_off
-      ∙ ap (λ w. if w then (let q : SourceDot = record { counter = counter_of at x; dot = k } in q)
-      else record { counter = counter_of at (x + 1); dot = k - 9 }) (lt_test k 9 lk)
+      frames.source_is (text_raster h.row) h.row t.frame c d (all_of h.row c d h.tests) z (text_beam c.crtc.beam.frame v x k) refl lk
       ∙ ap (λ n. let q : SourceDot = record { counter = n; dot = k } in q) (counter_is (half * g) (columns * (v / height)) x
       (within (columns * (v / height) + x) (place_there v x lv lx)))
 
@@ -243,8 +184,7 @@ module _ (c : CardState) (d : BiosData) (h : IsShown c d) (z : IsCard c) (g : �
   unfolding cell_at
   cell_is q lq =
       let n = half * g + q in
-      ap (λ r. cell_at c.host (fetch_address r n)) h.tests.crtc
-      ∙ ap (cell_at c.host) (t.fetch d.cursor_type (start_address d d.page) (cursor_address d d.page) n ∙ address_is n (within q lq))
+      ap (cell_at c.host) (frames.fetch_is (text_raster h.row) h.row t.frame c d (all_of h.row c d h.tests) n ∙ t.fetch n ∙ address_is n (within q lq))
 
   on_screen : (q : ℕ) → q < columns * rows → cell_on s (half * g + q) ≡ there q
   on_screen q lq = cells_at c.host.memory.plane0 c.host.memory.plane1 all_cells (half * g + q) (within q lq)
@@ -287,8 +227,9 @@ module _ (c : CardState) (d : BiosData) (h : IsShown c d) (z : IsCard c) (g : �
       let a = bit_and (there q).1 0x77 == 1 in
       let last : h.row.height - 1 ≡ d.height - 1 = let e = h.has.height in omega arith in
       ap (λ w. w && a && v % height == underline_location c.crtc.registers) mono_is
-      ∙ ap (λ r. is_monochrome_mode d.mode && a && v % height == underline_location r) h.tests.crtc
-      ∙ t.underline d.cursor_type (start_address d d.page) (cursor_address d d.page) a (v % height)
+      ∙ ap (λ n. is_monochrome_mode d.mode && a && v % height == n)
+      (ap underline_location h.tests.crtc ∙ underline_stays h.row d.cursor_type (start_address d d.page) (cursor_address d d.page))
+      ∙ t.underline a (v % height)
       ∙ ap (λ n. is_monochrome_mode d.mode && (a && (v % height == n))) last
 
   blinked_is : (q v x k : ℕ) → is_cell_blinked (placed v x k) c.attr (dot_cell q) ≡ is_blinked_away s (there q)
@@ -318,7 +259,7 @@ module _ (c : CardState) (d : BiosData) (h : IsShown c d) (z : IsCard c) (g : �
       let type = d.cursor_type in
       let f = nat_lt (c.crtc.beam.frame % 16) 8 in
       ap (λ l. (n == cursor_location l) && not (is_cursor_off l) && nat_le (cursor_start l) r && nat_le r (cursor_end l) && f) h.tests.crtc
-      ∙ t.cursor type (start_address d d.page) location n r f
+      ∙ cursor_by h.row type (start_address d d.page) location n r f
       ∙ ap (λ m. (n == m) && not (is_set (bit_and (high type) 0x3F) 5) && nat_le (field (bit_and (high type) 0x3F) 4 0) r
       && nat_le r (field (bit_and (low type) 0x7F) 4 0) && f) (two_bytes location ∙ location_is)
       ∙ ap (λ w. (n == cursor_cell s d.page) && not w && nat_le (field (bit_and (high type) 0x3F) 4 0) r && nat_le r (field (bit_and (low type) 0x7F) 4 0)
@@ -385,11 +326,8 @@ module _ (c : CardState) (d : BiosData) (h : IsShown c d) (z : IsCard c) (g : �
 
   -- ---- its colour
 
-  coloured : Coloured c
-  coloured = record { on = screen_on; many = many_colours_off; wide = wide_is; planes = planes_are; select = select_is; shown = palette_on }
-
   -- the dot at the place has the screen's colour
   pub place_is : (v x k : ℕ) → v < height * rows → x < columns → k < 9 → dot_colour c.host (placed v x k) c.attr c.dac
       ≡ shade s.palette (nibble s (half * g + (columns * (v / height) + x)) (v % height) k)
-  place_is v x k lv lx lk = dot_shade c coloured z (placed v x k) (nibble s (half * g + (columns * (v / height) + x)) (v % height) k) (dot_bits v x k lv lx lk)
+  place_is v x k lv lx lk = dot_shade c (coloured h.row c d t.shades t.frame.attributes (all_of h.row c d h.tests) z) z (placed v x k) (nibble s (half * g + (columns * (v / height) + x)) (v % height) k) (dot_bits v x k lv lx lk)
       (nibble_small (half * g + (columns * (v / height) + x)) (v % height) k)

@@ -1,22 +1,19 @@
--- The rows of the mode table that are graphics of sixteen colours: what their registers say of a frame, whatever the data say of
--- cursor and page.
-use Rattle.std.proofs.Common.{◌≡◌, ℕ, ◌+◌, ◌*◌, ◌/◌, ◌%◌, ◌<◌, refl, sym, ap, ◌∙◌, arith, Bool, true, false, List, length, Option, Some, None}
+-- The rows of the mode table that are graphics: what their registers say of colours and of frames.
+use Rattle.std.proofs.Common.{◌≡◌, ℕ, ◌+◌, ◌*◌, ◌/◌, ◌%◌, ◌<◌, refl, sym, ap, ◌∙◌, arith, Bool, true, false, List, Option, Some, None}
 use Rattle.std.specs.Prelude.{◌==◌, bit_and, slice_index, if◌then◌else◌}
-use Rattle.vga_bits.specs.Bits.{is_set}
 use Rattle.vga_crtc.specs.Fields.{horizontal_total, horizontal_display_end, vertical_total, preset_row_scan, byte_panning, maximum_scan_line, is_double_scan}
-use Rattle.vga_crtc.specs.Fields.{start_address as address_of, vertical_display_end, offset, is_double_word, is_byte_mode, line_compare}
-use Rattle.vga_crtc.specs.Beam.{characters, lines, first_counter}
+use Rattle.vga_crtc.specs.Fields.{vertical_display_end, offset, is_double_word, is_byte_mode, line_compare}
 use Rattle.vga_crtc.specs.Raster.{IsRegular, regular_beam}
 use Rattle.vga_dots.specs.SourceDot.{fetch_address}
 use Rattle.bios_modes.specs.declared.modes.ModeRow.{ModeRow}
 use Rattle.bios_modes.specs.Heights.{if_row, at_height, row_at}
 use Rattle.bios_modes.specs.Modes.{mode_row, colour_text, monochrome_text, planes_320_by_200, planes_640_by_350, planes_640_by_480, bytes_320_by_200}
 use Rattle.bios_modes.specs.Kinds.{is_text, is_packed}
-use Rattle.bios_screen.specs.Shown.{crtc_registers}
-use Rattle.bios_screen.specs.Picture.{pixel_height}
+use Rattle.bios_screen.specs.Picture.{pixel_width, pixel_height}
 use Rattle.bios_screen.specs.Raster.{Raster, IsRaster}
 use Rattle.bios_screen.proofs.Base.Setting.{Setting}
 use Rattle.bios_screen.proofs.Base.Tests.{none_some, same, some_same}
+use Rattle.bios_screen.proofs.Modes.Frames.{IsFrame, HasShades}
 
 -- 320 by 200, 640 by 350, 640 by 480
 pub data Planes : Type 0 where
@@ -106,126 +103,99 @@ text_by Low = refl
 text_by Middle = refl
 text_by High = refl
 
+pub text_in : (k : Graphics) → is_text (number_in k) ≡ false
+text_in (Sixteen m) = text_by m
+text_in Many = refl
+
 pub packed_by : (m : Planes) → is_packed (number_of m) ≡ false
 packed_by Low = refl
 packed_by Middle = refl
 packed_by High = refl
-
-pub clock_by : (m : Planes) → is_set (slice_index (row_of m).sequencer 1) 0 ≡ true
-clock_by Low = refl
-clock_by Middle = refl
-clock_by High = refl
-
-pub on_by : (m : Planes) → is_set (slice_index (row_of m).sequencer 1) 5 ≡ false
-on_by Low = refl
-on_by Middle = refl
-on_by High = refl
-
-pub attributes_by : (m : Planes) → length (row_of m).attribute ≡ 21
-attributes_by Low = refl
-attributes_by Middle = refl
-attributes_by High = refl
 
 pub control_by : (m : Planes) → bit_and (slice_index (row_of m).attribute 0x10) 0xF7 ≡ 0x01
 control_by Low = refl
 control_by Middle = refl
 control_by High = refl
 
-pub planes_by : (m : Planes) → slice_index (row_of m).attribute 0x12 ≡ 0x0F
-planes_by Low = refl
-planes_by Middle = refl
-planes_by High = refl
-
-pub panning_by : (m : Planes) → slice_index (row_of m).attribute 0x13 ≡ 0
-panning_by Low = refl
-panning_by Middle = refl
-panning_by High = refl
-
-pub select_by : (m : Planes) → slice_index (row_of m).attribute 0x14 ≡ 0
-select_by Low = refl
-select_by Middle = refl
-select_by High = refl
+pub shades_by : (m : Planes) → HasShades (row_of m)
+shades_by Low = record { on = refl; many = refl; wide = refl; planes = refl; select = refl }
+shades_by Middle = record { on = refl; many = refl; wide = refl; planes = refl; select = refl }
+shades_by High = record { on = refl; many = refl; wide = refl; planes = refl; select = refl }
 
 -- ---- frames
 
-abbrev pub raster : Planes → Raster
-raster Low = record { dots = 8; columns = 40; height = 400; characters = 50; lines = 449 }
-raster Middle = record { dots = 8; columns = 80; height = 350; characters = 100; lines = 449 }
-raster High = record { dots = 8; columns = 80; height = 480; characters = 100; lines = 525 }
+abbrev pub raster_in : Graphics → Raster
+raster_in (Sixteen Low) = record { dots = 8; columns = 40; height = 400; characters = 50; lines = 449 }
+raster_in (Sixteen Middle) = record { dots = 8; columns = 80; height = 350; characters = 100; lines = 449 }
+raster_in (Sixteen High) = record { dots = 8; columns = 80; height = 480; characters = 100; lines = 525 }
+raster_in Many = record { dots = 8; columns = 80; height = 400; characters = 100; lines = 449 }
 
-pub is_raster : (m : Planes) → IsRaster (raster m)
-is_raster Low = record { some_dots = omega arith; some_columns = omega arith; some_lines = omega arith; narrow = omega arith; low = omega arith }
-is_raster Middle = record { some_dots = omega arith; some_columns = omega arith; some_lines = omega arith; narrow = omega arith; low = omega arith }
-is_raster High = record { some_dots = omega arith; some_columns = omega arith; some_lines = omega arith; narrow = omega arith; low = omega arith }
+pub dots_in : (k : Graphics) → (raster_in k).dots ≡ 8
+dots_in (Sixteen Low) = refl
+dots_in (Sixteen Middle) = refl
+dots_in (Sixteen High) = refl
+dots_in Many = refl
 
-pub dots_by : (m : Planes) → (raster m).dots ≡ 8
-dots_by Low = refl
-dots_by Middle = refl
-dots_by High = refl
+is_raster : (k : Graphics) → IsRaster (raster_in k)
+is_raster (Sixteen Low) = record { some_dots = omega arith; some_columns = omega arith; some_lines = omega arith; narrow = omega arith; low = omega arith }
+is_raster (Sixteen Middle) = record { some_dots = omega arith; some_columns = omega arith; some_lines = omega arith; narrow = omega arith; low = omega arith }
+is_raster (Sixteen High) = record { some_dots = omega arith; some_columns = omega arith; some_lines = omega arith; narrow = omega arith; low = omega arith }
+is_raster Many = record { some_dots = omega arith; some_columns = omega arith; some_lines = omega arith; narrow = omega arith; low = omega arith }
 
-pub columns_by : (m : Planes) → (raster m).columns ≡ (row_of m).columns
+regular_by : (k : Graphics) → IsRegular (row_in k).crtc
+unfolding vertical_total line_compare preset_row_scan
+regular_by (Sixteen Low) = record { uncut = omega arith; unscrolled = refl }
+regular_by (Sixteen Middle) = record { uncut = omega arith; unscrolled = refl }
+regular_by (Sixteen High) = record { uncut = omega arith; unscrolled = refl }
+regular_by Many = record { uncut = omega arith; unscrolled = refl }
+
+pub frame_in : (k : Graphics) → IsFrame (raster_in k) (row_in k)
+unfolding horizontal_total horizontal_display_end vertical_total vertical_display_end byte_panning
+frame_in (Sixteen Low) =
+    record { raster = is_raster (Sixteen Low); clock = refl; numbers = refl; regular = regular_by (Sixteen Low); whole = refl; attributes = refl; still = refl }
+frame_in (Sixteen Middle) =
+    record { raster = is_raster (Sixteen Middle); clock = refl; numbers = refl; regular = regular_by (Sixteen Middle); whole = refl; attributes = refl; still = refl }
+frame_in (Sixteen High) =
+    record { raster = is_raster (Sixteen High); clock = refl; numbers = refl; regular = regular_by (Sixteen High); whole = refl; attributes = refl; still = refl }
+frame_in Many = record { raster = is_raster Many; clock = refl; numbers = refl; regular = regular_by Many; whole = refl; attributes = refl; still = refl }
+
+pub start_small : (k : Graphics) (page : ℕ) → page < (row_in k).pages → (row_in k).size * page < 65536
+start_small (Sixteen Low) page l = omega arith
+start_small (Sixteen Middle) page l = omega arith
+start_small (Sixteen High) page l = omega arith
+start_small Many page l = omega arith
+
+-- the counter of character x of line v of a page
+pub counter_by : (k : Graphics) (page v x : ℕ) → page < (row_in k).pages → v < (raster_in k).height → x < (raster_in k).columns
+    → ((regular_beam (row_in k).crtc ((row_in k).size * page) 0 v 0 0).base + x) % 65536
+    ≡ (row_in k).size * page + ((raster_in k).columns * (v / pixel_height (number_in k)) + x)
+unfolding maximum_scan_line is_double_scan offset
+counter_by (Sixteen Low) page v x lp lv lx = omega arith
+counter_by (Sixteen Middle) page v x lp lv lx = omega arith
+counter_by (Sixteen High) page v x lp lv lx = omega arith
+counter_by Many page v x lp lv lx = omega arith
+
+-- the byte that a counter addresses
+pub fetch_by : (m : Planes) (n : ℕ) → fetch_address (row_of m).crtc n ≡ n
+unfolding fetch_address is_double_word is_byte_mode
+fetch_by Low n = refl
+fetch_by Middle n = refl
+fetch_by High n = refl
+
+pub fetch_many : (n : ℕ) → n < 16384 → fetch_address bytes_320_by_200.crtc n ≡ 4 * n
+unfolding fetch_address is_double_word
+fetch_many n l = omega arith
+
+pub columns_by : (m : Planes) → (raster_in (Sixteen m)).columns ≡ (row_of m).columns
 columns_by Low = refl
 columns_by Middle = refl
 columns_by High = refl
 
-abbrev registers_of : Planes → ℕ → ℕ → ℕ → List ℕ
-registers_of m type start location = crtc_registers (row_of m) type start location
-
--- the numbers of a frame from registers, where a character has eight dots
-abbrev pub numbers_of : List ℕ → Raster
-numbers_of l = record { dots = 8; columns = horizontal_display_end l + 1; height = vertical_display_end l + 1; characters = characters l; lines = lines l }
-
-pub numbers_by : (m : Planes) (type start location : ℕ) → numbers_of (registers_of m type start location) ≡ raster m
-unfolding horizontal_total horizontal_display_end vertical_total vertical_display_end
-numbers_by Low type start location = refl
-numbers_by Middle type start location = refl
-numbers_by High type start location = refl
-
-pub regular_by : (m : Planes) (type start location : ℕ) → IsRegular (registers_of m type start location)
-unfolding vertical_total line_compare preset_row_scan
-regular_by Low type start location = record { uncut = omega arith; unscrolled = refl }
-regular_by Middle type start location = record { uncut = omega arith; unscrolled = refl }
-regular_by High type start location = record { uncut = omega arith; unscrolled = refl }
-
--- a frame begins with the start address
-pub first_by : (m : Planes) (type start location : ℕ) → first_counter (registers_of m type start location) ≡ (256 * (start / 256) + start % 256 + 0) % 65536
-unfolding address_of byte_panning
-first_by Low type start location = refl
-first_by Middle type start location = refl
-first_by High type start location = refl
-
-pub start_small : (m : Planes) (page : ℕ) → page < (row_of m).pages → (row_of m).size * page < 65536
-start_small Low page l = omega arith
-start_small Middle page l = omega arith
-start_small High page l = omega arith
-
--- the counter of line v of a frame whose counter began at a
-abbrev pub base_at : List ℕ → ℕ → ℕ → ℕ
-base_at r a v = (regular_beam r a 0 v 0 0).base
-
-pub base_by : (m : Planes) (type start location page v : ℕ) → page < (row_of m).pages → v < (raster m).height
-    → base_at (registers_of m type start location) ((row_of m).size * page) v ≡ (row_of m).size * page + (raster m).columns * (v / pixel_height (number_of m))
-unfolding maximum_scan_line is_double_scan offset
-base_by Low type start location page v lp lv = omega arith
-base_by Middle type start location page v lp lv = omega arith
-base_by High type start location page v lp lv = omega arith
-
-pub counter_by : (m : Planes) (page v x : ℕ) → page < (row_of m).pages → v < (raster m).height → x < (raster m).columns
-    → ((row_of m).size * page + (raster m).columns * (v / pixel_height (number_of m)) + x) % 65536
-    ≡ (row_of m).size * page + ((raster m).columns * (v / pixel_height (number_of m)) + x)
-counter_by Low page v x lp lv lx = omega arith
-counter_by Middle page v x lp lv lx = omega arith
-counter_by High page v x lp lv lx = omega arith
-
-pub fetch_by : (m : Planes) (type start location n : ℕ) → fetch_address (registers_of m type start location) n ≡ n
-unfolding fetch_address is_double_word is_byte_mode
-fetch_by Low type start location n = refl
-fetch_by Middle type start location n = refl
-fetch_by High type start location n = refl
-
--- a pixel of the picture is one of the page
-pub pixel_within : (m : Planes) (v x k : ℕ) → v < (raster m).height → x < (raster m).columns → k < 8
-    → 8 * (row_of m).columns * (v / pixel_height (number_of m)) + (x * 8 + k) < 8 * (row_of m).columns * ((row_of m).height * ((row_of m).last_row + 1))
-pixel_within Low v x k lv lx lk = omega arith
-pixel_within Middle v x k lv lx lk = omega arith
-pixel_within High v x k lv lx lk = omega arith
+-- a dot of the picture shows a pixel of the page
+pub pixel_within : (k : Graphics) (v x i : ℕ) → v < (raster_in k).height → x < (raster_in k).columns → i < 8
+    → 8 * (row_in k).columns * (v / pixel_height (number_in k)) + (x * 8 + i) / pixel_width (number_in k)
+    < 8 * (row_in k).columns * ((row_in k).height * ((row_in k).last_row + 1))
+pixel_within (Sixteen Low) v x i lv lx li = omega arith
+pixel_within (Sixteen Middle) v x i lv lx li = omega arith
+pixel_within (Sixteen High) v x i lv lx li = omega arith
+pixel_within Many v x i lv lx li = omega arith

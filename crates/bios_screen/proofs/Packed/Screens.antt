@@ -21,7 +21,7 @@ use Rattle.bios_screen.proofs.Base.Setting.{setting, with_memory, get_decoded}
 use Rattle.bios_screen.proofs.Modes.PixelModes.{setting_in}
 use Rattle.bios_screen.proofs.Modes.PixelModes.Graphics.{Many}
 use Rattle.bios_screen.proofs.Pixels.NewPixels.{redrawn}
-use Rattle.bios_screen.proofs.Dots.PlanarDots.{pixel_at}
+use Rattle.bios_screen.proofs.Dots.PixelDots.{pixel_at}
 use Rattle.bios_screen.proofs.Shows.Screens.{setting_by}
 use Rattle.bios_screen.proofs.Dots.PackedDots.{IsPacked}
 use Rattle.bios_screen.proofs.Packed.Memory.{decoded, byte_read, put_is, pixel_put, packed_memory}

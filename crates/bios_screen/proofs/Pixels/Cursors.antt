@@ -25,8 +25,7 @@ use Rattle.bios_screen.proofs.Base.Kept.{plan_beam}
 use Rattle.bios_screen.proofs.Base.Reasons.{page_allowed}
 use Rattle.bios_screen.proofs.Shows.Screens.{pages_are, named_page}
 use Rattle.bios_screen.proofs.Services.Cursors.{with_crtc, type_set, start_set, page_data, then_data, data_runs}
-use Rattle.bios_screen.proofs.Modes.PixelModes.{Graphics, row_in, start_small}
-use Rattle.bios_screen.proofs.Modes.PixelModes.Graphics.{Sixteen, Many}
+use Rattle.bios_screen.proofs.Modes.PixelModes.{row_in, start_small}
 use Rattle.bios_screen.proofs.Modes.AnyModes.Tabled.{OfPixels}
 use Rattle.bios_screen.proofs.Shows.Any.{HasSetting, pixel_setting}
 use Rattle.bios_screen.proofs.Shows.Pixels.{IsPixels, pixels_shown, pixels_shown_of}
@@ -114,14 +113,10 @@ module _ (c : CardState) (d : BiosData) (h : IsPixels c d) where
   start_is : (page : ℕ) → start_address d page ≡ d.size * page
   start_is page = ap (λ b. if b then d.size * page / 2 else d.size * page) h.text
 
-  small_by : (k : Graphics) (page : ℕ) → page < (row_in k).pages → (row_in k).size * page < 65536
-  small_by (Sixteen m) page l = start_small m page l
-  small_by Many page l = omega arith
-
   start_few : (page : ℕ) → page < h.row.pages → start_address d page < 65536
   start_few page l =
       let at : page < (row_in set.kind).pages = subst (λ (r : ModeRow). page < r.pages) (sym set.row_is) l in
-      let few : h.row.size * page < 65536 = subst (λ (r : ModeRow). r.size * page < 65536) set.row_is (small_by set.kind page at) in
+      let few : h.row.size * page < 65536 = subst (λ (r : ModeRow). r.size * page < 65536) set.row_is (start_small set.kind page at) in
       subst (λ n. n < 65536) (sym (start_is page ∙ ap (λ n. n * page) h.has.size)) few
 
   page_shown : (page : ℕ) → page < h.row.pages → (let x = run card_meaning (page_plan d page) c in shown x.0 x.1)

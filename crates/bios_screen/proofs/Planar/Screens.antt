@@ -22,7 +22,8 @@ use Rattle.bios_screen.proofs.Modes.PixelModes.Planes.{Low, Middle, High}
 use Rattle.bios_screen.proofs.Modes.PixelModes.Graphics.{Sixteen}
 use Rattle.bios_screen.proofs.Pixels.NewPixels.{redrawn}
 use Rattle.bios_screen.proofs.Shows.Screens.{setting_by}
-use Rattle.bios_screen.proofs.Dots.PlanarDots.{IsPlanar, pixel_at}
+use Rattle.bios_screen.proofs.Dots.PixelDots.{pixel_at}
+use Rattle.bios_screen.proofs.Dots.PlanarDots.{IsPlanar}
 use Rattle.bios_screen.proofs.Modes.PixelFresh.{pixels_of, byte_within}
 use Rattle.bios_screen.proofs.Planar.Settings.{at_rest, drawing, without_drawing, Loaded}
 use Rattle.bios_screen.proofs.Planar.Bits.{nibble_of}

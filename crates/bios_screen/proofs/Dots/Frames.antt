@@ -1,0 +1,81 @@
+-- Frames of a screen that is shown, by the numbers of its row: where they begin, and where a dot comes from.
+use Rattle.std.proofs.Common.{◌≡◌, ℕ, ◌+◌, ◌-◌, ◌%◌, ◌<◌, sym, ap, subst, ◌∙◌, arith, false}
+use Rattle.std.specs.Prelude.{◌&&◌, if◌then◌else◌, slice_index}
+use Rattle.vga_bits.specs.Bits.{is_set}
+use Rattle.vga_host.specs.Fields.{character_width as host_width}
+use Rattle.vga_crtc.specs.declared.beam.Beam.{Beam}
+use Rattle.vga_crtc.specs.Crtc.{CrtcState}
+use Rattle.vga_crtc.specs.Beam.{first_counter}
+use Rattle.vga_crtc.specs.Raster.{IsRegular, regular_beam}
+use Rattle.vga_attr.specs.Fields.{is_panning_reset, panning}
+use Rattle.vga_dots.specs.declared.source_dot.SourceDot.{SourceDot}
+use Rattle.vga_dots.specs.SourceDot.{panned, counter_of, source_at, source_dot, fetch_address}
+use Rattle.vga_card.specs.Bounds.{IsCard}
+use Rattle.vga_card.specs.Card.{CardState}
+use Rattle.bios_modes.specs.declared.modes.ModeRow.{ModeRow}
+use Rattle.bios_modes.specs.Bda.{BiosData}
+use Rattle.bios_services.specs.Cursor.{start_address}
+use Rattle.bios_screen.specs.Shown.{location_shown}
+use Rattle.bios_screen.specs.Raster.{Raster, HasRaster}
+use Rattle.bios_screen.proofs.Base.Tests.{lt_test}
+use Rattle.bios_screen.proofs.Base.Setting.{Setting, setting}
+use Rattle.bios_screen.proofs.Modes.Frames.{numbers_of, panned_by, IsFrame, numbers_stay, regular_stays, beam_stays, fetch_stays, begins_with}
+use Rattle.bios_screen.proofs.Shows.Screens.{AllTests, setting_by}
+use Rattle.bios_screen.proofs.Dots.Colours.{attribute_is}
+
+module _ (m : Raster) (row : ModeRow) (f : IsFrame m row) (c : CardState) (d : BiosData) (t : AllTests row c d) where
+  abbrev start : ℕ
+  start = start_address d d.page
+
+  abbrev location : ℕ
+  location = location_shown d c.crtc.registers
+
+  set : setting c ≡ record { misc = row.misc; seq = row.sequencer; gfx = row.graphics }
+  set = setting_by row c t.memory
+
+  pub has_raster : HasRaster m c
+  has_raster = record {
+    raster = f.raster;
+    regular = subst IsRegular (sym t.crtc) (regular_stays row d.cursor_type start location f.regular);
+    numbers =
+        ap (λ (s : Setting). numbers_of (if is_set (slice_index s.seq 1) 0 then 8 else 9) c.crtc.registers) set
+        ∙ ap (λ w. numbers_of w c.crtc.registers) f.clock
+        ∙ ap (numbers_of m.dots) t.crtc
+        ∙ numbers_stay row d.cursor_type start location m.dots
+        ∙ f.numbers;
+  }
+
+  -- a frame begins with the active page
+  pub first_is : start < 65536 → first_counter c.crtc.registers ≡ start
+  first_is small = ap first_counter t.crtc ∙ begins_with row d.cursor_type start location f.whole small
+
+  -- the beam at a place of a frame, and the place of a counter in memory, are the row's
+  pub beam_is : (a frame v x k : ℕ) → regular_beam c.crtc.registers a frame v x k ≡ regular_beam row.crtc a frame v x k
+  beam_is a frame v x k = ap (λ r. regular_beam r a frame v x k) t.crtc ∙ beam_stays row d.cursor_type start location a frame v x k
+
+  pub fetch_is : (n : ℕ) → fetch_address c.crtc.registers n ≡ fetch_address row.crtc n
+  fetch_is n = ap (λ r. fetch_address r n) t.crtc ∙ fetch_stays row d.cursor_type start location n
+
+  -- no dot is panned
+  panned_is : IsCard c → (b : Beam) → b.split ≡ false → panned c.host (record c.crtc { beam = b }) c.attr ≡ 0
+  unfolding panned
+  panned_is z b unsplit =
+      let p = panning c.attr in
+      ap (λ w. if w && is_panning_reset c.attr then 0 else panned_by c.host.seq c.host.gfx p) unsplit
+      ∙ ap (λ (s : Setting). panned_by s.seq s.gfx p) set
+      ∙ ap (panned_by row.sequencer row.graphics) (attribute_is row c.attr z.attr f.attributes t.attribute).panning
+      ∙ f.still
+
+  -- so a dot of the beam's character comes from there
+  pub source_is : IsCard c → (b : Beam) → b.split ≡ false → b.dot < m.dots → source_dot c.host (record c.crtc { beam = b }) c.attr
+      ≡ record { counter = (b.base + b.character) % 65536; dot = b.dot }
+  unfolding source_dot
+  source_is z b unsplit l =
+      let at : CrtcState = record c.crtc { beam = b } in
+      let none : b.dot + 0 ≡ b.dot = omega arith in
+      ap (λ p. source_at at (host_width c.host) (b.dot + p)) (panned_is z b unsplit)
+      ∙ ap (source_at at (host_width c.host)) none
+      ∙ ap (λ (s : Setting). source_at at (if is_set (slice_index s.seq 1) 0 then 8 else 9) b.dot) set
+      ∙ ap (λ w. source_at at w b.dot) f.clock
+      ∙ ap (λ w. if w then (let q : SourceDot = record { counter = counter_of at b.character; dot = b.dot } in q)
+      else record { counter = counter_of at (b.character + 1); dot = b.dot - m.dots }) (lt_test b.dot m.dots l)
