@@ -31,7 +31,7 @@ use Rattle.bios_screen.specs.Fresh.{blank_pixels, fresh_text, fresh_pixels}
 use Rattle.bios_screen.specs.Served.{SetsFresh}
 use Rattle.bios_screen.proofs.Base.Lists.{blank_listing}
 use Rattle.bios_screen.proofs.Base.Kept.{KeepsBounds, plan_bounds}
-use Rattle.bios_screen.proofs.Base.Setting.{setting, host_at, with_memory, put_decoded}
+use Rattle.bios_screen.proofs.Base.Setting.{setting, host_at, with_memory, offset_is, put_decoded}
 use Rattle.bios_screen.proofs.Modes.Fresh.{palette_is, coloured, prepared, ShowsFresh, sets_fresh}
 use Rattle.bios_screen.proofs.Modes.PixelModes.{Planes, row_of, Graphics, row_in, setting_in, number_in, text_by, packed_by}
 use Rattle.bios_screen.proofs.Modes.PixelModes.Planes.{Low, Middle, High}
@@ -48,9 +48,6 @@ decoded (Sixteen Low) h w l = grind (arith, nat_tests)
 decoded (Sixteen Middle) h w l = grind (arith, nat_tests)
 decoded (Sixteen High) h w l = grind (arith, nat_tests)
 decoded Many h w l = grind (arith, nat_tests)
-
-offset_is : (w : ℕ) → w < 65536 → (0xA0000 + w - 0xA0000) % 65536 ≡ w
-offset_is w l = omega arith
 
 offset_by : (k : Graphics) (h : HostState) (w : ℕ) → w < 65536 → window_offset (host_at h (setting_in k)) (0xA0000 + w) ≡ w
 offset_by (Sixteen Low) h w l = offset_is w l

@@ -3,12 +3,12 @@ use Rattle.std.proofs.Common.{◌≡◌, ℕ, ◌+◌, ◌*◌, ◌<◌, ◌≤�
 use Rattle.std.specs.Prelude.{slice_index, bit_and, ◌==◌, ◌||◌, if◌then◌else◌}
 use Rattle.bios_modes.specs.declared.modes.ModeRow.{ModeRow}
 use Rattle.bios_modes.specs.declared.heights.TextRow.{TextRow as HeightRow}
-use Rattle.bios_modes.specs.Heights.{fifty_rows, twenty_eight_rows, twenty_five_rows, colour_rows, monochrome_rows, with_text, with_height, row_at}
+use Rattle.bios_modes.specs.Heights.{fifty_rows, twenty_eight_rows, twenty_five_rows, with_text, with_height, row_at}
 use Rattle.bios_modes.specs.Modes.{colour_text, monochrome_text, planes_320_by_200, planes_640_by_350, planes_640_by_480, bytes_320_by_200}
 use Rattle.bios_modes.specs.Kinds.{is_text, is_text_kind, kind_in}
 use Rattle.bios_services.specs.Cells.{page_base}
 use Rattle.bios_screen.proofs.Base.Setting.{Setting}
-use Rattle.bios_screen.proofs.Base.Tests.{same, some_same}
+use Rattle.bios_screen.proofs.Base.Tests.{none_some, same, some_same}
 
 pub data Display : Type 0 where
   Colour : Display
@@ -101,132 +101,61 @@ pub record TextRow (mode : ℕ) (row : ModeRow) : Type 0 where
   pub row_is : row ≡ row_with display height
   pub number : mode ≡ number_of display
 
--- each of their rows is one of text
+-- each of their rows is one of text: by its display, and by how its pages lie in memory
+display_by : (k : Display) (height : Height) → (let row = row_with k height in (row.misc ≡ misc_of k) × (row.sequencer ≡ text_sequencer)
+    × (row.graphics ≡ text_graphics k) × (row.crtc_address ≡ port_of k) × (page_base (number_of k) ≡ base_of k) × (length row.crtc ≡ 25)
+    × (row.columns ≤ 80) × (0 < row.columns))
+display_by Colour _ = (refl, refl, refl, refl, refl, refl, omega arith, omega arith)
+display_by Monochrome _ = (refl, refl, refl, refl, refl, refl, omega arith, omega arith)
+
+record HasPages (row : ModeRow) : Type 0 where
+  half : ℕ
+  even : row.size ≡ 2 * half
+  fits : row.columns * (row.last_row + 1) ≤ half
+  memory : half * row.pages ≤ 16384
+  pages : row.pages ≤ 8
+  last_row : row.last_row < 255
+
+pages_by : (k : Display) (height : Height) → HasPages (row_with k height)
+pages_by Colour Eight = record { half = 4096; even = refl; fits = omega arith; memory = omega arith; pages = omega arith; last_row = omega arith }
+pages_by Colour Fourteen = record { half = 4096; even = refl; fits = omega arith; memory = omega arith; pages = omega arith; last_row = omega arith }
+pages_by Colour Sixteen = record { half = 2048; even = refl; fits = omega arith; memory = omega arith; pages = omega arith; last_row = omega arith }
+pages_by Monochrome Eight = record { half = 4096; even = refl; fits = omega arith; memory = omega arith; pages = omega arith; last_row = omega arith }
+pages_by Monochrome Fourteen = record { half = 4096; even = refl; fits = omega arith; memory = omega arith; pages = omega arith; last_row = omega arith }
+pages_by Monochrome Sixteen = record { half = 2048; even = refl; fits = omega arith; memory = omega arith; pages = omega arith; last_row = omega arith }
+
 row_by : (k : Display) (height : Height) → IsTextRow k (number_of k) (row_with k height)
-row_by Colour Eight = record {
-  misc = refl;
-  sequencer = refl;
-  graphics = refl;
-  port = refl;
-  base = refl;
-  crtc = refl;
-  columns = omega arith;
-  some_columns = omega arith;
-  half = 4096;
-  even = refl;
-  fits = omega arith;
-  memory = omega arith;
-  pages = omega arith;
-  last_row = omega arith;
-}
-row_by Colour Fourteen = record {
-  misc = refl;
-  sequencer = refl;
-  graphics = refl;
-  port = refl;
-  base = refl;
-  crtc = refl;
-  columns = omega arith;
-  some_columns = omega arith;
-  half = 4096;
-  even = refl;
-  fits = omega arith;
-  memory = omega arith;
-  pages = omega arith;
-  last_row = omega arith;
-}
-row_by Colour Sixteen = record {
-  misc = refl;
-  sequencer = refl;
-  graphics = refl;
-  port = refl;
-  base = refl;
-  crtc = refl;
-  columns = omega arith;
-  some_columns = omega arith;
-  half = 2048;
-  even = refl;
-  fits = omega arith;
-  memory = omega arith;
-  pages = omega arith;
-  last_row = omega arith;
-}
-row_by Monochrome Eight = record {
-  misc = refl;
-  sequencer = refl;
-  graphics = refl;
-  port = refl;
-  base = refl;
-  crtc = refl;
-  columns = omega arith;
-  some_columns = omega arith;
-  half = 4096;
-  even = refl;
-  fits = omega arith;
-  memory = omega arith;
-  pages = omega arith;
-  last_row = omega arith;
-}
-row_by Monochrome Fourteen = record {
-  misc = refl;
-  sequencer = refl;
-  graphics = refl;
-  port = refl;
-  base = refl;
-  crtc = refl;
-  columns = omega arith;
-  some_columns = omega arith;
-  half = 4096;
-  even = refl;
-  fits = omega arith;
-  memory = omega arith;
-  pages = omega arith;
-  last_row = omega arith;
-}
-row_by Monochrome Sixteen = record {
-  misc = refl;
-  sequencer = refl;
-  graphics = refl;
-  port = refl;
-  base = refl;
-  crtc = refl;
-  columns = omega arith;
-  some_columns = omega arith;
-  half = 2048;
-  even = refl;
-  fits = omega arith;
-  memory = omega arith;
-  pages = omega arith;
-  last_row = omega arith;
-}
+row_by k height =
+    let d = display_by k height in
+    let p = pages_by k height in
+    record {
+      misc = d.0;
+      sequencer = d.1;
+      graphics = d.2;
+      port = d.3;
+      base = d.4;
+      crtc = d.5;
+      columns = d.6;
+      some_columns = d.7;
+      half = p.half;
+      even = p.even;
+      fits = p.fits;
+      memory = p.memory;
+      pages = p.pages;
+      last_row = p.last_row;
+    }
 
 -- the height that the row of some data has
 record HasHeight (k : Display) (row : ModeRow) : Type 0 where
   height : Height
   is : row_with k height ≡ row
 
-none_has : {A : Type 0} (row : ModeRow) → (let x : Option ModeRow = None in x) ≡ Some row → A
-none_has row e = absurd (cc)
-
-colour_height : (height : ℕ) (row : ModeRow) → with_height colour_text (colour_rows height) ≡ Some row → HasHeight Colour row
-colour_height height row e = by_tests (height == 8) (height == 14) (height == 16) e
-  where
-    by_tests : (a b f : Bool) → with_height colour_text (if a then Some (fifty_rows 0x1F) else if b then Some (twenty_eight_rows 0x1F) else if f
-        then Some (twenty_five_rows 0x1F) else None) ≡ Some row → HasHeight Colour row
-    by_tests true b f h = record { height = Eight; is = some_same (row_with Colour Eight) row h }
-    by_tests false true f h = record { height = Fourteen; is = some_same (row_with Colour Fourteen) row h }
-    by_tests false false true h = record { height = Sixteen; is = some_same (row_with Colour Sixteen) row h }
-    by_tests false false false h = none_has row h
-
-monochrome_height : (height : ℕ) (row : ModeRow) → with_height monochrome_text (monochrome_rows height) ≡ Some row → HasHeight Monochrome row
-monochrome_height height row e = by_tests (height == 8) (height == 14) (height == 16) e
-  where
-    by_tests : (a b f : Bool) → with_height monochrome_text (if a then Some (fifty_rows 0x07) else if b then Some (twenty_eight_rows 0x0D) else if f
-        then Some (twenty_five_rows 0x0F) else None) ≡ Some row → HasHeight Monochrome row
-    by_tests true b f h = record { height = Eight; is = some_same (row_with Monochrome Eight) row h }
-    by_tests false true f h = record { height = Fourteen; is = some_same (row_with Monochrome Fourteen) row h }
-    by_tests false false true h = record { height = Sixteen; is = some_same (row_with Monochrome Sixteen) row h }
-    by_tests false false false h = none_has row h
+with_lines : (k : Display) (row : ModeRow) (a b f : Bool) → with_height (row_of k) (if a then Some (lines_of k Eight) else if b
+    then Some (lines_of k Fourteen) else if f then Some (lines_of k Sixteen) else None) ≡ Some row → HasHeight k row
+with_lines k row true b f h = record { height = Eight; is = some_same (row_with k Eight) row h }
+with_lines k row false true f h = record { height = Fourteen; is = some_same (row_with k Fourteen) row h }
+with_lines k row false false true h = record { height = Sixteen; is = some_same (row_with k Sixteen) row h }
+with_lines k row false false false h = none_some row h
 
 of_height : (k : Display) (row : ModeRow) → HasHeight k row → TextRow (number_of k) row
 of_height k row h = subst (TextRow (number_of k)) h.is (record { display = k; height = h.height; is = row_by k h.height; row_is = refl; number = refl })
@@ -254,9 +183,9 @@ text_row_is mode height row t e = by_tests (mode == 0x03) (mode == 0x07) refl re
     by_tests true b ea eb h =
         let m : mode ≡ 3 = same ea in
         let z : row_at 3 height ≡ Some row = subst (λ n. row_at n height ≡ Some row) m e in
-        subst (λ x. TextRow x row) (sym m) (of_height Colour row (colour_height height row z))
+        subst (λ x. TextRow x row) (sym m) (of_height Colour row (with_lines Colour row (height == 8) (height == 14) (height == 16) z))
     by_tests false true ea eb h =
         let m : mode ≡ 7 = same eb in
         let z : row_at 7 height ≡ Some row = subst (λ n. row_at n height ≡ Some row) m e in
-        subst (λ x. TextRow x row) (sym m) (of_height Monochrome row (monochrome_height height row z))
+        subst (λ x. TextRow x row) (sym m) (of_height Monochrome row (with_lines Monochrome row (height == 8) (height == 14) (height == 16) z))
     by_tests false false ea eb h = absurd (cc)
