@@ -4,7 +4,8 @@ use Rattle.std.specs.Prelude.{ℕ, ◌+◌, ◌*◌, ◌/◌, if◌then◌else�
 use Rattle.std.specs.Prelude.{slice_index}
 use Rattle.vga_bits.specs.Bits.{is_set}
 use Rattle.bios_modes.specs.declared.modes.ModeRow.{ModeRow}
-use Rattle.bios_modes.specs.Palette.{dac_entry}
+use Rattle.bios_modes.specs.declared.palette.Palette.{Palette as DefaultPalette}
+use Rattle.bios_modes.specs.Palette.{palette_entry}
 use Rattle.bios_modes.specs.Kinds.{is_text}
 use Rattle.bios_screen.specs.Listing.{listing}
 use Rattle.bios_screen.specs.Screen.{Cell, Contents, Cells, Pixels, Layout, Palette, Screen}
@@ -18,21 +19,21 @@ blank_cells n = replicate n (0x20, 0x07)
 unfoldable pub blank_pixels : ℕ → List ℕ
 blank_pixels n = replicate n 0
 
--- one component of the first n entries of a mode's default palette: 0 red, 1 green, 2 blue
-unfoldable pub default_component : ℕ → ℕ → ℕ → List ℕ
-default_component mode i n = listing (λ k. slice_index (dac_entry mode k) i) 0 n
+-- one component of the first n entries of a default palette: 0 red, 1 green, 2 blue
+unfoldable pub default_component : DefaultPalette → ℕ → ℕ → List ℕ
+default_component palette i n = listing (λ k. slice_index (palette_entry palette k) i) 0 n
 
 -- the first n bytes of a font
 unfoldable pub font_bytes : List ℕ → ℕ → List ℕ
 font_bytes font n = listing (slice_index font) 0 n
 
 -- the colours of a mode
-abbrev pub fresh_palette : ℕ → ModeRow → Palette
-fresh_palette mode row = record {
+abbrev pub fresh_palette : ModeRow → Palette
+fresh_palette row = record {
   values = take 16 row.attribute;
-  reds = default_component mode 0 256;
-  greens = default_component mode 1 256;
-  blues = default_component mode 2 256;
+  reds = default_component row.palette 0 256;
+  greens = default_component row.palette 1 256;
+  blues = default_component row.palette 2 256;
   mask = 0xFF;
 }
 
@@ -56,7 +57,7 @@ fresh_by mode row distance contents glyphs frame = record {
   places = replicate 8 0;
   cursor_type = row.cursor_type;
   page = 0;
-  palette = fresh_palette mode row;
+  palette = fresh_palette row;
   overscan = slice_index row.attribute 0x11;
   is_blink = is_set (slice_index row.attribute 0x10) 3;
   glyphs = glyphs;

@@ -328,7 +328,7 @@ set_mode_keeps : (x : Option ModeRow) (mode : ℕ) (keeps : Bool) (fonts : FontS
     Always AnswerKept (set_mode_plan x mode keeps fonts d r)
 unfolding set_mode_plan
 set_mode_keeps None mode keeps fonts d r e a = a
-set_mode_keeps (Some row) mode keeps fonts d r e a = behind AnswerKept (mode_set_plan mode row keeps fonts) (λ _. Done (answer_of r (data_of_mode mode row)))
+set_mode_keeps (Some row) mode keeps fonts d r e a = behind AnswerKept (mode_set_plan row keeps fonts) (λ _. Done (answer_of r (data_of_mode mode row)))
     (λ _. begun mode row e)
 
 load_keeps : (x : Option ModeRow) (load : GlyphLoad) (fonts : FontSet) (d : BiosData) (r : Regs) (block : List ℕ) → row_at d.mode load.height ≡ x → AreData d →

@@ -48,7 +48,7 @@ set_mode_does_nothing : {S : Type 0} (m : Meaning S) (row : Option ModeRow) (mod
     DoesNothing m (set_mode_plan row mode keeps fonts d r) d
 unfolding set_mode_plan
 set_mode_does_nothing m None mode keeps fonts d r = refusal_does_nothing m BadMode d
-set_mode_does_nothing m (Some row) mode keeps fonts d r = answer_is_none m (mode_set_plan mode row keeps fonts) (λ _. Empty) (λ _. r) (λ _.
+set_mode_does_nothing m (Some row) mode keeps fonts d r = answer_is_none m (mode_set_plan row keeps fonts) (λ _. Empty) (λ _. r) (λ _.
     data_of_mode mode row) d
 
 unless_does_nothing : {S : Type 0} (m : Meaning S) (why : Option Refusal) (asked_for : Service) (fonts : FontSet) (d : BiosData) (r : Regs) (block : List ℕ) →

@@ -5,8 +5,9 @@
 use Rattle.std.specs.Prelude.{ℕ, ◌+◌, ◌*◌, ◌%◌, ◌==◌, if◌then◌else◌, Bool, List, slice_index}
 use Rattle.std.specs.Prelude.{bit_and}
 use Rattle.bios_modes.specs.declared.modes.ModeRow.{ModeRow}
-use Rattle.bios_modes.specs.Kinds.{is_text}
-use Rattle.bios_modes.specs.Palette.{dac_entry}
+use Rattle.bios_modes.specs.declared.palette.Palette.{Palette}
+use Rattle.bios_modes.specs.Kinds.{is_text_kind}
+use Rattle.bios_modes.specs.Palette.{palette_entry}
 use Rattle.bios_modes.specs.Fonts.{FontSet, glyph_row}
 use Rattle.bios_services.specs.Plan.{Plan, Done, ◌>>◌, out, put, each}
 use Rattle.bios_services.specs.Cycles.{sequencer, graphics, crtc, group, attribute_group}
@@ -38,12 +39,12 @@ colour_plan colour = do
   out dac_data (slice_index colour 1)
   out dac_data (slice_index colour 2)
 
--- the DAC's mask, and n entries of a mode's palette from entry 0 on
-unfoldable pub palette_plan : ℕ → ℕ → Plan (Unit {0})
-palette_plan mode n = do
+-- the DAC's mask, and n entries of a palette from entry 0 on
+unfoldable pub palette_plan : Palette → ℕ → Plan (Unit {0})
+palette_plan palette n = do
   out dac_mask all_bits
   out dac_write_index 0x00
-  each (λ i. colour_plan (dac_entry mode i)) n 0
+  each (λ i. colour_plan (palette_entry palette i)) n 0
 
 -- the lines of character c, so many, in plane 2
 unfoldable pub glyph_plan : (ℕ → ℕ → ℕ) → ℕ → ℕ → Plan (Unit {0})
@@ -86,15 +87,15 @@ text_plan row keeps font = do
   if keeps then Done tt else blank_plan row.base 0x8000
 
 -- what a mode sets besides registers and palette: a graphics mode clears its memory
-unfoldable pub memory_plan : ℕ → ModeRow → Bool → List ℕ → Plan (Unit {0})
-memory_plan mode row keeps font =
-    if is_text mode then text_plan row keeps font
+unfoldable pub memory_plan : ModeRow → Bool → List ℕ → Plan (Unit {0})
+memory_plan row keeps font =
+    if is_text_kind row.kind then text_plan row keeps font
     else if keeps then Done tt
     else clear_plan 0x10000
 
 -- setting a mode; bit 7 of AL keeps the memory
-unfoldable pub mode_set_plan : ℕ → ModeRow → Bool → FontSet → Plan (Unit {0})
-mode_set_plan mode row keeps fonts = do
+unfoldable pub mode_set_plan : ModeRow → Bool → FontSet → Plan (Unit {0})
+mode_set_plan row keeps fonts = do
   registers_plan row
-  palette_plan mode 256
-  memory_plan mode row keeps fonts.f16
+  palette_plan row.palette 256
+  memory_plan row keeps fonts.f16

@@ -138,7 +138,7 @@ answer_of r d = answer_with Empty r d
 unfoldable pub set_mode_plan : Option ModeRow → ℕ → Bool → FontSet → BiosData → Regs → Plan Answered
 set_mode_plan None mode keeps fonts d r = refuse BadMode d
 set_mode_plan (Some row) mode keeps fonts d r = do
-  mode_set_plan mode row keeps fonts
+  mode_set_plan row keeps fonts
   Done (answer_of r (data_of_mode mode row))
 
 -- a service in a mode, or why it is refused

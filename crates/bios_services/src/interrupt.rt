@@ -204,7 +204,7 @@ fn set_mode<B: Bus>(
     let Some(row) = mode_row(mode) else {
         return Err(Refusal::BadMode);
     };
-    mode_set::set_mode(bus, mode, &row, keeps, fonts);
+    mode_set::set_mode(bus, &row, keeps, fonts);
     bda.begin_mode(mode, &row);
     answer_of(regs)
 }

@@ -13,7 +13,7 @@ use crate::video_registers::{
     ALL_BITS, DAC_DATA, DAC_MASK, DAC_WRITE_INDEX, GRAPHICS, MISCELLANEOUS, MISCELLANEOUS_OUTPUT,
     SEQUENCER, VERTICAL_RETRACE_END,
 };
-use bios_modes::{Fonts, ModeRow, is_text, palette_of};
+use bios_modes::{Fonts, Kind, ModeRow, Palette};
 use vga_card::Bus;
 
 /// How many bytes a text mode clears, and a graphics mode.
@@ -48,15 +48,14 @@ fn write_colour<B: Bus>(bus: &mut B, colour: [u8; 3])
     out(bus, DAC_DATA, colour[2]);
 }
 
-/// Writes the DAC's mask, and the first n entries of a mode's palette.
+/// Writes the DAC's mask, and the first n entries of a palette.
 #[tactic(auto, using(crate::proofs::PlanRuns::run_bind), unfolding(crate::specs::ModeSet::palette_plan))]
-fn write_palette<B: Bus>(bus: &mut B, mode: u8, n: u16)
+fn write_palette<B: Bus>(bus: &mut B, palette: Palette, n: u16)
     requires { n ≤ 256 }
-    ensures { bus.new ≡ (run B.meaning (palette_plan mode n) bus.old).0 }
+    ensures { bus.new ≡ (run B.meaning (palette_plan palette n) bus.old).0 }
 {
     out(bus, DAC_MASK, ALL_BITS);
     out(bus, DAC_WRITE_INDEX, 0x00);
-    let palette = palette_of(mode);
     for i in 0..n {
         write_colour(bus, palette.entry(i as u8));
     }
@@ -105,11 +104,11 @@ fn write_text<B: Bus>(bus: &mut B, row: &ModeRow, keeps: bool, fonts: &Fonts)
 
 /// Writes what a mode has besides registers and palette.
 #[tactic(auto, using(crate::proofs::PlanRuns::run_bind), unfolding(crate::specs::ModeSet::memory_plan))]
-fn write_memory<B: Bus>(bus: &mut B, mode: u8, row: &ModeRow, keeps: bool, fonts: &Fonts)
+fn write_memory<B: Bus>(bus: &mut B, row: &ModeRow, keeps: bool, fonts: &Fonts)
     requires { row.now.base < 2 ^ 20 }
-    ensures { bus.new ≡ (run B.meaning (memory_plan mode row.now keeps fonts.now.f16) bus.old).0 }
+    ensures { bus.new ≡ (run B.meaning (memory_plan row.now keeps fonts.now.f16) bus.old).0 }
 {
-    if is_text(mode) {
+    if row.kind == Kind::Text {
         write_text(bus, row, keeps, fonts);
     } else if !keeps {
         clear(bus, GRAPHICS_LEN);
@@ -118,12 +117,12 @@ fn write_memory<B: Bus>(bus: &mut B, mode: u8, row: &ModeRow, keeps: bool, fonts
 
 /// Sets a mode, and clears its memory unless it is kept.
 #[tactic(auto, using(crate::proofs::PlanRuns::run_bind), unfolding(crate::specs::ModeSet::mode_set_plan))]
-pub(crate) fn set_mode<B: Bus>(bus: &mut B, mode: u8, row: &ModeRow, keeps: bool, fonts: &Fonts)
+pub(crate) fn set_mode<B: Bus>(bus: &mut B, row: &ModeRow, keeps: bool, fonts: &Fonts)
     requires port { row.now.crtc_address < ports_end }
     requires base { row.now.base < 2 ^ 20 }
-    ensures { bus.new ≡ (run B.meaning (mode_set_plan mode row.now keeps fonts.now) bus.old).0 }
+    ensures { bus.new ≡ (run B.meaning (mode_set_plan row.now keeps fonts.now) bus.old).0 }
 {
     write_registers(bus, row);
-    write_palette(bus, mode, 256);
-    write_memory(bus, mode, row, keeps, fonts);
+    write_palette(bus, row.palette, 256);
+    write_memory(bus, row, keeps, fonts);
 }

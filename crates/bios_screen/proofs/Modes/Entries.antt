@@ -9,17 +9,14 @@ use Rattle.vga_card.specs.Bus.{card_meaning}
 use Rattle.vga_card.specs.Card.{CardState}
 use Rattle.vga_card.specs.Port.{port_of}
 use Rattle.vga_card.specs.Cycles.{out_at}
-use Rattle.bios_modes.specs.Palette.{dac_entry}
+use Rattle.bios_modes.specs.declared.palette.Palette.{Palette}
+use Rattle.bios_modes.specs.declared.palette.Palette.TheVariants.{Colours16, Colours64, Colours256, Monochrome}
+use Rattle.bios_modes.specs.Palette.{palette_entry}
 use Rattle.bios_services.specs.Plan.{run, each}
 use Rattle.bios_services.specs.ModeSet.{colour_plan}
 use Rattle.bios_screen.proofs.Base.Flat.{Edited, Leaves, set_cell, set_same, set_other}
 use Rattle.bios_screen.proofs.Base.Edits.{one_edit, edits}
 use Rattle.bios_screen.proofs.Base.Tests.{both_true, same}
-use Rattle.bios_screen.proofs.Modes.TextModes.Display.{Colour as OfColours, Monochrome}
-use Rattle.bios_screen.proofs.Modes.PixelModes.Planes.{Low, Middle, High}
-use Rattle.bios_screen.proofs.Modes.PixelModes.Graphics.{Sixteen, Many}
-use Rattle.bios_screen.proofs.Modes.AnyModes.{Tabled, number_of}
-use Rattle.bios_screen.proofs.Modes.AnyModes.Tabled.{OfText, OfPixels}
 
 pub record Colour : Type 0 where
   pub red : ℕ
@@ -101,18 +98,18 @@ one_entry rest colour i s c l t =
     } in
     record { cells = d; shown = subst (λ x. HasEntries rest (i + 1) x d) (sym (three colour i s t.component (t.index ∙ z))) still; fact = one_edit i new c }
 
--- a mode's entries have no bits to lose
-abbrev pub keeps_entries : (mode : ℕ) → ℕ → Type 0
-keeps_entries mode n = (k : ℕ) → k < n → kept_colour (colour_of (dac_entry mode k)) ≡ colour_of (dac_entry mode k)
+-- a palette's entries have no bits to lose
+abbrev pub keeps_entries : Palette → ℕ → Type 0
+keeps_entries palette n = (k : ℕ) → k < n → kept_colour (colour_of (palette_entry palette k)) ≡ colour_of (palette_entry palette k)
 
 -- all the entries, n of them
-pub entries_set : (rest : CardState) (mode n : ℕ) (s : CardState) (c : ℕ → Colour) → n ≤ 256 → keeps_entries mode n → HasEntries rest 0 s c →
-    Leaves CardState Colour (HasEntries rest n) (run card_meaning (each (λ i. colour_plan (dac_entry mode i)) n 0) s).0 (λ d. (k : ℕ) → k < n →
-    d k ≡ colour_of (dac_entry mode k))
-entries_set rest mode n s c l small t =
-    let all = edits CardState Colour card_meaning (λ i. colour_plan (dac_entry mode i)) (HasEntries rest) 0 n (λ _. Unit {0}) (λ r h. r) (λ r h x.
-    kept_colour (colour_of (dac_entry mode r))) (λ j k a b lb lo hi q. absurd (omega arith))
-    (λ r s c lb w t. one_entry rest (dac_entry mode r) r s c (omega arith) t)
+pub entries_set : (rest : CardState) (palette : Palette) (n : ℕ) (s : CardState) (c : ℕ → Colour) → n ≤ 256 → keeps_entries palette n → HasEntries rest 0 s c →
+    Leaves CardState Colour (HasEntries rest n) (run card_meaning (each (λ i. colour_plan (palette_entry palette i)) n 0) s).0 (λ d. (k : ℕ) → k < n →
+    d k ≡ colour_of (palette_entry palette k))
+entries_set rest palette n s c l small t =
+    let all = edits CardState Colour card_meaning (λ i. colour_plan (palette_entry palette i)) (HasEntries rest) 0 n (λ _. Unit {0}) (λ r h. r) (λ r h x.
+    kept_colour (colour_of (palette_entry palette r))) (λ j k a b lb lo hi q. absurd (omega arith))
+    (λ r s c lb w t. one_entry rest (palette_entry palette r) r s c (omega arith) t)
     n 0 s c (omega arith) (omega arith) t in
     record { cells = all.cells; shown = all.shown; fact = λ k h. all.fact.inside (record { turn = k; from = omega arith; before = h; place = tt }) ∙ small k h }
 
@@ -121,19 +118,17 @@ abbrev is_kept : List ℕ → Bool
 is_kept l = (bit_and (slice_index l 0) 0x3F == slice_index l 0)
     && ((bit_and (slice_index l 1) 0x3F == slice_index l 1) && (bit_and (slice_index l 2) 0x3F == slice_index l 2))
 
-keeps_by : (mode : ℕ) → agree_below (λ n. is_kept (dac_entry mode n)) (λ _. true) 256 ≡ true → keeps_entries mode 256
-keeps_by mode all k l =
-    let x = colour_of (dac_entry mode k) in
-    let a = both_true (bit_and x.red 0x3F == x.red) _ (agree_below_at (λ n. is_kept (dac_entry mode n)) (λ _. true) 256 k all l) in
+keeps_by : (palette : Palette) → agree_below (λ n. is_kept (palette_entry palette n)) (λ _. true) 256 ≡ true → keeps_entries palette 256
+keeps_by palette all k l =
+    let x = colour_of (palette_entry palette k) in
+    let a = both_true (bit_and x.red 0x3F == x.red) _ (agree_below_at (λ n. is_kept (palette_entry palette n)) (λ _. true) 256 k all l) in
     let b = both_true (bit_and x.green 0x3F == x.green) (bit_and x.blue 0x3F == x.blue) a.1 in
     ap (λ n. let y : Colour = record { red = n; green = bit_and x.green 0x3F; blue = bit_and x.blue 0x3F } in y) (same a.0)
     ∙ ap (λ n. let y : Colour = record { red = x.red; green = n; blue = bit_and x.blue 0x3F } in y) (same b.0)
     ∙ ap (λ n. let y : Colour = record { red = x.red; green = x.green; blue = n } in y) (same b.1)
 
-pub keeps : (k : Tabled) → keeps_entries (number_of k) 256
-keeps (OfText OfColours) = keeps_by 0x03 refl
-keeps (OfText Monochrome) = keeps_by 0x07 refl
-keeps (OfPixels (Sixteen Low)) = keeps_by 0x0D refl
-keeps (OfPixels (Sixteen Middle)) = keeps_by 0x10 refl
-keeps (OfPixels (Sixteen High)) = keeps_by 0x12 refl
-keeps (OfPixels Many) = keeps_by 0x13 refl
+pub keeps : (palette : Palette) → keeps_entries palette 256
+keeps Colours64 = keeps_by Colours64 refl
+keeps Monochrome = keeps_by Monochrome refl
+keeps Colours16 = keeps_by Colours16 refl
+keeps Colours256 = keeps_by Colours256 refl

@@ -9,7 +9,8 @@ use Rattle.vga_card.specs.Card.{CardState}
 use Rattle.vga_card.specs.Port.{port_of as reached_by}
 use Rattle.vga_card.specs.Cycles.{out_at}
 use Rattle.bios_modes.specs.declared.modes.ModeRow.{ModeRow}
-use Rattle.bios_modes.specs.Palette.{dac_entry}
+use Rattle.bios_modes.specs.declared.palette.Palette.{Palette as DefaultPalette}
+use Rattle.bios_modes.specs.Palette.{palette_entry}
 use Rattle.bios_modes.specs.Fonts.{FontSet}
 use Rattle.bios_modes.specs.Begin.{data_of_mode}
 use Rattle.bios_modes.specs.Bda.{BiosData}
@@ -41,52 +42,51 @@ use Rattle.bios_screen.proofs.Modes.Entries.{Colour as Entry, colour_of, entry_a
 but_entries : (x y : CardState) → without_entries x ≡ without_entries y → x ≡ record y { dac = record x.dac { mask = y.dac.mask } }
 but_entries x y e = ap (λ s. let r : CardState = record s { dac = record x.dac { mask = s.dac.mask } } in r) e
 
-component_same : (mode i n : ℕ) (l : List ℕ) → length l ≡ n → ((k : ℕ) → k < n → slice_index l k ≡ slice_index (dac_entry mode k) i) →
-    l ≡ default_component mode i n
+component_same : (palette : DefaultPalette) (i n : ℕ) (l : List ℕ) → length l ≡ n → ((k : ℕ) → k < n → slice_index l k ≡ slice_index (palette_entry palette k) i) →
+    l ≡ default_component palette i n
 unfolding default_component
-component_same mode i n l e h = spelled l n e ∙ same_from_0 (λ k. slice_index (dac_entry mode k) i) (slice_index l) n h
+component_same palette i n l e h = spelled l n e ∙ same_from_0 (λ k. slice_index (palette_entry palette k) i) (slice_index l) n h
 
 -- the DAC's mask is set and its index is 0
 abbrev masked : CardState → CardState
 masked c = record c { dac = record c.dac { mask = 0xFF; index = 0; component = Red } }
 
-masked_is : (mode : ℕ) (c : CardState) (n : ℕ) → (run card_meaning (palette_plan mode n) c).0
-    ≡ (run card_meaning (each (λ i. colour_plan (dac_entry mode i)) n 0) (masked c)).0
+masked_is : (palette : DefaultPalette) (c : CardState) (n : ℕ) → (run card_meaning (palette_plan palette n) c).0
+    ≡ (run card_meaning (each (λ i. colour_plan (palette_entry palette i)) n 0) (masked c)).0
 unfolding palette_plan reached_by out_at
-masked_is mode c n = refl
+masked_is palette c n = refl
 
--- a DAC has the colours of a mode
-pub record HasColours (mode : ℕ) (d : DacState) : Type 0 where
+-- a DAC has the colours of a palette
+pub record HasColours (palette : DefaultPalette) (d : DacState) : Type 0 where
   pub mask : d.mask ≡ 0xFF
-  pub reds : d.reds ≡ default_component mode 0 256
-  pub greens : d.greens ≡ default_component mode 1 256
-  pub blues : d.blues ≡ default_component mode 2 256
+  pub reds : d.reds ≡ default_component palette 0 256
+  pub greens : d.greens ≡ default_component palette 1 256
+  pub blues : d.blues ≡ default_component palette 2 256
 
 -- the adapter with a mode's registers and this DAC
 abbrev pub coloured : ModeRow → CardState → DacState → CardState
 coloured row c d = record (in_mode row c) { dac = d }
 
 -- then its palette is the fresh screen's
-pub palette_is : (mode : ℕ) (row : ModeRow) (c : CardState) (d : DacState) → HasColours mode d → palette_in (coloured row c d) ≡ fresh_palette mode row
-palette_is mode row c d t =
+pub palette_is : (row : ModeRow) (c : CardState) (d : DacState) → HasColours row.palette d → palette_in (coloured row c d) ≡ fresh_palette row
+palette_is row c d t =
     ap (λ k. let p : Palette = record (palette_in (coloured row c d)) { mask = k } in p) t.mask
-    ∙ ap (λ k. let p : Palette = record (fresh_palette mode row) { reds = k; greens = d.greens; blues = d.blues } in p) t.reds
-    ∙ ap (λ k. let p : Palette = record (fresh_palette mode row) { greens = k; blues = d.blues } in p) t.greens
-    ∙ ap (λ k. let p : Palette = record (fresh_palette mode row) { blues = k } in p) t.blues
+    ∙ ap (λ k. let p : Palette = record (fresh_palette row) { reds = k; greens = d.greens; blues = d.blues } in p) t.reds
+    ∙ ap (λ k. let p : Palette = record (fresh_palette row) { greens = k; blues = d.blues } in p) t.greens
+    ∙ ap (λ k. let p : Palette = record (fresh_palette row) { blues = k } in p) t.blues
 
 -- what registers and palette of a mode leave, before the rest of its plan
-pub record Prepared (mode : ℕ) (row : ModeRow) (c : CardState) : Type 0 where
+pub record Prepared (row : ModeRow) (c : CardState) : Type 0 where
   pub dac : DacState
-  pub colours : HasColours mode dac
+  pub colours : HasColours row.palette dac
   pub bounds : IsCard (coloured row c dac)
-  pub runs : (rest : Plan (Unit {0})) → (run card_meaning (registers_plan row >> (palette_plan mode 256 >> rest)) c).0
+  pub runs : (rest : Plan (Unit {0})) → (run card_meaning (registers_plan row >> (palette_plan row.palette 256 >> rest)) c).0
       ≡ (run card_meaning rest (coloured row c dac)).0
 
-pub prepared : (k : Tabled) → KeepsBounds → (c : CardState) → IsCard c → Prepared (number_of k) (row_of k) c
+pub prepared : (k : Tabled) → KeepsBounds → (c : CardState) → IsCard c → Prepared (row_of k) c
 prepared k law c z =
-    let mode = number_of k in
     let row = row_of k in
-    let entries = each (λ i. colour_plan (dac_entry mode i)) 256 0 in
+    let entries = each (λ i. colour_plan (palette_entry row.palette i)) 256 0 in
     let y0 = in_mode row c in
     let z0 : IsCard y0 = subst IsCard (registers_set k c z) (plan_bounds law (registers_plan row) c z) in
     let y1 = masked y0 in
@@ -106,24 +106,24 @@ prepared k law c z =
       entry = λ i l. refl;
       others = refl;
     } in
-    let set = entries_set (without_entries y1) mode 256 y1 (entry_at y1.dac) (omega arith) (keeps k) start in
+    let set = entries_set (without_entries y1) row.palette 256 y1 (entry_at y1.dac) (omega arith) (keeps row.palette) start in
     let d : DacState = record s2.dac { mask = 0xFF } in
     let e : s2 ≡ coloured row c d = but_entries s2 y1 set.shown.others in
-    let entry : (i : ℕ) → i < 256 → entry_at d i ≡ colour_of (dac_entry mode i) = λ i l. set.shown.entry i l ∙ set.fact i l in
+    let entry : (i : ℕ) → i < 256 → entry_at d i ≡ colour_of (palette_entry row.palette i) = λ i l. set.shown.entry i l ∙ set.fact i l in
     record {
       dac = d;
       colours = record {
         mask = refl;
-        reds = component_same mode 0 256 d.reds set.shown.reds (λ i l. ap (λ (x : Entry). x.red) (entry i l));
-        greens = component_same mode 1 256 d.greens set.shown.greens (λ i l. ap (λ (x : Entry). x.green) (entry i l));
-        blues = component_same mode 2 256 d.blues set.shown.blues (λ i l. ap (λ (x : Entry). x.blue) (entry i l));
+        reds = component_same row.palette 0 256 d.reds set.shown.reds (λ i l. ap (λ (x : Entry). x.red) (entry i l));
+        greens = component_same row.palette 1 256 d.greens set.shown.greens (λ i l. ap (λ (x : Entry). x.green) (entry i l));
+        blues = component_same row.palette 2 256 d.blues set.shown.blues (λ i l. ap (λ (x : Entry). x.blue) (entry i l));
       };
       bounds = subst IsCard e (plan_bounds law entries y1 z1);
       runs = λ rest.
-          then_runs (registers_plan row) (palette_plan mode 256 >> rest) c
-          ∙ ap (λ x. (run card_meaning (palette_plan mode 256 >> rest) x).0) (registers_set k c z)
-          ∙ then_runs (palette_plan mode 256) rest y0
-          ∙ ap (λ x. (run card_meaning rest x).0) (masked_is mode y0 256 ∙ e);
+          then_runs (registers_plan row) (palette_plan row.palette 256 >> rest) c
+          ∙ ap (λ x. (run card_meaning (palette_plan row.palette 256 >> rest) x).0) (registers_set k c z)
+          ∙ then_runs (palette_plan row.palette 256) rest y0
+          ∙ ap (λ x. (run card_meaning rest x).0) (masked_is row.palette y0 256 ∙ e);
     }
 
 -- ---- the call
@@ -131,7 +131,7 @@ prepared k law c z =
 -- its plan is the mode's
 call_is : (k : Tabled) (fonts : FontSet) (r : Regs) (block : List ℕ) (d : BiosData) (c : CardState) →
     run card_meaning (call_plan (Some (SetMode (number_of k) false)) fonts d r block) c
-    ≡ run card_meaning (mode_set_plan (number_of k) (row_of k) false fonts >> (let q : Plan Answered =
+    ≡ run card_meaning (mode_set_plan (row_of k) false fonts >> (let q : Plan Answered =
     Done (answer_of r (data_of_mode (number_of k) (row_of k))) in q)) c
 unfolding set_mode_plan
 call_is (OfText Colour) fonts r block d c = refl
@@ -144,14 +144,14 @@ call_is (OfPixels Many) fonts r block d c = refl
 -- the plan shows the fresh screen
 abbrev pub ShowsFresh : Tabled → Type 0
 ShowsFresh k = (c : CardState) (fonts : FontSet) → IsCard c → AreBytes fonts.f16 →
-    shown (run card_meaning (mode_set_plan (number_of k) (row_of k) false fonts) c).0 (data_of_mode (number_of k) (row_of k))
+    shown (run card_meaning (mode_set_plan (row_of k) false fonts) c).0 (data_of_mode (number_of k) (row_of k))
     ≡ Some (fresh_screen (number_of k) (row_of k) fonts.f16 c.crtc.beam.frame)
 
 pub sets_fresh : (k : Tabled) → ShowsFresh k → SetsFresh (number_of k) (row_of k)
 sets_fresh k shows_fresh fonts r block c d z small e =
     let mode = number_of k in
     let row = row_of k in
-    let plan = mode_set_plan mode row false fonts in
+    let plan = mode_set_plan row false fonts in
     let done : Plan Answered = Done (answer_of r (data_of_mode mode row)) in
     let runs : run card_meaning (whole_service fonts d r block) c ≡ run card_meaning (plan >> done) c =
     ap (λ (x : Option Call). run card_meaning (call_plan x fonts d r block) c) e ∙ call_is k fonts r block d c in

@@ -204,7 +204,7 @@ text_in : (k : Graphics) → is_text (number_in k) ≡ false
 text_in (Sixteen m) = text_by m
 text_in Many = refl
 
-memory_is : (k : Graphics) (font : List ℕ) (c : CardState) → (run card_meaning (memory_plan (number_in k) (row_in k) false font) c).0
+memory_is : (k : Graphics) (font : List ℕ) (c : CardState) → (run card_meaning (memory_plan (row_in k) false font) c).0
     ≡ (run card_meaning (clear_plan 0x10000) c).0
 unfolding memory_plan
 memory_is (Sixteen Low) font c = refl
@@ -242,13 +242,13 @@ shows_fresh k law c fonts z small =
     let new = fresh_pixels mode row c.crtc.beam.frame in
     let text = fresh_text mode row font c.crtc.beam.frame in
     let pages = replicate row.pages (blank_pixels (pixels_of row)) in
-    ap (λ x. shown x d) (first.runs (memory_plan mode row false font) ∙ memory_is k font y)
+    ap (λ x. shown x d) (first.runs (memory_plan row false font) ∙ memory_is k font y)
     ∙ ap (λ x. shown_by x s d) (row_by k)
     ∙ ap (λ b. if b then Some (screen_of row s d) else None) (test_stays row y s d t.others ∙ test_by k c first.dac)
     ∙ ap (λ b. let x : Screen = (if b then text_screen row s d else pixel_screen row s d) in Some x) (text_in k)
     ∙ ap (λ p. Some (screen_by row s d 0 (Pixels p) [])) (pages_blank k s.host.memory t.clear)
     ∙ ap (λ x. Some (screen_by row x d 0 (Pixels pages) [])) t.others
-    ∙ ap (λ (p : Palette). let x : Screen = record new { palette = p } in Some x) (palette_is mode row c first.dac first.colours)
+    ∙ ap (λ (p : Palette). let x : Screen = record new { palette = p } in Some x) (palette_is row c first.dac first.colours)
     ∙ sym (ap (λ b. let x : Screen = (if b then text else new) in Some x) (text_in k))
 
 pub pixels_set_fresh : (k : Graphics) → KeepsBounds → SetsFresh (number_in k) (row_in k)

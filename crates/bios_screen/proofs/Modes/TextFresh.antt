@@ -135,7 +135,7 @@ pub font_is : (line : ℕ → ℕ → ℕ) (height n first window : ℕ) (c : Ca
 unfolding font_plan
 font_is line height n first window c = refl
 
-memory_is : (disp : Display) (font : List ℕ) (c : CardState) → (run card_meaning (memory_plan (number_of disp) (row_of disp) false font) c).0
+memory_is : (disp : Display) (font : List ℕ) (c : CardState) → (run card_meaning (memory_plan (row_of disp) false font) c).0
     ≡ (run card_meaning (blank_plan (base_of disp) 0x8000) (run card_meaning (font_plan (glyph_row 16 font) 16 256 0 (slice_index (row_of disp).graphics 6))
     c).0).0
 unfolding memory_plan text_plan
@@ -151,7 +151,7 @@ record FreshMemory (disp : Display) (font : List ℕ) (y s : CardState) : Type 0
 
 fresh_memory : (disp : Display) (law : KeepsBounds) (c : CardState) (d : DacState) (font : List ℕ) → IsCard (coloured (row_of disp) c d) → AreBytes font →
     FreshMemory disp font (coloured (row_of disp) c d)
-    (run card_meaning (memory_plan (number_of disp) (row_of disp) false font) (coloured (row_of disp) c d)).0
+    (run card_meaning (memory_plan (row_of disp) false font) (coloured (row_of disp) c d)).0
 fresh_memory disp law c d font z2 small =
     let window = slice_index (row_of disp).graphics 6 in
     let y2 = coloured (row_of disp) c d in
@@ -179,7 +179,7 @@ fresh_memory disp law c d font z2 small =
     ∙ then_runs load (glyphs_off window) y3
     ∙ ap (λ x. (run card_meaning (glyphs_off window) x).0) e4
     ∙ off_is disp c d l4 in
-    let whole : (run card_meaning (memory_plan (number_of disp) (row_of disp) false font) y2).0 ≡ s6 = memory_is disp font y2
+    let whole : (run card_meaning (memory_plan (row_of disp) false font) y2).0 ≡ s6 = memory_is disp font y2
     ∙ ap (λ x. (run card_meaning blank x).0) fonted in
     let state : FreshMemory disp font y2 s6 = record {
       plane2 = l4;
@@ -212,18 +212,18 @@ shows_fresh disp law c fonts z small =
     let d = data_of_mode mode row in
     let first = prepared (OfText disp) law c z in
     let t = fresh_memory disp law c first.dac font first.bounds small in
-    let s = (run card_meaning (memory_plan mode row false font) (coloured row c first.dac)).0 in
+    let s = (run card_meaning (memory_plan row false font) (coloured row c first.dac)).0 in
     let y = in_text disp (with_glyphs (in_glyphs disp (coloured row c first.dac)) t.plane2) in
     let new = fresh_text mode row font c.crtc.beam.frame in
     let pixels = fresh_pixels mode row c.crtc.beam.frame in
     let blank = blank_cells all_cells in
-    ap (λ x. shown x d) (first.runs (memory_plan mode row false font))
+    ap (λ x. shown x d) (first.runs (memory_plan row false font))
     ∙ ap (λ x. shown_by x s d) (row_is disp)
     ∙ ap (λ b. if b then Some (screen_of row s d) else None) (test_stays row y s d t.others ∙ test_is disp c first.dac t.plane2)
     ∙ ap (λ (x : Screen). Some x) (screen_is_text row s d (text_mode disp))
     ∙ ap (λ k. Some (screen_with row s d k)) t.cells
     ∙ ap (λ x. Some (screen_with row x d blank)) t.others
-    ∙ ap (λ (k : Palette). let x : Screen = record new { palette = k; glyphs = glyphs_in t.plane2 4096 } in Some x) (palette_is mode row c first.dac first.colours)
+    ∙ ap (λ (k : Palette). let x : Screen = record new { palette = k; glyphs = glyphs_in t.plane2 4096 } in Some x) (palette_is row c first.dac first.colours)
     ∙ ap (λ k. let x : Screen = record new { glyphs = k } in Some x) t.glyphs
     ∙ sym (ap (λ b. let x : Screen = (if b then new else pixels) in Some x) (text_mode disp))
 
