@@ -1,8 +1,7 @@
 -- A character in sixteen colours, plain and by XOR: what its lines leave of four bytes each, and what that is to the pixels.
-use Rattle.std.proofs.Common.{◌≡◌, ◌≢◌, ℕ, zero, suc, ◌+◌, ◌-◌, ◌*◌, ◌%◌, ◌<◌, refl, sym, ap, ◌∙◌, subst, arith, Bool, true, false}
+use Rattle.std.proofs.Common.{◌≡◌, ◌≢◌, ℕ, zero, suc, ◌+◌, ◌-◌, ◌%◌, ◌<◌, refl, sym, ap, ◌∙◌, subst, arith, Bool, true, false}
 use Rattle.std.specs.Prelude.{◌==◌, if◌then◌else◌, bit_xor}
 use Rattle.std.specs.Int.{bit_at}
-use Rattle.std.proofs.lemmas.Bool.{agree_below_at}
 use Rattle.std.proofs.lemmas.Bool.Decides.{nat_tests}
 use Rattle.std.proofs.lemmas.Nat.Bits.{bit_at-lt}
 use Rattle.vga_bits.specs.Bits.{is_set, byte_of}
@@ -18,7 +17,7 @@ use Rattle.bios_screen.proofs.Base.Edits.{one_edit, edited_twice, edits}
 use Rattle.bios_screen.proofs.Base.Plans.{run_bind}
 use Rattle.bios_screen.proofs.Base.Kept.{KeepsBounds}
 use Rattle.bios_screen.proofs.Planar.Settings.{Hand, at_rest, drawing, stored, Loaded, put_draws, get_loads, mask_set, function_set}
-use Rattle.bios_screen.proofs.Planar.Bits.{nibble_of, bit_of, xor_16}
+use Rattle.bios_screen.proofs.Planar.Bits.{nibble, same_nibble, nibble_of, low_is, xor_nibble, bit_of}
 
 -- ---- four bytes
 
@@ -45,107 +44,67 @@ lined b mask v old = if b then turned mask v old else masked mask v (masked 0x0F
 abbrev pub dotted_by : Bool → ℕ → Bool → ℕ → ℕ
 dotted_by b mask is_dot old = if is_dot then (if b then bit_xor old mask else mask) else if b then old else 0
 
-kept_bit : (v i : ℕ) → i < 8 → bit_at (byte v) i ≡ bit_at v i
-kept_bit v i l = bit_of (bit_at v) (bit_at-lt v) i l
-
-pixel_plain : (mask v i : ℕ) (old : Four ℕ) → mask < 16 → i < 8 → nibble_of (masked mask v (masked 0x0F 0x00 old)) i ≡ (if is_set v (7 - i) then mask else 0)
-pixel_plain mask v i old l li =
-    let p0 = chosen (is_set mask 0) in
-    let p1 = chosen (is_set mask 1) in
-    let p2 = chosen (is_set mask 2) in
-    let p3 = chosen (is_set mask 3) in
-    rw (p0, p1, p2, p3) (at_bit (bit_at v (7 - i)) (bit_at-lt v (7 - i)))
+pixel_plain : (mask v i : ℕ) (old : Four ℕ) → mask < 16 → nibble_of (masked mask v (masked 0x0F 0x00 old)) i ≡ (if is_set v (7 - i) then mask else 0)
+pixel_plain mask v i old l =
+    same_nibble (λ p. bit_at (if is_set mask p then byte v else byte 0x00) (7 - i)) (λ p. if is_set mask p then bit_at v (7 - i) else 0)
+    (λ p _. chosen (is_set mask p))
+    ∙ at_bit (bit_at v (7 - i)) (bit_at-lt v (7 - i))
   where
     chosen : (t : Bool) → bit_at (if t then byte v else byte 0x00) (7 - i) ≡ (if t then bit_at v (7 - i) else 0)
-    chosen true = kept_bit v (7 - i) (omega arith)
-    chosen false = kept_bit 0x00 (7 - i) (omega arith) ∙ none (7 - i)
+    chosen true = bit_of (bit_at v) (bit_at-lt v) (7 - i) (omega arith)
+    chosen false = bit_of (bit_at 0x00) (bit_at-lt 0x00) (7 - i) (omega arith) ∙ none (7 - i)
       where
         none : (j : ℕ) → bit_at 0x00 j ≡ 0
         none j = omega arith
 
-    whole : (m : ℕ) → m < 16 → (if bit_at m 0 == 1 then 1 else 0) + 2 * (if bit_at m 1 == 1 then 1 else 0) + 4 * (if bit_at m 2 == 1 then 1 else 0)
-        + 8 * (if bit_at m 3 == 1 then 1 else 0) ≡ m
-    whole m l = let t = agree_below_at (λ m. (if bit_at m 0 == 1 then 1 else 0) + 2 * (if bit_at m 1 == 1 then 1 else 0) + 4 * (if bit_at m 2 == 1 then 1
-        else 0) + 8 * (if bit_at m 3 == 1 then 1 else 0) == m) (λ _. true) 16 m refl l in grind (arith, nat_tests)
-
-    none : (t : Bool) → (let x : ℕ = if t then 0 else 0 in x) ≡ 0
+    none : (t : Bool) → (let n : ℕ = if t then 0 else 0 in n) ≡ 0
     none true = refl
     none false = refl
 
-    at_bit : (b : ℕ) → b < 2 → (if bit_at mask 0 == 1 then b else 0) + 2 * (if bit_at mask 1 == 1 then b else 0) + 4 * (if bit_at mask 2 == 1 then b else 0)
-        + 8 * (if bit_at mask 3 == 1 then b else 0) ≡ (if b == 1 then mask else 0)
-    at_bit zero h = rw (none (bit_at mask 0 == 1), none (bit_at mask 1 == 1), none (bit_at mask 2 == 1), none (bit_at mask 3 == 1)) refl
-    at_bit (suc zero) h = whole mask l
+    at_bit : (b : ℕ) → b < 2 → nibble (λ p. if is_set mask p then b else 0) ≡ (if b == 1 then mask else 0)
+    at_bit zero h = same_nibble (λ p. if is_set mask p then 0 else 0) (λ _. 0) (λ p _. none (is_set mask p))
+    at_bit (suc zero) h =
+        let low : mask % 16 ≡ mask = omega arith in
+        same_nibble (λ p. if is_set mask p then 1 else 0) (bit_at mask) (λ p _. let small = bit_at-lt mask p in grind (arith, nat_tests)) ∙ low_is mask ∙ low
     at_bit (suc (suc b)) h = absurd (omega arith)
 
-abbrev xor_bit : ℕ → ℕ → ℕ → ℕ
-xor_bit a b i = (bit_at a i + bit_at b i) % 2
-
-xor_bit_small : (a b i : ℕ) → xor_bit a b i < 2
-xor_bit_small a b i = omega arith
-
-xor_bits : (a b i : ℕ) → i < 8 → bit_at (xor_byte a b) i ≡ xor_bit a b i
-xor_bits a b i l = bit_of (xor_bit a b) (xor_bit_small a b) i l
-
-pixel_turned : (mask v i : ℕ) (old : Four ℕ) → mask < 16 → i < 8 → nibble_of (turned mask v old) i
+pixel_turned : (mask v i : ℕ) (old : Four ℕ) → mask < 16 → nibble_of (turned mask v old) i
     ≡ (if is_set v (7 - i) then bit_xor (nibble_of old i) mask else nibble_of old i)
-pixel_turned mask v i old l hi =
-    let j = 7 - i in
-    let z : bit_at v j < 2 = bit_at-lt v j in
-    rw (
-      chosen (bit_at mask 0 == 1) old.plane0,
-      chosen (bit_at mask 1 == 1) old.plane1,
-      chosen (bit_at mask 2 == 1) old.plane2,
-      chosen (bit_at mask 3 == 1) old.plane3,
-    ) (at_bit (bit_at v j) z)
+pixel_turned mask v i old l =
+    same_nibble (λ p. bit_at (if is_set mask p then xor_byte v (of_plane old p) else of_plane old p) (7 - i))
+    (λ p. if is_set mask p then (bit_at v (7 - i) + x p) % 2 else x p) (λ p _. chosen (is_set mask p) (of_plane old p))
+    ∙ at_bit (bit_at v (7 - i)) (bit_at-lt v (7 - i))
   where
-    chosen : (t : Bool) (x : ℕ) → bit_at (if t then xor_byte v x else x) (7 - i) ≡ (if t then (bit_at v (7 - i) + bit_at x (7 - i)) % 2 else bit_at x (7 - i))
-    chosen true x = xor_bits v x (7 - i) (omega arith)
-    chosen false x = refl
+    x : ℕ → ℕ
+    x p = bit_at (of_plane old p) (7 - i)
 
-    stays : (t : Bool) (x : ℕ) → (if t then (0 + bit_at x (7 - i)) % 2 else bit_at x (7 - i)) ≡ bit_at x (7 - i)
-    stays true x = omega arith
-    stays false x = refl
+    xor_small : (y j : ℕ) → (bit_at v j + bit_at y j) % 2 < 2
+    xor_small y j = omega arith
 
-    flip : (m k x : ℕ) → x < 2 → (if bit_at m k == 1 then (1 + x) % 2 else x) ≡ (x + bit_at m k) % 2
-    flip m k x h = grind (arith, nat_tests)
+    chosen : (t : Bool) (y : ℕ) → bit_at (if t then xor_byte v y else y) (7 - i) ≡ (if t then (bit_at v (7 - i) + bit_at y (7 - i)) % 2 else bit_at y (7 - i))
+    chosen true y = bit_of (λ j. (bit_at v j + bit_at y j) % 2) (xor_small y) (7 - i) (omega arith)
+    chosen false y = refl
 
-    at_bit : (b : ℕ) → b < 2 →
-        (if bit_at mask 0 == 1 then (b + bit_at old.plane0 (7 - i)) % 2 else bit_at old.plane0 (7 - i)) + 2 * (if bit_at mask 1 == 1
-        then (b + bit_at old.plane1 (7 - i)) % 2 else bit_at old.plane1 (7 - i))
-        + 4 * (if bit_at mask 2 == 1 then (b + bit_at old.plane2 (7 - i)) % 2 else bit_at old.plane2 (7 - i)) + 8 * (if bit_at mask 3 == 1
-        then (b + bit_at old.plane3 (7 - i)) % 2 else bit_at old.plane3 (7 - i))
-        ≡ (if b == 1 then bit_xor (nibble_of old i) mask else nibble_of old i)
-    at_bit zero h = rw (
-      stays (bit_at mask 0 == 1) old.plane0,
-      stays (bit_at mask 1 == 1) old.plane1,
-      stays (bit_at mask 2 == 1) old.plane2,
-      stays (bit_at mask 3 == 1) old.plane3,
-    ) refl
+    stays : (t : Bool) (y : ℕ) → y < 2 → (if t then (0 + y) % 2 else y) ≡ y
+    stays true y h = omega arith
+    stays false y h = refl
+
+    at_bit : (b : ℕ) → b < 2 → nibble (λ p. if is_set mask p then (b + x p) % 2 else x p) ≡ (if b == 1 then bit_xor (nibble x) mask else nibble x)
+    at_bit zero h = same_nibble (λ p. if is_set mask p then (0 + x p) % 2 else x p) x (λ p _. stays (is_set mask p) (x p) (bit_at-lt (of_plane old p) (7 - i)))
     at_bit (suc zero) h =
-        let x0 = bit_at old.plane0 (7 - i) in let x1 = bit_at old.plane1 (7 - i) in let x2 = bit_at old.plane2 (7 - i) in let x3 = bit_at old.plane3 (7 - i) in
-        let x = x0 + 2 * x1 + 4 * x2 + 8 * x3 in
-        let s0 : x0 < 2 = bit_at-lt old.plane0 (7 - i) in
-        let s1 : x1 < 2 = bit_at-lt old.plane1 (7 - i) in
-        let s2 : x2 < 2 = bit_at-lt old.plane2 (7 - i) in
-        let s3 : x3 < 2 = bit_at-lt old.plane3 (7 - i) in
-        let b0 : bit_at x 0 ≡ x0 = omega arith in
-        let b1 : bit_at x 1 ≡ x1 = omega arith in
-        let b2 : bit_at x 2 ≡ x2 = omega arith in
-        let b3 : bit_at x 3 ≡ x3 = omega arith in
-        let small : x < 16 = omega arith in
-        let f : ℕ → ℕ → ℕ → ℕ → ℕ = λ a b c d. (a + bit_at mask 0) % 2 + 2 * ((b + bit_at mask 1) % 2) + 4 * ((c + bit_at mask 2) % 2)
-        + 8 * ((d + bit_at mask 3) % 2) in
-        rw (flip mask 0 x0 s0, flip mask 1 x1 s1, flip mask 2 x2 s2, flip mask 3 x3 s3)
-        (sym (ap (λ a. f a (bit_at x 1) (bit_at x 2) (bit_at x 3)) b0 ∙ ap (λ b. f x0 b (bit_at x 2) (bit_at x 3)) b1 ∙ ap (λ c. f x0 x1 c (bit_at x 3)) b2
-        ∙ ap (λ d. f x0 x1 x2 d) b3) ∙ xor_16 x mask small l)
+        let low : mask % 16 ≡ mask = omega arith in
+        same_nibble (λ p. if is_set mask p then (1 + x p) % 2 else x p) (λ p. (bit_at mask p + x p) % 2) (λ p _.
+        let small = bit_at-lt mask p in
+        let here = bit_at-lt (of_plane old p) (7 - i) in
+        grind (arith, nat_tests))
+        ∙ xor_nibble mask x (λ p. bit_at-lt (of_plane old p) (7 - i)) ∙ ap (bit_xor (nibble x)) low
     at_bit (suc (suc b)) h = absurd (omega arith)
 
 -- a pixel of a line of a character
 pub pixel_lined : (b : Bool) (mask v i : ℕ) (old : Four ℕ) → mask < 16 → i < 8 → nibble_of (lined b mask v old) i
     ≡ dotted_by b mask (is_set v (7 - i)) (nibble_of old i)
-pixel_lined true mask v i old l li = pixel_turned mask v i old l li
-pixel_lined false mask v i old l li = pixel_plain mask v i old l li
+pixel_lined true mask v i old l li = pixel_turned mask v i old l
+pixel_lined false mask v i old l li = pixel_plain mask v i old l
 
 -- ---- the plans, by the places of the lines
 

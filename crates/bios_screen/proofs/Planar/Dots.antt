@@ -1,6 +1,6 @@
 -- A pixel of sixteen colours is written, plain or by XOR.
 use Rattle.std.proofs.Common.{◌≡◌, ◌≢◌, ℕ, ◌+◌, ◌*◌, ◌/◌, ◌%◌, ◌^◌, ◌<◌, ◌≤◌, ⊎_elim, refl, sym, ap, ◌∙◌, subst, arith, List, Some, Bool, true, false}
-use Rattle.std.specs.Prelude.{slice_index, bit_and, bit_xor, ◌==◌, if◌then◌else◌}
+use Rattle.std.specs.Prelude.{slice_index, bit_and, ◌==◌, if◌then◌else◌}
 use Rattle.std.proofs.lemmas.Bool.{cases_eq, agree_below_at}
 use Rattle.std.proofs.lemmas.Bool.Decides.{nat_tests}
 use Rattle.vga_bits.specs.Bits.{is_set}
@@ -16,18 +16,19 @@ use Rattle.bios_modes.specs.Kinds.{is_packed}
 use Rattle.bios_services.specs.declared.regs.Regs.{Regs}
 use Rattle.bios_services.specs.declared.call.Service.TheVariants.{WritePixel}
 use Rattle.bios_services.specs.Cycles.{graphics}
-use Rattle.bios_services.specs.Plan.{Plan, run, put, get, Done, ◌>>◌}
+use Rattle.bios_services.specs.Plan.{Plan, run, put, get, Done, ◌>>=◌, ◌>>◌}
 use Rattle.bios_services.specs.Pixels.{pixel_address, write_dot_plan, write_pixel_plan}
 use Rattle.bios_screen.specs.Screen.{Screen}
 use Rattle.bios_screen.specs.Shown.{page_pixels, pixel_screen, shown}
 use Rattle.bios_screen.specs.Step.{pixel_of, pixel_number, with_pixels, colour_over, change_pixel}
 use Rattle.bios_screen.specs.Served.{IsServed}
 use Rattle.bios_screen.proofs.Base.Flat.{set_cell, set_same, set_other}
+use Rattle.bios_screen.proofs.Base.Plans.{then_runs}
 use Rattle.bios_screen.proofs.Base.Kept.{KeepsBounds}
 use Rattle.bios_screen.proofs.Modes.PixelModes.{Planes, row_of, packed_by}
 use Rattle.bios_screen.proofs.Dots.PlanarDots.{IsPlanar}
 use Rattle.bios_screen.proofs.Planar.Settings.{Hand, at_rest, drawing, stored, without_drawing, Loaded, put_draws, get_loads, function_set, mode_set, bits_set}
-use Rattle.bios_screen.proofs.Planar.Bits.{nibble_of, pixel_hand, xor_pixel_hand, pixel_put, pixel_flipped}
+use Rattle.bios_screen.proofs.Planar.Bits.{nibble_of, dot_hand, dot_over, pixel_dotted}
 use Rattle.bios_screen.proofs.Planar.Screens as screens
 use Rattle.bios_screen.proofs.Planar.Reads as reads
 use Rattle.bios_screen.proofs.Pixels.Dots as services
@@ -36,21 +37,33 @@ use Rattle.bios_screen.proofs.Pixels.Dots.{number_within}
 mask_kept : (k : ℕ) → k < 8 → bit_and (0x80 / 2 ^ k) 0xFF ≡ 0x80 / 2 ^ k
 mask_kept k l = let t = agree_below_at (λ k. bit_and (0x80 / 2 ^ k) 0xFF == 0x80 / 2 ^ k) (λ _. true) 8 k refl l in grind (arith, nat_tests)
 
+-- XOR, where bit 7 of the colour asks for it, and back
+abbrev turn_plan : Bool → ℕ → Plan (Unit {0})
+turn_plan b v = if b then graphics 3 v else Done tt
+
+turn_begun : (law : KeepsBounds) (rest : CardState) (e d : ℕ) (h : Hand) (q : Four ℕ) (c : CardState) (f : ℕ → Four ℕ) (b : Bool) →
+    Loaded rest e d (record h { turn = 0x00 }) c f q →
+    Loaded rest e d (record h { turn = if b then 0x18 else 0x00 }) (run card_meaning (turn_plan b 0x18) c).0 f q
+turn_begun law rest e d h q c f true t = function_set law rest e d 0x18 (record h { turn = 0x00 }) q c f refl t
+turn_begun law rest e d h q c f false t = t
+
+turn_ended : (law : KeepsBounds) (rest : CardState) (e d : ℕ) (h : Hand) (q : Four ℕ) (c : CardState) (f : ℕ → Four ℕ) (b : Bool) →
+    Loaded rest e d (record h { turn = if b then 0x18 else 0x00 }) c f q →
+    Loaded rest e d (record h { turn = 0x00 }) (run card_meaning (turn_plan b 0x00) c).0 f q
+turn_ended law rest e d h q c f true t = function_set law rest e d 0x00 (record h { turn = 0x18 }) q c f refl t
+turn_ended law rest e d h q c f false t = t
+
 -- the plan, where bit 7 of the colour is known
 abbrev dot_plan : Bool → ℕ → ℕ → ℕ → Plan (Unit {0})
 dot_plan b address k v = do
   graphics 8 (0x80 / 2 ^ k)
-  if b then graphics 3 0x18 else Done tt
+  turn_plan b 0x18
   get address
   graphics 5 0x02
   put address v
   graphics 5 0x00
-  if b then graphics 3 0x00 else Done tt
+  turn_plan b 0x00
   graphics 8 0xFF
-
--- what a colour makes of one of sixteen
-abbrev colouring : Bool → ℕ → ℕ → ℕ
-colouring b v old = if b then bit_xor old (v % 16) else v % 16
 
 -- one cell is drawn anew, in which one pixel changes
 record IsDotted (rest : CardState) (e d a k : ℕ) (change : ℕ → ℕ) (y : CardState) (f : ℕ → Four ℕ) : Type 0 where
@@ -59,49 +72,35 @@ record IsDotted (rest : CardState) (e d a k : ℕ) (change : ℕ → ℕ) (y : C
   pixel : (i : ℕ) → i < 8 → nibble_of new i ≡ (if i == k then change (nibble_of (f a) i) else nibble_of (f a) i)
 
 dot_drawn : (law : KeepsBounds) (rest : CardState) (e d a k v : ℕ) (b : Bool) (q : Four ℕ) (c : CardState) (f : ℕ → Four ℕ) → is_set e 1 ≡ true → a < 65536 →
-    k < 8 → Loaded rest e d at_rest c f q → IsDotted rest e d a k (colouring b v) (run card_meaning (dot_plan b (0xA0000 + a) k v) c).0 f
-dot_drawn law rest e d a k v false q c f on la lk t =
-    let bits = 0x80 / 2 ^ k in
-    let h1 : Hand = record at_rest { bits = bits } in
-    let c1 = (run card_meaning (graphics 8 bits) c).0 in
-    let t1 = bits_set law rest e d bits at_rest q c f (mask_kept k lk) t in
-    let c2 = (run card_meaning (get (0xA0000 + a)) c1).0 in
-    let t2 = get_loads law rest e d a h1 q c1 f on t1 la in
-    let c3 = (run card_meaning (graphics 5 0x02) c2).0 in
-    let t3 = mode_set law rest e d 0x02 h1 (f a) c2 f refl refl t2 in
-    let c4 = (run card_meaning (put (0xA0000 + a) v) c3).0 in
-    let new = stored (drawing e d (pixel_hand k)) 0x0F v (f a) (f a) in
-    let t4 = put_draws law rest e d a v (pixel_hand k) (f a) c3 f on t3 la in
-    let c5 = (run card_meaning (graphics 5 0x00) c4).0 in
-    let t5 = mode_set law rest e d 0x00 (pixel_hand k) (f a) c4 (set_cell f a new) refl refl t4 in
-    record {
-      new = new;
-      still = bits_set law rest e d 0xFF h1 (f a) c5 (set_cell f a new) refl t5;
-      pixel = λ i li. pixel_put e d k v i (f a) lk li;
-    }
-dot_drawn law rest e d a k v true q c f on la lk t =
+    k < 8 → Loaded rest e d at_rest c f q → IsDotted rest e d a k (dot_over b v) (run card_meaning (dot_plan b (0xA0000 + a) k v) c).0 f
+dot_drawn law rest e d a k v b q c f on la lk t =
     let bits = 0x80 / 2 ^ k in
     let h0 : Hand = record at_rest { bits = bits } in
-    let h1 : Hand = record h0 { turn = 0x18 } in
+    let h1 : Hand = record h0 { turn = if b then 0x18 else 0x00 } in
+    let begin : Plan (Unit {0}) = turn_plan b 0x18 in
+    let end : Plan (Unit {0}) = turn_plan b 0x00 in
     let c0 = (run card_meaning (graphics 8 bits) c).0 in
     let t0 = bits_set law rest e d bits at_rest q c f (mask_kept k lk) t in
-    let c1 = (run card_meaning (graphics 3 0x18) c0).0 in
-    let t1 = function_set law rest e d 0x18 h0 q c0 f refl t0 in
+    let c1 = (run card_meaning begin c0).0 in
+    let t1 = turn_begun law rest e d h0 q c0 f b t0 in
     let c2 = (run card_meaning (get (0xA0000 + a)) c1).0 in
     let t2 = get_loads law rest e d a h1 q c1 f on t1 la in
     let c3 = (run card_meaning (graphics 5 0x02) c2).0 in
     let t3 = mode_set law rest e d 0x02 h1 (f a) c2 f refl refl t2 in
     let c4 = (run card_meaning (put (0xA0000 + a) v) c3).0 in
-    let new = stored (drawing e d (xor_pixel_hand k)) 0x0F v (f a) (f a) in
-    let t4 = put_draws law rest e d a v (xor_pixel_hand k) (f a) c3 f on t3 la in
+    let new = stored (drawing e d (dot_hand b k)) 0x0F v (f a) (f a) in
+    let t4 = put_draws law rest e d a v (dot_hand b k) (f a) c3 f on t3 la in
     let c5 = (run card_meaning (graphics 5 0x00) c4).0 in
-    let t5 = mode_set law rest e d 0x00 (xor_pixel_hand k) (f a) c4 (set_cell f a new) refl refl t4 in
-    let c6 = (run card_meaning (graphics 3 0x00) c5).0 in
-    let t6 = function_set law rest e d 0x00 h1 (f a) c5 (set_cell f a new) refl t5 in
+    let t5 = mode_set law rest e d 0x00 (dot_hand b k) (f a) c4 (set_cell f a new) refl refl t4 in
+    let c6 = (run card_meaning end c5).0 in
+    let t6 = turn_ended law rest e d h0 (f a) c5 (set_cell f a new) b t5 in
+    let last : Plan (Unit {0}) = graphics 8 0xFF in
+    let runs = then_runs begin (get (0xA0000 + a) >>= λ _. graphics 5 0x02 >> (put (0xA0000 + a) v >> (graphics 5 0x00 >> (end >> last)))) c0
+    ∙ then_runs end last c5 in
     record {
       new = new;
-      still = bits_set law rest e d 0xFF h0 (f a) c6 (set_cell f a new) refl t6;
-      pixel = λ i li. pixel_flipped e d k v i (f a) lk li;
+      still = subst (λ y. Loaded rest e d at_rest y (set_cell f a new) (f a)) (sym runs) (bits_set law rest e d 0xFF h0 (f a) c6 (set_cell f a new) refl t6);
+      pixel = λ i li. pixel_dotted b e d k v i (f a) lk li;
     }
 
 plan_is : (address x v : ℕ) → write_dot_plan address x v ≡ dot_plan (is_set v 7) address (x % 8) v
@@ -125,13 +124,13 @@ module _ (law : KeepsBounds) (m : Planes) (c : CardState) (d : BiosData) (t : Is
 
   -- the byte of each plane, where one of its pixels changes
   dot_shown : (p n v : ℕ) (b : Bool) (y : CardState) → p < (row_of m).pages → n < page_pixels d →
-      IsDotted (without_drawing c) (row_of m).misc (slice_index (row_of m).sequencer 1) (d.size * p + n / 8) (n % 8) (colouring b v) y old →
-      shown y d ≡ Some (with_pixels s p (change_pixel n (colouring b v)))
+      IsDotted (without_drawing c) (row_of m).misc (slice_index (row_of m).sequencer 1) (d.size * p + n / 8) (n % 8) (dot_over b v) y old →
+      shown y d ≡ Some (with_pixels s p (change_pixel n (dot_over b v)))
   dot_shown p n v b y lp ln h =
       let a = d.size * p + n / 8 in
       let f = set_cell old a h.new in
       let room = screens.room m c d t e z n ln in
-      screens.page_redrawn m c d t e z p y f (old a) (change_pixel n (colouring b v)) lp h.still
+      screens.page_redrawn m c d t e z p y f (old a) (change_pixel n (dot_over b v)) lp h.still
       (λ k lk.
       let was = screens.pixel_is m c d t e z p k lp lk in
       ⊎_elim
@@ -139,12 +138,12 @@ module _ (law : KeepsBounds) (m : Planes) (c : CardState) (d : BiosData) (t : Is
       let at : d.size * p + k / 8 ≡ a = ap (λ i. d.size * p + i) w in
       ap (λ (x : Four ℕ). nibble_of x (k % 8)) (set_same old a h.new (d.size * p + k / 8) at)
       ∙ h.pixel (k % 8) (omega arith)
-      ∙ ap (λ i. if i then colouring b v (nibble_of (old a) (k % 8)) else nibble_of (old a) (k % 8)) (one_test k n w)
-      ∙ ap (λ i. if k == n then colouring b v i else i) (ap (λ i. nibble_of (old i) (k % 8)) (sym at) ∙ sym was))
+      ∙ ap (λ i. if i then dot_over b v (nibble_of (old a) (k % 8)) else nibble_of (old a) (k % 8)) (one_test k n w)
+      ∙ ap (λ i. if k == n then dot_over b v i else i) (ap (λ i. nibble_of (old i) (k % 8)) (sym at) ∙ sym was))
       (λ (w : k / 8 ≢ n / 8).
       ap (λ (x : Four ℕ). nibble_of x (k % 8)) (set_other old a h.new (d.size * p + k / 8) (λ u. w (omega arith)))
       ∙ sym was
-      ∙ sym (ap (λ i. if i then colouring b v (pixel_of s p k) else pixel_of s p k) (no_test k n w)))
+      ∙ sym (ap (λ i. if i then dot_over b v (pixel_of s p k) else pixel_of s p k) (no_test k n w)))
       (cases_eq (k / 8) (n / 8)))
       (λ o out. set_other old a h.new o (λ u. ⊎_elim (λ (w : o < d.size * p). absurd (omega arith)) (λ (w : d.size * p + d.size ≤ o). absurd (omega arith))
       out))
@@ -158,8 +157,8 @@ module _ (law : KeepsBounds) (m : Planes) (c : CardState) (d : BiosData) (t : Is
       ∙ plan_is (0xA0000 + (d.size * p + pixel_number s x y / 8)) x v
 
   -- the colour by the mode
-  colouring_is : (v : ℕ) → colouring (is_set v 7) v ≡ colour_over d.mode v
-  colouring_is v = sym (ap (λ i o. let x : ℕ = if i then v else colouring (is_set v 7) v o in x) (ap is_packed t.number ∙ packed_by m))
+  colouring_is : (v : ℕ) → dot_over (is_set v 7) v ≡ colour_over d.mode v
+  colouring_is v = sym (ap (λ i o. let x : ℕ = if i then v else dot_over (is_set v 7) v o in x) (ap is_packed t.number ∙ packed_by m))
 
   pub write_pixel : (page x y v : ℕ) (fonts : FontSet) (r : Regs) (block : List ℕ) → IsServed (WritePixel page x y v) fonts r block c d s
   write_pixel page x y v fonts r block = services.write_pixel (row_of m) c d e page x y v fonts r block (λ p h.
@@ -171,6 +170,6 @@ module _ (law : KeepsBounds) (m : Planes) (c : CardState) (d : BiosData) (t : Is
       (reads.offset_small m c d t e z p x y h) (omega arith) (screens.begins m c d t e z) in
       ap (λ i. shown (run card_meaning i c).0 d) (write_is p x y v)
       ∙ dot_shown p n v (is_set v 7) (run card_meaning plan c).0 h.page (number_within (row_of m) d p x y h)
-      (subst (λ k. IsDotted (without_drawing c) misc clocking (d.size * p + n / 8) k (colouring (is_set v 7) v) (run card_meaning plan c).0 old)
+      (subst (λ k. IsDotted (without_drawing c) misc clocking (d.size * p + n / 8) k (dot_over (is_set v 7) v) (run card_meaning plan c).0 old)
       (reads.rest_of_8 d.columns y x) drawn)
       ∙ ap (λ i. Some (with_pixels s p (change_pixel n i))) (colouring_is v))

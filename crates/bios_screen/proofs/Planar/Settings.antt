@@ -6,7 +6,7 @@ use Rattle.std.proofs.lemmas.Bool.Decides.{nat_tests}
 use Rattle.std.proofs.lemmas.List.{get_or-set_same, get_or-set_other}
 use Rattle.vga_bits.specs.Bits.{is_set}
 use Rattle.vga_bits.specs.Four.{Four, four, of_plane}
-use Rattle.vga_bits.proofs.FourLemmas.{by_plane}
+use Rattle.vga_bits.proofs.FourLemmas.{by_plane, same_four}
 use Rattle.vga_planes.specs.Planes.{bytes_at}
 use Rattle.vga_host.specs.Host.{HostState}
 use Rattle.vga_host.specs.Address.{is_decoded, window_offset}
@@ -127,15 +127,6 @@ plane_same false plane a x l = refl
 plane_other : (t : Bool) (plane : List ℕ) (a x o : ℕ) → o ≢ a → slice_index (plane_put t plane a x) o ≡ slice_index plane o
 plane_other true plane a x o n = get_or-set_other plane a o x 0 n
 plane_other false plane a x o n = refl
-
--- four that agree
-pub same_four : (x y : Four ℕ) → ((p : ℕ) → p < 4 → of_plane x p ≡ of_plane y p) → x ≡ y
-same_four x y h =
-    let e0 = h 0 (omega arith) in
-    let e1 = h 1 (omega arith) in
-    let e2 = h 2 (omega arith) in
-    let e3 = h 3 (omega arith) in
-    rw (e0, e1, e2, e3) refl
 
 pub put_draws : (law : KeepsBounds) (rest : CardState) (e d a v : ℕ) (k : Hand) (q : Four ℕ) (c : CardState) (f : ℕ → Four ℕ) → is_set e 1 ≡ true →
     Loaded rest e d k c f q → a < 65536 → Loaded rest e d k (run card_meaning (put (0xA0000 + a) v) c).0
