@@ -1,7 +1,9 @@
 -- A flat memory of cells, on any machine: what some edits and some moves of its cells leave.
-use Rattle.std.proofs.Common.{◌≡◌, ◌≢◌, ℕ, ◌<◌, ◌≤◌, ap, arith, true, false}
-use Rattle.std.specs.Prelude.{◌==◌, if◌then◌else◌}
+use Rattle.std.proofs.Common.{◌≡◌, ◌≢◌, ℕ, ◌<◌, ◌≤◌, ⊎_elim, refl, sym, ap, ◌∙◌, arith, List, length, Bool, true, false}
+use Rattle.std.specs.Prelude.{slice_index, slice_set, ◌==◌, ◌&&◌, if◌then◌else◌}
+use Rattle.std.proofs.lemmas.Bool.{cases_eq}
 use Rattle.std.proofs.lemmas.Bool.Decides.{nat_tests}
+use Rattle.std.proofs.lemmas.List.{get_or-set_same, get_or-set_other}
 
 -- a flat memory with another cell
 abbrev pub set_cell : {X : Type 0} → (ℕ → X) → ℕ → X → ℕ → X
@@ -12,6 +14,15 @@ set_same m a v x e = let t : (x == a) ≡ true = grind (arith, nat_tests) in ap 
 
 pub set_other : {X : Type 0} (m : ℕ → X) (a : ℕ) (v : X) (x : ℕ) → x ≢ a → set_cell m a v x ≡ m x
 set_other m a v x e = let t : (x == a) ≡ false = grind (arith, nat_tests) in ap (λ b. if b then v else m x) t
+
+-- a list in which an element may be another, by number
+pub list_put : (t : Bool) (l : List ℕ) (a v o : ℕ) → a < length l →
+    slice_index (if t then slice_set l a v else l) o ≡ (if t && (o == a) then v else slice_index l o)
+list_put true l a v o h = ⊎_elim
+    (λ (e : o ≡ a). ap (slice_index (slice_set l a v)) e ∙ get_or-set_same l a v 0 h ∙ sym (set_same (slice_index l) a v o e))
+    (λ (n : o ≢ a). get_or-set_other l a o v 0 n ∙ sym (set_other (slice_index l) a v o n))
+    (cases_eq o a)
+list_put false l a v o h = refl
 
 -- each place `at h` was changed by F h, and no other cell has changed
 pub record Edited (X H : Type 0) (at : H → ℕ) (F : H → X → X) (old new : ℕ → X) : Type 0 where

@@ -1,9 +1,7 @@
 -- Under chain 4 the planes are one flat memory of pixels of 256 colours.
 use Rattle.std.proofs.Common.{◌≡◌, ◌≢◌, ℕ, zero, suc, ◌+◌, ◌*◌, ◌/◌, ◌%◌, ◌<◌, ⊎_elim, refl, sym, ap, ◌∙◌, subst, arith, List, length, true, false}
-use Rattle.std.specs.Prelude.{slice_index, slice_set, ◌==◌, if◌then◌else◌}
-use Rattle.std.proofs.lemmas.Bool.{cases_eq}
+use Rattle.std.specs.Prelude.{slice_index, slice_set, ◌==◌, ◌&&◌, if◌then◌else◌}
 use Rattle.std.proofs.lemmas.Bool.Decides.{nat_tests}
-use Rattle.std.proofs.lemmas.List.{get_or-set_same, get_or-set_other}
 use Rattle.vga_bits.specs.Bits.{byte_of}
 use Rattle.vga_bits.proofs.BitLemmas.{byte_bits}
 use Rattle.vga_bits.specs.Four.{Four, of_plane}
@@ -16,7 +14,7 @@ use Rattle.vga_card.specs.Bus.{card_meaning}
 use Rattle.vga_card.specs.Card.{CardState}
 use Rattle.bios_services.specs.Plan.{run, put}
 use Rattle.bios_screen.specs.Shown.{packed_pixel}
-use Rattle.bios_screen.proofs.Base.Flat.{set_cell, set_same, set_other}
+use Rattle.bios_screen.proofs.Base.Flat.{set_cell, list_put}
 use Rattle.bios_screen.proofs.Base.Setting.{setting, host_at, with_memory, put_decoded}
 use Rattle.bios_screen.proofs.Modes.PixelModes.{setting_in}
 use Rattle.bios_screen.proofs.Modes.PixelModes.Graphics.{Many}
@@ -74,28 +72,13 @@ plane_after m n b (suc (suc (suc (suc p)))) l = absurd (omega arith)
 pub pixel_put : (m : Four (List ℕ)) (n b k : ℕ) → ((p : ℕ) → p < 4 → length (of_plane m p) ≡ 65536) → n < 65536 →
     packed_pixel (packed_memory m n b) k ≡ set_cell (packed_pixel m) n b k
 pixel_put m n b k size l =
-    let p : k % 4 < 4 = omega arith in
+    let within : k % 4 < 4 = omega arith in
     let o = n / 4 * 4 in
     let plane = of_plane m (k % 4) in
-    let long = size (k % 4) p in
-    ap (λ x. slice_index x (k / 4 * 4)) (plane_after m n b (k % 4) p)
-    ∙ ⊎_elim
-    (λ (e : k ≡ n).
-    let same_plane : (k % 4 == n % 4) ≡ true = grind (arith, nat_tests) in
-    let z : k / 4 * 4 ≡ o = omega arith in
-    ap (λ v. slice_index (if v then slice_set plane o b else plane) (k / 4 * 4)) same_plane ∙ ap (slice_index (slice_set plane o b)) z
-    ∙ get_or-set_same plane o b 0 (omega (arith, long)) ∙ sym (set_same (packed_pixel m) n b k e))
-    (λ (e : k ≢ n). ⊎_elim
-    (λ (q : k % 4 ≡ n % 4).
-    let same_plane : (k % 4 == n % 4) ≡ true = grind (arith, nat_tests) in
-    let z : k / 4 * 4 ≢ o = λ w. e (omega arith) in
-    ap (λ v. slice_index (if v then slice_set plane o b else plane) (k / 4 * 4)) same_plane ∙ get_or-set_other plane o (k / 4 * 4) b 0 z
-    ∙ sym (set_other (packed_pixel m) n b k e))
-    (λ (q : k % 4 ≢ n % 4).
-    let other_plane : (k % 4 == n % 4) ≡ false = grind (arith, nat_tests) in
-    ap (λ v. slice_index (if v then slice_set plane o b else plane) (k / 4 * 4)) other_plane ∙ sym (set_other (packed_pixel m) n b k e))
-    (cases_eq (k % 4) (n % 4)))
-    (cases_eq k n)
+    let long = size (k % 4) within in
+    let same : ((k % 4 == n % 4) && (k / 4 * 4 == o)) ≡ (k == n) = grind (arith, nat_tests) in
+    ap (λ x. slice_index x (k / 4 * 4)) (plane_after m n b (k % 4) within)
+    ∙ list_put (k % 4 == n % 4) plane o b (k / 4 * 4) (omega arith) ∙ ap (λ t. if t then b else packed_pixel m k) same
 
 -- a byte of the four is the plane's
 byte_of_plane : (m : Four (List ℕ)) (o p : ℕ) → p < 4 → of_plane (bytes_at m o) p ≡ slice_index (of_plane m p) o

@@ -1,9 +1,8 @@
 -- Glyphs that are loaded: Puts to plane 2.
 use Rattle.std.proofs.Common.{◌≡◌, ◌≢◌, ℕ, ◌+◌, ◌*◌, ◌<◌, ◌≤◌, ⊎_elim, sym, ap, ◌∙◌, subst, arith, List, [], ◌∷◌, length, true}
-use Rattle.std.specs.Prelude.{slice_index, slice_set}
-use Rattle.std.proofs.lemmas.Bool.{cases_eq}
+use Rattle.std.specs.Prelude.{slice_index, slice_set, ◌==◌, if◌then◌else◌}
 use Rattle.std.proofs.lemmas.Bool.Decides.{nat_tests}
-use Rattle.std.proofs.lemmas.List.{get_or-set_same, get_or-set_other, length-set}
+use Rattle.std.proofs.lemmas.List.{length-set}
 use Rattle.vga_bits.specs.Bits.{byte_of}
 use Rattle.vga_bits.proofs.BitLemmas.{byte_bits}
 use Rattle.vga_bits.specs.Four.{Four}
@@ -14,7 +13,7 @@ use Rattle.vga_card.specs.Bus.{card_meaning}
 use Rattle.vga_card.specs.Card.{CardState}
 use Rattle.bios_services.specs.Plan.{run, put}
 use Rattle.bios_services.specs.ModeSet.{glyph_plan, glyphs_plan}
-use Rattle.bios_screen.proofs.Base.Flat.{Edited, Turn, Leaves, set_cell, set_same, set_other}
+use Rattle.bios_screen.proofs.Base.Flat.{Edited, Turn, Leaves, set_cell, list_put}
 use Rattle.bios_screen.proofs.Base.Edits.{one_edit, edits}
 use Rattle.bios_screen.proofs.Base.Setting.{Setting, setting, host_at, with_memory, put_decoded}
 use Rattle.bios_screen.proofs.Modes.TextModes.{Display, misc_of}
@@ -59,10 +58,7 @@ glyph_put disp rest c g a v l h t =
     let still : IsLoading disp rest after (set_cell g a v) = record {
       mode = t.mode;
       size2 = length-set p a v ∙ t.size2;
-      row = λ o w. ⊎_elim
-          (λ (e : o ≡ a). ap (slice_index (slice_set p a v)) e ∙ get_or-set_same p a v 0 (omega (arith, t.size2)) ∙ sym (set_same g a v o e))
-          (λ (n : o ≢ a). get_or-set_other p a o v 0 n ∙ t.row o w ∙ sym (set_other g a v o n))
-          (cases_eq o a);
+      row = λ o w. list_put true p a v o (omega (arith, t.size2)) ∙ ap (λ x. if o == a then v else x) (t.row o w);
       others = t.others;
     } in
     subst (λ x. IsLoading disp rest x (set_cell g a v))

@@ -1,9 +1,9 @@
 -- Text memory as one flat memory of bytes, with all else kept.
 use Rattle.std.proofs.Common.{◌≡◌, ◌≢◌, ℕ, zero, suc, Bool, List, [], ◌+◌, ◌*◌, ◌/◌, ◌%◌, ◌<◌, ⊎_elim, refl, sym, ap, ◌∙◌, subst, arith, length, true, false}
-use Rattle.std.specs.Prelude.{slice_index, slice_set, ◌==◌, if◌then◌else◌}
+use Rattle.std.specs.Prelude.{slice_index, slice_set, ◌==◌, ◌&&◌, if◌then◌else◌}
 use Rattle.std.proofs.lemmas.Bool.{cases_eq}
 use Rattle.std.proofs.lemmas.Bool.Decides.{nat_tests}
-use Rattle.std.proofs.lemmas.List.{get_or-set_same, get_or-set_other, length-set}
+use Rattle.std.proofs.lemmas.List.{length-set}
 use Rattle.std.specs.Int.{bit_at}
 use Rattle.vga_bits.specs.Bits.{byte_of}
 use Rattle.vga_bits.proofs.BitLemmas.{byte_bits}
@@ -14,7 +14,7 @@ use Rattle.vga_host.specs.MemoryWrite.{written_bit, combined_bit, written_byte, 
 use Rattle.vga_card.specs.Bus.{card_meaning}
 use Rattle.vga_card.specs.Card.{CardState}
 use Rattle.bios_services.specs.Plan.{run, put}
-use Rattle.bios_screen.proofs.Base.Flat.{set_cell, set_same, set_other}
+use Rattle.bios_screen.proofs.Base.Flat.{set_cell, set_same, set_other, list_put}
 use Rattle.bios_screen.proofs.Base.Setting.{setting, host_at, with_memory, put_decoded}
 use Rattle.bios_screen.proofs.Modes.TextModes.{Display, misc_of, base_of, text_setting}
 use Rattle.bios_screen.proofs.Modes.TextModes.Display.{Colour, Monochrome}
@@ -74,28 +74,6 @@ memory_is disp h w b l =
     ∙ ap (λ v. reached_memory h (0 == w % 2) (1 == w % 2) (w / 2 * 2) v (written_byte (host_at h (text_setting disp)) b 1)) (written disp h b 0 (omega arith) l)
     ∙ ap (λ v. reached_memory h (0 == w % 2) (1 == w % 2) (w / 2 * 2) b v) (written disp h b 1 (omega arith) l)
 
-even_memory : (disp : Display) (h : HostState) (q b : ℕ) → b < 256 → memory_after_put (host_at h (text_setting disp)) (2 * q) b
-    ≡ record h.memory { plane0 = slice_set h.memory.plane0 (2 * q) b }
-even_memory disp h q b l =
-    let even : (0 == 2 * q % 2) ≡ true = grind (arith, nat_tests) in
-    let odd : (1 == 2 * q % 2) ≡ false = grind (arith, nat_tests) in
-    let place : 2 * q / 2 * 2 ≡ 2 * q = omega arith in
-    memory_is disp h (2 * q) b l
-    ∙ ap (λ t. reached_memory h t (1 == 2 * q % 2) (2 * q / 2 * 2) b b) even
-    ∙ ap (λ t. reached_memory h true t (2 * q / 2 * 2) b b) odd
-    ∙ ap (λ o. reached_memory h true false o b b) place
-
-odd_memory : (disp : Display) (h : HostState) (q b : ℕ) → b < 256 → memory_after_put (host_at h (text_setting disp)) (2 * q + 1) b
-    ≡ record h.memory { plane1 = slice_set h.memory.plane1 (2 * q) b }
-odd_memory disp h q b l =
-    let even : (0 == (2 * q + 1) % 2) ≡ false = grind (arith, nat_tests) in
-    let odd : (1 == (2 * q + 1) % 2) ≡ true = grind (arith, nat_tests) in
-    let place : (2 * q + 1) / 2 * 2 ≡ 2 * q = omega arith in
-    memory_is disp h (2 * q + 1) b l
-    ∙ ap (λ t. reached_memory h t (1 == (2 * q + 1) % 2) ((2 * q + 1) / 2 * 2) b b) even
-    ∙ ap (λ t. reached_memory h false t ((2 * q + 1) / 2 * 2) b b) odd
-    ∙ ap (λ o. reached_memory h false true o b b) place
-
 pub window_is : (disp : Display) (h : HostState) (w : ℕ) → w < 32768 → window_offset (host_at h (text_setting disp)) (base_of disp + w) ≡ w
 window_is Colour h w l = omega arith
 window_is Monochrome h w l = omega arith
@@ -110,56 +88,32 @@ small_cell : (m : ℕ → ℕ) (a b : ℕ) → b < 256 → ((w : ℕ) → w < 32
 small_cell m a b h t w l = ⊎_elim (λ (e : w ≡ a). let z = set_same m a b w e in omega arith) (λ (n : w ≢ a). let z = set_other m a b w n in let y = t w l in
     omega arith) (cases_eq w a)
 
-even_put : (disp : Display) (rest c : CardState) (m : ℕ → ℕ) (q b : ℕ) → q < 16384 → b < 256 → IsTextual disp rest c m →
-    IsTextual disp rest (run card_meaning (put (base_of disp + 2 * q) b) c).0 (set_cell m (2 * q) b)
-even_put disp rest c m q b l h t =
-    let p = c.host.memory.plane0 in
-    let after = with_memory c (record c.host.memory { plane0 = slice_set p (2 * q) b }) in
-    let d : ℕ → ℕ = set_cell m (2 * q) b in
-    let still : IsTextual disp rest after d = record {
-      mode = t.mode;
-      size0 = length-set p (2 * q) b ∙ t.size0;
-      size1 = t.size1;
-      character = λ r k. ⊎_elim
-          (λ (e : r ≡ q). let z : 2 * r ≡ 2 * q = omega arith in ap (slice_index (slice_set p (2 * q) b)) z
-          ∙ get_or-set_same p (2 * q) b 0 (omega (arith, t.size0)) ∙ sym (set_same m (2 * q) b (2 * r) z))
-          (λ (n : r ≢ q). let z : 2 * r ≢ 2 * q = omega arith in get_or-set_other p (2 * q) (2 * r) b 0 z ∙ t.character r k
-          ∙ sym (set_other m (2 * q) b (2 * r) z))
-          (cases_eq r q);
-      attribute = λ r k. t.attribute r k ∙ sym (set_other m (2 * q) b (2 * r + 1) (omega arith));
-      small = small_cell m (2 * q) b h t.small;
-      others = t.others;
-    } in
-    subst (λ x. IsTextual disp rest x d) (sym (put_at disp c (2 * q) b t.mode (omega arith) ∙ ap (with_memory c) (even_memory disp c.host q b h))) still
-
-odd_put : (disp : Display) (rest c : CardState) (m : ℕ → ℕ) (q b : ℕ) → q < 16384 → b < 256 → IsTextual disp rest c m →
-    IsTextual disp rest (run card_meaning (put (base_of disp + (2 * q + 1)) b) c).0 (set_cell m (2 * q + 1) b)
-odd_put disp rest c m q b l h t =
-    let p = c.host.memory.plane1 in
-    let after = with_memory c (record c.host.memory { plane1 = slice_set p (2 * q) b }) in
-    let d : ℕ → ℕ = set_cell m (2 * q + 1) b in
-    let still : IsTextual disp rest after d = record {
-      mode = t.mode;
-      size0 = t.size0;
-      size1 = length-set p (2 * q) b ∙ t.size1;
-      character = λ r k. t.character r k ∙ sym (set_other m (2 * q + 1) b (2 * r) (omega arith));
-      attribute = λ r k. ⊎_elim
-          (λ (e : r ≡ q). let z : 2 * r ≡ 2 * q = omega arith in let y : 2 * r + 1 ≡ 2 * q + 1 = omega arith in ap (slice_index (slice_set p (2 * q) b)) z
-          ∙ get_or-set_same p (2 * q) b 0 (omega (arith, t.size1)) ∙ sym (set_same m (2 * q + 1) b (2 * r + 1) y))
-          (λ (n : r ≢ q). let z : 2 * r ≢ 2 * q = omega arith in let y : 2 * r + 1 ≢ 2 * q + 1 = omega arith in get_or-set_other p (2 * q) (2 * r) b 0 z
-          ∙ t.attribute r k ∙ sym (set_other m (2 * q + 1) b (2 * r + 1) y))
-          (cases_eq r q);
-      small = small_cell m (2 * q + 1) b h t.small;
-      others = t.others;
-    } in
-    subst (λ x. IsTextual disp rest x d) (sym (put_at disp c (2 * q + 1) b t.mode (omega arith) ∙ ap (with_memory c) (odd_memory disp c.host q b h))) still
-
 -- a Put anywhere in the window
 pub text_put : (disp : Display) (rest c : CardState) (m : ℕ → ℕ) (w b : ℕ) → w < 32768 → b < 256 → IsTextual disp rest c m →
     IsTextual disp rest (run card_meaning (put (base_of disp + w) b) c).0 (set_cell m w b)
-text_put disp rest c m w b l h t = ⊎_elim
-    (λ (e : w % 2 ≡ 0). let z : 2 * (w / 2) ≡ w = omega arith in subst (λ x. IsTextual disp rest (run card_meaning (put (base_of disp + x) b) c).0
-    (set_cell m x b)) z (even_put disp rest c m (w / 2) b (omega arith) h t))
-    (λ (n : w % 2 ≢ 0). let z : 2 * (w / 2) + 1 ≡ w = omega arith in subst (λ x. IsTextual disp rest (run card_meaning (put (base_of disp + x) b) c).0
-    (set_cell m x b)) z (odd_put disp rest c m (w / 2) b (omega arith) h t))
-    (cases_eq (w % 2) 0)
+text_put disp rest c m w b l h t =
+    let even = 0 == w % 2 in
+    let odd = 1 == w % 2 in
+    let o = w / 2 * 2 in
+    let p0 = c.host.memory.plane0 in
+    let p1 = c.host.memory.plane1 in
+    let still : IsTextual disp rest (with_memory c (reached_memory c.host even odd o b b)) (set_cell m w b) = record {
+      mode = t.mode;
+      size0 = kept_length even p0 o b ∙ t.size0;
+      size1 = kept_length odd p1 o b ∙ t.size1;
+      character = λ q k.
+          let same : (even && (2 * q == o)) ≡ (2 * q == w) = grind (arith, nat_tests) in
+          list_put even p0 o b (2 * q) (omega (arith, t.size0)) ∙ ap (λ x. if x then b else slice_index p0 (2 * q)) same
+          ∙ ap (λ x. if 2 * q == w then b else x) (t.character q k);
+      attribute = λ q k.
+          let same : (odd && (2 * q == o)) ≡ (2 * q + 1 == w) = grind (arith, nat_tests) in
+          list_put odd p1 o b (2 * q) (omega (arith, t.size1)) ∙ ap (λ x. if x then b else slice_index p1 (2 * q)) same
+          ∙ ap (λ x. if 2 * q + 1 == w then b else x) (t.attribute q k);
+      small = small_cell m w b h t.small;
+      others = t.others;
+    } in
+    subst (λ x. IsTextual disp rest x (set_cell m w b)) (sym (put_at disp c w b t.mode l ∙ ap (with_memory c) (memory_is disp c.host w b h))) still
+  where
+    kept_length : (t : Bool) (p : List ℕ) (o b : ℕ) → length (if t then slice_set p o b else p) ≡ length p
+    kept_length true p o b = length-set p o b
+    kept_length false p o b = refl
