@@ -18,98 +18,46 @@ use Rattle.bios_screen.proofs.Modes.TextModes.{Display, base_of, text_setting}
 use Rattle.bios_screen.proofs.Text.Memory.{IsTextual, without_text, text_put}
 use Rattle.bios_screen.proofs.Text.Reads.{text_get}
 
+-- the cells of bytes
+abbrev pub cells_of_bytes : (ℕ → ℕ) → ℕ → Cell
+cells_of_bytes m k = (m (2 * k), m (2 * k + 1))
+
+pub same_pair : {a b x y : ℕ} → a ≡ x → b ≡ y → (let p : Cell = (a, b) in p) ≡ (x, y)
+same_pair {a} {b} {x} {y} e f = ap (λ n. let p : Cell = (n, b) in p) e ∙ ap (λ n. let p : Cell = (x, n) in p) f
+
 -- an adapter in text whose cells are f, by number
 pub record IsCells (disp : Display) (rest : CardState) (c : CardState) (f : ℕ → Cell) : Type 0 where
   pub bytes : ℕ → ℕ
   pub is : IsTextual disp rest c bytes
-  pub character : (k : ℕ) → k < 16384 → (f k).0 ≡ bytes (2 * k)
-  pub attribute : (k : ℕ) → k < 16384 → (f k).1 ≡ bytes (2 * k + 1)
-
--- the same cells
-pub cells_same : (disp : Display) (rest c : CardState) (f g : ℕ → Cell) → ((k : ℕ) → g k ≡ f k) → IsCells disp rest c f → IsCells disp rest c g
-cells_same disp rest c f g e t = record {
-  bytes = t.bytes;
-  is = t.is;
-  character = λ k l. ap (λ (x : Cell). x.0) (e k) ∙ t.character k l;
-  attribute = λ k l. ap (λ (x : Cell). x.1) (e k) ∙ t.attribute k l;
-}
+  pub cell : (k : ℕ) → k < 16384 → f k ≡ cells_of_bytes bytes k
 
 -- an attribute is a byte
 pub attribute_small : (disp : Display) (rest c : CardState) (f : ℕ → Cell) (k : ℕ) → k < 16384 → IsCells disp rest c f → (f k).1 < 256
-attribute_small disp rest c f k l t = let e = t.attribute k l in let s = t.is.small (2 * k + 1) (omega arith) in omega arith
+attribute_small disp rest c f k l t = subst (λ (x : Cell). x.1 < 256) (sym (t.cell k l)) (t.is.small (2 * k + 1) (omega arith))
 
--- ---- one byte of a cell is written
+-- ---- a cell is written: its character, and then its attribute where one is given
 
-abbrev pub with_character : (ℕ → Cell) → ℕ → ℕ → ℕ → Cell
-with_character f k v = set_cell f k (v, (f k).1)
-
-abbrev pub with_attribute : (ℕ → Cell) → ℕ → ℕ → ℕ → Cell
-with_attribute f k a = set_cell f k ((f k).0, a)
-
-pub character_put : (disp : Display) (rest c : CardState) (f : ℕ → Cell) (at k v : ℕ) → at ≡ base_of disp + 2 * k → k < 16384 → v < 256 →
-    IsCells disp rest c f → IsCells disp rest (run card_meaning (put at v) c).0 (with_character f k v)
-character_put disp rest c f at k v e l lv t =
-    let m = t.bytes in
-    let new : ℕ → ℕ = set_cell m (2 * k) v in
-    let g : ℕ → Cell = with_character f k v in
-    let x : Cell = (v, (f k).1) in
-    subst (λ a. IsCells disp rest (run card_meaning (put a v) c).0 g) (sym e) (record {
-      bytes = new;
-      is = text_put disp rest c m (2 * k) v (omega arith) lv t.is;
-      character = λ j h. ⊎_elim
-          (λ (z : j ≡ k). ap (λ (y : Cell). y.0) (set_same f k x j z) ∙ sym (set_same m (2 * k) v (2 * j) (omega arith)))
-          (λ (n : j ≢ k). ap (λ (y : Cell). y.0) (set_other f k x j n) ∙ t.character j h ∙ sym (set_other m (2 * k) v (2 * j) (omega arith)))
-          (cases_eq j k);
-      attribute = λ j h.
-          let rest_is : new (2 * j + 1) ≡ m (2 * j + 1) = set_other m (2 * k) v (2 * j + 1) (omega arith) in
-          ⊎_elim
-          (λ (z : j ≡ k). ap (λ (y : Cell). y.1) (set_same f k x j z) ∙ ap (λ i. (f i).1) (sym z) ∙ t.attribute j h ∙ sym rest_is)
-          (λ (n : j ≢ k). ap (λ (y : Cell). y.1) (set_other f k x j n) ∙ t.attribute j h ∙ sym rest_is)
-          (cases_eq j k);
-    })
-
-pub attribute_put : (disp : Display) (rest c : CardState) (f : ℕ → Cell) (at k v : ℕ) → at ≡ base_of disp + 2 * k → k < 16384 → v < 256 →
-    IsCells disp rest c f → IsCells disp rest (run card_meaning (put (at + 1) v) c).0 (with_attribute f k v)
-attribute_put disp rest c f at k v e l lv t =
-    let m = t.bytes in
-    let new : ℕ → ℕ = set_cell m (2 * k + 1) v in
-    let g : ℕ → Cell = with_attribute f k v in
-    let x : Cell = ((f k).0, v) in
-    let there : base_of disp + (2 * k + 1) ≡ at + 1 = omega arith in
-    subst (λ a. IsCells disp rest (run card_meaning (put a v) c).0 g) there (record {
-      bytes = new;
-      is = text_put disp rest c m (2 * k + 1) v (omega arith) lv t.is;
-      character = λ j h.
-          let rest_is : new (2 * j) ≡ m (2 * j) = set_other m (2 * k + 1) v (2 * j) (omega arith) in
-          ⊎_elim
-          (λ (z : j ≡ k). ap (λ (y : Cell). y.0) (set_same f k x j z) ∙ ap (λ i. (f i).0) (sym z) ∙ t.character j h ∙ sym rest_is)
-          (λ (n : j ≢ k). ap (λ (y : Cell). y.0) (set_other f k x j n) ∙ t.character j h ∙ sym rest_is)
-          (cases_eq j k);
-      attribute = λ j h. ⊎_elim
-          (λ (z : j ≡ k). ap (λ (y : Cell). y.1) (set_same f k x j z) ∙ sym (set_same m (2 * k + 1) v (2 * j + 1) (omega arith)))
-          (λ (n : j ≢ k). ap (λ (y : Cell). y.1) (set_other f k x j n) ∙ t.attribute j h ∙ sym (set_other m (2 * k + 1) v (2 * j + 1) (omega arith)))
-          (cases_eq j k);
-    })
-
--- a cell is written: its character, and then its attribute where one is given
-over_is : (f : ℕ → Cell) (k v a j : ℕ) → set_cell f k (v, a) j ≡ with_attribute (with_character f k v) k a j
-over_is f k v a j =
-    let x : Cell = (v, (f k).1) in
-    let y : Cell = (v, a) in
-    let g : ℕ → Cell = with_character f k v in
-    let w : Cell = ((g k).0, a) in
-    let same : w ≡ y = ap (λ (z : Cell). let p : Cell = (z.0, a) in p) (set_same f k x k refl) in
+both_put : (f : ℕ → Cell) (m : ℕ → ℕ) (k v a j : ℕ) → f j ≡ cells_of_bytes m j →
+    set_cell f k (v, a) j ≡ cells_of_bytes (set_cell (set_cell m (2 * k) v) (2 * k + 1) a) j
+both_put f m k v a j e =
+    let n : ℕ → ℕ = set_cell m (2 * k) v in
+    let x : Cell = (v, a) in
     ⊎_elim
-    (λ (z : j ≡ k). set_same f k y j z ∙ sym same ∙ sym (set_same g k w j z))
-    (λ (n : j ≢ k). set_other f k y j n ∙ sym (set_other f k x j n) ∙ sym (set_other g k w j n))
+    (λ (z : j ≡ k). set_same f k x j z ∙ sym (same_pair (set_other n (2 * k + 1) a (2 * j) (omega arith) ∙ set_same m (2 * k) v (2 * j) (omega arith))
+    (set_same n (2 * k + 1) a (2 * j + 1) (omega arith))))
+    (λ (w : j ≢ k). set_other f k x j w ∙ e
+    ∙ sym (same_pair (set_other n (2 * k + 1) a (2 * j) (omega arith) ∙ set_other m (2 * k) v (2 * j) (omega arith))
+    (set_other n (2 * k + 1) a (2 * j + 1) (omega arith) ∙ set_other m (2 * k) v (2 * j + 1) (omega arith))))
     (cases_eq j k)
 
-pub cell_given : (disp : Display) (rest c : CardState) (f : ℕ → Cell) (at k v a : ℕ) → at ≡ base_of disp + 2 * k → k < 16384 → v < 256 → a < 256 →
-    IsCells disp rest c f → IsCells disp rest (run card_meaning (put at v >> put (at + 1) a) c).0 (set_cell f k (v, a))
-cell_given disp rest c f at k v a e l lv la t =
-    let c1 = (run card_meaning (put at v) c).0 in
-    cells_same disp rest (run card_meaning (put (at + 1) a) c1).0 (with_attribute (with_character f k v) k a) (set_cell f k (v, a)) (over_is f k v a)
-    (attribute_put disp rest c1 (with_character f k v) at k a e l la (character_put disp rest c f at k v e l lv t))
+-- where none is given it stays
+kept_put : (m : ℕ → ℕ) (k v a w : ℕ) → a ≡ m (2 * k + 1) → set_cell (set_cell m (2 * k) v) (2 * k + 1) a w ≡ set_cell m (2 * k) v w
+kept_put m k v a w e =
+    let n : ℕ → ℕ = set_cell m (2 * k) v in
+    ⊎_elim
+    (λ (z : w ≡ 2 * k + 1). set_same n (2 * k + 1) a w z ∙ e ∙ ap m (sym z) ∙ sym (set_other m (2 * k) v w (omega arith)))
+    (λ (o : w ≢ 2 * k + 1). set_other n (2 * k + 1) a w o)
+    (cases_eq w (2 * k + 1))
 
 pub cell_written : (disp : Display) (rest c : CardState) (f : ℕ → Cell) (at k v : ℕ) (colouring : Colouring) → at ≡ base_of disp + 2 * k → k < 16384 → v < 256 →
     colouring.colour < 256 → IsCells disp rest c f → IsCells disp rest (run card_meaning (write_cell_plan at v colouring) c).0
@@ -117,10 +65,36 @@ pub cell_written : (disp : Display) (rest c : CardState) (f : ℕ → Cell) (at 
 unfolding write_cell_plan
 cell_written disp rest c f at k v colouring e l lv la t = by_test colouring.is_attribute
   where
+    n : ℕ → ℕ
+    n = set_cell t.bytes (2 * k) v
+
+    c1 : CardState
+    c1 = (run card_meaning (put at v) c).0
+
+    first : IsTextual disp rest c1 n
+    first = subst (λ a. IsTextual disp rest (run card_meaning (put a v) c).0 n) (sym e) (text_put disp rest c t.bytes (2 * k) v (omega arith) lv t.is)
+
+    second : IsTextual disp rest (run card_meaning (put (at + 1) colouring.colour) c1).0 (set_cell n (2 * k + 1) colouring.colour)
+    second =
+        let there : base_of disp + (2 * k + 1) ≡ at + 1 = omega arith in
+        subst (λ a. IsTextual disp rest (run card_meaning (put a colouring.colour) c1).0 (set_cell n (2 * k + 1) colouring.colour)) there
+        (text_put disp rest c1 n (2 * k + 1) colouring.colour (omega arith) la first)
+
     by_test : (b : Bool) → IsCells disp rest (run card_meaning (put at v >> (if b then put (at + 1) colouring.colour else Done tt)) c).0
         (set_cell f k (let x : Cell = (v, if b then colouring.colour else (f k).1) in x))
-    by_test false = character_put disp rest c f at k v e l lv t
-    by_test true = cell_given disp rest c f at k v colouring.colour e l lv la t
+    by_test false =
+        let a = (f k).1 in
+        let same : a ≡ t.bytes (2 * k + 1) = ap (λ (x : Cell). x.1) (t.cell k l) in
+        record {
+          bytes = n;
+          is = first;
+          cell = λ j h. both_put f t.bytes k v a j (t.cell j h) ∙ same_pair (kept_put t.bytes k v a (2 * j) same) (kept_put t.bytes k v a (2 * j + 1) same);
+        }
+    by_test true = record {
+      bytes = set_cell n (2 * k + 1) colouring.colour;
+      is = second;
+      cell = λ j h. both_put f t.bytes k v colouring.colour j (t.cell j h);
+    }
 
 -- ---- a byte of a cell is read
 
@@ -133,8 +107,8 @@ pub character_get : (disp : Display) (rest c : CardState) (f : ℕ → Cell) (at
 character_get disp rest c f at k e l t =
     let a = text_get disp rest c t.bytes (2 * k) (omega arith) t.is in
     subst (λ x. IsRead disp rest f (f k).0 (run card_meaning (get x) c)) (sym e) (record {
-      cells = record { bytes = t.bytes; is = a.text; character = t.character; attribute = t.attribute };
-      answer = a.answer ∙ sym (t.character k l);
+      cells = record { bytes = t.bytes; is = a.text; cell = t.cell };
+      answer = a.answer ∙ sym (ap (λ (x : Cell). x.0) (t.cell k l));
     })
 
 pub attribute_get : (disp : Display) (rest c : CardState) (f : ℕ → Cell) (at k : ℕ) → at ≡ base_of disp + 2 * k → k < 16384 → IsCells disp rest c f →
@@ -143,8 +117,8 @@ attribute_get disp rest c f at k e l t =
     let a = text_get disp rest c t.bytes (2 * k + 1) (omega arith) t.is in
     let there : base_of disp + (2 * k + 1) ≡ at + 1 = omega arith in
     subst (λ x. IsRead disp rest f (f k).1 (run card_meaning (get x) c)) there (record {
-      cells = record { bytes = t.bytes; is = a.text; character = t.character; attribute = t.attribute };
-      answer = a.answer ∙ sym (t.attribute k l);
+      cells = record { bytes = t.bytes; is = a.text; cell = t.cell };
+      answer = a.answer ∙ sym (ap (λ (x : Cell). x.1) (t.cell k l));
     })
 
 -- ---- the cells of the planes
@@ -189,32 +163,23 @@ has_bytes disp c e z =
 -- and their cells
 pub has_cells : (disp : Display) (c : CardState) → setting c ≡ text_setting disp → IsHost c.host →
     IsCells disp (without_text c) c (cell_in c.host.memory.plane0 c.host.memory.plane1)
-has_cells disp c e z = record {
-  bytes = woven c.host.memory.plane0 c.host.memory.plane1;
-  is = has_bytes disp c e z;
-  character = λ k l. woven_even c.host.memory.plane0 c.host.memory.plane1 k;
-  attribute = λ k l. woven_odd c.host.memory.plane0 c.host.memory.plane1 k;
-}
+has_cells disp c e z =
+    let m = c.host.memory in
+    record {
+      bytes = woven m.plane0 m.plane1;
+      is = has_bytes disp c e z;
+      cell = λ k l. same_pair (woven_even m.plane0 m.plane1 k) (woven_odd m.plane0 m.plane1 k);
+    }
 
 -- and the other way round
 pub cells_are : (disp : Display) (rest c : CardState) (f : ℕ → Cell) (k : ℕ) → k < 16384 → IsCells disp rest c f →
     cell_in c.host.memory.plane0 c.host.memory.plane1 k ≡ f k
-cells_are disp rest c f k l t =
-    let x : slice_index c.host.memory.plane0 (2 * k) ≡ (f k).0 = t.is.character k l ∙ sym (t.character k l) in
-    let y : slice_index c.host.memory.plane1 (2 * k) ≡ (f k).1 = t.is.attribute k l ∙ sym (t.attribute k l) in
-    ap (λ a. let p : Cell = (a, slice_index c.host.memory.plane1 (2 * k)) in p) x ∙ ap (λ b. let p : Cell = ((f k).0, b) in p) y
+cells_are disp rest c f k l t = same_pair (t.is.character k l) (t.is.attribute k l) ∙ sym (t.cell k l)
 
 -- ---- bytes and cells
 
--- the cells of bytes
-abbrev pub cells_of_bytes : (ℕ → ℕ) → ℕ → Cell
-cells_of_bytes m k = (m (2 * k), m (2 * k + 1))
-
 pub bytes_are_cells : (disp : Display) (rest c : CardState) (m : ℕ → ℕ) → IsTextual disp rest c m → IsCells disp rest c (cells_of_bytes m)
-bytes_are_cells disp rest c m t = record { bytes = m; is = t; character = λ k l. refl; attribute = λ k l. refl }
-
-pub same_pair : {a b x y : ℕ} → a ≡ x → b ≡ y → (let p : Cell = (a, b) in p) ≡ (x, y)
-same_pair {a} {b} {x} {y} e f = ap (λ n. let p : Cell = (n, b) in p) e ∙ ap (λ n. let p : Cell = (x, n) in p) f
+bytes_are_cells disp rest c m t = record { bytes = m; is = t; cell = λ k l. refl }
 
 -- cells whose two bytes are the same
 pub same_cell : (g f : ℕ → ℕ) (k q : ℕ) → ((j : ℕ) → j < 2 → g (2 * k + j) ≡ f (2 * q + j)) → cells_of_bytes g k ≡ cells_of_bytes f q

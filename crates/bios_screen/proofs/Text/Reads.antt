@@ -1,6 +1,5 @@
 -- What a read of text memory answers, and leaves.
 use Rattle.std.proofs.Common.{◌≡◌, ◌≢◌, ℕ, ◌+◌, ◌*◌, ◌/◌, ◌%◌, ◌<◌, ⊎_elim, refl, sym, ap, ◌∙◌, subst, arith}
-use Rattle.std.specs.Prelude.{slice_index}
 use Rattle.std.proofs.lemmas.Bool.{cases_eq}
 use Rattle.vga_bits.specs.Bits.{byte_of}
 use Rattle.vga_bits.proofs.BitLemmas.{byte_bits}
@@ -29,38 +28,22 @@ read_is : (disp : Display) (h : HostState) (w : ℕ) → w < 32768 → read_byte
 read_is disp h w l = ap (λ o. byte_of (λ i. read_bit (host_at h (text_setting disp)) o (bytes_at h.memory (plane_offset (host_at h (text_setting disp)) o)) i))
     (window_is disp h w l) ∙ read_at disp h w
 
-even_read : (disp : Display) (h : HostState) (q : ℕ) → q < 16384 → read_byte (host_at h (text_setting disp)) (base_of disp + 2 * q)
-    ≡ bits_of (slice_index h.memory.plane0 (2 * q))
-even_read disp h q l =
-    let z : 0 + 2 * q % 2 ≡ 0 = omega arith in
-    let o : 2 * q / 2 * 2 ≡ 2 * q = omega arith in
-    read_is disp h (2 * q) (omega arith) ∙ ap (λ p. bits_of (of_plane (bytes_at h.memory (2 * q / 2 * 2)) p)) z
-    ∙ ap (λ k. bits_of (slice_index h.memory.plane0 k)) o
-
-odd_read : (disp : Display) (h : HostState) (q : ℕ) → q < 16384 → read_byte (host_at h (text_setting disp)) (base_of disp + (2 * q + 1))
-    ≡ bits_of (slice_index h.memory.plane1 (2 * q))
-odd_read disp h q l =
-    let z : 0 + (2 * q + 1) % 2 ≡ 1 = omega arith in
-    let o : (2 * q + 1) / 2 * 2 ≡ 2 * q = omega arith in
-    read_is disp h (2 * q + 1) (omega arith) ∙ ap (λ p. bits_of (of_plane (bytes_at h.memory ((2 * q + 1) / 2 * 2)) p)) z
-    ∙ ap (λ k. bits_of (slice_index h.memory.plane1 k)) o
+-- the byte of plane 0 or 1 that is there
+byte_is : (disp : Display) (rest c : CardState) (m : ℕ → ℕ) (w : ℕ) → w < 32768 → IsTextual disp rest c m →
+    of_plane (bytes_at c.host.memory (w / 2 * 2)) (0 + w % 2) ≡ m w
+byte_is disp rest c m w l t =
+    let q = w / 2 in
+    let there : q * 2 ≡ 2 * q = omega arith in
+    let plane : (p : ℕ) → 0 + w % 2 ≡ p → of_plane (bytes_at c.host.memory (q * 2)) (0 + w % 2) ≡ of_plane (bytes_at c.host.memory (2 * q)) p = λ p e.
+    ap (of_plane (bytes_at c.host.memory (q * 2))) e ∙ ap (λ o. of_plane (bytes_at c.host.memory o) p) there in
+    ⊎_elim
+    (λ (e : w % 2 ≡ 0). let same : 2 * q ≡ w = omega arith in plane 0 (omega arith) ∙ t.character q (omega arith) ∙ ap m same)
+    (λ (n : w % 2 ≢ 0). let same : 2 * q + 1 ≡ w = omega arith in plane 1 (omega arith) ∙ t.attribute q (omega arith) ∙ ap m same)
+    (cases_eq (w % 2) 0)
 
 answer_is : (disp : Display) (rest c : CardState) (m : ℕ → ℕ) (w : ℕ) → w < 32768 → IsTextual disp rest c m →
     read_byte (host_at c.host (text_setting disp)) (base_of disp + w) ≡ m w
-answer_is disp rest c m w l t = ⊎_elim
-    (λ (e : w % 2 ≡ 0).
-    let z : 2 * (w / 2) ≡ w = omega arith in
-    let s = t.small w l in
-    let k : m (2 * (w / 2)) < 256 = subst (λ x. m x < 256) (sym z) s in
-    subst (λ x. read_byte (host_at c.host (text_setting disp)) (base_of disp + x) ≡ m x) z (even_read disp c.host (w / 2) (omega arith)
-    ∙ ap bits_of (t.character (w / 2) (omega arith)) ∙ byte_bits (m (2 * (w / 2))) k))
-    (λ (n : w % 2 ≢ 0).
-    let z : 2 * (w / 2) + 1 ≡ w = omega arith in
-    let s = t.small w l in
-    let k : m (2 * (w / 2) + 1) < 256 = subst (λ x. m x < 256) (sym z) s in
-    subst (λ x. read_byte (host_at c.host (text_setting disp)) (base_of disp + x) ≡ m x) z (odd_read disp c.host (w / 2) (omega arith)
-    ∙ ap bits_of (t.attribute (w / 2) (omega arith)) ∙ byte_bits (m (2 * (w / 2) + 1)) k))
-    (cases_eq (w % 2) 0)
+answer_is disp rest c m w l t = read_is disp c.host w l ∙ ap bits_of (byte_is disp rest c m w l t) ∙ byte_bits (m w) (t.small w l)
 
 -- a read in text leaves the text, and answers the byte at its place
 pub record Answers (disp : Display) (rest : CardState) (m : ℕ → ℕ) (w : ℕ) (r : CardState × ℕ) : Type 0 where
