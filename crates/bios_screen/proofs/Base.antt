@@ -8,6 +8,7 @@ pub mod Tests
 pub mod Places
 pub mod Kept
 pub mod Setting
+pub mod Windows
 pub mod Bands
 pub mod TypedPlaces
 pub mod Reasons

@@ -2,6 +2,5 @@
 pub mod Cursors
 pub mod NewPixels
 pub mod Writes
-pub mod Windows
 pub mod Reads
 pub mod Dots

@@ -2,6 +2,7 @@
 pub mod TextReaders
 pub mod Cursors
 pub mod Characters
+pub mod Windows
 pub mod Typing
 pub mod Teletypes
 pub mod Strings

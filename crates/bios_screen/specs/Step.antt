@@ -1,14 +1,17 @@
 -- What a service does to a plain screen, what it answers, and why it is refused.
 -- From the IBM PS/2 and PC BIOS Interface Technical Reference, "Interrupt 10H - Video".
-use Rattle.std.specs.Prelude.{ℕ, zero, suc, ◌+◌, ◌-◌, ◌*◌, ◌/◌, ◌%◌, ◌==◌, ◌&&◌, ◌||◌, nat_lt}
+use Rattle.std.specs.Prelude.{ℕ, zero, suc, ◌+◌, ◌-◌, ◌*◌, ◌/◌, ◌%◌, ◌==◌, ◌&&◌, nat_lt}
 use Rattle.std.specs.Prelude.{nat_le, Bool, not, if◌then◌else◌, List, [], length, get_or, set}
-use Rattle.std.specs.Prelude.{slice_index, slice_set, bit_xor, min, Option, None}
+use Rattle.std.specs.Prelude.{slice_index, slice_set, bit_xor, Option, Some, None}
 use Rattle.vga_bits.specs.Bits.{is_set, byte_of}
 use Rattle.vga_bits.specs.declared.refusal.Refusal.{Refusal}
 use Rattle.bios_modes.specs.Fonts.{FontSet}
 use Rattle.bios_services.specs.declared.regs.Regs.{Regs}
 use Rattle.bios_services.specs.declared.colouring.Colouring.{Colouring}
+use Rattle.bios_services.specs.declared.band.Direction.{Direction}
+use Rattle.bios_services.specs.declared.band.Direction.TheVariants.{Up, Down}
 use Rattle.bios_services.specs.declared.scroll.Scroll.{Scroll}
+use Rattle.bios_services.specs.declared.scroll.Window.{Window}
 use Rattle.bios_services.specs.declared.cell_run.CellRun.{CellRun}
 use Rattle.bios_services.specs.declared.strings.StringCall.{StringCall}
 use Rattle.bios_services.specs.declared.call.Service.{Service}
@@ -21,6 +24,7 @@ use Rattle.bios_services.specs.declared.call.Service.TheVariants.{WriteString, R
 use Rattle.bios_modes.specs.Kinds.{is_packed}
 use Rattle.bios_modes.specs.Palette.{is_monochrome_mode}
 use Rattle.bios_services.specs.Registers.{low, with_low}
+use Rattle.bios_services.specs.Scroll.{window_among, whole_page, lines_of}
 use Rattle.bios_services.specs.Teletype.{line_start, dots_in}
 use Rattle.bios_services.specs.Strings.{string_len, character_at, colouring_at}
 use Rattle.bios_services.specs.Colours.{colour_refusal}
@@ -117,46 +121,30 @@ row_on s page k = (k - page_start s page) / s.layout.columns
 abbrev pub column_on : Screen → ℕ → ℕ → ℕ
 column_on s page k = (k - page_start s page) % s.layout.columns
 
--- how many rows and columns of a window are on a page, and by how many rows it goes: by all for 0
--- or for more than it has
-abbrev pub window_rows : Screen → Scroll → ℕ
-window_rows s w = min w.bottom (s.layout.rows - 1) + 1 - w.top
+-- whether a window has this row and this column
+abbrev pub in_window : Window → ℕ → ℕ → Bool
+in_window w row column = nat_le w.top row && (nat_lt row (w.top + w.height)
+    && (nat_le w.left column && nat_lt column (w.left + w.width)))
 
-abbrev pub window_columns : Screen → Scroll → ℕ
-window_columns s w = min w.right (s.layout.columns - 1) + 1 - w.left
+-- whether a row of a window that goes by n rows takes another's contents: going up all but the last
+-- n do, and going down all but the first n
+abbrev pub has_source : Direction → Window → ℕ → ℕ → Bool
+has_source Up w n row = nat_lt (row + n) (w.top + w.height)
+has_source Down w n row = nat_le (w.top + n) row
 
-abbrev pub window_lines : Screen → Scroll → ℕ
-window_lines s w = if (w.lines == 0) || nat_lt (window_rows s w) w.lines then window_rows s w
-    else w.lines
+-- the number of what is taken: so many further where the window goes up, so many before where it
+-- goes down
+abbrev pub source : Direction → ℕ → ℕ → ℕ
+source Up k distance = k + distance
+source Down k distance = k - distance
 
--- whether cell k is in a window of a page
-abbrev pub is_inside : Screen → ℕ → Scroll → ℕ → Bool
-is_inside s page w k =
-    nat_le (page_start s page) k && (nat_le w.top (row_on s page k)
-    && (nat_lt (row_on s page k) (w.top + window_rows s w)
-    && (nat_le w.left (column_on s page k) && nat_lt (column_on s page k)
-    (w.left + window_columns s w))))
-
--- a blank with the window's attribute
-abbrev pub blank_of : Scroll → Cell
-blank_of w = (0x20, w.fill)
-
--- the window goes up: a cell takes what stood some rows below it, the last rows are blank, and all
--- outside stays
-abbrev pub cells_up : Screen → ℕ → Scroll → (ℕ → Cell) → ℕ → Cell
-cells_up s page w old k =
-    if is_inside s page w k
-    then (if nat_lt (row_on s page k + window_lines s w) (w.top + window_rows s w)
-    then old (k + s.layout.columns * window_lines s w) else blank_of w)
-    else old k
-
--- the window goes down: a cell takes what stood some rows above it, the first rows are blank, and
--- all outside stays
-abbrev pub cells_down : Screen → ℕ → Scroll → (ℕ → Cell) → ℕ → Cell
-cells_down s page w old k =
-    if is_inside s page w k
-    then (if nat_le (w.top + window_lines s w) (row_on s page k)
-    then old (k - s.layout.columns * window_lines s w) else blank_of w)
+-- a window of a page goes by n rows: a cell takes what stood so many rows below or above it, the
+-- rows that are left are blank with an attribute, and all outside stays
+abbrev pub scroll_cells : Screen → ℕ → Window → Direction → ℕ → ℕ → (ℕ → Cell) → ℕ → Cell
+scroll_cells s page w direction n attribute old k =
+    if nat_le (page_start s page) k && in_window w (row_on s page k) (column_on s page k)
+    then (if has_source direction w n (row_on s page k)
+    then old (source direction k (s.layout.columns * n)) else (0x20, attribute))
     else old k
 
 -- ---- what it does to the pixels
@@ -233,13 +221,6 @@ abbrev pub write_at_cursor : FontSet → Screen → ℕ → CellRun → Screen
 write_at_cursor fonts s page cells = put_characters fonts s page (cursor_number s page) cells.count
     cells.character cells.colouring
 
--- whether pixel k of a page is in a window
-abbrev pub has_pixel : Screen → Scroll → ℕ → Bool
-has_pixel s w k =
-    nat_le w.top (pixel_row s k) && (nat_lt (pixel_row s k) (w.top + window_rows s w)
-    && (nat_le w.left (pixel_column s k) && nat_lt (pixel_column s k)
-    (w.left + window_columns s w)))
-
 -- how many pixels lie between one and that so many rows of characters below it
 abbrev pub row_pixels : Screen → ℕ → ℕ
 row_pixels s rows = 8 * s.layout.columns * (s.layout.height * rows)
@@ -248,43 +229,36 @@ row_pixels s rows = 8 * s.layout.columns * (s.layout.height * rows)
 abbrev pub fill_pixel : ℕ → ℕ → ℕ
 fill_pixel mode colour = if is_packed mode then colour else colour % 16
 
--- the window goes up: a pixel takes what stood some rows of characters below it, the last rows get
--- the colour, and all outside stays
-abbrev pub pixels_up : Screen → Scroll → (ℕ → ℕ) → ℕ → ℕ
-pixels_up s w old k =
-    if has_pixel s w k
-    then (if nat_lt (pixel_row s k + window_lines s w) (w.top + window_rows s w)
-    then old (k + row_pixels s (window_lines s w)) else fill_pixel s.mode w.fill)
+-- a window of a page goes by n rows: a pixel takes what stood so many rows of characters below or
+-- above it, the rows that are left get a colour, and all outside stays
+abbrev pub scroll_pixels : Screen → Window → Direction → ℕ → ℕ → (ℕ → ℕ) → ℕ → ℕ
+scroll_pixels s w direction n colour old k =
+    if in_window w (pixel_row s k) (pixel_column s k)
+    then (if has_source direction w n (pixel_row s k)
+    then old (source direction k (row_pixels s n)) else fill_pixel s.mode colour)
     else old k
 
--- the window goes down: a pixel takes what stood some rows of characters above it, the first rows
--- get the colour, and all outside stays
-abbrev pub pixels_down : Screen → Scroll → (ℕ → ℕ) → ℕ → ℕ
-pixels_down s w old k =
-    if has_pixel s w k
-    then (if nat_le (w.top + window_lines s w) (pixel_row s k)
-    then old (k - row_pixels s (window_lines s w)) else fill_pixel s.mode w.fill)
-    else old k
+-- a window of a page goes by n rows, with its cells or its pixels
+abbrev pub scroll_window : Screen → ℕ → Window → Direction → ℕ → ℕ → Screen
+scroll_window s page w direction n fill =
+    with_pixels (with_cells s (scroll_cells s page w direction n fill)) page
+    (scroll_pixels s w direction n fill)
 
--- a window of a page goes up, or down, with its cells or its pixels
-abbrev pub window_up : Screen → ℕ → Scroll → Screen
-window_up s page w = with_pixels (with_cells s (cells_up s page w)) page (pixels_up s w)
+-- the window of the active page that is asked for goes; where there is none, nothing does
+abbrev pub scroll_asked : Screen → Scroll → Direction → Option Window → Screen
+scroll_asked s asked direction None = s
+scroll_asked s asked direction (Some w) =
+    scroll_window s s.page w direction (lines_of w asked.lines) asked.fill
 
-abbrev pub window_down : Screen → ℕ → Scroll → Screen
-window_down s page w = with_pixels (with_cells s (cells_down s page w)) page (pixels_down s w)
+abbrev pub scroll : Screen → Scroll → Direction → Screen
+scroll s asked direction =
+    scroll_asked s asked direction (window_among s.layout.rows s.layout.columns asked)
+
+-- a page goes up by a row
+abbrev pub page_up : Screen → ℕ → ℕ → Screen
+page_up s page fill = scroll_window s page (whole_page s.layout.rows s.layout.columns) Up 1 fill
 
 -- ---- typing
-
--- a whole page that goes up by a row, with this attribute for blanks, or this colour
-abbrev pub whole_page : Screen → ℕ → Scroll
-whole_page s colour = record {
-  lines = 1;
-  fill = colour;
-  top = 0;
-  left = 0;
-  bottom = s.layout.rows - 1;
-  right = s.layout.columns - 1;
-}
 
 -- the attribute in the last row of a page, at the column of a place; a page of pixels has none
 -- there, and that is colour 0
@@ -297,7 +271,7 @@ last_colour s page place = (cell_on s (page_start s page
 abbrev pub line_feed : Screen → ℕ → ℕ → Screen × ℕ
 line_feed s page place =
     if nat_lt (row_of place) (s.layout.rows - 1) then (s, place + 256)
-    else (window_up s page (whole_page s (last_colour s page place)), place)
+    else (page_up s page (last_colour s page place), place)
 
 -- the place behind: the next column, or the first one of the row below
 abbrev pub cursor_advance : Screen → ℕ → ℕ → Screen × ℕ
@@ -353,8 +327,8 @@ next fonts s (SetCursorType cursor_type) block = record s { cursor_type = cursor
 next fonts s (SetCursor page place) block = with_place s (page_meant s page) place
 next fonts s (ReadCursor page) block = s
 next fonts s (SelectPage page) block = record s { page = page }
-next fonts s (ScrollUp window) block = window_up s s.page window
-next fonts s (ScrollDown window) block = window_down s s.page window
+next fonts s (ScrollUp asked) block = scroll s asked Up
+next fonts s (ScrollDown asked) block = scroll s asked Down
 next fonts s (ReadCell page) block = s
 next fonts s (WriteCells cells) block = write_at_cursor fonts s (page_meant s cells.page) cells
 next fonts s (WritePixel page x y colour) block = with_pixels s (page_meant s page)

@@ -30,10 +30,10 @@ use Rattle.bios_services.specs.Bounds.{IsSet, pages_of}
 use Rattle.bios_services.specs.Data.{AreData}
 use Rattle.bios_services.specs.Cursor.{row_of, column_of, cell_number, place_of, with_place, with_page, start_address, word_plan, cursor_plan, move_cursor_plan}
 use Rattle.bios_services.specs.Cursor.{cursor_type_plan, page_plan}
-use Rattle.bios_services.specs.Bands.{band_of, up_plan}
+use Rattle.bios_services.specs.declared.band.Direction.TheVariants.{Up, Down}
 use Rattle.bios_services.specs.Drawing.{character_plan}
 use Rattle.bios_services.specs.CellRuns.{cell_run_plan}
-use Rattle.bios_services.specs.Scroll.{scroll_up_plan, scroll_down_plan}
+use Rattle.bios_services.specs.Scroll.{page_up_plan, scroll_plan}
 use Rattle.bios_services.specs.Pixels.{write_pixel_plan}
 use Rattle.bios_services.specs.Teletype.{line_start, dots_in, line_feed_fill, line_feed_plan, cursor_advance_plan, show_plan, type_plan, teletype_plan}
 use Rattle.bios_services.specs.Strings.{string_len, character_at, colouring_at, type_string_plan, string_plan}
@@ -95,8 +95,8 @@ unfolding line_feed_plan
 fed_near d page place few near =
     on_if IsNear (nat_lt (row_of place) d.last_row) (Done (place + 256)) _
     (λ e. let l = lt_is (row_of place) d.last_row e in omega arith)
-    (λ e. behind IsNear (line_feed_fill d page place) (λ colour. up_plan (band_of d page 0 (d.columns - 1)) 0 (d.last_row + 1) 1 colour >> Done place)
-    (λ colour. behind IsNear (up_plan (band_of d page 0 (d.columns - 1)) 0 (d.last_row + 1) 1 colour) (λ _. Done place) (λ _. near)))
+    (λ e. behind IsNear (line_feed_fill d page place) (λ colour. page_up_plan d page colour >> Done place)
+    (λ colour. behind IsNear (page_up_plan d page colour) (λ _. Done place) (λ _. near)))
 
 start_near : (place : ℕ) → IsNear place → IsNear (line_start place)
 start_near place near = omega arith
@@ -271,8 +271,8 @@ service_keeps (SetCursor page place) fonts d r block fits a is unset h =
 service_keeps (ReadCursor page) fonts d r block fits a is unset h = a
 service_keeps (SelectPage page) fonts d r block fits a is unset h =
     behind_such AreData OutcomeKept (page_plan d page) (λ after. Done (r, after)) (paged d a is unset page (page_allowed (pages_of d) page h)) (λ after k. k)
-service_keeps (ScrollUp scroll) fonts d r block fits a is unset h = behind OutcomeKept (scroll_up_plan d scroll) (λ _. Done (r, d)) (λ _. a)
-service_keeps (ScrollDown scroll) fonts d r block fits a is unset h = behind OutcomeKept (scroll_down_plan d scroll) (λ _. Done (r, d)) (λ _. a)
+service_keeps (ScrollUp scroll) fonts d r block fits a is unset h = behind OutcomeKept (scroll_plan d scroll Up) (λ _. Done (r, d)) (λ _. a)
+service_keeps (ScrollDown scroll) fonts d r block fits a is unset h = behind OutcomeKept (scroll_plan d scroll Down) (λ _. Done (r, d)) (λ _. a)
 service_keeps (ReadCell page) fonts d r block fits a is unset h = behind OutcomeKept (read_cell_service fonts (page_named d page) d r) (λ after.
     Done (after, d)) (λ _. a)
 service_keeps (WriteCells cells) fonts d r block fits a is unset h = behind OutcomeKept (cell_run_plan fonts d (page_named d cells.page) cells) (λ _.

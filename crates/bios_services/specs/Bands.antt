@@ -1,11 +1,13 @@
 -- Some columns of a page, as bytes of its lines: rows that are copied, and rows that are filled.
 -- From the IBM PS/2 and PC BIOS Interface Technical Reference, "Interrupt 10H - Video", (AH) = 06H
 -- and 07H.
-use Rattle.std.specs.Prelude.{ℕ, ◌+◌, ◌-◌, ◌*◌, ◌%◌, ◌^◌, ◌<◌, ◌≤◌, ◌==◌, if◌then◌else◌, min}
+use Rattle.std.specs.Prelude.{ℕ, ◌+◌, ◌-◌, ◌*◌, ◌%◌, ◌^◌, ◌<◌, ◌≤◌, ◌==◌, if◌then◌else◌}
 use Rattle.bios_modes.specs.Bda.{BiosData}
 use Rattle.bios_modes.specs.declared.kind.Kind.{Kind}
 use Rattle.bios_modes.specs.declared.kind.Kind.TheVariants.{Text, Planar, Packed}
 use Rattle.bios_services.specs.declared.band.Band.{Band}
+use Rattle.bios_services.specs.declared.band.Direction.{Direction}
+use Rattle.bios_services.specs.declared.band.Direction.TheVariants.{Up, Down}
 use Rattle.bios_services.specs.declared.filling.Filling.{Filling}
 use Rattle.bios_services.specs.Plan.{Plan, Done, ◌>>◌, put, move, each, each_down}
 use Rattle.bios_services.specs.Cycles.{sequencer, graphics}
@@ -20,18 +22,17 @@ abbrev pub address_in : Band → ℕ → ℕ → ℕ → ℕ
 address_in band row line byte = band.start + band.pitch * (band.lines * row + line) + band.left
     + byte
 
--- a band whose bytes the adapter may have: a column of dots has eight, there are 80 columns, and a
--- corner is a byte
+-- a band whose bytes the adapter may have: a column of dots has eight, and there are 80 columns
 pub record IsBand (band : Band) : Type 0 where
   pub start : band.start < 2 ^ 20
   pub pitch : band.pitch ≤ 8 * 80
   pub lines : band.lines ≤ 16
-  pub left : band.left ≤ 8 * 255
+  pub left : band.left ≤ 8 * 80
   pub width : band.width ≤ 8 * 80
 
--- the columns `left` to `right` of a page, as many as there are
+-- `width` columns of a page from column `left` on
 abbrev pub band_of : BiosData → ℕ → ℕ → ℕ → Band
-band_of d page left right =
+band_of d page left width =
     let bytes = column_bytes (kind_of d.mode) in
     record {
       kind = kind_of d.mode;
@@ -39,7 +40,7 @@ band_of d page left right =
       pitch = bytes * d.columns;
       lines = row_lines (kind_of d.mode) d.height;
       left = bytes * left;
-      width = bytes * (min right (d.columns - 1) + 1 - left);
+      width = bytes * width;
     }
 
 -- a line of a row is copied to another row, byte by byte
@@ -51,13 +52,11 @@ copy_line band from to line = each (λ i. move (address_in band from line i)
 unfoldable pub copy_row : Band → ℕ → ℕ → Plan (Unit {0})
 copy_row band from to = each (copy_line band from to) band.lines 0
 
--- count rows from row `top` on take what stands n rows below them, the highest first
-unfoldable pub raise_rows : Band → ℕ → ℕ → ℕ → Plan (Unit {0})
-raise_rows band n top count = each (λ row. copy_row band (row + n) row) count top
-
--- count rows from row `top` on go n rows down, the lowest first
-unfoldable pub lower_rows : Band → ℕ → ℕ → ℕ → Plan (Unit {0})
-lower_rows band n top count = each_down (λ row. copy_row band row (row + n)) count top
+-- count rows from row `top` on take what stands n rows below them, the highest first, or go n rows
+-- down, the lowest first
+unfoldable pub move_rows : Band → Direction → ℕ → ℕ → ℕ → Plan (Unit {0})
+move_rows band Up n top count = each (λ row. copy_row band (row + n) row) count top
+move_rows band Down n top count = each_down (λ row. copy_row band row (row + n)) count top
 
 -- two bytes in turn: a blank and its attribute, or one byte everywhere
 abbrev pub blank : ℕ → Filling
@@ -98,19 +97,16 @@ fill_plan Planar band colour top count = do
   sequencer map_mask all_planes
 fill_plan Packed band colour top count = fill_rows band (plain colour) top count
 
--- height rows from row `top` on go up by n, and the last n are filled; planes are copied through
--- the latches
-unfoldable pub up_plan : Band → ℕ → ℕ → ℕ → ℕ → Plan (Unit {0})
-up_plan band top height n colour = do
-  access_plan band.kind copy_latches
-  raise_rows band n top (height - n)
-  access_plan band.kind plain_access
-  fill_plan band.kind band colour (top + (height - n)) n
+-- the first of the rows that are new once count rows from row `top` on have moved
+abbrev pub new_row : Direction → ℕ → ℕ → ℕ
+new_row Up top count = top + count
+new_row Down top count = top
 
--- height rows from row `top` on go down by n, and the first n are filled
-unfoldable pub down_plan : Band → ℕ → ℕ → ℕ → ℕ → Plan (Unit {0})
-down_plan band top height n colour = do
+-- height rows from row `top` on go up or down by n, and n new ones are filled; planes are copied
+-- through the latches
+unfoldable pub scroll_rows : Band → Direction → ℕ → ℕ → ℕ → ℕ → Plan (Unit {0})
+scroll_rows band direction top height n colour = do
   access_plan band.kind copy_latches
-  lower_rows band n top (height - n)
+  move_rows band direction n top (height - n)
   access_plan band.kind plain_access
-  fill_plan band.kind band colour top n
+  fill_plan band.kind band colour (new_row direction top (height - n)) n

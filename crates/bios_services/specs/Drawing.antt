@@ -19,7 +19,7 @@ use Rattle.bios_services.specs.VideoRegisters.{map_mask, all_planes, data_rotate
 
 -- cell q of a page of dots as a band of one column, and the row that it stands in
 abbrev pub cell_band : BiosData → ℕ → ℕ → Band
-cell_band d page q = band_of d page (q % d.columns) (q % d.columns)
+cell_band d page q = band_of d page (q % d.columns) 1
 
 abbrev pub cell_row : BiosData → ℕ → ℕ
 cell_row d q = q / d.columns

@@ -1,33 +1,59 @@
--- Scrolling a window of the active page up or down.
+-- Scrolling a window of a page up or down.
 -- From the IBM PS/2 and PC BIOS Interface Technical Reference, "Interrupt 10H - Video", (AH) = 06H
 -- and 07H.
-use Rattle.std.specs.Prelude.{ℕ, Bool, ◌+◌, ◌-◌, ◌==◌, ◌&&◌, ◌||◌, nat_lt, nat_le, if◌then◌else◌}
-use Rattle.std.specs.Prelude.{min}
+use Rattle.std.specs.Prelude.{ℕ, ◌+◌, ◌-◌, ◌==◌, ◌≤◌, ◌&&◌, ◌||◌, nat_lt, if◌then◌else◌, min}
+use Rattle.std.specs.Prelude.{Option, Some, None}
 use Rattle.bios_modes.specs.Bda.{BiosData}
+use Rattle.bios_services.specs.declared.band.Direction.{Direction}
+use Rattle.bios_services.specs.declared.band.Direction.TheVariants.{Up}
 use Rattle.bios_services.specs.declared.scroll.Scroll.{Scroll}
+use Rattle.bios_services.specs.declared.scroll.Window.{Window}
 use Rattle.bios_services.specs.Plan.{Plan, Done}
-use Rattle.bios_services.specs.Bands.{band_of, up_plan, down_plan}
+use Rattle.bios_services.specs.Bands.{band_of, scroll_rows}
 
--- whether a window has a row and a column on the page
-abbrev pub has_cells : BiosData → Scroll → Bool
-has_cells d s = nat_le s.top (min s.bottom d.last_row)
-    && nat_le s.left (min s.right (d.columns - 1))
+-- the rows and columns of a scroll's window that are among so many; none where it has no cell there
+abbrev pub window_among : ℕ → ℕ → Scroll → Option Window
+window_among rows columns s =
+    let bottom = min (s.bottom + 1) rows in
+    let right = min (s.right + 1) columns in
+    if nat_lt s.top bottom && nat_lt s.left right
+    then Some (record {
+      top = s.top;
+      height = bottom - s.top;
+      left = s.left;
+      width = right - s.left;
+    })
+    else None
 
--- how many rows a window has on the page: those from its top to its bottom or the last row
-abbrev pub height_of : BiosData → Scroll → ℕ
-height_of d s = min s.bottom d.last_row + 1 - s.top
+-- all the rows and columns of a page
+abbrev pub whole_page : ℕ → ℕ → Window
+whole_page rows columns = record { top = 0; height = rows; left = 0; width = columns }
 
--- by how many rows a window goes: all of them for 0 or for more than it has
-abbrev pub lines_of : BiosData → Scroll → ℕ
-lines_of d s = if (s.lines == 0) || nat_lt (height_of d s) s.lines then height_of d s else s.lines
+-- a window that lies on the page
+pub record IsOnPage (d : BiosData) (window : Window) : Type 0 where
+  pub rows : window.top + window.height ≤ d.last_row + 1
+  pub columns : window.left + window.width ≤ d.columns
 
--- the window on the page is scrolled up, or down; one without a row or a column is left
-unfoldable pub scroll_up_plan : BiosData → Scroll → Plan (Unit {0})
-scroll_up_plan d s =
-    if has_cells d s then up_plan (band_of d d.page s.left s.right) s.top (height_of d s)
-    (lines_of d s) s.fill else Done tt
+-- by how many rows a window goes: by all of them for 0 or for more than it has
+abbrev pub lines_of : Window → ℕ → ℕ
+lines_of window asked = if (asked == 0) || nat_lt window.height asked then window.height else asked
 
-unfoldable pub scroll_down_plan : BiosData → Scroll → Plan (Unit {0})
-scroll_down_plan d s =
-    if has_cells d s then down_plan (band_of d d.page s.left s.right) s.top (height_of d s)
-    (lines_of d s) s.fill else Done tt
+-- a window of a page goes up or down by n rows, and others are filled
+abbrev pub window_plan : BiosData → ℕ → Window → Direction → ℕ → ℕ → Plan (Unit {0})
+window_plan d page window direction n colour =
+    scroll_rows (band_of d page window.left window.width) direction window.top window.height n
+    colour
+
+-- a page goes up by a row
+abbrev pub page_up_plan : BiosData → ℕ → ℕ → Plan (Unit {0})
+page_up_plan d page colour = window_plan d page (whole_page (d.last_row + 1) d.columns) Up 1 colour
+
+-- the window on the active page goes up or down; where there is none, nothing is done
+abbrev pub scroll_within : BiosData → Scroll → Direction → Option Window → Plan (Unit {0})
+scroll_within d s direction None = Done tt
+scroll_within d s direction (Some window) =
+    window_plan d d.page window direction (lines_of window s.lines) s.fill
+
+unfoldable pub scroll_plan : BiosData → Scroll → Direction → Plan (Unit {0})
+scroll_plan d s direction =
+    scroll_within d s direction (window_among (d.last_row + 1) d.columns s)

@@ -39,7 +39,8 @@ use Rattle.bios_services.specs.Cells.{cell_address, read_cell_plan}
 use Rattle.bios_services.specs.Drawing.{cell_band, cell_row}
 use Rattle.bios_services.specs.CellRuns.{cell_run_plan}
 use Rattle.bios_services.specs.CharacterReading.{read_character_plan}
-use Rattle.bios_services.specs.Scroll.{scroll_up_plan, scroll_down_plan}
+use Rattle.bios_services.specs.declared.band.Direction.TheVariants.{Up, Down}
+use Rattle.bios_services.specs.Scroll.{scroll_plan}
 use Rattle.bios_services.specs.Teletype.{teletype_plan}
 use Rattle.bios_services.specs.Pixels.{write_pixel_plan, read_pixel_plan}
 use Rattle.bios_services.specs.Colours.{colours_plan}
@@ -99,8 +100,8 @@ plan_of (SetCursor page place) fonts d r block = move_cursor_plan d (page_named 
     >>= λ after. Done (r, after)
 plan_of (ReadCursor page) fonts d r block = Done (read_cursor_of d (page_named d page) r, d)
 plan_of (SelectPage page) fonts d r block = page_plan d page >>= λ after. Done (r, after)
-plan_of (ScrollUp scroll) fonts d r block = scroll_up_plan d scroll >> Done (r, d)
-plan_of (ScrollDown scroll) fonts d r block = scroll_down_plan d scroll >> Done (r, d)
+plan_of (ScrollUp scroll) fonts d r block = scroll_plan d scroll Up >> Done (r, d)
+plan_of (ScrollDown scroll) fonts d r block = scroll_plan d scroll Down >> Done (r, d)
 plan_of (ReadCell page) fonts d r block = read_cell_service fonts (page_named d page) d r
     >>= λ after. Done (after, d)
 plan_of (WriteCells cells) fonts d r block = cell_run_plan fonts d (page_named d cells.page) cells

@@ -8,7 +8,7 @@ use Rattle.bios_services.specs.Plan.{Plan, Done, ◌>>=◌, ◌>>◌, get}
 use Rattle.bios_modes.specs.Kinds.{is_text}
 use Rattle.bios_services.specs.Cursor.{row_of, column_of, cell_number, place_of, move_cursor_plan}
 use Rattle.bios_services.specs.Cells.{cell_address}
-use Rattle.bios_services.specs.Bands.{band_of, up_plan}
+use Rattle.bios_services.specs.Scroll.{page_up_plan}
 use Rattle.bios_services.specs.Drawing.{character_plan}
 
 -- the first column of a place's row
@@ -28,7 +28,7 @@ line_feed_plan d page place =
     if nat_lt (row_of place) d.last_row then Done (place + 256)
     else (do
       colour ← line_feed_fill d page place
-      up_plan (band_of d page 0 (d.columns - 1)) 0 (d.last_row + 1) 1 colour
+      page_up_plan d page colour
       Done place)
 
 -- the place behind: the next column, or the first one of the row below

@@ -4,11 +4,10 @@ ghost use Rattle.bios_services.specs.Plan.{run};
 ghost use Rattle.bios_services.specs.Bounds.{IsSet, pages_of, reached_cells, reached_rows};
 ghost use Rattle.bios_services.specs.Bands.{IsBand, address_in, band_of};
 ghost use Rattle.bios_services.specs.Bands.{copy_line as copy_line_plan, copy_row as copy_row_plan};
-ghost use Rattle.bios_services.specs.Bands.{raise_rows as raise_rows_plan};
-ghost use Rattle.bios_services.specs.Bands.{lower_rows as lower_rows_plan};
+ghost use Rattle.bios_services.specs.Bands.{move_rows as move_rows_plan};
 ghost use Rattle.bios_services.specs.Bands.{fill_line as fill_line_plan, fill_row as fill_row_plan};
 ghost use Rattle.bios_services.specs.Bands.{fill_rows as fill_rows_plan, access_plan, fill_plan};
-ghost use Rattle.bios_services.specs.Bands.{up_plan, down_plan};
+ghost use Rattle.bios_services.specs.Bands.{new_row as new_row_of, scroll_rows as scroll_rows_plan};
 
 use crate::cells::page_address;
 use crate::cycles::{graphics, move_byte, put, sequencer};
@@ -35,6 +34,27 @@ pub struct Band {
     pub width: u32,
 }
 
+/// Which way rows go.
+#[derive(Clone, Copy)]
+pub enum Direction {
+    Up,
+    Down,
+}
+
+impl Direction {
+    /// The first of the rows that are new once some from `top` on have moved.
+    fn new_row(self, top: u32, count: u32) -> u32
+        requires { top + count ≤ reached_rows }
+        ensures value { result ≡ new_row_of self top count }
+        ensures inside { result ≤ top + count }
+    {
+        match self {
+            Direction::Up => top + count,
+            Direction::Down => top,
+        }
+    }
+}
+
 /// Sets the graphics controller's read and write mode, in 16 colours alone.
 pub(crate) fn set_access<B: Bus>(bus: &mut B, kind: Kind, mode: u8)
     ensures { bus.new ≡ (run B.meaning (access_plan kind mode) bus.old).0 }
@@ -43,25 +63,23 @@ pub(crate) fn set_access<B: Bus>(bus: &mut B, kind: Kind, mode: u8)
 }
 
 impl Band {
-    /// The columns from one to another of a page, as many as there are.
-    pub(crate) fn of_page(bda: &Bda, page: u8, left: u8, right: u8) -> Band
+    /// Some columns of a page, from one on.
+    pub(crate) fn of_page(bda: &Bda, page: u8, left: u32, width: u32) -> Band
         requires data { IsSet bda.now }
         requires page { page < pages_of bda.now }
-        ensures value { result ≡ band_of bda.now page left right }
+        requires columns { left + width ≤ 80 }
+        ensures value { result ≡ band_of bda.now page left width }
         ensures band { IsBand result }
     {
         let kind = kind_of(bda.mode());
         let bytes = column_bytes(kind);
-        let columns = bda.columns() as u32;
-        let end = (right as u32).min(columns - 1) + 1;
-        let count = end.saturating_sub(left as u32);
         Band {
             kind,
             start: page_address(bda, page),
-            pitch: bytes * columns,
+            pitch: bytes * bda.columns() as u32,
             lines: row_lines(kind, bda.height()),
-            left: bytes * left as u32,
-            width: bytes * count,
+            left: bytes * left,
+            width: bytes * width,
         }
     }
 
@@ -106,27 +124,25 @@ impl Band {
         }
     }
 
-    /// Copies to some rows from `top` on what stands n rows below, the highest first.
-    #[tactic(auto, using(crate::proofs::PlanRuns::run_bind), unfolding(crate::specs::Bands::raise_rows))]
-    fn raise_rows<B: Bus>(self, bus: &mut B, n: u32, top: u32, count: u32)
+    /// Copies to some rows from `top` on what stands n rows below, the highest first; or copies
+    /// them to n rows below, the lowest first.
+    #[tactic(auto, using(crate::proofs::PlanRuns::run_bind), unfolding(crate::specs::Bands::move_rows))]
+    fn move_rows<B: Bus>(self, bus: &mut B, direction: Direction, n: u32, top: u32, count: u32)
         requires band { IsBand self }
         requires rows { top + count + n ≤ reached_rows }
-        ensures { bus.new ≡ (run B.meaning (raise_rows_plan self n top count) bus.old).0 }
+        ensures { bus.new ≡ (run B.meaning (move_rows_plan self direction n top count) bus.old).0 }
     {
-        for row in top..top + count {
-            self.copy_row(bus, row + n, row);
-        }
-    }
-
-    /// Copies some rows from `top` on to n rows below, the lowest first.
-    #[tactic(auto, using(crate::proofs::PlanRuns::run_bind), unfolding(crate::specs::Bands::lower_rows))]
-    fn lower_rows<B: Bus>(self, bus: &mut B, n: u32, top: u32, count: u32)
-        requires band { IsBand self }
-        requires rows { top + count + n ≤ reached_rows }
-        ensures { bus.new ≡ (run B.meaning (lower_rows_plan self n top count) bus.old).0 }
-    {
-        for row in (top..top + count).rev() {
-            self.copy_row(bus, row, row + n);
+        match direction {
+            Direction::Up => {
+                for row in top..top + count {
+                    self.copy_row(bus, row + n, row);
+                }
+            }
+            Direction::Down => {
+                for row in (top..top + count).rev() {
+                    self.copy_row(bus, row, row + n);
+                }
+            }
         }
     }
 
@@ -187,33 +203,27 @@ impl Band {
         )
     }
 
-    /// Scrolls rows up by n: so many of the last are filled then.
-    #[tactic(auto, using(crate::proofs::PlanRuns::run_bind), unfolding(crate::specs::Bands::up_plan))]
-    pub(crate) fn up<B: Bus>(self, bus: &mut B, top: u32, height: u32, n: u32, colour: u8)
+    /// Scrolls rows by n: so many of them are filled then, the last ones under those that went up,
+    /// the first ones above those that went down.
+    #[tactic(auto, using(crate::proofs::PlanRuns::run_bind), unfolding(crate::specs::Bands::scroll_rows))]
+    pub(crate) fn scroll_rows<B: Bus>(
+        self,
+        bus: &mut B,
+        direction: Direction,
+        top: u32,
+        height: u32,
+        n: u32,
+        colour: u8,
+    )
         requires band { IsBand self }
         requires rows { top + height ≤ reached_rows }
         requires few { n ≤ height }
-        ensures { bus.new ≡ (run B.meaning (up_plan self top height n colour) bus.old).0 }
+        ensures { bus.new ≡ (run B.meaning (scroll_rows_plan self direction top height n colour)
+            bus.old).0 }
     {
-        let kept = height - n;
         set_access(bus, self.kind, COPY_LATCHES);
-        self.raise_rows(bus, n, top, kept);
+        self.move_rows(bus, direction, n, top, height - n);
         set_access(bus, self.kind, PLAIN);
-        self.fill(bus, colour, top + kept, n);
-    }
-
-    /// Scrolls rows down by n: so many of the first are filled then.
-    #[tactic(auto, using(crate::proofs::PlanRuns::run_bind), unfolding(crate::specs::Bands::down_plan))]
-    pub(crate) fn down<B: Bus>(self, bus: &mut B, top: u32, height: u32, n: u32, colour: u8)
-        requires band { IsBand self }
-        requires rows { top + height ≤ reached_rows }
-        requires few { n ≤ height }
-        ensures { bus.new ≡ (run B.meaning (down_plan self top height n colour) bus.old).0 }
-    {
-        let kept = height - n;
-        set_access(bus, self.kind, COPY_LATCHES);
-        self.lower_rows(bus, n, top, kept);
-        set_access(bus, self.kind, PLAIN);
-        self.fill(bus, colour, top, n);
+        self.fill(bus, colour, direction.new_row(top, height - n), n);
     }
 }

@@ -30,8 +30,7 @@ pub(crate) fn cell_band(bda: &Bda, page: u8, q: u32) -> Band
     ensures value { result ≡ cell_band_of bda.now page q }
     ensures band { IsBand result }
 {
-    let column = (q % bda.columns() as u32) as u8;
-    Band::of_page(bda, page, column, column)
+    Band::of_page(bda, page, q % bda.columns() as u32, 1)
 }
 
 /// Writes a glyph to a cell of planes, line by line.

@@ -17,6 +17,7 @@ ghost use Rattle.bios_services.specs.Service.{read_adapter_of, read_display_of, 
 ghost use Rattle.bios_services.specs.Service.{read_pixel_service, plan_of, table_in_mode_plan};
 ghost use Rattle.bios_services.specs.Service.{service, takes_memory, Serves};
 
+use crate::band::Direction;
 use crate::call::{Call, Service, decode};
 use crate::cells::{cell_address, read_cell};
 use crate::character_reading::read_character;
@@ -128,8 +129,8 @@ fn perform<B: Bus>(
         }
         Service::ReadCursor { page } => read_cursor(bda, page_named(bda, page), regs),
         Service::SelectPage { page } => show_page(bus, bda, page),
-        Service::ScrollUp { scroll } => scroll.up(bus, bda),
-        Service::ScrollDown { scroll } => scroll.down(bus, bda),
+        Service::ScrollUp { scroll } => scroll.apply(bus, bda, Direction::Up),
+        Service::ScrollDown { scroll } => scroll.apply(bus, bda, Direction::Down),
         Service::ReadCell { page } => {
             read_cursor_cell(bus, fonts, bda, page_named(bda, page), regs)
         }

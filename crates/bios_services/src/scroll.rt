@@ -1,11 +1,11 @@
 //! Functions 06 and 07: scrolling a window of the active page.
-ghost use Rattle.std.specs.Prelude.{◌≡◌, ◌≤◌};
+ghost use Rattle.std.specs.Prelude.{◌≡◌, ◌<◌, ◌≤◌, ◌+◌, IfSome};
 ghost use Rattle.bios_services.specs.Plan.{run};
-ghost use Rattle.bios_services.specs.Bounds.{IsSet};
-ghost use Rattle.bios_services.specs.Scroll.{has_cells as has_cells_of, height_of, lines_of};
-ghost use Rattle.bios_services.specs.Scroll.{scroll_up_plan, scroll_down_plan};
+ghost use Rattle.bios_services.specs.Bounds.{IsSet, pages_of};
+ghost use Rattle.bios_services.specs.Scroll.{IsOnPage, window_among, whole_page, lines_of};
+ghost use Rattle.bios_services.specs.Scroll.{window_plan, scroll_plan};
 
-use crate::band::Band;
+use crate::band::{Band, Direction};
 use bios_modes::Bda;
 use vga_card::Bus;
 
@@ -21,64 +21,96 @@ pub struct Scroll {
     pub right: u8,
 }
 
-impl Scroll {
-    /// Whether the window has a row and a column on the page.
-    fn has_cells(self, bda: &Bda) -> bool
-        requires { IsSet bda.now }
-        ensures { result ≡ has_cells_of bda.now self }
+/// Some rows and columns of characters of a page.
+#[derive(Clone, Copy)]
+pub struct Window {
+    pub top: u32,
+    pub height: u32,
+    pub left: u32,
+    pub width: u32,
+}
+
+impl Window {
+    /// All the rows and columns of a page.
+    pub(crate) fn whole(bda: &Bda) -> Window
+        requires data { IsSet bda.now }
+        ensures value { result ≡ whole_page (bda.now.last_row + 1) bda.now.columns }
+        ensures on_page { IsOnPage bda.now result }
     {
-        let bottom = self.bottom.min(bda.last_row());
-        let right = (self.right as u16).min(bda.columns() - 1);
-        self.top <= bottom && self.left as u16 <= right
+        Window {
+            top: 0,
+            height: bda.last_row() as u32 + 1,
+            left: 0,
+            width: bda.columns() as u32,
+        }
     }
 
-    /// How many rows the window has on the page.
-    fn height(self, bda: &Bda) -> u32
-        requires { IsSet bda.now }
-        ensures { result ≡ height_of bda.now self }
+    /// By how many rows the window goes if it is asked for so many.
+    fn lines(self, asked: u8) -> u32
+        ensures value { result ≡ lines_of self asked }
+        ensures few { result ≤ self.height }
     {
-        let end = (self.bottom as u32).min(bda.last_row() as u32) + 1;
-        end.saturating_sub(self.top as u32)
-    }
-
-    /// By how many rows the window goes.
-    fn lines(self, bda: &Bda) -> u32
-        requires { IsSet bda.now }
-        ensures value { result ≡ lines_of bda.now self }
-        ensures few { result ≤ height_of bda.now self }
-    {
-        let height = self.height(bda);
-        let lines = self.lines as u32;
-        if lines == 0 || lines > height {
-            height
+        let lines = asked as u32;
+        if lines == 0 || lines > self.height {
+            self.height
         } else {
             lines
         }
     }
 
-    /// Scrolls the window up, on the active page.
-    #[tactic(auto, unfolding(crate::specs::Scroll::scroll_up_plan))]
-    pub(crate) fn up<B: Bus>(self, bus: &mut B, bda: &Bda)
-        requires { IsSet bda.now }
-        ensures { bus.new ≡ (run B.meaning (scroll_up_plan bda.now self) bus.old).0 }
+    /// Scrolls the window of a page up or down by n rows.
+    pub(crate) fn scroll<B: Bus>(
+        self,
+        bus: &mut B,
+        bda: &Bda,
+        page: u8,
+        direction: Direction,
+        n: u32,
+        colour: u8,
+    )
+        requires data { IsSet bda.now }
+        requires page { page < pages_of bda.now }
+        requires window { IsOnPage bda.now self }
+        requires few { n ≤ self.height }
+        ensures { bus.new ≡ (run B.meaning (window_plan bda.now page self direction n colour)
+            bus.old).0 }
     {
-        if self.has_cells(bda) {
-            let band = Band::of_page(bda, bda.page(), self.left, self.right);
-            let height = self.height(bda);
-            band.up(bus, self.top as u32, height, self.lines(bda), self.fill);
+        let band = Band::of_page(bda, page, self.left, self.width);
+        band.scroll_rows(bus, direction, self.top, self.height, n, colour);
+    }
+}
+
+impl Scroll {
+    /// The rows and columns of the window that are on the page, none where it has no cell there.
+    fn window(self, bda: &Bda) -> Option<Window>
+        requires { IsSet bda.now }
+        ensures value { result ≡ window_among (bda.now.last_row + 1) bda.now.columns self }
+        ensures on_page { IfSome result (IsOnPage bda.now) }
+    {
+        let (top, left) = (self.top as u32, self.left as u32);
+        let bottom = (self.bottom as u32 + 1).min(bda.last_row() as u32 + 1);
+        let right = (self.right as u32 + 1).min(bda.columns() as u32);
+        if top < bottom && left < right {
+            Some(Window {
+                top,
+                height: bottom - top,
+                left,
+                width: right - left,
+            })
+        } else {
+            None
         }
     }
 
-    /// Scrolls the window down, on the active page.
-    #[tactic(auto, unfolding(crate::specs::Scroll::scroll_down_plan))]
-    pub(crate) fn down<B: Bus>(self, bus: &mut B, bda: &Bda)
+    /// Scrolls the window up or down, on the active page.
+    #[tactic(auto, unfolding(crate::specs::Scroll::scroll_plan))]
+    pub(crate) fn apply<B: Bus>(self, bus: &mut B, bda: &Bda, direction: Direction)
         requires { IsSet bda.now }
-        ensures { bus.new ≡ (run B.meaning (scroll_down_plan bda.now self) bus.old).0 }
+        ensures { bus.new ≡ (run B.meaning (scroll_plan bda.now self direction) bus.old).0 }
     {
-        if self.has_cells(bda) {
-            let band = Band::of_page(bda, bda.page(), self.left, self.right);
-            let height = self.height(bda);
-            band.down(bus, self.top as u32, height, self.lines(bda), self.fill);
+        if let Some(window) = self.window(bda) {
+            let n = window.lines(self.lines);
+            window.scroll(bus, bda, bda.page(), direction, n, self.fill);
         }
     }
 }

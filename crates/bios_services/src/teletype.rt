@@ -7,12 +7,13 @@ ghost use Rattle.bios_services.specs.Teletype.{line_feed_fill as line_feed_fill_
 ghost use Rattle.bios_services.specs.Teletype.{line_feed_plan, cursor_advance_plan, show_plan};
 ghost use Rattle.bios_services.specs.Teletype.{type_plan, teletype_plan};
 
-use crate::band::Band;
+use crate::band::Direction;
 use crate::cells::cell_address;
 use crate::colouring::Colouring;
 use crate::cursor::{cell_number, move_cursor};
 use crate::cycles::get;
 use crate::drawing::write_character;
+use crate::scroll::Window;
 use bios_modes::{Bda, Fonts, is_text};
 use vga_card::Bus;
 
@@ -48,13 +49,11 @@ fn line_feed<B: Bus>(bus: &mut B, bda: &Bda, page: u8, place: u16) -> u16
     ensures place { (bus.new, result) ≡ run B.meaning (line_feed_plan bda.now page place) bus.old }
     ensures row { row_of result ≤ bda.now.last_row }
 {
-    let last = bda.last_row() as u16;
-    if place / 256 < last {
+    if place / 256 < bda.last_row() as u16 {
         return place + 256;
     }
     let colour = line_feed_fill(bus, bda, page, place);
-    let whole = Band::of_page(bda, page, 0, (bda.columns() - 1) as u8);
-    whole.up(bus, 0, last as u32 + 1, 1, colour);
+    Window::whole(bda).scroll(bus, bda, page, Direction::Up, 1, colour);
     place
 }
 

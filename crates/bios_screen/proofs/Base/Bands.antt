@@ -1,23 +1,45 @@
 -- Rows of a band that are copied, and rows that are filled, on any machine whose memory is flat.
-use Rattle.std.proofs.Common.{◌≡◌, ◌≢◌, ℕ, ◌+◌, ◌*◌, ◌%◌, ◌<◌, ◌≤◌, arith, Bool, true, false}
+use Rattle.std.proofs.Common.{◌≡◌, ◌≢◌, ℕ, ◌+◌, ◌-◌, ◌*◌, ◌%◌, ◌<◌, ◌≤◌, sym, ap, ◌∙◌, arith, Bool, true, false}
 use Rattle.std.specs.Prelude.{◌==◌, if◌then◌else◌}
 use Rattle.vga_card.specs.Bus.{Meaning}
+use Rattle.bios_modes.specs.Bda.{BiosData}
+use Rattle.bios_modes.specs.declared.kind.Kind.{Kind}
 use Rattle.bios_services.specs.declared.band.Band.{Band}
+use Rattle.bios_services.specs.declared.band.Direction.{Direction}
+use Rattle.bios_services.specs.declared.band.Direction.TheVariants.{Up, Down}
 use Rattle.bios_services.specs.declared.filling.Filling.{Filling}
+use Rattle.bios_services.specs.declared.scroll.Window.{Window}
+use Rattle.bios_services.specs.Kinds.{column_bytes, row_lines}
+use Rattle.bios_services.specs.Cells.{page_address}
 use Rattle.bios_services.specs.Plan.{run, put, move}
-use Rattle.bios_services.specs.Bands.{address_in, filling_byte, copy_line, copy_row, raise_rows, lower_rows, fill_line, fill_row, fill_rows}
+use Rattle.bios_services.specs.Bands.{address_in, filling_byte, copy_line, copy_row, move_rows, fill_line, fill_row, fill_rows}
+use Rattle.bios_screen.specs.Step.{source}
 use Rattle.bios_screen.proofs.Base.Flat.{Edited, Moved, Turn, Leaves, set_cell}
 use Rattle.bios_screen.proofs.Base.Edits.{changed_edit, edits}
 use Rattle.bios_screen.proofs.Base.Moves.{one_move, moves_up, moves_down}
 use Rattle.bios_screen.proofs.Base.Places.{ends_before, same_place}
+use Rattle.bios_screen.proofs.Base.Windows.{first_moved}
+
+-- the band of some columns of a page, by how the mode uses the memory
+abbrev pub band_by : Kind → BiosData → ℕ → ℕ → ℕ → Band
+band_by kind d page left width = record {
+  kind = kind;
+  start = page_address d page;
+  pitch = column_bytes kind * d.columns;
+  lines = row_lines kind d.height;
+  left = column_bytes kind * left;
+  width = column_bytes kind * width;
+}
 
 -- a window of a page in a memory of so many cells from an address on: the page has `rows` rows of characters from cell `start`
--- on, and of these the window has `height` from `top` on, with the band's cells of each line
-pub record IsWindow (base size : ℕ) (band : Band) (start rows top height : ℕ) : Type 0 where
+-- on, and the window has the band's cells of each line
+pub record IsWindow (base size : ℕ) (band : Band) (start rows : ℕ) (window : Window) : Type 0 where
   pub address : band.start ≡ base + start
   pub memory : start + band.pitch * (band.lines * rows) ≤ size
-  pub inside : (row : ℕ) → top ≤ row → row < top + height → row < rows
-  pub across : (i : ℕ) → i < band.width → band.left + i < band.pitch
+  pub below : window.top + window.height ≤ rows
+  pub behind : band.left + band.width ≤ band.pitch
+  pub wide : 0 < band.pitch
+  pub high : 0 < band.lines
 
 filled_small : (filling : Filling) (i : ℕ) → filling.even < 256 → filling.odd < 256 → filling_byte filling i < 256
 filled_small filling i e o = by_test (i % 2 == 0)
@@ -26,7 +48,7 @@ filled_small filling i e o = by_test (i % 2 == 0)
     by_test true = e
     by_test false = o
 
-module _ (S X : Type 0) (m : Meaning S) (base size : ℕ) (band : Band) (start rows top height : ℕ) (w : IsWindow base size band start rows top height) where
+module _ (S X : Type 0) (m : Meaning S) (base size : ℕ) (band : Band) (start rows : ℕ) (window : Window) (w : IsWindow base size band start rows window) where
   -- a cell of a line, and one of a row
   abbrev pub Column : Type 0
   Column = Turn (λ _. Unit {0}) 0 band.width
@@ -44,7 +66,7 @@ module _ (S X : Type 0) (m : Meaning S) (base size : ℕ) (band : Band) (start r
   within row line i lr ll li =
       let a = ends_before band.lines row rows lr in
       let b = ends_before band.pitch (band.lines * row + line) (band.lines * rows) (omega arith) in
-      let c = w.across i li in
+      let c = w.behind in
       let e = w.memory in
       omega arith
 
@@ -52,8 +74,9 @@ module _ (S X : Type 0) (m : Meaning S) (base size : ℕ) (band : Band) (start r
   same_line : (r a i s b j : ℕ) → a < band.lines → b < band.lines → i < band.width → j < band.width → place r a i ≡ place s b j → (r ≡ s) × (a ≡ b)
   same_line r a i s b j la lb li lj h =
       let q : band.pitch * (band.lines * r + a) + (band.left + i) ≡ band.pitch * (band.lines * s + b) + (band.left + j) = omega arith in
-      same_place band.lines r a s b la lb (same_place band.pitch (band.lines * r + a) (band.left + i) (band.lines * s + b) (band.left + j) (w.across i li)
-      (w.across j lj) q).0
+      let z = w.behind in
+      same_place band.lines r a s b la lb (same_place band.pitch (band.lines * r + a) (band.left + i) (band.lines * s + b) (band.left + j) (omega arith)
+      (omega arith) q).0
 
   pub rows_apart : (r s : ℕ) (g h : Line) → r ≢ s → place r g.turn g.place.turn ≢ place s h.turn h.place.turn
   rows_apart r s g h o q = o (same_line r g.turn g.place.turn s h.turn h.place.turn g.before h.before g.place.before h.place.before q).0
@@ -95,33 +118,48 @@ module _ (S X : Type 0) (m : Meaning S) (base size : ℕ) (band : Band) (start r
         (λ x y g h lb lo hi. rows_apart from to (of_line y hi h) (of_line x (omega arith) g) o)
         band.lines 0 s f (omega arith) (omega arith) t
 
-    -- count rows take what stood n rows below them
-    pub rows_raised : (n count : ℕ) (s : S) (f : ℕ → X) → count + n ≤ height → (0 < count → 0 < n) → R s f →
-        Leaves S X R (run m (raise_rows band n top count) s).0 (Moved X (Turn (λ _. Line) top (top + count)) (λ h.
-        place (h.turn + n) h.place.turn h.place.place.turn) (λ h. place h.turn h.place.turn h.place.place.turn) f)
-    unfolding raise_rows
-    rows_raised n count s f fits some t =
+    -- the rows that take another's contents are those from `first_moved` on
+    abbrev Gone : Direction → ℕ → S → (ℕ → X) → Type 0
+    Gone direction n s f = Leaves S X R (run m (move_rows band direction n window.top (window.height - n)) s).0
+        (Moved X (Turn (λ _. Line) (first_moved direction window n) (first_moved direction window n + (window.height - n)))
+        (λ h. place (source direction h.turn n) h.place.turn h.place.place.turn) (λ h. place h.turn h.place.turn h.place.place.turn) f)
+
+    pub rows_moved : (direction : Direction) (n : ℕ) (s : S) (f : ℕ → X) → 0 < n → n ≤ window.height → R s f → Gone direction n s f
+    unfolding move_rows
+    rows_moved Up n s f some few t =
+        let z = w.below in
+        let top = window.top in
+        let count = window.height - n in
         moves_up S X m (λ row. copy_row band (row + n) row) R top (top + count) (λ _. Line) (λ row h. place (row + n) h.turn h.place.turn) (λ row h.
         place row h.turn h.place.turn)
         (λ x y g h lb lo hi. rows_apart x y g h (omega arith))
-        (λ row x g lb hi u. let z = some (omega arith) in row_copied (row + n) row x g (w.inside (row + n) (omega arith) (omega arith))
-        (w.inside row (omega arith) (omega arith)) (omega arith) u)
+        (λ row x g lb hi u. row_copied (row + n) row x g (omega arith) (omega arith) (omega arith) u)
         (λ x y g h lb lo hi. rows_apart (y + n) x h g (omega arith))
         count top s f (omega arith) (omega arith) t
-
-    -- and count rows go down by n
-    pub rows_lowered : (n count : ℕ) (s : S) (f : ℕ → X) → count + n ≤ height → (0 < count → 0 < n) → R s f →
-        Leaves S X R (run m (lower_rows band n top count) s).0 (Moved X (Turn (λ _. Line) top (top + count)) (λ h. place h.turn h.place.turn h.place.place.turn)
-        (λ h. place (h.turn + n) h.place.turn h.place.place.turn) f)
-    unfolding lower_rows
-    rows_lowered n count s f fits some t =
-        moves_down S X m (λ row. copy_row band row (row + n)) R top (top + count) (λ _. Line) (λ row h. place row h.turn h.place.turn) (λ row h.
+    rows_moved Down n s f some few t =
+        let z = w.below in
+        let top = window.top in
+        let count = window.height - n in
+        let down = moves_down S X m (λ row. copy_row band row (row + n)) R top (top + count) (λ _. Line) (λ row h. place row h.turn h.place.turn) (λ row h.
         place (row + n) h.turn h.place.turn)
         (λ x y g h lb lo hi. rows_apart (x + n) (y + n) g h (omega arith))
-        (λ row x g lb hi u. let z = some (omega arith) in row_copied row (row + n) x g (w.inside row (omega arith) (omega arith))
-        (w.inside (row + n) (omega arith) (omega arith)) (omega arith) u)
+        (λ row x g lb hi u. row_copied row (row + n) x g (omega arith) (omega arith) (omega arith) u)
         (λ x y g h lb lo hi. rows_apart x (y + n) g h (omega arith))
-        count top s f (omega arith) (omega arith) t
+        count top s f (omega arith) (omega arith) t in
+        record {
+          cells = down.cells;
+          shown = down.shown;
+          fact = record {
+            inside = λ h.
+                let l = h.from in
+                let e = h.before in
+                let back : h.turn - n + n ≡ h.turn = omega arith in
+                ap (λ r. down.cells (place r h.place.turn h.place.place.turn)) (sym back)
+                ∙ down.fact.inside (record { turn = h.turn - n; from = omega arith; before = omega arith; place = h.place });
+            outside = λ x o. down.fact.outside x (λ h.
+                let l = h.from in let e = h.before in o (record { turn = h.turn + n; from = omega arith; before = omega arith; place = h.place }));
+          };
+        }
 
   -- ---- rows are filled, where a byte makes of a cell another
 
@@ -153,13 +191,14 @@ module _ (S X : Type 0) (m : Meaning S) (base size : ℕ) (band : Band) (start r
         (λ line x g lb hi u. line_filled row line x g lr hi u)
         band.lines 0 s f (omega arith) (omega arith) t
 
-    pub rows_filled : (first count : ℕ) (s : S) (f : ℕ → X) → top ≤ first → first + count ≤ top + height → R s f →
+    pub rows_filled : (first count : ℕ) (s : S) (f : ℕ → X) → first + count ≤ window.top + window.height → R s f →
         Leaves S X R (run m (fill_rows band filling first count) s).0 (Edited X (Turn (λ _. Line) first (first + count)) (λ h.
         place h.turn h.place.turn h.place.place.turn) (λ h x. made (filling_byte filling h.place.place.turn) x) f)
     unfolding fill_rows
-    rows_filled first count s f low fits t =
+    rows_filled first count s f fits t =
+        let z = w.below in
         edits S X m (fill_row band filling) (λ _. R) first (first + count) (λ _. Line) (λ row h. place row h.turn h.place.turn) (λ row h x.
         made (filling_byte filling h.place.turn) x)
         (λ x y g h lb lo hi. rows_apart x y g h (omega arith))
-        (λ row x g lb hi u. row_filled row x g (w.inside row (omega arith) (omega arith)) u)
+        (λ row x g lb hi u. row_filled row x g (omega arith) u)
         count first s f (omega arith) (omega arith) t

@@ -1,14 +1,34 @@
 -- A window of a flat memory whose rows were moved and then filled, by the number of a cell, whatever the sizes are.
-use Rattle.std.proofs.Common.{◌≡◌, ℕ, ◌+◌, ◌-◌, ◌*◌, ◌/◌, ◌%◌, ◌<◌, ◌≤◌, sym, ap, ◌∙◌, arith}
+use Rattle.std.proofs.Common.{◌≡◌, ℕ, ◌+◌, ◌-◌, ◌*◌, ◌/◌, ◌%◌, ◌<◌, ◌≤◌, refl, sym, ap, ◌∙◌, subst, arith, true, false}
 use Rattle.std.proofs.Math.Nat.{mod-lt}
-use Rattle.bios_screen.proofs.Base.Flat.{Edited, Moved, Turn}
+use Rattle.vga_card.specs.Bus.{Meaning}
+use Rattle.bios_services.specs.declared.band.Band.{Band}
+use Rattle.bios_services.specs.declared.band.Direction.{Direction}
+use Rattle.bios_services.specs.declared.band.Direction.TheVariants.{Up, Down}
+use Rattle.bios_services.specs.declared.filling.Filling.{Filling}
+use Rattle.bios_services.specs.declared.scroll.Window.{Window}
+use Rattle.bios_services.specs.Bands.{filling_byte, move_rows, fill_rows}
+use Rattle.bios_services.specs.Plan.{run, put, move, ◌>>◌}
+use Rattle.bios_screen.specs.Step.{has_source, source}
+use Rattle.bios_screen.proofs.Base.Flat.{Edited, Moved, Turn, Leaves, set_cell}
+use Rattle.bios_screen.proofs.Base.Plans.{run_bind}
 use Rattle.bios_screen.proofs.Base.Places.{rows_further, row_and_column}
-use Rattle.bios_screen.proofs.Base.CellPlaces.{over, rest}
+use Rattle.bios_screen.proofs.Base.CellPlaces.{over, rest, moved_within}
+use Rattle.bios_screen.proofs.Base.Tests.{lt_is, le_is}
+use Rattle.bios_screen.proofs.Base.Windows.{first_moved, first_new, parts}
+use Rattle.bios_screen.proofs.Base.Bands.{IsWindow}
+use Rattle.bios_screen.proofs.Base.Bands as bands
 
--- W cells make a line, H lines a row, and the window has some rows from `top` on and some cells of each line from `left` on
-module _ (X : Type 0) (W H start left width top height : ℕ) (wide : 0 < W) (high : 0 < H) (across : (i : ℕ) → i < width → left + i < W) where
+-- W cells make a line, H lines a row, and the window has `width` cells of each line from `left` on
+module _ (X : Type 0) (base size : ℕ) (band : Band) (start rows : ℕ) (window : Window) (w : IsWindow base size band start rows window) where
+  abbrev W : ℕ
+  W = band.pitch
+
+  abbrev H : ℕ
+  H = band.lines
+
   abbrev pub place : ℕ → ℕ → ℕ → ℕ
-  place row line i = start + (W * (H * row + line) + (left + i))
+  place row line i = start + (W * (H * row + line) + (band.left + i))
 
   abbrev row : ℕ → ℕ
   row b = b / W / H
@@ -19,38 +39,64 @@ module _ (X : Type 0) (W H start left width top height : ℕ) (wide : 0 < W) (hi
   abbrev column : ℕ → ℕ
   column b = b % W
 
-  abbrev pub Line : Type 0
-  Line = Turn (λ _. Turn (λ _. Unit {0}) 0 width) 0 H
-
   abbrev pub Rows : ℕ → ℕ → Type 0
-  Rows first e = Turn (λ _. Line) first e
+  Rows first e = Turn (λ _. Turn (λ _. Turn (λ _. Unit {0}) 0 band.width) 0 H) first e
+
+  abbrev pub at : {first e : ℕ} → Rows first e → ℕ
+  at h = place h.turn h.place.turn h.place.place.turn
 
   -- cell b of the page is in the window
   pub record IsIn (b : ℕ) : Type 0 where
-    pub above : top ≤ b / W / H
-    pub below : b / W / H < top + height
-    pub before : left ≤ b % W
-    pub behind : b % W < left + width
+    pub above : window.top ≤ b / band.pitch / band.lines
+    pub below : b / band.pitch / band.lines < window.top + window.height
+    pub before : band.left ≤ b % band.pitch
+    pub behind : b % band.pitch < band.left + band.width
 
-  place_of : (b : ℕ) → left ≤ column b → place (row b) (line b) (column b - left) ≡ start + b
+  place_of : (b : ℕ) → band.left ≤ column b → place (row b) (line b) (column b - band.left) ≡ start + b
   place_of b l =
-      let a = row_and_column W b wide in
-      let e : H * row b + line b ≡ b / W = row_and_column H (b / W) high in
+      let a = row_and_column W b w.wide in
+      let e : H * row b + line b ≡ b / W = row_and_column H (b / W) w.high in
       let f : W * (H * row b + line b) ≡ W * (b / W) = ap (λ n. W * n) e in
       omega arith
 
-  number : ℕ → ℕ → ℕ → ℕ
-  number r l i = W * (H * r + l) + (left + i)
+  -- row and column of a cell of a turn
+  row_of : {first e : ℕ} (h : Rows first e) (b : ℕ) → start + b ≡ at h → row b ≡ h.turn
+  row_of h b q =
+      let l = h.place.place.before in
+      let z = w.behind in
+      let e : b ≡ W * (H * h.turn + h.place.turn) + (band.left + h.place.place.turn) = omega arith in
+      ap row e ∙ ap (λ n. n / H) (over W (H * h.turn + h.place.turn) (band.left + h.place.place.turn) (omega arith))
+      ∙ over H h.turn h.place.turn h.place.before
 
-  row_of : (r l i : ℕ) → l < H → i < width → row (W * (H * r + l) + (left + i)) ≡ r
-  row_of r l i ll li = ap (λ n. n / H) (over W (H * r + l) (left + i) (across i li)) ∙ over H r l ll
+  column_of : {first e : ℕ} (h : Rows first e) (b : ℕ) → start + b ≡ at h → column b ≡ band.left + h.place.place.turn
+  column_of h b q =
+      let l = h.place.place.before in
+      let z = w.behind in
+      let e : b ≡ W * (H * h.turn + h.place.turn) + (band.left + h.place.place.turn) = omega arith in
+      ap column e ∙ rest W (H * h.turn + h.place.turn) (band.left + h.place.place.turn) (omega arith)
 
-  column_of : (r l i : ℕ) → i < width → column (W * (H * r + l) + (left + i)) ≡ left + i
-  column_of r l i li = rest W (H * r + l) (left + i) (across i li)
+  in_turn : {first e : ℕ} (h : Rows first e) (b : ℕ) → window.top ≤ first → e ≤ window.top + window.height → start + b ≡ at h → IsIn b
+  in_turn h b low high q =
+      let r = row_of h b q in
+      let c = column_of h b q in
+      let u = h.from in
+      let v = h.before in
+      let l = h.place.place.before in
+      record { above = omega arith; below = omega arith; before = omega arith; behind = omega arith }
 
-  -- a cell of another row is another
-  row_is : (b r l i : ℕ) → l < H → i < width → start + b ≡ place r l i → row b ≡ r
-  row_is b r l i ll li q = let e : b ≡ W * (H * r + l) + (left + i) = omega arith in ap row e ∙ row_of r l i ll li
+  -- the turn of a cell
+  turn_of : (first e b : ℕ) → first ≤ row b → row b < e → IsIn b → Rows first e
+  turn_of first e b a k i = let l = i.before in let m = i.behind in record {
+    turn = row b;
+    from = a;
+    before = k;
+    place = record {
+      turn = line b;
+      from = omega arith;
+      before = mod-lt (b / W) w.high;
+      place = record { turn = column b - band.left; from = omega arith; before = omega arith; place = tt };
+    };
+  }
 
   shift : (r l i n : ℕ) → place (r + n) l i ≡ place r l i + W * (H * n)
   shift r l i n =
@@ -59,97 +105,93 @@ module _ (X : Type 0) (W H start left width top height : ℕ) (wide : 0 < W) (hi
       let c : W * (H * (r + n) + l) ≡ W * (H * r + l) + W * (H * n) = ap (λ v. W * v) b ∙ rows_further W (H * r + l) (H * n) in
       omega arith
 
-  place_in : (r l i : ℕ) → top ≤ r → r < top + height → l < H → i < width → IsIn (W * (H * r + l) + (left + i))
-  place_in r l i a b ll li = let e = row_of r l i ll li in let f = column_of r l i li in
-      record { above = omega arith; below = omega arith; before = omega arith; behind = omega arith }
+  -- the place of what a cell takes
+  source_of : (direction : Direction) (b n : ℕ) → band.left ≤ column b → has_source direction window n (row b) ≡ true →
+      place (source direction (row b) n) (line b) (column b - band.left) ≡ start + source direction b (W * (H * n))
+  source_of Up b n l t = let a = place_of b l in let s = shift (row b) (line b) (column b - band.left) n in omega arith
+  source_of Down b n l t =
+      let low = le_is (window.top + n) (row b) t in
+      let from = row b - n in
+      let back : from + n ≡ row b = omega arith in
+      let a = ap (λ r. place r (line b) (column b - band.left)) back ∙ place_of b l in
+      let s = shift from (line b) (column b - band.left) n in
+      omega arith
 
-  -- a cell that was filled over
-  pub record IsFilled (B : X → X) (x : X) : Type 0 where
+  -- it is on the page
+  pub source_within : (direction : Direction) (b n : ℕ) → has_source direction window n (b / band.pitch / band.lines) ≡ true →
+      b < band.pitch * (band.lines * rows) → source direction b (band.pitch * (band.lines * n)) < band.pitch * (band.lines * rows)
+  source_within Up b n t l =
+      let a = lt_is (row b + n) (window.top + window.height) t in
+      let z = w.below in
+      moved_within W H rows b n w.wide w.high (omega arith)
+  source_within Down b n t l = omega arith
+
+  -- a cell of the new rows was filled over, by its number in its line
+  pub record IsFilled (B : ℕ → X → X) (b : ℕ) (x : X) : Type 0 where
     pub under : X
-    pub is : x ≡ B under
+    pub is : x ≡ B (b % band.pitch - band.left) under
 
-  pub record GoneUp (n : ℕ) (B : X → X) (f g : ℕ → X) : Type 0 where
-    pub moved : (b : ℕ) → IsIn b → b / W / H + n < top + height → g (start + b) ≡ f (start + (b + W * (H * n)))
-    pub filled : (b : ℕ) → IsIn b → top + height ≤ b / W / H + n → IsFilled B (g (start + b))
-    pub outside : (o : ℕ) → ((b : ℕ) → o ≡ start + b → IsIn b → ⊥) → g o ≡ f o
+  -- the window has gone by n rows
+  pub record Gone (direction : Direction) (n : ℕ) (B : ℕ → X → X) (f g : ℕ → X) : Type 0 where
+    pub moved : (b : ℕ) → IsIn b → has_source direction window n (b / band.pitch / band.lines) ≡ true →
+        g (start + b) ≡ f (start + source direction b (band.pitch * (band.lines * n)))
+    pub filled : (b : ℕ) → IsIn b → has_source direction window n (b / band.pitch / band.lines) ≡ false → IsFilled B b (g (start + b))
+    pub outside : (o : ℕ) → ((b : ℕ) → start + b ≡ o → IsIn b → ⊥) → g o ≡ f o
 
-  pub record GoneDown (n : ℕ) (B : X → X) (f g : ℕ → X) : Type 0 where
-    pub moved : (b : ℕ) → IsIn b → top + n ≤ b / W / H → g (start + b) ≡ f (start + (b - W * (H * n)))
-    pub filled : (b : ℕ) → IsIn b → b / W / H < top + n → IsFilled B (g (start + b))
-    pub outside : (o : ℕ) → ((b : ℕ) → o ≡ start + b → IsIn b → ⊥) → g o ≡ f o
+  -- rows that take another's contents, and new ones
+  abbrev pub Taking : Direction → ℕ → Type 0
+  Taking direction n = Rows (first_moved direction window n) (first_moved direction window n + (window.height - n))
 
-  -- the turn of a cell
-  turn_of : (first e b r : ℕ) → first ≤ r → r < e → left ≤ column b → column b < left + width → Rows first e
-  turn_of first e b r a k l m = record {
-    turn = r;
-    from = a;
-    before = k;
-    place = record {
-      turn = line b;
-      from = omega arith;
-      before = mod-lt (b / W) high;
-      place = record { turn = column b - left; from = omega arith; before = omega arith; place = tt };
-    };
-  }
+  abbrev pub New : Direction → ℕ → Type 0
+  New direction n = Rows (first_new direction window n) (first_new direction window n + n)
 
-  pub gone_up : (n : ℕ) → n ≤ height → (B : X → X) (F : Rows (top + (height - n)) (top + (height - n) + n) → X → X) →
-      ((h : Rows (top + (height - n)) (top + (height - n) + n)) (x : X) → F h x ≡ B x) → (f mid g : ℕ → X)
-      → Moved X (Rows top (top + (height - n))) (λ h. place (h.turn + n) h.place.turn h.place.place.turn) (λ h. place h.turn h.place.turn h.place.place.turn) f
-      mid
-      → Edited X (Rows (top + (height - n)) (top + (height - n) + n)) (λ h. place h.turn h.place.turn h.place.place.turn) F mid g → GoneUp n B f g
+  pub gone : (direction : Direction) (n : ℕ) → n ≤ window.height → (B : ℕ → X → X) (F : New direction n → X → X) →
+      ((h : New direction n) (x : X) → F h x ≡ B h.place.place.turn x) → (f mid g : ℕ → X) →
+      Moved X (Taking direction n) (λ h. place (source direction h.turn n) h.place.turn h.place.place.turn) (λ h. at h) f mid →
+      Edited X (New direction n) (λ h. at h) F mid g → Gone direction n B f g
   unfolding turn_of
-  gone_up n few B F same f mid g up filling = record {
-    moved = λ b i k.
-        let l0 = i.above in
-        let h = turn_of top (top + (height - n)) b (row b) i.above (omega arith) i.before i.behind in
-        let at = place_of b i.before in
-        let far : place (row b + n) (line b) (column b - left) ≡ start + (b + W * (H * n)) = let s = shift (row b) (line b) (column b - left) n in
-        omega arith in
-        filling.outside (start + b) (λ h q. let v = row_is b h.turn h.place.turn h.place.place.turn h.place.before h.place.place.before q in let u = h.from in
-        absurd (omega arith))
-        ∙ ap mid (sym at) ∙ up.inside h ∙ ap f far;
-    filled = λ b i k.
-        let l0 = i.below in
-        let h = turn_of (top + (height - n)) (top + (height - n) + n) b (row b) (omega arith) (omega arith) i.before i.behind in
-        record {
-          under = mid (place (row b) (line b) (column b - left));
-          is = ap g (sym (place_of b i.before)) ∙ filling.inside h
-              ∙ same h (mid (place (row b) (line b) (column b - left)));
-        };
-    outside = λ o none.
-        filling.outside o (λ h q. let u = h.from in let v = h.before in none (W * (H * h.turn + h.place.turn) + (left + h.place.place.turn)) q
-        (place_in h.turn h.place.turn h.place.place.turn (omega arith) (omega arith) h.place.before h.place.place.before))
-        ∙ up.outside o (λ h q. let u = h.from in let v = h.before in none (W * (H * h.turn + h.place.turn) + (left + h.place.place.turn)) q
-        (place_in h.turn h.place.turn h.place.place.turn (omega arith) (omega arith) h.place.before h.place.place.before));
-  }
+  gone direction n few B F same f mid g moves filling =
+      let p = parts direction window n few in
+      let first = first_moved direction window n in
+      let new = first_new direction window n in
+      record {
+        moved = λ b i t.
+            let k = p.is_moved (row b) i.above i.below t in
+            let h = turn_of first (first + (window.height - n)) b k.0 k.1 i in
+            filling.outside (start + b) (λ j q. let v = row_of j b q in let u = j.from in let y = j.before in
+            p.apart (row b) k.0 k.1 (omega arith) (omega arith))
+            ∙ ap mid (sym (place_of b i.before)) ∙ moves.inside h ∙ ap f (source_of direction b n i.before t);
+        filled = λ b i t.
+            let k = p.is_new (row b) i.above i.below t in
+            let h = turn_of new (new + n) b k.0 k.1 i in
+            record { under = mid (at h); is = ap g (sym (place_of b i.before)) ∙ filling.inside h ∙ same h (mid (at h)) };
+        outside = λ o none.
+            filling.outside o (λ h q. none (W * (H * h.turn + h.place.turn) + (band.left + h.place.place.turn)) (sym q)
+            (in_turn h _ p.new_above p.new_below refl))
+            ∙ moves.outside o (λ h q. none (W * (H * h.turn + h.place.turn) + (band.left + h.place.place.turn)) (sym q)
+            (in_turn h _ p.moved_above p.moved_below refl));
+      }
 
-  pub gone_down : (n : ℕ) → n ≤ height → (B : X → X) (F : Rows top (top + n) → X → X) → ((h : Rows top (top + n)) (x : X) → F h x ≡ B x) → (f mid g : ℕ → X)
-      → Moved X (Rows top (top + (height - n))) (λ h. place h.turn h.place.turn h.place.place.turn) (λ h. place (h.turn + n) h.place.turn h.place.place.turn) f
-      mid
-      → Edited X (Rows top (top + n)) (λ h. place h.turn h.place.turn h.place.place.turn) F mid g → GoneDown n B f g
-  unfolding turn_of
-  gone_down n few B F same f mid g down filling = record {
-    moved = λ b i k.
-        let l0 = i.below in
-        let from = row b - n in
-        let h = turn_of top (top + (height - n)) b from (omega arith) (omega arith) i.before i.behind in
-        let back : from + n ≡ row b = omega arith in
-        let at : place (from + n) (line b) (column b - left) ≡ start + b = ap (λ r. place r (line b) (column b - left)) back ∙ place_of b i.before in
-        let near : place from (line b) (column b - left) ≡ start + (b - W * (H * n)) = let s = shift from (line b) (column b - left) n in omega arith in
-        filling.outside (start + b) (λ h q. let v = row_is b h.turn h.place.turn h.place.place.turn h.place.before h.place.place.before q in let u = h.before in
-        absurd (omega arith))
-        ∙ ap mid (sym at) ∙ down.inside h ∙ ap f near;
-    filled = λ b i k.
-        let l0 = i.above in
-        let h = turn_of top (top + n) b (row b) i.above k i.before i.behind in
-        record {
-          under = mid (place (row b) (line b) (column b - left));
-          is = ap g (sym (place_of b i.before)) ∙ filling.inside h
-              ∙ same h (mid (place (row b) (line b) (column b - left)));
-        };
-    outside = λ o none.
-        filling.outside o (λ h q. let u = h.from in let v = h.before in none (W * (H * h.turn + h.place.turn) + (left + h.place.place.turn)) q
-        (place_in h.turn h.place.turn h.place.place.turn (omega arith) (omega arith) h.place.before h.place.place.before))
-        ∙ down.outside o (λ h q. let u = h.from in let v = h.before in none (W * (H * (h.turn + n) + h.place.turn) + (left + h.place.place.turn)) q
-        (place_in (h.turn + n) h.place.turn h.place.place.turn (omega arith) (omega arith) h.place.before h.place.place.before));
-  }
+-- where one filling makes new rows, whatever stood there
+module _ (S : Type 0) (m : Meaning S) (base size : ℕ) (band : Band) (start rows : ℕ) (window : Window) (w : IsWindow base size band start rows window)
+    (R : S → (ℕ → ℕ) → Type 0)
+    (moved : (from to i j : ℕ) (s : S) (f : ℕ → ℕ) → from ≡ base + i → to ≡ base + j → i < size → j < size → R s f → R (run m (move from to) s).0
+    (set_cell f j (f i)))
+    (stored : (at j v : ℕ) (s : S) (f : ℕ → ℕ) → at ≡ base + j → j < size → v < 256 → R s f → R (run m (put at v) s).0 (set_cell f j v))
+    (filling : Filling) (even : filling.even < 256) (odd : filling.odd < 256) where
+  pub filled_once : (direction : Direction) (n : ℕ) (s : S) (f : ℕ → ℕ) → 0 < n → n ≤ window.height → R s f →
+      Leaves S ℕ R (run m (move_rows band direction n window.top (window.height - n) >> fill_rows band filling (first_new direction window n) n) s).0
+      (Gone ℕ base size band start rows window w direction n (λ i _. filling_byte filling i) f)
+  filled_once direction n s f some few t =
+      let p = parts direction window n few in
+      let moving = move_rows band direction n window.top (window.height - n) in
+      let a = bands.rows_moved S ℕ m base size band start rows window w R moved direction n s f some few t in
+      let b = bands.rows_filled S ℕ m base size band start rows window w R (λ v _. v) stored filling even odd (first_new direction window n) n
+      (run m moving s).0 a.cells p.new_below a.shown in
+      subst (λ r. Leaves S ℕ R r.0 (Gone ℕ base size band start rows window w direction n (λ i _. filling_byte filling i) f))
+      (sym (run_bind m moving (λ _. fill_rows band filling (first_new direction window n) n) s)) (record {
+        cells = b.cells;
+        shown = b.shown;
+        fact = gone ℕ base size band start rows window w direction n few (λ i _. filling_byte filling i) (λ h _. filling_byte filling h.place.place.turn)
+            (λ h x. refl) f a.cells b.cells a.fact b.fact;
+      })

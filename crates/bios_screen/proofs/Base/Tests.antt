@@ -29,6 +29,12 @@ lt_is a b h = grind (arith, nat_tests)
 pub le_is : (a b : ℕ) → nat_le a b ≡ true → a ≤ b
 le_is a b h = grind (arith, nat_tests)
 
+pub lt_not : (a b : ℕ) → nat_lt a b ≡ false → b ≤ a
+lt_not a b h = grind (arith, nat_tests)
+
+pub le_not : (a b : ℕ) → nat_le a b ≡ false → b < a
+le_not a b h = grind (arith, nat_tests)
+
 pub lt_test : (a b : ℕ) → a < b → nat_lt a b ≡ true
 lt_test a b h = grind (arith, nat_tests)
 

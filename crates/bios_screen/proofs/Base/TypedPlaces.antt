@@ -7,7 +7,7 @@ use Rattle.bios_services.specs.declared.colouring.Colouring.{Colouring}
 use Rattle.bios_services.specs.Cursor.{row_of, column_of}
 use Rattle.bios_services.specs.Teletype.{line_start}
 use Rattle.bios_screen.specs.Screen.{Screen}
-use Rattle.bios_screen.specs.Step.{whole_page, last_colour, window_up, line_feed, cursor_advance, put_character, type_character}
+use Rattle.bios_screen.specs.Step.{last_colour, page_up, line_feed, cursor_advance, put_character, type_character}
 use Rattle.bios_screen.proofs.Base.Tests.{lt_is}
 
 -- a place is one of a page of so many rows and columns
@@ -17,7 +17,7 @@ pub record Inside (rows columns place : ℕ) : Type 0 where
 
 -- what a line feed on the last row leaves: the page has gone up by a row
 abbrev pub risen : Screen → ℕ → ℕ → Screen
-risen s p place = window_up s p (whole_page s (last_colour s p place))
+risen s p place = page_up s p (last_colour s p place)
 
 module _ (rows columns : ℕ) (narrow : columns ≤ 80) where
   below_inside : (place : ℕ) → row_of place < rows - 1 → Inside rows columns place → Inside rows columns (place + 256)

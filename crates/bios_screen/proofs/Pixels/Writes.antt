@@ -14,26 +14,19 @@ use Rattle.bios_services.specs.declared.colouring.Colouring.{Colouring}
 use Rattle.bios_services.specs.Cells.{page_address, cells_of}
 use Rattle.bios_services.specs.Drawing.{character_plan, characters_plan}
 use Rattle.bios_services.specs.Glyphs.{glyph_line}
-use Rattle.bios_services.specs.Kinds.{column_bytes, row_lines}
 use Rattle.bios_services.specs.Plan.{run}
 use Rattle.bios_screen.specs.Screen.{Screen}
 use Rattle.bios_screen.specs.Shown.{page_pixels, pixel_screen, shown}
 use Rattle.bios_screen.specs.Step.{pixel_of, pixel_cell, pixel_line, with_pixels, glyph_pixel, draw_characters}
 use Rattle.bios_screen.proofs.Base.Flat.{Edited, Turn, Leaves}
 use Rattle.bios_screen.proofs.Base.Edits.{edits}
+use Rattle.bios_screen.proofs.Base.Bands.{band_by}
 use Rattle.bios_screen.proofs.Base.Tests.{of_run}
 use Rattle.bios_screen.proofs.Base.CellPlaces.{cell_of, line_of, strip_at, strip_of_cell, cell_of_strip, strip_within, pixel_cell_is, pixel_line_is}
 
 -- one column of a page, as the kind of memory has it
 abbrev pub column_by : Kind → BiosData → ℕ → ℕ → Band
-column_by k d page left = record {
-  kind = k;
-  start = page_address d page;
-  pitch = column_bytes k * d.columns;
-  lines = row_lines k d.height;
-  left = column_bytes k * left;
-  width = column_bytes k * (min left (d.columns - 1) + 1 - left);
-}
+column_by k d page left = band_by k d page left 1
 
 -- memory has each strip of eight pixels of a page at some places, of which dot k has pixel k as a shade of what is there
 module _ (row : ModeRow) (c : CardState) (d : BiosData) (wide : 0 < d.columns) (high : 0 < d.height) (X D : Type 0) (p : ℕ) (at : ℕ → D → ℕ)

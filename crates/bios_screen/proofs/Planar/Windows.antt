@@ -1,5 +1,5 @@
 -- A window of sixteen colours is moved and filled: what its plan leaves of four bytes each.
-use Rattle.std.proofs.Common.{◌≡◌, ℕ, ◌+◌, ◌-◌, ◌*◌, ◌%◌, ◌<◌, ◌≤◌, refl, sym, ap, ◌∙◌, subst, arith, Bool, true, false}
+use Rattle.std.proofs.Common.{◌≡◌, ℕ, ◌+◌, ◌-◌, ◌%◌, ◌<◌, ◌≤◌, refl, sym, ap, ◌∙◌, subst, arith, Bool, true, false}
 use Rattle.std.specs.Prelude.{◌==◌, if◌then◌else◌}
 use Rattle.vga_bits.specs.Bits.{is_set, byte_of}
 use Rattle.vga_bits.specs.Four.{Four, of_plane}
@@ -11,13 +11,16 @@ use Rattle.vga_card.specs.Bus.{card_meaning}
 use Rattle.vga_card.specs.Card.{CardState}
 use Rattle.bios_services.specs.declared.band.Band.{Band}
 use Rattle.bios_modes.specs.declared.kind.Kind.TheVariants.{Planar}
-use Rattle.bios_services.specs.Bands.{filling_byte, plain, fill_rows, raise_rows, lower_rows, fill_plan, up_plan, down_plan}
+use Rattle.bios_services.specs.declared.scroll.Window.{Window}
+use Rattle.bios_services.specs.declared.band.Direction.{Direction}
+use Rattle.bios_services.specs.Bands.{filling_byte, plain, fill_rows, move_rows, fill_plan, scroll_rows}
 use Rattle.bios_services.specs.Cycles.{sequencer, graphics}
-use Rattle.bios_services.specs.Plan.{Plan, run, put, get, move, ◌>>◌}
-use Rattle.bios_screen.proofs.Base.Flat.{Edited, Moved, Turn, Leaves, set_cell}
+use Rattle.bios_services.specs.Plan.{run, put, get, move, ◌>>◌}
+use Rattle.bios_screen.proofs.Base.Flat.{Leaves, set_cell}
 use Rattle.bios_screen.proofs.Base.Edits.{edited_twice}
 use Rattle.bios_screen.proofs.Base.Plans.{run_bind}
 use Rattle.bios_screen.proofs.Base.Kept.{KeepsBounds}
+use Rattle.bios_screen.proofs.Base.Windows.{first_new, parts}
 use Rattle.bios_screen.proofs.Base.Bands.{IsWindow}
 use Rattle.bios_screen.proofs.Base.Bands as bands
 use Rattle.bios_screen.proofs.Base.Shifts as shifts
@@ -84,123 +87,65 @@ filled_plain v i = by_test (i % 2 == 0)
     by_test true = refl
     by_test false = refl
 
-module _ (law : KeepsBounds) (rest : CardState) (e d : ℕ) (on : is_set e 1 ≡ true) (first_byte w h left width start rows top height : ℕ) (wide : 0 < w)
-    (high : 0 < h)
-    (window : IsWindow 0xA0000 65536 (record { kind = Planar; start = first_byte; pitch = w; lines = h; left = left; width = width }) start rows top height)
+module _ (law : KeepsBounds) (rest : CardState) (e d : ℕ) (on : is_set e 1 ≡ true) (first_byte pitch lines left width start rows : ℕ) (window : Window)
+    (w : IsWindow 0xA0000 65536 (record { kind = Planar; start = first_byte; pitch = pitch; lines = lines; left = left; width = width }) start rows window)
   where
     abbrev band : Band
-    band = record { kind = Planar; start = first_byte; pitch = w; lines = h; left = left; width = width }
-
-    abbrev Rows : ℕ → ℕ → Type 0
-    Rows first e = Turn (λ _. Turn (λ _. Turn (λ _. Unit {0}) 0 width) 0 h) first e
-
-    abbrev place : ℕ → ℕ → ℕ → ℕ
-    place row line i = start + (w * (h * row + line) + (left + i))
-
-    -- rows are moved through the latches, and others get a colour
-    record IsShifted (P : (ℕ → Four ℕ) → Type 0) (mask first n : ℕ) (g : ℕ → Four ℕ) : Type 0 where
-      mid : ℕ → Four ℕ
-      moved : P mid
-      edited : Edited (Four ℕ) (Rows first (first + n)) (λ x. place x.turn x.place.turn x.place.place.turn) (λ x q.
-          masked mask (filling_byte (plain 0xFF) x.place.place.turn) (masked 0x0F (filling_byte (plain 0x00) x.place.place.turn) q)) mid g
-
-    abbrev shift_plan : Plan (Unit {0}) → ℕ → ℕ → ℕ → Plan (Unit {0})
-    shift_plan moving first n mask = do
-      graphics 5 0x01
-      moving
-      graphics 5 0x00
-      fill_rows band (plain 0x00) first n
-      sequencer 2 mask
-      fill_rows band (plain 0xFF) first n
-      sequencer 2 0x0F
-
-    shifted : (P : (ℕ → Four ℕ) → Type 0) (moving : Plan (Unit {0})) (first n mask : ℕ) (c : CardState) (f : ℕ → Four ℕ) → mask < 16 → top ≤ first →
-        first + n ≤ top + height
-        → ((y : CardState) → Drawn rest e d copying y f → Leaves CardState (Four ℕ) (Drawn rest e d copying) (run card_meaning moving y).0 P)
-        → Drawn rest e d at_rest c f → Leaves CardState (Four ℕ) (Drawn rest e d at_rest) (run card_meaning (shift_plan moving first n mask) c).0
-        (IsShifted P mask first n)
-    shifted P moving first n mask c f lm low fits moves t =
-        let p2 = fill_rows band (plain 0x00) first n in
-        let p3 = fill_rows band (plain 0xFF) first n in
-        let c1 = (run card_meaning (graphics 5 0x01) c).0 in
-        let t1 : Drawn rest e d copying c1 f = record { latches = t.latches; is = mode_set law rest e d 0x01 at_rest t.latches c f refl refl t.is } in
-        let m1 = moves c1 t1 in
-        let c2 = (run card_meaning moving c1).0 in
-        let c3 = (run card_meaning (graphics 5 0x00) c2).0 in
-        let t3 : Drawn rest e d (planes_of 0x0F) c3 m1.cells = record {
-          latches = m1.shown.latches;
-          is = mode_set law rest e d 0x00 copying m1.shown.latches c2 m1.cells refl refl m1.shown.is;
-        } in
-        let m2 = bands.rows_filled CardState (Four ℕ) card_meaning 0xA0000 65536 band start rows top height window (Drawn rest e d (planes_of 0x0F))
-        (masked 0x0F)
-        (cell_put law rest e d 0x0F on) (plain 0x00) (omega arith) (omega arith) first n c3 m1.cells low fits t3 in
-        let c4 = (run card_meaning p2 c3).0 in
-        let c5 = (run card_meaning (sequencer 2 mask) c4).0 in
-        let t5 : Drawn rest e d (planes_of mask) c5 m2.cells = record {
-          latches = m2.shown.latches;
-          is = mask_set law rest e d mask (planes_of 0x0F) m2.shown.latches c4 m2.cells lm m2.shown.is;
-        } in
-        let m3 = bands.rows_filled CardState (Four ℕ) card_meaning 0xA0000 65536 band start rows top height window (Drawn rest e d (planes_of mask))
-        (masked mask)
-        (cell_put law rest e d mask on) (plain 0xFF) (omega arith) (omega arith) first n c5 m2.cells low fits t5 in
-        let c6 = (run card_meaning p3 c5).0 in
-        let all : Leaves CardState (Four ℕ) (Drawn rest e d at_rest) (run card_meaning (sequencer 2 0x0F) c6).0 (IsShifted P mask first n) = record {
-          cells = m3.cells;
-          shown = record {
-            latches = m3.shown.latches;
-            is = mask_set law rest e d 0x0F (planes_of mask) m3.shown.latches c6 m3.cells (omega arith) m3.shown.is;
-          };
-          fact = record {
-            mid = m1.cells;
-            moved = m1.fact;
-            edited = edited_twice (λ (x : Rows first (first + n)). place x.turn x.place.turn x.place.place.turn) (λ x q.
-                masked 0x0F (filling_byte (plain 0x00) x.place.place.turn) q) (λ x q. masked mask (filling_byte (plain 0xFF) x.place.place.turn) q) m1.cells
-                m2.cells m3.cells m2.fact m3.fact;
-          };
-        } in
-        let e1 = run_bind card_meaning moving (λ _. graphics 5 0x00 >> (p2 >> (sequencer 2 mask >> (p3 >> sequencer 2 0x0F)))) c1 in
-        let e2 = run_bind card_meaning p2 (λ _. sequencer 2 mask >> (p3 >> sequencer 2 0x0F)) c3 in
-        let e3 = run_bind card_meaning p3 (λ _. sequencer 2 0x0F) c5 in
-        subst (λ r. Leaves CardState (Four ℕ) (Drawn rest e d at_rest) r.0 (IsShifted P mask first n)) (sym (e1 ∙ e2 ∙ e3)) all
+    band = record { kind = Planar; start = first_byte; pitch = pitch; lines = lines; left = left; width = width }
 
     -- the colour as four bytes
     filling_is : (mask i : ℕ) (q : Four ℕ) → masked mask (filling_byte (plain 0xFF) i) (masked 0x0F (filling_byte (plain 0x00) i) q) ≡ lined false mask 0xFF q
     filling_is mask i q = ap (λ v. masked mask v (masked 0x0F (filling_byte (plain 0x00) i) q)) (filled_plain 0xFF i)
         ∙ ap (λ v. masked mask 0xFF (masked 0x0F v q)) (filled_plain 0x00 i)
 
-    pub went_up : (n colour : ℕ) (c : CardState) (f : ℕ → Four ℕ) → n ≤ height → (0 < height → 0 < n) → Drawn rest e d at_rest c f
-        → Leaves CardState (Four ℕ) (Drawn rest e d at_rest) (run card_meaning (up_plan band top height n colour) c).0
-        (shifts.GoneUp (Four ℕ) w h start left width top height wide high window.across n (lined false (colour % 16) 0xFF) f)
-    unfolding up_plan fill_plan
-    went_up n colour c f few some t =
-        let count = height - n in
-        let x = shifted (Moved (Four ℕ) (Rows top (top + count)) (λ x. place (x.turn + n) x.place.turn x.place.place.turn) (λ x.
-        place x.turn x.place.turn x.place.place.turn) f) (raise_rows band n top count) (top + count) n (colour % 16) c f (omega arith) (omega arith)
-        (omega arith)
-        (λ y u. bands.rows_raised CardState (Four ℕ) card_meaning 0xA0000 65536 band start rows top height window (Drawn rest e d copying)
-        (cell_moved law rest e d on) n count y f (omega arith) (λ l. some (omega arith)) u) t in
-        record {
-          cells = x.cells;
-          shown = x.shown;
-          fact = shifts.gone_up (Four ℕ) w h start left width top height wide high window.across n few (lined false (colour % 16) 0xFF) (λ x q.
-              masked (colour % 16) (filling_byte (plain 0xFF) x.place.place.turn) (masked 0x0F (filling_byte (plain 0x00) x.place.place.turn) q)) (λ x q.
-              filling_is (colour % 16) x.place.place.turn q) f x.fact.mid x.cells x.fact.moved x.fact.edited;
-        }
+    abbrev Goes : Direction → ℕ → ℕ → (ℕ → Four ℕ) → (ℕ → Four ℕ) → Type 0
+    Goes direction n mask = shifts.Gone (Four ℕ) 0xA0000 65536 band start rows window w direction n (λ _. lined false mask 0xFF)
 
-    pub went_down : (n colour : ℕ) (c : CardState) (f : ℕ → Four ℕ) → n ≤ height → (0 < height → 0 < n) → Drawn rest e d at_rest c f
-        → Leaves CardState (Four ℕ) (Drawn rest e d at_rest) (run card_meaning (down_plan band top height n colour) c).0
-        (shifts.GoneDown (Four ℕ) w h start left width top height wide high window.across n (lined false (colour % 16) 0xFF) f)
-    unfolding down_plan fill_plan
-    went_down n colour c f few some t =
-        let count = height - n in
-        let x = shifted (Moved (Four ℕ) (Rows top (top + count)) (λ x. place x.turn x.place.turn x.place.place.turn) (λ x.
-        place (x.turn + n) x.place.turn x.place.place.turn) f) (lower_rows band n top count) top n (colour % 16) c f (omega arith) (omega arith) (omega arith)
-        (λ y u. bands.rows_lowered CardState (Four ℕ) card_meaning 0xA0000 65536 band start rows top height window (Drawn rest e d copying)
-        (cell_moved law rest e d on) n count y f (omega arith) (λ l. some (omega arith)) u) t in
-        record {
-          cells = x.cells;
-          shown = x.shown;
-          fact = shifts.gone_down (Four ℕ) w h start left width top height wide high window.across n few (lined false (colour % 16) 0xFF) (λ x q.
-              masked (colour % 16) (filling_byte (plain 0xFF) x.place.place.turn) (masked 0x0F (filling_byte (plain 0x00) x.place.place.turn) q)) (λ x q.
-              filling_is (colour % 16) x.place.place.turn q) f x.fact.mid x.cells x.fact.moved x.fact.edited;
-        }
+    -- rows are moved through the latches, and others get a colour
+    pub went : (direction : Direction) (n colour : ℕ) (c : CardState) (f : ℕ → Four ℕ) → 0 < n → n ≤ window.height → Drawn rest e d at_rest c f →
+        Leaves CardState (Four ℕ) (Drawn rest e d at_rest) (run card_meaning (scroll_rows band direction window.top window.height n colour) c).0
+        (Goes direction n (colour % 16) f)
+    unfolding scroll_rows fill_plan
+    went direction n colour c f some few t =
+        let mask = colour % 16 in
+        let new = first_new direction window n in
+        let p1 = move_rows band direction n window.top (window.height - n) in
+        let p2 = fill_rows band (plain 0x00) new n in
+        let p3 = fill_rows band (plain 0xFF) new n in
+        let fits = (parts direction window n few).new_below in
+        let c1 = (run card_meaning (graphics 5 0x01) c).0 in
+        let t1 : Drawn rest e d copying c1 f = record { latches = t.latches; is = mode_set law rest e d 0x01 at_rest t.latches c f refl refl t.is } in
+        let m1 = bands.rows_moved CardState (Four ℕ) card_meaning 0xA0000 65536 band start rows window w (Drawn rest e d copying)
+        (cell_moved law rest e d on) direction n c1 f some few t1 in
+        let c2 = (run card_meaning p1 c1).0 in
+        let c3 = (run card_meaning (graphics 5 0x00) c2).0 in
+        let t3 : Drawn rest e d (planes_of 0x0F) c3 m1.cells = record {
+          latches = m1.shown.latches;
+          is = mode_set law rest e d 0x00 copying m1.shown.latches c2 m1.cells refl refl m1.shown.is;
+        } in
+        let m2 = bands.rows_filled CardState (Four ℕ) card_meaning 0xA0000 65536 band start rows window w (Drawn rest e d (planes_of 0x0F)) (masked 0x0F)
+        (cell_put law rest e d 0x0F on) (plain 0x00) (omega arith) (omega arith) new n c3 m1.cells fits t3 in
+        let c4 = (run card_meaning p2 c3).0 in
+        let c5 = (run card_meaning (sequencer 2 mask) c4).0 in
+        let t5 : Drawn rest e d (planes_of mask) c5 m2.cells = record {
+          latches = m2.shown.latches;
+          is = mask_set law rest e d mask (planes_of 0x0F) m2.shown.latches c4 m2.cells (omega arith) m2.shown.is;
+        } in
+        let m3 = bands.rows_filled CardState (Four ℕ) card_meaning 0xA0000 65536 band start rows window w (Drawn rest e d (planes_of mask)) (masked mask)
+        (cell_put law rest e d mask on) (plain 0xFF) (omega arith) (omega arith) new n c5 m2.cells fits t5 in
+        let c6 = (run card_meaning p3 c5).0 in
+        let e1 = run_bind card_meaning p1 (λ _. graphics 5 0x00 >> (p2 >> (sequencer 2 mask >> (p3 >> sequencer 2 0x0F)))) c1 in
+        let e2 = run_bind card_meaning p2 (λ _. sequencer 2 mask >> (p3 >> sequencer 2 0x0F)) c3 in
+        let e3 = run_bind card_meaning p3 (λ _. sequencer 2 0x0F) c5 in
+        subst (λ r. Leaves CardState (Four ℕ) (Drawn rest e d at_rest) r.0 (Goes direction n mask f)) (sym (e1 ∙ e2 ∙ e3)) (record {
+          cells = m3.cells;
+          shown = record {
+            latches = m3.shown.latches;
+            is = mask_set law rest e d 0x0F (planes_of mask) m3.shown.latches c6 m3.cells (omega arith) m3.shown.is;
+          };
+          fact = shifts.gone (Four ℕ) 0xA0000 65536 band start rows window w direction n few (λ _. lined false mask 0xFF) (λ h q.
+              masked mask (filling_byte (plain 0xFF) h.place.place.turn) (masked 0x0F (filling_byte (plain 0x00) h.place.place.turn) q)) (λ h q.
+              filling_is mask h.place.place.turn q) f m1.cells m3.cells m1.fact (edited_twice _ (λ h q.
+              masked 0x0F (filling_byte (plain 0x00) h.place.place.turn) q) (λ h q. masked mask (filling_byte (plain 0xFF) h.place.place.turn) q) m1.cells
+              m2.cells m3.cells m2.fact m3.fact);
+        })

@@ -66,9 +66,6 @@ address_sum start w h row r left =
     sum : (n : ℕ) → 0xA0000 + start + n + 1 * left + 0 ≡ 0xA0000 + (start + (n + left))
     sum n = omega arith
 
-one_wide : (w left : ℕ) → left < w → 1 * (min left (w - 1) + 1 - left) ≡ 1
-one_wide w left l = omega arith
-
 -- a band of one byte
 plan_is : (band : Band) (row : ℕ) (fonts : FontSet) (character colour : ℕ) → planar_plan (record band { width = 1 }) row fonts character colour
     ≡ glyph_by (is_set colour 7) (λ r. address_in band row r 0) (glyph_line fonts band.lines character) band.lines (colour % 16)
@@ -117,7 +114,6 @@ module _ (law : KeepsBounds) (m : Planes) (c : CardState) (d : BiosData) (t : Is
       let lines = glyph_line fonts h character in
       ap (λ k. character_by k fonts d p q character colouring) kind
       ∙ ap (λ k. planar_plan (column_by k d p left) row fonts character colouring.colour) kind
-      ∙ ap (λ n. planar_plan (record band { width = n }) row fonts character colouring.colour) (one_wide w left (mod-lt q wide))
       ∙ plan_is band row fonts character colouring.colour
       ∙ ap (λ a. glyph_by (is_set colouring.colour 7) a lines h (colouring.colour % 16)) (λ j r. address_is p q r j)
 

@@ -25,8 +25,6 @@ use Rattle.bios_screen.proofs.Packed.Pixels as packed_pixels
 use Rattle.bios_screen.proofs.Dots.PlanarDots.{IsPlanar}
 use Rattle.bios_screen.proofs.Planar.Reads as planar_reads
 use Rattle.bios_screen.proofs.Planar.Dots as planar_dots
-use Rattle.bios_screen.proofs.Planar.Scrolls as planar_scrolls
-use Rattle.bios_screen.proofs.Packed.Scrolls as packed_scrolls
 use Rattle.bios_screen.proofs.Modes.PixelModes.{Planes, row_of}
 use Rattle.bios_screen.proofs.Services.TextReaders as readers
 use Rattle.bios_screen.proofs.Shows.Pixels.{IsPixels, pixels_shown}
@@ -36,7 +34,7 @@ use Rattle.bios_screen.proofs.Pixels.Cursors as pixel_cursors
 use Rattle.bios_screen.proofs.Services.Cursors as cursors
 use Rattle.bios_screen.proofs.Services.Characters as characters
 use Rattle.bios_screen.proofs.Base.Kept.{KeepsBounds}
-use Rattle.bios_screen.proofs.Text.Windows as windows
+use Rattle.bios_screen.proofs.Services.Windows as windows
 use Rattle.bios_screen.proofs.Services.Teletypes as teletypes
 use Rattle.bios_screen.proofs.Services.Strings as strings
 use Rattle.bios_screen.proofs.Services.Palette as coloured
@@ -116,14 +114,11 @@ read_cell law page = serves_any (ReadCell page) (λ fonts r block c d h bytes z 
 pub write_cells : KeepsBounds → (cells : CellRun) → cells.character < 256 → cells.colouring.colour < 256 → Serves (WriteCells cells)
 write_cells law cells lv la = serves_any (WriteCells cells) (λ fonts r block c d h bytes z bda. characters.write_cells law fonts r block c d h z cells lv la)
 
-pub scroll_up : KeepsBounds → (window : Scroll) → window.fill < 256 → Serves (ScrollUp window)
-scroll_up law window l = serves_each (ScrollUp window) (λ fonts r block c d h z. windows.scroll_up window fonts r block c d h z l) (λ m fonts r block c d t e z.
-    planar_scrolls.scroll_up law m c d t e z window fonts r block) (λ fonts r block c d t e z. packed_scrolls.scroll_up law c d t e z window l fonts r block)
+pub scroll_up : KeepsBounds → (asked : Scroll) → asked.fill < 256 → Serves (ScrollUp asked)
+scroll_up = windows.scroll_up
 
-pub scroll_down : KeepsBounds → (window : Scroll) → window.fill < 256 → Serves (ScrollDown window)
-scroll_down law window l = serves_each (ScrollDown window) (λ fonts r block c d h z. windows.scroll_down window fonts r block c d h z l)
-    (λ m fonts r block c d t e z. planar_scrolls.scroll_down law m c d t e z window fonts r block) (λ fonts r block c d t e z.
-    packed_scrolls.scroll_down law c d t e z window l fonts r block)
+pub scroll_down : KeepsBounds → (asked : Scroll) → asked.fill < 256 → Serves (ScrollDown asked)
+scroll_down = windows.scroll_down
 
 pub teletype : KeepsBounds → (character colour : ℕ) → character < 256 → colour < 256 → Serves (Teletype character colour)
 teletype law character colour l k = serves_any (Teletype character colour) (λ fonts r block c d h bytes z bda.

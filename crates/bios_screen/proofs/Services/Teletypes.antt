@@ -23,12 +23,12 @@ use Rattle.bios_screen.proofs.Base.Plans.{run_bind}
 use Rattle.bios_screen.proofs.Base.Kept.{KeepsBounds, plan_beam}
 use Rattle.bios_screen.proofs.Base.Reasons.{place_allowed}
 use Rattle.bios_screen.proofs.Shows.Screens.{page_in}
-use Rattle.bios_screen.proofs.Shows.Any.{IsAny, any_screen, still_any}
+use Rattle.bios_screen.proofs.Shows.Any.{IsAny, any_screen, cut_is, still_any}
 use Rattle.bios_screen.proofs.Shows.Kinds.{by_contents}
 use Rattle.bios_screen.proofs.Services.Cursors.{then_data, data_runs, moved_shown}
 use Rattle.bios_screen.proofs.Pixels.Cursors.{moved_shown as moved_in_pixels}
 use Rattle.bios_screen.proofs.Base.TypedPlaces.{Inside, inside_word}
-use Rattle.bios_screen.proofs.Services.Typing.{cut_is, is_typed}
+use Rattle.bios_screen.proofs.Services.Typing.{is_typed}
 
 -- the cursor goes to a place of the page
 pub moved : (c : CardState) (d : BiosData) (s : Screen) (p place : ℕ) → shown c d ≡ Some s → IsBda d → p < pages_of d →

@@ -6,55 +6,28 @@ use Rattle.vga_card.specs.Bus.{card_meaning}
 use Rattle.vga_card.specs.Card.{CardState}
 use Rattle.bios_modes.specs.Bda.{BiosData}
 use Rattle.bios_modes.specs.Fonts.{FontSet}
-use Rattle.bios_modes.specs.Modes.{bytes_320_by_200}
 use Rattle.bios_services.specs.declared.colouring.Colouring.{Colouring}
 use Rattle.bios_services.specs.Bounds.{pages_of}
 use Rattle.bios_services.specs.Plan.{Plan, run, Done, get, ◌>>=◌, ◌>>◌}
-use Rattle.bios_services.specs.Bands.{band_of, up_plan}
 use Rattle.bios_services.specs.Cells.{cell_address}
 use Rattle.bios_services.specs.Cursor.{row_of as text_row_of, column_of, cell_number}
 use Rattle.bios_services.specs.Drawing.{character_plan, characters_plan}
-use Rattle.bios_services.specs.Scroll.{height_of, lines_of}
+use Rattle.bios_services.specs.Scroll.{page_up_plan}
 use Rattle.bios_services.specs.Teletype.{line_start, line_feed_fill, line_feed_plan, cursor_advance_plan, show_plan, type_plan}
 use Rattle.bios_screen.specs.Screen.{Screen, page_start}
 use Rattle.bios_screen.specs.Shown.{pixel_screen, shown}
-use Rattle.bios_screen.specs.Step.{cell_on, whole_page, last_colour, window_up, line_feed, cursor_advance, put_characters, put_character, type_character}
+use Rattle.bios_screen.specs.Step.{cell_on, last_colour, line_feed, cursor_advance, put_characters, put_character, type_character}
 use Rattle.bios_screen.proofs.Base.Plans.{run_bind, then_runs, then_answers}
 use Rattle.bios_screen.proofs.Base.Places.{ends_before}
-use Rattle.bios_screen.proofs.Base.Tests.{not_lt}
 use Rattle.bios_screen.proofs.Base.Kept.{KeepsBounds, plan_bounds}
 use Rattle.bios_screen.proofs.Base.TypedPlaces.{Inside, risen, typed_inside}
-use Rattle.bios_screen.proofs.Modes.PixelModes.{row_of}
-use Rattle.bios_screen.proofs.Shows.Screens.{data_is, page_in, page_of, screen_shown}
+use Rattle.bios_screen.proofs.Shows.Screens.{page_in, screen_shown}
 use Rattle.bios_screen.proofs.Shows.Pixels.{pixels_shown, pixels_shown_of}
-use Rattle.bios_screen.proofs.Shows.Any.{any_is}
-use Rattle.bios_screen.proofs.Shows.Kinds.{by_contents, by_modes}
+use Rattle.bios_screen.proofs.Shows.Any.{cut_is}
+use Rattle.bios_screen.proofs.Shows.Kinds.{by_contents}
 use Rattle.bios_screen.proofs.Text.Writes.{attribute_read}
-use Rattle.bios_screen.proofs.Text.Windows as text
-use Rattle.bios_screen.proofs.Pixels.Windows.{page_raised}
-use Rattle.bios_screen.proofs.Planar.Scrolls as planar
-use Rattle.bios_screen.proofs.Packed.Scrolls as packed
 use Rattle.bios_screen.proofs.Services.Characters.{characters_shown}
-
--- how the data say that the page of a screen is cut
-pub record IsCut (d : BiosData) (s : Screen) : Type 0 where
-  pub columns : s.layout.columns ≡ d.columns
-  pub rows : s.layout.rows ≡ d.last_row + 1
-  pub narrow : d.columns ≤ 80
-  pub low : d.last_row + 1 ≤ 255
-  pub active : d.page < pages_of d
-
-pub cut_is : (c : CardState) (d : BiosData) (s : Screen) → shown c d ≡ Some s → IsCut d s
-cut_is c d s e =
-    let x = any_is c d s e in
-    let has = data_is x.is.row d x.is.tests.data_test in
-    subst (IsCut d) x.screen (record {
-      columns = refl;
-      rows = refl;
-      narrow = let a = has.columns in let b = x.is.columns in omega arith;
-      low = let a = has.last_row in let b = x.is.last_row in omega arith;
-      active = page_of x.is.row d d.page x.is.mode has.page;
-    })
+use Rattle.bios_screen.proofs.Services.Windows.{page_raised}
 
 -- ---- plans that lead to a screen and a place
 
@@ -97,7 +70,7 @@ leads_after p q c d y second = record {
 
 -- a page goes up by a row that is filled as a line feed asks
 abbrev pub rise_plan : BiosData → ℕ → ℕ → Plan ℕ
-rise_plan d p place = line_feed_fill d p place >>= λ colour. (up_plan (band_of d p 0 (d.columns - 1)) 0 (d.last_row + 1) 1 colour >> Done place)
+rise_plan d p place = line_feed_fill d p place >>= λ colour. (page_up_plan d p colour >> Done place)
 
 module _ (law : KeepsBounds) (fonts : FontSet) (d : BiosData) (p : ℕ) (lp : p < pages_of d) where
   -- a character at a place is a run of one
@@ -114,25 +87,6 @@ module _ (law : KeepsBounds) (fonts : FontSet) (d : BiosData) (p : ℕ) (lp : p 
       ∙ sym (ap (λ x. shown x d) (then_runs (character_plan fonts d p (q + 0) v colouring) (Done tt) c))
       ∙ characters_shown law fonts c d s p q 1 v colouring e z lp (omega arith) lv la
       ∙ ap (λ n. Some (put_characters fonts s p (n * text_row_of place + column_of place) 1 v colouring)) (sym (cut_is c d s e).columns)
-
-  -- the page goes up by a row of a colour
-  goes_up : (c : CardState) (s : Screen) (colour : ℕ) → IsCard c → shown c d ≡ Some s → colour < 256 →
-      shown (run card_meaning (up_plan (band_of d p 0 (d.columns - 1)) 0 (d.last_row + 1) 1 colour) c).0 d ≡ Some (window_up s p (whole_page s colour))
-  goes_up c s colour z e l =
-      let up : ℕ → ℕ → Plan (Unit {0}) = λ rows n. up_plan (band_of d p 0 (d.columns - 1)) 0 rows n colour in
-      by_modes c d (λ w. shown (run card_meaning (up (d.last_row + 1) 1) c).0 d ≡ Some (window_up w p (whole_page w colour)))
-      (λ h.
-      let page = whole_page (screen_shown c d h) colour in
-      let rows : height_of d page ≡ d.last_row + 1 = omega arith in
-      let lines : lines_of d page ≡ 1 = ap (λ n. if (1 == 0) || nat_lt n 1 then n else 1) rows
-      ∙ ap (λ b. if b then d.last_row + 1 else 1) (not_lt (d.last_row + 1) 1 (omega arith)) in
-      ap (λ n. shown (run card_meaning (up n 1) c).0 d) (sym rows) ∙ ap (λ n. shown (run card_meaning (up (height_of d page) n) c).0 d) (sym lines)
-      ∙ text.up_shown c d h p (page_in h.row d p h.mode lp) page z l)
-      (λ m t row. page_raised (row_of m) c d p colour
-      (planar.up_shown law m c d t row z p (page_in (row_of m) d p row lp) (whole_page (pixel_screen (row_of m) c d) colour)))
-      (λ t row. page_raised bytes_320_by_200 c d p colour
-      (packed.up_shown law c d t row z p (page_in bytes_320_by_200 d p row lp) (whole_page (pixel_screen bytes_320_by_200 c d) colour) l))
-      s e
 
   -- the colour of a line feed's row: in text the attribute in the last row, which is read, and in graphics 0
   record IsFilled (c : CardState) (place : ℕ) (s : Screen) : Type 0 where
@@ -171,14 +125,14 @@ module _ (law : KeepsBounds) (fonts : FontSet) (d : BiosData) (p : ℕ) (lp : p 
       Leads (rise_plan d p place) c d (risen s p place, place)
   rises c s place z e lc =
       let fill = line_feed_fill d p place in
-      let up : ℕ → Plan (Unit {0}) = up_plan (band_of d p 0 (d.columns - 1)) 0 (d.last_row + 1) 1 in
+      let up : ℕ → Plan (Unit {0}) = page_up_plan d p in
       let colour = last_colour s p place in
       let x = filled c s place z e lc in
       let c1 = (run card_meaning fill c).0 in
       leads_on fill (λ n. up n >> Done place) c d (s, colour) (risen s p place, place) x.leads
       (leads_after (up colour) (Done place) c1 d (risen s p place, place) (record {
         answer = refl;
-        shows = goes_up c1 s colour (plan_bounds law fill c z) x.leads.shows x.small;
+        shows = page_raised law c1 d s (plan_bounds law fill c z) x.leads.shows p colour lp x.small;
       }))
 
   -- ---- typing

@@ -1,5 +1,5 @@
 -- What every screen that is shown says, in text and in graphics.
-use Rattle.std.proofs.Common.{◌≡◌, ℕ, ◌<◌, ◌≤◌, refl, sym, ap, subst, ◌∙◌, arith, Bool, true, false, List, [], Some, None}
+use Rattle.std.proofs.Common.{◌≡◌, ℕ, ◌+◌, ◌<◌, ◌≤◌, refl, sym, ap, subst, ◌∙◌, arith, Bool, true, false, List, [], Some, None}
 use Rattle.std.specs.Prelude.{◌==◌, ◌&&◌, ◌/◌, if◌then◌else◌, slice_index, bit_and}
 use Rattle.std.specs.Str.{bytes_eq}
 use Rattle.vga_bits.specs.Four.{Four}
@@ -9,13 +9,14 @@ use Rattle.bios_modes.specs.declared.modes.ModeRow.{ModeRow}
 use Rattle.bios_modes.specs.Heights.{row_at}
 use Rattle.bios_modes.specs.Bda.{BiosData}
 use Rattle.bios_modes.specs.Kinds.{is_text}
+use Rattle.bios_services.specs.Bounds.{pages_of}
 use Rattle.bios_screen.specs.Screen.{Contents, Cells, Pixels, Screen}
 use Rattle.bios_screen.specs.Shown.{shows_attribute, cells_in, glyphs_in, all_cells, pixel_pages, page_pixels, crtc_shown, screen_by, screen_of, shown_by}
 use Rattle.bios_screen.specs.Shown.{shown}
 use Rattle.bios_screen.proofs.Base.Tests.{both_true, same}
 use Rattle.bios_screen.proofs.Base.Setting.{Setting, setting}
 use Rattle.bios_screen.proofs.Modes.TextModes.{control_by as text_control_by}
-use Rattle.bios_screen.proofs.Shows.Screens.{AllTests, setting_by, shows_by, all_of, shown_is, screen_is_text}
+use Rattle.bios_screen.proofs.Shows.Screens.{AllTests, setting_by, shows_by, all_of, data_is, page_of, shown_is, screen_is_text}
 use Rattle.bios_screen.proofs.Modes.PixelModes.{Graphics, row_in, graphics_row, control_by}
 use Rattle.bios_screen.proofs.Modes.PixelModes.Graphics.{Sixteen, Many}
 use Rattle.bios_screen.proofs.Modes.PixelModes.Planes.{Low, Middle, High}
@@ -163,3 +164,25 @@ any_is c d s h = by_kind (is_text d.mode) refl
           };
           screen = x.screen;
         }
+
+-- how the data say that the page of a screen is cut
+pub record IsCut (d : BiosData) (s : Screen) : Type 0 where
+  pub columns : s.layout.columns ≡ d.columns
+  pub rows : s.layout.rows ≡ d.last_row + 1
+  pub narrow : d.columns ≤ 80
+  pub low : d.last_row + 1 ≤ 255
+  pub page : s.page ≡ d.page
+  pub active : d.page < pages_of d
+
+pub cut_is : (c : CardState) (d : BiosData) (s : Screen) → shown c d ≡ Some s → IsCut d s
+cut_is c d s e =
+    let x = any_is c d s e in
+    let has = data_is x.is.row d x.is.tests.data_test in
+    subst (IsCut d) x.screen (record {
+      columns = refl;
+      rows = refl;
+      narrow = let a = has.columns in let b = x.is.columns in omega arith;
+      low = let a = has.last_row in let b = x.is.last_row in omega arith;
+      page = refl;
+      active = page_of x.is.row d d.page x.is.mode has.page;
+    })

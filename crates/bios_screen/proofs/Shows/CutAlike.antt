@@ -11,13 +11,18 @@ use Rattle.bios_services.specs.declared.colours.ColourService.TheVariants.{SetEn
 use Rattle.bios_services.specs.declared.call.Service.{Service}
 use Rattle.bios_services.specs.declared.call.Service.TheVariants.{SetCursorType, SetCursor, ReadCursor, SelectPage, ScrollUp, ScrollDown, ReadCell, WriteCells}
 use Rattle.bios_services.specs.declared.call.Service.TheVariants.{WritePixel, ReadPixel, Teletype, ReadMode, Colours, ReadAdapter, WriteString, ReadDisplay}
+use Rattle.bios_services.specs.declared.band.Direction.{Direction}
+use Rattle.bios_services.specs.declared.band.Direction.TheVariants.{Up, Down}
+use Rattle.bios_services.specs.declared.scroll.Scroll.{Scroll}
+use Rattle.bios_services.specs.declared.scroll.Window.{Window}
+use Rattle.bios_services.specs.Scroll.{window_among}
 use Rattle.bios_services.specs.Teletype.{line_start, dots_in}
 use Rattle.bios_services.specs.Strings.{character_at, colouring_at}
 use Rattle.bios_services.specs.Cursor.{row_of, column_of}
 use Rattle.bios_screen.specs.Screen.{Screen, cursor_place}
 use Rattle.bios_screen.specs.Colours.{with_colours}
 use Rattle.bios_screen.specs.Called.{screen_unless}
-use Rattle.bios_screen.specs.Step.{page_meant, last_colour, whole_page, window_up, line_feed, cursor_advance, put_character, type_character, type_characters}
+use Rattle.bios_screen.specs.Step.{page_meant, scroll_asked, last_colour, page_up, line_feed, cursor_advance, put_character, type_character, type_characters}
 use Rattle.bios_screen.specs.Step.{with_place, next}
 
 -- t has the mode of s, and is cut as s is
@@ -41,7 +46,7 @@ cut_either s false x y h k = k
 
 fed_cut : (s : Screen) (page place : ℕ) → IsCutAs s (line_feed s page place).0
 fed_cut s page place = cut_if s (nat_lt (row_of place) (s.layout.rows - 1)) (s, place + 256) (
-  window_up s page (whole_page s (last_colour s page place)),
+  page_up s page (last_colour s page place),
   place,
 ) (uncut s) (record { mode = refl; layout = refl })
 
@@ -83,6 +88,10 @@ coloured_cut s (ReadEntry entry) block = uncut s
 coloured_cut s (SetMask mask) block = record { mode = refl; layout = refl }
 coloured_cut s ReadMask block = uncut s
 
+scrolled_cut : (s : Screen) (asked : Scroll) (direction : Direction) (w : Option Window) → IsCutAs s (scroll_asked s asked direction w)
+scrolled_cut s asked direction None = uncut s
+scrolled_cut s asked direction (Some w) = record { mode = refl; layout = refl }
+
 -- a service that sets no mode leaves both
 pub next_cut : (fonts : FontSet) (s : Screen) (service : Service) (block : List ℕ) → IsCutAs s (next fonts s service block)
 unfolding next
@@ -90,8 +99,8 @@ next_cut fonts s (SetCursorType cursor_type) block = record { mode = refl; layou
 next_cut fonts s (SetCursor page place) block = record { mode = refl; layout = refl }
 next_cut fonts s (ReadCursor page) block = uncut s
 next_cut fonts s (SelectPage page) block = record { mode = refl; layout = refl }
-next_cut fonts s (ScrollUp window) block = record { mode = refl; layout = refl }
-next_cut fonts s (ScrollDown window) block = record { mode = refl; layout = refl }
+next_cut fonts s (ScrollUp asked) block = scrolled_cut s asked Up (window_among s.layout.rows s.layout.columns asked)
+next_cut fonts s (ScrollDown asked) block = scrolled_cut s asked Down (window_among s.layout.rows s.layout.columns asked)
 next_cut fonts s (ReadCell page) block = uncut s
 next_cut fonts s (WriteCells cells) block = record { mode = refl; layout = refl }
 next_cut fonts s (WritePixel page x y colour) block = record { mode = refl; layout = refl }

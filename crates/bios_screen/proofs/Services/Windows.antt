@@ -1,0 +1,98 @@
+-- Functions 06 and 07, and a page that goes up by a row, in any mode.
+use Rattle.std.proofs.Common.{◌≡◌, ℕ, ◌+◌, ◌<◌, ◌≤◌, refl, sym, ap, ◌∙◌, subst, arith, Bool, true, false, Option, Some, None}
+use Rattle.vga_card.specs.Bounds.{IsCard}
+use Rattle.vga_card.specs.Bus.{card_meaning}
+use Rattle.vga_card.specs.Card.{CardState}
+use Rattle.bios_modes.specs.Bda.{BiosData}
+use Rattle.bios_modes.specs.Modes.{bytes_320_by_200}
+use Rattle.bios_services.specs.declared.band.Direction.{Direction}
+use Rattle.bios_services.specs.declared.band.Direction.TheVariants.{Up, Down}
+use Rattle.bios_services.specs.declared.call.Service.TheVariants.{ScrollUp, ScrollDown}
+use Rattle.bios_services.specs.declared.regs.Regs.{Regs}
+use Rattle.bios_services.specs.declared.scroll.Scroll.{Scroll}
+use Rattle.bios_services.specs.declared.scroll.Window.{Window}
+use Rattle.bios_services.specs.Bounds.{pages_of}
+use Rattle.bios_services.specs.Plan.{Plan, run, Done, ◌>>◌}
+use Rattle.bios_services.specs.Refusals.{refusal_in_mode}
+use Rattle.bios_services.specs.Scroll.{window_among, whole_page, lines_of, window_plan, page_up_plan, scroll_within, scroll_plan}
+use Rattle.bios_services.specs.Service.{plan_of, Outcome}
+use Rattle.bios_screen.specs.Screen.{Screen}
+use Rattle.bios_screen.specs.Served.{Serves}
+use Rattle.bios_screen.specs.Shown.{shown}
+use Rattle.bios_screen.specs.Step.{scroll_window, scroll_asked, scroll, page_up, refusal_on, next, answer_on}
+use Rattle.bios_screen.proofs.Base.Kept.{KeepsBounds, plan_beam}
+use Rattle.bios_screen.proofs.Base.Plans.{run_bind}
+use Rattle.bios_screen.proofs.Base.Windows.{LiesOn, lies_on, few_lines, some_lines}
+use Rattle.bios_screen.proofs.Modes.PixelModes.{row_of}
+use Rattle.bios_screen.proofs.Shows.Any.{IsCut, cut_is}
+use Rattle.bios_screen.proofs.Shows.Kinds.{by_modes}
+use Rattle.bios_screen.proofs.Shows.Screens.{page_in}
+use Rattle.bios_screen.proofs.Text.Windows as text
+use Rattle.bios_screen.proofs.Planar.Scrolls as planar
+use Rattle.bios_screen.proofs.Packed.Scrolls as packed
+
+module _ (law : KeepsBounds) (c : CardState) (d : BiosData) (s : Screen) (z : IsCard c) (e : shown c d ≡ Some s) where
+  window_shown : (p : ℕ) → p < pages_of d → (w : Window) → LiesOn (d.last_row + 1) d.columns w → (direction : Direction) (n colour : ℕ) → 0 < n → n ≤ w.height →
+      colour < 256 → shown (run card_meaning (window_plan d p w direction n colour) c).0 d ≡ Some (scroll_window s p w direction n colour)
+  window_shown p lp w on direction n colour some few lc =
+      by_modes c d (λ x. shown (run card_meaning (window_plan d p w direction n colour) c).0 d ≡ Some (scroll_window x p w direction n colour))
+      (λ h. text.window_shown c d h p (page_in h.row d p h.mode lp) w on direction n colour z some few lc)
+      (λ m is row. planar.window_shown law m c d is row z p (page_in (row_of m) d p row lp) w on direction n colour some few)
+      (λ is row. packed.window_shown law c d is row z p (page_in bytes_320_by_200 d p row lp) w on direction n colour lc some few)
+      s e
+
+  pub page_raised : (p colour : ℕ) → p < pages_of d → colour < 256 → shown (run card_meaning (page_up_plan d p colour) c).0 d
+      ≡ Some (page_up s p colour)
+  page_raised p colour lp lc =
+      let cut = cut_is c d s e in
+      window_shown p lp (whole_page (d.last_row + 1) d.columns) (record { below = omega arith; behind = omega arith; some = omega arith }) Up 1 colour
+      (omega arith) (omega arith) lc
+      ∙ ap (λ n. Some (scroll_window s p (whole_page n d.columns) Up 1 colour)) (sym cut.rows)
+      ∙ ap (λ n. Some (scroll_window s p (whole_page s.layout.rows n) Up 1 colour)) (sym cut.columns)
+
+  module _ (asked : Scroll) (lc : asked.fill < 256) (direction : Direction) where
+    asked_shown : shown (run card_meaning (scroll_plan d asked direction) c).0 d ≡ Some (scroll s asked direction)
+    unfolding scroll_plan
+    asked_shown =
+        by_window (window_among (d.last_row + 1) d.columns asked) refl
+        ∙ ap (λ n. Some (scroll_asked s asked direction (window_among n d.columns asked))) (sym cut.rows)
+        ∙ ap (λ n. Some (scroll_asked s asked direction (window_among s.layout.rows n asked))) (sym cut.columns)
+      where
+        cut : IsCut d s
+        cut = cut_is c d s e
+
+        by_window : (o : Option Window) → window_among (d.last_row + 1) d.columns asked ≡ o → shown (run card_meaning (scroll_within d asked direction o) c).0 d
+            ≡ Some (scroll_asked s asked direction o)
+        by_window None q = e
+        by_window (Some w) q =
+            let on = lies_on (d.last_row + 1) d.columns asked w q in
+            let n = lines_of w asked.lines in
+            window_shown d.page cut.active w on direction n asked.fill (some_lines w asked.lines on.some) (few_lines w asked.lines) lc
+            ∙ ap (λ p. Some (scroll_window s p w direction n asked.fill)) (sym cut.page)
+
+    -- the service's answer, the screen after it, and the beam
+    pub record IsScrolled (r : Regs) : Type 0 where
+      pub answer : (run card_meaning (scroll_plan d asked direction >> (let x : Plan Outcome = Done (r, d) in x)) c).1.0 ≡ r
+      pub shows : (let x = run card_meaning (scroll_plan d asked direction >> (let y : Plan Outcome = Done (r, d) in y)) c in shown x.0 x.1.1)
+          ≡ Some (scroll s asked direction)
+      pub beam : (run card_meaning (scroll_plan d asked direction >> (let x : Plan Outcome = Done (r, d) in x)) c).0.crtc.beam ≡ c.crtc.beam
+
+    pub is_scrolled : (r : Regs) → IsScrolled r
+    is_scrolled r =
+        let done : Plan Outcome = Done (r, d) in
+        let runs = run_bind card_meaning (scroll_plan d asked direction) (λ _. done) c in
+        record {
+          answer = ap (λ q. q.1.0) runs;
+          shows = ap (λ q. shown q.0 q.1.1) runs ∙ asked_shown;
+          beam = plan_beam (scroll_plan d asked direction >> done) c;
+        }
+
+pub scroll_up : KeepsBounds → (asked : Scroll) → asked.fill < 256 → Serves (ScrollUp asked)
+unfolding plan_of refusal_in_mode refusal_on next answer_on
+scroll_up law asked lc fonts r block c d s bytes z bda e = let x = is_scrolled law c d s z e asked lc Up r in
+    record { refusal = refl; answer = λ _. x.answer; shows = λ _. x.shows; beam = x.beam }
+
+pub scroll_down : KeepsBounds → (asked : Scroll) → asked.fill < 256 → Serves (ScrollDown asked)
+unfolding plan_of refusal_in_mode refusal_on next answer_on
+scroll_down law asked lc fonts r block c d s bytes z bda e = let x = is_scrolled law c d s z e asked lc Down r in
+    record { refusal = refl; answer = λ _. x.answer; shows = λ _. x.shows; beam = x.beam }
