@@ -1,5 +1,5 @@
 -- Rows of a band that are copied, and rows that are filled, on any machine whose memory is flat.
-use Rattle.std.proofs.Common.{◌≡◌, ◌≢◌, ℕ, ◌+◌, ◌-◌, ◌*◌, ◌%◌, ◌<◌, ◌≤◌, sym, ap, ◌∙◌, arith, Bool, true, false}
+use Rattle.std.proofs.Common.{◌≡◌, ◌≢◌, ℕ, ◌+◌, ◌-◌, ◌*◌, ◌%◌, ◌<◌, ◌≤◌, sym, ap, ◌∙◌, subst, arith, Bool, true, false}
 use Rattle.std.specs.Prelude.{◌==◌, if◌then◌else◌}
 use Rattle.vga_card.specs.Bus.{Meaning}
 use Rattle.bios_modes.specs.Bda.{BiosData}
@@ -90,8 +90,23 @@ module _ (S X : Type 0) (m : Meaning S) (base size : ℕ) (band : Band) (start r
 
   -- ---- rows are copied
 
-  module _ (R : S → (ℕ → X) → Type 0) (moved : (from to i j : ℕ) (s : S) (f : ℕ → X) → from ≡ base + i → to ≡ base + j → i < size → j < size → R s f →
-      R (run m (move from to) s).0 (set_cell f j (f i))) where
+  -- rows that go down by n, by the rows that take them
+  by_target : (first count n : ℕ) (f g : ℕ → X) → Moved X (Turn (λ _. Line) first (first + count)) (λ h. place h.turn h.place.turn h.place.place.turn)
+      (λ h. place (h.turn + n) h.place.turn h.place.place.turn) f g → Moved X (Turn (λ _. Line) (first + n) (first + n + count))
+      (λ h. place (h.turn - n) h.place.turn h.place.place.turn) (λ h. place h.turn h.place.turn h.place.place.turn) f g
+  by_target first count n f g down = record {
+    inside = λ h.
+        let l = h.from in
+        let e = h.before in
+        let back : h.turn ≡ h.turn - n + n = omega arith in
+        ap (λ r. g (place r h.place.turn h.place.place.turn)) back
+        ∙ down.inside (record { turn = h.turn - n; from = omega arith; before = omega arith; place = h.place });
+    outside = λ x o. down.outside x (λ h.
+        let l = h.from in let e = h.before in o (record { turn = h.turn + n; from = omega arith; before = omega arith; place = h.place }));
+  }
+
+  module _ (R : S → (ℕ → X) → Type 0) (moved : (i j : ℕ) (s : S) (f : ℕ → X) → i < size → j < size → R s f →
+      R (run m (move (base + i) (base + j)) s).0 (set_cell f j (f i))) where
     line_copied : (from to line : ℕ) (s : S) (f : ℕ → X) → from < rows → to < rows → line < band.lines → from ≢ to → R s f →
         Leaves S X R (run m (copy_line band from to line) s).0 (Moved X Column (λ h. place from line h.turn) (λ h. place to line h.turn) f)
     unfolding copy_line
@@ -101,8 +116,10 @@ module _ (S X : Type 0) (m : Meaning S) (base size : ℕ) (band : Band) (start r
         (λ x y _ _ lb lo hi. omega arith)
         (λ k x g lb hi u. record {
           cells = set_cell g (place to line k) (g (place from line k));
-          shown = moved (address_in band from line k) (address_in band to line k) (place from line k) (place to line k) x g (address_is from line k)
-              (address_is to line k) (within from line k lf ll hi) (within to line k lt ll hi) u;
+          shown = subst (λ a. R (run m (move a (address_in band to line k)) x).0 (set_cell g (place to line k) (g (place from line k))))
+              (sym (address_is from line k))
+              (subst (λ a. R (run m (move (base + place from line k) a) x).0 (set_cell g (place to line k) (g (place from line k)))) (sym (address_is to line k))
+              (moved (place from line k) (place to line k) x g (within from line k lf ll hi) (within to line k lt ll hi) u));
           fact = one_move (place from line k) (place to line k) g;
         })
         (λ x y _ _ lb lo hi q. o (same_line from line y to line x ll ll hi (omega arith) q).0)
@@ -146,25 +163,12 @@ module _ (S X : Type 0) (m : Meaning S) (base size : ℕ) (band : Band) (start r
         (λ row x g lb hi u. row_copied row (row + n) x g (omega arith) (omega arith) (omega arith) u)
         (λ x y g h lb lo hi. rows_apart x (y + n) g h (omega arith))
         count top s f (omega arith) (omega arith) t in
-        record {
-          cells = down.cells;
-          shown = down.shown;
-          fact = record {
-            inside = λ h.
-                let l = h.from in
-                let e = h.before in
-                let back : h.turn - n + n ≡ h.turn = omega arith in
-                ap (λ r. down.cells (place r h.place.turn h.place.place.turn)) (sym back)
-                ∙ down.fact.inside (record { turn = h.turn - n; from = omega arith; before = omega arith; place = h.place });
-            outside = λ x o. down.fact.outside x (λ h.
-                let l = h.from in let e = h.before in o (record { turn = h.turn + n; from = omega arith; before = omega arith; place = h.place }));
-          };
-        }
+        record { cells = down.cells; shown = down.shown; fact = by_target top count n f down.cells down.fact }
 
   -- ---- rows are filled, where a byte makes of a cell another
 
-  module _ (R : S → (ℕ → X) → Type 0) (made : ℕ → X → X) (stored : (at j v : ℕ) (s : S) (f : ℕ → X) → at ≡ base + j → j < size → v < 256 → R s f →
-      R (run m (put at v) s).0 (set_cell f j (made v (f j)))) (filling : Filling) (even : filling.even < 256) (odd : filling.odd < 256) where
+  module _ (R : S → (ℕ → X) → Type 0) (made : ℕ → X → X) (stored : (j v : ℕ) (s : S) (f : ℕ → X) → j < size → v < 256 → R s f →
+      R (run m (put (base + j) v) s).0 (set_cell f j (made v (f j)))) (filling : Filling) (even : filling.even < 256) (odd : filling.odd < 256) where
     line_filled : (row line : ℕ) (s : S) (f : ℕ → X) → row < rows → line < band.lines → R s f →
         Leaves S X R (run m (fill_line band filling row line) s).0 (Edited X Column (λ h. place row line h.turn) (λ h x. made (filling_byte filling h.turn) x)
         f)
@@ -175,8 +179,9 @@ module _ (S X : Type 0) (m : Meaning S) (base size : ℕ) (band : Band) (start r
         (λ x y _ _ lb lo hi. omega arith)
         (λ k x g lb hi u. record {
           cells = set_cell g (place row line k) (made (filling_byte filling k) (g (place row line k)));
-          shown = stored (address_in band row line k) (place row line k) (filling_byte filling k) x g (address_is row line k) (within row line k lr ll hi)
-              (filled_small filling k even odd) u;
+          shown = subst (λ a. R (run m (put a (filling_byte filling k)) x).0 (set_cell g (place row line k) (made (filling_byte filling k)
+              (g (place row line k))))) (sym (address_is row line k))
+              (stored (place row line k) (filling_byte filling k) x g (within row line k lr ll hi) (filled_small filling k even odd) u);
           fact = changed_edit (place row line k) (made (filling_byte filling k)) g;
         })
         band.width 0 s f (omega arith) (omega arith) t

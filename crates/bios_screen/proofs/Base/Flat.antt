@@ -24,15 +24,18 @@ list_put true l a v o h = ⊎_elim
     (cases_eq o a)
 list_put false l a v o h = refl
 
--- each place `at h` was changed by F h, and no other cell has changed
-pub record Edited (X H : Type 0) (at : H → ℕ) (F : H → X → X) (old new : ℕ → X) : Type 0 where
-  pub inside : (h : H) → new (at h) ≡ F h (old (at h))
+-- each place `at h` has what F h makes of what `from h` had, and no other cell has changed
+pub record Changed (X H : Type 0) (from at : H → ℕ) (F : H → X → X) (old new : ℕ → X) : Type 0 where
+  pub inside : (h : H) → new (at h) ≡ F h (old (from h))
   pub outside : (x : ℕ) → ((h : H) → x ≢ at h) → new x ≡ old x
 
--- each place `to h` has what `from h` had, and no other cell has changed
-pub record Moved (X H : Type 0) (from to : H → ℕ) (old new : ℕ → X) : Type 0 where
-  pub inside : (h : H) → new (to h) ≡ old (from h)
-  pub outside : (x : ℕ) → ((h : H) → x ≢ to h) → new x ≡ old x
+-- each place `at h` was changed by F h
+abbrev pub Edited : (X H : Type 0) → (H → ℕ) → (H → X → X) → (ℕ → X) → (ℕ → X) → Type 0
+Edited X H at F = Changed X H at at F
+
+-- each place `to h` has what `from h` had
+abbrev pub Moved : (X H : Type 0) → (H → ℕ) → (H → ℕ) → (ℕ → X) → (ℕ → X) → Type 0
+Moved X H from to = Changed X H from to (λ _ x. x)
 
 -- one of the turns from i on, before e, and a place that it changes
 pub record Turn (H : ℕ → Type 0) (i e : ℕ) : Type 0 where

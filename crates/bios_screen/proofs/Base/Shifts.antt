@@ -8,7 +8,7 @@ use Rattle.bios_services.specs.declared.band.Direction.TheVariants.{Up, Down}
 use Rattle.bios_services.specs.declared.filling.Filling.{Filling}
 use Rattle.bios_services.specs.declared.scroll.Window.{Window}
 use Rattle.bios_services.specs.Bands.{filling_byte, move_rows, fill_rows}
-use Rattle.bios_services.specs.Plan.{run, put, move, ◌>>◌}
+use Rattle.bios_services.specs.Plan.{run, put, get, move, ◌>>◌}
 use Rattle.bios_screen.specs.Step.{has_source, source}
 use Rattle.bios_screen.proofs.Base.Flat.{Edited, Moved, Turn, Leaves, set_cell}
 use Rattle.bios_screen.proofs.Base.Plans.{run_bind}
@@ -172,13 +172,23 @@ module _ (X : Type 0) (base size : ℕ) (band : Band) (start rows : ℕ) (window
             (in_turn h _ p.moved_above p.moved_below refl));
       }
 
--- where one filling makes new rows, whatever stood there
+-- what a read of a byte leaves and answers
+pub record IsRead (S : Type 0) (m : Meaning S) (R : S → (ℕ → ℕ) → Type 0) (address : ℕ) (s : S) (f : ℕ → ℕ) (v : ℕ) : Type 0 where
+  pub still : R (run m (get address) s).0 f
+  pub answer : (run m (get address) s).1 ≡ v
+  pub small : v < 256
+
+-- where cells are bytes, and one filling makes new rows, whatever stood there
 module _ (S : Type 0) (m : Meaning S) (base size : ℕ) (band : Band) (start rows : ℕ) (window : Window) (w : IsWindow base size band start rows window)
-    (R : S → (ℕ → ℕ) → Type 0)
-    (moved : (from to i j : ℕ) (s : S) (f : ℕ → ℕ) → from ≡ base + i → to ≡ base + j → i < size → j < size → R s f → R (run m (move from to) s).0
-    (set_cell f j (f i)))
-    (stored : (at j v : ℕ) (s : S) (f : ℕ → ℕ) → at ≡ base + j → j < size → v < 256 → R s f → R (run m (put at v) s).0 (set_cell f j v))
+    (R : S → (ℕ → ℕ) → Type 0) (read : (i : ℕ) (s : S) (f : ℕ → ℕ) → i < size → R s f → IsRead S m R (base + i) s f (f i))
+    (stored : (j v : ℕ) (s : S) (f : ℕ → ℕ) → j < size → v < 256 → R s f → R (run m (put (base + j) v) s).0 (set_cell f j v))
     (filling : Filling) (even : filling.even < 256) (odd : filling.odd < 256) where
+  moved : (i j : ℕ) (s : S) (f : ℕ → ℕ) → i < size → j < size → R s f → R (run m (move (base + i) (base + j)) s).0 (set_cell f j (f i))
+  moved i j s f li lj t =
+      let x = read i s f li t in
+      subst (λ v. R (run m (put (base + j) v) (run m (get (base + i)) s).0).0 (set_cell f j (f i))) (sym x.answer)
+      (stored j (f i) (run m (get (base + i)) s).0 f lj x.small x.still)
+
   pub filled_once : (direction : Direction) (n : ℕ) (s : S) (f : ℕ → ℕ) → 0 < n → n ≤ window.height → R s f →
       Leaves S ℕ R (run m (move_rows band direction n window.top (window.height - n) >> fill_rows band filling (first_new direction window n) n) s).0
       (Gone ℕ base size band start rows window w direction n (λ i _. filling_byte filling i) f)

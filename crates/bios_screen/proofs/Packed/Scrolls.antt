@@ -13,13 +13,13 @@ use Rattle.bios_services.specs.declared.scroll.Window.{Window}
 use Rattle.bios_services.specs.Bands.{filling_byte, plain, fill_plan, scroll_rows}
 use Rattle.bios_services.specs.Cells.{page_base}
 use Rattle.bios_modes.specs.Kinds.{kind_of}
-use Rattle.bios_services.specs.Plan.{run, put, get, move}
+use Rattle.bios_services.specs.Plan.{run}
 use Rattle.bios_services.specs.Scroll.{window_plan}
 use Rattle.bios_screen.specs.Screen.{Screen}
 use Rattle.bios_screen.specs.Shown.{packed_pixel, page_pixels, pixel_screen, shown}
 use Rattle.bios_screen.specs.Step.{pixel_of, pixel_row, pixel_column, in_window, has_source, source, row_pixels, fill_pixel, with_pixels, scroll_pixels}
 use Rattle.bios_screen.specs.Step.{scroll_window}
-use Rattle.bios_screen.proofs.Base.Flat.{Leaves, set_cell}
+use Rattle.bios_screen.proofs.Base.Flat.{Leaves}
 use Rattle.bios_screen.proofs.Base.Kept.{KeepsBounds}
 use Rattle.bios_screen.proofs.Base.Windows.{LiesOn, IsInside, inside_of, inside_test, contrary, by_tests}
 use Rattle.bios_screen.proofs.Base.Bands.{IsWindow, band_by}
@@ -30,25 +30,11 @@ use Rattle.bios_screen.proofs.Planar.Windows.{filled_plain}
 use Rattle.bios_screen.proofs.Packed.Screens as screens
 use Rattle.bios_screen.proofs.Packed.Screens.{IsFlat, put_flat, get_flat}
 
--- a move is a move of a pixel
-pixel_moved : (law : KeepsBounds) (rest : CardState) (from to a b : ℕ) (c : CardState) (f : ℕ → ℕ) → from ≡ 0xA0000 + a → to ≡ 0xA0000 + b → a < 65536 →
-    b < 65536 → IsFlat rest c f → IsFlat rest (run card_meaning (move from to) c).0 (set_cell f b (f a))
-pixel_moved law rest from to a b c f ef et la lb t =
-    let got = get_flat law rest a c f la t in
-    let v = (run card_meaning (get (0xA0000 + a)) c).1 in
-    let c1 = (run card_meaning (get (0xA0000 + a)) c).0 in
-    let small : packed_pixel c.host.memory a < 256 = t.bounds.host.memory.bytes (a % 4) (omega arith) (a / 4 * 4) in
-    let lv : v < 256 = subst (λ i. i < 256) (sym (got.value ∙ sym (t.cell a))) small in
-    let t2 = put_flat law rest b v c1 f lb lv got.still in
-    let moved : IsFlat rest (run card_meaning (move (0xA0000 + a) (0xA0000 + b)) c).0 (set_cell f b (f a)) =
-    subst (λ i. IsFlat rest (run card_meaning (put (0xA0000 + b) v) c1).0 (set_cell f b i)) got.value t2 in
-    subst (λ i. IsFlat rest (run card_meaning (move i to) c).0 (set_cell f b (f a))) (sym ef)
-    (subst (λ i. IsFlat rest (run card_meaning (move (0xA0000 + a) i) c).0 (set_cell f b (f a))) (sym et) moved)
-
-pixel_put_at : (law : KeepsBounds) (rest : CardState) (at j v : ℕ) (c : CardState) (f : ℕ → ℕ) → at ≡ 0xA0000 + j → j < 65536 → v < 256 → IsFlat rest c f →
-    IsFlat rest (run card_meaning (put at v) c).0 (set_cell f j v)
-pixel_put_at law rest at j v c f ea lj lv t = subst (λ x. IsFlat rest (run card_meaning (put x v) c).0 (set_cell f j v)) (sym ea)
-    (put_flat law rest j v c f lj lv t)
+pixel_read : (law : KeepsBounds) (rest : CardState) (i : ℕ) (c : CardState) (f : ℕ → ℕ) → i < 65536 → IsFlat rest c f →
+    shifts.IsRead CardState card_meaning (IsFlat rest) (0xA0000 + i) c f (f i)
+pixel_read law rest i c f l t =
+    let got = get_flat law rest i c f l t in
+    record { still = got.still; answer = got.value; small = subst (λ v. v < 256) (t.cell i) (t.bounds.host.memory.bytes (i % 4) (omega arith) (i / 4 * 4)) }
 
 module _ (law : KeepsBounds) (c : CardState) (d : BiosData) (t : IsPacked c d) (e : row_at d.mode d.height ≡ Some bytes_320_by_200) (z : IsCard c) (p : ℕ)
     (lp : p < bytes_320_by_200.pages) (w : Window) (on : LiesOn (d.last_row + 1) d.columns w) (direction : Direction) (n colour : ℕ) (lc : colour < 256) where
@@ -85,7 +71,7 @@ module _ (law : KeepsBounds) (c : CardState) (d : BiosData) (t : IsPacked c d) (
       (run card_meaning (scroll_rows band direction w.top w.height n colour) c).0 (Goes old)
   unfolding scroll_rows fill_plan
   went some few = shifts.filled_once CardState card_meaning 0xA0000 65536 band 0 (d.last_row + 1) w window (IsFlat (without_drawing c))
-      (pixel_moved law (without_drawing c)) (pixel_put_at law (without_drawing c)) (plain colour) lc lc direction n c old some few (screens.begins c d t e z)
+      (pixel_read law (without_drawing c)) (λ j v y f lj lv u. put_flat law (without_drawing c) j v y f lj lv u) (plain colour) lc lc direction n c old some few (screens.begins c d t e z)
 
   -- ---- the pixels
 

@@ -49,9 +49,9 @@ unfolding byte_of written_bit combined_bit
 plainly e d v mask q old = refl
 
 -- a move is a move of four bytes
-cell_moved : (law : KeepsBounds) (rest : CardState) (e d : ℕ) → is_set e 1 ≡ true → (from to a b : ℕ) (c : CardState) (f : ℕ → Four ℕ) → from ≡ 0xA0000 + a →
-    to ≡ 0xA0000 + b → a < 65536 → b < 65536 → Drawn rest e d copying c f → Drawn rest e d copying (run card_meaning (move from to) c).0 (set_cell f b (f a))
-cell_moved law rest e d on from to a b c f ef et la lb t =
+cell_moved : (law : KeepsBounds) (rest : CardState) (e d : ℕ) → is_set e 1 ≡ true → (a b : ℕ) (c : CardState) (f : ℕ → Four ℕ) → a < 65536 → b < 65536 →
+    Drawn rest e d copying c f → Drawn rest e d copying (run card_meaning (move (0xA0000 + a) (0xA0000 + b)) c).0 (set_cell f b (f a))
+cell_moved law rest e d on a b c f la lb t =
     let v = (run card_meaning (get (0xA0000 + a)) c).1 in
     let c1 = (run card_meaning (get (0xA0000 + a)) c).0 in
     let loaded = get_loads law rest e d a copying t.latches c f on t.is la in
@@ -59,26 +59,20 @@ cell_moved law rest e d on from to a b c f ef et la lb t =
     let same = latched e d v (f a) (f b) small in
     let put_there = subst (λ x. Loaded rest e d copying (run card_meaning (put (0xA0000 + b) v) c1).0 (set_cell f b x) (f a)) same
     (put_draws law rest e d b v copying (f a) c1 f on loaded lb) in
-    let moved : Drawn rest e d copying (run card_meaning (move (0xA0000 + a) (0xA0000 + b)) c).0 (set_cell f b (f a)) =
-    record { latches = f a; is = put_there } in
-    subst (λ x. Drawn rest e d copying (run card_meaning (move x to) c).0 (set_cell f b (f a))) (sym ef)
-    (subst (λ x. Drawn rest e d copying (run card_meaning (move (0xA0000 + a) x) c).0 (set_cell f b (f a))) (sym et) moved)
+    record { latches = f a; is = put_there }
   where
     by_four : (c : CardState) (a : ℕ) → Loaded rest e d copying c f t.latches → (p : ℕ) → p < 4 → of_plane (bytes_at c.host.memory a) p < 256
     by_four c a u p l = by_plane (λ p. of_plane (bytes_at c.host.memory a) p < 256) (u.bounds.host.memory.bytes 0 (omega arith) a)
         (u.bounds.host.memory.bytes 1 (omega arith) a) (u.bounds.host.memory.bytes 2 (omega arith) a) (u.bounds.host.memory.bytes 3 (omega arith) a) p l
 
 -- a Put of a byte to the planes of a mask
-cell_put : (law : KeepsBounds) (rest : CardState) (e d mask : ℕ) → is_set e 1 ≡ true → (at j v : ℕ) (c : CardState) (f : ℕ → Four ℕ) → at ≡ 0xA0000 + j →
-    j < 65536 → v < 256 → Drawn rest e d (planes_of mask) c f → Drawn rest e d (planes_of mask) (run card_meaning (put at v) c).0
-    (set_cell f j (masked mask v (f j)))
-cell_put law rest e d mask on at j v c f ea lj lv t =
-    subst (λ x. Drawn rest e d (planes_of mask) (run card_meaning (put x v) c).0 (set_cell f j (masked mask v (f j)))) (sym ea)
-    (record {
-      latches = t.latches;
-      is = subst (λ x. Loaded rest e d (planes_of mask) (run card_meaning (put (0xA0000 + j) v) c).0 (set_cell f j x) t.latches)
-          (plainly e d v mask t.latches (f j)) (put_draws law rest e d j v (planes_of mask) t.latches c f on t.is lj);
-    })
+cell_put : (law : KeepsBounds) (rest : CardState) (e d mask : ℕ) → is_set e 1 ≡ true → (j v : ℕ) (c : CardState) (f : ℕ → Four ℕ) → j < 65536 → v < 256 →
+    Drawn rest e d (planes_of mask) c f → Drawn rest e d (planes_of mask) (run card_meaning (put (0xA0000 + j) v) c).0 (set_cell f j (masked mask v (f j)))
+cell_put law rest e d mask on j v c f lj lv t = record {
+  latches = t.latches;
+  is = subst (λ x. Loaded rest e d (planes_of mask) (run card_meaning (put (0xA0000 + j) v) c).0 (set_cell f j x) t.latches)
+      (plainly e d v mask t.latches (f j)) (put_draws law rest e d j v (planes_of mask) t.latches c f on t.is lj);
+}
 
 pub filled_plain : (v i : ℕ) → filling_byte (plain v) i ≡ v
 filled_plain v i = by_test (i % 2 == 0)

@@ -13,12 +13,12 @@ use Rattle.bios_services.specs.declared.band.Direction.{Direction}
 use Rattle.bios_services.specs.declared.band.Direction.TheVariants.{Up, Down}
 use Rattle.bios_services.specs.declared.scroll.Window.{Window}
 use Rattle.bios_services.specs.Bands.{filling_byte, blank, scroll_rows, fill_plan}
-use Rattle.bios_services.specs.Plan.{run, put, get, move}
+use Rattle.bios_services.specs.Plan.{run}
 use Rattle.bios_services.specs.Scroll.{window_plan}
 use Rattle.bios_screen.specs.Screen.{Screen, page_start}
 use Rattle.bios_screen.specs.Shown.{all_cells, shown}
 use Rattle.bios_screen.specs.Step.{row_on, column_on, in_window, has_source, source, scroll_cells, scroll_window, cell_on}
-use Rattle.bios_screen.proofs.Base.Flat.{Leaves, set_cell}
+use Rattle.bios_screen.proofs.Base.Flat.{Leaves}
 use Rattle.bios_screen.proofs.Base.Places.{twice, ends_before, rows_further, row_and_column}
 use Rattle.bios_screen.proofs.Base.CellPlaces.{over, rest}
 use Rattle.bios_screen.proofs.Base.Tests.{both_true, both_are, lt_is, le_is, le_test}
@@ -76,20 +76,9 @@ module _ (c : CardState) (d : BiosData) (h : IsShown c d) (p : ℕ) (lp : p < h.
   abbrev Textual : CardState → (ℕ → ℕ) → Type 0
   Textual = IsTextual h.display (without_text c)
 
-  text_moved : (from to i j : ℕ) (x : CardState) (f : ℕ → ℕ) → from ≡ base_of h.display + i → to ≡ base_of h.display + j → i < 32768 → j < 32768 → Textual x f →
-      Textual (run card_meaning (move from to) x).0 (set_cell f j (f i))
-  text_moved from to i j x f ei ej li lj t =
-      let read = text_get h.display (without_text c) x f i li t in
-      let y = (run card_meaning (get (base_of h.display + i)) x).0 in
-      let put_there = subst (λ v. Textual (run card_meaning (put (base_of h.display + j) v) y).0 (set_cell f j (f i))) (sym read.answer)
-      (text_put h.display (without_text c) y f j (f i) lj (t.small i li) read.text) in
-      subst (λ n. Textual (run card_meaning (move n to) x).0 (set_cell f j (f i))) (sym ei)
-      (subst (λ n. Textual (run card_meaning (move (base_of h.display + i) n) x).0 (set_cell f j (f i))) (sym ej) put_there)
-
-  text_stored : (at j v : ℕ) (x : CardState) (f : ℕ → ℕ) → at ≡ base_of h.display + j → j < 32768 → v < 256 → Textual x f →
-      Textual (run card_meaning (put at v) x).0 (set_cell f j v)
-  text_stored at j v x f e l lv t = subst (λ n. Textual (run card_meaning (put n v) x).0 (set_cell f j v)) (sym e)
-      (text_put h.display (without_text c) x f j v l lv t)
+  byte_read : (i : ℕ) (x : CardState) (f : ℕ → ℕ) → i < 32768 → Textual x f → shifts.IsRead CardState card_meaning Textual (base_of h.display + i) x f (f i)
+  byte_read i x f l t = let read = text_get h.display (without_text c) x f i l t in
+      record { still = read.text; answer = read.answer; small = t.small i l }
 
   abbrev IsIn : ℕ → Type 0
   IsIn b = shifts.IsIn ℕ (base_of h.display) 32768 band (d.size * p) (d.last_row + 1) w window b
@@ -100,8 +89,8 @@ module _ (c : CardState) (d : BiosData) (h : IsShown c d) (p : ℕ) (lp : p < h.
   went : 0 < n → n ≤ w.height → attribute < 256 → (x : CardState) (f : ℕ → ℕ) → Textual x f →
       Leaves CardState ℕ Textual (run card_meaning (scroll_rows band direction w.top w.height n attribute) x).0 (Gone f)
   unfolding scroll_rows fill_plan
-  went some few la x f t = shifts.filled_once CardState card_meaning (base_of h.display) 32768 band (d.size * p) (d.last_row + 1) w window Textual text_moved
-      text_stored (blank attribute) (omega arith) la direction n x f some few t
+  went some few la x f t = shifts.filled_once CardState card_meaning (base_of h.display) 32768 band (d.size * p) (d.last_row + 1) w window Textual byte_read
+      (λ j v y g lj lv u. text_put h.display (without_text c) y g j v lj lv u) (blank attribute) (omega arith) la direction n x f some few t
 
   -- ---- the cells of the bytes
 
