@@ -1,5 +1,5 @@
 -- Pixels of 256 colours are written and read.
-use Rattle.std.proofs.Common.{◌≡◌, ℕ, ◌+◌, ◌*◌, ◌/◌, ◌%◌, ◌<◌, refl, sym, ap, ◌∙◌, subst, arith, List, Some}
+use Rattle.std.proofs.Common.{◌≡◌, ℕ, ◌+◌, ◌*◌, ◌/◌, ◌%◌, ◌<◌, sym, ap, ◌∙◌, subst, arith, List, Some}
 use Rattle.std.specs.Prelude.{◌==◌, if◌then◌else◌}
 use Rattle.vga_host.specs.MemoryRead.{loaded}
 use Rattle.vga_card.specs.Bounds.{IsCard}
@@ -20,12 +20,15 @@ use Rattle.bios_screen.specs.Shown.{packed_pixel, pixel_screen, shown}
 use Rattle.bios_screen.specs.Step.{with_pixels, colour_over, change_pixel}
 use Rattle.bios_screen.specs.Served.{IsServed}
 use Rattle.bios_screen.proofs.Base.Flat.{set_cell}
-use Rattle.bios_screen.proofs.Base.Setting.{host_at, with_memory, get_decoded}
+use Rattle.bios_screen.proofs.Base.Setting.{host_at, get_decoded}
 use Rattle.bios_screen.proofs.Modes.PixelModes.{setting_in}
 use Rattle.bios_screen.proofs.Modes.PixelModes.Graphics.{Many}
 use Rattle.bios_screen.proofs.Shows.Pixels.{pixels_shown_of}
 use Rattle.bios_screen.proofs.Dots.PackedDots.{IsPacked}
-use Rattle.bios_screen.proofs.Packed.Memory.{decoded, byte_read, put_is, pixel_put, packed_memory}
+use Rattle.bios_screen.proofs.Packed.Memory.{decoded, byte_read}
+use Rattle.bios_screen.proofs.Base.Kept.{KeepsBounds}
+use Rattle.bios_screen.proofs.Planar.Settings.{without_drawing}
+use Rattle.bios_screen.proofs.Packed.Screens.{put_flat}
 use Rattle.bios_screen.proofs.Packed.Screens as screens
 use Rattle.bios_screen.proofs.Pixels.Dots as services
 use Rattle.bios_screen.proofs.Pixels.Dots.{There, number_within, IsRead}
@@ -62,31 +65,22 @@ module _ (c : CardState) (d : BiosData) (t : IsPacked c d) (e : row_at d.mode d.
       t.number
       ∙ ap (λ a. put a colour) (address_is x y)
 
-  dot_shown : (x y colour : ℕ) → There bytes_320_by_200 d 0 x y → shown (with_memory c (packed_memory c.host.memory (number x y) colour)) d
-      ≡ Some (with_pixels s 0 (change_pixel (number x y) (colour_over d.mode colour)))
-  dot_shown x y colour h =
-      let n = number x y in
-      let m = c.host.memory in
-      let l = number_small x y h in
-      screens.pixels_redrawn c d t e z (with_memory c (packed_memory m n colour)) (set_cell (packed_pixel m) n colour)
-      (change_pixel n (colour_over d.mode colour)) (screens.setting_is c d t e z)
-      (λ k. pixel_put m n colour k z.host.memory.size (omega arith)) refl
-      (λ k lk.
-      ap (λ v. if k == n then v else packed_pixel m k) (sym (ap (λ i. colour_over i colour (packed_pixel m k)) t.number))
-      ∙ ap (λ v. if k == n then colour_over d.mode colour v else v) (sym (screens.pixel_is c d t e z k lk)))
-
-  pub write_pixel : (page x y colour : ℕ) (fonts : FontSet) (r : Regs) (block : List ℕ) → colour < 256 →
+  pub write_pixel : KeepsBounds → (page x y colour : ℕ) (fonts : FontSet) (r : Regs) (block : List ℕ) → colour < 256 →
       IsServed (WritePixel page x y colour) fonts r block c d s
-  write_pixel page x y colour fonts r block lc = services.write_pixel bytes_320_by_200 c d e page x y colour fonts r block (λ p h.
+  write_pixel law page x y colour fonts r block lc = services.write_pixel bytes_320_by_200 c d e page x y colour fonts r block (λ p h.
       let lp = h.page in
       let first : 0 ≡ p = omega arith in
-      let h0 : There bytes_320_by_200 d 0 x y = subst (λ i. There bytes_320_by_200 d i x y) (sym first) h in
-      let l = number_small x y h0 in
+      let n = number x y in
+      let m = c.host.memory in
+      let l = number_small x y (subst (λ i. There bytes_320_by_200 d i x y) (sym first) h) in
       subst (λ i. shown (run card_meaning (write_pixel_plan d i x y colour) c).0 d
-      ≡ Some (with_pixels s i (change_pixel (number x y) (colour_over d.mode colour)))) first
+      ≡ Some (with_pixels s i (change_pixel n (colour_over d.mode colour)))) first
       (ap (λ q. shown (run card_meaning q c).0 d) (write_is x y colour)
-      ∙ ap (λ q. shown q d) (put_is c (number x y) colour (screens.setting_is c d t e z) (omega arith) lc)
-      ∙ dot_shown x y colour h0))
+      ∙ screens.page_redrawn c d t e z (run card_meaning (put (0xA0000 + n) colour) c).0 (set_cell (packed_pixel m) n colour)
+      (change_pixel n (colour_over d.mode colour))
+      (put_flat law (without_drawing c) n colour c (packed_pixel m) (omega arith) lc (screens.begins c d t e z))
+      (λ k lk. ap (λ v. if k == n then v else packed_pixel m k) (sym (ap (λ i. colour_over i colour (packed_pixel m k)) t.number))
+      ∙ ap (λ v. if k == n then colour_over d.mode colour v else v) (sym (screens.pixel_is c d t e z k lk)))))
 
   -- ---- 0D
 

@@ -1,5 +1,5 @@
 -- Drawn memory of 256 colours as a flat list of pixels, and the screen that it shows.
-use Rattle.std.proofs.Common.{◌≡◌, ℕ, ◌+◌, ◌*◌, ◌/◌, ◌%◌, ◌<◌, refl, sym, ap, ◌∙◌, subst, arith, List, [], ◌∷◌, length, get_or, Some, false}
+use Rattle.std.proofs.Common.{◌≡◌, ℕ, ◌+◌, ◌*◌, ◌/◌, ◌%◌, ◌<◌, refl, sym, ap, ◌∙◌, subst, arith, List, Some, false}
 use Rattle.std.specs.Prelude.{◌==◌, if◌then◌else◌}
 use Rattle.vga_bits.specs.Four.{Four}
 use Rattle.vga_card.specs.Bounds.{IsCard}
@@ -10,17 +10,15 @@ use Rattle.bios_modes.specs.Modes.{bytes_320_by_200}
 use Rattle.bios_modes.specs.Heights.{row_at}
 use Rattle.bios_modes.specs.Kinds.{is_text, is_packed}
 use Rattle.bios_services.specs.Plan.{run, put, get}
-use Rattle.bios_screen.specs.Listing.{listing}
-use Rattle.bios_screen.specs.Screen.{Pixels, Screen}
-use Rattle.bios_screen.specs.Shown.{packed_pixel, planar_pixel, pixel_in, pixels_in, pixel_pages, page_pixels, screen_by, pixel_screen, shown}
+use Rattle.bios_screen.specs.Screen.{Screen}
+use Rattle.bios_screen.specs.Shown.{packed_pixel, planar_pixel, pixel_in, page_pixels, pixel_screen, shown}
 use Rattle.bios_screen.specs.Step.{pixel_of, with_pixels}
 use Rattle.bios_screen.proofs.Base.Flat.{set_cell}
-use Rattle.bios_screen.proofs.Base.Lists.{same_from_0, length_listing}
 use Rattle.bios_screen.proofs.Base.Kept.{KeepsBounds, plan_bounds}
 use Rattle.bios_screen.proofs.Base.Setting.{setting, with_memory, get_decoded}
 use Rattle.bios_screen.proofs.Modes.PixelModes.{setting_in}
 use Rattle.bios_screen.proofs.Modes.PixelModes.Graphics.{Many}
-use Rattle.bios_screen.proofs.Pixels.NewPixels.{redrawn}
+use Rattle.bios_screen.proofs.Pixels.NewPixels.{page_renewed, pixels_stay}
 use Rattle.bios_screen.proofs.Dots.PixelDots.{pixel_at}
 use Rattle.bios_screen.proofs.Shows.Screens.{setting_by}
 use Rattle.bios_screen.proofs.Dots.PackedDots.{IsPacked}
@@ -93,32 +91,15 @@ module _ (c : CardState) (d : BiosData) (t : IsPacked c d) (e : row_at d.mode d.
   pixel_is k l = pixel_at d.mode c.host.memory d.size (page_pixels d) 1 0 k (omega arith) l ∙ pixel_by c.host.memory k
 
   -- what the adapter shows where the page has other pixels
-  pub pixels_redrawn : (y : CardState) (f : ℕ → ℕ) (change : (ℕ → ℕ) → ℕ → ℕ) → setting y ≡ setting_in Many → ((k : ℕ) → packed_pixel y.host.memory k ≡ f k) →
-      without_drawing y ≡ without_drawing c → ((k : ℕ) → k < page_pixels d → f k ≡ change (pixel_of s 0) k) → shown y d ≡ Some (with_pixels s 0 change)
-  unfolding pixel_pages pixels_in
-  pixels_redrawn y f change mode cell others inside =
-      let row = bytes_320_by_200 in
-      let n = page_pixels d in
-      let old = pixel_pages d.mode c.host.memory d.size n 1 in
-      let long : length (get_or old 0 []) ≡ n = length_listing (pixel_in d.mode c.host.memory (d.size * 0)) 0 n in
-      let page : pixels_in d.mode y.host.memory (d.size * 0) n ≡ listing (change (pixel_of s 0)) 0 (length (get_or old 0 [])) =
-      same_from_0 (change (pixel_of s 0)) (pixel_in d.mode y.host.memory (d.size * 0)) n (λ k l. pixel_by y.host.memory k ∙ cell k ∙ inside k l)
-      ∙ ap (listing (change (pixel_of s 0)) 0) (sym long) in
-      redrawn row c y d e text t.tests (mode ∙ sym setting_is) others
-      ∙ ap (λ x. Some (screen_by row c d 0 (Pixels (x ∷ [])) [])) page
-
   pub page_redrawn : (y : CardState) (f : ℕ → ℕ) (change : (ℕ → ℕ) → ℕ → ℕ) → IsFlat (without_drawing c) y f →
       ((k : ℕ) → k < page_pixels d → f k ≡ change (pixel_of s 0) k) → shown y d ≡ Some (with_pixels s 0 change)
-  page_redrawn y f change h inside = pixels_redrawn y f change h.mode h.cell h.others inside
+  page_redrawn y f change h inside =
+      page_renewed bytes_320_by_200 c y d e text t.tests (h.mode ∙ sym setting_is) h.others 0 change (omega arith)
+      (λ k l. pixel_by y.host.memory k ∙ h.cell k ∙ inside k l) (λ g k lg w l. absurd (w (omega arith)))
 
   -- and where all pixels are as they were, the screen stays
   pub stays : (y : CardState) → IsFlat (without_drawing c) y (packed_pixel c.host.memory) → shown y d ≡ Some s
-  unfolding pixel_pages pixels_in
-  stays y h =
-      let row = bytes_320_by_200 in
-      let n = page_pixels d in
-      let page : pixels_in d.mode y.host.memory (d.size * 0) n ≡ pixels_in d.mode c.host.memory (d.size * 0) n =
-      same_from_0 (pixel_in d.mode c.host.memory (d.size * 0)) (pixel_in d.mode y.host.memory (d.size * 0)) n (λ k l. pixel_by y.host.memory k ∙ h.cell k
-      ∙ sym (pixel_by c.host.memory k)) in
-      redrawn row c y d e text t.tests (h.mode ∙ sym setting_is) h.others
-      ∙ ap (λ x. Some (screen_by row c d 0 (Pixels (x ∷ [])) [])) page
+  stays y h = pixels_stay bytes_320_by_200 c y d e text t.tests (h.mode ∙ sym setting_is) h.others (λ g k lg _.
+      let first : g ≡ 0 = omega arith in
+      ap (λ i. pixel_in d.mode y.host.memory (d.size * i) k) first ∙ pixel_by y.host.memory k ∙ h.cell k ∙ sym (pixel_by c.host.memory k)
+      ∙ ap (λ i. pixel_in d.mode c.host.memory (d.size * i) k) (sym first))

@@ -1,22 +1,62 @@
--- Where a service changes pixels alone: the screen around the pages that are then in memory.
-use Rattle.std.proofs.Common.{◌≡◌, ap, ◌∙◌, [], Some, false}
+-- Where a service changes pixels alone: from pixels that are known one by one to the next screen.
+use Rattle.std.proofs.Common.{◌≡◌, ◌≢◌, ℕ, ◌*◌, ◌<◌, sym, ap, ◌∙◌, List, [], length, get_or, Some, false}
+use Rattle.std.specs.Prelude.{set}
+use Rattle.vga_bits.specs.Four.{Four}
 use Rattle.vga_card.specs.Card.{CardState}
 use Rattle.bios_modes.specs.declared.modes.ModeRow.{ModeRow}
 use Rattle.bios_modes.specs.Heights.{row_at}
 use Rattle.bios_modes.specs.Bda.{BiosData}
 use Rattle.bios_modes.specs.Kinds.{is_text}
-use Rattle.bios_screen.specs.Screen.{Pixels}
-use Rattle.bios_screen.specs.Shown.{shows_attribute, pixel_pages, page_pixels, screen_by, shown}
+use Rattle.bios_screen.specs.Listing.{listing}
+use Rattle.bios_screen.specs.Screen.{Pixels, Screen}
+use Rattle.bios_screen.specs.Shown.{shows_attribute, pixel_in, pixels_in, pixel_pages, page_pixels, screen_by, pixel_screen, shown}
+use Rattle.bios_screen.specs.Step.{pixel_of, with_pixels}
+use Rattle.bios_screen.proofs.Base.Lists.{same_from_0, length_listing, listed_at, listing_set}
 use Rattle.bios_screen.proofs.Base.Setting.{setting}
 use Rattle.bios_screen.proofs.Shows.Screens.{AllTests}
 use Rattle.bios_screen.proofs.Shows.Pixels.{pixels_shown_of}
 use Rattle.bios_screen.proofs.Shows.Any.{same_tests}
 use Rattle.bios_screen.proofs.Planar.Settings.{without_drawing}
 
-pub redrawn : (row : ModeRow) (c y : CardState) (d : BiosData) → row_at d.mode d.height ≡ Some row → is_text d.mode ≡ false → AllTests row c d →
-    setting y ≡ setting c → without_drawing y ≡ without_drawing c → shown y d ≡ Some
-    (screen_by row c d 0 (Pixels (pixel_pages d.mode y.host.memory d.size (page_pixels d) row.pages)) [])
-redrawn row c y d e text t same others =
-    pixels_shown_of y d row e text (same_tests row c y d same (ap (λ (x : CardState). x.crtc.registers) others)
-    (ap (λ (x : CardState). shows_attribute row x.attr) others ∙ t.attribute) t)
-    ∙ ap (λ (x : CardState). Some (screen_by row x d 0 (Pixels (pixel_pages d.mode y.host.memory d.size (page_pixels d) row.pages)) [])) others
+module _ (row : ModeRow) (c y : CardState) (d : BiosData) (e : row_at d.mode d.height ≡ Some row) (text : is_text d.mode ≡ false) (t : AllTests row c d)
+    (same : setting y ≡ setting c) (others : without_drawing y ≡ without_drawing c) where
+  abbrev s : Screen
+  s = pixel_screen row c d
+
+  abbrev n : ℕ
+  n = page_pixels d
+
+  -- pixel k of page g
+  abbrev pixel : Four (List ℕ) → ℕ → ℕ → ℕ
+  pixel m g k = pixel_in d.mode m (d.size * g) k
+
+  abbrev page : Four (List ℕ) → ℕ → List ℕ
+  page m g = pixels_in d.mode m (d.size * g) n
+
+  -- the screen around the pages that are then in memory
+  redrawn : shown y d ≡ Some (screen_by row c d 0 (Pixels (pixel_pages d.mode y.host.memory d.size n row.pages)) [])
+  redrawn =
+      pixels_shown_of y d row e text (same_tests row c y d same (ap (λ (x : CardState). x.crtc.registers) others)
+      (ap (λ (x : CardState). shows_attribute row x.attr) others ∙ t.attribute) t)
+      ∙ ap (λ (x : CardState). Some (screen_by row x d 0 (Pixels (pixel_pages d.mode y.host.memory d.size n row.pages)) [])) others
+
+  -- one page has other pixels
+  pub page_renewed : (p : ℕ) (change : (ℕ → ℕ) → ℕ → ℕ) → p < row.pages → ((k : ℕ) → k < n → pixel y.host.memory p k ≡ change (pixel_of s p) k)
+      → ((g k : ℕ) → g < row.pages → g ≢ p → k < n → pixel y.host.memory g k ≡ pixel c.host.memory g k) → shown y d ≡ Some (with_pixels s p change)
+  unfolding pixel_pages pixels_in
+  page_renewed p change lp inside outside =
+      let old = pixel_pages d.mode c.host.memory d.size n row.pages in
+      let new = listing (change (pixel_of s p)) 0 n in
+      let long : length (get_or old p []) ≡ n = ap length (listed_at (page c.host.memory) row.pages p [] lp) ∙ length_listing (pixel c.host.memory p) 0 n in
+      let pages : pixel_pages d.mode y.host.memory d.size n row.pages ≡ set old p new =
+      listing_set (page c.host.memory) (page y.host.memory) row.pages p new lp (same_from_0 (change (pixel_of s p)) (pixel y.host.memory p) n inside)
+      (λ g lg w. same_from_0 (pixel c.host.memory g) (pixel y.host.memory g) n (λ k l. outside g k lg w l)) in
+      redrawn ∙ ap (λ x. Some (screen_by row c d 0 (Pixels x) [])) (pages ∙ ap (λ i. set old p (listing (change (pixel_of s p)) 0 i)) (sym long))
+
+  -- and where all pixels are as they were, the screen stays
+  pub pixels_stay : ((g k : ℕ) → g < row.pages → k < n → pixel y.host.memory g k ≡ pixel c.host.memory g k) → shown y d ≡ Some s
+  unfolding pixel_pages pixels_in
+  pixels_stay stay =
+      redrawn
+      ∙ ap (λ x. Some (screen_by row c d 0 (Pixels x) [])) (same_from_0 (page c.host.memory) (page y.host.memory) row.pages (λ g lg.
+      same_from_0 (pixel c.host.memory g) (pixel y.host.memory g) n (λ k l. stay g k lg l)))

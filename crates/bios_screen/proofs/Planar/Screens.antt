@@ -1,7 +1,7 @@
 -- From drawn memory of sixteen colours to the screen that it shows, in which one page is drawn anew.
-use Rattle.std.proofs.Common.{◌≡◌, ◌≢◌, ℕ, ◌+◌, ◌*◌, ◌/◌, ◌%◌, ◌<◌, ◌≤◌, ◌⊎◌, inl, inr, ⊎_elim, refl, sym, ap, ◌∙◌, subst, arith, [], length, get_or, Some}
+use Rattle.std.proofs.Common.{◌≡◌, ◌≢◌, ℕ, ◌+◌, ◌*◌, ◌/◌, ◌%◌, ◌<◌, ◌≤◌, ◌⊎◌, inl, inr, ⊎_elim, refl, sym, ap, ◌∙◌, subst, arith, List, Some}
 use Rattle.std.proofs.Common.{false}
-use Rattle.std.specs.Prelude.{slice_index, set, if◌then◌else◌}
+use Rattle.std.specs.Prelude.{slice_index, if◌then◌else◌}
 use Rattle.std.proofs.lemmas.Bool.{cases_lt}
 use Rattle.vga_bits.specs.Four.{Four}
 use Rattle.vga_planes.specs.Planes.{bytes_at}
@@ -10,17 +10,15 @@ use Rattle.vga_card.specs.Card.{CardState}
 use Rattle.bios_modes.specs.Bda.{BiosData}
 use Rattle.bios_modes.specs.Heights.{row_at}
 use Rattle.bios_modes.specs.Kinds.{is_text, is_packed}
-use Rattle.bios_screen.specs.Listing.{listing}
-use Rattle.bios_screen.specs.Screen.{Pixels, Screen}
-use Rattle.bios_screen.specs.Shown.{packed_pixel, planar_pixel, pixel_in, pixels_in, pixel_pages, page_pixels, screen_by, pixel_screen, shown}
+use Rattle.bios_screen.specs.Screen.{Screen}
+use Rattle.bios_screen.specs.Shown.{packed_pixel, planar_pixel, pixel_in, page_pixels, pixel_screen, shown}
 use Rattle.bios_screen.specs.Step.{pixel_of, with_pixels}
-use Rattle.bios_screen.proofs.Base.Lists.{same_from_0, length_listing, listed_at, listing_set}
 use Rattle.bios_screen.proofs.Base.Places.{ends_before}
 use Rattle.bios_screen.proofs.Base.Setting.{setting}
 use Rattle.bios_screen.proofs.Modes.PixelModes.{Planes, row_of, setting_in, text_by, packed_by}
 use Rattle.bios_screen.proofs.Modes.PixelModes.Planes.{Low, Middle, High}
 use Rattle.bios_screen.proofs.Modes.PixelModes.Graphics.{Sixteen}
-use Rattle.bios_screen.proofs.Pixels.NewPixels.{redrawn}
+use Rattle.bios_screen.proofs.Pixels.NewPixels.{page_renewed, pixels_stay}
 use Rattle.bios_screen.proofs.Shows.Screens.{setting_by}
 use Rattle.bios_screen.proofs.Dots.PixelDots.{pixel_at}
 use Rattle.bios_screen.proofs.Dots.PlanarDots.{IsPlanar}
@@ -81,11 +79,11 @@ module _ (m : Planes) (c : CardState) (d : BiosData) (t : IsPlanar m c d) (e : r
       (inside, subst (λ x. x < d.size) k (room (8 * b) inside))
 
   -- a pixel of a page is one of its byte of each plane
+  pixel_by : (f : Four (List ℕ)) (p k : ℕ) → pixel_in d.mode f (d.size * p) k ≡ nibble_of (bytes_at f (d.size * p + k / 8)) (k % 8)
+  pixel_by f p k = ap (λ b. if b then packed_pixel f (d.size * p + k) else planar_pixel f (d.size * p) k) (ap is_packed t.number ∙ packed_by m)
+
   pub pixel_is : (p k : ℕ) → p < (row_of m).pages → k < page_pixels d → pixel_of s p k ≡ nibble_of (bytes_at c.host.memory (d.size * p + k / 8)) (k % 8)
-  pixel_is p k lp l =
-      let f = c.host.memory in
-      pixel_at d.mode f d.size (page_pixels d) (row_of m).pages p k lp l
-      ∙ ap (λ b. if b then packed_pixel f (d.size * p + k) else planar_pixel f (d.size * p) k) (ap is_packed t.number ∙ packed_by m)
+  pixel_is p k lp l = pixel_at d.mode c.host.memory d.size (page_pixels d) (row_of m).pages p k lp l ∙ pixel_by c.host.memory p k
 
   -- other pages lie apart
   apart : (p q k : ℕ) → p ≢ q → k < d.size → (d.size * q + k < d.size * p) ⊎ (d.size * p + d.size ≤ d.size * q + k)
@@ -103,43 +101,15 @@ module _ (m : Planes) (c : CardState) (d : BiosData) (t : IsPlanar m c d) (e : r
       → ((k : ℕ) → k < page_pixels d → nibble_of (f (d.size * p + k / 8)) (k % 8) ≡ change (pixel_of s p) k)
       → ((o : ℕ) → (o < d.size * p) ⊎ (d.size * p + d.size ≤ o) → f o ≡ bytes_at c.host.memory o)
       → shown y d ≡ Some (with_pixels s p change)
-  unfolding pixel_pages pixels_in
   page_redrawn p y f q change lp h inside outside =
-      let row = row_of m in
-      let n = page_pixels d in
-      let old = pixel_pages d.mode c.host.memory d.size n row.pages in
-      let packed : is_packed d.mode ≡ false = ap is_packed t.number ∙ packed_by m in
-      let new_pixel : (g k : ℕ) → pixel_in d.mode y.host.memory (d.size * g) k ≡ nibble_of (f (d.size * g + k / 8)) (k % 8) = λ g k.
-      ap (λ b. if b then packed_pixel y.host.memory (d.size * g + k) else planar_pixel y.host.memory (d.size * g) k) packed
-      ∙ ap (λ (x : Four ℕ). nibble_of x (k % 8)) (h.cell (d.size * g + k / 8)) in
-      let old_pixel : (g k : ℕ) → pixel_in d.mode c.host.memory (d.size * g) k ≡ nibble_of (bytes_at c.host.memory (d.size * g + k / 8)) (k % 8) = λ g k.
-      ap (λ b. if b then packed_pixel c.host.memory (d.size * g + k) else planar_pixel c.host.memory (d.size * g) k) packed in
-      let page = listing (change (pixel_of s p)) 0 n in
-      let long : length (get_or old p []) ≡ n = ap length (listed_at (λ g. pixels_in d.mode c.host.memory (d.size * g) n) row.pages p [] lp)
-      ∙ length_listing (pixel_in d.mode c.host.memory (d.size * p)) 0 n in
-      let pages : pixel_pages d.mode y.host.memory d.size n row.pages ≡ set old p page =
-      listing_set (λ g. pixels_in d.mode c.host.memory (d.size * g) n) (λ g. pixels_in d.mode y.host.memory (d.size * g) n) row.pages p page lp
-      (same_from_0 (change (pixel_of s p)) (pixel_in d.mode y.host.memory (d.size * p)) n (λ k l. new_pixel p k ∙ inside k l))
-      (λ g lg w. same_from_0 (pixel_in d.mode c.host.memory (d.size * g)) (pixel_in d.mode y.host.memory (d.size * g)) n (λ k l.
-      new_pixel g k ∙ ap (λ (x : Four ℕ). nibble_of x (k % 8)) (outside (d.size * g + k / 8) (apart p g (k / 8) (λ v. w (sym v)) (room k l)))
-      ∙ sym (old_pixel g k))) in
-      redrawn row c y d e text t.tests (h.mode ∙ sym setting_is) h.others
-      ∙ ap (λ x. Some (screen_by row c d 0 (Pixels x) [])) (pages ∙ ap (λ i. set old p (listing (change (pixel_of s p)) 0 i)) (sym long))
+      page_renewed (row_of m) c y d e text t.tests (h.mode ∙ sym setting_is) h.others p change lp
+      (λ k l. pixel_by y.host.memory p k ∙ ap (λ (x : Four ℕ). nibble_of x (k % 8)) (h.cell (d.size * p + k / 8)) ∙ inside k l)
+      (λ g k _ w l. pixel_by y.host.memory g k ∙ ap (λ (x : Four ℕ). nibble_of x (k % 8)) (h.cell (d.size * g + k / 8)
+      ∙ outside (d.size * g + k / 8) (apart p g (k / 8) (λ v. w (sym v)) (room k l))) ∙ sym (pixel_by c.host.memory g k))
 
   -- and where all its bytes are as they were, the screen stays
   pub stays : (y : CardState) (f : ℕ → Four ℕ) (q : Four ℕ) → Loaded (without_drawing c) misc clocking at_rest y f q →
       ((o : ℕ) → f o ≡ bytes_at c.host.memory o) → shown y d ≡ Some s
-  unfolding pixel_pages pixels_in
-  stays y f q h same =
-      let row = row_of m in
-      let n = page_pixels d in
-      let packed : is_packed d.mode ≡ false = ap is_packed t.number ∙ packed_by m in
-      let pixel : (g k : ℕ) → pixel_in d.mode y.host.memory (d.size * g) k ≡ pixel_in d.mode c.host.memory (d.size * g) k = λ g k.
-      ap (λ b. if b then packed_pixel y.host.memory (d.size * g + k) else planar_pixel y.host.memory (d.size * g) k) packed
-      ∙ ap (λ (x : Four ℕ). nibble_of x (k % 8)) (h.cell (d.size * g + k / 8) ∙ same (d.size * g + k / 8))
-      ∙ sym (ap (λ b. if b then packed_pixel c.host.memory (d.size * g + k) else planar_pixel c.host.memory (d.size * g) k) packed) in
-      let pages : pixel_pages d.mode y.host.memory d.size n row.pages ≡ pixel_pages d.mode c.host.memory d.size n row.pages =
-      same_from_0 (λ g. pixels_in d.mode c.host.memory (d.size * g) n) (λ g. pixels_in d.mode y.host.memory (d.size * g) n) row.pages
-      (λ g lg. same_from_0 (pixel_in d.mode c.host.memory (d.size * g)) (pixel_in d.mode y.host.memory (d.size * g)) n (λ k l. pixel g k)) in
-      redrawn row c y d e text t.tests (h.mode ∙ sym setting_is) h.others
-      ∙ ap (λ x. Some (screen_by row c d 0 (Pixels x) [])) pages
+  stays y f q h same = pixels_stay (row_of m) c y d e text t.tests (h.mode ∙ sym setting_is) h.others (λ g k _ _.
+      pixel_by y.host.memory g k ∙ ap (λ (x : Four ℕ). nibble_of x (k % 8)) (h.cell (d.size * g + k / 8) ∙ same (d.size * g + k / 8))
+      ∙ sym (pixel_by c.host.memory g k))

@@ -79,7 +79,7 @@ serves_each service text planar packed fonts r block c d s bytes z bda e =
 pub write_pixel : KeepsBounds → (page x y colour : ℕ) → colour < 256 → Serves (WritePixel page x y colour)
 write_pixel law page x y colour l = serves_each (WritePixel page x y colour) (λ fonts r block c d h z. readers.write_pixel page x y colour fonts r block c d h)
     (λ m fonts r block c d t e z. planar_dots.write_pixel law m c d t e z page x y colour fonts r block) (λ fonts r block c d t e z.
-    packed_pixels.write_pixel c d t e z page x y colour fonts r block l)
+    packed_pixels.write_pixel c d t e z law page x y colour fonts r block l)
 
 pub read_pixel : (page x y : ℕ) → Serves (ReadPixel page x y)
 read_pixel page x y = serves_each (ReadPixel page x y) (λ fonts r block c d h z. readers.read_pixel page x y fonts r block c d h) (λ m fonts r block c d t e z.
