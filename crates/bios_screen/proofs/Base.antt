@@ -1,6 +1,7 @@
 -- What stands on no mode: flat memories of cells and what loops leave of them, lists, plans, and registers of memory cycles.
 pub mod Flat
 pub mod Plans
+pub mod Ports
 pub mod Edits
 pub mod Moves
 pub mod Lists

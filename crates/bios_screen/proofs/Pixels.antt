@@ -1,5 +1,4 @@
 -- Services on pixels, whether they have sixteen colours or 256.
-pub mod Cursors
 pub mod NewPixels
 pub mod Writes
 pub mod Reads

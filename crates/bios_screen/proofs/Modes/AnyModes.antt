@@ -1,9 +1,8 @@
--- The six modes as one table: their numbers and rows, the registers that memory cycles look at, and mode control.
+-- The six modes as one table: their numbers and rows, and mode control.
 use Rattle.std.proofs.Common.{ℕ}
 use Rattle.bios_modes.specs.declared.modes.ModeRow.{ModeRow}
-use Rattle.bios_screen.proofs.Base.Setting.{Setting}
-use Rattle.bios_screen.proofs.Modes.TextModes.{Display, text_setting, port_of as text_port, control_of as text_control, row_of as text_row, number_of as text_number}
-use Rattle.bios_screen.proofs.Modes.PixelModes.{Graphics, setting_in, row_in, number_in}
+use Rattle.bios_screen.proofs.Modes.TextModes.{Display, control_of as text_control, row_of as text_row, number_of as text_number}
+use Rattle.bios_screen.proofs.Modes.PixelModes.{Graphics, row_in, number_in}
 use Rattle.bios_screen.proofs.Modes.PixelModes.Graphics.{Sixteen, Many}
 
 -- the six modes
@@ -19,14 +18,6 @@ row_of (OfPixels k) = row_in k
 abbrev pub number_of : Tabled → ℕ
 number_of (OfText disp) = text_number disp
 number_of (OfPixels k) = number_in k
-
-abbrev pub setting_of : Tabled → Setting
-setting_of (OfText disp) = text_setting disp
-setting_of (OfPixels k) = setting_in k
-
-abbrev pub port_of : Tabled → ℕ
-port_of (OfText disp) = text_port disp
-port_of (OfPixels k) = 0x3D4
 
 -- mode control without blink
 abbrev pub control_of : Tabled → ℕ

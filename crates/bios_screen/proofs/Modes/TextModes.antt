@@ -1,6 +1,7 @@
 -- The two text displays, and the rows of the mode table that are text.
-use Rattle.std.proofs.Common.{◌≡◌, ℕ, ◌+◌, ◌*◌, ◌<◌, ◌≤◌, refl, sym, subst, arith, List, [], ◌∷◌, length, Bool, true, false, Option, Some, None}
+use Rattle.std.proofs.Common.{◌≡◌, ℕ, ◌+◌, ◌*◌, ◌<◌, ◌≤◌, refl, sym, subst, arith, List, [], ◌∷◌, length, Bool, true, false, Some, None}
 use Rattle.std.specs.Prelude.{slice_index, bit_and, ◌==◌, ◌||◌, if◌then◌else◌}
+use Rattle.vga_card.specs.Port.{crtc_port}
 use Rattle.bios_modes.specs.declared.modes.ModeRow.{ModeRow}
 use Rattle.bios_modes.specs.declared.heights.TextRow.{TextRow as HeightRow}
 use Rattle.bios_modes.specs.Heights.{fifty_rows, twenty_eight_rows, twenty_five_rows, with_text, with_height, row_at}
@@ -30,6 +31,10 @@ base_of Monochrome = 0xB0000
 abbrev pub port_of : Display → ℕ
 port_of Colour = 0x3D4
 port_of Monochrome = 0x3B4
+
+pub port_by : (k : Display) → port_of k ≡ crtc_port (misc_of k)
+port_by Colour = refl
+port_by Monochrome = refl
 
 abbrev pub text_sequencer : List ℕ
 text_sequencer = 0x03 ∷ 0x00 ∷ 0x03 ∷ 0x00 ∷ 0x02 ∷ []

@@ -27,10 +27,8 @@ use Rattle.bios_screen.proofs.Planar.Reads as planar_reads
 use Rattle.bios_screen.proofs.Planar.Dots as planar_dots
 use Rattle.bios_screen.proofs.Modes.PixelModes.{Planes, row_of}
 use Rattle.bios_screen.proofs.Services.TextReaders as readers
-use Rattle.bios_screen.proofs.Shows.Pixels.{IsPixels, pixels_shown}
 use Rattle.bios_screen.proofs.Shows.Any.{IsAny, any_screen, any_is}
 use Rattle.bios_screen.proofs.Services.AnyReaders as any
-use Rattle.bios_screen.proofs.Pixels.Cursors as pixel_cursors
 use Rattle.bios_screen.proofs.Services.Cursors as cursors
 use Rattle.bios_screen.proofs.Services.Characters as characters
 use Rattle.bios_screen.proofs.Base.Kept.{KeepsBounds}
@@ -38,13 +36,6 @@ use Rattle.bios_screen.proofs.Services.Windows as windows
 use Rattle.bios_screen.proofs.Services.Teletypes as teletypes
 use Rattle.bios_screen.proofs.Services.Strings as strings
 use Rattle.bios_screen.proofs.Services.Palette as coloured
-
--- in text, and in graphics
-serves_both : (service : Service) → ((fonts : FontSet) (r : Regs) (block : List ℕ) (c : CardState) (d : BiosData) (h : IsShown c d) → IsBda d →
-    IsServed service fonts r block c d (screen_shown c d h)) → ((fonts : FontSet) (r : Regs) (block : List ℕ) (c : CardState) (d : BiosData)
-    (h : IsPixels c d) → IsServed service fonts r block c d (pixels_shown c d h)) → Serves service
-serves_both service f g fonts r block c d s bytes z bda e =
-    by_contents c d (IsServed service fonts r block c d) (λ h. f fonts r block c d h bda) (λ h. g fonts r block c d h) s e
 
 -- in all modes alike
 serves_any : (service : Service) → ((fonts : FontSet) (r : Regs) (block : List ℕ) (c : CardState) (d : BiosData) (h : IsAny c d) → AreBytes block → IsCard c →
@@ -97,16 +88,13 @@ read_refused page x y fonts r block c d s bytes z bda e text =
     subst (IsServed (ReadPixel page x y) fonts r block c d) x1.screen (readers.read_pixel page x y fonts r block c d x1.is)
 
 pub set_cursor_type : (type : ℕ) → Serves (SetCursorType type)
-set_cursor_type type = serves_both (SetCursorType type) (λ fonts r block c d h bda. cursors.set_cursor_type type fonts r block c d h) (λ fonts r block c d h.
-    pixel_cursors.set_cursor_type c d h type fonts r block)
+set_cursor_type type = serves_any (SetCursorType type) (λ fonts r block c d h bytes z bda. cursors.set_cursor_type c d h type fonts r block)
 
 pub set_cursor : (page place : ℕ) → place < 65536 → Serves (SetCursor page place)
-set_cursor page place l = serves_both (SetCursor page place) (λ fonts r block c d h bda. cursors.set_cursor page place fonts r block c d h l bda)
-    (λ fonts r block c d h. pixel_cursors.set_cursor c d h page place fonts r block)
+set_cursor page place l = serves_any (SetCursor page place) (λ fonts r block c d h bytes z bda. cursors.set_cursor c d h page place fonts r block l bda)
 
 pub select_page : (page : ℕ) → Serves (SelectPage page)
-select_page page = serves_both (SelectPage page) (λ fonts r block c d h bda. cursors.select_page page fonts r block c d h bda) (λ fonts r block c d h.
-    pixel_cursors.select_page c d h page fonts r block)
+select_page page = serves_any (SelectPage page) (λ fonts r block c d h bytes z bda. cursors.select_page c d h page fonts r block bda)
 
 pub read_cell : KeepsBounds → (page : ℕ) → Serves (ReadCell page)
 read_cell law page = serves_any (ReadCell page) (λ fonts r block c d h bytes z bda. characters.read_cell law fonts r block c d h z page)

@@ -14,7 +14,7 @@ use Rattle.vga_dac.specs.Dac.{DacState}
 use Rattle.vga_card.specs.Bounds.{IsCard}
 use Rattle.vga_card.specs.Bus.{card_meaning}
 use Rattle.vga_card.specs.Card.{CardState}
-use Rattle.vga_card.specs.Port.{port_of as reached_by}
+use Rattle.vga_card.specs.Port.{crtc_port, port_of as reached_by}
 use Rattle.vga_card.specs.Cycles.{out_at, inp_at}
 use Rattle.bios_modes.specs.Bda.{BiosData}
 use Rattle.bios_modes.specs.Bounds.{AreBytes}
@@ -45,7 +45,7 @@ use Rattle.bios_screen.proofs.Base.Tests.{both_true, same, lt_is, le_is}
 use Rattle.bios_screen.proofs.Base.Kept.{plan_beam}
 use Rattle.bios_screen.proofs.Modes.TextModes.Display.{Colour, Monochrome}
 use Rattle.bios_screen.proofs.Modes.PixelModes.Graphics.{Sixteen, Many}
-use Rattle.bios_screen.proofs.Modes.AnyModes.{Tabled, port_of, control_of}
+use Rattle.bios_screen.proofs.Modes.AnyModes.{Tabled, control_of}
 use Rattle.bios_screen.proofs.Modes.AnyModes.Tabled.{OfText, OfPixels}
 use Rattle.bios_screen.proofs.Shows.Any.{IsAny, any_screen, any_shown, still_any, any_control}
 use Rattle.bios_screen.proofs.Services.Cursors.{and_255}
@@ -64,7 +64,7 @@ module _ (c : CardState) (d : BiosData) (h : IsAny c d) where
   abbrev registers : List ℕ
   registers = c.attr.registers
 
-  pub port_is : d.crtc_address ≡ port_of h.kind
+  pub port_is : d.crtc_address ≡ crtc_port c.misc
   port_is = h.port
 
   -- ---- the attribute controller
@@ -125,7 +125,7 @@ module _ (c : CardState) (d : BiosData) (h : IsAny c d) where
   -- a plan, and then the same registers
   setting_served : (service : ColourService) (r : Regs) (block : List ℕ) (p : ℕ → Plan (Unit {0})) →
       colours_plan service d.crtc_address r block ≡ (p d.crtc_address >> Done r) → colours_answer s service r ≡ r →
-      shown (run card_meaning (p (port_of h.kind)) c).0 d ≡ Some (with_colours s service block) → IsColoured service r block c d s
+      shown (run card_meaning (p (crtc_port c.misc)) c).0 d ≡ Some (with_colours s service block) → IsColoured service r block c d s
   setting_served service r block p e a t =
       let q = p d.crtc_address in
       let done : Plan Regs = Done r in
@@ -138,36 +138,36 @@ module _ (c : CardState) (d : BiosData) (h : IsAny c d) where
   masks_are : (i : ℕ) → i < 16 → slice_index attr_masks i ≡ 0x3F
   masks_are i l = same (agree_below_at (λ n. slice_index attr_masks n == 0x3F) (λ _. true) 16 i refl l)
 
-  value_shown : (i v : ℕ) → i < 16 → shown (run card_meaning (set_register_plan (port_of h.kind) i v) c).0 d ≡ Some (with_value s i v)
+  value_shown : (i v : ℕ) → i < 16 → shown (run card_meaning (set_register_plan (crtc_port c.misc) i v) c).0 d ≡ Some (with_value s i v)
   value_shown i v l =
       let x = six_bits v in
       let new = slice_set registers i x in
       let control : slice_index new 0x10 ≡ slice_index registers 0x10 = get_or-set_other registers i 0x10 x 0 (omega arith) in
-      ap (λ y. shown y d) (register_set h.kind c i v h.setting (omega arith))
+      ap (λ y. shown y d) (register_set c i v (omega arith))
       ∙ ap (λ m. shown (with_attr c (slice_set registers i (bit_and v m)) 0x20 false) d) (masks_are i l)
       ∙ attribute_shown new 0x20 refl (ap (λ n. bit_and n 0xF7) control) (drop-set-lt 0x12 registers i x (omega arith))
       (slice_set s.palette.values i x) s.overscan s.is_blink (take-set-lt 16 registers i x l) (get_or-set_other registers i 0x11 x 0 (omega arith))
       (ap (λ n. is_set n 3) control)
 
-  overscan_shown : (v : ℕ) → v < 256 → IsCard c → shown (run card_meaning (set_register_plan (port_of h.kind) 0x11 v) c).0 d ≡ Some (record s { overscan = v })
+  overscan_shown : (v : ℕ) → v < 256 → IsCard c → shown (run card_meaning (set_register_plan (crtc_port c.misc) 0x11 v) c).0 d ≡ Some (record s { overscan = v })
   overscan_shown v l z =
       let size = z.attr.size in
       let new = slice_set registers 0x11 v in
       let control : slice_index new 0x10 ≡ slice_index registers 0x10 = get_or-set_other registers 0x11 0x10 v 0 (omega arith) in
-      ap (λ y. shown y d) (register_set h.kind c 0x11 v h.setting (omega arith))
+      ap (λ y. shown y d) (register_set c 0x11 v (omega arith))
       ∙ ap (λ m. shown (with_attr c (slice_set registers 0x11 m) 0x20 false) d) (and_255 v l)
       ∙ attribute_shown new 0x20 refl (ap (λ n. bit_and n 0xF7) control) (drop-set-lt 0x12 registers 0x11 v (omega arith))
       s.palette.values v s.is_blink (take-set-le 16 registers 0x11 v (omega arith)) (get_or-set_same registers 0x11 v 0 (omega arith))
       (ap (λ n. is_set n 3) control)
 
   palette_shown : (block : List ℕ) → AreBytes block → IsCard c → length block ≡ 17 →
-      shown (run card_meaning (set_palette_plan (port_of h.kind) block) c).0 d ≡ Some (with_block s block)
+      shown (run card_meaning (set_palette_plan (crtc_port c.misc) block) c).0 d ≡ Some (with_block s block)
   palette_shown block bytes z e =
       let values = take 16 block in
       let v = slice_index block 16 in
       let new = with_palette registers values v in
       let last : drop 0x12 new ≡ drop 0x12 registers = sym (ap (drop 0x12) (spelled registers 21 z.attr.size)) in
-      ap (λ y. shown y d) (palette_set h.kind c block h.setting z (length-take-le 16 block (omega arith)))
+      ap (λ y. shown y d) (palette_set c block z (length-take-le 16 block (omega arith)))
       ∙ attribute_shown new 0x20 refl refl last
       (listing (λ i. six_bits (slice_index block i)) 0 16) v s.is_blink
       (same_from_0 (λ i. six_bits (slice_index block i)) (λ i. six_bits (slice_index values i)) 16 (λ k l. ap six_bits (get_or-take 16 block k 0 l)))
@@ -186,7 +186,7 @@ module _ (c : CardState) (d : BiosData) (h : IsAny c d) where
   blink_by (OfPixels Many) (suc zero) l = (refl, refl)
   blink_by k (suc (suc b)) l = absurd (omega arith)
 
-  blink_shown : (b : ℕ) → b < 2 → IsCard c → shown (run card_meaning (set_blinking_plan (port_of h.kind) b) c).0 d ≡ Some (record s { is_blink = b == 1 })
+  blink_shown : (b : ℕ) → b < 2 → IsCard c → shown (run card_meaning (set_blinking_plan (crtc_port c.misc) b) c).0 d ≡ Some (record s { is_blink = b == 1 })
   blink_shown b l z =
       let size = z.attr.size in
       let v = bit_and (bit_or (bit_and (slice_index registers 0x10) 0xF7) (8 * b)) 0xEF in
@@ -195,7 +195,7 @@ module _ (c : CardState) (d : BiosData) (h : IsAny c d) where
       let value : slice_index new 0x10 ≡ bit_and (bit_or (control_of h.kind) (8 * b)) 0xEF = at
       ∙ ap (λ n. bit_and (bit_or n (8 * b)) 0xEF) (any_control c d h) in
       let by = blink_by h.kind b l in
-      ap (λ y. shown y d) (blinking_set h.kind c b h.setting)
+      ap (λ y. shown y d) (blinking_set c b)
       ∙ attribute_shown new 0x20 refl (ap (λ n. bit_and n 0xF7) value ∙ by.0 ∙ sym (any_control c d h)) (drop-set-lt 0x12 registers 0x10 v (omega arith))
       s.palette.values s.overscan (b == 1) (take-set-le 16 registers 0x10 v (omega arith)) (get_or-set_other registers 0x10 0x11 v 0 (omega arith))
       (ap (λ n. is_set n 3) value ∙ by.1)
@@ -214,7 +214,7 @@ module _ (c : CardState) (d : BiosData) (h : IsAny c d) where
       let done : ℕ → Plan Regs = λ value. Done (record r { bx = with_high r.bx value }) in
       run_bind card_meaning (read_register_plan d.crtc_address i) done c
       ∙ ap (λ p. let x = run card_meaning (read_register_plan p i) c in run card_meaning (done x.1) x.0) port_is
-      ∙ ap (λ (x : CardState × ℕ). run card_meaning (done x.1) x.0) (register_read h.kind c i h.setting l)
+      ∙ ap (λ (x : CardState × ℕ). run card_meaning (done x.1) x.0) (register_read c i l)
 
   pub index_moved : (i : ℕ) → i < 18 → shown (with_attr c registers (0x20 + i) false) d ≡ Some s
   index_moved i l = attribute_shown registers (0x20 + i) (index_shown i l) refl refl s.palette.values s.overscan s.is_blink refl refl refl

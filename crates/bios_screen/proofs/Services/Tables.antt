@@ -1,5 +1,6 @@
 -- Calls for tables: from a state that shows a screen, its palette or some of its entries are replied, and it stays.
 use Rattle.std.proofs.Common.{◌≡◌, ℕ, zero, suc, ◌+◌, ◌*◌, ◌%◌, ◌<◌, ◌≤◌, refl, sym, ap, ◌∙◌, subst, arith, List, [], ◌∷◌, ◌++◌, Option, Some, None, false, Err}
+use Rattle.std.proofs.lemmas.Bool.Decides.{nat_tests}
 use Rattle.std.specs.Prelude.{nat_lt, nat_le, if◌then◌else◌, slice_index, take}
 use Rattle.vga_bits.specs.declared.refusal.Refusal.{Refusal}
 use Rattle.vga_bits.specs.declared.refusal.Refusal.TheVariants.{NoMode, BadRegister}
@@ -7,7 +8,7 @@ use Rattle.vga_dac.specs.declared.component.Component.TheVariants.{Red}
 use Rattle.vga_card.specs.Bounds.{IsCard}
 use Rattle.vga_card.specs.Bus.{card_meaning}
 use Rattle.vga_card.specs.Card.{CardState}
-use Rattle.vga_card.specs.Port.{port_of as reached_by, crtc_port_of}
+use Rattle.vga_card.specs.Port.{crtc_port, port_of as reached_by}
 use Rattle.vga_card.specs.Cycles.{out_at, inp_at}
 use Rattle.bios_modes.specs.Bda.{BiosData}
 use Rattle.bios_modes.specs.Fonts.{FontSet}
@@ -20,7 +21,7 @@ use Rattle.bios_services.specs.declared.call.Call.{Call}
 use Rattle.bios_services.specs.declared.call.Call.TheVariants.{ReadTable}
 use Rattle.bios_services.specs.Plan.{Plan, run, Done, out, inp, gather, ◌>>=◌}
 use Rattle.bios_services.specs.Palette.{register_plan}
-use Rattle.bios_services.specs.Tables.{table_refusal, registers_plan, read_palette_plan, read_components_plan, read_entries_plan, table_plan}
+use Rattle.bios_services.specs.Tables.{table_refusal, palette_register, registers_plan, read_palette_plan, read_components_plan, read_entries_plan, table_plan}
 use Rattle.bios_services.specs.Colours.{has_entries, no_entries}
 use Rattle.bios_screen.proofs.Base.Reasons.{holds}
 use Rattle.bios_services.specs.Calls.{call_of}
@@ -32,18 +33,13 @@ use Rattle.bios_screen.specs.Colours.{entries_from, table_answer}
 use Rattle.bios_screen.specs.Served.{after_call}
 use Rattle.bios_screen.specs.Called.{IsRead, WantsMemory, IsLeft, table_unless as replied_unless}
 use Rattle.bios_screen.proofs.Base.Plans.{run_bind}
+use Rattle.bios_screen.proofs.Base.Ports.{expected_runs}
 use Rattle.bios_screen.proofs.Base.Lists.{spelled}
 use Rattle.bios_screen.proofs.Base.Tests.{both_true, lt_is, le_is}
 use Rattle.bios_screen.proofs.Base.Kept.{plan_beam}
-use Rattle.bios_screen.proofs.Base.Setting.{setting, card_at}
-use Rattle.bios_screen.proofs.Modes.TextModes.Display.{Colour, Monochrome}
-use Rattle.bios_screen.proofs.Modes.PixelModes.Planes.{Low, Middle, High}
-use Rattle.bios_screen.proofs.Modes.PixelModes.Graphics.{Sixteen, Many}
-use Rattle.bios_screen.proofs.Modes.AnyModes.{Tabled, setting_of, port_of}
-use Rattle.bios_screen.proofs.Modes.AnyModes.Tabled.{OfText, OfPixels}
 use Rattle.bios_screen.proofs.Shows.Screens.{mode_of_shown}
 use Rattle.bios_screen.proofs.Shows.Any.{IsAny, any_screen, any_is}
-use Rattle.bios_screen.proofs.Services.Attributes.{with_attr}
+use Rattle.bios_screen.proofs.Services.Attributes.{with_attr, value_of_register}
 use Rattle.bios_screen.proofs.Services.Dacs.{with_dac}
 use Rattle.bios_screen.proofs.Services.Palette.{port_is, index_moved, dac_shown}
 
@@ -53,28 +49,39 @@ use Rattle.bios_screen.proofs.Services.Palette.{port_is, index_moved, dac_shown}
 abbrev values_of : List ℕ → List ℕ
 values_of l = take 16 l ++ slice_index l 0x11 ∷ []
 
-palette_by : (mode : Tabled) (c : CardState) (l : List ℕ) → run card_meaning (read_palette_plan (port_of mode))
-    (with_attr (card_at c (setting_of mode)) (listing (slice_index l) 0 21) c.attr.index c.attr.is_data)
-    ≡ (with_attr (card_at c (setting_of mode)) (listing (slice_index l) 0 21) 0x31 false, values_of (listing (slice_index l) 0 21))
-unfolding read_palette_plan registers_plan register_plan reached_by crtc_port_of out_at inp_at
-palette_by (OfText Colour) c l = refl
-palette_by (OfText Monochrome) c l = refl
-palette_by (OfPixels (Sixteen Low)) c l = refl
-palette_by (OfPixels (Sixteen Middle)) c l = refl
-palette_by (OfPixels (Sixteen High)) c l = refl
-palette_by (OfPixels Many) c l = refl
+abbrev with_byte : ℕ → List ℕ → Plan (List ℕ)
+with_byte x l = Done (x ∷ l)
 
-palette_read : (mode : Tabled) (c : CardState) → setting c ≡ setting_of mode → IsCard c →
-    run card_meaning (read_palette_plan (port_of mode)) c ≡ (with_attr c c.attr.registers 0x31 false, values_of c.attr.registers)
-palette_read mode c e z =
+-- the index that so many values leave, from one on
+abbrev index_after : ℕ → ℕ → ℕ → ℕ
+index_after zero i j = j
+index_after (suc n) i j = index_after n (i + 1) (0x20 + palette_register i)
+
+register_small : (i : ℕ) → i < 17 → palette_register i < 18
+register_small i l = grind (arith, nat_tests)
+
+gathered : (c : CardState) (n i j : ℕ) → i + n ≤ 17 → (let l = c.attr.registers in
+    run card_meaning (gather (λ k. register_plan (crtc_port c.misc) (palette_register k)) n i) (with_attr c l j false)
+    ≡ (with_attr c l (index_after n i j) false, listing (λ k. slice_index l (palette_register k)) i n))
+gathered c zero i j h = refl
+gathered c (suc n) i j h =
     let l = c.attr.registers in
-    let plan = read_palette_plan (port_of mode) in
-    let whole = spelled l 21 z.attr.size in
-    ap (λ x. run card_meaning plan (card_at c x)) e
-    ∙ ap (λ k. run card_meaning plan (with_attr (card_at c (setting_of mode)) k c.attr.index c.attr.is_data)) whole
-    ∙ palette_by mode c l
-    ∙ ap (λ k. let p : CardState × List ℕ = (with_attr (card_at c (setting_of mode)) k 0x31 false, values_of k) in p) (sym whole)
-    ∙ ap (λ x. let p : CardState × List ℕ = (with_attr (card_at c x) l 0x31 false, values_of l) in p) (sym e)
+    let f : ℕ → Plan ℕ = λ k. register_plan (crtc_port c.misc) (palette_register k) in
+    let rest : Plan (List ℕ) = gather f n (i + 1) in
+    let x = slice_index l (palette_register i) in
+    let c1 = with_attr c l (0x20 + palette_register i) false in
+    run_bind card_meaning (f i) (λ v. rest >>= with_byte v) (with_attr c l j false)
+    ∙ ap (λ (r : CardState × ℕ). run card_meaning (rest >>= with_byte r.1) r.0) (value_of_register c l j (palette_register i) (register_small i (omega arith)))
+    ∙ run_bind card_meaning rest (with_byte x) c1
+    ∙ ap (λ (r : CardState × List ℕ). let p : CardState × List ℕ = (r.0, x ∷ r.1) in p) (gathered c n (i + 1) (0x20 + palette_register i) (omega arith))
+
+palette_read : (c : CardState) → IsCard c → run card_meaning (read_palette_plan (crtc_port c.misc)) c
+    ≡ (with_attr c c.attr.registers 0x31 false, values_of c.attr.registers)
+unfolding read_palette_plan registers_plan
+palette_read c z =
+    expected_runs (registers_plan (crtc_port c.misc)) c
+    ∙ gathered c 17 0 c.attr.index (omega arith)
+    ∙ ap (λ k. let p : CardState × List ℕ = (with_attr c c.attr.registers 0x31 false, k) in p) (sym (ap values_of (spelled c.attr.registers 21 z.attr.size)))
 
 -- ---- entries are read
 
@@ -84,9 +91,6 @@ at_entry c k = with_dac c (record c.dac { index = k; component = Red })
 
 abbrev next_byte : ℕ → Plan ℕ
 next_byte i = inp 0x3C9
-
-abbrev with_byte : ℕ → List ℕ → Plan (List ℕ)
-with_byte x l = Done (x ∷ l)
 
 three_more : (p : Plan (List ℕ)) (x y z : ℕ) (c : CardState) → run card_meaning (((p >>= with_byte z) >>= with_byte y) >>= with_byte x) c
     ≡ (let r = run card_meaning p c in let q : CardState × List ℕ = (r.0, x ∷ y ∷ z ∷ r.1) in q)
@@ -156,7 +160,7 @@ is_table ReadPalette c d h z e =
     let runs =
     run_bind card_meaning (read_palette_plan d.crtc_address) done c
     ∙ ap (λ p. let x = run card_meaning (read_palette_plan p) c in run card_meaning (done x.1) x.0) (port_is c d h)
-    ∙ ap (λ (x : CardState × List ℕ). run card_meaning (done x.1) x.0) (palette_read h.kind c h.setting z) in
+    ∙ ap (λ (x : CardState × List ℕ). run card_meaning (done x.1) x.0) (palette_read c z) in
     record { answer = ap (λ x. x.1) runs; shows = ap (λ x. shown x.0 d) runs ∙ index_moved c d h 0x11 (omega arith) }
 is_table (ReadEntries first count) c d h z e =
     let a = entries_allowed first count e in

@@ -23,10 +23,8 @@ use Rattle.bios_screen.proofs.Base.Plans.{run_bind}
 use Rattle.bios_screen.proofs.Base.Kept.{KeepsBounds, plan_beam}
 use Rattle.bios_screen.proofs.Base.Reasons.{place_allowed}
 use Rattle.bios_screen.proofs.Shows.Screens.{page_in}
-use Rattle.bios_screen.proofs.Shows.Any.{IsAny, any_screen, cut_is, still_any}
-use Rattle.bios_screen.proofs.Shows.Kinds.{by_contents}
+use Rattle.bios_screen.proofs.Shows.Any.{IsAny, any_screen, any_is, cut_is, still_any}
 use Rattle.bios_screen.proofs.Services.Cursors.{then_data, data_runs, moved_shown}
-use Rattle.bios_screen.proofs.Pixels.Cursors.{moved_shown as moved_in_pixels}
 use Rattle.bios_screen.proofs.Base.TypedPlaces.{Inside, inside_word}
 use Rattle.bios_screen.proofs.Services.Typing.{is_typed}
 
@@ -34,11 +32,10 @@ use Rattle.bios_screen.proofs.Services.Typing.{is_typed}
 pub moved : (c : CardState) (d : BiosData) (s : Screen) (p place : ℕ) → shown c d ≡ Some s → IsBda d → p < pages_of d →
     Inside (d.last_row + 1) d.columns place → (let x = run card_meaning (move_cursor_plan d p place) c in shown x.0 x.1) ≡ Some (placed_on s p place)
 moved c d s p place e bda lp i =
+    let x = any_is c d s e in
     let cut = cut_is c d s e in
-    by_contents c d (λ w. (let x = run card_meaning (move_cursor_plan d p place) c in shown x.0 x.1) ≡ Some (placed_on w p place))
-    (λ h. moved_shown c d h p place bda (page_in h.row d p h.mode lp) (inside_word (d.last_row + 1) d.columns cut.narrow place cut.low i))
-    (λ h. moved_in_pixels c d h p place)
-    s e
+    let small = inside_word (d.last_row + 1) d.columns cut.narrow place cut.low i in
+    moved_shown c d x.is p place bda (page_in x.is.row d p x.is.mode lp) small ∙ ap (λ (w : Screen). Some (placed_on w p place)) x.screen
 
 -- ---- function 0E
 

@@ -1,44 +1,54 @@
 -- What every screen that is shown says, in text and in graphics.
 use Rattle.std.proofs.Common.{◌≡◌, ℕ, ◌+◌, ◌<◌, ◌≤◌, refl, sym, ap, subst, ◌∙◌, arith, Bool, true, false, List, [], Some, None}
-use Rattle.std.specs.Prelude.{◌==◌, ◌&&◌, ◌/◌, if◌then◌else◌, slice_index, bit_and}
+use Rattle.std.specs.Prelude.{◌==◌, ◌&&◌, ◌*◌, ◌/◌, if◌then◌else◌, slice_index, bit_and}
 use Rattle.std.specs.Str.{bytes_eq}
 use Rattle.vga_bits.specs.Four.{Four}
 use Rattle.vga_attr.specs.Fields.{is_palette_shown}
 use Rattle.vga_card.specs.Card.{CardState}
+use Rattle.vga_card.specs.Port.{crtc_port}
 use Rattle.bios_modes.specs.declared.modes.ModeRow.{ModeRow}
 use Rattle.bios_modes.specs.Heights.{row_at}
 use Rattle.bios_modes.specs.Bda.{BiosData}
 use Rattle.bios_modes.specs.Kinds.{is_text}
 use Rattle.bios_services.specs.Bounds.{pages_of}
+use Rattle.bios_services.specs.Cursor.{start_address}
 use Rattle.bios_screen.specs.Screen.{Contents, Cells, Pixels, Screen}
 use Rattle.bios_screen.specs.Shown.{shows_attribute, cells_in, glyphs_in, all_cells, pixel_pages, page_pixels, crtc_shown, screen_by, screen_of, shown_by}
 use Rattle.bios_screen.specs.Shown.{shown}
 use Rattle.bios_screen.proofs.Base.Tests.{both_true, same}
+use Rattle.bios_screen.proofs.Base.Places.{half_start, ends_before}
 use Rattle.bios_screen.proofs.Base.Setting.{Setting, setting}
-use Rattle.bios_screen.proofs.Modes.TextModes.{control_by as text_control_by}
+use Rattle.bios_screen.proofs.Modes.TextModes.{control_by as text_control_by, port_by as text_port_by}
 use Rattle.bios_screen.proofs.Shows.Screens.{AllTests, setting_by, shows_by, all_of, data_is, page_of, shown_is, screen_is_text}
-use Rattle.bios_screen.proofs.Modes.PixelModes.{Graphics, row_in, graphics_row, control_by}
+use Rattle.bios_screen.proofs.Modes.PixelModes.{Graphics, row_in, graphics_row, control_by, start_small}
 use Rattle.bios_screen.proofs.Modes.PixelModes.Graphics.{Sixteen, Many}
 use Rattle.bios_screen.proofs.Modes.PixelModes.Planes.{Low, Middle, High}
-use Rattle.bios_screen.proofs.Modes.AnyModes.{Tabled, setting_of, port_of, control_of}
+use Rattle.bios_screen.proofs.Modes.AnyModes.{Tabled, control_of}
 use Rattle.bios_screen.proofs.Modes.AnyModes.Tabled.{OfText, OfPixels}
-use Rattle.bios_screen.proofs.Shows.Pixels.{IsPixels, screen_is_pixels, pixels_of_shown}
+use Rattle.bios_screen.proofs.Shows.Pixels.{screen_is_pixels, pixels_of_shown}
+
+-- the data with other cursors, or another page
+abbrev pub with_cursors : BiosData → ℕ → List ℕ → ℕ → ℕ → BiosData
+with_cursors d type places page start = record d { cursor_type = type; cursor_places = places; page = page; start = start }
 
 -- all that a screen says, whatever its mode; contents and glyphs are of the memory alone
 pub record IsAny (c : CardState) (d : BiosData) : Type 0 where
   pub row : ModeRow
   pub mode : row_at d.mode d.height ≡ Some row
   pub kind : Tabled
-  pub setting : setting c ≡ setting_of kind
-  pub port : d.crtc_address ≡ port_of kind
+  pub port : d.crtc_address ≡ crtc_port c.misc
   pub control : bit_and (slice_index row.attribute 0x10) 0xF7 ≡ control_of kind
   pub columns : row.columns ≤ 80
   pub last_row : row.last_row < 255
+  pub pages : row.pages ≤ 8
+  pub starts : (page : ℕ) → page < row.pages → start_address d page < 65536
+  pub few : is_text d.mode ≡ true → (page : ℕ) → page < row.pages → start_address d page ≤ 16384
   pub tests : AllTests row c d
   pub distance : ℕ
   pub contents : Four (List ℕ) → Contents
   pub glyphs : Four (List ℕ) → List ℕ
-  pub screen : (y : CardState) → screen_of row y d ≡ screen_by row y d distance (contents y.host.memory) (glyphs y.host.memory)
+  pub screen : (y : CardState) (type : ℕ) (places : List ℕ) (page start : ℕ) → (let e = with_cursors d type places page start in
+      screen_of row y e ≡ screen_by row y e distance (contents y.host.memory) (glyphs y.host.memory))
 
 abbrev pub any_screen : (c : CardState) (d : BiosData) → IsAny c d → (y : CardState) → Screen
 any_screen c d h y = screen_by h.row y d h.distance (h.contents y.host.memory) (h.glyphs y.host.memory)
@@ -59,7 +69,7 @@ pub any_shown : (c y : CardState) (d : BiosData) (h : IsAny c d) → setting y �
 any_shown c y d h s e a =
     ap (λ x. shown_by x y d) h.mode
     ∙ ap (λ b. if b then Some (screen_of h.row y d) else None) (shows_by h.row y d (same_tests h.row c y d s e a h.tests))
-    ∙ ap (λ (x : Screen). Some x) (h.screen y)
+    ∙ ap (λ (x : Screen). Some x) (h.screen y d.cursor_type d.cursor_places d.page d.start)
 
 pub still_any : (c : CardState) (d : BiosData) (h : IsAny c d) → shown c d ≡ Some (any_screen c d h c)
 still_any c d h = any_shown c c d h refl refl h.tests.attribute
@@ -81,41 +91,17 @@ row_control : (k : Graphics) → bit_and (slice_index (row_in k).attribute 0x10)
 row_control (Sixteen m) = control_by m
 row_control Many = refl
 
-row_port : (k : Graphics) → (row_in k).crtc_address ≡ 0x3D4
+row_port : (k : Graphics) → (row_in k).crtc_address ≡ crtc_port (row_in k).misc
 row_port (Sixteen Low) = refl
 row_port (Sixteen Middle) = refl
 row_port (Sixteen High) = refl
 row_port Many = refl
 
-row_columns : (k : Graphics) → (row_in k).columns ≤ 80
-row_columns (Sixteen Low) = omega arith
-row_columns (Sixteen Middle) = omega arith
-row_columns (Sixteen High) = omega arith
-row_columns Many = omega arith
-
-row_rows : (k : Graphics) → (row_in k).last_row < 255
-row_rows (Sixteen Low) = omega arith
-row_rows (Sixteen Middle) = omega arith
-row_rows (Sixteen High) = omega arith
-row_rows Many = omega arith
-
--- the setting and the port of a screen of pixels
-pub record HasSetting (c : CardState) (d : BiosData) (row : ModeRow) : Type 0 where
-  pub kind : Graphics
-  pub row_is : row_in kind ≡ row
-  pub setting : setting c ≡ setting_of (OfPixels kind)
-  pub port : d.crtc_address ≡ port_of (OfPixels kind)
-
-pub pixel_setting : (c : CardState) (d : BiosData) (h : IsPixels c d) → HasSetting c d h.row
-pixel_setting c d h =
-    let g = graphics_row d.mode d.height h.row h.text h.mode in
-    record {
-      kind = g.kind;
-      row_is = g.row_is;
-      setting = setting_by h.row c h.tests.memory ∙ ap (λ (r : ModeRow). let q : Setting = record { misc = r.misc; seq = r.sequencer; gfx = r.graphics } in q)
-          (sym g.row_is);
-      port = h.has.port ∙ ap (λ (r : ModeRow). r.crtc_address) (sym g.row_is) ∙ row_port g.kind;
-    }
+row_fits : (k : Graphics) → ((row_in k).columns ≤ 80) × ((row_in k).last_row < 255) × ((row_in k).pages ≤ 8)
+row_fits (Sixteen Low) = (omega arith, omega arith, omega arith)
+row_fits (Sixteen Middle) = (omega arith, omega arith, omega arith)
+row_fits (Sixteen High) = (omega arith, omega arith, omega arith)
+row_fits Many = (omega arith, omega arith, omega arith)
 
 pub any_is : (c : CardState) (d : BiosData) (s : Screen) → shown c d ≡ Some s → ShowsAny c d s
 any_is c d s h = by_kind (is_text d.mode) refl
@@ -124,43 +110,57 @@ any_is c d s h = by_kind (is_text d.mode) refl
     by_kind true t =
         let x = shown_is c d s t h in
         let y = x.is in
+        let start_few : (page : ℕ) → page < y.row.pages → start_address d page ≤ 16384 = λ page lp.
+        let at = ap (λ b. if b then d.size * page / 2 else d.size * page) t ∙ half_start d.size y.text.half page (y.has.size ∙ y.text.even) in
+        let ends = ends_before y.text.half page y.row.pages lp in
+        let memory = y.text.memory in
+        omega arith in
         record {
           is = record {
             row = y.row;
             mode = y.mode;
             kind = OfText y.display;
-            setting = y.setting;
-            port = y.has.port ∙ y.text.port;
+            port = y.has.port ∙ y.text.port ∙ text_port_by y.display ∙ sym (ap (λ (x : Setting). crtc_port x.misc) y.setting);
             control = ap (λ (r : ModeRow). bit_and (slice_index r.attribute 0x10) 0xF7) y.row_is ∙ text_control_by y.display;
             columns = y.text.columns;
             last_row = y.text.last_row;
+            pages = y.text.pages;
+            starts = λ page lp. let few = start_few page lp in omega arith;
+            few = λ u page lp. start_few page lp;
             tests = all_of y.row c d y.tests;
             distance = d.size / 2;
             contents = λ m. Cells (cells_in m.plane0 m.plane1 all_cells);
             glyphs = λ m. glyphs_in m.plane2 4096;
-            screen = λ z. screen_is_text y.row z d t;
+            screen = λ z type places page start. screen_is_text y.row z (with_cursors d type places page start) t;
           };
           screen = x.screen;
         }
     by_kind false t =
         let x = pixels_of_shown c d s t h in
         let y = x.is in
-        let g = pixel_setting c d y in
+        let g = graphics_row d.mode d.height y.row t y.mode in
+        let fits = subst (λ (r : ModeRow). (r.columns ≤ 80) × (r.last_row < 255) × (r.pages ≤ 8)) g.row_is (row_fits g.kind) in
+        let set = setting_by y.row c y.tests.memory in
         record {
           is = record {
             row = y.row;
             mode = y.mode;
             kind = OfPixels g.kind;
-            setting = g.setting;
-            port = g.port;
+            port = y.has.port ∙ subst (λ (r : ModeRow). r.crtc_address ≡ crtc_port r.misc) g.row_is (row_port g.kind)
+                ∙ sym (ap (λ (q : Setting). crtc_port q.misc) set);
             control = ap (λ (r : ModeRow). bit_and (slice_index r.attribute 0x10) 0xF7) (sym g.row_is) ∙ row_control g.kind;
-            columns = subst (λ (r : ModeRow). r.columns ≤ 80) g.row_is (row_columns g.kind);
-            last_row = subst (λ (r : ModeRow). r.last_row < 255) g.row_is (row_rows g.kind);
+            columns = fits.0;
+            last_row = fits.1;
+            pages = fits.2;
+            starts = λ page lp. subst (λ n. n < 65536)
+                (sym (ap (λ b. if b then d.size * page / 2 else d.size * page) t ∙ ap (λ n. n * page) y.has.size))
+                (subst (λ (r : ModeRow). page < r.pages → r.size * page < 65536) g.row_is (start_small g.kind page) lp);
+            few = λ u page lp. absurd (cc);
             tests = y.tests;
             distance = 0;
             contents = λ m. Pixels (pixel_pages d.mode m d.size (page_pixels d) y.row.pages);
             glyphs = λ m. [];
-            screen = λ z. screen_is_pixels y.row z d t;
+            screen = λ z type places page start. screen_is_pixels y.row z (with_cursors d type places page start) t;
           };
           screen = x.screen;
         }
