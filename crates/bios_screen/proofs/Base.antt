@@ -7,7 +7,6 @@ pub mod Moves
 pub mod Lists
 pub mod Tests
 pub mod Places
-pub mod Kept
 pub mod Setting
 pub mod Windows
 pub mod Bands

@@ -35,8 +35,6 @@ ghost use Rattle.bios_modes.specs.Bounds.{AreBytes, AreFonts};
 ghost use Rattle.bios_screen.specs.Called.{AreWords, IsCalled, IsLoaded, IsRead, WantsMemory};
 ghost use Rattle.bios_screen.specs.Called.{IsLeft};
 
-use vga_card::laws::bounds_stay;
-
 /// Function 00, a mode set that clears the memory: from any state to one that shows the fresh
 /// screen.
 pub fn mode_set_is_fresh()
@@ -46,9 +44,7 @@ pub fn mode_set_is_fresh()
     ensures planes_640_by_350 { SetsFresh 0x10 planes_640_by_350 }
     ensures planes_640_by_480 { SetsFresh 0x12 planes_640_by_480 }
     ensures bytes_320_by_200 { SetsFresh 0x13 bytes_320_by_200 }
-{
-    bounds_stay();
-}
+{}
 
 /// Functions 03, 0F, 12 and 1A: cursor, mode, adapter and display are answered.
 pub fn readers_are_served()
@@ -71,17 +67,13 @@ pub fn cells_are_served()
     ensures read { (page : ℕ) → Serves (ReadCell page) }
     ensures written { (cells : CellRun) → cells.character < 256 → cells.colouring.colour < 256 →
         Serves (WriteCells cells) }
-{
-    bounds_stay();
-}
+{}
 
 /// Functions 06 and 07: a window of the active page goes up or down, in graphics by its pixels.
 pub fn windows_are_served()
     ensures up { (window : Scroll) → window.fill < 256 → Serves (ScrollUp window) }
     ensures down { (window : Scroll) → window.fill < 256 → Serves (ScrollDown window) }
-{
-    bounds_stay();
-}
+{}
 
 /// Functions 0E and 13: a character is typed at the cursor of the active page, and a string from a
 /// place on.
@@ -89,9 +81,7 @@ pub fn typing_is_served()
     ensures character { (character colour : ℕ) → character < 256 → colour < 256 →
         Serves (Teletype character colour) }
     ensures string { (call : StringCall) → call.colour < 256 → Serves (WriteString call) }
-{
-    bounds_stay();
-}
+{}
 
 /// Function 10: palette, overscan, blinking and DAC are set and answered.
 pub fn colours_are_served()
@@ -108,9 +98,7 @@ pub fn dots_are_refused()
 pub fn dots_are_served()
     ensures written { (page x y colour : ℕ) → colour < 256 → Serves (WritePixel page x y colour) }
     ensures read { (page x y : ℕ) → Serves (ReadPixel page x y) }
-{
-    bounds_stay();
-}
+{}
 
 /// From every state that shows a screen a call for a service replies as on the screen, or is
 /// refused as there, and leads to a state that shows the next screen; so does a call that loads
@@ -141,6 +129,4 @@ pub fn calls_lead_to_screens()
         (c : CardState) (d : BiosData) →
         call_of r ≡ Some (SetMode mode keeps) → mode_row mode ≡ None →
         after_call fonts r block c d ≡ (c, (Err BadMode, d)) }
-{
-    bounds_stay();
-}
+{}

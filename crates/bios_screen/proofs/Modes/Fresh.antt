@@ -27,7 +27,7 @@ use Rattle.bios_screen.specs.Fresh.{default_component, fresh_palette, fresh_scre
 use Rattle.bios_screen.specs.Served.{SetsFresh}
 use Rattle.bios_screen.proofs.Base.Plans.{then_runs, then_answers}
 use Rattle.bios_screen.proofs.Base.Lists.{same_from_0, spelled}
-use Rattle.bios_screen.proofs.Base.Kept.{KeepsBounds, plan_bounds, plan_beam}
+use Rattle.bios_services.proofs.CardLemmas.{plan_bounds, plan_beam}
 use Rattle.bios_screen.proofs.Modes.TextModes.Display.{Colour, Monochrome}
 use Rattle.bios_screen.proofs.Modes.PixelModes.Planes.{Low, Middle, High}
 use Rattle.bios_screen.proofs.Modes.PixelModes.Graphics.{Sixteen, Many}
@@ -83,12 +83,12 @@ pub record Prepared (row : ModeRow) (c : CardState) : Type 0 where
   pub runs : (rest : Plan (Unit {0})) → (run card_meaning (registers_plan row >> (palette_plan row.palette 256 >> rest)) c).0
       ≡ (run card_meaning rest (coloured row c dac)).0
 
-pub prepared : (k : Tabled) → KeepsBounds → (c : CardState) → IsCard c → Prepared (row_of k) c
-prepared k law c z =
+pub prepared : (k : Tabled) → (c : CardState) → IsCard c → Prepared (row_of k) c
+prepared k c z =
     let row = row_of k in
     let entries = each (λ i. colour_plan (palette_entry row.palette i)) 256 0 in
     let y0 = in_mode row c in
-    let z0 : IsCard y0 = subst IsCard (registers_set k c z) (plan_bounds law (registers_plan row) c z) in
+    let z0 : IsCard y0 = subst IsCard (registers_set k c z) (plan_bounds (registers_plan row) c z) in
     let y1 = masked y0 in
     let z1 : IsCard y1 = record {
       host = z0.host;
@@ -118,7 +118,7 @@ prepared k law c z =
         greens = component_same row.palette 1 256 d.greens set.shown.greens (λ i l. ap (λ (x : Entry). x.green) (entry i l));
         blues = component_same row.palette 2 256 d.blues set.shown.blues (λ i l. ap (λ (x : Entry). x.blue) (entry i l));
       };
-      bounds = subst IsCard e (plan_bounds law entries y1 z1);
+      bounds = subst IsCard e (plan_bounds entries y1 z1);
       runs = λ rest.
           then_runs (registers_plan row) (palette_plan row.palette 256 >> rest) c
           ∙ ap (λ x. (run card_meaning (palette_plan row.palette 256 >> rest) x).0) (registers_set k c z)

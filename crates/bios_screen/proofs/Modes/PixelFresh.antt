@@ -30,7 +30,7 @@ use Rattle.bios_screen.specs.Shown.{shown_by}
 use Rattle.bios_screen.specs.Fresh.{blank_pixels, fresh_text, fresh_pixels}
 use Rattle.bios_screen.specs.Served.{SetsFresh}
 use Rattle.bios_screen.proofs.Base.Lists.{blank_listing}
-use Rattle.bios_screen.proofs.Base.Kept.{KeepsBounds, plan_bounds}
+use Rattle.bios_services.proofs.CardLemmas.{plan_bounds}
 use Rattle.bios_screen.proofs.Base.Setting.{setting, host_at, with_memory, offset_is, put_decoded}
 use Rattle.bios_screen.proofs.Modes.Fresh.{palette_is, coloured, prepared, ShowsFresh, sets_fresh}
 use Rattle.bios_screen.proofs.Modes.PixelModes.{Planes, row_of, Graphics, row_in, setting_in, number_in, text_by, packed_by}
@@ -132,19 +132,19 @@ put_clears k rest i s l z t =
 abbrev zero_at : ℕ → Plan (Unit {0})
 zero_at w = put (0xA0000 + w) 0
 
-puts_clear : (k : Graphics) (law : KeepsBounds) (rest : CardState) (n i : ℕ) (s : CardState) → i + n ≤ 65536 → IsCard s → IsCleared k rest i s →
+puts_clear : (k : Graphics) (rest : CardState) (n i : ℕ) (s : CardState) → i + n ≤ 65536 → IsCard s → IsCleared k rest i s →
     IsCleared k rest (i + n) (run card_meaning (each zero_at n i) s).0
-puts_clear k law rest zero i s le z t = let e : i ≡ i + 0 = omega arith in subst (λ j. IsCleared k rest j s) e t
-puts_clear k law rest (suc n) i s le z t =
+puts_clear k rest zero i s le z t = let e : i ≡ i + 0 = omega arith in subst (λ j. IsCleared k rest j s) e t
+puts_clear k rest (suc n) i s le z t =
     let s1 = (run card_meaning (zero_at i) s).0 in
     let e : i + 1 + n ≡ i + suc n = omega arith in
     subst (λ j. IsCleared k rest j (run card_meaning (each zero_at n (i + 1)) s1).0) e
-    (puts_clear k law rest n (i + 1) s1 (omega arith) (plan_bounds law (zero_at i) s z) (put_clears k rest i s (omega arith) z t))
+    (puts_clear k rest n (i + 1) s1 (omega arith) (plan_bounds (zero_at i) s z) (put_clears k rest i s (omega arith) z t))
 
-memory_clear : (k : Graphics) (law : KeepsBounds) (s : CardState) → IsCard s → setting s ≡ setting_in k →
+memory_clear : (k : Graphics) (s : CardState) → IsCard s → setting s ≡ setting_in k →
     IsCleared k (without_memory s) 65536 (run card_meaning (clear_plan 0x10000) s).0
 unfolding clear_plan
-memory_clear k law s z e = puts_clear k law (without_memory s) 65536 0 s (omega arith) z
+memory_clear k s z e = puts_clear k (without_memory s) 65536 0 s (omega arith) z
     (record { mode = e; clear = λ w l. absurd (omega arith); others = refl })
 
 -- ---- pixels of clear memory
@@ -228,17 +228,17 @@ test_stays : (row : ModeRow) (c y : CardState) (d : BiosData) → without_memory
 unfolding shows
 test_stays row c y d e = ap (λ x. shows row x d) e
 
-shows_fresh : (k : Graphics) → KeepsBounds → ShowsFresh (OfPixels k)
+shows_fresh : (k : Graphics) → ShowsFresh (OfPixels k)
 unfolding mode_set_plan
-shows_fresh k law c fonts z small =
+shows_fresh k c fonts z small =
     let mode = number_in k in
     let row = row_in k in
     let font = fonts.f16 in
     let d = data_of_mode mode row in
-    let first = prepared (OfPixels k) law c z in
+    let first = prepared (OfPixels k) c z in
     let y = coloured row c first.dac in
     let s = (run card_meaning (clear_plan 0x10000) y).0 in
-    let t = memory_clear k law y first.bounds (setting_by k c first.dac) in
+    let t = memory_clear k y first.bounds (setting_by k c first.dac) in
     let new = fresh_pixels mode row c.crtc.beam.frame in
     let text = fresh_text mode row font c.crtc.beam.frame in
     let pages = replicate row.pages (blank_pixels (pixels_of row)) in
@@ -251,5 +251,5 @@ shows_fresh k law c fonts z small =
     ∙ ap (λ (p : Palette). let x : Screen = record new { palette = p } in Some x) (palette_is row c first.dac first.colours)
     ∙ sym (ap (λ b. let x : Screen = (if b then text else new) in Some x) (text_in k))
 
-pub pixels_set_fresh : (k : Graphics) → KeepsBounds → SetsFresh (number_in k) (row_in k)
-pixels_set_fresh k law = sets_fresh (OfPixels k) (shows_fresh k law)
+pub pixels_set_fresh : (k : Graphics) → SetsFresh (number_in k) (row_in k)
+pixels_set_fresh k = sets_fresh (OfPixels k) (shows_fresh k)

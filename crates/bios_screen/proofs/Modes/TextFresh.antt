@@ -25,7 +25,7 @@ use Rattle.bios_screen.proofs.Base.Flat.{Edited, Turn, Leaves, set_cell}
 use Rattle.bios_screen.proofs.Base.Plans.{then_runs}
 use Rattle.bios_screen.proofs.Base.Edits.{one_edit, edits}
 use Rattle.bios_screen.proofs.Base.Lists.{same_from_0, blank_listing}
-use Rattle.bios_screen.proofs.Base.Kept.{KeepsBounds, plan_bounds}
+use Rattle.bios_services.proofs.CardLemmas.{plan_bounds}
 use Rattle.bios_screen.proofs.Base.Setting.{setting}
 use Rattle.bios_screen.proofs.Modes.TextModes.{Display, base_of, text_setting, row_of, number_of}
 use Rattle.bios_screen.proofs.Modes.TextModes.Display.{Colour, Monochrome}
@@ -149,14 +149,14 @@ record FreshMemory (disp : Display) (font : List ℕ) (y s : CardState) : Type 0
   glyphs : glyphs_in plane2 4096 ≡ font_bytes font 4096
   cells : cells_in s.host.memory.plane0 s.host.memory.plane1 all_cells ≡ blank_cells all_cells
 
-fresh_memory : (disp : Display) (law : KeepsBounds) (c : CardState) (d : DacState) (font : List ℕ) → IsCard (coloured (row_of disp) c d) → AreBytes font →
+fresh_memory : (disp : Display) (c : CardState) (d : DacState) (font : List ℕ) → IsCard (coloured (row_of disp) c d) → AreBytes font →
     FreshMemory disp font (coloured (row_of disp) c d)
     (run card_meaning (memory_plan (row_of disp) false font) (coloured (row_of disp) c d)).0
-fresh_memory disp law c d font z2 small =
+fresh_memory disp c d font z2 small =
     let window = slice_index (row_of disp).graphics 6 in
     let y2 = coloured (row_of disp) c d in
     let y3 = in_glyphs disp y2 in
-    let z3 : IsCard y3 = subst IsCard (on_is disp c d) (plan_bounds law glyphs_on y2 z2) in
+    let z3 : IsCard y3 = subst IsCard (on_is disp c d) (plan_bounds glyphs_on y2 z2) in
     let load = glyphs_plan (glyph_row 16 font) 16 256 0 in
     let s4 = (run card_meaning load y3).0 in
     let loading : IsLoading disp (without_glyphs y3) y3 (slice_index y3.host.memory.plane2) =
@@ -166,9 +166,9 @@ fresh_memory disp law c d font z2 small =
     let l4 = s4.host.memory.plane2 in
     let y4 = with_glyphs y3 l4 in
     let e4 : s4 ≡ y4 = but_glyphs s4 y3 loaded.shown.others in
-    let z4 : IsCard y4 = subst IsCard e4 (plan_bounds law load y3 z3) in
+    let z4 : IsCard y4 = subst IsCard e4 (plan_bounds load y3 z3) in
     let y5 = in_text disp y4 in
-    let z5 : IsCard y5 = subst IsCard (off_is disp c d l4) (plan_bounds law (glyphs_off window) y4 z4) in
+    let z5 : IsCard y5 = subst IsCard (off_is disp c d l4) (plan_bounds (glyphs_off window) y4 z4) in
     let blank = blank_plan (base_of disp) 0x8000 in
     let s6 = (run card_meaning blank y5).0 in
     let cells = has_cells disp y5 (text_setting_is disp c d l4) z5.host in
@@ -203,15 +203,15 @@ fresh_memory disp law c d font z2 small =
     } in
     subst (FreshMemory disp font y2) (sym whole) state
 
-shows_fresh : (disp : Display) → KeepsBounds → ShowsFresh (OfText disp)
+shows_fresh : (disp : Display) → ShowsFresh (OfText disp)
 unfolding mode_set_plan
-shows_fresh disp law c fonts z small =
+shows_fresh disp c fonts z small =
     let mode = number_of disp in
     let row = row_of disp in
     let font = fonts.f16 in
     let d = data_of_mode mode row in
-    let first = prepared (OfText disp) law c z in
-    let t = fresh_memory disp law c first.dac font first.bounds small in
+    let first = prepared (OfText disp) c z in
+    let t = fresh_memory disp c first.dac font first.bounds small in
     let s = (run card_meaning (memory_plan row false font) (coloured row c first.dac)).0 in
     let y = in_text disp (with_glyphs (in_glyphs disp (coloured row c first.dac)) t.plane2) in
     let new = fresh_text mode row font c.crtc.beam.frame in
@@ -227,5 +227,5 @@ shows_fresh disp law c fonts z small =
     ∙ ap (λ k. let x : Screen = record new { glyphs = k } in Some x) t.glyphs
     ∙ sym (ap (λ b. let x : Screen = (if b then new else pixels) in Some x) (text_mode disp))
 
-pub text_set_fresh : (disp : Display) → KeepsBounds → SetsFresh (number_of disp) (row_of disp)
-text_set_fresh disp law = sets_fresh (OfText disp) (shows_fresh disp law)
+pub text_set_fresh : (disp : Display) → SetsFresh (number_of disp) (row_of disp)
+text_set_fresh disp = sets_fresh (OfText disp) (shows_fresh disp)

@@ -20,7 +20,6 @@ use Rattle.bios_screen.specs.Screen.{Screen}
 use Rattle.bios_screen.specs.Shown.{packed_pixel, pixel_screen}
 use Rattle.bios_screen.specs.Step.{pixel_of, cell_line}
 use Rattle.bios_screen.proofs.Base.Plans.{run_bind}
-use Rattle.bios_screen.proofs.Base.Kept.{KeepsBounds}
 use Rattle.bios_screen.proofs.Dots.PackedDots.{IsPacked}
 use Rattle.bios_screen.proofs.Packed.Screens as screens
 use Rattle.bios_screen.proofs.Packed.Screens.{IsFlat, get_flat}
@@ -67,7 +66,7 @@ byte_shifted f =
         → x8 ≡ b7 + 2 * b6 + 4 * b5 + 8 * b4 + 16 * b3 + 32 * b2 + 64 * b1 + 128 * b0
     sum x1 x2 x3 x4 x5 x6 x7 x8 b0 b1 b2 b3 b4 b5 b6 b7 e1 e2 e3 e4 e5 e6 e7 e8 = omega arith
 
-module _ (law : KeepsBounds) (rest : CardState) where
+module _ (rest : CardState) where
   abbrev one : ℕ → ℕ → ℕ → Plan ℕ
   one a i x = shift_dot (0xA0000 + a + i) x
 
@@ -77,7 +76,7 @@ module _ (law : KeepsBounds) (rest : CardState) where
   dots_shifted a zero i x c f l t = record { still = t; value = refl }
   dots_shifted a (suc n) i x c f l t =
       let at : 0xA0000 + a + i ≡ 0xA0000 + (a + i) = omega arith in
-      let got = get_flat law rest (a + i) c f (omega arith) t in
+      let got = get_flat rest (a + i) c f (omega arith) t in
       let g = get (0xA0000 + a + i) in
       let c1 = (run card_meaning g c).0 in
       let v = (run card_meaning g c).1 in
@@ -98,7 +97,7 @@ module _ (law : KeepsBounds) (rest : CardState) where
       let seen = dots_shifted a 8 0 0 c f (omega arith) t in
       record { still = seen.still; value = seen.value ∙ byte_shifted (λ j. f (a + j)) }
 
-module _ (law : KeepsBounds) (c : CardState) (d : BiosData) (t : IsPacked c d) (e : row_at d.mode d.height ≡ Some bytes_320_by_200) (z : IsCard c) where
+module _ (c : CardState) (d : BiosData) (t : IsPacked c d) (e : row_at d.mode d.height ≡ Some bytes_320_by_200) (z : IsCard c) where
   abbrev s : Screen
   s = pixel_screen bytes_320_by_200 c d
 
@@ -110,7 +109,7 @@ module _ (law : KeepsBounds) (c : CardState) (d : BiosData) (t : IsPacked c d) (
 
   line_is : (q r : ℕ) → q < cells_of d → r < d.height → byte_of (λ j. as_dot (old (place q r + (7 - j)))) ≡ cell_line s 0 q r
   line_is q r lq lr =
-      let l = writes.strip_small law c d t e z q r lq lr in
+      let l = writes.strip_small c d t e z q r lq lr in
       let all = screens.all_pixels c d t e z in
       byte_same (λ j. as_dot (old (place q r + (7 - j)))) (λ j. as_dot (pixel_of s 0 (place q r + (7 - j)))) (λ j lj.
       ap as_dot (sym (screens.pixel_is c d t e z (place q r + (7 - j)) (omega arith))))
@@ -125,7 +124,7 @@ module _ (law : KeepsBounds) (c : CardState) (d : BiosData) (t : IsPacked c d) (
       subst (λ i. IsCellRead fonts r c d i s) (sym first)
       (reads.cell_read bytes_320_by_200 c d fonts r 0 (screens.text c d t e z)
       (reads.character_seen bytes_320_by_200 c d fonts 0 q Packed (λ r. 0xA0000 + place q r) (λ y. IsFlat rest y old)
-      (λ r y lr u. let seen = line_seen law rest (place q r) y old (let k = writes.strip_small law c d t e z q r l lr in omega arith) u in
+      (λ r y lr u. let seen = line_seen rest (place q r) y old (let k = writes.strip_small c d t e z q r l lr in omega arith) u in
       record { still = seen.still; value = seen.value ∙ line_is q r l lr })
-      (ap kind_of t.number) refl (λ r. writes.address_is law c d t e z q r 0 ∙ sum (place q r))
+      (ap kind_of t.number) refl (λ r. writes.address_is c d t e z q r 0 ∙ sum (place q r))
       (screens.begins c d t e z) (λ y u. screens.stays c d t e z y u)))

@@ -26,7 +26,6 @@ use Rattle.bios_screen.proofs.Modes.PixelModes.Graphics.{Many}
 use Rattle.bios_screen.proofs.Shows.Pixels.{pixels_shown_of}
 use Rattle.bios_screen.proofs.Dots.PackedDots.{IsPacked}
 use Rattle.bios_screen.proofs.Packed.Memory.{decoded, byte_read}
-use Rattle.bios_screen.proofs.Base.Kept.{KeepsBounds}
 use Rattle.bios_screen.proofs.Planar.Settings.{without_drawing}
 use Rattle.bios_screen.proofs.Packed.Screens.{put_flat}
 use Rattle.bios_screen.proofs.Packed.Screens as screens
@@ -65,9 +64,9 @@ module _ (c : CardState) (d : BiosData) (t : IsPacked c d) (e : row_at d.mode d.
       t.number
       ∙ ap (λ a. put a colour) (address_is x y)
 
-  pub write_pixel : KeepsBounds → (page x y colour : ℕ) (fonts : FontSet) (r : Regs) (block : List ℕ) → colour < 256 →
+  pub write_pixel : (page x y colour : ℕ) (fonts : FontSet) (r : Regs) (block : List ℕ) → colour < 256 →
       IsServed (WritePixel page x y colour) fonts r block c d s
-  write_pixel law page x y colour fonts r block lc = services.write_pixel bytes_320_by_200 c d e page x y colour fonts r block (λ p h.
+  write_pixel page x y colour fonts r block lc = services.write_pixel bytes_320_by_200 c d e page x y colour fonts r block (λ p h.
       let lp = h.page in
       let first : 0 ≡ p = omega arith in
       let n = number x y in
@@ -78,7 +77,7 @@ module _ (c : CardState) (d : BiosData) (t : IsPacked c d) (e : row_at d.mode d.
       (ap (λ q. shown (run card_meaning q c).0 d) (write_is x y colour)
       ∙ screens.page_redrawn c d t e z (run card_meaning (put (0xA0000 + n) colour) c).0 (set_cell (packed_pixel m) n colour)
       (change_pixel n (colour_over d.mode colour))
-      (put_flat law (without_drawing c) n colour c (packed_pixel m) (omega arith) lc (screens.begins c d t e z))
+      (put_flat (without_drawing c) n colour c (packed_pixel m) (omega arith) lc (screens.begins c d t e z))
       (λ k lk. ap (λ v. if k == n then v else packed_pixel m k) (sym (ap (λ i. colour_over i colour (packed_pixel m k)) t.number))
       ∙ ap (λ v. if k == n then colour_over d.mode colour v else v) (sym (screens.pixel_is c d t e z k lk)))))
 

@@ -14,7 +14,7 @@ use Rattle.bios_screen.specs.Screen.{Screen}
 use Rattle.bios_screen.specs.Shown.{packed_pixel, planar_pixel, pixel_in, page_pixels, pixel_screen, shown}
 use Rattle.bios_screen.specs.Step.{pixel_of, with_pixels}
 use Rattle.bios_screen.proofs.Base.Flat.{set_cell}
-use Rattle.bios_screen.proofs.Base.Kept.{KeepsBounds, plan_bounds}
+use Rattle.bios_services.proofs.CardLemmas.{plan_bounds}
 use Rattle.bios_screen.proofs.Base.Setting.{setting, with_memory, get_decoded}
 use Rattle.bios_screen.proofs.Modes.PixelModes.{setting_in}
 use Rattle.bios_screen.proofs.Modes.PixelModes.Graphics.{Many}
@@ -33,13 +33,13 @@ pub record IsFlat (rest : CardState) (c : CardState) (f : ℕ → ℕ) : Type 0 
   pub others : without_drawing c ≡ rest
 
 -- a Put changes one of them
-pub put_flat : (law : KeepsBounds) (rest : CardState) (n v : ℕ) (c : CardState) (f : ℕ → ℕ) → n < 65536 → v < 256 → IsFlat rest c f →
+pub put_flat : (rest : CardState) (n v : ℕ) (c : CardState) (f : ℕ → ℕ) → n < 65536 → v < 256 → IsFlat rest c f →
     IsFlat rest (run card_meaning (put (0xA0000 + n) v) c).0 (set_cell f n v)
-put_flat law rest n v c f l lv t =
+put_flat rest n v c f l lv t =
     let after = put_is c n v t.mode l lv in
     let still : IsFlat rest (with_memory c (packed_memory c.host.memory n v)) (set_cell f n v) = record {
       mode = t.mode;
-      bounds = subst IsCard after (plan_bounds law (put (0xA0000 + n) v) c t.bounds);
+      bounds = subst IsCard after (plan_bounds (put (0xA0000 + n) v) c t.bounds);
       cell = λ k. pixel_put c.host.memory n v k t.bounds.host.memory.size l ∙ ap (λ x. if k == n then v else x) (t.cell k);
       others = t.others;
     } in
@@ -50,14 +50,14 @@ pub record IsGot (rest : CardState) (a : ℕ) (c : CardState) (f : ℕ → ℕ) 
   pub still : IsFlat rest (run card_meaning (get (0xA0000 + a)) c).0 f
   pub value : (run card_meaning (get (0xA0000 + a)) c).1 ≡ f a
 
-pub get_flat : (law : KeepsBounds) (rest : CardState) (a : ℕ) (c : CardState) (f : ℕ → ℕ) → a < 65536 → IsFlat rest c f → IsGot rest a c f
-get_flat law rest a c f la t =
+pub get_flat : (rest : CardState) (a : ℕ) (c : CardState) (f : ℕ → ℕ) → a < 65536 → IsFlat rest c f → IsGot rest a c f
+get_flat rest a c f la t =
     let got = get_decoded c (setting_in Many) (0xA0000 + a) t.mode (decoded c.host a la) in
     let after = ap (λ r. r.0) got in
     record {
       still = subst (λ y. IsFlat rest y f) (sym after) (record {
         mode = t.mode;
-        bounds = subst IsCard after (plan_bounds law (get (0xA0000 + a)) c t.bounds);
+        bounds = subst IsCard after (plan_bounds (get (0xA0000 + a)) c t.bounds);
         cell = t.cell;
         others = t.others;
       });

@@ -20,7 +20,6 @@ use Rattle.bios_screen.specs.Shown.{packed_pixel, page_pixels, pixel_screen, sho
 use Rattle.bios_screen.specs.Step.{pixel_of, pixel_row, pixel_column, in_window, has_source, source, row_pixels, fill_pixel, with_pixels, scroll_pixels}
 use Rattle.bios_screen.specs.Step.{scroll_window}
 use Rattle.bios_screen.proofs.Base.Flat.{Leaves}
-use Rattle.bios_screen.proofs.Base.Kept.{KeepsBounds}
 use Rattle.bios_screen.proofs.Base.Windows.{LiesOn, IsInside, inside_of, inside_test, contrary, by_tests}
 use Rattle.bios_screen.proofs.Base.Bands.{IsWindow, band_by}
 use Rattle.bios_screen.proofs.Base.Shifts as shifts
@@ -30,13 +29,13 @@ use Rattle.bios_screen.proofs.Planar.Windows.{filled_plain}
 use Rattle.bios_screen.proofs.Packed.Screens as screens
 use Rattle.bios_screen.proofs.Packed.Screens.{IsFlat, put_flat, get_flat}
 
-pixel_read : (law : KeepsBounds) (rest : CardState) (i : ℕ) (c : CardState) (f : ℕ → ℕ) → i < 65536 → IsFlat rest c f →
+pixel_read : (rest : CardState) (i : ℕ) (c : CardState) (f : ℕ → ℕ) → i < 65536 → IsFlat rest c f →
     shifts.IsRead CardState card_meaning (IsFlat rest) (0xA0000 + i) c f (f i)
-pixel_read law rest i c f l t =
-    let got = get_flat law rest i c f l t in
+pixel_read rest i c f l t =
+    let got = get_flat rest i c f l t in
     record { still = got.still; answer = got.value; small = subst (λ v. v < 256) (t.cell i) (t.bounds.host.memory.bytes (i % 4) (omega arith) (i / 4 * 4)) }
 
-module _ (law : KeepsBounds) (c : CardState) (d : BiosData) (t : IsPacked c d) (e : row_at d.mode d.height ≡ Some bytes_320_by_200) (z : IsCard c) (p : ℕ)
+module _ (c : CardState) (d : BiosData) (t : IsPacked c d) (e : row_at d.mode d.height ≡ Some bytes_320_by_200) (z : IsCard c) (p : ℕ)
     (lp : p < bytes_320_by_200.pages) (w : Window) (on : LiesOn (d.last_row + 1) d.columns w) (direction : Direction) (n colour : ℕ) (lc : colour < 256) where
   abbrev s : Screen
   s = pixel_screen bytes_320_by_200 c d
@@ -71,7 +70,7 @@ module _ (law : KeepsBounds) (c : CardState) (d : BiosData) (t : IsPacked c d) (
       (run card_meaning (scroll_rows band direction w.top w.height n colour) c).0 (Goes old)
   unfolding scroll_rows fill_plan
   went some few = shifts.filled_once CardState card_meaning 0xA0000 65536 band 0 (d.last_row + 1) w window (IsFlat (without_drawing c))
-      (pixel_read law (without_drawing c)) (λ j v y f lj lv u. put_flat law (without_drawing c) j v y f lj lv u) (plain colour) lc lc direction n c old some few (screens.begins c d t e z)
+      (pixel_read (without_drawing c)) (λ j v y f lj lv u. put_flat (without_drawing c) j v y f lj lv u) (plain colour) lc lc direction n c old some few (screens.begins c d t e z)
 
   -- ---- the pixels
 

@@ -23,7 +23,6 @@ use Rattle.bios_screen.specs.Shown.{packed_pixel, pixel_screen, shown}
 use Rattle.bios_screen.specs.Step.{glyph_pixel, put_characters}
 use Rattle.bios_screen.proofs.Base.Flat.{Edited, Turn, Leaves, set_cell}
 use Rattle.bios_screen.proofs.Base.Edits.{one_edit, edits}
-use Rattle.bios_screen.proofs.Base.Kept.{KeepsBounds}
 use Rattle.bios_screen.proofs.Dots.PackedDots.{IsPacked}
 use Rattle.bios_screen.proofs.Planar.Settings.{without_drawing}
 use Rattle.bios_screen.proofs.Base.CellPlaces.{strip_at, same_line, strip_within}
@@ -49,7 +48,7 @@ dot_small : (b : Bool) (colour : ℕ) → colour < 256 → (if b then colour els
 dot_small true colour l = l
 dot_small false colour l = omega arith
 
-module _ (law : KeepsBounds) (c : CardState) (d : BiosData) (t : IsPacked c d) (e : row_at d.mode d.height ≡ Some bytes_320_by_200) (z : IsCard c) where
+module _ (c : CardState) (d : BiosData) (t : IsPacked c d) (e : row_at d.mode d.height ≡ Some bytes_320_by_200) (z : IsCard c) where
   abbrev s : Screen
   s = pixel_screen bytes_320_by_200 c d
 
@@ -119,7 +118,7 @@ module _ (law : KeepsBounds) (c : CardState) (d : BiosData) (t : IsPacked c d) (
       (λ i j _ _ lb lo hi. omega arith)
       (λ i v g lb l k. record {
         cells = set_cell g (place q r i) (dot_of dots colour i);
-        shown = put_flat law rest (place q r i) (dot_of dots colour i) v g (within q r i lq lr l) (dot_small (is_set dots (7 - i)) colour lc) k;
+        shown = put_flat rest (place q r i) (dot_of dots colour i) v g (within q r i lq lr l) (dot_small (is_set dots (7 - i)) colour lc) k;
         fact = one_edit (place q r i) (dot_of dots colour i) g;
       })
       8 0 y f (omega arith) (omega arith) u

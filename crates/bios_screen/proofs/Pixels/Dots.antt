@@ -24,7 +24,7 @@ use Rattle.bios_screen.proofs.Base.Plans.{run_bind}
 use Rattle.bios_screen.proofs.Base.Places.{ends_before}
 use Rattle.bios_screen.proofs.Base.Tests.{both_true, lt_is}
 use Rattle.bios_screen.proofs.Base.Reasons.{neither, holds, page_allowed}
-use Rattle.bios_screen.proofs.Base.Kept.{plan_beam}
+use Rattle.bios_services.proofs.CardLemmas.{plan_beam}
 use Rattle.bios_screen.proofs.Shows.Screens.{pages_are, named_page}
 
 -- a pixel is there

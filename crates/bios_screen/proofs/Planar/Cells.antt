@@ -26,7 +26,6 @@ use Rattle.bios_screen.specs.Screen.{Screen}
 use Rattle.bios_screen.specs.Shown.{page_pixels, pixel_screen}
 use Rattle.bios_screen.specs.Step.{pixel_of, cell_line}
 use Rattle.bios_screen.proofs.Base.CellPlaces.{strip_at, strip_within}
-use Rattle.bios_screen.proofs.Base.Kept.{KeepsBounds}
 use Rattle.bios_screen.proofs.Base.Setting.{host_at, reached, offset_is, get_decoded}
 use Rattle.bios_screen.proofs.Modes.PixelModes.{Planes, row_of}
 use Rattle.bios_screen.proofs.Text.Writes.{IsCellRead}
@@ -77,18 +76,18 @@ unfolding byte_of
 dots_are q = refl
 
 -- a line of a cell
-line_seen : (law : KeepsBounds) (rest : CardState) (e d : ℕ) → is_set e 1 ≡ true → (a : ℕ) (c : CardState) (f : ℕ → Four ℕ) → a < 65536 →
+line_seen : (rest : CardState) (e d : ℕ) → is_set e 1 ≡ true → (a : ℕ) (c : CardState) (f : ℕ → Four ℕ) → a < 65536 →
     Drawn rest e d seeing c f → IsSeen (λ y. Drawn rest e d seeing y f) (line_plan Planar (0xA0000 + a)) (dots_of (f a)) c
 unfolding line_plan
-line_seen law rest e d on a c f la t =
+line_seen rest e d on a c f la t =
     let got = get_decoded c (drawing e d seeing) (0xA0000 + a) t.is.mode (reached (is_set e 1) a on la) in
     record {
-      still = record { latches = f a; is = get_loads law rest e d a seeing t.latches c f on t.is la };
+      still = record { latches = f a; is = get_loads rest e d a seeing t.latches c f on t.is la };
       value = ap (λ n. 255 - n) (ap (λ r. r.1) got ∙ byte_is c.host e d a la ∙ ap (λ q. byte_of (none_of q)) (t.is.cell a))
           ∙ complement (none_of (f a)) (λ i. if nibble (f a) i == 0 then 0 else 1) (either (f a)) ∙ dots_are (f a);
     }
 
-module _ (law : KeepsBounds) (m : Planes) (c : CardState) (d : BiosData) (t : IsPlanar m c d) (e : row_at d.mode d.height ≡ Some (row_of m))
+module _ (m : Planes) (c : CardState) (d : BiosData) (t : IsPlanar m c d) (e : row_at d.mode d.height ≡ Some (row_of m))
     (z : IsCard c) where
   abbrev s : Screen
   s = pixel_screen (row_of m) c d
@@ -109,7 +108,7 @@ module _ (law : KeepsBounds) (m : Planes) (c : CardState) (d : BiosData) (t : Is
   line_is : (p q r : ℕ) → p < (row_of m).pages → q < cells_of d → r < h → dots_of (old (place p q r)) ≡ cell_line s p q r
   line_is p q r lp lq lr =
       let b = strip_at w h q r in
-      let l = strip_within w h (d.last_row + 1) q r (writes.wide law m c d t e z) lr lq in
+      let l = strip_within w h (d.last_row + 1) q r (writes.wide m c d t e z) lr lq in
       let small = (screens.strip_small m c d t e z b l).0 in
       let even : page_pixels d ≡ 8 * (w * (h * (d.last_row + 1))) = omega arith in
       byte_same (λ i. as_dot (nibble_of (old (d.size * p + b)) (7 - i))) (λ i. as_dot (pixel_of s p (8 * b + (7 - i)))) (λ i li.
@@ -130,9 +129,9 @@ module _ (law : KeepsBounds) (m : Planes) (c : CardState) (d : BiosData) (t : Is
       let R : CardState → Type 0 = λ y. Drawn rest misc clocking seeing y old in
       reads.cell_read (row_of m) c d fonts r p text
       (reads.character_seen (row_of m) c d fonts p q Planar (λ r. 0xA0000 + place p q r) R
-      (λ r y lr u. let seen = line_seen law rest misc clocking (enabled_by m) (place p q r) y old (writes.within law m c d t e z p q r lp lq lr).1 u in
+      (λ r y lr u. let seen = line_seen rest misc clocking (enabled_by m) (place p q r) y old (writes.within m c d t e z p q r lp lq lr).1 u in
       record { still = seen.still; value = seen.value ∙ line_is p q r lp lq lr })
-      (ap kind_of t.number ∙ kind_by m) refl (λ r. writes.address_is law m c d t e z p q r)
-      (record { latches = c.host.latches; is = mode_set law rest misc clocking 0x08 at_rest c.host.latches c old refl refl (screens.begins m c d t e z) })
+      (ap kind_of t.number ∙ kind_by m) refl (λ r. writes.address_is m c d t e z p q r)
+      (record { latches = c.host.latches; is = mode_set rest misc clocking 0x08 at_rest c.host.latches c old refl refl (screens.begins m c d t e z) })
       (λ y u. screens.stays m c d t e z (run card_meaning (graphics 5 0x00) y).0 old u.latches
-      (mode_set law rest misc clocking 0x00 seeing u.latches y old refl refl u.is) (λ o. refl)))
+      (mode_set rest misc clocking 0x00 seeing u.latches y old refl refl u.is) (λ o. refl)))

@@ -15,7 +15,6 @@ use Rattle.bios_services.specs.Drawing.{put_over}
 use Rattle.bios_screen.proofs.Base.Flat.{Edited, Turn, Leaves, set_cell}
 use Rattle.bios_screen.proofs.Base.Edits.{one_edit, edited_twice, edits}
 use Rattle.bios_screen.proofs.Base.Plans.{run_bind}
-use Rattle.bios_screen.proofs.Base.Kept.{KeepsBounds}
 use Rattle.bios_screen.proofs.Planar.Settings.{Hand, at_rest, drawing, stored, Loaded, put_draws, get_loads, mask_set, function_set}
 use Rattle.bios_screen.proofs.Planar.Bits.{nibble, same_nibble, nibble_of, low_is, xor_nibble, bit_of}
 
@@ -143,7 +142,7 @@ turned_by at g n mask = do
 abbrev pub glyph_by : Bool → (ℕ → ℕ) → (ℕ → ℕ) → ℕ → ℕ → Plan (Unit {0})
 glyph_by b at g n mask = if b then turned_by at g n mask else plain_by at g n mask
 
-module _ (law : KeepsBounds) (rest : CardState) (e d : ℕ) (on : is_set e 1 ≡ true) (at : ℕ → ℕ) (height : ℕ) (within : (r : ℕ) → r < height → at r < 65536)
+module _ (rest : CardState) (e d : ℕ) (on : is_set e 1 ≡ true) (at : ℕ → ℕ) (height : ℕ) (within : (r : ℕ) → r < height → at r < 65536)
     (apart : (j k : ℕ) → j < k → k < height → at j ≢ at k) where
   abbrev Line : Type 0
   Line = Turn (λ _. Unit {0}) 0 height
@@ -169,7 +168,7 @@ module _ (law : KeepsBounds) (rest : CardState) (e d : ℕ) (on : is_set e 1 ≡
       let one = one_edit (at r) new x in
       record {
         cells = set_cell x (at r) new;
-        shown = record { latches = u.latches; is = put_draws law rest e d (at r) (g r) (plain mask) u.latches s x on u.is (within r l) };
+        shown = record { latches = u.latches; is = put_draws rest e d (at r) (g r) (plain mask) u.latches s x on u.is (within r l) };
         fact = record { inside = λ h. one.inside h ∙ plainly (g r) mask u.latches (x (at r)); outside = one.outside };
       })
       height 0 c f (omega arith) (omega arith) t
@@ -184,12 +183,12 @@ module _ (law : KeepsBounds) (rest : CardState) (e d : ℕ) (on : is_set e 1 ≡
       (λ r s x lb l u.
       let a = at r in
       let s1 = (run card_meaning (get (0xA0000 + a)) s).0 in
-      let t1 = get_loads law rest e d a (turning mask) u.latches s x on u.is (within r l) in
+      let t1 = get_loads rest e d a (turning mask) u.latches s x on u.is (within r l) in
       let new = stored (drawing e d (turning mask)) mask (g r) (x a) (x a) in
       let one = one_edit a new x in
       record {
         cells = set_cell x a new;
-        shown = record { latches = x a; is = put_draws law rest e d a (g r) (turning mask) (x a) s1 x on t1 (within r l) };
+        shown = record { latches = x a; is = put_draws rest e d a (g r) (turning mask) (x a) s1 x on t1 (within r l) };
         fact = record { inside = λ h. one.inside h ∙ by_xor mask (g r) (x a); outside = one.outside };
       })
       height 0 c f (omega arith) (omega arith) t
@@ -209,13 +208,13 @@ module _ (law : KeepsBounds) (rest : CardState) (e d : ℕ) (on : is_set e 1 ≡
       let c2 = (run card_meaning (sequencer 2 mask) c1).0 in
       let m2 : Drawn rest e d (plain mask) c2 m1.cells = record {
         latches = m1.shown.latches;
-        is = mask_set law rest e d mask (plain 0x0F) m1.shown.latches c1 m1.cells lm m1.shown.is;
+        is = mask_set rest e d mask (plain 0x0F) m1.shown.latches c1 m1.cells lm m1.shown.is;
       } in
       let c3 = (run card_meaning p3 c2).0 in
       let m3 = lines_put mask g c2 m1.cells m2 in
       let all : Leaves CardState (Four ℕ) (Drawn rest e d at_rest) (run card_meaning p4 c3).0 (Lined false g mask f) = record {
         cells = m3.cells;
-        shown = record { latches = m3.shown.latches; is = mask_set law rest e d 0x0F (plain mask) m3.shown.latches c3 m3.cells (omega arith) m3.shown.is };
+        shown = record { latches = m3.shown.latches; is = mask_set rest e d 0x0F (plain mask) m3.shown.latches c3 m3.cells (omega arith) m3.shown.is };
         fact = edited_twice (λ (h : Line). at h.turn) (λ h x. masked 0x0F 0x00 x) (λ h x. masked mask (g h.turn) x) f m1.cells m3.cells m1.fact m3.fact;
       } in
       let e1 = run_bind card_meaning p1 (λ _. sequencer 2 mask >> (p3 >> p4)) c in
@@ -225,17 +224,17 @@ module _ (law : KeepsBounds) (rest : CardState) (e d : ℕ) (on : is_set e 1 ≡
       let h1 : Hand = record at_rest { turn = 0x18 } in
       let p3 = turns_plan (λ r. 0xA0000 + at r) g height in
       let c1 = (run card_meaning (graphics 3 0x18) c).0 in
-      let t1 = function_set law rest e d 0x18 at_rest t.latches c f refl t.is in
+      let t1 = function_set rest e d 0x18 at_rest t.latches c f refl t.is in
       let c2 = (run card_meaning (sequencer 2 mask) c1).0 in
-      let t2 = mask_set law rest e d mask h1 t.latches c1 f lm t1 in
+      let t2 = mask_set rest e d mask h1 t.latches c1 f lm t1 in
       let m3 = lines_turned mask g c2 f (record { latches = t.latches; is = t2 }) in
       let c3 = (run card_meaning p3 c2).0 in
       let q = m3.shown.latches in
       let c4 = (run card_meaning (sequencer 2 0x0F) c3).0 in
-      let t4 = mask_set law rest e d 0x0F (turning mask) q c3 m3.cells (omega arith) m3.shown.is in
+      let t4 = mask_set rest e d 0x0F (turning mask) q c3 m3.cells (omega arith) m3.shown.is in
       let all : Leaves CardState (Four ℕ) (Drawn rest e d at_rest) (run card_meaning (graphics 3 0x00) c4).0 (Lined true g mask f) = record {
         cells = m3.cells;
-        shown = record { latches = q; is = function_set law rest e d 0x00 h1 q c4 m3.cells refl t4 };
+        shown = record { latches = q; is = function_set rest e d 0x00 h1 q c4 m3.cells refl t4 };
         fact = m3.fact;
       } in
       let e1 = run_bind card_meaning p3 (λ _. sequencer 2 0x0F >> graphics 3 0x00) c2 in

@@ -24,7 +24,6 @@ use Rattle.bios_screen.specs.Step.{pixel_of, pixel_number, with_pixels, colour_o
 use Rattle.bios_screen.specs.Served.{IsServed}
 use Rattle.bios_screen.proofs.Base.Flat.{set_cell, set_same, set_other}
 use Rattle.bios_screen.proofs.Base.Plans.{then_runs}
-use Rattle.bios_screen.proofs.Base.Kept.{KeepsBounds}
 use Rattle.bios_screen.proofs.Modes.PixelModes.{Planes, row_of, packed_by}
 use Rattle.bios_screen.proofs.Dots.PlanarDots.{IsPlanar}
 use Rattle.bios_screen.proofs.Planar.Settings.{Hand, at_rest, drawing, stored, without_drawing, Loaded, put_draws, get_loads, function_set, mode_set, bits_set}
@@ -41,17 +40,17 @@ mask_kept k l = let t = agree_below_at (λ k. bit_and (0x80 / 2 ^ k) 0xFF == 0x8
 abbrev turn_plan : Bool → ℕ → Plan (Unit {0})
 turn_plan b v = if b then graphics 3 v else Done tt
 
-turn_begun : (law : KeepsBounds) (rest : CardState) (e d : ℕ) (h : Hand) (q : Four ℕ) (c : CardState) (f : ℕ → Four ℕ) (b : Bool) →
+turn_begun : (rest : CardState) (e d : ℕ) (h : Hand) (q : Four ℕ) (c : CardState) (f : ℕ → Four ℕ) (b : Bool) →
     Loaded rest e d (record h { turn = 0x00 }) c f q →
     Loaded rest e d (record h { turn = if b then 0x18 else 0x00 }) (run card_meaning (turn_plan b 0x18) c).0 f q
-turn_begun law rest e d h q c f true t = function_set law rest e d 0x18 (record h { turn = 0x00 }) q c f refl t
-turn_begun law rest e d h q c f false t = t
+turn_begun rest e d h q c f true t = function_set rest e d 0x18 (record h { turn = 0x00 }) q c f refl t
+turn_begun rest e d h q c f false t = t
 
-turn_ended : (law : KeepsBounds) (rest : CardState) (e d : ℕ) (h : Hand) (q : Four ℕ) (c : CardState) (f : ℕ → Four ℕ) (b : Bool) →
+turn_ended : (rest : CardState) (e d : ℕ) (h : Hand) (q : Four ℕ) (c : CardState) (f : ℕ → Four ℕ) (b : Bool) →
     Loaded rest e d (record h { turn = if b then 0x18 else 0x00 }) c f q →
     Loaded rest e d (record h { turn = 0x00 }) (run card_meaning (turn_plan b 0x00) c).0 f q
-turn_ended law rest e d h q c f true t = function_set law rest e d 0x00 (record h { turn = 0x18 }) q c f refl t
-turn_ended law rest e d h q c f false t = t
+turn_ended rest e d h q c f true t = function_set rest e d 0x00 (record h { turn = 0x18 }) q c f refl t
+turn_ended rest e d h q c f false t = t
 
 -- the plan, where bit 7 of the colour is known
 abbrev dot_plan : Bool → ℕ → ℕ → ℕ → Plan (Unit {0})
@@ -71,35 +70,35 @@ record IsDotted (rest : CardState) (e d a k : ℕ) (change : ℕ → ℕ) (y : C
   still : Loaded rest e d at_rest y (set_cell f a new) (f a)
   pixel : (i : ℕ) → i < 8 → nibble_of new i ≡ (if i == k then change (nibble_of (f a) i) else nibble_of (f a) i)
 
-dot_drawn : (law : KeepsBounds) (rest : CardState) (e d a k v : ℕ) (b : Bool) (q : Four ℕ) (c : CardState) (f : ℕ → Four ℕ) → is_set e 1 ≡ true → a < 65536 →
+dot_drawn : (rest : CardState) (e d a k v : ℕ) (b : Bool) (q : Four ℕ) (c : CardState) (f : ℕ → Four ℕ) → is_set e 1 ≡ true → a < 65536 →
     k < 8 → Loaded rest e d at_rest c f q → IsDotted rest e d a k (dot_over b v) (run card_meaning (dot_plan b (0xA0000 + a) k v) c).0 f
-dot_drawn law rest e d a k v b q c f on la lk t =
+dot_drawn rest e d a k v b q c f on la lk t =
     let bits = 0x80 / 2 ^ k in
     let h0 : Hand = record at_rest { bits = bits } in
     let h1 : Hand = record h0 { turn = if b then 0x18 else 0x00 } in
     let begin : Plan (Unit {0}) = turn_plan b 0x18 in
     let end : Plan (Unit {0}) = turn_plan b 0x00 in
     let c0 = (run card_meaning (graphics 8 bits) c).0 in
-    let t0 = bits_set law rest e d bits at_rest q c f (mask_kept k lk) t in
+    let t0 = bits_set rest e d bits at_rest q c f (mask_kept k lk) t in
     let c1 = (run card_meaning begin c0).0 in
-    let t1 = turn_begun law rest e d h0 q c0 f b t0 in
+    let t1 = turn_begun rest e d h0 q c0 f b t0 in
     let c2 = (run card_meaning (get (0xA0000 + a)) c1).0 in
-    let t2 = get_loads law rest e d a h1 q c1 f on t1 la in
+    let t2 = get_loads rest e d a h1 q c1 f on t1 la in
     let c3 = (run card_meaning (graphics 5 0x02) c2).0 in
-    let t3 = mode_set law rest e d 0x02 h1 (f a) c2 f refl refl t2 in
+    let t3 = mode_set rest e d 0x02 h1 (f a) c2 f refl refl t2 in
     let c4 = (run card_meaning (put (0xA0000 + a) v) c3).0 in
     let new = stored (drawing e d (dot_hand b k)) 0x0F v (f a) (f a) in
-    let t4 = put_draws law rest e d a v (dot_hand b k) (f a) c3 f on t3 la in
+    let t4 = put_draws rest e d a v (dot_hand b k) (f a) c3 f on t3 la in
     let c5 = (run card_meaning (graphics 5 0x00) c4).0 in
-    let t5 = mode_set law rest e d 0x00 (dot_hand b k) (f a) c4 (set_cell f a new) refl refl t4 in
+    let t5 = mode_set rest e d 0x00 (dot_hand b k) (f a) c4 (set_cell f a new) refl refl t4 in
     let c6 = (run card_meaning end c5).0 in
-    let t6 = turn_ended law rest e d h0 (f a) c5 (set_cell f a new) b t5 in
+    let t6 = turn_ended rest e d h0 (f a) c5 (set_cell f a new) b t5 in
     let last : Plan (Unit {0}) = graphics 8 0xFF in
     let runs = then_runs begin (get (0xA0000 + a) >>= λ _. graphics 5 0x02 >> (put (0xA0000 + a) v >> (graphics 5 0x00 >> (end >> last)))) c0
     ∙ then_runs end last c5 in
     record {
       new = new;
-      still = subst (λ y. Loaded rest e d at_rest y (set_cell f a new) (f a)) (sym runs) (bits_set law rest e d 0xFF h0 (f a) c6 (set_cell f a new) refl t6);
+      still = subst (λ y. Loaded rest e d at_rest y (set_cell f a new) (f a)) (sym runs) (bits_set rest e d 0xFF h0 (f a) c6 (set_cell f a new) refl t6);
       pixel = λ i li. pixel_dotted b e d k v i (f a) lk li;
     }
 
@@ -114,7 +113,7 @@ one_test k n e = grind (arith, nat_tests)
 no_test : (k n : ℕ) → k / 8 ≢ n / 8 → (k == n) ≡ false
 no_test k n w = grind (arith, nat_tests)
 
-module _ (law : KeepsBounds) (m : Planes) (c : CardState) (d : BiosData) (t : IsPlanar m c d) (e : row_at d.mode d.height ≡ Some (row_of m))
+module _ (m : Planes) (c : CardState) (d : BiosData) (t : IsPlanar m c d) (e : row_at d.mode d.height ≡ Some (row_of m))
     (z : IsCard c) where
   abbrev s : Screen
   s = pixel_screen (row_of m) c d
@@ -166,7 +165,7 @@ module _ (law : KeepsBounds) (m : Planes) (c : CardState) (d : BiosData) (t : Is
       let misc = (row_of m).misc in
       let clocking = slice_index (row_of m).sequencer 1 in
       let plan = dot_plan (is_set v 7) (0xA0000 + (d.size * p + n / 8)) (x % 8) v in
-      let drawn = dot_drawn law (without_drawing c) misc clocking (d.size * p + n / 8) (x % 8) v (is_set v 7) c.host.latches c old (reads.enabled_by m)
+      let drawn = dot_drawn (without_drawing c) misc clocking (d.size * p + n / 8) (x % 8) v (is_set v 7) c.host.latches c old (reads.enabled_by m)
       (reads.offset_small m c d t e z p x y h) (omega arith) (screens.begins m c d t e z) in
       ap (λ i. shown (run card_meaning i c).0 d) (write_is p x y v)
       ∙ dot_shown p n v (is_set v 7) (run card_meaning plan c).0 h.page (number_within (row_of m) d p x y h)

@@ -22,7 +22,6 @@ use Rattle.bios_services.specs.Scroll.{window_plan}
 use Rattle.bios_screen.specs.Screen.{Screen}
 use Rattle.bios_screen.specs.Shown.{page_pixels, pixel_screen, shown}
 use Rattle.bios_screen.specs.Step.{pixel_of, pixel_row, pixel_column, in_window, has_source, source, row_pixels, fill_pixel, scroll_pixels, scroll_window}
-use Rattle.bios_screen.proofs.Base.Kept.{KeepsBounds}
 use Rattle.bios_screen.proofs.Base.Tests.{le_is}
 use Rattle.bios_screen.proofs.Base.Windows.{LiesOn, IsInside, inside_of, inside_test, contrary, by_tests}
 use Rattle.bios_screen.proofs.Base.Bands.{IsWindow, band_by}
@@ -45,7 +44,7 @@ fits_by Low p l = omega arith
 fits_by Middle p l = omega arith
 fits_by High p l = omega arith
 
-module _ (law : KeepsBounds) (m : Planes) (c : CardState) (d : BiosData) (t : IsPlanar m c d) (e : row_at d.mode d.height ≡ Some (row_of m)) (z : IsCard c)
+module _ (m : Planes) (c : CardState) (d : BiosData) (t : IsPlanar m c d) (e : row_at d.mode d.height ≡ Some (row_of m)) (z : IsCard c)
     (p : ℕ) (lp : p < (row_of m).pages) (w : Window) (on : LiesOn (d.last_row + 1) d.columns w) (direction : Direction) (n colour : ℕ) where
   abbrev s : Screen
   s = pixel_screen (row_of m) c d
@@ -84,8 +83,8 @@ module _ (law : KeepsBounds) (m : Planes) (c : CardState) (d : BiosData) (t : Is
         omega arith;
     below = on.below;
     behind = on.behind;
-    wide = writes.wide law m c d t e z;
-    high = writes.high law m c d t e z;
+    wide = writes.wide m c d t e z;
+    high = writes.high m c d t e z;
   }
 
   abbrev IsIn : ℕ → Type 0
@@ -176,7 +175,7 @@ module _ (law : KeepsBounds) (m : Planes) (c : CardState) (d : BiosData) (t : Is
   pub window_shown : 0 < n → n ≤ w.height → shown (run card_meaning (window_plan d p w direction n colour) c).0 d
       ≡ Some (scroll_window s p w direction n colour)
   window_shown some few =
-      let done = windows.went law (without_drawing c) (row_of m).misc (slice_index (row_of m).sequencer 1) (enabled_by m) (page_address d p) W H w.left
+      let done = windows.went (without_drawing c) (row_of m).misc (slice_index (row_of m).sequencer 1) (enabled_by m) (page_address d p) W H w.left
       w.width start rows w window direction n colour c old some few (record { latches = c.host.latches; is = screens.begins m c d t e z }) in
       ap (λ b. shown (run card_meaning (scroll_rows b direction w.top w.height n colour) c).0 d) band_is
       ∙ screens.page_redrawn m c d t e z p (run card_meaning (scroll_rows band direction w.top w.height n colour) c).0 done.cells done.shown.latches

@@ -20,7 +20,7 @@ use Rattle.vga_card.specs.Cycles.{written_unless, out_at}
 use Rattle.bios_services.specs.Plan.{run, put, get}
 use Rattle.bios_services.specs.Cycles.{sequencer, graphics}
 use Rattle.bios_screen.proofs.Base.Flat.{set_cell, set_same, set_other}
-use Rattle.bios_screen.proofs.Base.Kept.{KeepsBounds, plan_bounds}
+use Rattle.bios_services.proofs.CardLemmas.{plan_bounds}
 use Rattle.bios_screen.proofs.Base.Setting.{Setting, setting, host_at, with_memory, reached, offset_is, put_decoded, get_decoded}
 
 -- what a plan may change: map mask, function and rotate, mode, bit mask
@@ -128,10 +128,10 @@ plane_other : (t : Bool) (plane : List ℕ) (a x o : ℕ) → o ≢ a → slice_
 plane_other true plane a x o n = get_or-set_other plane a o x 0 n
 plane_other false plane a x o n = refl
 
-pub put_draws : (law : KeepsBounds) (rest : CardState) (e d a v : ℕ) (k : Hand) (q : Four ℕ) (c : CardState) (f : ℕ → Four ℕ) → is_set e 1 ≡ true →
+pub put_draws : (rest : CardState) (e d a v : ℕ) (k : Hand) (q : Four ℕ) (c : CardState) (f : ℕ → Four ℕ) → is_set e 1 ≡ true →
     Loaded rest e d k c f q → a < 65536 → Loaded rest e d k (run card_meaning (put (0xA0000 + a) v) c).0
     (set_cell f a (stored (drawing e d k) k.mask v q (f a))) q
-put_draws law rest e d a v k q c f on t l =
+put_draws rest e d a v k q c f on t l =
     let s = drawing e d k in
     let m = c.host.memory in
     let size = t.bounds.host.memory.size in
@@ -141,7 +141,7 @@ put_draws law rest e d a v k q c f on t l =
     ∙ ap (λ y. with_memory c (drawn_memory m s k.mask a v y)) t.latch in
     let still : Loaded rest e d k (with_memory c n) (set_cell f a new) q = record {
       mode = t.mode;
-      bounds = subst IsCard after (plan_bounds law (put (0xA0000 + a) v) c t.bounds);
+      bounds = subst IsCard after (plan_bounds (put (0xA0000 + a) v) c t.bounds);
       cell = λ o. ⊎_elim
           (λ (z : o ≡ a).
           ap (bytes_at n) z
@@ -165,15 +165,15 @@ put_draws law rest e d a v k q c f on t l =
     subst (λ x. Loaded rest e d k x (set_cell f a new) q) (sym after) still
 
 -- a Get loads the latches
-pub get_loads : (law : KeepsBounds) (rest : CardState) (e d a : ℕ) (k : Hand) (q : Four ℕ) (c : CardState) (f : ℕ → Four ℕ) → is_set e 1 ≡ true →
+pub get_loads : (rest : CardState) (e d a : ℕ) (k : Hand) (q : Four ℕ) (c : CardState) (f : ℕ → Four ℕ) → is_set e 1 ≡ true →
     Loaded rest e d k c f q → a < 65536 → Loaded rest e d k (run card_meaning (get (0xA0000 + a)) c).0 f (f a)
-get_loads law rest e d a k q c f on t l =
+get_loads rest e d a k q c f on t l =
     let s = drawing e d k in
     let x : CardState = record c { host = record c.host { latches = loaded (host_at c.host s) (0xA0000 + a) } } in
     let after = ap (λ y. y.0) (get_decoded c s (0xA0000 + a) t.mode (decoded c.host e d a k on l)) in
     let still : Loaded rest e d k x f (f a) = record {
       mode = t.mode;
-      bounds = subst IsCard after (plan_bounds law (get (0xA0000 + a)) c t.bounds);
+      bounds = subst IsCard after (plan_bounds (get (0xA0000 + a)) c t.bounds);
       cell = t.cell;
       others = t.others;
       latch = ap (bytes_at c.host.memory) (window_is c.host e d a k l) ∙ t.cell a;
@@ -186,43 +186,43 @@ and_15 : (m : ℕ) → m < 16 → bit_and m 0x0F ≡ m
 and_15 m l = let t = agree_below_at (λ m. bit_and m 0x0F == m) (λ _. true) 16 m refl l in grind (arith, nat_tests)
 
 -- the map mask
-pub mask_set : (law : KeepsBounds) (rest : CardState) (e d m : ℕ) (k : Hand) (q : Four ℕ) (c : CardState) (f : ℕ → Four ℕ) → m < 16 → Loaded rest e d k c f q →
+pub mask_set : (rest : CardState) (e d m : ℕ) (k : Hand) (q : Four ℕ) (c : CardState) (f : ℕ → Four ℕ) → m < 16 → Loaded rest e d k c f q →
     Loaded rest e d (record k { mask = m }) (run card_meaning (sequencer 2 m) c).0 f q
 unfolding port_of out_at
-mask_set law rest e d m k q c f l t = record {
+mask_set rest e d m k q c f l t = record {
   mode = ap (λ (s : Setting). let x : Setting = record s { seq = slice_set s.seq 2 (bit_and m 0x0F) } in x) t.mode
       ∙ ap (λ x. drawing e d (record k { mask = x })) (and_15 m l);
-  bounds = plan_bounds law (sequencer 2 m) c t.bounds;
+  bounds = plan_bounds (sequencer 2 m) c t.bounds;
   cell = t.cell;
   others = t.others;
   latch = t.latch;
 }
 
 -- the function and the rotation
-pub function_set : (law : KeepsBounds) (rest : CardState) (e d v : ℕ) (k : Hand) (q : Four ℕ) (c : CardState) (f : ℕ → Four ℕ) → bit_and v 0x1F ≡ v →
+pub function_set : (rest : CardState) (e d v : ℕ) (k : Hand) (q : Four ℕ) (c : CardState) (f : ℕ → Four ℕ) → bit_and v 0x1F ≡ v →
     Loaded rest e d k c f q → Loaded rest e d (record k { turn = v }) (run card_meaning (graphics 3 v) c).0 f q
 unfolding port_of out_at
-function_set law rest e d v k q c f l t = record {
+function_set rest e d v k q c f l t = record {
   mode = ap (λ (s : Setting). let x : Setting = record s { gfx = slice_set s.gfx 3 (bit_and v 0x1F) } in x) t.mode
       ∙ ap (λ x. drawing e d (record k { turn = x })) l;
-  bounds = plan_bounds law (graphics 3 v) c t.bounds;
+  bounds = plan_bounds (graphics 3 v) c t.bounds;
   cell = t.cell;
   others = t.others;
   latch = t.latch;
 }
 
 -- read and write mode; bit 5 is refused, and so the test of it is a premise
-pub mode_set : (law : KeepsBounds) (rest : CardState) (e d v : ℕ) (k : Hand) (q : Four ℕ) (c : CardState) (f : ℕ → Four ℕ) → bit_and v 0x7B ≡ v →
+pub mode_set : (rest : CardState) (e d v : ℕ) (k : Hand) (q : Four ℕ) (c : CardState) (f : ℕ → Four ℕ) → bit_and v 0x7B ≡ v →
     is_set v 5 ≡ false → Loaded rest e d k c f q → Loaded rest e d (record k { mode = v }) (run card_meaning (graphics 5 v) c).0 f q
 unfolding port_of out_at
-mode_set law rest e d v k q c f l b t =
+mode_set rest e d v k q c f l b t =
     let index : CardState = record c { host = record c.host { gfx_index = 5 } } in
     let next : CardState = record index { host = record index.host { gfx = slice_set c.host.gfx 5 (bit_and v 0x7B) } } in
     let after : (run card_meaning (graphics 5 v) c).0 ≡ next = ap (λ y. (written_unless y index next).0) b in
     let still : Loaded rest e d (record k { mode = v }) next f q = record {
       mode = ap (λ (s : Setting). let x : Setting = record s { gfx = slice_set s.gfx 5 (bit_and v 0x7B) } in x) t.mode
           ∙ ap (λ x. drawing e d (record k { mode = x })) l;
-      bounds = subst IsCard after (plan_bounds law (graphics 5 v) c t.bounds);
+      bounds = subst IsCard after (plan_bounds (graphics 5 v) c t.bounds);
       cell = t.cell;
       others = t.others;
       latch = t.latch;
@@ -230,13 +230,13 @@ mode_set law rest e d v k q c f l b t =
     subst (λ y. Loaded rest e d (record k { mode = v }) y f q) (sym after) still
 
 -- the bit mask
-pub bits_set : (law : KeepsBounds) (rest : CardState) (e d v : ℕ) (k : Hand) (q : Four ℕ) (c : CardState) (f : ℕ → Four ℕ) → bit_and v 0xFF ≡ v →
+pub bits_set : (rest : CardState) (e d v : ℕ) (k : Hand) (q : Four ℕ) (c : CardState) (f : ℕ → Four ℕ) → bit_and v 0xFF ≡ v →
     Loaded rest e d k c f q → Loaded rest e d (record k { bits = v }) (run card_meaning (graphics 8 v) c).0 f q
 unfolding port_of out_at
-bits_set law rest e d v k q c f l t = record {
+bits_set rest e d v k q c f l t = record {
   mode = ap (λ (s : Setting). let x : Setting = record s { gfx = slice_set s.gfx 8 (bit_and v 0xFF) } in x) t.mode
       ∙ ap (λ x. drawing e d (record k { bits = x })) l;
-  bounds = plan_bounds law (graphics 8 v) c t.bounds;
+  bounds = plan_bounds (graphics 8 v) c t.bounds;
   cell = t.cell;
   others = t.others;
   latch = t.latch;

@@ -19,7 +19,6 @@ use Rattle.bios_services.specs.Plan.{run, put, get, move, ◌>>◌}
 use Rattle.bios_screen.proofs.Base.Flat.{Leaves, set_cell}
 use Rattle.bios_screen.proofs.Base.Edits.{edited_twice}
 use Rattle.bios_screen.proofs.Base.Plans.{run_bind}
-use Rattle.bios_screen.proofs.Base.Kept.{KeepsBounds}
 use Rattle.bios_screen.proofs.Base.Windows.{first_new, parts}
 use Rattle.bios_screen.proofs.Base.Bands.{IsWindow}
 use Rattle.bios_screen.proofs.Base.Bands as bands
@@ -49,16 +48,16 @@ unfolding byte_of written_bit combined_bit
 plainly e d v mask q old = refl
 
 -- a move is a move of four bytes
-cell_moved : (law : KeepsBounds) (rest : CardState) (e d : ℕ) → is_set e 1 ≡ true → (a b : ℕ) (c : CardState) (f : ℕ → Four ℕ) → a < 65536 → b < 65536 →
+cell_moved : (rest : CardState) (e d : ℕ) → is_set e 1 ≡ true → (a b : ℕ) (c : CardState) (f : ℕ → Four ℕ) → a < 65536 → b < 65536 →
     Drawn rest e d copying c f → Drawn rest e d copying (run card_meaning (move (0xA0000 + a) (0xA0000 + b)) c).0 (set_cell f b (f a))
-cell_moved law rest e d on a b c f la lb t =
+cell_moved rest e d on a b c f la lb t =
     let v = (run card_meaning (get (0xA0000 + a)) c).1 in
     let c1 = (run card_meaning (get (0xA0000 + a)) c).0 in
-    let loaded = get_loads law rest e d a copying t.latches c f on t.is la in
+    let loaded = get_loads rest e d a copying t.latches c f on t.is la in
     let small : (p : ℕ) → p < 4 → of_plane (f a) p < 256 = λ p l. subst (λ x. of_plane x p < 256) (t.is.cell a) (by_four c a t.is p l) in
     let same = latched e d v (f a) (f b) small in
     let put_there = subst (λ x. Loaded rest e d copying (run card_meaning (put (0xA0000 + b) v) c1).0 (set_cell f b x) (f a)) same
-    (put_draws law rest e d b v copying (f a) c1 f on loaded lb) in
+    (put_draws rest e d b v copying (f a) c1 f on loaded lb) in
     record { latches = f a; is = put_there }
   where
     by_four : (c : CardState) (a : ℕ) → Loaded rest e d copying c f t.latches → (p : ℕ) → p < 4 → of_plane (bytes_at c.host.memory a) p < 256
@@ -66,12 +65,12 @@ cell_moved law rest e d on a b c f la lb t =
         (u.bounds.host.memory.bytes 1 (omega arith) a) (u.bounds.host.memory.bytes 2 (omega arith) a) (u.bounds.host.memory.bytes 3 (omega arith) a) p l
 
 -- a Put of a byte to the planes of a mask
-cell_put : (law : KeepsBounds) (rest : CardState) (e d mask : ℕ) → is_set e 1 ≡ true → (j v : ℕ) (c : CardState) (f : ℕ → Four ℕ) → j < 65536 → v < 256 →
+cell_put : (rest : CardState) (e d mask : ℕ) → is_set e 1 ≡ true → (j v : ℕ) (c : CardState) (f : ℕ → Four ℕ) → j < 65536 → v < 256 →
     Drawn rest e d (planes_of mask) c f → Drawn rest e d (planes_of mask) (run card_meaning (put (0xA0000 + j) v) c).0 (set_cell f j (masked mask v (f j)))
-cell_put law rest e d mask on j v c f lj lv t = record {
+cell_put rest e d mask on j v c f lj lv t = record {
   latches = t.latches;
   is = subst (λ x. Loaded rest e d (planes_of mask) (run card_meaning (put (0xA0000 + j) v) c).0 (set_cell f j x) t.latches)
-      (plainly e d v mask t.latches (f j)) (put_draws law rest e d j v (planes_of mask) t.latches c f on t.is lj);
+      (plainly e d v mask t.latches (f j)) (put_draws rest e d j v (planes_of mask) t.latches c f on t.is lj);
 }
 
 pub filled_plain : (v i : ℕ) → filling_byte (plain v) i ≡ v
@@ -81,7 +80,7 @@ filled_plain v i = by_test (i % 2 == 0)
     by_test true = refl
     by_test false = refl
 
-module _ (law : KeepsBounds) (rest : CardState) (e d : ℕ) (on : is_set e 1 ≡ true) (first_byte pitch lines left width start rows : ℕ) (window : Window)
+module _ (rest : CardState) (e d : ℕ) (on : is_set e 1 ≡ true) (first_byte pitch lines left width start rows : ℕ) (window : Window)
     (w : IsWindow 0xA0000 65536 (record { kind = Planar; start = first_byte; pitch = pitch; lines = lines; left = left; width = width }) start rows window)
   where
     abbrev band : Band
@@ -108,25 +107,25 @@ module _ (law : KeepsBounds) (rest : CardState) (e d : ℕ) (on : is_set e 1 ≡
         let p3 = fill_rows band (plain 0xFF) new n in
         let fits = (parts direction window n few).new_below in
         let c1 = (run card_meaning (graphics 5 0x01) c).0 in
-        let t1 : Drawn rest e d copying c1 f = record { latches = t.latches; is = mode_set law rest e d 0x01 at_rest t.latches c f refl refl t.is } in
+        let t1 : Drawn rest e d copying c1 f = record { latches = t.latches; is = mode_set rest e d 0x01 at_rest t.latches c f refl refl t.is } in
         let m1 = bands.rows_moved CardState (Four ℕ) card_meaning 0xA0000 65536 band start rows window w (Drawn rest e d copying)
-        (cell_moved law rest e d on) direction n c1 f some few t1 in
+        (cell_moved rest e d on) direction n c1 f some few t1 in
         let c2 = (run card_meaning p1 c1).0 in
         let c3 = (run card_meaning (graphics 5 0x00) c2).0 in
         let t3 : Drawn rest e d (planes_of 0x0F) c3 m1.cells = record {
           latches = m1.shown.latches;
-          is = mode_set law rest e d 0x00 copying m1.shown.latches c2 m1.cells refl refl m1.shown.is;
+          is = mode_set rest e d 0x00 copying m1.shown.latches c2 m1.cells refl refl m1.shown.is;
         } in
         let m2 = bands.rows_filled CardState (Four ℕ) card_meaning 0xA0000 65536 band start rows window w (Drawn rest e d (planes_of 0x0F)) (masked 0x0F)
-        (cell_put law rest e d 0x0F on) (plain 0x00) (omega arith) (omega arith) new n c3 m1.cells fits t3 in
+        (cell_put rest e d 0x0F on) (plain 0x00) (omega arith) (omega arith) new n c3 m1.cells fits t3 in
         let c4 = (run card_meaning p2 c3).0 in
         let c5 = (run card_meaning (sequencer 2 mask) c4).0 in
         let t5 : Drawn rest e d (planes_of mask) c5 m2.cells = record {
           latches = m2.shown.latches;
-          is = mask_set law rest e d mask (planes_of 0x0F) m2.shown.latches c4 m2.cells (omega arith) m2.shown.is;
+          is = mask_set rest e d mask (planes_of 0x0F) m2.shown.latches c4 m2.cells (omega arith) m2.shown.is;
         } in
         let m3 = bands.rows_filled CardState (Four ℕ) card_meaning 0xA0000 65536 band start rows window w (Drawn rest e d (planes_of mask)) (masked mask)
-        (cell_put law rest e d mask on) (plain 0xFF) (omega arith) (omega arith) new n c5 m2.cells fits t5 in
+        (cell_put rest e d mask on) (plain 0xFF) (omega arith) (omega arith) new n c5 m2.cells fits t5 in
         let c6 = (run card_meaning p3 c5).0 in
         let e1 = run_bind card_meaning p1 (λ _. graphics 5 0x00 >> (p2 >> (sequencer 2 mask >> (p3 >> sequencer 2 0x0F)))) c1 in
         let e2 = run_bind card_meaning p2 (λ _. sequencer 2 mask >> (p3 >> sequencer 2 0x0F)) c3 in
@@ -135,7 +134,7 @@ module _ (law : KeepsBounds) (rest : CardState) (e d : ℕ) (on : is_set e 1 ≡
           cells = m3.cells;
           shown = record {
             latches = m3.shown.latches;
-            is = mask_set law rest e d 0x0F (planes_of mask) m3.shown.latches c6 m3.cells (omega arith) m3.shown.is;
+            is = mask_set rest e d 0x0F (planes_of mask) m3.shown.latches c6 m3.cells (omega arith) m3.shown.is;
           };
           fact = shifts.gone (Four ℕ) 0xA0000 65536 band start rows window w direction n few (λ _. lined false mask 0xFF) (λ h q.
               masked mask (filling_byte (plain 0xFF) h.place.place.turn) (masked 0x0F (filling_byte (plain 0x00) h.place.place.turn) q)) (λ h q.

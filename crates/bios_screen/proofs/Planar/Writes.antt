@@ -24,7 +24,6 @@ use Rattle.bios_screen.specs.Screen.{Screen}
 use Rattle.bios_screen.specs.Shown.{pixel_screen, shown}
 use Rattle.bios_screen.specs.Step.{glyph_pixel, put_characters}
 use Rattle.bios_screen.proofs.Base.Flat.{Edited, Turn, Leaves}
-use Rattle.bios_screen.proofs.Base.Kept.{KeepsBounds}
 use Rattle.bios_screen.proofs.Modes.PixelModes.{Planes, row_of, number_of, packed_by}
 use Rattle.bios_screen.proofs.Modes.PixelModes.Planes.{Low, Middle, High}
 use Rattle.bios_screen.proofs.Dots.PlanarDots.{IsPlanar}
@@ -72,7 +71,7 @@ plan_is : (band : Band) (row : ℕ) (fonts : FontSet) (character colour : ℕ) �
 unfolding planar_plan plain_plan xor_plan put_glyph put_glyph_over fill_row fill_line
 plan_is band row fonts character colour = refl
 
-module _ (law : KeepsBounds) (m : Planes) (c : CardState) (d : BiosData) (t : IsPlanar m c d) (e : row_at d.mode d.height ≡ Some (row_of m))
+module _ (m : Planes) (c : CardState) (d : BiosData) (t : IsPlanar m c d) (e : row_at d.mode d.height ≡ Some (row_of m))
     (z : IsCard c) where
   abbrev s : Screen
   s = pixel_screen (row_of m) c d
@@ -157,7 +156,7 @@ module _ (law : KeepsBounds) (m : Planes) (c : CardState) (d : BiosData) (t : Is
       (λ i y f li u. subst (λ plan. Leaves CardState (Four ℕ) R (run card_meaning plan y).0
       (Edited (Four ℕ) (Turn (λ _. Unit {0}) 0 h) (λ r. place p i r.turn) (λ r x. lined b mask (g r.turn) x) f))
       (sym (character_is fonts p i character colouring))
-      (glyph_drawn law (without_drawing c) misc clocking (enabled_by m) (place p i) h (λ r lr. (within p i r lp li lr).1)
+      (glyph_drawn (without_drawing c) misc clocking (enabled_by m) (place p i) h (λ r lr. (within p i r lp li lr).1)
       (λ j k lo hi same. let one = same_line w h i j k wide (omega arith) hi (omega arith) in absurd (omega arith))
       b mask g y f (omega arith) u))
       q n lq

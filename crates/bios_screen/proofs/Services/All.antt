@@ -31,7 +31,6 @@ use Rattle.bios_screen.proofs.Shows.Any.{IsAny, any_screen, any_is}
 use Rattle.bios_screen.proofs.Services.AnyReaders as any
 use Rattle.bios_screen.proofs.Services.Cursors as cursors
 use Rattle.bios_screen.proofs.Services.Characters as characters
-use Rattle.bios_screen.proofs.Base.Kept.{KeepsBounds}
 use Rattle.bios_screen.proofs.Services.Windows as windows
 use Rattle.bios_screen.proofs.Services.Teletypes as teletypes
 use Rattle.bios_screen.proofs.Services.Strings as strings
@@ -67,10 +66,10 @@ serves_each service text planar packed fonts r block c d s bytes z bda e =
     by_modes c d (IsServed service fonts r block c d) (λ h. text fonts r block c d h z) (λ m is row. planar m fonts r block c d is row z) (λ is row.
     packed fonts r block c d is row z) s e
 
-pub write_pixel : KeepsBounds → (page x y colour : ℕ) → colour < 256 → Serves (WritePixel page x y colour)
-write_pixel law page x y colour l = serves_each (WritePixel page x y colour) (λ fonts r block c d h z. readers.write_pixel page x y colour fonts r block c d h)
-    (λ m fonts r block c d t e z. planar_dots.write_pixel law m c d t e z page x y colour fonts r block) (λ fonts r block c d t e z.
-    packed_pixels.write_pixel c d t e z law page x y colour fonts r block l)
+pub write_pixel : (page x y colour : ℕ) → colour < 256 → Serves (WritePixel page x y colour)
+write_pixel page x y colour l = serves_each (WritePixel page x y colour) (λ fonts r block c d h z. readers.write_pixel page x y colour fonts r block c d h)
+    (λ m fonts r block c d t e z. planar_dots.write_pixel m c d t e z page x y colour fonts r block) (λ fonts r block c d t e z.
+    packed_pixels.write_pixel c d t e z page x y colour fonts r block l)
 
 pub read_pixel : (page x y : ℕ) → Serves (ReadPixel page x y)
 read_pixel page x y = serves_each (ReadPixel page x y) (λ fonts r block c d h z. readers.read_pixel page x y fonts r block c d h) (λ m fonts r block c d t e z.
@@ -96,24 +95,24 @@ set_cursor page place l = serves_any (SetCursor page place) (λ fonts r block c 
 pub select_page : (page : ℕ) → Serves (SelectPage page)
 select_page page = serves_any (SelectPage page) (λ fonts r block c d h bytes z bda. cursors.select_page c d h page fonts r block bda)
 
-pub read_cell : KeepsBounds → (page : ℕ) → Serves (ReadCell page)
-read_cell law page = serves_any (ReadCell page) (λ fonts r block c d h bytes z bda. characters.read_cell law fonts r block c d h z page)
+pub read_cell : (page : ℕ) → Serves (ReadCell page)
+read_cell page = serves_any (ReadCell page) (λ fonts r block c d h bytes z bda. characters.read_cell fonts r block c d h z page)
 
-pub write_cells : KeepsBounds → (cells : CellRun) → cells.character < 256 → cells.colouring.colour < 256 → Serves (WriteCells cells)
-write_cells law cells lv la = serves_any (WriteCells cells) (λ fonts r block c d h bytes z bda. characters.write_cells law fonts r block c d h z cells lv la)
+pub write_cells : (cells : CellRun) → cells.character < 256 → cells.colouring.colour < 256 → Serves (WriteCells cells)
+write_cells cells lv la = serves_any (WriteCells cells) (λ fonts r block c d h bytes z bda. characters.write_cells fonts r block c d h z cells lv la)
 
-pub scroll_up : KeepsBounds → (asked : Scroll) → asked.fill < 256 → Serves (ScrollUp asked)
+pub scroll_up : (asked : Scroll) → asked.fill < 256 → Serves (ScrollUp asked)
 scroll_up = windows.scroll_up
 
-pub scroll_down : KeepsBounds → (asked : Scroll) → asked.fill < 256 → Serves (ScrollDown asked)
+pub scroll_down : (asked : Scroll) → asked.fill < 256 → Serves (ScrollDown asked)
 scroll_down = windows.scroll_down
 
-pub teletype : KeepsBounds → (character colour : ℕ) → character < 256 → colour < 256 → Serves (Teletype character colour)
-teletype law character colour l k = serves_any (Teletype character colour) (λ fonts r block c d h bytes z bda.
-    teletypes.teletype law character colour l k fonts c d h z bda r block)
+pub teletype : (character colour : ℕ) → character < 256 → colour < 256 → Serves (Teletype character colour)
+teletype character colour l k = serves_any (Teletype character colour) (λ fonts r block c d h bytes z bda.
+    teletypes.teletype character colour l k fonts c d h z bda r block)
 
-pub write_string : KeepsBounds → (call : StringCall) → call.colour < 256 → Serves (WriteString call)
-write_string law call l = serves_any (WriteString call) (λ fonts r block c d h bytes z bda. strings.write_string law call fonts r block c d h bytes l z bda)
+pub write_string : (call : StringCall) → call.colour < 256 → Serves (WriteString call)
+write_string call l = serves_any (WriteString call) (λ fonts r block c d h bytes z bda. strings.write_string call fonts r block c d h bytes l z bda)
 
 pub set_colours : (service : ColourService) → FitsBytes service → Serves (Colours service)
 set_colours service f = serves_any (Colours service) (λ fonts r block c d h bytes z bda. coloured.set_colours service fonts r block c d h f bytes z)

@@ -33,7 +33,7 @@ use Rattle.bios_screen.specs.Served.{IsServed, Serves, after_call}
 use Rattle.bios_modes.specs.Bounds.{AreBytes}
 use Rattle.bios_screen.specs.Called.{AreWords, reply_unless, screen_unless, IsCalled}
 use Rattle.bios_screen.proofs.Base.Plans.{run_bind}
-use Rattle.bios_screen.proofs.Base.Kept.{KeepsBounds, plan_beam}
+use Rattle.bios_services.proofs.CardLemmas.{plan_beam}
 use Rattle.bios_screen.proofs.Shows.Screens.{mode_of_shown}
 use Rattle.bios_screen.proofs.Services.All as served
 
@@ -49,23 +49,23 @@ high_small n l = omega arith
 low_small : (n : ℕ) → low n < 256
 low_small n = omega arith
 
-asked_is_served : KeepsBounds → (r : Regs) → AreWords r → IfSome (service_of r) Serves
-asked_is_served law r w =
+asked_is_served : (r : Regs) → AreWords r → IfSome (service_of r) Serves
+asked_is_served r w =
     choose (high r.ax == 0x01) _ _ (served.set_cursor_type r.cx)
     (choose (high r.ax == 0x02) _ _ (served.set_cursor (high r.bx) r.dx w.dx)
     (choose (high r.ax == 0x03) _ _ (served.read_cursor (high r.bx))
     (choose (high r.ax == 0x05) _ _ (served.select_page (low r.ax))
-    (choose (high r.ax == 0x06) _ _ (served.scroll_up law (scroll_of r) (high_small r.bx w.bx))
-    (choose (high r.ax == 0x07) _ _ (served.scroll_down law (scroll_of r) (high_small r.bx w.bx))
-    (choose (high r.ax == 0x08) _ _ (served.read_cell law (high r.bx))
-    (choose (high r.ax == 0x09) _ _ (served.write_cells law (cell_run_of r true) (low_small r.ax) (low_small r.bx))
-    (choose (high r.ax == 0x0A) _ _ (served.write_cells law (cell_run_of r false) (low_small r.ax) (low_small r.bx))
-    (choose (high r.ax == 0x0C) _ _ (served.write_pixel law (high r.bx) r.cx r.dx (low r.ax) (low_small r.ax))
+    (choose (high r.ax == 0x06) _ _ (served.scroll_up (scroll_of r) (high_small r.bx w.bx))
+    (choose (high r.ax == 0x07) _ _ (served.scroll_down (scroll_of r) (high_small r.bx w.bx))
+    (choose (high r.ax == 0x08) _ _ (served.read_cell (high r.bx))
+    (choose (high r.ax == 0x09) _ _ (served.write_cells (cell_run_of r true) (low_small r.ax) (low_small r.bx))
+    (choose (high r.ax == 0x0A) _ _ (served.write_cells (cell_run_of r false) (low_small r.ax) (low_small r.bx))
+    (choose (high r.ax == 0x0C) _ _ (served.write_pixel (high r.bx) r.cx r.dx (low r.ax) (low_small r.ax))
     (choose (high r.ax == 0x0D) _ _ (served.read_pixel (high r.bx) r.cx r.dx)
-    (choose (high r.ax == 0x0E) _ _ (served.teletype law (low r.ax) (low r.bx) (low_small r.ax) (low_small r.bx))
+    (choose (high r.ax == 0x0E) _ _ (served.teletype (low r.ax) (low r.bx) (low_small r.ax) (low_small r.bx))
     (choose (high r.ax == 0x0F) _ _ (served.read_mode)
     (choose ((high r.ax == 0x12) && (low r.bx == 0x10)) _ _ (served.read_adapter)
-    (choose ((high r.ax == 0x13) && nat_lt (low r.ax) 4) _ _ (served.write_string law (string_of r) (low_small r.bx))
+    (choose ((high r.ax == 0x13) && nat_lt (low r.ax) 4) _ _ (served.write_string (string_of r) (low_small r.bx))
     (choose ((high r.ax == 0x1A) && (low r.ax == 0x00)) (Some ReadDisplay) None (served.read_display) tt)))))))))))))))
 
 -- what is said of a call: the service that it asks for, if it does, is served
@@ -95,11 +95,11 @@ colours_are_served r w =
     (choose_call (al == 0x18) _ _ (served.set_colours (SetMask (low r.bx)) tt)
     (choose_call (al == 0x19) (colours ReadMask) None (served.set_colours ReadMask tt) tt))))))))))))
 
-call_is_served : KeepsBounds → (r : Regs) → AreWords r → IsServedCall (call_of r)
-call_is_served law r w =
+call_is_served : (r : Regs) → AreWords r → IsServedCall (call_of r)
+call_is_served r w =
     choose_call (high r.ax == 0x00) _ _ tt
     (choose_call (high r.ax == 0x10) _ _ (colours_are_served r w)
-    (or_glyphs (glyph_load_of r) _ (by_service (service_of r) (asked_is_served law r w))))
+    (or_glyphs (glyph_load_of r) _ (by_service (service_of r) (asked_is_served r w))))
   where
     by_service : (x : Option Service) → IfSome x Serves → IsServedCall (in_mode x)
     by_service None f = tt
@@ -164,10 +164,10 @@ call_done service fonts r block c d s e old i =
 served_if : (x : Option Call) (service : Service) → x ≡ Some (InMode service) → IsServedCall x → Serves service
 served_if x service e f = subst IsServedCall e f
 
-pub calls_lead : KeepsBounds → (service : Service) (fonts : FontSet) (r : Regs) (block : List ℕ) (c : CardState) (d : BiosData) (s : Screen) → IsCard c →
+pub calls_lead : (service : Service) (fonts : FontSet) (r : Regs) (block : List ℕ) (c : CardState) (d : BiosData) (s : Screen) → IsCard c →
     IsBda d → AreWords r → AreBytes block → shown c d ≡ Some s → call_of r ≡ Some (InMode service) → IsCalled service fonts r block c d s
-calls_lead law service fonts r block c d s z bda w bytes old e =
-    let serves = served_if (call_of r) service e (call_is_served law r w) in
+calls_lead service fonts r block c d s z bda w bytes old e =
+    let serves = served_if (call_of r) service e (call_is_served r w) in
     call_done service fonts r block c d s e old (serves fonts r block c d s bytes z bda old)
 
 -- a call for no service is refused

@@ -24,7 +24,7 @@ use Rattle.bios_screen.specs.Shown.{shown}
 use Rattle.bios_screen.specs.Step.{page_meant, refusal_on, next, answer_on, put_characters}
 use Rattle.bios_screen.specs.Served.{IsServed}
 use Rattle.bios_screen.proofs.Base.Plans.{run_bind}
-use Rattle.bios_screen.proofs.Base.Kept.{KeepsBounds, plan_beam}
+use Rattle.bios_services.proofs.CardLemmas.{plan_beam}
 use Rattle.bios_screen.proofs.Base.Reasons.{cell_allowed, cells_allowed}
 use Rattle.bios_screen.proofs.Modes.PixelModes.{row_of}
 use Rattle.bios_screen.proofs.Shows.Screens.{pages_are, page_in, page_of, named_page}
@@ -38,26 +38,26 @@ use Rattle.bios_screen.proofs.Packed.Writes as packed
 use Rattle.bios_screen.proofs.Packed.Cells as packed_cells
 
 -- what a loop of characters leaves is the screen with them
-pub characters_shown : KeepsBounds → (fonts : FontSet) (c : CardState) (d : BiosData) (s : Screen) (p q n v : ℕ) (colouring : Colouring) → shown c d ≡ Some s →
+pub characters_shown : (fonts : FontSet) (c : CardState) (d : BiosData) (s : Screen) (p q n v : ℕ) (colouring : Colouring) → shown c d ≡ Some s →
     IsCard c → p < pages_of d → q + n ≤ cells_of d → v < 256 → colouring.colour < 256
     → shown (run card_meaning (characters_plan fonts d p q v colouring n) c).0 d ≡ Some (put_characters fonts s p q n v colouring)
-characters_shown law fonts c d s p q n v colouring e z lp lq lv la =
+characters_shown fonts c d s p q n v colouring e z lp lq lv la =
     by_modes c d (λ w. shown (run card_meaning (characters_plan fonts d p q v colouring n) c).0 d ≡ Some (put_characters fonts w p q n v colouring))
     (λ h. text.characters_shown fonts c d h z p q n v colouring (page_in h.row d p h.mode lp) lq lv la)
-    (λ m t row. planar.characters_shown law m c d t row z fonts p q n v colouring (page_in (row_of m) d p row lp) lq)
-    (λ t row. packed.characters_shown law c d t row z fonts p q n v colouring (page_in bytes_320_by_200 d p row lp) lq la)
+    (λ m t row. planar.characters_shown m c d t row z fonts p q n v colouring (page_in (row_of m) d p row lp) lq)
+    (λ t row. packed.characters_shown c d t row z fonts p q n v colouring (page_in bytes_320_by_200 d p row lp) lq la)
     s e
 
 -- the character at a cursor is answered, and the screen stays
-cell_read : KeepsBounds → (fonts : FontSet) (r : Regs) (c : CardState) (d : BiosData) (s : Screen) (p : ℕ) → shown c d ≡ Some s → IsCard c → p < pages_of d →
+cell_read : (fonts : FontSet) (r : Regs) (c : CardState) (d : BiosData) (s : Screen) (p : ℕ) → shown c d ≡ Some s → IsCard c → p < pages_of d →
     cursor_cell d p < cells_of d → IsCellRead fonts r c d p s
-cell_read law fonts r c d s p e z lp lq = by_modes c d (IsCellRead fonts r c d p)
+cell_read fonts r c d s p e z lp lq = by_modes c d (IsCellRead fonts r c d p)
     (λ h. text.cell_read fonts r c d h p z (page_in h.row d p h.mode lp) lq)
-    (λ m t row. planar_cells.cell_read law m c d t row z fonts r p (page_in (row_of m) d p row lp) lq)
-    (λ t row. packed_cells.cell_read law c d t row z fonts r p (page_in bytes_320_by_200 d p row lp) lq)
+    (λ m t row. planar_cells.cell_read m c d t row z fonts r p (page_in (row_of m) d p row lp) lq)
+    (λ t row. packed_cells.cell_read c d t row z fonts r p (page_in bytes_320_by_200 d p row lp) lq)
     s e
 
-module _ (law : KeepsBounds) (fonts : FontSet) (r : Regs) (block : List ℕ) (c : CardState) (d : BiosData) (h : IsAny c d) (z : IsCard c) where
+module _ (fonts : FontSet) (r : Regs) (block : List ℕ) (c : CardState) (d : BiosData) (h : IsAny c d) (z : IsCard c) where
   abbrev s : Screen
   s = any_screen c d h c
 
@@ -77,7 +77,7 @@ module _ (law : KeepsBounds) (fonts : FontSet) (r : Regs) (block : List ℕ) (c 
             let l = cells_allowed h.row.pages p (cursor_cell d p) cells.count (cells_of d) allowed in
             ap (λ q. shown q.0 q.1.1) runs
             ∙ ap (λ i. shown (run card_meaning (cell_run_plan fonts d i cells) c).0 d) (named_page h.row d h.mode cells.page)
-            ∙ characters_shown law fonts c d s p (cursor_cell d p) cells.count cells.character cells.colouring (still_any c d h) z
+            ∙ characters_shown fonts c d s p (cursor_cell d p) cells.count cells.character cells.colouring (still_any c d h) z
             (page_of h.row d p h.mode l.0) l.1 lv la;
         beam = plan_beam (plan >> done) c;
       }
@@ -93,7 +93,7 @@ module _ (law : KeepsBounds) (fonts : FontSet) (r : Regs) (block : List ℕ) (c 
       (named_page h.row d h.mode page) in
       let read : (no_page h.row.pages p or outside_cells (cells_of d) (cursor_cell d p)) ≡ None → IsCellRead fonts r c d p s = λ allowed.
       let l = cell_allowed h.row.pages p (cursor_cell d p) (cells_of d) allowed in
-      cell_read law fonts r c d s p (still_any c d h) z (page_of h.row d p h.mode l.0) l.1 in
+      cell_read fonts r c d s p (still_any c d h) z (page_of h.row d p h.mode l.0) l.1 in
       record {
         refusal = ap (λ n. no_page n (page_among n page) or outside_cells (cells_of d) (cursor_cell d (page_among n page))) (pages_are h.row d h.mode);
         answer = λ allowed. ap (λ q. q.1.0) runs ∙ (read allowed).answer;

@@ -32,7 +32,7 @@ use Rattle.bios_screen.specs.Served.{IsServed}
 use Rattle.bios_screen.proofs.Base.Plans.{run_bind, then_runs}
 use Rattle.bios_screen.proofs.Base.Ports.{crtc_runs}
 use Rattle.bios_screen.proofs.Base.Places.{few_cells}
-use Rattle.bios_screen.proofs.Base.Kept.{plan_beam}
+use Rattle.bios_services.proofs.CardLemmas.{plan_beam}
 use Rattle.bios_screen.proofs.Base.Tests.{both_true, both_are, lt_test}
 use Rattle.bios_screen.proofs.Base.Reasons.{page_allowed}
 use Rattle.bios_screen.proofs.Shows.Screens.{pages_are, data_is, shows_by}

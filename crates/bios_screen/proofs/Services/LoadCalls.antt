@@ -32,7 +32,7 @@ use Rattle.bios_screen.specs.Loaded.{height_refusal_on, load_at_height, load_gly
 use Rattle.bios_screen.proofs.Base.Tests.{le_is}
 use Rattle.bios_screen.proofs.Base.Reasons.{neither, holds, block_allowed}
 use Rattle.bios_screen.proofs.Base.Plans.{then_runs, then_answers}
-use Rattle.bios_screen.proofs.Base.Kept.{KeepsBounds, plan_beam}
+use Rattle.bios_services.proofs.CardLemmas.{plan_beam}
 use Rattle.bios_screen.proofs.Modes.TextModes.{Display, Height, row_of, row_with, lines_of, number_of}
 use Rattle.bios_screen.proofs.Modes.TextModes.Display.{Colour, Monochrome}
 use Rattle.bios_screen.proofs.Modes.TextModes.Height.{Eight, Fourteen, Sixteen}
@@ -107,7 +107,7 @@ refused_leads : (why : Refusal) (r : Regs) (s new : Screen) (c : CardState) (d :
     Leads (Some why) r s new (run card_meaning (refuse why d) c)
 refused_leads why r s new c d e = record { reply = refl; shows = e }
 
-module _ (law : KeepsBounds) (fonts : FontSet) (load : GlyphLoad) (r : Regs) (block : List ℕ) (bytes : AreBytes block) (are : AreFonts fonts) (c : CardState)
+module _ (fonts : FontSet) (load : GlyphLoad) (r : Regs) (block : List ℕ) (bytes : AreBytes block) (are : AreFonts fonts) (c : CardState)
     (d : BiosData) (s : Screen) (z : IsCard c) (old : shown c d ≡ Some s) where
   abbrev new : Screen
   new = load_glyphs fonts s load block
@@ -135,7 +135,7 @@ module _ (law : KeepsBounds) (fonts : FontSet) (load : GlyphLoad) (r : Regs) (bl
         shows = ap (λ y. shown y.0 y.1.1) runs
             ∙ ap (λ y. shown y (run card_meaning (plan >> done) c).1.1) (then_runs plan done c)
             ∙ ap (λ (y : Answered). shown (run card_meaning plan c).0 y.1) (then_answers plan done c)
-            ∙ load_shown law fonts load block bytes are there c d h z lines.new
+            ∙ load_shown fonts load block bytes are there c d h z lines.new
             ∙ ap (λ t. Some (load_at_height (Some t) fonts (screen_shown c d h) load block)) (sym lines.is)
             ∙ ap (λ q. Some (load_at_height (Some text) fonts q load block)) x.screen;
       }

@@ -42,7 +42,7 @@ use Rattle.bios_screen.specs.Served.{FitsBytes, IsServed}
 use Rattle.bios_screen.proofs.Base.Plans.{run_bind, then_runs, then_answers}
 use Rattle.bios_screen.proofs.Base.Lists.{same_from_0, spelled}
 use Rattle.bios_screen.proofs.Base.Tests.{both_true, same, lt_is, le_is}
-use Rattle.bios_screen.proofs.Base.Kept.{plan_beam}
+use Rattle.bios_services.proofs.CardLemmas.{plan_beam}
 use Rattle.bios_screen.proofs.Modes.TextModes.Display.{Colour, Monochrome}
 use Rattle.bios_screen.proofs.Modes.PixelModes.Graphics.{Sixteen, Many}
 use Rattle.bios_screen.proofs.Modes.AnyModes.{Tabled, control_of}

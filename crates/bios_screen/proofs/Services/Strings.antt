@@ -24,7 +24,7 @@ use Rattle.bios_screen.specs.Shown.{shown}
 use Rattle.bios_screen.specs.Step.{page_meant, refusal_on, next, answer_on, type_character, type_characters, type_string, with_place as placed_on}
 use Rattle.bios_screen.specs.Served.{IsServed}
 use Rattle.bios_screen.proofs.Base.Plans.{run_bind}
-use Rattle.bios_screen.proofs.Base.Kept.{KeepsBounds, plan_bounds, plan_beam}
+use Rattle.bios_services.proofs.CardLemmas.{plan_bounds, plan_beam}
 use Rattle.bios_screen.proofs.Base.Reasons.{neither, page_allowed, place_allowed}
 use Rattle.bios_screen.proofs.Shows.Screens.{pages_are, page_of}
 use Rattle.bios_screen.proofs.Shows.Any.{IsAny, any_screen, still_any}
@@ -36,7 +36,7 @@ use Rattle.bios_screen.proofs.Services.Teletypes.{moved}
 
 -- ---- characters one after another
 
-module _ (law : KeepsBounds) (fonts : FontSet) (d : BiosData) (p : ℕ) (lp : p < pages_of d) (call : StringCall) (block : List ℕ) (bytes : AreBytes block)
+module _ (fonts : FontSet) (d : BiosData) (p : ℕ) (lp : p < pages_of d) (call : StringCall) (block : List ℕ) (bytes : AreBytes block)
     (colour : call.colour < 256) where
   colouring_small : (i : ℕ) → (colouring_at call block i).colour < 256
   colouring_small i = by_test call.has_attributes
@@ -56,9 +56,9 @@ module _ (law : KeepsBounds) (fonts : FontSet) (d : BiosData) (p : ℕ) (lp : p 
   all_typed (suc n) i place c s e z l =
       let v = character_at call block i in
       let colouring = colouring_at call block i in
-      let t = is_typed law fonts d p lp c s place v colouring z e l (bytes _) (colouring_small i) in
+      let t = is_typed fonts d p lp c s place v colouring z e l (bytes _) (colouring_small i) in
       let after = type_character fonts s p place v colouring in
-      let rest = all_typed n (i + 1) after.1 (run card_meaning (one i place) c).0 after.0 t.leads.shows (plan_bounds law (one i place) c z) t.inside in
+      let rest = all_typed n (i + 1) after.1 (run card_meaning (one i place) c).0 after.0 t.leads.shows (plan_bounds (one i place) c z) t.inside in
       record {
         leads = leads_on (one i place) (fold one n (i + 1)) c d after (type_characters fonts call block p n (i + 1) after) t.leads rest.leads;
         inside = rest.inside;
@@ -100,10 +100,10 @@ string_allowed pages p rows columns place wrong e =
     let inside = neither (outside_page rows columns place) wrong page.1 in
     record { page = page_allowed pages p page.0; inside = place_allowed rows columns place inside.0 }
 
-pub write_string : (law : KeepsBounds) (call : StringCall) (fonts : FontSet) (r : Regs) (block : List ℕ) (c : CardState) (d : BiosData) (h : IsAny c d) →
+pub write_string : (call : StringCall) (fonts : FontSet) (r : Regs) (block : List ℕ) (c : CardState) (d : BiosData) (h : IsAny c d) →
     AreBytes block → call.colour < 256 → IsCard c → IsBda d → IsServed (WriteString call) fonts r block c d (any_screen c d h c)
 unfolding plan_of refusal_in_mode refusal_on next answer_on
-write_string law call fonts r block c d h bytes colour z bda =
+write_string call fonts r block c d h bytes colour z bda =
     let s = any_screen c d h c in
     let p = page_named d call.page in
     let q = page_meant s call.page in
@@ -117,6 +117,6 @@ write_string law call fonts r block c d h bytes colour z bda =
           let a = string_allowed h.row.pages q (d.last_row + 1) d.columns call.place (wrong_block (string_len call) (length block)) allowed in
           ap (λ x. shown x.0 x.1.1) runs
           ∙ ap (λ n. let x = run card_meaning (string_plan fonts d n call block) c in shown x.0 x.1) (any_meant c d h call.page)
-          ∙ string_shown law fonts d q (page_of h.row d q h.mode a.page) call block bytes colour c s (still_any c d h) z bda a.inside;
+          ∙ string_shown fonts d q (page_of h.row d q h.mode a.page) call block bytes colour c s (still_any c d h) z bda a.inside;
       beam = plan_beam (then_data (string_plan fonts d p call block) r) c;
     }

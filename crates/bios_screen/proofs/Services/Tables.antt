@@ -36,7 +36,7 @@ use Rattle.bios_screen.proofs.Base.Plans.{run_bind}
 use Rattle.bios_screen.proofs.Base.Ports.{expected_runs}
 use Rattle.bios_screen.proofs.Base.Lists.{spelled}
 use Rattle.bios_screen.proofs.Base.Tests.{both_true, lt_is, le_is}
-use Rattle.bios_screen.proofs.Base.Kept.{plan_beam}
+use Rattle.bios_services.proofs.CardLemmas.{plan_beam}
 use Rattle.bios_screen.proofs.Shows.Screens.{mode_of_shown}
 use Rattle.bios_screen.proofs.Shows.Any.{IsAny, any_screen, any_is}
 use Rattle.bios_screen.proofs.Services.Attributes.{with_attr, value_of_register}

@@ -20,7 +20,7 @@ use Rattle.bios_screen.specs.Shown.{shown}
 use Rattle.bios_screen.specs.Step.{refusal_on, next, answer_on, type_character, type_at_cursor, with_place as placed_on}
 use Rattle.bios_screen.specs.Served.{IsServed}
 use Rattle.bios_screen.proofs.Base.Plans.{run_bind}
-use Rattle.bios_screen.proofs.Base.Kept.{KeepsBounds, plan_beam}
+use Rattle.bios_services.proofs.CardLemmas.{plan_beam}
 use Rattle.bios_screen.proofs.Base.Reasons.{place_allowed}
 use Rattle.bios_screen.proofs.Shows.Screens.{page_in}
 use Rattle.bios_screen.proofs.Shows.Any.{IsAny, any_screen, any_is, cut_is, still_any}
@@ -39,7 +39,7 @@ moved c d s p place e bda lp i =
 
 -- ---- function 0E
 
-module _ (law : KeepsBounds) (v colour : ℕ) (lv : v < 256) (la : colour < 256) (fonts : FontSet) (c : CardState) (d : BiosData) (h : IsAny c d) (z : IsCard c)
+module _ (v colour : ℕ) (lv : v < 256) (la : colour < 256) (fonts : FontSet) (c : CardState) (d : BiosData) (h : IsAny c d) (z : IsCard c)
     (bda : IsBda d) where
   abbrev s : Screen
   s = any_screen c d h c
@@ -65,7 +65,7 @@ module _ (law : KeepsBounds) (v colour : ℕ) (lv : v < 256) (la : colour < 256)
           ≡ Some (if b then s else placed_on after.0 d.page after.1)
       by_test true = still_any c d h
       by_test false =
-          let t = is_typed law fonts d d.page lp c s at v (dots_in colour) z (still_any c d h) inside lv la in
+          let t = is_typed fonts d d.page lp c s at v (dots_in colour) z (still_any c d h) inside lv la in
           let c1 = (run card_meaning plan c).0 in
           ap (λ r. shown r.0 r.1) (run_bind card_meaning plan cursor c)
           ∙ ap (λ n. let x = run card_meaning (cursor n) c1 in shown x.0 x.1) t.leads.answer

@@ -17,7 +17,7 @@ use Rattle.bios_services.specs.Service.{plan_of}
 use Rattle.bios_screen.specs.Screen.{Screen}
 use Rattle.bios_screen.specs.Step.{page_meant, refusal_on}
 use Rattle.bios_screen.specs.Served.{IsServed}
-use Rattle.bios_screen.proofs.Base.Kept.{plan_beam}
+use Rattle.bios_services.proofs.CardLemmas.{plan_beam}
 use Rattle.bios_screen.proofs.Shows.Screens.{IsShown, screen_shown, named_page}
 
 -- the page that is meant

@@ -19,7 +19,7 @@ use Rattle.bios_screen.specs.Shown.{pixel_screen, shown}
 use Rattle.bios_screen.specs.Step.{cell_on, last_colour, line_feed, cursor_advance, put_characters, put_character, type_character}
 use Rattle.bios_screen.proofs.Base.Plans.{run_bind, then_runs, then_answers}
 use Rattle.bios_screen.proofs.Base.Places.{ends_before}
-use Rattle.bios_screen.proofs.Base.Kept.{KeepsBounds, plan_bounds}
+use Rattle.bios_services.proofs.CardLemmas.{plan_bounds}
 use Rattle.bios_screen.proofs.Base.TypedPlaces.{Inside, risen, typed_inside}
 use Rattle.bios_screen.proofs.Shows.Screens.{page_in, screen_shown}
 use Rattle.bios_screen.proofs.Shows.Pixels.{pixels_shown, pixels_shown_of}
@@ -72,7 +72,7 @@ leads_after p q c d y second = record {
 abbrev pub rise_plan : BiosData → ℕ → ℕ → Plan ℕ
 rise_plan d p place = line_feed_fill d p place >>= λ colour. (page_up_plan d p colour >> Done place)
 
-module _ (law : KeepsBounds) (fonts : FontSet) (d : BiosData) (p : ℕ) (lp : p < pages_of d) where
+module _ (fonts : FontSet) (d : BiosData) (p : ℕ) (lp : p < pages_of d) where
   -- a character at a place is a run of one
   put : (c : CardState) (s : Screen) (place v : ℕ) (colouring : Colouring) → IsCard c → shown c d ≡ Some s → Inside (d.last_row + 1) d.columns place →
       v < 256 → colouring.colour < 256
@@ -85,7 +85,7 @@ module _ (law : KeepsBounds) (fonts : FontSet) (d : BiosData) (p : ℕ) (lp : p 
       let within = ends_before d.columns (text_row_of place) (d.last_row + 1) i.row in
       ap (λ n. shown (run card_meaning (character_plan fonts d p n v colouring) c).0 d) same
       ∙ sym (ap (λ x. shown x d) (then_runs (character_plan fonts d p (q + 0) v colouring) (Done tt) c))
-      ∙ characters_shown law fonts c d s p q 1 v colouring e z lp (omega arith) lv la
+      ∙ characters_shown fonts c d s p q 1 v colouring e z lp (omega arith) lv la
       ∙ ap (λ n. Some (put_characters fonts s p (n * text_row_of place + column_of place) 1 v colouring)) (sym (cut_is c d s e).columns)
 
   -- the colour of a line feed's row: in text the attribute in the last row, which is read, and in graphics 0
@@ -132,7 +132,7 @@ module _ (law : KeepsBounds) (fonts : FontSet) (d : BiosData) (p : ℕ) (lp : p 
       leads_on fill (λ n. up n >> Done place) c d (s, colour) (risen s p place, place) x.leads
       (leads_after (up colour) (Done place) c1 d (risen s p place, place) (record {
         answer = refl;
-        shows = page_raised law c1 d s (plan_bounds law fill c z) x.leads.shows p colour lp x.small;
+        shows = page_raised c1 d s (plan_bounds fill c z) x.leads.shows p colour lp x.small;
       }))
 
   -- ---- typing
@@ -172,7 +172,7 @@ module _ (law : KeepsBounds) (fonts : FontSet) (d : BiosData) (p : ℕ) (lp : p 
     shows =
         let write = character_plan fonts d p (cell_number d place) v colouring in
         leads_after write (cursor_advance_plan d p place) c d (cursor_advance (put_character fonts s p place v colouring) p place)
-        (advances (run card_meaning write c).0 (put_character fonts s p place v colouring) place (plan_bounds law write c z)
+        (advances (run card_meaning write c).0 (put_character fonts s p place v colouring) place (plan_bounds write c z)
         (put c s place v colouring z e i lv la) i.column)
 
     -- what is typed, and where the cursor is then

@@ -20,7 +20,7 @@ use Rattle.bios_screen.specs.Screen.{Screen}
 use Rattle.bios_screen.specs.Served.{Serves}
 use Rattle.bios_screen.specs.Shown.{shown}
 use Rattle.bios_screen.specs.Step.{scroll_window, scroll_asked, scroll, page_up, refusal_on, next, answer_on}
-use Rattle.bios_screen.proofs.Base.Kept.{KeepsBounds, plan_beam}
+use Rattle.bios_services.proofs.CardLemmas.{plan_beam}
 use Rattle.bios_screen.proofs.Base.Plans.{run_bind}
 use Rattle.bios_screen.proofs.Base.Windows.{LiesOn, lies_on, few_lines, some_lines}
 use Rattle.bios_screen.proofs.Modes.PixelModes.{row_of}
@@ -31,14 +31,14 @@ use Rattle.bios_screen.proofs.Text.Windows as text
 use Rattle.bios_screen.proofs.Planar.Scrolls as planar
 use Rattle.bios_screen.proofs.Packed.Scrolls as packed
 
-module _ (law : KeepsBounds) (c : CardState) (d : BiosData) (s : Screen) (z : IsCard c) (e : shown c d ≡ Some s) where
+module _ (c : CardState) (d : BiosData) (s : Screen) (z : IsCard c) (e : shown c d ≡ Some s) where
   window_shown : (p : ℕ) → p < pages_of d → (w : Window) → LiesOn (d.last_row + 1) d.columns w → (direction : Direction) (n colour : ℕ) → 0 < n → n ≤ w.height →
       colour < 256 → shown (run card_meaning (window_plan d p w direction n colour) c).0 d ≡ Some (scroll_window s p w direction n colour)
   window_shown p lp w on direction n colour some few lc =
       by_modes c d (λ x. shown (run card_meaning (window_plan d p w direction n colour) c).0 d ≡ Some (scroll_window x p w direction n colour))
       (λ h. text.window_shown c d h p (page_in h.row d p h.mode lp) w on direction n colour z some few lc)
-      (λ m is row. planar.window_shown law m c d is row z p (page_in (row_of m) d p row lp) w on direction n colour some few)
-      (λ is row. packed.window_shown law c d is row z p (page_in bytes_320_by_200 d p row lp) w on direction n colour lc some few)
+      (λ m is row. planar.window_shown m c d is row z p (page_in (row_of m) d p row lp) w on direction n colour some few)
+      (λ is row. packed.window_shown c d is row z p (page_in bytes_320_by_200 d p row lp) w on direction n colour lc some few)
       s e
 
   pub page_raised : (p colour : ℕ) → p < pages_of d → colour < 256 → shown (run card_meaning (page_up_plan d p colour) c).0 d
@@ -87,12 +87,12 @@ module _ (law : KeepsBounds) (c : CardState) (d : BiosData) (s : Screen) (z : Is
           beam = plan_beam (scroll_plan d asked direction >> done) c;
         }
 
-pub scroll_up : KeepsBounds → (asked : Scroll) → asked.fill < 256 → Serves (ScrollUp asked)
+pub scroll_up : (asked : Scroll) → asked.fill < 256 → Serves (ScrollUp asked)
 unfolding plan_of refusal_in_mode refusal_on next answer_on
-scroll_up law asked lc fonts r block c d s bytes z bda e = let x = is_scrolled law c d s z e asked lc Up r in
+scroll_up asked lc fonts r block c d s bytes z bda e = let x = is_scrolled c d s z e asked lc Up r in
     record { refusal = refl; answer = λ _. x.answer; shows = λ _. x.shows; beam = x.beam }
 
-pub scroll_down : KeepsBounds → (asked : Scroll) → asked.fill < 256 → Serves (ScrollDown asked)
+pub scroll_down : (asked : Scroll) → asked.fill < 256 → Serves (ScrollDown asked)
 unfolding plan_of refusal_in_mode refusal_on next answer_on
-scroll_down law asked lc fonts r block c d s bytes z bda e = let x = is_scrolled law c d s z e asked lc Down r in
+scroll_down asked lc fonts r block c d s bytes z bda e = let x = is_scrolled c d s z e asked lc Down r in
     record { refusal = refl; answer = λ _. x.answer; shows = λ _. x.shows; beam = x.beam }

@@ -33,7 +33,7 @@ use Rattle.bios_screen.specs.Listing.{listing}
 use Rattle.bios_screen.proofs.Base.Flat.{Edited, Turn}
 use Rattle.bios_screen.proofs.Base.Plans.{then_runs}
 use Rattle.bios_screen.proofs.Base.Lists.{same_from_0, length_listing, listed_at}
-use Rattle.bios_screen.proofs.Base.Kept.{KeepsBounds, plan_bounds}
+use Rattle.bios_services.proofs.CardLemmas.{plan_bounds}
 use Rattle.bios_screen.proofs.Base.Setting.{Setting, setting, card_at}
 use Rattle.bios_screen.proofs.Modes.TextModes.{Display, Height, window_of, port_of, text_setting, row_of, row_with, lines_of, number_of}
 use Rattle.bios_screen.proofs.Modes.TextModes.Display.{Colour, Monochrome}
@@ -161,7 +161,7 @@ line_small fonts load block bytes are ch r = by_source load.is_block
     by_source true = bytes (load.height * (ch - load.first) + r)
     by_source false = by_height (load.height == 8) (load.height == 14)
 
-module _ (law : KeepsBounds) (fonts : FontSet) (load : GlyphLoad) (block : List ℕ) (bytes : AreBytes block) (are : AreFonts fonts)
+module _ (fonts : FontSet) (load : GlyphLoad) (block : List ℕ) (bytes : AreBytes block) (are : AreFonts fonts)
     (there : AreThere load (length block)) (c : CardState) (d : BiosData) (h : IsShown c d) (z : IsCard c) (new : Height) where
   abbrev pub disp : Display
   disp = h.display
@@ -179,7 +179,7 @@ module _ (law : KeepsBounds) (fonts : FontSet) (load : GlyphLoad) (block : List 
       let c1 = through c (glyph_setting disp) in
       let e1 : (run card_meaning glyphs_on c).0 ≡ c1 =
       ap (λ x. (run card_meaning glyphs_on (card_at c x)).0) h.setting ∙ on_by disp c ∙ ap (λ x. through (card_at c x) (glyph_setting disp)) (sym h.setting) in
-      let z1 : IsCard c1 = subst IsCard e1 (plan_bounds law glyphs_on c z) in
+      let z1 : IsCard c1 = subst IsCard e1 (plan_bounds glyphs_on c z) in
       let at1 : setting c1 ≡ glyph_setting disp = ap (λ (x : Setting). let q : Setting =
       record { misc = x.misc; seq = (glyph_setting disp).seq; gfx = (glyph_setting disp).gfx } in q) h.setting in
       let start : IsLoading disp (without_glyphs c1) c1 (slice_index c1.host.memory.plane2) =
@@ -261,14 +261,14 @@ attribute_stays row other a e t =
     sym (ap (λ (l : List ℕ). is_palette_shown a && ((bit_and (slice_index a.registers 0x10) 0xF7 == bit_and (slice_index l 0x10) 0xF7)
     && bytes_eq (drop 0x12 a.registers) (drop 0x12 l))) e) ∙ t
 
-pub load_shown : (law : KeepsBounds) (fonts : FontSet) (load : GlyphLoad) (block : List ℕ) → AreBytes block → AreFonts fonts → AreThere load (length block) →
+pub load_shown : (fonts : FontSet) (load : GlyphLoad) (block : List ℕ) → AreBytes block → AreFonts fonts → AreThere load (length block) →
     (c : CardState) (d : BiosData) (h : IsShown c d) → IsCard c → (new : Height)
     → (let row = row_with h.display new in shown (run card_meaning (load_plan fonts load block row) c).0 (data_of_mode d.mode row)
     ≡ Some (load_at_height (Some (lines_of h.display new)) fonts (screen_shown c d h) load block))
-load_shown law fonts load block bytes are there c d h z new =
+load_shown fonts load block bytes are there c d h z new =
     let disp = h.display in
     let row = row_with disp new in
-    let t = loaded_card law fonts load block bytes are there c d h z new in
+    let t = loaded_card fonts load block bytes are there c d h z new in
     let registers = crtc_registers row row.cursor_type 0 0 in
     let y = left disp c t.plane2 registers in
     let after : BiosData = data_of_mode d.mode row in

@@ -4,12 +4,10 @@ use Rattle.bios_screen.proofs.Services.Tables.{tables_read, memory_wanted}
 use Rattle.bios_screen.proofs.laws.calls_lead_to_screens.Goals as goal
 
 pub returns-clause-served : goal.returns-clause-served
-returns-clause-served c = let b = c.bounds_stay.ensures in calls_lead (record { out = b.out; inp = b.inp; put = b.put; get = b.get })
+returns-clause-served c = calls_lead
 
 pub returns-clause-loaded : goal.returns-clause-loaded
-returns-clause-loaded c load fonts r block cs d s z bytes are shows e =
-    load_leads (record { out = c.bounds_stay.ensures.out; inp = c.bounds_stay.ensures.inp; put = c.bounds_stay.ensures.put; get = c.bounds_stay.ensures.get })
-    fonts load r block bytes are cs d s z shows e
+returns-clause-loaded c load fonts r block cs d s z bytes are shows e = load_leads fonts load r block bytes are cs d s z shows e
 
 pub returns-clause-unknown : goal.returns-clause-unknown
 returns-clause-unknown c = unknown_refused
