@@ -18,9 +18,7 @@ fn shows_memory(card: &Card, row: &ModeRow) -> bool
     ensures { result ≡ shows_memory_of row.now card.now }
 {
     let regs = card.regs();
-    regs.misc == row.misc
-        && *regs.host.seq() == row.sequencer
-        && *regs.host.gfx() == row.graphics
+    regs.misc == row.misc && *regs.host.seq() == row.sequencer && *regs.host.gfx() == row.graphics
 }
 
 /// Whether the data are those of the mode, and the page is one of its pages.

@@ -1,10 +1,10 @@
 -- No write to the index or to a register moves the beam.
 use Rattle.std.proofs.Common.{◌≡◌, ℕ, Bool, true, false, refl}
-use Rattle.std.specs.Prelude.{not, ◌==◌, if◌then◌else◌, slice_index, slice_set, bit_and}
+use Rattle.std.specs.Prelude.{not, ◌==◌, if◌then◌else◌}
 use Rattle.vga_bits.specs.declared.paired_port.PairedPort.{PairedPort}
 use Rattle.vga_bits.specs.declared.paired_port.PairedPort.TheVariants.{Index, Data}
 use Rattle.vga_crtc.specs.Crtc.{CrtcState}
-use Rattle.vga_crtc.specs.Ports.{after_out, is_write_protected, kept_bits, protected_overflow}
+use Rattle.vga_crtc.specs.Ports.{after_out, is_write_protected}
 
 -- of registers in their places, whatever the two tests say
 chosen_beam : (protected is_overflow : Bool) (c x y : CrtcState) → x.beam ≡ c.beam → y.beam ≡ c.beam →

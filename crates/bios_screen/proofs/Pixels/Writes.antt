@@ -1,6 +1,5 @@
 -- Characters at some cells of a page of pixels, from the screen to the next, however memory has the pixels.
 use Rattle.std.proofs.Common.{◌≡◌, ◌≢◌, ℕ, ◌+◌, ◌-◌, ◌*◌, ◌/◌, ◌%◌, ◌<◌, ◌≤◌, sym, ap, ◌∙◌, arith, Some}
-use Rattle.std.specs.Prelude.{min}
 use Rattle.std.proofs.Math.Nat.{mod-lt}
 use Rattle.vga_bits.specs.Bits.{is_set}
 use Rattle.vga_card.specs.Bus.{card_meaning}
@@ -11,7 +10,7 @@ use Rattle.bios_modes.specs.Bda.{BiosData}
 use Rattle.bios_modes.specs.Fonts.{FontSet}
 use Rattle.bios_services.specs.declared.band.Band.{Band}
 use Rattle.bios_services.specs.declared.colouring.Colouring.{Colouring}
-use Rattle.bios_services.specs.Cells.{page_address, cells_of}
+use Rattle.bios_services.specs.Cells.{cells_of}
 use Rattle.bios_services.specs.Drawing.{character_plan, characters_plan}
 use Rattle.bios_services.specs.Glyphs.{glyph_line}
 use Rattle.bios_services.specs.Plan.{run}

@@ -20,7 +20,7 @@ use Rattle.bios_screen.specs.Served.{FitsBytes, IsServed, Serves, ServesText}
 use Rattle.bios_modes.specs.Bounds.{AreBytes}
 use Rattle.bios_screen.proofs.Shows.Screens.{IsShown, screen_shown, shown_is, text_shown}
 use Rattle.bios_screen.proofs.Dots.PackedDots.{IsPacked}
-use Rattle.bios_screen.proofs.Shows.Kinds.{by_contents, by_modes}
+use Rattle.bios_screen.proofs.Shows.Kinds.{by_modes}
 use Rattle.bios_screen.proofs.Packed.Pixels as packed_pixels
 use Rattle.bios_screen.proofs.Dots.PlanarDots.{IsPlanar}
 use Rattle.bios_screen.proofs.Planar.Reads as planar_reads
