@@ -27,7 +27,8 @@ use vga_bits::{Fault, Tracked, write_whole};
 use vga_card::Drawn;
 use vga_script::{Shown, Step};
 use vga_show::{
-    dump_bda, dump_beam, dump_cells, dump_dac, dump_latches, dump_plane, dump_regs, ppm_length, write_ppm,
+    dump_bda, dump_beam, dump_cells, dump_dac, dump_latches, dump_plane, dump_regs, ppm_length,
+    write_ppm,
 };
 
 /// The line of step n that stands before a picture: how many bytes the picture has.
