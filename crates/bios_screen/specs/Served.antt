@@ -15,7 +15,7 @@ use Rattle.bios_services.specs.declared.colours.ColourService.{ColourService}
 use Rattle.bios_services.specs.declared.colours.ColourService.TheVariants.{SetOverscan}
 use Rattle.bios_services.specs.Plan.{run}
 use Rattle.bios_modes.specs.Kinds.{is_text}
-use Rattle.bios_services.specs.Refusals.{refusal_in_mode}
+use Rattle.bios_services.specs.Refusals.{on_page_named, refusal_in_mode}
 use Rattle.bios_services.specs.Calls.{call_of}
 use Rattle.bios_services.specs.Service.{plan_of, Outcome, Answered, service as whole_service}
 use Rattle.bios_screen.specs.Screen.{Screen}
@@ -23,16 +23,18 @@ use Rattle.bios_screen.specs.Shown.{shown}
 use Rattle.bios_screen.specs.Step.{refusal_on, next, answer_on}
 use Rattle.bios_screen.specs.Fresh.{fresh_screen}
 
--- the adapter, and the registers and data that a service answers
+-- the adapter, and the registers and data that a service answers on the page that it means
 abbrev pub after_service : Service → FontSet → Regs → List ℕ → CardState → BiosData → CardState
     × Outcome
-after_service service fonts r block c d = run card_meaning (plan_of service fonts d r block) c
+after_service service fonts r block c d =
+    run card_meaning (plan_of (on_page_named d service) fonts d r block) c
 
 -- a service is refused as on the screen; one that is not answers as on the screen, leaves the next
 -- screen, and leaves the beam
 pub record IsServed (service : Service) (fonts : FontSet) (r : Regs) (block : List ℕ)
     (c : CardState) (d : BiosData) (s : Screen) : Type 0 where
-  pub refusal : refusal_in_mode service d (length block) ≡ refusal_on s service (length block)
+  pub refusal : refusal_in_mode (on_page_named d service) d (length block)
+      ≡ refusal_on s service (length block)
   pub answer : refusal_on s service (length block) ≡ None →
       (after_service service fonts r block c d).1.0 ≡ answer_on fonts s service r
   pub shows : refusal_on s service (length block) ≡ None →

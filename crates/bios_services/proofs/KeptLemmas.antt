@@ -42,7 +42,7 @@ use Rattle.bios_services.specs.Reasons.{no_page, outside_page, wrong_block}
 use Rattle.bios_services.specs.Colours.{colours_plan}
 use Rattle.bios_services.specs.Tables.{table_refusal, table_plan}
 use Rattle.bios_services.specs.GlyphLoads.{glyph_load_of, load_refusal, load_plan}
-use Rattle.bios_services.specs.Refusals.{page_named, refusal_in_mode}
+use Rattle.bios_services.specs.Refusals.{on_page_named, refusal_in_mode}
 use Rattle.bios_services.specs.declared.colours.ColourService.TheVariants.{ReadMask}
 use Rattle.bios_services.specs.Calls.{colours, colour_call_of, service_of, in_mode, call_of, glyphs_or}
 use Rattle.bios_services.specs.Service.{Outcome, Answered, answer_of, answer_with, call_plan, in_mode_plan, load_at, load_unless, load_in_mode_plan, plan_of}
@@ -224,12 +224,12 @@ module _ (d : BiosData) (a : AreData d) (is : IsSet d) (unset : d.mode ≢ 0) wh
       (typed_near fonts d page place (character_at s block i) (colouring_at s block i) is.rows is.columns near)
       (λ next l. characters_near fonts page s block n (i + 1) next l)
 
-  string : (fonts : FontSet) (page : ℕ) (s : StringCall) (block : List ℕ) → IsNear s.place → Always AreData (string_plan fonts d page s block)
+  string : (fonts : FontSet) (s : StringCall) (block : List ℕ) → IsNear s.place → Always AreData (string_plan fonts d s block)
   unfolding string_plan type_string_plan
-  string fonts page s block near =
-      behind_such IsNear AreData (type_string_plan fonts d page s block) (λ place. if s.moves_cursor then move_cursor_plan d page place else Done d)
-      (characters_near fonts page s block s.count 0 s.place near)
-      (λ place l. on_if AreData s.moves_cursor (move_cursor_plan d page place) (Done d) (λ _. moved page place (omega arith)) (λ _. a))
+  string fonts s block near =
+      behind_such IsNear AreData (type_string_plan fonts d s block) (λ place. if s.moves_cursor then move_cursor_plan d s.page place else Done d)
+      (characters_near fonts s.page s block s.count 0 s.place near)
+      (λ place l. on_if AreData s.moves_cursor (move_cursor_plan d s.page place) (Done d) (λ _. moved s.page place (omega arith)) (λ _. a))
 
 -- ---- services that are not refused
 
@@ -247,13 +247,31 @@ inside_near d place few h =
 string_near : (d : BiosData) (s : StringCall) (len : ℕ) → d.last_row < 50 → refusal_in_mode (WriteString s) d len ≡ None → IsNear s.place
 unfolding refusal_in_mode
 string_near d s len few h =
-    let page = neither (no_page (pages_of d) (page_named d s.page)) _ h in
+    let page = neither (no_page (pages_of d) s.page) _ h in
     inside_near d s.place few (neither (outside_page (d.last_row + 1) d.columns s.place) (wrong_block (string_len s) len) page.1).0
 
 -- the place that a service names is a word
 abbrev FitsWords : Service → Type 0
 FitsWords (SetCursor page place) = place < 65536
 FitsWords service = Unit {0}
+
+fits_there : (d : BiosData) (asked_for : Service) → FitsWords asked_for → FitsWords (on_page_named d asked_for)
+fits_there d (SetCursor page place) fits = fits
+fits_there d (SetCursorType cursor_type) fits = tt
+fits_there d (ReadCursor page) fits = tt
+fits_there d (SelectPage page) fits = tt
+fits_there d (ScrollUp scroll) fits = tt
+fits_there d (ScrollDown scroll) fits = tt
+fits_there d (ReadCell page) fits = tt
+fits_there d (WriteCells cells) fits = tt
+fits_there d (WritePixel page x y colour) fits = tt
+fits_there d (ReadPixel page x y) fits = tt
+fits_there d (Teletype character colour) fits = tt
+fits_there d ReadMode fits = tt
+fits_there d (Colours asked_for) fits = tt
+fits_there d ReadAdapter fits = tt
+fits_there d (WriteString s) fits = tt
+fits_there d ReadDisplay fits = tt
 
 -- the data that a service answers
 abbrev OutcomeKept : Outcome → Type 0
@@ -266,20 +284,20 @@ unfolding plan_of refusal_in_mode
 service_keeps (SetCursorType cursor_type) fonts d r block fits a is unset h =
     behind_such AreData OutcomeKept (cursor_type_plan d cursor_type) (λ after. Done (r, after)) (typed_cursor d a is unset cursor_type) (λ after k. k)
 service_keeps (SetCursor page place) fonts d r block fits a is unset h =
-    behind_such AreData OutcomeKept (move_cursor_plan d (page_named d page) place) (λ after. Done (r, after))
-    (moved d a is unset (page_named d page) place fits) (λ after k. k)
+    behind_such AreData OutcomeKept (move_cursor_plan d page place) (λ after. Done (r, after))
+    (moved d a is unset page place fits) (λ after k. k)
 service_keeps (ReadCursor page) fonts d r block fits a is unset h = a
 service_keeps (SelectPage page) fonts d r block fits a is unset h =
     behind_such AreData OutcomeKept (page_plan d page) (λ after. Done (r, after)) (paged d a is unset page (page_allowed (pages_of d) page h)) (λ after k. k)
 service_keeps (ScrollUp scroll) fonts d r block fits a is unset h = behind OutcomeKept (scroll_plan d scroll Up) (λ _. Done (r, d)) (λ _. a)
 service_keeps (ScrollDown scroll) fonts d r block fits a is unset h = behind OutcomeKept (scroll_plan d scroll Down) (λ _. Done (r, d)) (λ _. a)
-service_keeps (ReadCell page) fonts d r block fits a is unset h = behind OutcomeKept (read_cell_service fonts (page_named d page) d r) (λ after.
+service_keeps (ReadCell page) fonts d r block fits a is unset h = behind OutcomeKept (read_cell_service fonts page d r) (λ after.
     Done (after, d)) (λ _. a)
-service_keeps (WriteCells cells) fonts d r block fits a is unset h = behind OutcomeKept (cell_run_plan fonts d (page_named d cells.page) cells) (λ _.
+service_keeps (WriteCells cells) fonts d r block fits a is unset h = behind OutcomeKept (cell_run_plan fonts d cells) (λ _.
     Done (r, d)) (λ _. a)
-service_keeps (WritePixel page x y colour) fonts d r block fits a is unset h = behind OutcomeKept (write_pixel_plan d (page_named d page) x y colour) (λ _.
+service_keeps (WritePixel page x y colour) fonts d r block fits a is unset h = behind OutcomeKept (write_pixel_plan d page x y colour) (λ _.
     Done (r, d)) (λ _. a)
-service_keeps (ReadPixel page x y) fonts d r block fits a is unset h = behind OutcomeKept (read_pixel_service (page_named d page) x y d r) (λ after.
+service_keeps (ReadPixel page x y) fonts d r block fits a is unset h = behind OutcomeKept (read_pixel_service page x y d r) (λ after.
     Done (after, d)) (λ _. a)
 service_keeps (Teletype character colour) fonts d r block fits a is unset h =
     behind_such AreData OutcomeKept (teletype_plan fonts d character colour) (λ after. Done (r, after))
@@ -289,8 +307,8 @@ service_keeps (Colours asked_for) fonts d r block fits a is unset h = behind Out
     Done (after, d)) (λ _. a)
 service_keeps ReadAdapter fonts d r block fits a is unset h = a
 service_keeps (WriteString s) fonts d r block fits a is unset h =
-    behind_such AreData OutcomeKept (string_plan fonts d (page_named d s.page) s block) (λ after. Done (r, after))
-    (string d a is unset fonts (page_named d s.page) s block (string_near d s (length block) is.rows h)) (λ after k. k)
+    behind_such AreData OutcomeKept (string_plan fonts d s block) (λ after. Done (r, after))
+    (string d a is unset fonts s block (string_near d s (length block) is.rows h)) (λ after k. k)
 service_keeps ReadDisplay fonts d r block fits a is unset h = a
 
 -- ---- calls
@@ -306,14 +324,17 @@ in_mode_keeps : (asked_for : Service) (fonts : FontSet) (d : BiosData) (r : Regs
     Always AnswerKept (in_mode_plan asked_for fonts d r block)
 unfolding in_mode_plan unless
 in_mode_keeps asked_for fonts d r block fits a =
-    on_if AnswerKept (d.mode == 0) _ (unless (refusal_in_mode asked_for d (length block)) asked_for fonts d r block) (λ _. a) (λ e.
-    by_refusal (mode_is_set d.mode e) (refusal_in_mode asked_for d (length block)) refl)
+    on_if AnswerKept (d.mode == 0) _ (unless (refusal_in_mode there d (length block)) there fonts d r block) (λ _. a) (λ e.
+    by_refusal (mode_is_set d.mode e) (refusal_in_mode there d (length block)) refl)
   where
-    by_refusal : d.mode ≢ 0 → (x : Option Refusal) → refusal_in_mode asked_for d (length block) ≡ x → Always AnswerKept (unless x asked_for fonts d r block)
+    there : Service
+    there = on_page_named d asked_for
+
+    by_refusal : d.mode ≢ 0 → (x : Option Refusal) → refusal_in_mode there d (length block) ≡ x → Always AnswerKept (unless x there fonts d r block)
     by_refusal unset (Some why) e = a
     by_refusal unset None e =
-        behind_such OutcomeKept AnswerKept (plan_of asked_for fonts d r block) (λ outcome. Done (answer_of outcome.0 outcome.1))
-        (service_keeps asked_for fonts d r block fits a (set_of_valid d a.valid unset) unset e) (λ outcome k. k)
+        behind_such OutcomeKept AnswerKept (plan_of there fonts d r block) (λ outcome. Done (answer_of outcome.0 outcome.1))
+        (service_keeps there fonts d r block (fits_there d asked_for fits) a (set_of_valid d a.valid unset) unset e) (λ outcome k. k)
 
 table_keeps : (asked_for : TableService) (d : BiosData) (r : Regs) → AreData d → Always AnswerKept (table_in_mode_plan asked_for d r)
 unfolding table_in_mode_plan table_unless

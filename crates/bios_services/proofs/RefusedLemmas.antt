@@ -22,7 +22,7 @@ use Rattle.bios_services.specs.Plan.{Plan, Done, ◌>>=◌, run}
 use Rattle.bios_services.specs.Calls.{call_of}
 use Rattle.bios_services.specs.ModeSet.{mode_set_plan}
 use Rattle.bios_services.specs.GlyphLoads.{load_refusal, load_plan}
-use Rattle.bios_services.specs.Refusals.{refusal_in_mode, unknown_refusal}
+use Rattle.bios_services.specs.Refusals.{on_page_named, refusal_in_mode, unknown_refusal}
 use Rattle.bios_services.specs.Tables.{table_plan, table_refusal}
 use Rattle.bios_services.specs.Service.{RefusedDoNothing, Answered, answer_with, call_plan, in_mode_plan, load_at, load_unless, load_in_mode_plan, plan_of}
 use Rattle.bios_services.specs.Service.{refuse, set_mode_plan, table_in_mode_plan, table_unless, unless}
@@ -66,8 +66,9 @@ in_mode_does_nothing : {S : Type 0} (m : Meaning S) (asked_for : Service) (fonts
     DoesNothing m (in_mode_plan asked_for fonts d r block) d
 unfolding in_mode_plan
 in_mode_does_nothing m asked_for fonts d r block =
-    let why = refusal_in_mode asked_for d (length block) in
-    if_does_nothing m (d.mode == 0) (unless why asked_for fonts d r block) d (unless_does_nothing m why asked_for fonts d r block)
+    let there = on_page_named d asked_for in
+    let why = refusal_in_mode there d (length block) in
+    if_does_nothing m (d.mode == 0) (unless why there fonts d r block) d (unless_does_nothing m why there fonts d r block)
 
 table_does_nothing : {S : Type 0} (m : Meaning S) (why : Option Refusal) (asked_for : TableService) (d : BiosData) (r : Regs) →
     DoesNothing m (table_unless why asked_for d r) d

@@ -1,7 +1,7 @@
 -- Writing a character to some cells: functions 09 and 0A.
 -- From the IBM PS/2 and PC BIOS Interface Technical Reference, "Interrupt 10H - Video", (AH) = 09H
 -- and 0AH.
-use Rattle.std.specs.Prelude.{ℕ, Bool}
+use Rattle.std.specs.Prelude.{Bool}
 use Rattle.bios_modes.specs.Bda.{BiosData}
 use Rattle.bios_modes.specs.Fonts.{FontSet}
 use Rattle.bios_services.specs.declared.regs.Regs.{Regs}
@@ -21,7 +21,7 @@ cell_run_of r is_attribute = record {
   count = r.cx;
 }
 
--- the character goes to each of these cells, from the cursor of a page on
-abbrev pub cell_run_plan : FontSet → BiosData → ℕ → CellRun → Plan (Unit {0})
-cell_run_plan fonts d page cells = characters_plan fonts d page (cursor_cell d page) cells.character
-    cells.colouring cells.count
+-- the character goes to each of these cells, from the cursor of their page on
+abbrev pub cell_run_plan : FontSet → BiosData → CellRun → Plan (Unit {0})
+cell_run_plan fonts d cells = characters_plan fonts d cells.page (cursor_cell d cells.page)
+    cells.character cells.colouring cells.count

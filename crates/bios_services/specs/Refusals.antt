@@ -29,28 +29,39 @@ page_among pages page = if pages == 1 then 0 else page
 abbrev pub page_named : BiosData → ℕ → ℕ
 page_named d page = page_among (pages_of d) page
 
--- why a service is refused in a mode, with a block of this length
+-- a service on the page that it means
+abbrev pub on_page_named : BiosData → Service → Service
+on_page_named d (SetCursor page place) = SetCursor (page_named d page) place
+on_page_named d (ReadCursor page) = ReadCursor (page_named d page)
+on_page_named d (ReadCell page) = ReadCell (page_named d page)
+on_page_named d (WriteCells cells) = WriteCells (record cells { page = page_named d cells.page })
+on_page_named d (WritePixel page x y colour) = WritePixel (page_named d page) x y colour
+on_page_named d (ReadPixel page x y) = ReadPixel (page_named d page) x y
+on_page_named d (WriteString s) = WriteString (record s { page = page_named d s.page })
+on_page_named d service = service
+
+-- why a service on some page is refused in a mode, with a block of this length
 unfoldable pub refusal_in_mode : Service → BiosData → ℕ → Option Refusal
 refusal_in_mode (SetCursorType cursor_type) d len = None
-refusal_in_mode (SetCursor page place) d len = no_page (pages_of d) (page_named d page)
-refusal_in_mode (ReadCursor page) d len = no_page (pages_of d) (page_named d page)
+refusal_in_mode (SetCursor page place) d len = no_page (pages_of d) page
+refusal_in_mode (ReadCursor page) d len = no_page (pages_of d) page
 refusal_in_mode (SelectPage page) d len = no_page (pages_of d) page
 refusal_in_mode (ScrollUp scroll) d len = None
 refusal_in_mode (ScrollDown scroll) d len = None
 refusal_in_mode (ReadCell page) d len =
-    no_page (pages_of d) (page_named d page)
-    or outside_cells (cells_of d) (cursor_cell d (page_named d page))
+    no_page (pages_of d) page
+    or outside_cells (cells_of d) (cursor_cell d page)
 refusal_in_mode (WriteCells cells) d len =
-    no_page (pages_of d) (page_named d cells.page)
-    or outside_cells (cells_of d) (cursor_cell d (page_named d cells.page))
-    or past_cells (cells_of d) (cursor_cell d (page_named d cells.page)) cells.count
+    no_page (pages_of d) cells.page
+    or outside_cells (cells_of d) (cursor_cell d cells.page)
+    or past_cells (cells_of d) (cursor_cell d cells.page) cells.count
 refusal_in_mode (WritePixel page x y colour) d len =
     no_pixels d.mode
-    or no_page (pages_of d) (page_named d page)
+    or no_page (pages_of d) page
     or outside_pixels (dots_across d) (dots_down d) x y
 refusal_in_mode (ReadPixel page x y) d len =
     no_pixels d.mode
-    or no_page (pages_of d) (page_named d page)
+    or no_page (pages_of d) page
     or outside_pixels (dots_across d) (dots_down d) x y
 refusal_in_mode (Teletype character colour) d len =
     outside_page (d.last_row + 1) d.columns (place_of d d.page)
@@ -58,7 +69,7 @@ refusal_in_mode ReadMode d len = None
 refusal_in_mode (Colours service) d len = colour_refusal service len
 refusal_in_mode ReadAdapter d len = None
 refusal_in_mode (WriteString string) d len =
-    no_page (pages_of d) (page_named d string.page)
+    no_page (pages_of d) string.page
     or outside_page (d.last_row + 1) d.columns string.place
     or wrong_block (string_len string) len
 refusal_in_mode ReadDisplay d len = None

@@ -49,7 +49,7 @@ use Rattle.bios_services.specs.Strings.{string_plan}
 use Rattle.bios_services.specs.GlyphLoads.{load_refusal, load_plan}
 use Rattle.bios_services.specs.Registers.{low, with_low}
 use Rattle.bios_services.specs.Calls.{call_of}
-use Rattle.bios_services.specs.Refusals.{page_named, refusal_in_mode, unknown_refusal}
+use Rattle.bios_services.specs.Refusals.{on_page_named, refusal_in_mode, unknown_refusal}
 
 -- the registers that a service answers, and the BIOS data after it
 abbrev pub Outcome : Type 0
@@ -92,23 +92,22 @@ read_adapter_of d r = record r {
 abbrev pub read_display_of : Regs → Regs
 read_display_of r = record r { ax = 0x1A1A; bx = 0x0008 }
 
--- what a service answers, and does, that is not refused
+-- what a service on some page answers, and does, that is not refused
 unfoldable pub plan_of : Service → FontSet → BiosData → Regs → List ℕ → Plan Outcome
 plan_of (SetCursorType cursor_type) fonts d r block = cursor_type_plan d cursor_type
     >>= λ after. Done (r, after)
-plan_of (SetCursor page place) fonts d r block = move_cursor_plan d (page_named d page) place
+plan_of (SetCursor page place) fonts d r block = move_cursor_plan d page place
     >>= λ after. Done (r, after)
-plan_of (ReadCursor page) fonts d r block = Done (read_cursor_of d (page_named d page) r, d)
+plan_of (ReadCursor page) fonts d r block = Done (read_cursor_of d page r, d)
 plan_of (SelectPage page) fonts d r block = page_plan d page >>= λ after. Done (r, after)
 plan_of (ScrollUp scroll) fonts d r block = scroll_plan d scroll Up >> Done (r, d)
 plan_of (ScrollDown scroll) fonts d r block = scroll_plan d scroll Down >> Done (r, d)
-plan_of (ReadCell page) fonts d r block = read_cell_service fonts (page_named d page) d r
+plan_of (ReadCell page) fonts d r block = read_cell_service fonts page d r
     >>= λ after. Done (after, d)
-plan_of (WriteCells cells) fonts d r block = cell_run_plan fonts d (page_named d cells.page) cells
-    >> Done (r, d)
+plan_of (WriteCells cells) fonts d r block = cell_run_plan fonts d cells >> Done (r, d)
 plan_of (WritePixel page x y colour) fonts d r block =
-    write_pixel_plan d (page_named d page) x y colour >> Done (r, d)
-plan_of (ReadPixel page x y) fonts d r block = read_pixel_service (page_named d page) x y d r
+    write_pixel_plan d page x y colour >> Done (r, d)
+plan_of (ReadPixel page x y) fonts d r block = read_pixel_service page x y d r
     >>= λ after. Done (after, d)
 plan_of (Teletype character colour) fonts d r block = teletype_plan fonts d character colour
     >>= λ after. Done (r, after)
@@ -116,7 +115,7 @@ plan_of ReadMode fonts d r block = Done (read_mode_of d r, d)
 plan_of (Colours service) fonts d r block = colours_plan service d.crtc_address r block
     >>= λ after. Done (after, d)
 plan_of ReadAdapter fonts d r block = Done (read_adapter_of d r, d)
-plan_of (WriteString s) fonts d r block = string_plan fonts d (page_named d s.page) s block
+plan_of (WriteString s) fonts d r block = string_plan fonts d s block
     >>= λ after. Done (r, after)
 plan_of ReadDisplay fonts d r block = Done (read_display_of r, d)
 
@@ -150,10 +149,11 @@ unless None service fonts d r block = do
   outcome ← plan_of service fonts d r block
   Done (answer_of outcome.0 outcome.1)
 
--- a service that needs a mode
+-- a service that needs a mode, on the page that it means
 unfoldable pub in_mode_plan : Service → FontSet → BiosData → Regs → List ℕ → Plan Answered
 in_mode_plan service fonts d r block = if d.mode == 0 then refuse NoMode d
-    else unless (refusal_in_mode service d (length block)) service fonts d r block
+    else (let there = on_page_named d service in
+    unless (refusal_in_mode there d (length block)) there fonts d r block)
 
 -- a table in a mode, or why it is refused
 unfoldable pub table_unless : Option Refusal → TableService → BiosData → Regs → Plan Answered

@@ -42,14 +42,14 @@ colouring_at s block i = record {
   is_attribute = true;
 }
 
--- the characters are typed one after another on a page; the answer is the place behind the last
-unfoldable pub type_string_plan : FontSet → BiosData → ℕ → StringCall → List ℕ → Plan ℕ
-type_string_plan fonts d page s block =
-    fold (λ i place. type_plan fonts d page place (character_at s block i) (colouring_at s block i))
+-- the characters are typed one after another; the answer is the place behind the last
+unfoldable pub type_string_plan : FontSet → BiosData → StringCall → List ℕ → Plan ℕ
+type_string_plan fonts d s block =
+    fold (λ i place. type_plan fonts d s.page place (character_at s block i) (colouring_at s block i))
     s.count 0 s.place
 
--- a string is typed on a page, and the cursor moved behind it where that is asked
-unfoldable pub string_plan : FontSet → BiosData → ℕ → StringCall → List ℕ → Plan BiosData
-string_plan fonts d page s block = do
-  place ← type_string_plan fonts d page s block
-  if s.moves_cursor then move_cursor_plan d page place else Done d
+-- a string is typed, and the cursor moved behind it where that is asked
+unfoldable pub string_plan : FontSet → BiosData → StringCall → List ℕ → Plan BiosData
+string_plan fonts d s block = do
+  place ← type_string_plan fonts d s block
+  if s.moves_cursor then move_cursor_plan d s.page place else Done d

@@ -36,14 +36,14 @@ impl CellRun {
         }
     }
 
-    /// Writes the character to the cells, on a page.
-    pub(crate) fn write<B: Bus>(self, bus: &mut B, fonts: &Fonts, bda: &Bda, page: u8)
+    /// Writes the character to the cells.
+    pub(crate) fn write<B: Bus>(self, bus: &mut B, fonts: &Fonts, bda: &Bda)
         requires data { IsSet bda.now }
-        requires page { page < pages_of bda.now }
-        ensures { bus.new ≡ (run B.meaning (cell_run_plan fonts.now bda.now page self) bus.old).0 }
+        requires page { self.page < pages_of bda.now }
+        ensures { bus.new ≡ (run B.meaning (cell_run_plan fonts.now bda.now self) bus.old).0 }
     {
+        let (page, n) = (self.page, self.count as u32);
         let q = cursor_cell(bda, page);
-        let n = self.count as u32;
         write_characters(bus, fonts, bda, page, q, self.character, self.colouring, n);
     }
 }

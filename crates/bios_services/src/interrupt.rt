@@ -27,7 +27,7 @@ use crate::drawing::cell_band;
 use crate::glyph_load::GlyphLoad;
 use crate::mode_set;
 use crate::pixels::{read_pixel, write_pixel};
-use crate::refusals::{page_named, refusal_in_mode, unknown_refusal};
+use crate::refusals::{refusal_in_mode, unknown_refusal};
 use crate::regs::{Regs, with_low};
 use crate::reply::{Reply, ServiceError, Table};
 use crate::tables::{TableService, read_table, table_refusal};
@@ -105,7 +105,7 @@ fn read_display(regs: &mut Regs)
     regs.bx = 0x0008;
 }
 
-/// Does what a service does that is not refused.
+/// Does what a service does that is not refused on its page.
 #[tactic(auto, using(crate::proofs::PlanRuns::run_bind), unfolding(crate::specs::Service::plan_of, crate::specs::Refusals::refusal_in_mode))]
 fn perform<B: Bus>(
     bus: &mut B,
@@ -123,34 +123,22 @@ fn perform<B: Bus>(
 {
     match service {
         Service::SetCursorType { cursor_type } => set_cursor_type(bus, bda, cursor_type),
-        Service::SetCursor { page, place } => {
-            let page = page_named(bda, page);
-            move_cursor(bus, bda, page, place);
-        }
-        Service::ReadCursor { page } => read_cursor(bda, page_named(bda, page), regs),
+        Service::SetCursor { page, place } => move_cursor(bus, bda, page, place),
+        Service::ReadCursor { page } => read_cursor(bda, page, regs),
         Service::SelectPage { page } => show_page(bus, bda, page),
         Service::ScrollUp { scroll } => scroll.apply(bus, bda, Direction::Up),
         Service::ScrollDown { scroll } => scroll.apply(bus, bda, Direction::Down),
-        Service::ReadCell { page } => {
-            read_cursor_cell(bus, fonts, bda, page_named(bda, page), regs)
-        }
-        Service::WriteCells(cells) => cells.write(bus, fonts, bda, page_named(bda, cells.page)),
-        Service::WritePixel { page, x, y, colour } => {
-            write_pixel(bus, bda, page_named(bda, page), x, y, colour)
-        }
-        Service::ReadPixel { page, x, y } => {
-            read_pixel_colour(bus, bda, page_named(bda, page), x, y, regs)
-        }
+        Service::ReadCell { page } => read_cursor_cell(bus, fonts, bda, page, regs),
+        Service::WriteCells(cells) => cells.write(bus, fonts, bda),
+        Service::WritePixel { page, x, y, colour } => write_pixel(bus, bda, page, x, y, colour),
+        Service::ReadPixel { page, x, y } => read_pixel_colour(bus, bda, page, x, y, regs),
         Service::Teletype { character, colour } => { teletype(bus, fonts, bda, character, colour) }
         Service::ReadMode => read_mode(bda, regs),
         Service::Colours(service) => {
             perform_colours(bus, bda.crtc_address(), service, regs, block)
         }
         Service::ReadAdapter => read_adapter(bda, regs),
-        Service::WriteString(string) => {
-            let page = page_named(bda, string.page);
-            string.write(bus, fonts, bda, page, block);
-        }
+        Service::WriteString(string) => string.write(bus, fonts, bda, block),
         Service::ReadDisplay => read_display(regs),
     }
 }
@@ -276,6 +264,7 @@ fn in_mode<B: Bus>(
     if bda.mode() == 0 {
         return Err(Refusal::NoMode);
     }
+    let service = service.on_page_named(bda);
     refusal_in_mode(service, bda, block.len())?;
     answer_of(perform_allowed(bus, bda, fonts, service, regs, block))
 }

@@ -86,46 +86,39 @@ impl StringCall {
         }
     }
 
-    /// Types the characters on a page, and answers the place behind them.
+    /// Types the characters, and answers the place behind them.
     #[tactic(auto, using(crate::proofs::PlanRuns::run_bind), unfolding(crate::specs::Strings::type_string_plan))]
-    fn type_all<B: Bus>(self, bus: &mut B, fonts: &Fonts, bda: &Bda, page: u8, block: &[u8]) -> u16
+    fn type_all<B: Bus>(self, bus: &mut B, fonts: &Fonts, bda: &Bda, block: &[u8]) -> u16
         requires data { IsSet bda.now }
-        requires page { page < pages_of bda.now }
+        requires page { self.page < pages_of bda.now }
         requires row { row_of self.place ≤ bda.now.last_row }
         requires whole { length block.now ≡ string_len self }
         ensures { (bus.new, result) ≡ run B.meaning
-            (type_string_plan fonts.now bda.now page self block.now) bus.old }
+            (type_string_plan fonts.now bda.now self block.now) bus.old }
     {
         let mut place = self.place;
         for i in 0..self.count {
             let character = self.character(block, i);
             let colouring = self.colouring(block, i);
-            place = type_character(bus, fonts, bda, page, place, character, colouring);
+            place = type_character(bus, fonts, bda, self.page, place, character, colouring);
         }
         place
     }
 
-    /// Types the string on a page, and moves the cursor behind it where that is asked.
+    /// Types the string, and moves the cursor behind it where that is asked.
     #[tactic(auto, using(crate::proofs::PlanRuns::run_bind), unfolding(crate::specs::Strings::string_plan))]
-    pub(crate) fn write<B: Bus>(
-        self,
-        bus: &mut B,
-        fonts: &Fonts,
-        bda: &mut Bda,
-        page: u8,
-        block: &[u8],
-    )
+    pub(crate) fn write<B: Bus>(self, bus: &mut B, fonts: &Fonts, bda: &mut Bda, block: &[u8])
         requires data { IsSet bda.old }
-        requires page { page < pages_of bda.old }
+        requires page { self.page < pages_of bda.old }
         requires row { row_of self.place ≤ bda.old.last_row }
         requires whole { length block.now ≡ string_len self }
         ensures answer { (bus.new, bda.new) ≡ run B.meaning
-            (string_plan fonts.now bda.old page self block.now) bus.old }
+            (string_plan fonts.now bda.old self block.now) bus.old }
         ensures stays { StaysInMode bda.old bda.new }
     {
-        let place = self.type_all(bus, fonts, bda, page, block);
+        let place = self.type_all(bus, fonts, bda, block);
         if self.moves_cursor {
-            move_cursor(bus, bda, page, place);
+            move_cursor(bus, bda, self.page, place);
         }
     }
 }

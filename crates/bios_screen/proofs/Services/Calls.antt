@@ -23,7 +23,7 @@ use Rattle.bios_services.specs.Strings.{string_of}
 use Rattle.bios_services.specs.declared.glyph_load.GlyphLoad.{GlyphLoad}
 use Rattle.bios_services.specs.GlyphLoads.{glyph_load_of}
 use Rattle.bios_services.specs.Calls.{scroll_of, colours, colour_call_of, service_of, in_mode, call_of, glyphs_or}
-use Rattle.bios_services.specs.Refusals.{refusal_in_mode}
+use Rattle.bios_services.specs.Refusals.{on_page_named, refusal_in_mode}
 use Rattle.bios_services.specs.Service.{plan_of, set_mode_plan, Outcome, Answered, answer_of, refuse, unless, in_mode_plan, call_plan}
 use Rattle.bios_modes.specs.Bounds.{IsBda}
 use Rattle.bios_screen.specs.Screen.{Screen}
@@ -119,7 +119,7 @@ pub record IsDone (service : Service) (fonts : FontSet) (r : Regs) (block : List
 
 done_unless : (service : Service) (fonts : FontSet) (r : Regs) (block : List ℕ) (c : CardState) (d : BiosData) (s : Screen) → shown c d ≡ Some s →
     IsServed service fonts r block c d s → IsDone service fonts r block c d s (run card_meaning
-    (unless (refusal_on s service (length block)) service fonts d r block) c)
+    (unless (refusal_on s service (length block)) (on_page_named d service) fonts d r block) c)
 unfolding unless
 done_unless service fonts r block c d s old i = by_refusal (refusal_on s service (length block)) refl
   where
@@ -127,18 +127,18 @@ done_unless service fonts r block c d s old i = by_refusal (refusal_on s service
     done outcome = Done (answer_of outcome.0 outcome.1)
 
     by_refusal : (x : Option Refusal) → refusal_on s service (length block) ≡ x →
-        IsDone service fonts r block c d s (run card_meaning (unless (refusal_on s service (length block)) service fonts d r block) c)
+        IsDone service fonts r block c d s (run card_meaning (unless (refusal_on s service (length block)) (on_page_named d service) fonts d r block) c)
     by_refusal (Some why) e =
-        let runs : run card_meaning (unless (refusal_on s service (length block)) service fonts d r block) c ≡ (c, (Err why, d)) =
-        ap (λ x. run card_meaning (unless x service fonts d r block) c) e in
+        let runs : run card_meaning (unless (refusal_on s service (length block)) (on_page_named d service) fonts d r block) c ≡ (c, (Err why, d)) =
+        ap (λ x. run card_meaning (unless x (on_page_named d service) fonts d r block) c) e in
         record {
           reply = ap (λ x. x.1.0) runs ∙ sym (ap (λ x. reply_unless x (answer_on fonts s service r)) e);
           shows = ap (λ x. shown x.0 x.1.1) runs ∙ old ∙ sym (ap (λ x. Some (screen_unless x s (next fonts s service block))) e);
         }
     by_refusal None e =
-        let runs : run card_meaning (unless (refusal_on s service (length block)) service fonts d r block) c
-        ≡ run card_meaning (plan_of service fonts d r block >>= done) c = ap (λ x. run card_meaning (unless x service fonts d r block) c) e in
-        let bound = run_bind card_meaning (plan_of service fonts d r block) done c in
+        let runs : run card_meaning (unless (refusal_on s service (length block)) (on_page_named d service) fonts d r block) c
+        ≡ run card_meaning (plan_of (on_page_named d service) fonts d r block >>= done) c = ap (λ x. run card_meaning (unless x (on_page_named d service) fonts d r block) c) e in
+        let bound = run_bind card_meaning (plan_of (on_page_named d service) fonts d r block) done c in
         record {
           reply = ap (λ x. x.1.0) (runs ∙ bound) ∙ ap (λ q. reply_unless None q) (i.answer e) ∙ sym (ap (λ x. reply_unless x (answer_on fonts s service r)) e);
           shows = ap (λ x. shown x.0 x.1.1) (runs ∙ bound) ∙ i.shows e ∙ sym (ap (λ x. Some (screen_unless x s (next fonts s service block))) e);
@@ -148,12 +148,12 @@ call_done : (service : Service) (fonts : FontSet) (r : Regs) (block : List ℕ) 
     shown c d ≡ Some s → IsServed service fonts r block c d s → IsCalled service fonts r block c d s
 unfolding in_mode_plan
 call_done service fonts r block c d s e old i =
-    let plan = unless (refusal_on s service (length block)) service fonts d r block in
+    let plan = unless (refusal_on s service (length block)) (on_page_named d service) fonts d r block in
     let runs : after_call fonts r block c d ≡ run card_meaning plan c =
     ap (λ (q : Option Call). run card_meaning (call_plan q fonts d r block) c) e
-    ∙ ap (λ b. run card_meaning (if b then refuse NoMode d else unless (refusal_in_mode service d (length block)) service fonts d r block) c)
+    ∙ ap (λ b. run card_meaning (if b then refuse NoMode d else unless (refusal_in_mode (on_page_named d service) d (length block)) (on_page_named d service) fonts d r block) c)
     (mode_of_shown c d s old).set
-    ∙ ap (λ q. run card_meaning (unless q service fonts d r block) c) i.refusal in
+    ∙ ap (λ q. run card_meaning (unless q (on_page_named d service) fonts d r block) c) i.refusal in
     let t = done_unless service fonts r block c d s old i in
     record {
       reply = ap (λ y. y.1.0) runs ∙ t.reply;

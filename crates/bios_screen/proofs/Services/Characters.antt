@@ -65,7 +65,7 @@ module _ (fonts : FontSet) (r : Regs) (block : List ℕ) (c : CardState) (d : Bi
   unfolding plan_of refusal_in_mode refusal_on next answer_on
   write_cells cells lv la =
       let p = page_meant s cells.page in
-      let plan = cell_run_plan fonts d (page_named d cells.page) cells in
+      let plan = cell_run_plan fonts d (record cells { page = page_named d cells.page }) in
       let done : Plan Outcome = Done (r, d) in
       let runs = run_bind card_meaning plan (λ _. done) c in
       record {
@@ -76,7 +76,7 @@ module _ (fonts : FontSet) (r : Regs) (block : List ℕ) (c : CardState) (d : Bi
         shows = λ allowed.
             let l = cells_allowed h.row.pages p (cursor_cell d p) cells.count (cells_of d) allowed in
             ap (λ q. shown q.0 q.1.1) runs
-            ∙ ap (λ i. shown (run card_meaning (cell_run_plan fonts d i cells) c).0 d) (named_page h.row d h.mode cells.page)
+            ∙ ap (λ i. shown (run card_meaning (cell_run_plan fonts d (record cells { page = i })) c).0 d) (named_page h.row d h.mode cells.page)
             ∙ characters_shown fonts c d s p (cursor_cell d p) cells.count cells.character cells.colouring (still_any c d h) z
             (page_of h.row d p h.mode l.0) l.1 lv la;
         beam = plan_beam (plan >> done) c;

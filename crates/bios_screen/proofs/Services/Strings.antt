@@ -45,6 +45,10 @@ module _ (fonts : FontSet) (d : BiosData) (p : ℕ) (lp : p < pages_of d) (call 
       by_test true = bytes (2 * i + 1)
       by_test false = colour
 
+  -- the string on this page
+  abbrev there : StringCall
+  there = record call { page = p }
+
   -- one character of the string
   abbrev one : ℕ → ℕ → Plan ℕ
   one i place = type_plan fonts d p place (character_at call block i) (colouring_at call block i)
@@ -65,9 +69,9 @@ module _ (fonts : FontSet) (d : BiosData) (p : ℕ) (lp : p < pages_of d) (call 
       }
 
   string_shown : (c : CardState) (s : Screen) → shown c d ≡ Some s → IsCard c → IsBda d → Inside (d.last_row + 1) d.columns call.place →
-      (let x = run card_meaning (string_plan fonts d p call block) c in shown x.0 x.1) ≡ Some (type_string fonts s p call block)
+      (let x = run card_meaning (string_plan fonts d there block) c in shown x.0 x.1) ≡ Some (type_string fonts s p call block)
   unfolding string_plan type_string_plan
-  string_shown c s e z bda l = ap (λ y. shown y.0 y.1) (run_bind card_meaning (type_string_plan fonts d p call block) cursor c)
+  string_shown c s e z bda l = ap (λ y. shown y.0 y.1) (run_bind card_meaning (type_string_plan fonts d there block) cursor c)
       ∙ ap (λ k. let y = run card_meaning (cursor k) c1 in shown y.0 y.1) all.leads.answer ∙ by_test call.moves_cursor
     where
       after : Screen × ℕ
@@ -107,7 +111,7 @@ write_string call fonts r block c d h bytes colour z bda =
     let s = any_screen c d h c in
     let p = page_named d call.page in
     let q = page_meant s call.page in
-    let runs = data_runs (string_plan fonts d p call block) r c in
+    let runs = data_runs (string_plan fonts d (record call { page = p }) block) r c in
     record {
       refusal = ap (λ n. no_page n (page_among n call.page) or outside_page (d.last_row + 1) d.columns call.place
           or wrong_block (string_len call) (length block))
@@ -116,7 +120,7 @@ write_string call fonts r block c d h bytes colour z bda =
       shows = λ allowed.
           let a = string_allowed h.row.pages q (d.last_row + 1) d.columns call.place (wrong_block (string_len call) (length block)) allowed in
           ap (λ x. shown x.0 x.1.1) runs
-          ∙ ap (λ n. let x = run card_meaning (string_plan fonts d n call block) c in shown x.0 x.1) (any_meant c d h call.page)
+          ∙ ap (λ n. let x = run card_meaning (string_plan fonts d (record call { page = n }) block) c in shown x.0 x.1) (any_meant c d h call.page)
           ∙ string_shown fonts d q (page_of h.row d q h.mode a.page) call block bytes colour c s (still_any c d h) z bda a.inside;
-      beam = plan_beam (then_data (string_plan fonts d p call block) r) c;
+      beam = plan_beam (then_data (string_plan fonts d (record call { page = p }) block) r) c;
     }

@@ -51,7 +51,7 @@ write_pixel page x y colour fonts r block c d h = record {
   refusal = refused c d h page x y ∙ sym (refused_too c d h page x y);
   answer = λ e. refused_never WrongKind (sym (refused_too c d h page x y) ∙ e);
   shows = λ e. refused_never WrongKind (sym (refused_too c d h page x y) ∙ e);
-  beam = plan_beam (plan_of (WritePixel page x y colour) fonts d r block) c;
+  beam = plan_beam (plan_of (WritePixel (page_named d page) x y colour) fonts d r block) c;
 }
 
 pub read_pixel : (page x y : ℕ) (fonts : FontSet) (r : Regs) (block : List ℕ) (c : CardState) (d : BiosData) (h : IsShown c d) →
@@ -61,5 +61,5 @@ read_pixel page x y fonts r block c d h = record {
   refusal = refused c d h page x y ∙ sym (refused_too c d h page x y);
   answer = λ e. refused_never WrongKind (sym (refused_too c d h page x y) ∙ e);
   shows = λ e. refused_never WrongKind (sym (refused_too c d h page x y) ∙ e);
-  beam = plan_beam (plan_of (ReadPixel page x y) fonts d r block) c;
+  beam = plan_beam (plan_of (ReadPixel (page_named d page) x y) fonts d r block) c;
 }

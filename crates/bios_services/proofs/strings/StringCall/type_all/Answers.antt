@@ -12,12 +12,12 @@ loop-i-preserved g c =
     let s = c.args.self in
     let block = c.args.block.now in
     let i = c.loop-i.i in
-    let typed = λ (character : ℕ) (colouring : Colouring). run m (type_plan c.args.fonts.now c.args.bda.now c.args.page c.loop-i.place character colouring)
+    let typed = λ (character : ℕ) (colouring : Colouring). run m (type_plan c.args.fonts.now c.args.bda.now s.page c.loop-i.place character colouring)
     c.loop-i.bus in
     let now = c.type_character-place.ensures.place ∙ ap (λ character. typed character c.colouring-colouring.result) c.character-character.ensures
     ∙ ap (typed (character_at s block i)) c.colouring-colouring.ensures in
     record {
       row = c.type_character-place.ensures.row;
-      left = next_answer m (λ i place. type_plan c.args.fonts.now c.args.bda.now c.args.page place (character_at s block i) (colouring_at s block i)) i s.count
+      left = next_answer m (λ i place. type_plan c.args.fonts.now c.args.bda.now s.page place (character_at s block i) (colouring_at s block i)) i s.count
           c.loop-i.bus c.type_character-place.new.bus c.loop-i.place c.type_character-place.result _ (omega arith) now c.loop-i.invariant.left;
     }

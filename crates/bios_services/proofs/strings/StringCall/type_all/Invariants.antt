@@ -9,7 +9,7 @@ use Rattle.bios_services.proofs.strings.StringCall.type_all.Given as goal
 abbrev pub invariant-loop-i : goal.invariant-loop-i
 invariant-loop-i g l = record {
   row : row_of l.place ≤ l.bda.last_row;
-  left : run g.B.Bus.meaning (fold (λ i place. type_plan l.fonts l.bda l.page place (character_at l.self l.block i) (colouring_at l.self l.block i))
+  left : run g.B.Bus.meaning (fold (λ i place. type_plan l.fonts l.bda l.self.page place (character_at l.self l.block i) (colouring_at l.self l.block i))
       (l.i-end - l.i) l.i l.place) l.bus
-      ≡ run g.B.Bus.meaning (type_string_plan l.fonts l.bda l.page l.self l.block) l.fn.bus;
+      ≡ run g.B.Bus.meaning (type_string_plan l.fonts l.bda l.self l.block) l.fn.bus;
 }
