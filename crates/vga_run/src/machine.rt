@@ -30,6 +30,7 @@ impl Machine {
             fonts,
         })
     }
+
     /// Why a dump is refused: there are no cells to show.
     #[tactic(auto, unfolding(crate::specs::Step::dump_refusal))]
     pub(crate) fn dump_refusal(&self, shown: Shown) -> Option<Refusal>

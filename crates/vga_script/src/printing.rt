@@ -63,12 +63,7 @@ fn address_line(name: &[u8], address: u32) -> Line
 
 /// Puts a value of so many digits, and a newline behind it, at the end of a line, and the line at
 /// the end of a text. It fails with `OutOfMemory` alone.
-fn end_with_value(
-    out: &mut Vec<u8>,
-    mut line: Line,
-    value: u16,
-    digits: usize,
-) -> Result<(), Fault>
+fn end_with_value(out: &mut Vec<u8>, mut line: Line, value: u16, digits: usize) -> Result<(), Fault>
     requires line { length line ≤ 25 }
     requires digits { digits ≤ 4 }
     ensures ok { OnOk result (out.new.items ≡ out.old.items
