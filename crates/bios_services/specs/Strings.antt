@@ -45,8 +45,8 @@ colouring_at s block i = record {
 -- the characters are typed one after another; the answer is the place behind the last
 unfoldable pub type_string_plan : FontSet → BiosData → StringCall → List ℕ → Plan ℕ
 type_string_plan fonts d s block =
-    fold (λ i place. type_plan fonts d s.page place (character_at s block i) (colouring_at s block i))
-    s.count 0 s.place
+    fold (λ i place. type_plan fonts d s.page place (character_at s block i)
+    (colouring_at s block i)) s.count 0 s.place
 
 -- a string is typed, and the cursor moved behind it where that is asked
 unfoldable pub string_plan : FontSet → BiosData → StringCall → List ℕ → Plan BiosData

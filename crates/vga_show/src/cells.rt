@@ -85,8 +85,9 @@ fn write_rows<W: Write>(out: &mut Tracked<W>, card: &Card, bda: &Bda) -> Result<
 }
 
 /// Writes the cells of the active page in hexadecimal, a line for each row: `row 00:` and for each
-/// column a blank, character and attribute. Where `cells_refusal` has a reason it is refused, before a
-/// byte is written. The BIOS data must be valid, and the writer must not have failed before.
+/// column a blank, character and attribute. Where `cells_refusal` has a reason it is refused,
+/// before a byte is written. The BIOS data must be valid, and the writer must not have failed
+/// before.
 ///
 /// It fails, with `WriteFault`, only where the writer does, which then has a front of the text.
 pub fn dump_cells<W: Write>(

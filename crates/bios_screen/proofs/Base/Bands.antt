@@ -118,7 +118,8 @@ module _ (S X : Type 0) (m : Meaning S) (base size : ℕ) (band : Band) (start r
           cells = set_cell g (place to line k) (g (place from line k));
           shown = subst (λ a. R (run m (move a (address_in band to line k)) x).0 (set_cell g (place to line k) (g (place from line k))))
               (sym (address_is from line k))
-              (subst (λ a. R (run m (move (base + place from line k) a) x).0 (set_cell g (place to line k) (g (place from line k)))) (sym (address_is to line k))
+              (subst (λ a. R (run m (move (base + place from line k) a) x).0 (set_cell g (place to line k) (g (place from line k))))
+                  (sym (address_is to line k))
               (moved (place from line k) (place to line k) x g (within from line k lf ll hi) (within to line k lt ll hi) u));
           fact = one_move (place from line k) (place to line k) g;
         })

@@ -22,7 +22,8 @@ use Rattle.bios_screen.proofs.Base.Tests.{lt_test}
 use Rattle.bios_screen.proofs.Base.Setting.{Setting}
 use Rattle.bios_screen.proofs.Shows.Screens.{setting_by}
 use Rattle.bios_screen.proofs.Dots.Colours.{coloured, dot_shade}
-use Rattle.bios_screen.proofs.Modes.PixelModes.{Planes, Graphics, row_of, number_of, graphics_by, packed_by, shades_by, raster_in, frame_in, dots_in, columns_by, fetch_by}
+use Rattle.bios_screen.proofs.Modes.PixelModes.{Planes, Graphics, row_of, number_of, graphics_by, packed_by, shades_by, raster_in, frame_in, dots_in}
+use Rattle.bios_screen.proofs.Modes.PixelModes.{columns_by, fetch_by}
 use Rattle.bios_screen.proofs.Modes.PixelModes.Graphics.{Sixteen}
 use Rattle.bios_screen.proofs.Dots.PixelDots.{IsGraphics, placed, place, number_of_pixel, pixel, source_is, fetch_is, dot_is}
 

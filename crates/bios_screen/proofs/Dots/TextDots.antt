@@ -329,5 +329,6 @@ module _ (c : CardState) (d : BiosData) (h : IsShown c d) (z : IsCard c) (g : �
   -- the dot at the place has the screen's colour
   pub place_is : (v x k : ℕ) → v < height * rows → x < columns → k < 9 → dot_colour c.host (placed v x k) c.attr c.dac
       ≡ shade s.palette (nibble s (half * g + (columns * (v / height) + x)) (v % height) k)
-  place_is v x k lv lx lk = dot_shade c (coloured h.row c d t.shades t.frame.attributes (all_of h.row c d h.tests) z) z (placed v x k) (nibble s (half * g + (columns * (v / height) + x)) (v % height) k) (dot_bits v x k lv lx lk)
+  place_is v x k lv lx lk = dot_shade c (coloured h.row c d t.shades t.frame.attributes (all_of h.row c d h.tests) z) z (placed v x k)
+      (nibble s (half * g + (columns * (v / height) + x)) (v % height) k) (dot_bits v x k lv lx lk)
       (nibble_small (half * g + (columns * (v / height) + x)) (v % height) k)

@@ -65,7 +65,8 @@ raster_by Colour Eight = record { some_dots = omega arith; some_columns = omega 
 raster_by Colour Fourteen = record { some_dots = omega arith; some_columns = omega arith; some_lines = omega arith; narrow = omega arith; low = omega arith }
 raster_by Colour Sixteen = record { some_dots = omega arith; some_columns = omega arith; some_lines = omega arith; narrow = omega arith; low = omega arith }
 raster_by Monochrome Eight = record { some_dots = omega arith; some_columns = omega arith; some_lines = omega arith; narrow = omega arith; low = omega arith }
-raster_by Monochrome Fourteen = record { some_dots = omega arith; some_columns = omega arith; some_lines = omega arith; narrow = omega arith; low = omega arith }
+raster_by Monochrome Fourteen = record { some_dots = omega arith; some_columns = omega arith; some_lines = omega arith; narrow = omega arith;
+    low = omega arith }
 raster_by Monochrome Sixteen = record { some_dots = omega arith; some_columns = omega arith; some_lines = omega arith; narrow = omega arith; low = omega arith }
 
 numbers_by : (disp : Display) (height : Height) → numbers_of 9 (row_with disp height).crtc ≡ text_raster (row_with disp height)

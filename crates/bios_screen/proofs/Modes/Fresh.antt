@@ -42,7 +42,8 @@ use Rattle.bios_screen.proofs.Modes.Entries.{Colour as Entry, colour_of, entry_a
 but_entries : (x y : CardState) → without_entries x ≡ without_entries y → x ≡ record y { dac = record x.dac { mask = y.dac.mask } }
 but_entries x y e = ap (λ s. let r : CardState = record s { dac = record x.dac { mask = s.dac.mask } } in r) e
 
-component_same : (palette : DefaultPalette) (i n : ℕ) (l : List ℕ) → length l ≡ n → ((k : ℕ) → k < n → slice_index l k ≡ slice_index (palette_entry palette k) i) →
+component_same : (palette : DefaultPalette) (i n : ℕ) (l : List ℕ) → length l ≡ n →
+    ((k : ℕ) → k < n → slice_index l k ≡ slice_index (palette_entry palette k) i) →
     l ≡ default_component palette i n
 unfolding default_component
 component_same palette i n l e h = spelled l n e ∙ same_from_0 (λ k. slice_index (palette_entry palette k) i) (slice_index l) n h

@@ -154,9 +154,11 @@ unfolding horizontal_total horizontal_display_end vertical_total vertical_displa
 frame_in (Sixteen Low) =
     record { raster = is_raster (Sixteen Low); clock = refl; numbers = refl; regular = regular_by (Sixteen Low); whole = refl; attributes = refl; still = refl }
 frame_in (Sixteen Middle) =
-    record { raster = is_raster (Sixteen Middle); clock = refl; numbers = refl; regular = regular_by (Sixteen Middle); whole = refl; attributes = refl; still = refl }
+    record { raster = is_raster (Sixteen Middle); clock = refl; numbers = refl; regular = regular_by (Sixteen Middle); whole = refl; attributes = refl;
+        still = refl }
 frame_in (Sixteen High) =
-    record { raster = is_raster (Sixteen High); clock = refl; numbers = refl; regular = regular_by (Sixteen High); whole = refl; attributes = refl; still = refl }
+    record { raster = is_raster (Sixteen High); clock = refl; numbers = refl; regular = regular_by (Sixteen High); whole = refl; attributes = refl;
+        still = refl }
 frame_in Many = record { raster = is_raster Many; clock = refl; numbers = refl; regular = regular_by Many; whole = refl; attributes = refl; still = refl }
 
 pub start_small : (k : Graphics) (page : ℕ) → page < (row_in k).pages → (row_in k).size * page < 65536

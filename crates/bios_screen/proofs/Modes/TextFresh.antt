@@ -95,7 +95,8 @@ in_text disp c = record c { host = record c.host { seq = (row_of disp).sequencer
 abbrev with_glyphs : CardState → List ℕ → CardState
 with_glyphs c l = record c { host = record c.host { memory = record c.host.memory { plane2 = l } } }
 
-on_is : (disp : Display) (c : CardState) (d : DacState) → (run card_meaning glyphs_on (coloured (row_of disp) c d)).0 ≡ in_glyphs disp (coloured (row_of disp) c d)
+on_is : (disp : Display) (c : CardState) (d : DacState) → (run card_meaning glyphs_on (coloured (row_of disp) c d)).0
+    ≡ in_glyphs disp (coloured (row_of disp) c d)
 unfolding reached_by out_at
 on_is Colour c d = refl
 on_is Monochrome c d = refl
@@ -107,7 +108,8 @@ off_is Colour c d l = refl
 off_is Monochrome c d l = refl
 
 -- the test, where all is literal
-test_is : (disp : Display) (c : CardState) (d : DacState) (l : List ℕ) → shows (row_of disp) (in_text disp (with_glyphs (in_glyphs disp (coloured (row_of disp) c d)) l))
+test_is : (disp : Display) (c : CardState) (d : DacState) (l : List ℕ) → shows (row_of disp)
+    (in_text disp (with_glyphs (in_glyphs disp (coloured (row_of disp) c d)) l))
     (data_of_mode (number_of disp) (row_of disp)) ≡ true
 unfolding shows
 test_is Colour c d l = refl
@@ -121,7 +123,8 @@ row_is : (disp : Display) → row_at (number_of disp) (row_of disp).height ≡ S
 row_is Colour = refl
 row_is Monochrome = refl
 
-text_setting_is : (disp : Display) (c : CardState) (d : DacState) (l : List ℕ) → setting (in_text disp (with_glyphs (in_glyphs disp (coloured (row_of disp) c d)) l))
+text_setting_is : (disp : Display) (c : CardState) (d : DacState) (l : List ℕ) → setting
+    (in_text disp (with_glyphs (in_glyphs disp (coloured (row_of disp) c d)) l))
     ≡ text_setting disp
 text_setting_is Colour c d l = refl
 text_setting_is Monochrome c d l = refl

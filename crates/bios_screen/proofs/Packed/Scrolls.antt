@@ -70,7 +70,8 @@ module _ (c : CardState) (d : BiosData) (t : IsPacked c d) (e : row_at d.mode d.
       (run card_meaning (scroll_rows band direction w.top w.height n colour) c).0 (Goes old)
   unfolding scroll_rows fill_plan
   went some few = shifts.filled_once CardState card_meaning 0xA0000 65536 band 0 (d.last_row + 1) w window (IsFlat (without_drawing c))
-      (pixel_read (without_drawing c)) (λ j v y f lj lv u. put_flat (without_drawing c) j v y f lj lv u) (plain colour) lc lc direction n c old some few (screens.begins c d t e z)
+      (pixel_read (without_drawing c)) (λ j v y f lj lv u. put_flat (without_drawing c) j v y f lj lv u) (plain colour) lc lc direction n c old some few
+          (screens.begins c d t e z)
 
   -- ---- the pixels
 

@@ -61,7 +61,8 @@ unfolding reached_by out_at
 again c l i = let done : Plan (Unit {0}) = Done tt in ap (λ r. r.0) (expected_runs done (with_attr c l 0x20 true))
 
 pub register_set : (c : CardState) (i v : ℕ) → i < 18 →
-    (run card_meaning (set_register_plan (crtc_port c.misc) i v) c).0 ≡ with_attr c (slice_set c.attr.registers i (bit_and v (slice_index attr_masks i))) 0x20 false
+    (run card_meaning (set_register_plan (crtc_port c.misc) i v) c).0 ≡ with_attr c (slice_set c.attr.registers i (bit_and v (slice_index attr_masks i))) 0x20
+        false
 unfolding set_register_plan reached_by out_at
 register_set c i v l =
     let p = crtc_port c.misc in

@@ -137,7 +137,8 @@ done_unless service fonts r block c d s old i = by_refusal (refusal_on s service
         }
     by_refusal None e =
         let runs : run card_meaning (unless (refusal_on s service (length block)) (on_page_named d service) fonts d r block) c
-        ≡ run card_meaning (plan_of (on_page_named d service) fonts d r block >>= done) c = ap (λ x. run card_meaning (unless x (on_page_named d service) fonts d r block) c) e in
+        ≡ run card_meaning (plan_of (on_page_named d service) fonts d r block >>= done) c =
+            ap (λ x. run card_meaning (unless x (on_page_named d service) fonts d r block) c) e in
         let bound = run_bind card_meaning (plan_of (on_page_named d service) fonts d r block) done c in
         record {
           reply = ap (λ x. x.1.0) (runs ∙ bound) ∙ ap (λ q. reply_unless None q) (i.answer e) ∙ sym (ap (λ x. reply_unless x (answer_on fonts s service r)) e);
@@ -151,7 +152,8 @@ call_done service fonts r block c d s e old i =
     let plan = unless (refusal_on s service (length block)) (on_page_named d service) fonts d r block in
     let runs : after_call fonts r block c d ≡ run card_meaning plan c =
     ap (λ (q : Option Call). run card_meaning (call_plan q fonts d r block) c) e
-    ∙ ap (λ b. run card_meaning (if b then refuse NoMode d else unless (refusal_in_mode (on_page_named d service) d (length block)) (on_page_named d service) fonts d r block) c)
+    ∙ ap (λ b. run card_meaning (if b then refuse NoMode d else unless (refusal_in_mode (on_page_named d service) d (length block)) (on_page_named d service)
+        fonts d r block) c)
     (mode_of_shown c d s old).set
     ∙ ap (λ q. run card_meaning (unless q (on_page_named d service) fonts d r block) c) i.refusal in
     let t = done_unless service fonts r block c d s old i in

@@ -149,7 +149,8 @@ module _ (c : CardState) (d : BiosData) (h : IsAny c d) where
       (slice_set s.palette.values i x) s.overscan s.is_blink (take-set-lt 16 registers i x l) (get_or-set_other registers i 0x11 x 0 (omega arith))
       (ap (λ n. is_set n 3) control)
 
-  overscan_shown : (v : ℕ) → v < 256 → IsCard c → shown (run card_meaning (set_register_plan (crtc_port c.misc) 0x11 v) c).0 d ≡ Some (record s { overscan = v })
+  overscan_shown : (v : ℕ) → v < 256 → IsCard c → shown (run card_meaning (set_register_plan (crtc_port c.misc) 0x11 v) c).0 d
+      ≡ Some (record s { overscan = v })
   overscan_shown v l z =
       let size = z.attr.size in
       let new = slice_set registers 0x11 v in
