@@ -30,18 +30,19 @@ pub record IsBand (band : Band) : Type 0 where
   pub left : band.left ≤ 8 * 80
   pub width : band.width ≤ 8 * 80
 
--- `width` columns of a page from column `left` on
+-- `width` columns of a page from column `left` on, by how the mode uses the memory
+abbrev pub band_by : Kind → BiosData → ℕ → ℕ → ℕ → Band
+band_by kind d page left width = record {
+  kind = kind;
+  start = page_address d page;
+  pitch = column_bytes kind * d.columns;
+  lines = row_lines kind d.height;
+  left = column_bytes kind * left;
+  width = column_bytes kind * width;
+}
+
 abbrev pub band_of : BiosData → ℕ → ℕ → ℕ → Band
-band_of d page left width =
-    let bytes = column_bytes (kind_of d.mode) in
-    record {
-      kind = kind_of d.mode;
-      start = page_address d page;
-      pitch = bytes * d.columns;
-      lines = row_lines (kind_of d.mode) d.height;
-      left = bytes * left;
-      width = bytes * width;
-    }
+band_of d = band_by (kind_of d.mode) d
 
 -- a line of a row is copied to another row, byte by byte
 unfoldable pub copy_line : Band → ℕ → ℕ → ℕ → Plan (Unit {0})

@@ -1,7 +1,7 @@
 -- Scrolling a window of a page up or down.
 -- From the IBM PS/2 and PC BIOS Interface Technical Reference, "Interrupt 10H - Video", (AH) = 06H
 -- and 07H.
-use Rattle.std.specs.Prelude.{ℕ, ◌+◌, ◌-◌, ◌==◌, ◌≤◌, ◌&&◌, ◌||◌, nat_lt, if◌then◌else◌, min}
+use Rattle.std.specs.Prelude.{ℕ, ◌+◌, ◌-◌, ◌==◌, ◌≤◌, ◌&&◌, ◌||◌, ◌<◌, nat_lt, if◌then◌else◌, min}
 use Rattle.std.specs.Prelude.{Option, Some, None}
 use Rattle.bios_modes.specs.Bda.{BiosData}
 use Rattle.bios_services.specs.declared.band.Direction.{Direction}
@@ -29,10 +29,11 @@ window_among rows columns s =
 abbrev pub whole_page : ℕ → ℕ → Window
 whole_page rows columns = record { top = 0; height = rows; left = 0; width = columns }
 
--- a window that lies on the page
-pub record IsOnPage (d : BiosData) (window : Window) : Type 0 where
-  pub rows : window.top + window.height ≤ d.last_row + 1
-  pub columns : window.left + window.width ≤ d.columns
+-- a window that lies on a page of so many rows and columns, and has a row
+pub record IsOnPage (rows columns : ℕ) (window : Window) : Type 0 where
+  pub below : window.top + window.height ≤ rows
+  pub behind : window.left + window.width ≤ columns
+  pub some : 0 < window.height
 
 -- by how many rows a window goes: by all of them for 0 or for more than it has
 abbrev pub lines_of : Window → ℕ → ℕ

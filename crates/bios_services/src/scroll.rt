@@ -2,7 +2,8 @@
 ghost use Rattle.std.specs.Prelude.{◌≡◌, ◌<◌, ◌≤◌, ◌+◌, IfSome};
 ghost use Rattle.bios_services.specs.Plan.{run};
 ghost use Rattle.bios_services.specs.Bounds.{IsSet, pages_of};
-ghost use Rattle.bios_services.specs.Scroll.{IsOnPage, window_among, whole_page, lines_of};
+ghost use Rattle.bios_services.specs.Scroll.{IsOnPage, window_among, lines_of};
+ghost use Rattle.bios_services.specs.Scroll.{whole_page as whole_page_of};
 ghost use Rattle.bios_services.specs.Scroll.{window_plan, scroll_plan};
 
 use crate::band::{Band, Direction};
@@ -32,10 +33,10 @@ pub struct Window {
 
 impl Window {
     /// All the rows and columns of a page.
-    pub(crate) fn whole(bda: &Bda) -> Window
+    pub(crate) fn whole_page(bda: &Bda) -> Window
         requires data { IsSet bda.now }
-        ensures value { result ≡ whole_page (bda.now.last_row + 1) bda.now.columns }
-        ensures on_page { IsOnPage bda.now result }
+        ensures value { result ≡ whole_page_of (bda.now.last_row + 1) bda.now.columns }
+        ensures on_page { IsOnPage (bda.now.last_row + 1) bda.now.columns result }
     {
         Window {
             top: 0,
@@ -70,7 +71,7 @@ impl Window {
     )
         requires data { IsSet bda.now }
         requires page { page < pages_of bda.now }
-        requires window { IsOnPage bda.now self }
+        requires window { IsOnPage (bda.now.last_row + 1) bda.now.columns self }
         requires few { n ≤ self.height }
         ensures { bus.new ≡ (run B.meaning (window_plan bda.now page self direction n colour)
             bus.old).0 }
@@ -85,7 +86,7 @@ impl Scroll {
     fn window(self, bda: &Bda) -> Option<Window>
         requires { IsSet bda.now }
         ensures value { result ≡ window_among (bda.now.last_row + 1) bda.now.columns self }
-        ensures on_page { IfSome result (IsOnPage bda.now) }
+        ensures on_page { IfSome result (IsOnPage (bda.now.last_row + 1) bda.now.columns) }
     {
         let (top, left) = (self.top as u32, self.left as u32);
         let bottom = (self.bottom as u32 + 1).min(bda.last_row() as u32 + 1);

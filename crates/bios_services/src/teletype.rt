@@ -53,7 +53,7 @@ fn line_feed<B: Bus>(bus: &mut B, bda: &Bda, page: u8, place: u16) -> u16
         return place + 256;
     }
     let colour = line_feed_fill(bus, bda, page, place);
-    Window::whole(bda).scroll(bus, bda, page, Direction::Up, 1, colour);
+    Window::whole_page(bda).scroll(bus, bda, page, Direction::Up, 1, colour);
     place
 }
 

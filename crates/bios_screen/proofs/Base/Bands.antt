@@ -2,15 +2,14 @@
 use Rattle.std.proofs.Common.{◌≡◌, ◌≢◌, ℕ, ◌+◌, ◌-◌, ◌*◌, ◌%◌, ◌<◌, ◌≤◌, sym, ap, ◌∙◌, subst, arith, Bool, true, false}
 use Rattle.std.specs.Prelude.{◌==◌, if◌then◌else◌}
 use Rattle.vga_card.specs.Bus.{Meaning}
-use Rattle.bios_modes.specs.Bda.{BiosData}
 use Rattle.bios_modes.specs.declared.kind.Kind.{Kind}
+use Rattle.bios_modes.specs.declared.kind.Kind.TheVariants.{Text, Planar, Packed}
 use Rattle.bios_services.specs.declared.band.Band.{Band}
 use Rattle.bios_services.specs.declared.band.Direction.{Direction}
 use Rattle.bios_services.specs.declared.band.Direction.TheVariants.{Up, Down}
 use Rattle.bios_services.specs.declared.filling.Filling.{Filling}
 use Rattle.bios_services.specs.declared.scroll.Window.{Window}
-use Rattle.bios_services.specs.Kinds.{column_bytes, row_lines}
-use Rattle.bios_services.specs.Cells.{page_address}
+use Rattle.bios_services.specs.Kinds.{column_bytes}
 use Rattle.bios_services.specs.Plan.{run, put, move}
 use Rattle.bios_services.specs.Bands.{address_in, filling_byte, copy_line, copy_row, move_rows, fill_line, fill_row, fill_rows}
 use Rattle.bios_screen.specs.Step.{source}
@@ -20,24 +19,20 @@ use Rattle.bios_screen.proofs.Base.Moves.{one_move, moves_up, moves_down}
 use Rattle.bios_screen.proofs.Base.Places.{ends_before, same_place}
 use Rattle.bios_screen.proofs.Base.Windows.{first_moved}
 
--- the band of some columns of a page, by how the mode uses the memory
-abbrev pub band_by : Kind → BiosData → ℕ → ℕ → ℕ → Band
-band_by kind d page left width = record {
-  kind = kind;
-  start = page_address d page;
-  pitch = column_bytes kind * d.columns;
-  lines = row_lines kind d.height;
-  left = column_bytes kind * left;
-  width = column_bytes kind * width;
-}
+pub some_bytes : (kind : Kind) → 0 < column_bytes kind
+some_bytes Text = omega arith
+some_bytes Planar = omega arith
+some_bytes Packed = omega arith
 
 -- a window of a page in a memory of so many cells from an address on: the page has `rows` rows of characters from cell `start`
--- on, and the window has the band's cells of each line
+-- on, and the window has the band's cells of each line, so many for a column
 pub record IsWindow (base size : ℕ) (band : Band) (start rows : ℕ) (window : Window) : Type 0 where
   pub address : band.start ≡ base + start
   pub memory : start + band.pitch * (band.lines * rows) ≤ size
   pub below : window.top + window.height ≤ rows
   pub behind : band.left + band.width ≤ band.pitch
+  pub left : band.left ≡ column_bytes band.kind * window.left
+  pub width : band.width ≡ column_bytes band.kind * window.width
   pub wide : 0 < band.pitch
   pub high : 0 < band.lines
 
@@ -119,7 +114,7 @@ module _ (S X : Type 0) (m : Meaning S) (base size : ℕ) (band : Band) (start r
           shown = subst (λ a. R (run m (move a (address_in band to line k)) x).0 (set_cell g (place to line k) (g (place from line k))))
               (sym (address_is from line k))
               (subst (λ a. R (run m (move (base + place from line k) a) x).0 (set_cell g (place to line k) (g (place from line k))))
-                  (sym (address_is to line k))
+              (sym (address_is to line k))
               (moved (place from line k) (place to line k) x g (within from line k lf ll hi) (within to line k lt ll hi) u));
           fact = one_move (place from line k) (place to line k) g;
         })
@@ -137,12 +132,12 @@ module _ (S X : Type 0) (m : Meaning S) (base size : ℕ) (band : Band) (start r
         band.lines 0 s f (omega arith) (omega arith) t
 
     -- the rows that take another's contents are those from `first_moved` on
-    abbrev Gone : Direction → ℕ → S → (ℕ → X) → Type 0
-    Gone direction n s f = Leaves S X R (run m (move_rows band direction n window.top (window.height - n)) s).0
+    abbrev LeavesMoved : Direction → ℕ → S → (ℕ → X) → Type 0
+    LeavesMoved direction n s f = Leaves S X R (run m (move_rows band direction n window.top (window.height - n)) s).0
         (Moved X (Turn (λ _. Line) (first_moved direction window n) (first_moved direction window n + (window.height - n)))
         (λ h. place (source direction h.turn n) h.place.turn h.place.place.turn) (λ h. place h.turn h.place.turn h.place.place.turn) f)
 
-    pub rows_moved : (direction : Direction) (n : ℕ) (s : S) (f : ℕ → X) → 0 < n → n ≤ window.height → R s f → Gone direction n s f
+    pub rows_moved : (direction : Direction) (n : ℕ) (s : S) (f : ℕ → X) → 0 < n → n ≤ window.height → R s f → LeavesMoved direction n s f
     unfolding move_rows
     rows_moved Up n s f some few t =
         let z = w.below in

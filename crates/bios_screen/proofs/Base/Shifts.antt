@@ -1,6 +1,6 @@
 -- A window of a flat memory whose rows were moved and then filled, by the number of a cell, whatever the sizes are.
-use Rattle.std.proofs.Common.{◌≡◌, ℕ, ◌+◌, ◌-◌, ◌*◌, ◌/◌, ◌%◌, ◌<◌, ◌≤◌, refl, sym, ap, ◌∙◌, subst, arith, true, false}
-use Rattle.std.proofs.Math.Nat.{mod-lt}
+use Rattle.std.proofs.Common.{◌≡◌, ◌≢◌, ℕ, ◌+◌, ◌-◌, ◌*◌, ◌/◌, ◌%◌, ◌<◌, ◌≤◌, refl, sym, ap, ◌∙◌, subst, arith, Bool, true, false}
+use Rattle.std.proofs.Math.Nat.{mod-lt, div-lt_iff_lt-mul, le-div_iff_mul-le}
 use Rattle.vga_card.specs.Bus.{Meaning}
 use Rattle.bios_services.specs.declared.band.Band.{Band}
 use Rattle.bios_services.specs.declared.band.Direction.{Direction}
@@ -8,15 +8,16 @@ use Rattle.bios_services.specs.declared.band.Direction.TheVariants.{Up, Down}
 use Rattle.bios_services.specs.declared.filling.Filling.{Filling}
 use Rattle.bios_services.specs.declared.scroll.Window.{Window}
 use Rattle.bios_services.specs.Bands.{filling_byte, move_rows, fill_rows}
+use Rattle.bios_services.specs.Kinds.{column_bytes}
 use Rattle.bios_services.specs.Plan.{run, put, get, move, ◌>>◌}
-use Rattle.bios_screen.specs.Step.{has_source, source}
+use Rattle.bios_screen.specs.Step.{in_window, has_source, source}
 use Rattle.bios_screen.proofs.Base.Flat.{Edited, Moved, Turn, Leaves, set_cell}
 use Rattle.bios_screen.proofs.Base.Plans.{run_bind}
-use Rattle.bios_screen.proofs.Base.Places.{rows_further, row_and_column}
-use Rattle.bios_screen.proofs.Base.CellPlaces.{over, rest, moved_within}
+use Rattle.bios_screen.proofs.Base.Places.{row_and_column}
+use Rattle.bios_screen.proofs.Base.CellPlaces.{over, rest, within_rows, moved_within}
 use Rattle.bios_screen.proofs.Base.Tests.{lt_is, le_is}
-use Rattle.bios_screen.proofs.Base.Windows.{first_moved, first_new, parts}
-use Rattle.bios_screen.proofs.Base.Bands.{IsWindow}
+use Rattle.bios_screen.proofs.Base.Windows.{inside_of, inside_test, contrary, first_moved, first_new, parts}
+use Rattle.bios_screen.proofs.Base.Bands.{IsWindow, some_bytes}
 use Rattle.bios_screen.proofs.Base.Bands as bands
 
 -- W cells make a line, H lines a row, and the window has `width` cells of each line from `left` on
@@ -45,12 +46,28 @@ module _ (X : Type 0) (base size : ℕ) (band : Band) (start rows : ℕ) (window
   abbrev pub at : {first e : ℕ} → Rows first e → ℕ
   at h = place h.turn h.place.turn h.place.place.turn
 
-  -- cell b of the page is in the window
-  pub record IsIn (b : ℕ) : Type 0 where
-    pub above : window.top ≤ b / band.pitch / band.lines
-    pub below : b / band.pitch / band.lines < window.top + window.height
-    pub before : band.left ≤ b % band.pitch
-    pub behind : b % band.pitch < band.left + band.width
+  -- whether the window has cell b of the page
+  abbrev pub has_cell : ℕ → Bool
+  has_cell b = in_window window (b / band.pitch / band.lines) (b % band.pitch / column_bytes band.kind)
+
+  record IsIn (b : ℕ) : Type 0 where
+    above : window.top ≤ row b
+    below : row b < window.top + window.height
+    before : band.left ≤ column b
+    behind : column b < band.left + band.width
+
+  abbrev unit : ℕ
+  unit = column_bytes band.kind
+
+  in_of : (b : ℕ) → has_cell b ≡ true → IsIn b
+  in_of b t =
+      let u = some_bytes band.kind in
+      let i = inside_of window (row b) (column b / unit) t in
+      let low = (le-div_iff_mul-le u).0 i.before in
+      let high = (div-lt_iff_lt-mul u).0 i.behind in
+      let l = w.left in
+      let v = w.width in
+      record { above = i.above; below = i.below; before = omega arith; behind = omega arith }
 
   place_of : (b : ℕ) → band.left ≤ column b → place (row b) (line b) (column b - band.left) ≡ start + b
   place_of b l =
@@ -59,30 +76,39 @@ module _ (X : Type 0) (base size : ℕ) (band : Band) (start rows : ℕ) (window
       let f : W * (H * row b + line b) ≡ W * (b / W) = ap (λ n. W * n) e in
       omega arith
 
-  -- row and column of a cell of a turn
-  row_of : {first e : ℕ} (h : Rows first e) (b : ℕ) → start + b ≡ at h → row b ≡ h.turn
-  row_of h b q =
-      let l = h.place.place.before in
-      let z = w.behind in
-      let e : b ≡ W * (H * h.turn + h.place.turn) + (band.left + h.place.place.turn) = omega arith in
-      ap row e ∙ ap (λ n. n / H) (over W (H * h.turn + h.place.turn) (band.left + h.place.place.turn) (omega arith))
-      ∙ over H h.turn h.place.turn h.place.before
+  -- the cell of a turn, its row and its column, and that it is in the window
+  abbrev cell : {first e : ℕ} → Rows first e → ℕ
+  cell h = W * (H * h.turn + h.place.turn) + (band.left + h.place.place.turn)
 
-  column_of : {first e : ℕ} (h : Rows first e) (b : ℕ) → start + b ≡ at h → column b ≡ band.left + h.place.place.turn
-  column_of h b q =
-      let l = h.place.place.before in
-      let z = w.behind in
-      let e : b ≡ W * (H * h.turn + h.place.turn) + (band.left + h.place.place.turn) = omega arith in
-      ap column e ∙ rest W (H * h.turn + h.place.turn) (band.left + h.place.place.turn) (omega arith)
+  row_of : {first e : ℕ} (h : Rows first e) → row (cell h) ≡ h.turn
+  row_of h = let l = h.place.place.before in let z = w.behind in
+      ap (λ n. n / H) (over W (H * h.turn + h.place.turn) (band.left + h.place.place.turn) (omega arith)) ∙ over H h.turn h.place.turn h.place.before
 
-  in_turn : {first e : ℕ} (h : Rows first e) (b : ℕ) → window.top ≤ first → e ≤ window.top + window.height → start + b ≡ at h → IsIn b
-  in_turn h b low high q =
-      let r = row_of h b q in
-      let c = column_of h b q in
+  column_of : {first e : ℕ} (h : Rows first e) → column (cell h) ≡ band.left + h.place.place.turn
+  column_of h = let l = h.place.place.before in let z = w.behind in
+      rest W (H * h.turn + h.place.turn) (band.left + h.place.place.turn) (omega arith)
+
+  in_turn : {first e : ℕ} (h : Rows first e) → window.top ≤ first → e ≤ window.top + window.height → has_cell (cell h) ≡ true
+  in_turn h low high =
+      let r = row_of h in
+      let c = column_of h in
       let u = h.from in
       let v = h.before in
-      let l = h.place.place.before in
-      record { above = omega arith; below = omega arith; before = omega arith; behind = omega arith }
+      let i = h.place.place.before in
+      let l = w.left in
+      let g = w.width in
+      let before : window.left * unit ≤ column (cell h) = omega arith in
+      let behind : column (cell h) < (window.left + window.width) * unit = omega arith in
+      inside_test window (row (cell h)) (column (cell h) / unit) (record {
+        above = omega arith;
+        below = omega arith;
+        before = (le-div_iff_mul-le (some_bytes band.kind)).1 before;
+        behind = (div-lt_iff_lt-mul (some_bytes band.kind)).1 behind;
+      })
+
+  elsewhere : {first e : ℕ} (h : Rows first e) (o : ℕ) → window.top ≤ first → e ≤ window.top + window.height →
+      ((b : ℕ) → start + b ≡ o → has_cell b ≡ false) → o ≢ at h
+  elsewhere h o low high none q = contrary (has_cell (cell h)) (in_turn h low high) (none (cell h) (sym q))
 
   -- the turn of a cell
   turn_of : (first e b : ℕ) → first ≤ row b → row b < e → IsIn b → Rows first e
@@ -99,11 +125,7 @@ module _ (X : Type 0) (base size : ℕ) (band : Band) (start rows : ℕ) (window
   }
 
   shift : (r l i n : ℕ) → place (r + n) l i ≡ place r l i + W * (H * n)
-  shift r l i n =
-      let a = rows_further H r n in
-      let b : H * (r + n) + l ≡ H * r + l + H * n = omega arith in
-      let c : W * (H * (r + n) + l) ≡ W * (H * r + l) + W * (H * n) = ap (λ v. W * v) b ∙ rows_further W (H * r + l) (H * n) in
-      omega arith
+  shift r l i n = omega arith
 
   -- the place of what a cell takes
   source_of : (direction : Direction) (b n : ℕ) → band.left ≤ column b → has_source direction window n (row b) ≡ true →
@@ -118,13 +140,14 @@ module _ (X : Type 0) (base size : ℕ) (band : Band) (start rows : ℕ) (window
       omega arith
 
   -- it is on the page
-  pub source_within : (direction : Direction) (b n : ℕ) → has_source direction window n (b / band.pitch / band.lines) ≡ true →
-      b < band.pitch * (band.lines * rows) → source direction b (band.pitch * (band.lines * n)) < band.pitch * (band.lines * rows)
-  source_within Up b n t l =
+  pub source_within : (direction : Direction) (b n : ℕ) → has_cell b ≡ true → has_source direction window n (b / band.pitch / band.lines) ≡ true →
+      source direction b (band.pitch * (band.lines * n)) < band.pitch * (band.lines * rows)
+  source_within Up b n u t =
       let a = lt_is (row b + n) (window.top + window.height) t in
       let z = w.below in
       moved_within W H rows b n w.wide w.high (omega arith)
-  source_within Down b n t l = omega arith
+  source_within Down b n u t = let i = in_of b u in let a = i.below in let z = w.below in let l = within_rows W H rows b w.wide w.high (omega arith) in
+      omega arith
 
   -- a cell of the new rows was filled over, by its number in its line
   pub record IsFilled (B : ℕ → X → X) (b : ℕ) (x : X) : Type 0 where
@@ -132,11 +155,11 @@ module _ (X : Type 0) (base size : ℕ) (band : Band) (start rows : ℕ) (window
     pub is : x ≡ B (b % band.pitch - band.left) under
 
   -- the window has gone by n rows
-  pub record Gone (direction : Direction) (n : ℕ) (B : ℕ → X → X) (f g : ℕ → X) : Type 0 where
-    pub moved : (b : ℕ) → IsIn b → has_source direction window n (b / band.pitch / band.lines) ≡ true →
+  pub record IsScrolled (direction : Direction) (n : ℕ) (B : ℕ → X → X) (f g : ℕ → X) : Type 0 where
+    pub moved : (b : ℕ) → has_cell b ≡ true → has_source direction window n (b / band.pitch / band.lines) ≡ true →
         g (start + b) ≡ f (start + source direction b (band.pitch * (band.lines * n)))
-    pub filled : (b : ℕ) → IsIn b → has_source direction window n (b / band.pitch / band.lines) ≡ false → IsFilled B b (g (start + b))
-    pub outside : (o : ℕ) → ((b : ℕ) → start + b ≡ o → IsIn b → ⊥) → g o ≡ f o
+    pub filled : (b : ℕ) → has_cell b ≡ true → has_source direction window n (b / band.pitch / band.lines) ≡ false → IsFilled B b (g (start + b))
+    pub outside : (o : ℕ) → ((b : ℕ) → start + b ≡ o → has_cell b ≡ false) → g o ≡ f o
 
   -- rows that take another's contents, and new ones
   abbrev pub Taking : Direction → ℕ → Type 0
@@ -145,31 +168,30 @@ module _ (X : Type 0) (base size : ℕ) (band : Band) (start rows : ℕ) (window
   abbrev pub New : Direction → ℕ → Type 0
   New direction n = Rows (first_new direction window n) (first_new direction window n + n)
 
-  pub gone : (direction : Direction) (n : ℕ) → n ≤ window.height → (B : ℕ → X → X) (F : New direction n → X → X) →
+  pub is_scrolled : (direction : Direction) (n : ℕ) → n ≤ window.height → (B : ℕ → X → X) (F : New direction n → X → X) →
       ((h : New direction n) (x : X) → F h x ≡ B h.place.place.turn x) → (f mid g : ℕ → X) →
       Moved X (Taking direction n) (λ h. place (source direction h.turn n) h.place.turn h.place.place.turn) (λ h. at h) f mid →
-      Edited X (New direction n) (λ h. at h) F mid g → Gone direction n B f g
+      Edited X (New direction n) (λ h. at h) F mid g → IsScrolled direction n B f g
   unfolding turn_of
-  gone direction n few B F same f mid g moves filling =
+  is_scrolled direction n few B F same f mid g moves filling =
       let p = parts direction window n few in
       let first = first_moved direction window n in
       let new = first_new direction window n in
       record {
-        moved = λ b i t.
+        moved = λ b u t.
+            let i = in_of b u in
             let k = p.is_moved (row b) i.above i.below t in
             let h = turn_of first (first + (window.height - n)) b k.0 k.1 i in
-            filling.outside (start + b) (λ j q. let v = row_of j b q in let u = j.from in let y = j.before in
+            filling.outside (start + b) (λ j q. let e : b ≡ cell j = omega arith in let v = ap row e ∙ row_of j in let l = j.from in let y = j.before in
             p.apart (row b) k.0 k.1 (omega arith) (omega arith))
             ∙ ap mid (sym (place_of b i.before)) ∙ moves.inside h ∙ ap f (source_of direction b n i.before t);
-        filled = λ b i t.
+        filled = λ b u t.
+            let i = in_of b u in
             let k = p.is_new (row b) i.above i.below t in
             let h = turn_of new (new + n) b k.0 k.1 i in
             record { under = mid (at h); is = ap g (sym (place_of b i.before)) ∙ filling.inside h ∙ same h (mid (at h)) };
-        outside = λ o none.
-            filling.outside o (λ h q. none (W * (H * h.turn + h.place.turn) + (band.left + h.place.place.turn)) (sym q)
-            (in_turn h _ p.new_above p.new_below refl))
-            ∙ moves.outside o (λ h q. none (W * (H * h.turn + h.place.turn) + (band.left + h.place.place.turn)) (sym q)
-            (in_turn h _ p.moved_above p.moved_below refl));
+        outside = λ o none. filling.outside o (λ h. elsewhere h o p.new_above p.new_below none)
+            ∙ moves.outside o (λ h. elsewhere h o p.moved_above p.moved_below none);
       }
 
 -- what a read of a byte leaves and answers
@@ -191,17 +213,17 @@ module _ (S : Type 0) (m : Meaning S) (base size : ℕ) (band : Band) (start row
 
   pub filled_once : (direction : Direction) (n : ℕ) (s : S) (f : ℕ → ℕ) → 0 < n → n ≤ window.height → R s f →
       Leaves S ℕ R (run m (move_rows band direction n window.top (window.height - n) >> fill_rows band filling (first_new direction window n) n) s).0
-      (Gone ℕ base size band start rows window w direction n (λ i _. filling_byte filling i) f)
+      (IsScrolled ℕ base size band start rows window w direction n (λ i _. filling_byte filling i) f)
   filled_once direction n s f some few t =
       let p = parts direction window n few in
       let moving = move_rows band direction n window.top (window.height - n) in
       let a = bands.rows_moved S ℕ m base size band start rows window w R moved direction n s f some few t in
       let b = bands.rows_filled S ℕ m base size band start rows window w R (λ v _. v) stored filling even odd (first_new direction window n) n
       (run m moving s).0 a.cells p.new_below a.shown in
-      subst (λ r. Leaves S ℕ R r.0 (Gone ℕ base size band start rows window w direction n (λ i _. filling_byte filling i) f))
+      subst (λ r. Leaves S ℕ R r.0 (IsScrolled ℕ base size band start rows window w direction n (λ i _. filling_byte filling i) f))
       (sym (run_bind m moving (λ _. fill_rows band filling (first_new direction window n) n) s)) (record {
         cells = b.cells;
         shown = b.shown;
-        fact = gone ℕ base size band start rows window w direction n few (λ i _. filling_byte filling i) (λ h _. filling_byte filling h.place.place.turn)
+        fact = is_scrolled ℕ base size band start rows window w direction n few (λ i _. filling_byte filling i) (λ h _. filling_byte filling h.place.place.turn)
             (λ h x. refl) f a.cells b.cells a.fact b.fact;
       })

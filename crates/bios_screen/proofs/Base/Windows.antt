@@ -7,18 +7,13 @@ use Rattle.bios_services.specs.declared.band.Direction.TheVariants.{Up, Down}
 use Rattle.bios_services.specs.declared.scroll.Scroll.{Scroll}
 use Rattle.bios_services.specs.declared.scroll.Window.{Window}
 use Rattle.bios_services.specs.Bands.{new_row}
-use Rattle.bios_services.specs.Scroll.{window_among, lines_of}
+use Rattle.bios_services.specs.Scroll.{IsOnPage, window_among, lines_of}
 use Rattle.bios_screen.specs.Step.{in_window, has_source}
 use Rattle.bios_screen.proofs.Base.Tests.{both_true, both_are, if_some, lt_is, le_is, lt_not, le_not, lt_test, le_test}
 
--- a window that lies on a page of so many rows and columns, and has a row
-pub record LiesOn (rows columns : ℕ) (w : Window) : Type 0 where
-  pub below : w.top + w.height ≤ rows
-  pub behind : w.left + w.width ≤ columns
-  pub some : 0 < w.height
-
-pub lies_on : (rows columns : ℕ) (asked : Scroll) (w : Window) → window_among rows columns asked ≡ Some w → LiesOn rows columns w
-lies_on rows columns asked w e =
+-- a window that is cut lies on the page
+pub cut_on_page : (rows columns : ℕ) (asked : Scroll) (w : Window) → window_among rows columns asked ≡ Some w → IsOnPage rows columns w
+cut_on_page rows columns asked w e =
     let bottom = min (asked.bottom + 1) rows in
     let right = min (asked.right + 1) columns in
     let a = if_some (nat_lt asked.top bottom && nat_lt asked.left right) _ w e in
@@ -78,11 +73,11 @@ pub contrary : {Y : Type 0} (b : Bool) → b ≡ true → b ≡ false → Y
 contrary b t f = let e = sym t ∙ f in absurd (cc)
 
 -- what stands at a place of a page once a window has gone, by its two tests
-pub by_tests : {Y : Type 0} (inside moved : Bool) (new taken blank old : Y) → (inside ≡ true → moved ≡ true → new ≡ taken) →
+pub by_both_tests : {Y : Type 0} (inside moved : Bool) (new taken blank old : Y) → (inside ≡ true → moved ≡ true → new ≡ taken) →
     (inside ≡ true → moved ≡ false → new ≡ blank) → (inside ≡ false → new ≡ old) → new ≡ (if inside then (if moved then taken else blank) else old)
-by_tests true true new taken blank old t b o = t refl refl
-by_tests true false new taken blank old t b o = b refl refl
-by_tests false moved new taken blank old t b o = o refl
+by_both_tests true true new taken blank old t b o = t refl refl
+by_both_tests true false new taken blank old t b o = b refl refl
+by_both_tests false moved new taken blank old t b o = o refl
 
 -- ---- which of its rows take another's contents, and which are new
 

@@ -1,5 +1,5 @@
 -- A window of 256 colours goes up or down, from the screen to the next.
-use Rattle.std.proofs.Common.{◌≡◌, ℕ, ◌+◌, ◌-◌, ◌*◌, ◌/◌, ◌%◌, ◌<◌, ◌≤◌, sym, ap, ◌∙◌, subst, arith, Some}
+use Rattle.std.proofs.Common.{◌≡◌, ℕ, ◌+◌, ◌-◌, ◌*◌, ◌/◌, ◌%◌, ◌<◌, ◌≤◌, refl, sym, ap, ◌∙◌, subst, arith, Some, false}
 use Rattle.vga_card.specs.Bounds.{IsCard}
 use Rattle.vga_card.specs.Bus.{card_meaning}
 use Rattle.vga_card.specs.Card.{CardState}
@@ -10,18 +10,18 @@ use Rattle.bios_services.specs.declared.band.Band.{Band}
 use Rattle.bios_modes.specs.declared.kind.Kind.TheVariants.{Packed}
 use Rattle.bios_services.specs.declared.band.Direction.{Direction}
 use Rattle.bios_services.specs.declared.scroll.Window.{Window}
-use Rattle.bios_services.specs.Bands.{filling_byte, plain, fill_plan, scroll_rows}
+use Rattle.bios_services.specs.Bands.{filling_byte, plain, fill_plan, scroll_rows, band_by}
 use Rattle.bios_services.specs.Cells.{page_base}
 use Rattle.bios_modes.specs.Kinds.{kind_of}
 use Rattle.bios_services.specs.Plan.{run}
-use Rattle.bios_services.specs.Scroll.{window_plan}
+use Rattle.bios_services.specs.Scroll.{IsOnPage, window_plan}
 use Rattle.bios_screen.specs.Screen.{Screen}
 use Rattle.bios_screen.specs.Shown.{packed_pixel, page_pixels, pixel_screen, shown}
 use Rattle.bios_screen.specs.Step.{pixel_of, pixel_row, pixel_column, in_window, has_source, source, row_pixels, fill_pixel, with_pixels, scroll_pixels}
 use Rattle.bios_screen.specs.Step.{scroll_window}
 use Rattle.bios_screen.proofs.Base.Flat.{Leaves}
-use Rattle.bios_screen.proofs.Base.Windows.{LiesOn, IsInside, inside_of, inside_test, contrary, by_tests}
-use Rattle.bios_screen.proofs.Base.Bands.{IsWindow, band_by}
+use Rattle.bios_screen.proofs.Base.Windows.{by_both_tests}
+use Rattle.bios_screen.proofs.Base.Bands.{IsWindow}
 use Rattle.bios_screen.proofs.Base.Shifts as shifts
 use Rattle.bios_screen.proofs.Dots.PackedDots.{IsPacked}
 use Rattle.bios_screen.proofs.Planar.Settings.{without_drawing}
@@ -36,7 +36,7 @@ pixel_read rest i c f l t =
     record { still = got.still; answer = got.value; small = subst (λ v. v < 256) (t.cell i) (t.bounds.host.memory.bytes (i % 4) (omega arith) (i / 4 * 4)) }
 
 module _ (c : CardState) (d : BiosData) (t : IsPacked c d) (e : row_at d.mode d.height ≡ Some bytes_320_by_200) (z : IsCard c) (p : ℕ)
-    (lp : p < bytes_320_by_200.pages) (w : Window) (on : LiesOn (d.last_row + 1) d.columns w) (direction : Direction) (n colour : ℕ) (lc : colour < 256) where
+    (lp : p < bytes_320_by_200.pages) (w : Window) (on : IsOnPage (d.last_row + 1) d.columns w) (direction : Direction) (n colour : ℕ) (lc : colour < 256) where
   abbrev s : Screen
   s = pixel_screen bytes_320_by_200 c d
 
@@ -53,60 +53,52 @@ module _ (c : CardState) (d : BiosData) (t : IsPacked c d) (e : row_at d.mode d.
     memory = let a = screens.all_pixels c d t e z in omega arith;
     below = on.below;
     behind = let a = on.behind in omega arith;
+    left = refl;
+    width = refl;
     wide = let a = t.has.columns in omega arith;
     high = let a = t.has.height in omega arith;
   }
 
-  abbrev IsIn : ℕ → Type 0
-  IsIn b = shifts.IsIn ℕ 0xA0000 65536 band 0 (d.last_row + 1) w window b
-
-  abbrev Goes : (ℕ → ℕ) → (ℕ → ℕ) → Type 0
-  Goes f g = shifts.Gone ℕ 0xA0000 65536 band 0 (d.last_row + 1) w window direction n (λ i _. filling_byte (plain colour) i) f g
+  abbrev IsScrolled : (ℕ → ℕ) → (ℕ → ℕ) → Type 0
+  IsScrolled = shifts.IsScrolled ℕ 0xA0000 65536 band 0 (d.last_row + 1) w window direction n (λ i _. filling_byte (plain colour) i)
 
   abbrev old : ℕ → ℕ
   old = packed_pixel c.host.memory
 
-  went : 0 < n → n ≤ w.height → Leaves CardState ℕ (IsFlat (without_drawing c))
-      (run card_meaning (scroll_rows band direction w.top w.height n colour) c).0 (Goes old)
+  scrolls : 0 < n → n ≤ w.height → Leaves CardState ℕ (IsFlat (without_drawing c))
+      (run card_meaning (scroll_rows band direction w.top w.height n colour) c).0 (IsScrolled old)
   unfolding scroll_rows fill_plan
-  went some few = shifts.filled_once CardState card_meaning 0xA0000 65536 band 0 (d.last_row + 1) w window (IsFlat (without_drawing c))
-      (pixel_read (without_drawing c)) (λ j v y f lj lv u. put_flat (without_drawing c) j v y f lj lv u) (plain colour) lc lc direction n c old some few
-          (screens.begins c d t e z)
+  scrolls some few = shifts.filled_once CardState card_meaning 0xA0000 65536 band 0 (d.last_row + 1) w window (IsFlat (without_drawing c))
+      (pixel_read (without_drawing c)) (λ j v y f lj lv u. put_flat (without_drawing c) j v y f lj lv u) (plain colour) lc lc direction n c old
+      some few (screens.begins c d t e z)
 
   -- ---- the pixels
-
-  pixel_in : (k : ℕ) → IsInside w (pixel_row s k) (pixel_column s k) → IsIn k
-  pixel_in k i = let a = i.before in let b = i.behind in record { above = i.above; below = i.below; before = omega arith; behind = omega arith }
-
-  pixel_out : (k : ℕ) → IsIn k → IsInside w (pixel_row s k) (pixel_column s k)
-  pixel_out k i = let a = i.before in let b = i.behind in record { above = i.above; below = i.below; before = omega arith; behind = omega arith }
 
   none : (b : ℕ) → 0 + b ≡ b
   none b = omega arith
 
-  pixels_gone : (f : ℕ → ℕ) → Goes old f → (k : ℕ) → k < page_pixels d → f k ≡ scroll_pixels s w direction n colour (pixel_of s 0) k
-  pixels_gone f is k lk =
+  pixels_scrolled : (f : ℕ → ℕ) → IsScrolled old f → (k : ℕ) → k < page_pixels d → f k ≡ scroll_pixels s w direction n colour (pixel_of s 0) k
+  pixels_scrolled f is k lk =
       let row = pixel_row s k in
       let column = pixel_column s k in
       let far = source direction k (row_pixels s n) in
-      by_tests (in_window w row column) (has_source direction w n row) (f k) (pixel_of s 0 far) (fill_pixel d.mode colour) (pixel_of s 0 k)
+      by_both_tests (in_window w row column) (has_source direction w n row) (f k) (pixel_of s 0 far) (fill_pixel d.mode colour) (pixel_of s 0 k)
       (λ u m.
-      ap f (sym (none k)) ∙ is.moved k (pixel_in k (inside_of w row column u)) m ∙ ap old (none far)
-      ∙ sym (screens.pixel_is c d t e z far (shifts.source_within ℕ 0xA0000 65536 band 0 (d.last_row + 1) w window direction k n m lk)))
+      ap f (sym (none k)) ∙ is.moved k u m ∙ ap old (none far)
+      ∙ sym (screens.pixel_is c d t e z far (shifts.source_within ℕ 0xA0000 65536 band 0 (d.last_row + 1) w window direction k n u m)))
       (λ u m.
-      let new = is.filled k (pixel_in k (inside_of w row column u)) m in
-      ap f (sym (none k)) ∙ new.is ∙ filled_plain colour (k % band.pitch - band.left) ∙ sym (ap (λ i. fill_pixel i colour) t.number))
+      ap f (sym (none k)) ∙ (is.filled k u m).is ∙ filled_plain colour (k % band.pitch - band.left)
+      ∙ sym (ap (λ i. fill_pixel i colour) t.number))
       (λ u.
-      is.outside k (λ b q i. let same : b ≡ k = omega arith in
-      contrary (in_window w row column) (inside_test w row column (pixel_out k (subst IsIn same i))) u)
+      is.outside k (λ b q. let same : k ≡ b = omega arith in subst (λ i. in_window w (pixel_row s i) (pixel_column s i) ≡ false) same u)
       ∙ sym (screens.pixel_is c d t e z k lk))
 
   pub window_shown : 0 < n → n ≤ w.height → shown (run card_meaning (window_plan d p w direction n colour) c).0 d
       ≡ Some (scroll_window s p w direction n colour)
   window_shown some few =
-      let done = went some few in
+      let done = scrolls some few in
       let change = scroll_pixels s w direction n colour in
       ap (λ k. shown (run card_meaning (scroll_rows (band_by k d p w.left w.width) direction w.top w.height n colour) c).0 d) (ap kind_of t.number)
       ∙ screens.page_redrawn c d t e z (run card_meaning (scroll_rows band direction w.top w.height n colour) c).0 done.cells change done.shown
-      (pixels_gone done.cells done.fact)
+      (pixels_scrolled done.cells done.fact)
       ∙ ap (λ i. Some (with_pixels s i change)) (sym page_is)

@@ -1,5 +1,5 @@
 -- A window of sixteen colours goes up or down, from the screen to the next.
-use Rattle.std.proofs.Common.{◌≡◌, ℕ, ◌+◌, ◌-◌, ◌*◌, ◌/◌, ◌%◌, ◌<◌, ◌≤◌, ◌⊎◌, ⊎_elim, sym, ap, ◌∙◌, subst, arith, Some, true, false}
+use Rattle.std.proofs.Common.{◌≡◌, ℕ, ◌+◌, ◌-◌, ◌*◌, ◌/◌, ◌%◌, ◌<◌, ◌≤◌, ◌⊎◌, ⊎_elim, refl, sym, ap, ◌∙◌, subst, arith, Some, Bool, true, false}
 use Rattle.std.specs.Prelude.{slice_index, ◌==◌, if◌then◌else◌}
 use Rattle.vga_bits.specs.Four.{Four}
 use Rattle.vga_bits.proofs.BitLemmas.{ones_byte}
@@ -14,17 +14,17 @@ use Rattle.bios_modes.specs.declared.kind.Kind.TheVariants.{Planar}
 use Rattle.bios_services.specs.declared.band.Direction.{Direction}
 use Rattle.bios_services.specs.declared.band.Direction.TheVariants.{Up, Down}
 use Rattle.bios_services.specs.declared.scroll.Window.{Window}
-use Rattle.bios_services.specs.Bands.{band_of, scroll_rows}
+use Rattle.bios_services.specs.Bands.{band_of, scroll_rows, band_by}
 use Rattle.bios_services.specs.Cells.{page_base, page_address}
 use Rattle.bios_modes.specs.Kinds.{kind_of, is_packed}
 use Rattle.bios_services.specs.Plan.{run}
-use Rattle.bios_services.specs.Scroll.{window_plan}
+use Rattle.bios_services.specs.Scroll.{IsOnPage, window_plan}
 use Rattle.bios_screen.specs.Screen.{Screen}
 use Rattle.bios_screen.specs.Shown.{page_pixels, pixel_screen, shown}
 use Rattle.bios_screen.specs.Step.{pixel_of, pixel_row, pixel_column, in_window, has_source, source, row_pixels, fill_pixel, scroll_pixels, scroll_window}
 use Rattle.bios_screen.proofs.Base.Tests.{le_is}
-use Rattle.bios_screen.proofs.Base.Windows.{LiesOn, IsInside, inside_of, inside_test, contrary, by_tests}
-use Rattle.bios_screen.proofs.Base.Bands.{IsWindow, band_by}
+use Rattle.bios_screen.proofs.Base.Windows.{inside_of, by_both_tests}
+use Rattle.bios_screen.proofs.Base.Bands.{IsWindow}
 use Rattle.bios_screen.proofs.Base.Shifts as shifts
 use Rattle.bios_screen.proofs.Modes.PixelModes.{Planes, row_of, packed_by}
 use Rattle.bios_screen.proofs.Modes.PixelModes.Planes.{Low, Middle, High}
@@ -45,7 +45,7 @@ fits_by Middle p l = omega arith
 fits_by High p l = omega arith
 
 module _ (m : Planes) (c : CardState) (d : BiosData) (t : IsPlanar m c d) (e : row_at d.mode d.height ≡ Some (row_of m)) (z : IsCard c)
-    (p : ℕ) (lp : p < (row_of m).pages) (w : Window) (on : LiesOn (d.last_row + 1) d.columns w) (direction : Direction) (n colour : ℕ) where
+    (p : ℕ) (lp : p < (row_of m).pages) (w : Window) (on : IsOnPage (d.last_row + 1) d.columns w) (direction : Direction) (n colour : ℕ) where
   abbrev s : Screen
   s = pixel_screen (row_of m) c d
 
@@ -83,45 +83,39 @@ module _ (m : Planes) (c : CardState) (d : BiosData) (t : IsPlanar m c d) (e : r
         omega arith;
     below = on.below;
     behind = on.behind;
+    left = omega arith;
+    width = omega arith;
     wide = writes.wide m c d t e z;
     high = writes.high m c d t e z;
   }
 
-  abbrev IsIn : ℕ → Type 0
-  IsIn b = shifts.IsIn (Four ℕ) 0xA0000 65536 band start rows w window b
-
   abbrev old : ℕ → Four ℕ
   old = bytes_at c.host.memory
 
-  abbrev Goes : (ℕ → Four ℕ) → Type 0
-  Goes g = shifts.Gone (Four ℕ) 0xA0000 65536 band start rows w window direction n (λ _. lined false (colour % 16) 0xFF) old g
+  abbrev IsScrolled : (ℕ → Four ℕ) → Type 0
+  IsScrolled g = shifts.IsScrolled (Four ℕ) 0xA0000 65536 band start rows w window direction n (λ _. lined false (colour % 16) 0xFF) old g
 
   -- ---- the pixels of a strip
 
   strip_row : (k : ℕ) → pixel_row s k ≡ k / 8 / W / H
   strip_row k = ap (λ x. x / H) (line_by_8 W k window.wide)
 
-  strip_in : (k : ℕ) → IsInside w (pixel_row s k) (pixel_column s k) → IsIn (k / 8)
-  strip_in k i =
-      let a = strip_row k in
-      let b = column_by_8 W k window.wide in
-      let i0 = i.above in let i1 = i.below in let i2 = i.before in let i3 = i.behind in
-      record { above = omega arith; below = omega arith; before = omega arith; behind = omega arith }
-
-  strip_out : (k : ℕ) → IsIn (k / 8) → IsInside w (pixel_row s k) (pixel_column s k)
-  strip_out k i =
-      let a = strip_row k in
-      let b = column_by_8 W k window.wide in
-      let i0 = i.above in let i1 = i.below in let i2 = i.before in let i3 = i.behind in
-      record { above = omega arith; below = omega arith; before = omega arith; behind = omega arith }
+  strip_test : (k : ℕ) → in_window w (k / 8 / W / H) (k / 8 % W / 1) ≡ in_window w (pixel_row s k) (pixel_column s k)
+  strip_test k =
+      let one : k / 8 % W / 1 ≡ k / 8 % W = omega arith in
+      ap (in_window w (k / 8 / W / H)) (one ∙ sym (column_by_8 W k window.wide)) ∙ ap (λ r. in_window w r (pixel_column s k)) (sym (strip_row k))
 
   -- strips of the page are of no other page
-  no_other : (o : ℕ) → (o < d.size * p) ⊎ (d.size * p + d.size ≤ o) → (b : ℕ) → start + b ≡ o → IsIn b → ⊥
-  no_other o out b q i =
-      let l = i.below in
-      let f = on.below in
-      let g = (screens.strip_small m c d t e z b (within_rows W H rows b window.wide window.high (omega arith))).1 in
-      ⊎_elim (λ (a : o < d.size * p). absurd (omega arith)) (λ (a : d.size * p + d.size ≤ o). absurd (omega arith)) out
+  no_other : (o : ℕ) → (o < d.size * p) ⊎ (d.size * p + d.size ≤ o) → (b : ℕ) → start + b ≡ o → in_window w (b / W / H) (b % W / 1) ≡ false
+  no_other o out b q = by_test (in_window w (b / W / H) (b % W / 1)) refl
+    where
+      by_test : (u : Bool) → in_window w (b / W / H) (b % W / 1) ≡ u → u ≡ false
+      by_test false u = refl
+      by_test true u =
+          let l = (inside_of w (b / W / H) (b % W / 1) u).below in
+          let f = on.below in
+          let g = (screens.strip_small m c d t e z b (within_rows W H rows b window.wide window.high (omega arith))).1 in
+          ⊎_elim (λ (a : o < d.size * p). absurd (omega arith)) (λ (a : d.size * p + d.size ≤ o). absurd (omega arith)) out
 
   -- the strip of what a pixel takes
   record IsTaken (way : Direction) (k : ℕ) : Type 0 where
@@ -146,37 +140,37 @@ module _ (m : Planes) (c : CardState) (d : BiosData) (t : IsPlanar m c d) (e : r
       ∙ ap (λ v. dotted_by false mask (v == 1) (nibble_of is.under j)) (ones_byte (7 - j) (omega arith))
       ∙ sym (ap (λ b. let v : ℕ = (if b then colour else mask) in v) (ap is_packed t.number ∙ packed_by m))
 
-  pixels_gone : (f : ℕ → Four ℕ) → Goes f → (k : ℕ) → k < page_pixels d →
+  pixels_scrolled : (f : ℕ → Four ℕ) → IsScrolled f → (k : ℕ) → k < page_pixels d →
       nibble_of (f (d.size * p + k / 8)) (k % 8) ≡ scroll_pixels s w direction n colour (pixel_of s p) k
-  pixels_gone f is k lk =
+  pixels_scrolled f is k lk =
       let row = pixel_row s k in
       let column = pixel_column s k in
       let j = k % 8 in
       let far = source direction k (row_pixels s n) in
       let tested = ap (has_source direction w n) (sym (strip_row k)) in
-      by_tests (in_window w row column) (has_source direction w n row) (nibble_of (f (start + k / 8)) j) (pixel_of s p far) (fill_pixel d.mode colour)
+      by_both_tests (in_window w row column) (has_source direction w n row) (nibble_of (f (start + k / 8)) j) (pixel_of s p far) (fill_pixel d.mode colour)
       (pixel_of s p k)
       (λ u v.
       let same = tested ∙ v in
       let x = taken direction k same in
       let whole : 8 * W * (H * rows) ≡ 8 * (W * (H * rows)) = omega arith in
-      let within = shifts.source_within (Four ℕ) 0xA0000 65536 band start rows w window direction (k / 8) n same (omega arith) in
+      let within = shifts.source_within (Four ℕ) 0xA0000 65536 band start rows w window direction (k / 8) n (strip_test k ∙ u) same in
       let a = x.strip in
       let less : far < page_pixels d = omega arith in
-      ap (λ (y : Four ℕ). nibble_of y j) (is.moved (k / 8) (strip_in k (inside_of w row column u)) same)
+      ap (λ (y : Four ℕ). nibble_of y j) (is.moved (k / 8) (strip_test k ∙ u) same)
       ∙ sym (screens.pixel_is m c d t e z p far lp less ∙ ap (λ y. nibble_of (old (start + y)) (far % 8)) x.strip
       ∙ ap (nibble_of (old (start + source direction (k / 8) (W * (H * n))))) x.dot))
-      (λ u v. filled j (k / 8) (f (start + k / 8)) (omega arith) (is.filled (k / 8) (strip_in k (inside_of w row column u)) (tested ∙ v)))
+      (λ u v. filled j (k / 8) (f (start + k / 8)) (omega arith) (is.filled (k / 8) (strip_test k ∙ u) (tested ∙ v)))
       (λ u.
-      ap (λ (y : Four ℕ). nibble_of y j) (is.outside (start + k / 8) (λ b q i. let same : b ≡ k / 8 = omega arith in
-      contrary (in_window w row column) (inside_test w row column (strip_out k (subst IsIn same i))) u))
+      ap (λ (y : Four ℕ). nibble_of y j) (is.outside (start + k / 8) (λ b q. let same : k / 8 ≡ b = omega arith in
+      subst (λ i. in_window w (i / W / H) (i % W / 1) ≡ false) same (strip_test k ∙ u)))
       ∙ sym (screens.pixel_is m c d t e z p k lp lk))
 
   pub window_shown : 0 < n → n ≤ w.height → shown (run card_meaning (window_plan d p w direction n colour) c).0 d
       ≡ Some (scroll_window s p w direction n colour)
   window_shown some few =
-      let done = windows.went (without_drawing c) (row_of m).misc (slice_index (row_of m).sequencer 1) (enabled_by m) (page_address d p) W H w.left
+      let done = windows.scrolls (without_drawing c) (row_of m).misc (slice_index (row_of m).sequencer 1) (enabled_by m) (page_address d p) W H w.left
       w.width start rows w window direction n colour c old some few (record { latches = c.host.latches; is = screens.begins m c d t e z }) in
       ap (λ b. shown (run card_meaning (scroll_rows b direction w.top w.height n colour) c).0 d) band_is
       ∙ screens.page_redrawn m c d t e z p (run card_meaning (scroll_rows band direction w.top w.height n colour) c).0 done.cells done.shown.latches
-      (scroll_pixels s w direction n colour) lp done.shown.is (pixels_gone done.cells done.fact) (λ o out. done.fact.outside o (no_other o out))
+      (scroll_pixels s w direction n colour) lp done.shown.is (pixels_scrolled done.cells done.fact) (λ o out. done.fact.outside o (no_other o out))

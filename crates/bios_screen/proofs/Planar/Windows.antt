@@ -91,15 +91,15 @@ module _ (rest : CardState) (e d : ℕ) (on : is_set e 1 ≡ true) (first_byte p
     filling_is mask i q = ap (λ v. masked mask v (masked 0x0F (filling_byte (plain 0x00) i) q)) (filled_plain 0xFF i)
         ∙ ap (λ v. masked mask 0xFF (masked 0x0F v q)) (filled_plain 0x00 i)
 
-    abbrev Goes : Direction → ℕ → ℕ → (ℕ → Four ℕ) → (ℕ → Four ℕ) → Type 0
-    Goes direction n mask = shifts.Gone (Four ℕ) 0xA0000 65536 band start rows window w direction n (λ _. lined false mask 0xFF)
+    abbrev IsScrolled : Direction → ℕ → ℕ → (ℕ → Four ℕ) → (ℕ → Four ℕ) → Type 0
+    IsScrolled direction n mask = shifts.IsScrolled (Four ℕ) 0xA0000 65536 band start rows window w direction n (λ _. lined false mask 0xFF)
 
     -- rows are moved through the latches, and others get a colour
-    pub went : (direction : Direction) (n colour : ℕ) (c : CardState) (f : ℕ → Four ℕ) → 0 < n → n ≤ window.height → Drawn rest e d at_rest c f →
+    pub scrolls : (direction : Direction) (n colour : ℕ) (c : CardState) (f : ℕ → Four ℕ) → 0 < n → n ≤ window.height → Drawn rest e d at_rest c f →
         Leaves CardState (Four ℕ) (Drawn rest e d at_rest) (run card_meaning (scroll_rows band direction window.top window.height n colour) c).0
-        (Goes direction n (colour % 16) f)
+        (IsScrolled direction n (colour % 16) f)
     unfolding scroll_rows fill_plan
-    went direction n colour c f some few t =
+    scrolls direction n colour c f some few t =
         let mask = colour % 16 in
         let new = first_new direction window n in
         let p1 = move_rows band direction n window.top (window.height - n) in
@@ -130,13 +130,13 @@ module _ (rest : CardState) (e d : ℕ) (on : is_set e 1 ≡ true) (first_byte p
         let e1 = run_bind card_meaning p1 (λ _. graphics 5 0x00 >> (p2 >> (sequencer 2 mask >> (p3 >> sequencer 2 0x0F)))) c1 in
         let e2 = run_bind card_meaning p2 (λ _. sequencer 2 mask >> (p3 >> sequencer 2 0x0F)) c3 in
         let e3 = run_bind card_meaning p3 (λ _. sequencer 2 0x0F) c5 in
-        subst (λ r. Leaves CardState (Four ℕ) (Drawn rest e d at_rest) r.0 (Goes direction n mask f)) (sym (e1 ∙ e2 ∙ e3)) (record {
+        subst (λ r. Leaves CardState (Four ℕ) (Drawn rest e d at_rest) r.0 (IsScrolled direction n mask f)) (sym (e1 ∙ e2 ∙ e3)) (record {
           cells = m3.cells;
           shown = record {
             latches = m3.shown.latches;
             is = mask_set rest e d 0x0F (planes_of mask) m3.shown.latches c6 m3.cells (omega arith) m3.shown.is;
           };
-          fact = shifts.gone (Four ℕ) 0xA0000 65536 band start rows window w direction n few (λ _. lined false mask 0xFF) (λ h q.
+          fact = shifts.is_scrolled (Four ℕ) 0xA0000 65536 band start rows window w direction n few (λ _. lined false mask 0xFF) (λ h q.
               masked mask (filling_byte (plain 0xFF) h.place.place.turn) (masked 0x0F (filling_byte (plain 0x00) h.place.place.turn) q)) (λ h q.
               filling_is mask h.place.place.turn q) f m1.cells m3.cells m1.fact (edited_twice _ (λ h q.
               masked 0x0F (filling_byte (plain 0x00) h.place.place.turn) q) (λ h q. masked mask (filling_byte (plain 0xFF) h.place.place.turn) q) m1.cells

@@ -14,7 +14,7 @@ use Rattle.bios_services.specs.declared.scroll.Window.{Window}
 use Rattle.bios_services.specs.Bounds.{pages_of}
 use Rattle.bios_services.specs.Plan.{Plan, run, Done, ◌>>◌}
 use Rattle.bios_services.specs.Refusals.{refusal_in_mode}
-use Rattle.bios_services.specs.Scroll.{window_among, whole_page, lines_of, window_plan, page_up_plan, scroll_within, scroll_plan}
+use Rattle.bios_services.specs.Scroll.{IsOnPage, window_among, whole_page, lines_of, window_plan, page_up_plan, scroll_within, scroll_plan}
 use Rattle.bios_services.specs.Service.{plan_of, Outcome}
 use Rattle.bios_screen.specs.Screen.{Screen}
 use Rattle.bios_screen.specs.Served.{Serves}
@@ -22,7 +22,7 @@ use Rattle.bios_screen.specs.Shown.{shown}
 use Rattle.bios_screen.specs.Step.{scroll_window, scroll_asked, scroll, page_up, refusal_on, next, answer_on}
 use Rattle.bios_services.proofs.CardLemmas.{plan_beam}
 use Rattle.bios_screen.proofs.Base.Plans.{run_bind}
-use Rattle.bios_screen.proofs.Base.Windows.{LiesOn, lies_on, few_lines, some_lines}
+use Rattle.bios_screen.proofs.Base.Windows.{cut_on_page, few_lines, some_lines}
 use Rattle.bios_screen.proofs.Modes.PixelModes.{row_of}
 use Rattle.bios_screen.proofs.Shows.Any.{IsCut, cut_is}
 use Rattle.bios_screen.proofs.Shows.Kinds.{by_modes}
@@ -32,7 +32,7 @@ use Rattle.bios_screen.proofs.Planar.Scrolls as planar
 use Rattle.bios_screen.proofs.Packed.Scrolls as packed
 
 module _ (c : CardState) (d : BiosData) (s : Screen) (z : IsCard c) (e : shown c d ≡ Some s) where
-  window_shown : (p : ℕ) → p < pages_of d → (w : Window) → LiesOn (d.last_row + 1) d.columns w → (direction : Direction) (n colour : ℕ) → 0 < n → n ≤ w.height →
+  window_shown : (p : ℕ) → p < pages_of d → (w : Window) → IsOnPage (d.last_row + 1) d.columns w → (direction : Direction) (n colour : ℕ) → 0 < n → n ≤ w.height →
       colour < 256 → shown (run card_meaning (window_plan d p w direction n colour) c).0 d ≡ Some (scroll_window s p w direction n colour)
   window_shown p lp w on direction n colour some few lc =
       by_modes c d (λ x. shown (run card_meaning (window_plan d p w direction n colour) c).0 d ≡ Some (scroll_window x p w direction n colour))
@@ -65,20 +65,20 @@ module _ (c : CardState) (d : BiosData) (s : Screen) (z : IsCard c) (e : shown c
             ≡ Some (scroll_asked s asked direction o)
         by_window None q = e
         by_window (Some w) q =
-            let on = lies_on (d.last_row + 1) d.columns asked w q in
+            let on = cut_on_page (d.last_row + 1) d.columns asked w q in
             let n = lines_of w asked.lines in
             window_shown d.page cut.active w on direction n asked.fill (some_lines w asked.lines on.some) (few_lines w asked.lines) lc
             ∙ ap (λ p. Some (scroll_window s p w direction n asked.fill)) (sym cut.page)
 
     -- the service's answer, the screen after it, and the beam
-    pub record IsScrolled (r : Regs) : Type 0 where
+    pub record IsPerformed (r : Regs) : Type 0 where
       pub answer : (run card_meaning (scroll_plan d asked direction >> (let x : Plan Outcome = Done (r, d) in x)) c).1.0 ≡ r
       pub shows : (let x = run card_meaning (scroll_plan d asked direction >> (let y : Plan Outcome = Done (r, d) in y)) c in shown x.0 x.1.1)
           ≡ Some (scroll s asked direction)
       pub beam : (run card_meaning (scroll_plan d asked direction >> (let x : Plan Outcome = Done (r, d) in x)) c).0.crtc.beam ≡ c.crtc.beam
 
-    pub is_scrolled : (r : Regs) → IsScrolled r
-    is_scrolled r =
+    pub is_performed : (r : Regs) → IsPerformed r
+    is_performed r =
         let done : Plan Outcome = Done (r, d) in
         let runs = run_bind card_meaning (scroll_plan d asked direction) (λ _. done) c in
         record {
@@ -89,10 +89,10 @@ module _ (c : CardState) (d : BiosData) (s : Screen) (z : IsCard c) (e : shown c
 
 pub scroll_up : (asked : Scroll) → asked.fill < 256 → Serves (ScrollUp asked)
 unfolding plan_of refusal_in_mode refusal_on next answer_on
-scroll_up asked lc fonts r block c d s bytes z bda e = let x = is_scrolled c d s z e asked lc Up r in
+scroll_up asked lc fonts r block c d s bytes z bda e = let x = is_performed c d s z e asked lc Up r in
     record { refusal = refl; answer = λ _. x.answer; shows = λ _. x.shows; beam = x.beam }
 
 pub scroll_down : (asked : Scroll) → asked.fill < 256 → Serves (ScrollDown asked)
 unfolding plan_of refusal_in_mode refusal_on next answer_on
-scroll_down asked lc fonts r block c d s bytes z bda e = let x = is_scrolled c d s z e asked lc Down r in
+scroll_down asked lc fonts r block c d s bytes z bda e = let x = is_performed c d s z e asked lc Down r in
     record { refusal = refl; answer = λ _. x.answer; shows = λ _. x.shows; beam = x.beam }

@@ -1,5 +1,5 @@
 -- A window of text goes up or down, from the screen to the next.
-use Rattle.std.proofs.Common.{◌≡◌, ℕ, ◌+◌, ◌-◌, ◌*◌, ◌/◌, ◌%◌, ◌<◌, ◌≤◌, sym, ap, ◌∙◌, subst, arith, Some, true}
+use Rattle.std.proofs.Common.{◌≡◌, ℕ, ◌+◌, ◌-◌, ◌*◌, ◌/◌, ◌%◌, ◌<◌, ◌≤◌, refl, sym, ap, ◌∙◌, subst, arith, Some, true, false}
 use Rattle.std.specs.Prelude.{◌==◌, ◌&&◌, nat_le, if◌then◌else◌}
 use Rattle.std.proofs.lemmas.Bool.Decides.{nat_tests}
 use Rattle.std.proofs.lemmas.Nat.{mod_below}
@@ -12,18 +12,18 @@ use Rattle.bios_services.specs.declared.band.Band.{Band}
 use Rattle.bios_services.specs.declared.band.Direction.{Direction}
 use Rattle.bios_services.specs.declared.band.Direction.TheVariants.{Up, Down}
 use Rattle.bios_services.specs.declared.scroll.Window.{Window}
-use Rattle.bios_services.specs.Bands.{filling_byte, blank, scroll_rows, fill_plan}
+use Rattle.bios_services.specs.Bands.{filling_byte, blank, scroll_rows, fill_plan, band_by}
 use Rattle.bios_services.specs.Plan.{run}
-use Rattle.bios_services.specs.Scroll.{window_plan}
+use Rattle.bios_services.specs.Scroll.{IsOnPage, window_plan}
 use Rattle.bios_screen.specs.Screen.{Screen, page_start}
 use Rattle.bios_screen.specs.Shown.{all_cells, shown}
 use Rattle.bios_screen.specs.Step.{row_on, column_on, in_window, has_source, source, scroll_cells, scroll_window, cell_on}
 use Rattle.bios_screen.proofs.Base.Flat.{Leaves}
-use Rattle.bios_screen.proofs.Base.Places.{twice, ends_before, rows_further, row_and_column}
+use Rattle.bios_screen.proofs.Base.Places.{twice, rows_further, row_and_column}
 use Rattle.bios_screen.proofs.Base.CellPlaces.{over, rest}
-use Rattle.bios_screen.proofs.Base.Tests.{both_true, both_are, lt_is, le_is, le_test}
-use Rattle.bios_screen.proofs.Base.Windows.{LiesOn, IsInside, inside_of, inside_test, contrary, by_tests}
-use Rattle.bios_screen.proofs.Base.Bands.{IsWindow, band_by}
+use Rattle.bios_screen.proofs.Base.Tests.{both_true, le_is, le_test}
+use Rattle.bios_screen.proofs.Base.Windows.{inside_of, by_both_tests}
+use Rattle.bios_screen.proofs.Base.Bands.{IsWindow}
 use Rattle.bios_screen.proofs.Base.Shifts as shifts
 use Rattle.bios_screen.proofs.Modes.TextModes.{base_of}
 use Rattle.bios_screen.proofs.Shows.Screens.{IsShown, screen_shown, kind_is}
@@ -37,7 +37,7 @@ pub page_fits : (c : CardState) (d : BiosData) (h : IsShown c d) (p : ℕ) → p
     page_start (screen_shown c d h) p + d.columns * (d.last_row + 1) ≤ 16384
 page_fits c d h p lp = let z = lies c d h in let a = z.fits in let b = z.within p lp in omega arith
 
-module _ (c : CardState) (d : BiosData) (h : IsShown c d) (p : ℕ) (lp : p < h.row.pages) (w : Window) (on : LiesOn (d.last_row + 1) d.columns w)
+module _ (c : CardState) (d : BiosData) (h : IsShown c d) (p : ℕ) (lp : p < h.row.pages) (w : Window) (on : IsOnPage (d.last_row + 1) d.columns w)
     (direction : Direction) (n attribute : ℕ) where
   abbrev s : Screen
   s = screen_shown c d h
@@ -67,6 +67,8 @@ module _ (c : CardState) (d : BiosData) (h : IsShown c d) (p : ℕ) (lp : p < h.
         omega arith;
     below = on.below;
     behind = let a = on.behind in omega arith;
+    left = refl;
+    width = refl;
     wide = let a = some_columns in omega arith;
     high = omega arith;
   }
@@ -80,16 +82,13 @@ module _ (c : CardState) (d : BiosData) (h : IsShown c d) (p : ℕ) (lp : p < h.
   byte_read i x f l t = let read = text_get h.display (without_text c) x f i l t in
       record { still = read.text; answer = read.answer; small = t.small i l }
 
-  abbrev IsIn : ℕ → Type 0
-  IsIn b = shifts.IsIn ℕ (base_of h.display) 32768 band (d.size * p) (d.last_row + 1) w window b
+  abbrev IsScrolled : (ℕ → ℕ) → (ℕ → ℕ) → Type 0
+  IsScrolled = shifts.IsScrolled ℕ (base_of h.display) 32768 band (d.size * p) (d.last_row + 1) w window direction n (λ i _. filling_byte (blank attribute) i)
 
-  abbrev Gone : (ℕ → ℕ) → (ℕ → ℕ) → Type 0
-  Gone f g = shifts.Gone ℕ (base_of h.display) 32768 band (d.size * p) (d.last_row + 1) w window direction n (λ i _. filling_byte (blank attribute) i) f g
-
-  went : 0 < n → n ≤ w.height → attribute < 256 → (x : CardState) (f : ℕ → ℕ) → Textual x f →
-      Leaves CardState ℕ Textual (run card_meaning (scroll_rows band direction w.top w.height n attribute) x).0 (Gone f)
+  scrolls : 0 < n → n ≤ w.height → attribute < 256 → (x : CardState) (f : ℕ → ℕ) → Textual x f →
+      Leaves CardState ℕ Textual (run card_meaning (scroll_rows band direction w.top w.height n attribute) x).0 (IsScrolled f)
   unfolding scroll_rows fill_plan
-  went some few la x f t = shifts.filled_once CardState card_meaning (base_of h.display) 32768 band (d.size * p) (d.last_row + 1) w window Textual byte_read
+  scrolls some few la x f t = shifts.filled_once CardState card_meaning (base_of h.display) 32768 band (d.size * p) (d.last_row + 1) w window Textual byte_read
       (λ j v y g lj lv u. text_put h.display (without_text c) y g j v lj lv u) (blank attribute) (omega arith) la direction n x f some few t
 
   -- ---- the cells of the bytes
@@ -101,52 +100,30 @@ module _ (c : CardState) (d : BiosData) (h : IsShown c d) (p : ℕ) (lp : p < h.
   byte_at : (k j : ℕ) → first ≤ k → d.size * p + byte_of k j ≡ 2 * k + j
   byte_at k j l = let a = page_bytes in omega arith
 
+  byte_split : (k j : ℕ) → byte_of k j ≡ 2 * d.columns * row_on s p k + (2 * column_on s p k + j)
+  byte_split k j = let a = row_and_column d.columns (k - first) some_columns in let z = twice d.columns (row_on s p k) in omega arith
+
   byte_row : (k j : ℕ) → j < 2 → byte_of k j / (2 * d.columns) / 1 ≡ row_on s p k
   byte_row k j l =
-      let a = row_and_column d.columns (k - first) some_columns in
       let b = mod_below (k - first) d.columns some_columns in
-      let e : byte_of k j ≡ 2 * d.columns * row_on s p k + (2 * column_on s p k + j) = let z = twice d.columns (row_on s p k) in omega arith in
-      let g = ap (λ x. x / (2 * d.columns)) e ∙ over (2 * d.columns) (row_on s p k) (2 * column_on s p k + j) (omega arith) in
+      let g = ap (λ x. x / (2 * d.columns)) (byte_split k j) ∙ over (2 * d.columns) (row_on s p k) (2 * column_on s p k + j) (omega arith) in
       omega arith
 
   byte_column : (k j : ℕ) → j < 2 → byte_of k j % (2 * d.columns) ≡ 2 * column_on s p k + j
-  byte_column k j l =
-      let a = row_and_column d.columns (k - first) some_columns in
-      let b = mod_below (k - first) d.columns some_columns in
-      let e : byte_of k j ≡ 2 * d.columns * row_on s p k + (2 * column_on s p k + j) = let z = twice d.columns (row_on s p k) in omega arith in
-      ap (λ x. x % (2 * d.columns)) e ∙ rest (2 * d.columns) (row_on s p k) (2 * column_on s p k + j) (omega arith)
+  byte_column k j l = let b = mod_below (k - first) d.columns some_columns in
+      ap (λ x. x % (2 * d.columns)) (byte_split k j) ∙ rest (2 * d.columns) (row_on s p k) (2 * column_on s p k + j) (omega arith)
 
-  byte_in : (k j : ℕ) → j < 2 → IsInside w (row_on s p k) (column_on s p k) → IsIn (byte_of k j)
-  byte_in k j l i =
-      let r = byte_row k j l in
-      let q = byte_column k j l in
-      let i0 = i.above in let i1 = i.below in let i2 = i.before in let i3 = i.behind in
-      record { above = omega arith; below = omega arith; before = omega arith; behind = omega arith }
-
-  byte_out : (k j : ℕ) → j < 2 → IsIn (byte_of k j) → IsInside w (row_on s p k) (column_on s p k)
-  byte_out k j l i =
-      let r = byte_row k j l in
-      let q = byte_column k j l in
-      let i0 = i.above in let i1 = i.below in let i2 = i.before in let i3 = i.behind in
-      record { above = omega arith; below = omega arith; before = omega arith; behind = omega arith }
+  byte_test : (k j : ℕ) → j < 2 → in_window w (byte_of k j / (2 * d.columns) / 1) (byte_of k j % (2 * d.columns) / 2)
+      ≡ in_window w (row_on s p k) (column_on s p k)
+  byte_test k j l =
+      let half : byte_of k j % (2 * d.columns) / 2 ≡ column_on s p k = let q = byte_column k j l in omega arith in
+      ap (in_window w (byte_of k j / (2 * d.columns) / 1)) half ∙ ap (λ r. in_window w r (column_on s p k)) (byte_row k j l)
 
   -- the bytes of so many rows
   rows_bytes : 2 * d.columns * (1 * n) ≡ 2 * (d.columns * n)
   rows_bytes = let one : 1 * n ≡ n = omega arith in ap (λ x. 2 * d.columns * x) one ∙ twice d.columns n
 
-  -- what a cell takes, in the page, and byte by byte
-  cell_taken : (way : Direction) (k : ℕ) → first ≤ k → has_source way w n (row_on s p k) ≡ true → k < 16384 → source way k (d.columns * n) < 16384
-  cell_taken Up k low t l =
-      let a = lt_is (row_on s p k + n) (w.top + w.height) t in
-      let b = on.below in
-      let e = rows_further d.columns (row_on s p k) n in
-      let g = ends_before d.columns (row_on s p k + n) (d.last_row + 1) (omega arith) in
-      let x = row_and_column d.columns (k - first) some_columns in
-      let y = mod_below (k - first) d.columns some_columns in
-      let f = page_fits c d h p lp in
-      omega arith
-  cell_taken Down k low t l = omega arith
-
+  -- what a cell takes, byte by byte, and in the page
   byte_taken : (way : Direction) (k j : ℕ) → first ≤ k → has_source way w n (row_on s p k) ≡ true →
       d.size * p + source way (byte_of k j) (2 * d.columns * (1 * n)) ≡ 2 * source way k (d.columns * n) + j
   byte_taken Up k j low t = let a = page_bytes in let b = rows_bytes in omega arith
@@ -160,40 +137,48 @@ module _ (c : CardState) (d : BiosData) (h : IsShown c d) (p : ℕ) (lp : p < h.
       let x = row_and_column d.columns (k - first) some_columns in
       omega arith
 
+  cell_taken : (k : ℕ) → first ≤ k → in_window w (row_on s p k) (column_on s p k) ≡ true → has_source direction w n (row_on s p k) ≡ true →
+      source direction k (d.columns * n) < 16384
+  cell_taken k low u m =
+      let a = byte_taken direction k 0 low m in
+      let b = shifts.source_within ℕ (base_of h.display) 32768 band (d.size * p) (d.last_row + 1) w window direction (byte_of k 0) n
+      (byte_test k 0 (omega arith) ∙ u) (ap (has_source direction w n) (byte_row k 0 (omega arith)) ∙ m) in
+      let e = window.memory in
+      omega arith
+
   blank_byte : (q j : ℕ) → j < 2 → filling_byte (blank attribute) (2 * q + j) ≡ (if j == 0 then 0x20 else attribute)
   blank_byte q j l = let e : ((2 * q + j) % 2 == 0) ≡ (j == 0) = grind (arith, nat_tests) in ap (λ b. if b then 0x20 else attribute) e
 
-  cells_gone : (f g : ℕ → ℕ) → Gone f g → ((k : ℕ) → k < 16384 → cell_on s k ≡ cells_of_bytes f k) → (k : ℕ) → k < 16384 →
+  cells_scrolled : (f g : ℕ → ℕ) → IsScrolled f g → ((k : ℕ) → k < 16384 → cell_on s k ≡ cells_of_bytes f k) → (k : ℕ) → k < 16384 →
       cells_of_bytes g k ≡ scroll_cells s p w direction n attribute (cell_on s) k
-  cells_gone f g is old k l =
+  cells_scrolled f g is old k l =
       let row = row_on s p k in
       let column = column_on s p k in
       let within = in_window w row column in
-      by_tests (nat_le first k && within) (has_source direction w n row) (cells_of_bytes g k) (cell_on s (source direction k (d.columns * n))) (0x20, attribute)
-      (cell_on s k)
+      by_both_tests (nat_le first k && within) (has_source direction w n row) (cells_of_bytes g k) (cell_on s (source direction k (d.columns * n)))
+      (0x20, attribute) (cell_on s k)
       (λ t m.
       let both = both_true (nat_le first k) within t in
       let low = le_is first k both.0 in
-      let i = inside_of w row column both.1 in
       same_cell g f k (source direction k (d.columns * n)) (λ j lj.
-      ap g (sym (byte_at k j low)) ∙ is.moved (byte_of k j) (byte_in k j lj i) (ap (has_source direction w n) (byte_row k j lj) ∙ m)
+      ap g (sym (byte_at k j low)) ∙ is.moved (byte_of k j) (byte_test k j lj ∙ both.1) (ap (has_source direction w n) (byte_row k j lj) ∙ m)
       ∙ ap f (byte_taken direction k j low m))
-      ∙ sym (old (source direction k (d.columns * n)) (cell_taken direction k low m l)))
+      ∙ sym (old (source direction k (d.columns * n)) (cell_taken k low both.1 m)))
       (λ t m.
       let both = both_true (nat_le first k) within t in
       let low = le_is first k both.0 in
-      let i = inside_of w row column both.1 in
       blank_cell g attribute k (λ j lj.
-      let new = is.filled (byte_of k j) (byte_in k j lj i) (ap (has_source direction w n) (byte_row k j lj) ∙ m) in
-      let at : byte_of k j % (2 * d.columns) - 2 * w.left ≡ 2 * (column - w.left) + j = let q = byte_column k j lj in let b = i.before in omega arith in
+      let new = is.filled (byte_of k j) (byte_test k j lj ∙ both.1) (ap (has_source direction w n) (byte_row k j lj) ∙ m) in
+      let at : byte_of k j % (2 * d.columns) - 2 * w.left ≡ 2 * (column - w.left) + j = let q = byte_column k j lj in
+      let b = (inside_of w row column both.1).before in omega arith in
       ap g (sym (byte_at k j low)) ∙ new.is ∙ ap (filling_byte (blank attribute)) at ∙ blank_byte (column - w.left) j lj))
       (λ t.
-      same_cell g f k k (λ j lj. is.outside (2 * k + j) (λ b e i.
+      same_cell g f k k (λ j lj. is.outside (2 * k + j) (λ b e.
       let a = page_bytes in
       let low : first ≤ k = omega arith in
-      let same : b ≡ byte_of k j = omega arith in
-      contrary (nat_le first k && within) (both_are (nat_le first k) within (le_test first k low) (inside_test w row column
-      (byte_out k j lj (subst IsIn same i)))) t))
+      let same : byte_of k j ≡ b = omega arith in
+      subst (λ i. in_window w (i / (2 * d.columns) / 1) (i % (2 * d.columns) / 2) ≡ false) same
+      (byte_test k j lj ∙ ap (λ x. x && within) (sym (le_test first k low)) ∙ t)))
       ∙ sym (old k l))
 
   pub window_shown : IsCard c → 0 < n → n ≤ w.height → attribute < 256 → shown (run card_meaning (window_plan d p w direction n attribute) c).0 d
@@ -202,9 +187,9 @@ module _ (c : CardState) (d : BiosData) (h : IsShown c d) (p : ℕ) (lp : p < h.
       let m = c.host.memory in
       let f = woven m.plane0 m.plane1 in
       let y = (run card_meaning (scroll_rows band direction w.top w.height n attribute) c).0 in
-      let done = went some few la c f (has_bytes h.display c h.setting z.host) in
+      let done = scrolls some few la c f (has_bytes h.display c h.setting z.host) in
       ap (λ k. shown (run card_meaning (scroll_rows (band_by k d p w.left w.width) direction w.top w.height n attribute) c).0 d) (kind_is c d h)
       ∙ renewed_shown h.display (without_text c) c y d h (scroll_cells s p w direction n attribute) (cells_of_bytes done.cells) done.shown.others
       (bytes_are_cells h.display (without_text c) y done.cells done.shown)
-      (cells_gone f done.cells done.fact (λ k l. cells_at m.plane0 m.plane1 all_cells k l
+      (cells_scrolled f done.cells done.fact (λ k l. cells_at m.plane0 m.plane1 all_cells k l
       ∙ same_pair (woven_even m.plane0 m.plane1 k) (woven_odd m.plane0 m.plane1 k)))
