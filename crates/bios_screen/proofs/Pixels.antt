@@ -2,4 +2,3 @@
 pub mod NewPixels
 pub mod Writes
 pub mod Reads
-pub mod Dots

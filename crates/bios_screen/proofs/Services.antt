@@ -1,7 +1,7 @@
 -- The services by their numbers, and calls.
-pub mod TextReaders
 pub mod Cursors
 pub mod Characters
+pub mod Pixels
 pub mod Windows
 pub mod Typing
 pub mod Teletypes

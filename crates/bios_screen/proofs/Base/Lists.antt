@@ -1,6 +1,9 @@
 -- Lists by a function of the number.
-use Rattle.std.proofs.Common.{◌≡◌, ◌≢◌, ℕ, zero, suc, ◌+◌, ◌<◌, refl, sym, ap, ◌∙◌, arith, List, [], ◌∷◌, length, get_or, replicate}
+use Rattle.std.proofs.Common.{◌≡◌, ◌≢◌, ℕ, zero, suc, ◌+◌, ◌<◌, ⊎_elim, refl, sym, ap, ◌∙◌, arith, List, ◌∷◌, length, get_or, replicate}
 use Rattle.std.specs.Prelude.{slice_index, set}
+use Rattle.std.proofs.lemmas.Bool.{cases_eq}
+use Rattle.std.proofs.lemmas.Grind.{same_number_lists}
+use Rattle.std.proofs.lemmas.List.{same_lists, length-set, get_or-set_same, get_or-set_other}
 use Rattle.bios_screen.specs.Listing.{listing}
 
 pub same_listing : {Y : Type 0} (f g : ℕ → Y) (i j n : ℕ) → ((k : ℕ) → k < n → g (j + k) ≡ f (i + k)) → listing g j n ≡ listing f i n
@@ -39,43 +42,19 @@ listing_at f i (suc n) (suc q) d l = let z : i + 1 + q ≡ i + suc q = omega ari
 pub listed_at : {Y : Type 0} (f : ℕ → Y) (n q : ℕ) (d : Y) → q < n → get_or (listing f 0 n) q d ≡ f q
 listed_at f n q d l = let z : 0 + q ≡ q = omega arith in listing_at f 0 n q d l ∙ ap f z
 
--- a list by its elements
-by_elements : (f : ℕ → ℕ) (i : ℕ) (l : List ℕ) → ((k : ℕ) → k < length l → f (i + k) ≡ get_or l k 0) → listing f i (length l) ≡ l
-by_elements f i [] h = refl
-by_elements f i (x ∷ xs) h =
-    let z : i + 0 ≡ i = omega arith in
-    ap (λ y. y ∷ listing f (i + 1) (length xs)) (ap f (sym z) ∙ h 0 (omega arith))
-    ∙ ap (λ r. x ∷ r) (by_elements f (i + 1) xs (λ k l. let e : i + 1 + k ≡ i + suc k = omega arith in ap f e ∙ h (suc k) (omega arith)))
-
 -- a list of n numbers is spelled out where n is a numeral
 pub spelled : (l : List ℕ) (n : ℕ) → length l ≡ n → l ≡ listing (slice_index l) 0 n
-spelled l n e = sym (by_elements (slice_index l) 0 l (λ k h. let z : 0 + k ≡ k = omega arith in ap (slice_index l) z)) ∙ ap (listing (slice_index l) 0) e
-
--- lists of one length are one where their elements are
-pub same_elements : (a b : List ℕ) → length a ≡ length b → ((k : ℕ) → k < length a → slice_index a k ≡ slice_index b k) → a ≡ b
-same_elements [] [] e h = refl
-same_elements [] (y ∷ ys) e h = absurd (omega arith)
-same_elements (x ∷ xs) [] e h = absurd (omega arith)
-same_elements (x ∷ xs) (y ∷ ys) e h = ap (λ z. z ∷ xs) (h 0 (omega arith)) ∙ ap (λ l. y ∷ l)
-    (same_elements xs ys (omega arith) (λ k l. h (suc k) (omega arith)))
+spelled l n e = same_number_lists l (listing (slice_index l) 0 n) (e ∙ sym (length_listing (slice_index l) 0 n))
+    (λ k h. sym (listed_at (slice_index l) n k 0 (omega arith)))
 
 -- a listing in which one element differs
-listing_set_from : {Y : Type 0} (g h : ℕ → Y) (v : Y) (n i p : ℕ) → p < n → h (i + p) ≡ v → ((q : ℕ) → q < n → q ≢ p → h (i + q) ≡ g (i + q)) →
-    listing h i n ≡ set (listing g i n) p v
-listing_set_from g h v zero i p l e o = absurd (omega arith)
-listing_set_from g h v (suc n) i zero l e o =
-    let z : i + 0 ≡ i = omega arith in
-    ap (λ y. y ∷ listing h (i + 1) n) (ap h (sym z) ∙ e) ∙ ap (λ r. v ∷ r) (same_listing g h (i + 1) (i + 1) n (λ q k. let y : i + 1 + q ≡ i + suc q =
-    omega arith in ap h y ∙ o (suc q) (omega arith) (λ w. absurd (omega arith)) ∙ ap g (sym y)))
-listing_set_from g h v (suc n) i (suc p) l e o =
-    let z : i + 0 ≡ i = omega arith in
-    let y : i + 1 + p ≡ i + suc p = omega arith in
-    ap (λ x. x ∷ listing h (i + 1) n) (ap h (sym z) ∙ o 0 (omega arith) (λ w. absurd (omega arith)) ∙ ap g z)
-    ∙ ap (λ r. g i ∷ r) (listing_set_from g h v n (i + 1) p (omega arith) (ap h y ∙ e) (λ q k w. let u : i + 1 + q ≡ i + suc q = omega arith in ap h u
-    ∙ o (suc q) (omega arith) (λ t. w (omega arith)) ∙ ap g (sym u)))
-
 pub listing_set : {Y : Type 0} (g h : ℕ → Y) (n p : ℕ) (v : Y) → p < n → h p ≡ v → ((q : ℕ) → q < n → q ≢ p → h q ≡ g q) →
     listing h 0 n ≡ set (listing g 0 n) p v
 listing_set g h n p v l e o =
-    let z : 0 + p ≡ p = omega arith in
-    listing_set_from g h v n 0 p l (ap h z ∙ e) (λ q k w. let y : 0 + q ≡ q = omega arith in ap h y ∙ o q k w ∙ ap g (sym y))
+    let old = listing g 0 n in
+    let long = length_listing g 0 n in
+    let size = length_listing h 0 n in
+    same_lists (listing h 0 n) (set old p v) (size ∙ sym (length-set old p v ∙ long)) (λ k d lk. ⊎_elim
+    (λ (z : k ≡ p). listed_at h n k d (omega arith) ∙ ap h z ∙ e ∙ sym (ap (λ q. get_or (set old p v) q d) z ∙ get_or-set_same old p v d (omega arith)))
+    (λ (w : k ≢ p). listed_at h n k d (omega arith) ∙ o k (omega arith) w ∙ sym (get_or-set_other old p k v d w ∙ listed_at g n k d (omega arith)))
+    (cases_eq k p))

@@ -1,22 +1,12 @@
 -- What is known where there is no reason to refuse.
-use Rattle.std.proofs.Common.{◌≡◌, ℕ, ◌+◌, ◌<◌, ◌≤◌, refl, Bool, true, false, Option, Some, None}
+use Rattle.std.proofs.Common.{◌≡◌, ℕ, ◌+◌, ◌<◌, ◌≤◌, None}
 use Rattle.std.specs.Prelude.{◌==◌, nat_lt, nat_le}
-use Rattle.vga_bits.specs.declared.refusal.Refusal.{Refusal}
 use Rattle.vga_bits.specs.declared.refusal.Refusal.TheVariants.{BadPage, Outside, CountPast, BadBlock}
 use Rattle.bios_services.specs.Cursor.{row_of, column_of}
-use Rattle.bios_services.specs.Reasons.{◌or◌, refuse_unless, no_page, outside_cells, outside_page, past_cells, wrong_block}
+use Rattle.bios_services.specs.Reasons.{◌or◌, no_page, outside_cells, outside_page, past_cells, wrong_block}
+pub use Rattle.bios_services.proofs.ReasonLemmas.{neither, holds}
 use Rattle.bios_screen.proofs.Base.Tests.{both_true, lt_is, le_is, same}
 use Rattle.bios_screen.proofs.Base.TypedPlaces.{Inside}
-
--- neither of two reasons is there
-pub neither : (x y : Option Refusal) → (x or y) ≡ None → (x ≡ None) × (y ≡ None)
-neither None y e = (refl, e)
-neither (Some why) y e = absurd (cc)
-
--- the test holds
-pub holds : (b : Bool) (why : Refusal) → refuse_unless b why ≡ None → b ≡ true
-holds true why e = refl
-holds false why e = absurd (cc)
 
 -- the page is one, the place is within it, and the block is whole
 pub page_allowed : (pages page : ℕ) → no_page pages page ≡ None → page < pages

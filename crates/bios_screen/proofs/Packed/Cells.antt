@@ -42,29 +42,17 @@ abbrev shifted : (ℕ → ℕ) → ℕ → ℕ → ℕ → ℕ
 shifted f zero i x = x
 shifted f (suc n) i x = shifted f n (i + 1) ((2 * x + as_dot (f i)) % 256)
 
-shift_more : (x b : ℕ) → x < 128 → b < 2 → (2 * x + b) % 256 ≡ 2 * x + b
-shift_more x b l k = omega arith
+-- a byte of eight bits, by Horner's rule
+horner : (b0 b1 b2 b3 b4 b5 b6 b7 : ℕ) → b0 < 2 → b1 < 2 → b2 < 2 → b3 < 2 → b4 < 2 → b5 < 2 → b6 < 2 → b7 < 2 →
+    (2 * ((2 * ((2 * ((2 * ((2 * ((2 * ((2 * ((2 * 0 + b0) % 256) + b1) % 256) + b2) % 256) + b3) % 256) + b4) % 256) + b5) % 256) + b6) % 256) + b7) % 256
+    ≡ b7 + 2 * b6 + 4 * b5 + 8 * b4 + 16 * b3 + 32 * b2 + 64 * b1 + 128 * b0
+horner b0 b1 b2 b3 b4 b5 b6 b7 h0 h1 h2 h3 h4 h5 h6 h7 = omega arith
 
 byte_shifted : (f : ℕ → ℕ) → shifted f 8 0 0 ≡ byte_of (λ i. as_dot (f (7 - i)))
 unfolding byte_of
 byte_shifted f =
-    let b0 = dot_small (f 0) in let b1 = dot_small (f 1) in let b2 = dot_small (f 2) in let b3 = dot_small (f 3) in
-    let b4 = dot_small (f 4) in let b5 = dot_small (f 5) in let b6 = dot_small (f 6) in let b7 = dot_small (f 7) in
-    let x1 = (2 * 0 + as_dot (f 0)) % 256 in let e1 : x1 ≡ 2 * 0 + as_dot (f 0) = shift_more 0 (as_dot (f 0)) (omega arith) b0 in
-    let x2 = (2 * x1 + as_dot (f 1)) % 256 in let e2 : x2 ≡ 2 * x1 + as_dot (f 1) = shift_more x1 (as_dot (f 1)) (omega arith) b1 in
-    let x3 = (2 * x2 + as_dot (f 2)) % 256 in let e3 : x3 ≡ 2 * x2 + as_dot (f 2) = shift_more x2 (as_dot (f 2)) (omega arith) b2 in
-    let x4 = (2 * x3 + as_dot (f 3)) % 256 in let e4 : x4 ≡ 2 * x3 + as_dot (f 3) = shift_more x3 (as_dot (f 3)) (omega arith) b3 in
-    let x5 = (2 * x4 + as_dot (f 4)) % 256 in let e5 : x5 ≡ 2 * x4 + as_dot (f 4) = shift_more x4 (as_dot (f 4)) (omega arith) b4 in
-    let x6 = (2 * x5 + as_dot (f 5)) % 256 in let e6 : x6 ≡ 2 * x5 + as_dot (f 5) = shift_more x5 (as_dot (f 5)) (omega arith) b5 in
-    let x7 = (2 * x6 + as_dot (f 6)) % 256 in let e7 : x7 ≡ 2 * x6 + as_dot (f 6) = shift_more x6 (as_dot (f 6)) (omega arith) b6 in
-    let x8 = (2 * x7 + as_dot (f 7)) % 256 in let e8 : x8 ≡ 2 * x7 + as_dot (f 7) = shift_more x7 (as_dot (f 7)) (omega arith) b7 in
-    sum x1 x2 x3 x4 x5 x6 x7 x8 (as_dot (f 0)) (as_dot (f 1)) (as_dot (f 2)) (as_dot (f 3)) (as_dot (f 4)) (as_dot (f 5)) (as_dot (f 6)) (as_dot (f 7)) e1 e2 e3
-    e4 e5 e6 e7 e8
-  where
-    sum : (x1 x2 x3 x4 x5 x6 x7 x8 b0 b1 b2 b3 b4 b5 b6 b7 : ℕ) → x1 ≡ 2 * 0 + b0 → x2 ≡ 2 * x1 + b1 → x3 ≡ 2 * x2 + b2 → x4 ≡ 2 * x3 + b3 → x5 ≡ 2 * x4 + b4 →
-        x6 ≡ 2 * x5 + b5 → x7 ≡ 2 * x6 + b6 → x8 ≡ 2 * x7 + b7
-        → x8 ≡ b7 + 2 * b6 + 4 * b5 + 8 * b4 + 16 * b3 + 32 * b2 + 64 * b1 + 128 * b0
-    sum x1 x2 x3 x4 x5 x6 x7 x8 b0 b1 b2 b3 b4 b5 b6 b7 e1 e2 e3 e4 e5 e6 e7 e8 = omega arith
+    horner (as_dot (f 0)) (as_dot (f 1)) (as_dot (f 2)) (as_dot (f 3)) (as_dot (f 4)) (as_dot (f 5)) (as_dot (f 6)) (as_dot (f 7))
+    (dot_small (f 0)) (dot_small (f 1)) (dot_small (f 2)) (dot_small (f 3)) (dot_small (f 4)) (dot_small (f 5)) (dot_small (f 6)) (dot_small (f 7))
 
 module _ (rest : CardState) where
   abbrev one : ℕ → ℕ → ℕ → Plan ℕ

@@ -1,10 +1,11 @@
 -- Under chain 4 the planes are one flat memory of pixels of 256 colours.
-use Rattle.std.proofs.Common.{◌≡◌, ℕ, zero, suc, ◌+◌, ◌*◌, ◌/◌, ◌%◌, ◌<◌, refl, sym, ap, ◌∙◌, subst, arith, List, length, true}
+use Rattle.std.proofs.Common.{◌≡◌, ℕ, ◌+◌, ◌*◌, ◌/◌, ◌%◌, ◌<◌, refl, sym, ap, ◌∙◌, subst, arith, List, length, true}
 use Rattle.std.specs.Prelude.{slice_index, slice_set, ◌==◌, ◌&&◌, if◌then◌else◌}
 use Rattle.std.proofs.lemmas.Bool.Decides.{nat_tests}
 use Rattle.vga_bits.specs.Bits.{byte_of}
 use Rattle.vga_bits.proofs.BitLemmas.{byte_bits}
 use Rattle.vga_bits.specs.Four.{Four, of_plane}
+use Rattle.vga_bits.proofs.FourLemmas.{by_plane}
 use Rattle.vga_planes.specs.Planes.{bytes_at}
 use Rattle.vga_host.specs.Host.{HostState}
 use Rattle.vga_host.specs.Address.{is_decoded, window_offset}
@@ -25,13 +26,9 @@ decoded h n l = grind (arith, nat_tests)
 window_is : (h : HostState) (n : ℕ) → n < 65536 → window_offset (host_at h (setting_in Many)) (0xA0000 + n) ≡ n
 window_is h n l = omega arith
 
-written : (h : HostState) (b p : ℕ) → p < 4 → b < 256 → written_byte (host_at h (setting_in Many)) b p ≡ b
+written : (h : HostState) (b : ℕ) → b < 256 → (p : ℕ) → p < 4 → written_byte (host_at h (setting_in Many)) b p ≡ b
 unfolding byte_of written_bit combined_bit
-written h b zero k l = byte_bits b l
-written h b (suc zero) k l = byte_bits b l
-written h b (suc (suc zero)) k l = byte_bits b l
-written h b (suc (suc (suc zero))) k l = byte_bits b l
-written h b (suc (suc (suc (suc p)))) k l = absurd (omega arith)
+written h b l = by_plane (λ p. written_byte (host_at h (setting_in Many)) b p ≡ b) (byte_bits b l) (byte_bits b l) (byte_bits b l) (byte_bits b l)
 
 -- the planes, each of which may have a new byte
 abbrev four_packed : Four (List ℕ) → ℕ → ℕ → ℕ → ℕ → ℕ → Four (List ℕ)
@@ -48,10 +45,10 @@ packed_memory m n b = four_packed m n b b b b
 memory_is : (h : HostState) (n b : ℕ) → b < 256 → memory_after_put (host_at h (setting_in Many)) n b ≡ packed_memory h.memory n b
 memory_is h n b l =
     let w = written_byte (host_at h (setting_in Many)) b in
-    ap (λ x. four_packed h.memory n x (w 1) (w 2) (w 3)) (written h b 0 (omega arith) l)
-    ∙ ap (λ x. four_packed h.memory n b x (w 2) (w 3)) (written h b 1 (omega arith) l)
-    ∙ ap (λ x. four_packed h.memory n b b x (w 3)) (written h b 2 (omega arith) l)
-    ∙ ap (λ x. four_packed h.memory n b b b x) (written h b 3 (omega arith) l)
+    ap (λ x. four_packed h.memory n x (w 1) (w 2) (w 3)) (written h b l 0 (omega arith))
+    ∙ ap (λ x. four_packed h.memory n b x (w 2) (w 3)) (written h b l 1 (omega arith))
+    ∙ ap (λ x. four_packed h.memory n b b x (w 3)) (written h b l 2 (omega arith))
+    ∙ ap (λ x. four_packed h.memory n b b b x) (written h b l 3 (omega arith))
 
 pub put_is : (c : CardState) (n b : ℕ) → setting c ≡ setting_in Many → n < 65536 → b < 256 →
     (run card_meaning (put (0xA0000 + n) b) c).0 ≡ with_memory c (packed_memory c.host.memory n b)
@@ -62,11 +59,8 @@ put_is c n b e l h =
 
 plane_after : (m : Four (List ℕ)) (n b p : ℕ) → p < 4 → of_plane (packed_memory m n b) p
     ≡ (if p == n % 4 then slice_set (of_plane m p) (n / 4 * 4) b else of_plane m p)
-plane_after m n b zero l = refl
-plane_after m n b (suc zero) l = refl
-plane_after m n b (suc (suc zero)) l = refl
-plane_after m n b (suc (suc (suc zero))) l = refl
-plane_after m n b (suc (suc (suc (suc p)))) l = absurd (omega arith)
+plane_after m n b = by_plane (λ p. of_plane (packed_memory m n b) p ≡ (if p == n % 4 then slice_set (of_plane m p) (n / 4 * 4) b else of_plane m p))
+    refl refl refl refl
 
 -- a Put changes one pixel
 pub pixel_put : (m : Four (List ℕ)) (n b k : ℕ) → ((p : ℕ) → p < 4 → length (of_plane m p) ≡ 65536) → n < 65536 →
@@ -82,11 +76,7 @@ pixel_put m n b k size l =
 
 -- a byte of the four is the plane's
 byte_of_plane : (m : Four (List ℕ)) (o p : ℕ) → p < 4 → of_plane (bytes_at m o) p ≡ slice_index (of_plane m p) o
-byte_of_plane m o zero l = refl
-byte_of_plane m o (suc zero) l = refl
-byte_of_plane m o (suc (suc zero)) l = refl
-byte_of_plane m o (suc (suc (suc zero))) l = refl
-byte_of_plane m o (suc (suc (suc (suc p)))) l = absurd (omega arith)
+byte_of_plane m o = by_plane (λ p. of_plane (bytes_at m o) p ≡ slice_index (of_plane m p) o) refl refl refl refl
 
 pub byte_read : (h : HostState) (n : ℕ) → n < 65536 → packed_pixel h.memory n < 256 →
     read_byte (host_at h (setting_in Many)) (0xA0000 + n) ≡ packed_pixel h.memory n

@@ -1,5 +1,5 @@
 -- Where a service changes pixels alone: from pixels that are known one by one to the next screen.
-use Rattle.std.proofs.Common.{◌≡◌, ◌≢◌, ℕ, ◌*◌, ◌<◌, sym, ap, ◌∙◌, List, [], length, get_or, Some, false}
+use Rattle.std.proofs.Common.{◌≡◌, ◌≢◌, ℕ, ◌+◌, ◌*◌, ◌<◌, sym, ap, ◌∙◌, arith, List, [], length, get_or, Some, false}
 use Rattle.std.specs.Prelude.{set}
 use Rattle.vga_bits.specs.Four.{Four}
 use Rattle.vga_card.specs.Card.{CardState}
@@ -12,11 +12,22 @@ use Rattle.bios_screen.specs.Screen.{Pixels, Screen}
 use Rattle.bios_screen.specs.Shown.{shows_attribute, pixel_in, pixels_in, pixel_pages, page_pixels, screen_by, pixel_screen, shown}
 use Rattle.bios_screen.specs.Step.{pixel_of, with_pixels}
 use Rattle.bios_screen.proofs.Base.Lists.{same_from_0, length_listing, listed_at, listing_set}
+use Rattle.bios_screen.proofs.Base.Places.{ends_before}
 use Rattle.bios_screen.proofs.Base.Setting.{setting}
 use Rattle.bios_screen.proofs.Shows.Screens.{AllTests}
 use Rattle.bios_screen.proofs.Shows.Pixels.{pixels_shown_of}
 use Rattle.bios_screen.proofs.Shows.Any.{same_tests}
 use Rattle.bios_screen.proofs.Planar.Settings.{without_drawing}
+
+-- a pixel of a page is there, and its number
+pub record There (d : BiosData) (x y : ℕ) : Type 0 where
+  pub across : x < 8 * d.columns
+  pub down : y < d.height * (d.last_row + 1)
+
+pub number_within : (d : BiosData) (x y : ℕ) → There d x y → 8 * d.columns * y + x < page_pixels d
+number_within d x y h = let a = h.across in let b = ends_before (8 * d.columns) y (d.height * (d.last_row + 1)) h.down in omega arith
+
+-- ---- what an adapter shows after a service
 
 module _ (row : ModeRow) (c y : CardState) (d : BiosData) (e : row_at d.mode d.height ≡ Some row) (text : is_text d.mode ≡ false) (t : AllTests row c d)
     (same : setting y ≡ setting c) (others : without_drawing y ≡ without_drawing c) where

@@ -1,5 +1,5 @@
 -- A pixel of sixteen colours is written, plain or by XOR.
-use Rattle.std.proofs.Common.{◌≡◌, ◌≢◌, ℕ, ◌+◌, ◌*◌, ◌/◌, ◌%◌, ◌^◌, ◌<◌, ◌≤◌, ⊎_elim, refl, sym, ap, ◌∙◌, subst, arith, List, Some, Bool, true, false}
+use Rattle.std.proofs.Common.{◌≡◌, ◌≢◌, ℕ, ◌+◌, ◌*◌, ◌/◌, ◌%◌, ◌^◌, ◌<◌, ◌≤◌, ⊎_elim, refl, sym, ap, ◌∙◌, subst, arith, Some, Bool, true, false}
 use Rattle.std.specs.Prelude.{slice_index, bit_and, ◌==◌, if◌then◌else◌}
 use Rattle.std.proofs.lemmas.Bool.{cases_eq, agree_below_at}
 use Rattle.std.proofs.lemmas.Bool.Decides.{nat_tests}
@@ -11,17 +11,13 @@ use Rattle.vga_card.specs.Bus.{card_meaning}
 use Rattle.vga_card.specs.Card.{CardState}
 use Rattle.bios_modes.specs.Heights.{row_at}
 use Rattle.bios_modes.specs.Bda.{BiosData}
-use Rattle.bios_modes.specs.Fonts.{FontSet}
 use Rattle.bios_modes.specs.Kinds.{is_packed}
-use Rattle.bios_services.specs.declared.regs.Regs.{Regs}
-use Rattle.bios_services.specs.declared.call.Service.TheVariants.{WritePixel}
 use Rattle.bios_services.specs.Cycles.{graphics}
 use Rattle.bios_services.specs.Plan.{Plan, run, put, get, Done, ◌>>=◌, ◌>>◌}
 use Rattle.bios_services.specs.Pixels.{pixel_address, write_dot_plan, write_pixel_plan}
 use Rattle.bios_screen.specs.Screen.{Screen}
 use Rattle.bios_screen.specs.Shown.{page_pixels, pixel_screen, shown}
 use Rattle.bios_screen.specs.Step.{pixel_of, pixel_number, with_pixels, colour_over, change_pixel}
-use Rattle.bios_screen.specs.Served.{IsServed}
 use Rattle.bios_screen.proofs.Base.Flat.{set_cell, set_same, set_other}
 use Rattle.bios_screen.proofs.Base.Plans.{then_runs}
 use Rattle.bios_screen.proofs.Modes.PixelModes.{Planes, row_of, packed_by}
@@ -30,8 +26,7 @@ use Rattle.bios_screen.proofs.Planar.Settings.{Hand, at_rest, drawing, stored, w
 use Rattle.bios_screen.proofs.Planar.Bits.{nibble_of, dot_hand, dot_over, pixel_dotted}
 use Rattle.bios_screen.proofs.Planar.Screens as screens
 use Rattle.bios_screen.proofs.Planar.Reads as reads
-use Rattle.bios_screen.proofs.Pixels.Dots as services
-use Rattle.bios_screen.proofs.Pixels.Dots.{number_within}
+use Rattle.bios_screen.proofs.Pixels.NewPixels.{There, number_within}
 
 mask_kept : (k : ℕ) → k < 8 → bit_and (0x80 / 2 ^ k) 0xFF ≡ 0x80 / 2 ^ k
 mask_kept k l = let t = agree_below_at (λ k. bit_and (0x80 / 2 ^ k) 0xFF == 0x80 / 2 ^ k) (λ _. true) 8 k refl l in grind (arith, nat_tests)
@@ -159,16 +154,17 @@ module _ (m : Planes) (c : CardState) (d : BiosData) (t : IsPlanar m c d) (e : r
   colouring_is : (v : ℕ) → dot_over (is_set v 7) v ≡ colour_over d.mode v
   colouring_is v = sym (ap (λ i o. let x : ℕ = if i then v else dot_over (is_set v 7) v o in x) (ap is_packed t.number ∙ packed_by m))
 
-  pub write_pixel : (page x y v : ℕ) (fonts : FontSet) (r : Regs) (block : List ℕ) → IsServed (WritePixel page x y v) fonts r block c d s
-  write_pixel page x y v fonts r block = services.write_pixel (row_of m) c d e page x y v fonts r block (λ p h.
+  pub pixel_written : (p x y v : ℕ) → p < (row_of m).pages → There d x y → shown (run card_meaning (write_pixel_plan d p x y v) c).0 d
+      ≡ Some (with_pixels s p (change_pixel (pixel_number s x y) (colour_over d.mode v)))
+  pixel_written p x y v lp h =
       let n = pixel_number s x y in
       let misc = (row_of m).misc in
       let clocking = slice_index (row_of m).sequencer 1 in
       let plan = dot_plan (is_set v 7) (0xA0000 + (d.size * p + n / 8)) (x % 8) v in
       let drawn = dot_drawn (without_drawing c) misc clocking (d.size * p + n / 8) (x % 8) v (is_set v 7) c.host.latches c old (reads.enabled_by m)
-      (reads.offset_small m c d t e z p x y h) (omega arith) (screens.begins m c d t e z) in
+      (reads.offset_small m c d t e z p x y lp h) (omega arith) (screens.begins m c d t e z) in
       ap (λ i. shown (run card_meaning i c).0 d) (write_is p x y v)
-      ∙ dot_shown p n v (is_set v 7) (run card_meaning plan c).0 h.page (number_within (row_of m) d p x y h)
+      ∙ dot_shown p n v (is_set v 7) (run card_meaning plan c).0 lp (number_within d x y h)
       (subst (λ k. IsDotted (without_drawing c) misc clocking (d.size * p + n / 8) k (dot_over (is_set v 7) v) (run card_meaning plan c).0 old)
       (reads.rest_of_8 d.columns y x) drawn)
-      ∙ ap (λ i. Some (with_pixels s p (change_pixel n i))) (colouring_is v))
+      ∙ ap (λ i. Some (with_pixels s p (change_pixel n i))) (colouring_is v)

@@ -1,10 +1,11 @@
 -- A pixel of sixteen colours is read, plane after plane.
-use Rattle.std.proofs.Common.{◌≡◌, ℕ, zero, suc, ◌+◌, ◌-◌, ◌*◌, ◌/◌, ◌%◌, ◌<◌, refl, sym, ap, ◌∙◌, subst, arith, List, [], ◌∷◌, Some, true}
+use Rattle.std.proofs.Common.{◌≡◌, ℕ, ◌+◌, ◌-◌, ◌*◌, ◌/◌, ◌%◌, ◌<◌, refl, sym, ap, ◌∙◌, subst, arith, List, [], ◌∷◌, Some, true}
 use Rattle.std.specs.Prelude.{slice_index, slice_set, bit_and, if◌then◌else◌}
 use Rattle.std.specs.Int.{bit_at}
 use Rattle.vga_bits.specs.Bits.{is_set, byte_of}
 use Rattle.vga_bits.proofs.BitLemmas.{byte_bits}
 use Rattle.vga_bits.specs.Four.{four}
+use Rattle.vga_bits.proofs.FourLemmas.{by_plane}
 use Rattle.vga_planes.specs.Planes.{byte_at}
 use Rattle.vga_host.specs.Host.{HostState}
 use Rattle.vga_host.specs.MemoryRead.{read_bit, read_byte}
@@ -15,10 +16,7 @@ use Rattle.vga_card.specs.Port.{port_of}
 use Rattle.vga_card.specs.Cycles.{out_at}
 use Rattle.bios_modes.specs.Heights.{row_at}
 use Rattle.bios_modes.specs.Bda.{BiosData}
-use Rattle.bios_modes.specs.Fonts.{FontSet}
 use Rattle.bios_modes.specs.Kinds.{is_packed}
-use Rattle.bios_services.specs.declared.regs.Regs.{Regs}
-use Rattle.bios_services.specs.declared.call.Service.TheVariants.{ReadPixel}
 use Rattle.bios_services.specs.Cells.{page_base}
 use Rattle.bios_services.specs.Cycles.{graphics}
 use Rattle.bios_services.specs.Plan.{Plan, run, get}
@@ -26,16 +24,14 @@ use Rattle.bios_services.specs.Pixels.{pixel_address, read_dot_plan, read_pixel_
 use Rattle.bios_screen.specs.Screen.{Screen}
 use Rattle.bios_screen.specs.Shown.{pixel_in, pixel_screen, shown}
 use Rattle.bios_screen.specs.Step.{pixel_of}
-use Rattle.bios_screen.specs.Served.{IsServed}
 use Rattle.bios_screen.proofs.Base.Setting.{Setting, setting, host_at, reached, offset_is, get_decoded}
 use Rattle.bios_screen.proofs.Modes.PixelModes.{Planes, row_of, number_of, packed_by}
 use Rattle.bios_screen.proofs.Modes.PixelModes.Planes.{Low, Middle, High}
-use Rattle.bios_screen.proofs.Pixels.NewPixels.{pixels_stay}
+use Rattle.bios_screen.proofs.Pixels.NewPixels.{There, number_within, pixels_stay}
 use Rattle.bios_screen.proofs.Planar.Settings.{without_drawing}
 use Rattle.bios_screen.proofs.Dots.PlanarDots.{IsPlanar}
 use Rattle.bios_screen.proofs.Planar.Screens as screens
-use Rattle.bios_screen.proofs.Pixels.Dots as services
-use Rattle.bios_screen.proofs.Pixels.Dots.{There, number_within}
+use Rattle.bios_screen.proofs.Pixels.Reads.{IsSeen}
 
 -- ---- one plane is picked, and read
 
@@ -62,18 +58,16 @@ pick_set rest e k p v c l t = record {
   others = t.others;
 }
 
-byte_is : (h : HostState) (e k p a : ℕ) → p < 4 → a < 65536 → byte_at h.memory p a < 256 →
+byte_is : (h : HostState) (e k a : ℕ) → a < 65536 → (p : ℕ) → p < 4 → byte_at h.memory p a < 256 →
     read_byte (host_at h (picking e k p)) (0xA0000 + a) ≡ byte_at h.memory p a
 unfolding byte_of read_bit
-byte_is h e k zero a lp l b = byte_bits _ (subst (λ o. slice_index h.memory.plane0 o < 256) (sym (offset_is a l)) b)
-    ∙ ap (slice_index h.memory.plane0) (offset_is a l)
-byte_is h e k (suc zero) a lp l b = byte_bits _ (subst (λ o. slice_index h.memory.plane1 o < 256) (sym (offset_is a l)) b)
-    ∙ ap (slice_index h.memory.plane1) (offset_is a l)
-byte_is h e k (suc (suc zero)) a lp l b = byte_bits _ (subst (λ o. slice_index h.memory.plane2 o < 256) (sym (offset_is a l)) b)
-    ∙ ap (slice_index h.memory.plane2) (offset_is a l)
-byte_is h e k (suc (suc (suc zero))) a lp l b = byte_bits _ (subst (λ o. slice_index h.memory.plane3 o < 256) (sym (offset_is a l)) b)
-    ∙ ap (slice_index h.memory.plane3) (offset_is a l)
-byte_is h e k (suc (suc (suc (suc p)))) a lp l b = absurd (omega arith)
+byte_is h e k a l =
+    let m = h.memory in
+    by_plane (λ p. byte_at m p a < 256 → read_byte (host_at h (picking e k p)) (0xA0000 + a) ≡ byte_at m p a)
+    (byte m.plane0) (byte m.plane1) (byte m.plane2) (byte m.plane3)
+  where
+    byte : (plane : List ℕ) → slice_index plane a < 256 → byte_of (bit_at (slice_index plane ((0xA0000 + a - 0xA0000) % 65536))) ≡ slice_index plane a
+    byte plane b = ap (λ o. byte_of (bit_at (slice_index plane o))) (offset_is a l) ∙ byte_bits (slice_index plane a) b
 
 -- what a read leaves and answers
 record IsPicked (rest : CardState) (e k p a : ℕ) (c : CardState) : Type 0 where
@@ -87,7 +81,7 @@ pick_get rest e k p a c lp la on b t =
     let memory : c.host.memory ≡ rest.host.memory = ap (λ (x : CardState). x.host.memory) t.others in
     record {
       still = subst (λ y. IsPicking rest e k p y.0) (sym r) (record { mode = t.mode; others = t.others });
-      value = ap (λ y. y.1) r ∙ byte_is c.host e k p a lp la (subst (λ m. byte_at m p a < 256) (sym memory) b) ∙ ap (λ m. byte_at m p a) memory;
+      value = ap (λ y. y.1) r ∙ byte_is c.host e k a la p lp (subst (λ m. byte_at m p a < 256) (sym memory) b) ∙ ap (λ m. byte_at m p a) memory;
     }
 
 -- four planes, one after another
@@ -114,11 +108,7 @@ dot_read rest e k a x c la on b t =
     let j = 7 - x % 8 in
     record {
       still = pick_set rest e k 3 0 (run card_meaning g c3).0 refl t3.still;
-      value = ap (λ v. bit_at v j + 2 * bit_at (run card_meaning g c1).1 j + 4 * bit_at (run card_meaning g c2).1 j + 8 * bit_at (run card_meaning g c3).1 j)
-          t0.value
-          ∙ ap (λ v. bit_at (byte_at m 0 a) j + 2 * bit_at v j + 4 * bit_at (run card_meaning g c2).1 j + 8 * bit_at (run card_meaning g c3).1 j) t1.value
-          ∙ ap (λ v. bit_at (byte_at m 0 a) j + 2 * bit_at (byte_at m 1 a) j + 4 * bit_at v j + 8 * bit_at (run card_meaning g c3).1 j) t2.value
-          ∙ ap (λ v. bit_at (byte_at m 0 a) j + 2 * bit_at (byte_at m 1 a) j + 4 * bit_at (byte_at m 2 a) j + 8 * bit_at v j) t3.value;
+      value = rw (t0.value, t1.value, t2.value, t3.value) refl;
     }
 
 -- ---- numbers of the modes
@@ -153,8 +143,8 @@ module _ (m : Planes) (c : CardState) (d : BiosData) (t : IsPlanar m c d) (e : r
   abbrev offset : ℕ → ℕ → ℕ → ℕ
   offset p x y = d.size * p + number x y / 8
 
-  pub offset_small : (p x y : ℕ) → There (row_of m) d p x y → offset p x y < 65536
-  offset_small p x y h = screens.in_memory m c d t e z p (number x y) h.page (number_within (row_of m) d p x y h)
+  pub offset_small : (p x y : ℕ) → p < (row_of m).pages → There d x y → offset p x y < 65536
+  offset_small p x y lp h = screens.in_memory m c d t e z p (number x y) lp (number_within d x y h)
 
   pub address_is : (p x y : ℕ) → pixel_address d p x y ≡ 0xA0000 + offset p x y
   address_is p x y =
@@ -172,27 +162,29 @@ module _ (m : Planes) (c : CardState) (d : BiosData) (t : IsPlanar m c d) (e : r
   begins : IsPicking (without_reads c) (row_of m).misc (slice_index (row_of m).sequencer 1) 0 c
   begins = record { mode = screens.setting_is m c d t e z; others = refl }
 
-  dot : (p x y : ℕ) → There (row_of m) d p x y → IsDotRead (without_reads c) (row_of m).misc (slice_index (row_of m).sequencer 1) (offset p x y) x c
-  dot p x y h = dot_read (without_reads c) (row_of m).misc (slice_index (row_of m).sequencer 1) (offset p x y) x c (offset_small p x y h) (enabled_by m) (λ q l.
-      z.host.memory.bytes q l (offset p x y)) begins
+  dot : (p x y : ℕ) → p < (row_of m).pages → There d x y →
+      IsDotRead (without_reads c) (row_of m).misc (slice_index (row_of m).sequencer 1) (offset p x y) x c
+  dot p x y lp h = dot_read (without_reads c) (row_of m).misc (slice_index (row_of m).sequencer 1) (offset p x y) x c (offset_small p x y lp h)
+      (enabled_by m) (λ q l. z.host.memory.bytes q l (offset p x y)) begins
 
-  pixel_is : (p x y : ℕ) → There (row_of m) d p x y → (run card_meaning (read_dot_plan (0xA0000 + offset p x y) x) c).1 ≡ pixel_of s p (number x y)
-  pixel_is p x y h =
+  pixel_is : (p x y : ℕ) → p < (row_of m).pages → There d x y → (run card_meaning (read_dot_plan (0xA0000 + offset p x y) x) c).1 ≡ pixel_of s p (number x y)
+  pixel_is p x y lp h =
       let n = number x y in
       let f = c.host.memory in
-      (dot p x y h).value
+      (dot p x y lp h).value
       ∙ ap (λ i. bit_at (byte_at f 0 (offset p x y)) (7 - i) + 2 * bit_at (byte_at f 1 (offset p x y)) (7 - i) + 4 * bit_at (byte_at f 2 (offset p x y)) (7 - i)
       + 8 * bit_at (byte_at f 3 (offset p x y)) (7 - i)) (rest_of_8 d.columns y x)
-      ∙ sym (screens.pixel_is m c d t e z p n h.page (number_within (row_of m) d p x y h))
+      ∙ sym (screens.pixel_is m c d t e z p n lp (number_within d x y h))
 
   -- the screen stays
   stays : (y : CardState) → IsPicking (without_reads c) (row_of m).misc (slice_index (row_of m).sequencer 1) 0 y → shown y d ≡ Some s
   stays y h = pixels_stay (row_of m) c y d e (screens.text m c d t e z) t.tests (h.mode ∙ sym begins.mode) (ap without_drawing h.others) (λ g k _ _.
       ap (λ (x : CardState). pixel_in d.mode x.host.memory (d.size * g) k) h.others)
 
-  pub read_pixel : (page x y : ℕ) (fonts : FontSet) (r : Regs) (block : List ℕ) → IsServed (ReadPixel page x y) fonts r block c d s
-  read_pixel page x y fonts r block = services.read_pixel (row_of m) c d e page x y fonts r block (λ p h. record {
-    answer = ap (λ i. (run card_meaning i c).1) (read_is p x y) ∙ pixel_is p x y h;
-    shows = ap (λ i. shown (run card_meaning i c).0 d) (read_is p x y) ∙ stays (run card_meaning (read_dot_plan (0xA0000 + offset p x y) x) c).0
-        (dot p x y h).still;
-  })
+  pub pixel_read : (p x y : ℕ) → p < (row_of m).pages → There d x y →
+      IsSeen (λ y. shown y d ≡ Some s) (read_pixel_plan d p x y) (pixel_of s p (number x y)) c
+  pixel_read p x y lp h = record {
+    value = ap (λ i. (run card_meaning i c).1) (read_is p x y) ∙ pixel_is p x y lp h;
+    still = ap (λ i. shown (run card_meaning i c).0 d) (read_is p x y) ∙ stays (run card_meaning (read_dot_plan (0xA0000 + offset p x y) x) c).0
+        (dot p x y lp h).still;
+  }

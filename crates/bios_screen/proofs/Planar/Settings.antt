@@ -17,7 +17,7 @@ use Rattle.vga_card.specs.Bus.{card_meaning}
 use Rattle.vga_card.specs.Card.{CardState}
 use Rattle.vga_card.specs.Port.{port_of}
 use Rattle.vga_card.specs.Cycles.{written_unless, out_at}
-use Rattle.bios_services.specs.Plan.{run, put, get}
+use Rattle.bios_services.specs.Plan.{Plan, run, put, get}
 use Rattle.bios_services.specs.Cycles.{sequencer, graphics}
 use Rattle.bios_screen.proofs.Base.Flat.{set_cell, set_same, set_other}
 use Rattle.bios_services.proofs.CardLemmas.{plan_bounds}
@@ -185,31 +185,42 @@ get_loads rest e d a k q c f on t l =
 and_15 : (m : ℕ) → m < 16 → bit_and m 0x0F ≡ m
 and_15 m l = let t = agree_below_at (λ m. bit_and m 0x0F == m) (λ _. true) 16 m refl l in grind (arith, nat_tests)
 
+-- a write to a register of the sequencer or of the graphics controller, after which the hand is another
+hand_set : (rest : CardState) (e d : ℕ) (k n : Hand) (q : Four ℕ) (c : CardState) (f : ℕ → Four ℕ) (plan : Plan (Unit {0}))
+    (seq gfx : List ℕ) (i j : ℕ)
+    → (run card_meaning plan c).0 ≡ record c { host = record c.host { seq = seq; gfx = gfx; seq_index = i; gfx_index = j } }
+    → (let s : Setting = record { misc = c.misc; seq = seq; gfx = gfx } in s) ≡ drawing e d n → Loaded rest e d k c f q →
+    Loaded rest e d n (run card_meaning plan c).0 f q
+hand_set rest e d k n q c f plan seq gfx i j after mode t = subst (λ y. Loaded rest e d n y f q) (sym after) (record {
+  mode = mode;
+  bounds = subst IsCard after (plan_bounds plan c t.bounds);
+  cell = t.cell;
+  others = t.others;
+  latch = t.latch;
+})
+
+-- register i of the sequencer, or of the graphics controller, in a setting
+abbrev with_seq : ℕ → ℕ → Setting → Setting
+with_seq i v s = record s { seq = slice_set s.seq i v }
+
+abbrev with_gfx : ℕ → ℕ → Setting → Setting
+with_gfx i v s = record s { gfx = slice_set s.gfx i v }
+
 -- the map mask
 pub mask_set : (rest : CardState) (e d m : ℕ) (k : Hand) (q : Four ℕ) (c : CardState) (f : ℕ → Four ℕ) → m < 16 → Loaded rest e d k c f q →
     Loaded rest e d (record k { mask = m }) (run card_meaning (sequencer 2 m) c).0 f q
 unfolding port_of out_at
-mask_set rest e d m k q c f l t = record {
-  mode = ap (λ (s : Setting). let x : Setting = record s { seq = slice_set s.seq 2 (bit_and m 0x0F) } in x) t.mode
-      ∙ ap (λ x. drawing e d (record k { mask = x })) (and_15 m l);
-  bounds = plan_bounds (sequencer 2 m) c t.bounds;
-  cell = t.cell;
-  others = t.others;
-  latch = t.latch;
-}
+mask_set rest e d m k q c f l t =
+    hand_set rest e d k (record k { mask = m }) q c f (sequencer 2 m) (slice_set c.host.seq 2 (bit_and m 0x0F)) c.host.gfx 2 c.host.gfx_index refl
+    (ap (with_seq 2 (bit_and m 0x0F)) t.mode ∙ ap (λ x. drawing e d (record k { mask = x })) (and_15 m l)) t
 
 -- the function and the rotation
 pub function_set : (rest : CardState) (e d v : ℕ) (k : Hand) (q : Four ℕ) (c : CardState) (f : ℕ → Four ℕ) → bit_and v 0x1F ≡ v →
     Loaded rest e d k c f q → Loaded rest e d (record k { turn = v }) (run card_meaning (graphics 3 v) c).0 f q
 unfolding port_of out_at
-function_set rest e d v k q c f l t = record {
-  mode = ap (λ (s : Setting). let x : Setting = record s { gfx = slice_set s.gfx 3 (bit_and v 0x1F) } in x) t.mode
-      ∙ ap (λ x. drawing e d (record k { turn = x })) l;
-  bounds = plan_bounds (graphics 3 v) c t.bounds;
-  cell = t.cell;
-  others = t.others;
-  latch = t.latch;
-}
+function_set rest e d v k q c f l t =
+    hand_set rest e d k (record k { turn = v }) q c f (graphics 3 v) c.host.seq (slice_set c.host.gfx 3 (bit_and v 0x1F)) c.host.seq_index 3 refl
+    (ap (with_gfx 3 (bit_and v 0x1F)) t.mode ∙ ap (λ x. drawing e d (record k { turn = x })) l) t
 
 -- read and write mode; bit 5 is refused, and so the test of it is a premise
 pub mode_set : (rest : CardState) (e d v : ℕ) (k : Hand) (q : Four ℕ) (c : CardState) (f : ℕ → Four ℕ) → bit_and v 0x7B ≡ v →
@@ -218,26 +229,14 @@ unfolding port_of out_at
 mode_set rest e d v k q c f l b t =
     let index : CardState = record c { host = record c.host { gfx_index = 5 } } in
     let next : CardState = record index { host = record index.host { gfx = slice_set c.host.gfx 5 (bit_and v 0x7B) } } in
-    let after : (run card_meaning (graphics 5 v) c).0 ≡ next = ap (λ y. (written_unless y index next).0) b in
-    let still : Loaded rest e d (record k { mode = v }) next f q = record {
-      mode = ap (λ (s : Setting). let x : Setting = record s { gfx = slice_set s.gfx 5 (bit_and v 0x7B) } in x) t.mode
-          ∙ ap (λ x. drawing e d (record k { mode = x })) l;
-      bounds = subst IsCard after (plan_bounds (graphics 5 v) c t.bounds);
-      cell = t.cell;
-      others = t.others;
-      latch = t.latch;
-    } in
-    subst (λ y. Loaded rest e d (record k { mode = v }) y f q) (sym after) still
+    hand_set rest e d k (record k { mode = v }) q c f (graphics 5 v) c.host.seq (slice_set c.host.gfx 5 (bit_and v 0x7B)) c.host.seq_index 5
+    (ap (λ y. (written_unless y index next).0) b)
+    (ap (with_gfx 5 (bit_and v 0x7B)) t.mode ∙ ap (λ x. drawing e d (record k { mode = x })) l) t
 
 -- the bit mask
 pub bits_set : (rest : CardState) (e d v : ℕ) (k : Hand) (q : Four ℕ) (c : CardState) (f : ℕ → Four ℕ) → bit_and v 0xFF ≡ v →
     Loaded rest e d k c f q → Loaded rest e d (record k { bits = v }) (run card_meaning (graphics 8 v) c).0 f q
 unfolding port_of out_at
-bits_set rest e d v k q c f l t = record {
-  mode = ap (λ (s : Setting). let x : Setting = record s { gfx = slice_set s.gfx 8 (bit_and v 0xFF) } in x) t.mode
-      ∙ ap (λ x. drawing e d (record k { bits = x })) l;
-  bounds = plan_bounds (graphics 8 v) c t.bounds;
-  cell = t.cell;
-  others = t.others;
-  latch = t.latch;
-}
+bits_set rest e d v k q c f l t =
+    hand_set rest e d k (record k { bits = v }) q c f (graphics 8 v) c.host.seq (slice_set c.host.gfx 8 (bit_and v 0xFF)) c.host.seq_index 8 refl
+    (ap (with_gfx 8 (bit_and v 0xFF)) t.mode ∙ ap (λ x. drawing e d (record k { bits = x })) l) t

@@ -45,15 +45,10 @@ base_by Low = refl
 base_by Middle = refl
 base_by High = refl
 
-wide_by : (m : Planes) → 0 < (row_of m).columns
-wide_by Low = omega arith
-wide_by Middle = omega arith
-wide_by High = omega arith
-
-high_by : (m : Planes) → 0 < (row_of m).height
-high_by Low = omega arith
-high_by Middle = omega arith
-high_by High = omega arith
+some_by : (m : Planes) → (0 < (row_of m).columns) × (0 < (row_of m).height)
+some_by Low = (omega arith, omega arith)
+some_by Middle = (omega arith, omega arith)
+some_by High = (omega arith, omega arith)
 
 -- the plan by its addresses
 pub address_sum : (start w h row r left : ℕ) → 0xA0000 + start + 1 * w * (h * row + r) + 1 * left + 0 ≡ 0xA0000 + (start + (w * (h * row + r) + left))
@@ -88,10 +83,10 @@ module _ (m : Planes) (c : CardState) (d : BiosData) (t : IsPlanar m c d) (e : r
   clocking = slice_index (row_of m).sequencer 1
 
   pub wide : 0 < w
-  wide = subst (λ n. 0 < n) (sym t.has.columns) (wide_by m)
+  wide = subst (λ n. 0 < n) (sym t.has.columns) (some_by m).0
 
   pub high : 0 < h
-  high = subst (λ n. 0 < n) (sym t.has.height) (high_by m)
+  high = subst (λ n. 0 < n) (sym t.has.height) (some_by m).1
 
   -- the place of line r of cell q of a page
   abbrev place : ℕ → ℕ → ℕ → ℕ

@@ -18,19 +18,16 @@ use Rattle.bios_services.specs.declared.call.Service.TheVariants.{WritePixel, Re
 use Rattle.bios_screen.specs.Shown.{pixel_screen}
 use Rattle.bios_screen.specs.Served.{FitsBytes, IsServed, Serves, ServesText}
 use Rattle.bios_modes.specs.Bounds.{AreBytes}
-use Rattle.bios_screen.proofs.Shows.Screens.{IsShown, screen_shown, shown_is, text_shown}
+use Rattle.bios_screen.proofs.Shows.Screens.{IsShown, screen_shown, text_shown}
 use Rattle.bios_screen.proofs.Dots.PackedDots.{IsPacked}
 use Rattle.bios_screen.proofs.Shows.Kinds.{by_modes}
-use Rattle.bios_screen.proofs.Packed.Pixels as packed_pixels
 use Rattle.bios_screen.proofs.Dots.PlanarDots.{IsPlanar}
-use Rattle.bios_screen.proofs.Planar.Reads as planar_reads
-use Rattle.bios_screen.proofs.Planar.Dots as planar_dots
 use Rattle.bios_screen.proofs.Modes.PixelModes.{Planes, row_of}
-use Rattle.bios_screen.proofs.Services.TextReaders as readers
 use Rattle.bios_screen.proofs.Shows.Any.{IsAny, any_screen, any_is}
 use Rattle.bios_screen.proofs.Services.AnyReaders as any
 use Rattle.bios_screen.proofs.Services.Cursors as cursors
 use Rattle.bios_screen.proofs.Services.Characters as characters
+use Rattle.bios_screen.proofs.Services.Pixels as pixels
 use Rattle.bios_screen.proofs.Services.Windows as windows
 use Rattle.bios_screen.proofs.Services.Teletypes as teletypes
 use Rattle.bios_screen.proofs.Services.Strings as strings
@@ -67,24 +64,24 @@ serves_each service text planar packed fonts r block c d s bytes z bda e =
     packed fonts r block c d is row z) s e
 
 pub write_pixel : (page x y colour : ℕ) → colour < 256 → Serves (WritePixel page x y colour)
-write_pixel page x y colour l = serves_each (WritePixel page x y colour) (λ fonts r block c d h z. readers.write_pixel page x y colour fonts r block c d h)
-    (λ m fonts r block c d t e z. planar_dots.write_pixel m c d t e z page x y colour fonts r block) (λ fonts r block c d t e z.
-    packed_pixels.write_pixel c d t e z page x y colour fonts r block l)
+write_pixel page x y colour l = serves_any (WritePixel page x y colour) (λ fonts r block c d h bytes z bda.
+    pixels.write_pixel c d h page x y fonts r block colour l z)
 
 pub read_pixel : (page x y : ℕ) → Serves (ReadPixel page x y)
-read_pixel page x y = serves_each (ReadPixel page x y) (λ fonts r block c d h z. readers.read_pixel page x y fonts r block c d h) (λ m fonts r block c d t e z.
-    planar_reads.read_pixel m c d t e z page x y fonts r block) (λ fonts r block c d t e z. packed_pixels.read_pixel c d t e z page x y fonts r block)
+read_pixel page x y = serves_any (ReadPixel page x y) (λ fonts r block c d h bytes z bda. pixels.read_pixel c d h page x y fonts r block z)
 
 -- in text whatever the arguments are
 pub dot_refused : (page x y colour : ℕ) → ServesText (WritePixel page x y colour)
 dot_refused page x y colour fonts r block c d s bytes z bda e text =
-    let x1 = shown_is c d s (text_shown c d s e text) e in
-    subst (IsServed (WritePixel page x y colour) fonts r block c d) x1.screen (readers.write_pixel page x y colour fonts r block c d x1.is)
+    let any = any_is c d s e in
+    subst (IsServed (WritePixel page x y colour) fonts r block c d) any.screen
+    (pixels.write_refused c d any.is page x y fonts r block (text_shown c d s e text) colour)
 
 pub read_refused : (page x y : ℕ) → ServesText (ReadPixel page x y)
 read_refused page x y fonts r block c d s bytes z bda e text =
-    let x1 = shown_is c d s (text_shown c d s e text) e in
-    subst (IsServed (ReadPixel page x y) fonts r block c d) x1.screen (readers.read_pixel page x y fonts r block c d x1.is)
+    let any = any_is c d s e in
+    subst (IsServed (ReadPixel page x y) fonts r block c d) any.screen
+    (pixels.read_refused c d any.is page x y fonts r block (text_shown c d s e text))
 
 pub set_cursor_type : (type : ℕ) → Serves (SetCursorType type)
 set_cursor_type type = serves_any (SetCursorType type) (λ fonts r block c d h bytes z bda. cursors.set_cursor_type c d h type fonts r block)

@@ -1,5 +1,5 @@
 -- Calls: the service that the registers ask for, whole.
-use Rattle.std.proofs.Common.{◌≡◌, ℕ, ◌<◌, refl, sym, ap, ◌∙◌, subst, arith, List, length, Option, Some, None, Bool, true, false, Err}
+use Rattle.std.proofs.Common.{◌≡◌, ℕ, ◌<◌, refl, ap, ◌∙◌, subst, arith, List, length, Option, Some, None, Bool, true, false, Err}
 use Rattle.std.specs.Prelude.{◌==◌, ◌&&◌, nat_lt, if◌then◌else◌, IfSome}
 use Rattle.vga_bits.specs.declared.refusal.Refusal.{Refusal}
 use Rattle.vga_bits.specs.declared.refusal.Refusal.TheVariants.{NoMode, BadFunction, BadMode}
@@ -14,7 +14,7 @@ use Rattle.bios_services.specs.declared.call.Call.{Call}
 use Rattle.bios_services.specs.declared.call.Call.TheVariants.{SetMode, InMode}
 use Rattle.bios_services.specs.declared.call.Service.{Service}
 use Rattle.bios_services.specs.declared.call.Service.TheVariants.{ReadDisplay}
-use Rattle.bios_services.specs.Plan.{Plan, run, Done, ◌>>=◌}
+use Rattle.bios_services.specs.Plan.{Plan, run, Done}
 use Rattle.bios_services.specs.declared.colours.ColourService.TheVariants.{SetRegister, SetOverscan, SetPalette, SetBlinking, ReadRegister, ReadOverscan}
 use Rattle.bios_services.specs.declared.colours.ColourService.TheVariants.{SetEntry, SetEntries, ReadEntry, SetMask, ReadMask}
 use Rattle.bios_services.specs.Registers.{high, low}
@@ -29,7 +29,7 @@ use Rattle.bios_modes.specs.Bounds.{IsBda}
 use Rattle.bios_screen.specs.Screen.{Screen}
 use Rattle.bios_screen.specs.Shown.{shown}
 use Rattle.bios_screen.specs.Step.{refusal_on, next, answer_on}
-use Rattle.bios_screen.specs.Served.{IsServed, Serves, after_call}
+use Rattle.bios_screen.specs.Served.{IsServed, Serves, after_call, after_service}
 use Rattle.bios_modes.specs.Bounds.{AreBytes}
 use Rattle.bios_screen.specs.Called.{AreWords, reply_unless, screen_unless, IsCalled}
 use Rattle.bios_screen.proofs.Base.Plans.{run_bind}
@@ -111,52 +111,39 @@ call_is_served r w =
 
 -- ---- the call around a service
 
--- what a service's plan leaves, wrapped as an answer of a call
-pub record IsDone (service : Service) (fonts : FontSet) (r : Regs) (block : List ℕ) (c : CardState) (d : BiosData) (s : Screen)
-    (x : CardState × Answered) : Type 0 where
-  pub reply : x.1.0 ≡ reply_unless (refusal_on s service (length block)) (answer_on fonts s service r)
-  pub shows : shown x.0 x.1.1 ≡ Some (screen_unless (refusal_on s service (length block)) s (next fonts s service block))
+-- what a plan leaves and answers, as the screen has it
+pub record Leads (why : Option Refusal) (r : Regs) (s new : Screen) (x : CardState × Answered) : Type 0 where
+  pub reply : x.1.0 ≡ reply_unless why r
+  pub shows : shown x.0 x.1.1 ≡ Some (screen_unless why s new)
 
-done_unless : (service : Service) (fonts : FontSet) (r : Regs) (block : List ℕ) (c : CardState) (d : BiosData) (s : Screen) → shown c d ≡ Some s →
-    IsServed service fonts r block c d s → IsDone service fonts r block c d s (run card_meaning
-    (unless (refusal_on s service (length block)) (on_page_named d service) fonts d r block) c)
+unless_leads : (why : Option Refusal) (service : Service) (fonts : FontSet) (r : Regs) (block : List ℕ) (c : CardState) (d : BiosData) (s : Screen) →
+    shown c d ≡ Some s → (why ≡ None → (after_service service fonts r block c d).1.0 ≡ answer_on fonts s service r)
+    → (why ≡ None → (let x = after_service service fonts r block c d in shown x.0 x.1.1) ≡ Some (next fonts s service block))
+    → Leads why (answer_on fonts s service r) s (next fonts s service block) (run card_meaning
+    (unless why (on_page_named d service) fonts d r block) c)
 unfolding unless
-done_unless service fonts r block c d s old i = by_refusal (refusal_on s service (length block)) refl
-  where
-    done : Outcome → Plan Answered
-    done outcome = Done (answer_of outcome.0 outcome.1)
-
-    by_refusal : (x : Option Refusal) → refusal_on s service (length block) ≡ x →
-        IsDone service fonts r block c d s (run card_meaning (unless (refusal_on s service (length block)) (on_page_named d service) fonts d r block) c)
-    by_refusal (Some why) e =
-        let runs : run card_meaning (unless (refusal_on s service (length block)) (on_page_named d service) fonts d r block) c ≡ (c, (Err why, d)) =
-        ap (λ x. run card_meaning (unless x (on_page_named d service) fonts d r block) c) e in
-        record {
-          reply = ap (λ x. x.1.0) runs ∙ sym (ap (λ x. reply_unless x (answer_on fonts s service r)) e);
-          shows = ap (λ x. shown x.0 x.1.1) runs ∙ old ∙ sym (ap (λ x. Some (screen_unless x s (next fonts s service block))) e);
-        }
-    by_refusal None e =
-        let runs : run card_meaning (unless (refusal_on s service (length block)) (on_page_named d service) fonts d r block) c
-        ≡ run card_meaning (plan_of (on_page_named d service) fonts d r block >>= done) c =
-            ap (λ x. run card_meaning (unless x (on_page_named d service) fonts d r block) c) e in
-        let bound = run_bind card_meaning (plan_of (on_page_named d service) fonts d r block) done c in
-        record {
-          reply = ap (λ x. x.1.0) (runs ∙ bound) ∙ ap (λ q. reply_unless None q) (i.answer e) ∙ sym (ap (λ x. reply_unless x (answer_on fonts s service r)) e);
-          shows = ap (λ x. shown x.0 x.1.1) (runs ∙ bound) ∙ i.shows e ∙ sym (ap (λ x. Some (screen_unless x s (next fonts s service block))) e);
-        }
+unless_leads (Some why) service fonts r block c d s old answer shows = record { reply = refl; shows = old }
+unless_leads None service fonts r block c d s old answer shows =
+    let done : Outcome → Plan Answered = λ outcome. Done (answer_of outcome.0 outcome.1) in
+    let bound = run_bind card_meaning (plan_of (on_page_named d service) fonts d r block) done c in
+    record {
+      reply = ap (λ x. x.1.0) bound ∙ ap (reply_unless None) (answer refl);
+      shows = ap (λ x. shown x.0 x.1.1) bound ∙ shows refl;
+    }
 
 call_done : (service : Service) (fonts : FontSet) (r : Regs) (block : List ℕ) (c : CardState) (d : BiosData) (s : Screen) → call_of r ≡ Some (InMode service) →
     shown c d ≡ Some s → IsServed service fonts r block c d s → IsCalled service fonts r block c d s
 unfolding in_mode_plan
 call_done service fonts r block c d s e old i =
-    let plan = unless (refusal_on s service (length block)) (on_page_named d service) fonts d r block in
+    let why = refusal_on s service (length block) in
+    let plan = unless why (on_page_named d service) fonts d r block in
     let runs : after_call fonts r block c d ≡ run card_meaning plan c =
     ap (λ (q : Option Call). run card_meaning (call_plan q fonts d r block) c) e
     ∙ ap (λ b. run card_meaning (if b then refuse NoMode d else unless (refusal_in_mode (on_page_named d service) d (length block)) (on_page_named d service)
         fonts d r block) c)
     (mode_of_shown c d s old).set
     ∙ ap (λ q. run card_meaning (unless q (on_page_named d service) fonts d r block) c) i.refusal in
-    let t = done_unless service fonts r block c d s old i in
+    let t = unless_leads why service fonts r block c d s old i.answer i.shows in
     record {
       reply = ap (λ y. y.1.0) runs ∙ t.reply;
       shows = ap (λ y. shown y.0 y.1.1) runs ∙ t.shows;

@@ -18,7 +18,8 @@ use Rattle.bios_screen.specs.Listing.{listing}
 use Rattle.bios_screen.specs.Colours.{six_bits, component_over}
 use Rattle.bios_screen.proofs.Base.Flat.{Edited, Turn, Leaves}
 use Rattle.bios_screen.proofs.Base.Plans.{then_runs}
-use Rattle.bios_screen.proofs.Base.Lists.{length_listing, listed_at, same_elements}
+use Rattle.std.proofs.lemmas.Grind.{same_number_lists}
+use Rattle.bios_screen.proofs.Base.Lists.{length_listing, listed_at}
 use Rattle.bios_screen.proofs.Base.Tests.{of_run}
 use Rattle.bios_screen.proofs.Base.Edits.{edits}
 use Rattle.bios_screen.proofs.Modes.Entries.{Colour, colour_of, kept_colour, entry_at, without_entries, HasEntries, one_entry}
@@ -62,7 +63,7 @@ component_is : (old new block : List ℕ) (first count i : ℕ) → length old �
     else slice_index old k)) → new ≡ component_over old first count block i
 component_is old new block first count i eo en h =
     let f : ℕ → ℕ = λ k. if nat_le first k && nat_lt k (first + count) then six_bits (slice_index block (3 * (k - first) + i)) else slice_index old k in
-    same_elements new (listing f 0 (length old)) (en ∙ sym (length_listing f 0 (length old) ∙ eo)) (λ k l. h k (omega arith)
+    same_number_lists new (listing f 0 (length old)) (en ∙ sym (length_listing f 0 (length old) ∙ eo)) (λ k l. h k (omega arith)
     ∙ sym (listed_at f (length old) k 0 (omega arith)))
 
 -- the DAC's lists are those of the screen's step

@@ -38,6 +38,7 @@ use Rattle.bios_screen.proofs.Modes.TextModes.Display.{Colour, Monochrome}
 use Rattle.bios_screen.proofs.Modes.TextModes.Height.{Eight, Fourteen, Sixteen}
 use Rattle.bios_screen.proofs.Shows.Screens.{screen_shown, shown_is, mode_of_shown}
 use Rattle.bios_screen.proofs.Text.Loads.{load_shown}
+use Rattle.bios_screen.proofs.Services.Calls.{Leads}
 
 -- ---- the row of a height
 
@@ -97,11 +98,6 @@ allowed_of load mode len e =
     by_block false h z = absurd (cc)
 
 -- ---- the call
-
--- what a plan leaves and answers, as the screen has it
-record Leads (why : Option Refusal) (r : Regs) (s new : Screen) (x : CardState × Answered) : Type 0 where
-  reply : x.1.0 ≡ reply_unless why r
-  shows : shown x.0 x.1.1 ≡ Some (screen_unless why s new)
 
 refused_leads : (why : Refusal) (r : Regs) (s new : Screen) (c : CardState) (d : BiosData) → shown c d ≡ Some s →
     Leads (Some why) r s new (run card_meaning (refuse why d) c)

@@ -13,13 +13,13 @@ use Rattle.bios_modes.specs.Kinds.{is_text}
 use Rattle.bios_services.specs.Bounds.{pages_of}
 use Rattle.bios_services.specs.Cursor.{start_address}
 use Rattle.bios_screen.specs.Screen.{Contents, Cells, Pixels, Screen}
-use Rattle.bios_screen.specs.Shown.{shows_attribute, cells_in, glyphs_in, all_cells, pixel_pages, page_pixels, crtc_shown, screen_by, screen_of, shown_by}
+use Rattle.bios_screen.specs.Shown.{shows_attribute, cells_in, glyphs_in, all_cells, pixel_pages, page_pixels, crtc_shown, screen_by, screen_of}
 use Rattle.bios_screen.specs.Shown.{shown}
 use Rattle.bios_screen.proofs.Base.Tests.{both_true, same}
 use Rattle.bios_screen.proofs.Base.Places.{half_start, ends_before}
 use Rattle.bios_screen.proofs.Base.Setting.{Setting, setting}
 use Rattle.bios_screen.proofs.Modes.TextModes.{control_by as text_control_by, port_by as text_port_by}
-use Rattle.bios_screen.proofs.Shows.Screens.{AllTests, setting_by, shows_by, all_of, data_is, page_of, shown_is, screen_is_text}
+use Rattle.bios_screen.proofs.Shows.Screens.{AllTests, setting_by, shown_by_row, all_of, data_is, page_of, shown_is, screen_is_text}
 use Rattle.bios_screen.proofs.Modes.PixelModes.{Graphics, row_in, graphics_row, control_by, start_small}
 use Rattle.bios_screen.proofs.Modes.PixelModes.Graphics.{Sixteen, Many}
 use Rattle.bios_screen.proofs.Modes.PixelModes.Planes.{Low, Middle, High}
@@ -66,9 +66,7 @@ same_tests row c y d s e a t = record {
 -- other registers that are shown, where those of the CRT controller and those that memory looks at stay
 pub any_shown : (c y : CardState) (d : BiosData) (h : IsAny c d) → setting y ≡ setting c → y.crtc.registers ≡ c.crtc.registers →
     shows_attribute h.row y.attr ≡ true → shown y d ≡ Some (any_screen c d h y)
-any_shown c y d h s e a =
-    ap (λ x. shown_by x y d) h.mode
-    ∙ ap (λ b. if b then Some (screen_of h.row y d) else None) (shows_by h.row y d (same_tests h.row c y d s e a h.tests))
+any_shown c y d h s e a = shown_by_row y d h.row h.mode (same_tests h.row c y d s e a h.tests)
     ∙ ap (λ (x : Screen). Some x) (h.screen y d.cursor_type d.cursor_places d.page d.start)
 
 pub still_any : (c : CardState) (d : BiosData) (h : IsAny c d) → shown c d ≡ Some (any_screen c d h c)

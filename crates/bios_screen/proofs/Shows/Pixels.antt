@@ -1,5 +1,5 @@
 -- What a screen of pixels that is shown says of registers and data.
-use Rattle.std.proofs.Common.{◌≡◌, refl, sym, ap, ◌∙◌, false, Option, Some, None}
+use Rattle.std.proofs.Common.{◌≡◌, sym, ap, ◌∙◌, false, Some}
 use Rattle.std.specs.Prelude.{if◌then◌else◌}
 use Rattle.vga_card.specs.Card.{CardState}
 use Rattle.bios_modes.specs.declared.modes.ModeRow.{ModeRow}
@@ -7,9 +7,8 @@ use Rattle.bios_modes.specs.Heights.{row_at}
 use Rattle.bios_modes.specs.Bda.{BiosData}
 use Rattle.bios_modes.specs.Kinds.{is_text}
 use Rattle.bios_screen.specs.Screen.{Screen}
-use Rattle.bios_screen.specs.Shown.{shows, text_screen, pixel_screen, screen_of, shown_by, shown}
-use Rattle.bios_screen.proofs.Base.Tests.{if_some, none_some}
-use Rattle.bios_screen.proofs.Shows.Screens.{HasData, data_is, AllTests, all_tests_of, shows_by}
+use Rattle.bios_screen.specs.Shown.{text_screen, pixel_screen, screen_of, shown}
+use Rattle.bios_screen.proofs.Shows.Screens.{HasData, data_is, AllTests, row_shown, shown_by_row}
 
 -- all that a screen of pixels says
 pub record IsPixels (c : CardState) (d : BiosData) : Type 0 where
@@ -31,22 +30,14 @@ pub screen_is_pixels : (row : ModeRow) (c : CardState) (d : BiosData) → is_tex
 screen_is_pixels row c d t = ap (λ b. let x : Screen = (if b then text_screen row c d else pixel_screen row c d) in x) t
 
 pub pixels_of_shown : (c : CardState) (d : BiosData) (s : Screen) → is_text d.mode ≡ false → shown c d ≡ Some s → ShowsPixels c d s
-pixels_of_shown c d s t h = by_row (row_at d.mode d.height) refl h
-  where
-    by_row : (x : Option ModeRow) → row_at d.mode d.height ≡ x → shown_by x c d ≡ Some s → ShowsPixels c d s
-    by_row None e g = none_some s g
-    by_row (Some row) e g =
-        let parts = if_some (shows row c d) (screen_of row c d) s g in
-        let tests = all_tests_of row c d parts.0 in
-        record {
-          is = record { row = row; mode = e; text = t; tests = tests; has = data_is row d tests.data_test };
-          screen = sym (screen_is_pixels row c d t) ∙ parts.1;
-        }
+pixels_of_shown c d s t h =
+    let x = row_shown c d s h in
+    record {
+      is = record { row = x.row; mode = x.mode; text = t; tests = x.tests; has = data_is x.row d x.tests.data_test };
+      screen = sym (screen_is_pixels x.row c d t) ∙ x.screen;
+    }
 
 -- and back
 pub pixels_shown_of : (c : CardState) (d : BiosData) (row : ModeRow) → row_at d.mode d.height ≡ Some row → is_text d.mode ≡ false → AllTests row c d →
     shown c d ≡ Some (pixel_screen row c d)
-pixels_shown_of c d row e t tests =
-    ap (λ x. shown_by x c d) e
-    ∙ ap (λ b. if b then Some (screen_of row c d) else None) (shows_by row c d tests)
-    ∙ ap (λ (x : Screen). Some x) (screen_is_pixels row c d t)
+pixels_shown_of c d row e t tests = shown_by_row c d row e tests ∙ ap (λ (x : Screen). Some x) (screen_is_pixels row c d t)

@@ -4,7 +4,8 @@ use Rattle.std.proofs.Common.{append_assoc, get_or, Bool, true, false, Some, Non
 use Rattle.std.specs.Prelude.{slice_index, slice_set, take, bit_and, nat_lt, ◌&&◌, if◌then◌else◌}
 use Rattle.std.specs.Str.{bytes_eq}
 use Rattle.std.proofs.lemmas.Bool.{cases_lt}
-use Rattle.std.proofs.lemmas.List.{get_or_default, append-nil, length-append, get_or-take, length-take-le}
+use Rattle.std.proofs.lemmas.Grind.{same_number_lists}
+use Rattle.std.proofs.lemmas.List.{get_or_append_left, get_or-append-add, get_or_default, append-nil, length-append, get_or-take, length-take-le}
 use Rattle.std.proofs.lemmas.Slice.Eq.{bytes_eq-Decides}
 use Rattle.vga_bits.specs.Four.{Four}
 use Rattle.vga_card.specs.Card.{CardState}
@@ -19,7 +20,7 @@ use Rattle.bios_screen.specs.Parts.{text_cell, page_pixel, cut_pages, pixel_coun
 use Rattle.bios_screen.specs.Shown.{cell_in, cells_in, glyph_byte, glyphs_in, pixel_in, pixels_in, page_pixels, pixel_pages, layout_of, screen_by, pixel_screen}
 use Rattle.bios_screen.specs.Shown.{crtc_registers, crtc_shown, location_shown, shows}
 use Rattle.bios_screen.specs.Raster.{join}
-use Rattle.bios_screen.proofs.Base.Lists.{spelled, same_elements, same_from_0, length_listing, listed_at}
+use Rattle.bios_screen.proofs.Base.Lists.{spelled, same_from_0, length_listing, listed_at}
 use Rattle.bios_screen.proofs.Base.Places.{ends_before}
 use Rattle.bios_screen.proofs.Base.Tests.{lt_test}
 use Rattle.bios_screen.proofs.Modes.TextModes.{text_row_is}
@@ -57,21 +58,12 @@ more_glyphs a n = listed_more (glyph_byte a) n
 
 -- where they are among the first of two lists
 pub same_bytes : (a b : List ℕ) → length a ≡ length b → ((k : ℕ) → k < length a → slice_index a k ≡ slice_index b k) → true ≡ bytes_eq a b
-same_bytes a b e h = sym ((bytes_eq-Decides a b).1 (same_elements a b e h))
+same_bytes a b e h = sym ((bytes_eq-Decides a b).1 (same_number_lists a b e h))
 
 pub first_elements : (n : ℕ) (a b : List ℕ) → length a ≡ n → n ≤ length b → ((k : ℕ) → k < n → slice_index a k ≡ slice_index b k) → a ≡ take n b
-first_elements n a b e l h = same_elements a (take n b) (e ∙ sym (length-take-le n b l)) (λ k m. h k (omega arith) ∙ sym (get_or-take n b k 0 (omega arith)))
+first_elements n a b e l h = same_number_lists a (take n b) (e ∙ sym (length-take-le n b l)) (λ k m. h k (omega arith) ∙ sym (get_or-take n b k 0 (omega arith)))
 
 -- ---- the pixels of all pages in one list
-
-at_front : (a b : List ℕ) (k : ℕ) → k < length a → slice_index (a ++ b) k ≡ slice_index a k
-at_front [] b k l = absurd (omega arith)
-at_front (x ∷ xs) b zero l = refl
-at_front (x ∷ xs) b (suc k) l = at_front xs b k (omega arith)
-
-at_back : (a b : List ℕ) (k : ℕ) → slice_index (a ++ b) (length a + k) ≡ slice_index b k
-at_back [] b k = let z : 0 + k ≡ k = omega arith in ap (slice_index b) z
-at_back (x ∷ xs) b k = let z : length (x ∷ xs) + k ≡ suc (length xs + k) = omega arith in ap (slice_index (x ∷ (xs ++ b))) z ∙ at_back xs b k
 
 joined_length : (f : ℕ → List ℕ) (n m : ℕ) → ((q : ℕ) → q < m → length (f q) ≡ n) → length (join f m) ≡ n * m
 unfolding join
@@ -89,12 +81,12 @@ joined_at f n (suc m) p k size lp lk = ⊎_elim
     (λ (l : p < m).
     let z = ends_before n p m l in
     let all = joined_length f n m (λ q h. size q (omega arith)) in
-    at_front (join f m) (f m) (n * p + k) (omega arith) ∙ joined_at f n m p k (λ q h. size q (omega arith)) l lk)
+    get_or_append_left (join f m) (f m) 0 (n * p + k) (omega arith) ∙ joined_at f n m p k (λ q h. size q (omega arith)) l lk)
     (λ (l : m ≤ p).
     let e : p ≡ m = omega arith in
     let all = joined_length f n m (λ q h. size q (omega arith)) in
     let at : n * p + k ≡ length (join f m) + k = ap (λ q. n * q + k) e ∙ ap (λ q. q + k) (sym all) in
-    ap (slice_index (join f m ++ f m)) at ∙ at_back (join f m) (f m) k ∙ ap (λ q. slice_index (f q) k) (sym e))
+    ap (slice_index (join f m ++ f m)) at ∙ get_or-append-add (join f m) (f m) k 0 ∙ ap (λ q. slice_index (f q) k) (sym e))
     (cases_lt p m)
 
 pub cut_joined : (f : ℕ → List ℕ) (n pages : ℕ) → ((q : ℕ) → q < pages → length (f q) ≡ n) → cut_pages (join f pages) n pages ≡ listing f 0 pages
@@ -149,6 +141,11 @@ page_pixel_is mode l cells pixels p k t lp lk =
     ap (λ b. let x : Contents = (if b then Cells cells else Pixels (cut_pages pixels (pixel_count l) l.pages)) in page_pixel x p k) t
     ∙ ap (λ (n : ℕ). Some n) (cut_at pixels (pixel_count l) l.pages p k lp lk)
 
+-- what is there where three tests hold
+there_if : {Y : Type 0} (a b g : Bool) (x y : Y) → a ≡ true → b ≡ true → g ≡ true → (if a && (b && g) then x else y) ≡ x
+there_if a b g x y ea eb eg =
+    ap (λ t. if t && (b && g) then x else y) ea ∙ ap (λ t. if t && g then x else y) eb ∙ ap (λ t. if t then x else y) eg
+
 -- a cell of a page, where there is one
 pub cell_there : (mode : ℕ) (l : Layout) (cells : List Cell) (pixels : List ℕ) (page row column : ℕ) (x : Cell) → is_text mode ≡ true → page < l.pages →
     row < l.rows → column < l.columns → l.distance * page + (l.columns * row + column) < length cells →
@@ -159,10 +156,8 @@ cell_there mode l cells pixels page row column x t lp lr lc within e =
     let k = l.distance * page + (l.columns * row + column) in
     let q = text_cell (contents_of mode l cells pixels) k in
     ap (λ (y : Cell). Some y) (e ∙ get_or_default cells k x no_cell within) ∙ sym (
-    ap (λ b. if b && (nat_lt row l.rows && nat_lt column l.columns) then q else None) (lt_test page l.pages lp)
-    ∙ ap (λ b. if b && nat_lt column l.columns then q else None) (lt_test row l.rows lr)
-    ∙ ap (λ b. if b then q else None) (lt_test column l.columns lc)
-    ∙ text_cell_is mode l cells pixels k t)
+    there_if (nat_lt page l.pages) (nat_lt row l.rows) (nat_lt column l.columns) q None (lt_test page l.pages lp) (lt_test row l.rows lr)
+    (lt_test column l.columns lc) ∙ text_cell_is mode l cells pixels k t)
 
 -- a pixel's place is in a list of so many
 abbrev pub pixels_within : Layout → ℕ → ℕ → ℕ → ℕ → Type 0
@@ -178,10 +173,8 @@ pixel_there mode l cells pixels page x y n t lp lx ly within e =
     let q = page_pixel (contents_of mode l cells pixels) page k in
     let row = ends_before (8 * l.columns) y (l.height * l.rows) ly in
     ap (λ (i : ℕ). Some i) (e ∙ get_or_default pixels (pixel_count l * page + k) n 0 within) ∙ sym (
-    ap (λ b. if b && (nat_lt x (8 * l.columns) && nat_lt y (l.height * l.rows)) then q else None) (lt_test page l.pages lp)
-    ∙ ap (λ b. if b && nat_lt y (l.height * l.rows) then q else None) (lt_test x (8 * l.columns) lx)
-    ∙ ap (λ b. if b then q else None) (lt_test y (l.height * l.rows) ly)
-    ∙ page_pixel_is mode l cells pixels page k t lp (omega arith))
+    there_if (nat_lt page l.pages) (nat_lt x (8 * l.columns)) (nat_lt y (l.height * l.rows)) q None (lt_test page l.pages lp) (lt_test x (8 * l.columns) lx)
+    (lt_test y (l.height * l.rows) ly) ∙ page_pixel_is mode l cells pixels page k t lp (omega arith))
 
 pub cell_inside : (distance columns rows page pages row column n : ℕ) → page < pages → row < rows → column < columns → columns * rows ≤ distance →
     distance * pages ≤ n → distance * page + (columns * row + column) < n

@@ -80,6 +80,27 @@ shows_by row c d t =
     ∙ ap (λ b. b && shows_attribute row c.attr) ((bytes_eq-Decides c.crtc.registers wanted).1 t.crtc)
     ∙ t.attribute
 
+-- the row of a screen that is shown
+pub record ShowsRow (c : CardState) (d : BiosData) (s : Screen) : Type 0 where
+  pub row : ModeRow
+  pub mode : row_at d.mode d.height ≡ Some row
+  pub tests : AllTests row c d
+  pub screen : screen_of row c d ≡ s
+
+pub row_shown : (c : CardState) (d : BiosData) (s : Screen) → shown c d ≡ Some s → ShowsRow c d s
+row_shown c d s h = by_row (row_at d.mode d.height) refl h
+  where
+    by_row : (x : Option ModeRow) → row_at d.mode d.height ≡ x → shown_by x c d ≡ Some s → ShowsRow c d s
+    by_row None e g = none_some s g
+    by_row (Some row) e g =
+        let parts = if_some (shows row c d) (screen_of row c d) s g in
+        record { row = row; mode = e; tests = all_tests_of row c d parts.0; screen = parts.1 }
+
+-- and back
+pub shown_by_row : (c : CardState) (d : BiosData) (row : ModeRow) → row_at d.mode d.height ≡ Some row → AllTests row c d → shown c d ≡ Some (screen_of row c d)
+shown_by_row c d row e t =
+    ap (λ x. shown_by x c d) e ∙ ap (λ b. if b then Some (screen_of row c d) else None) (shows_by row c d t)
+
 -- the test gives the registers that memory cycles look at
 pub setting_by : (row : ModeRow) (c : CardState) → shows_memory row c ≡ true → setting c ≡ record { misc = row.misc; seq = row.sequencer; gfx = row.graphics }
 setting_by row c h =
@@ -157,36 +178,28 @@ pub screen_is_text : (row : ModeRow) (c : CardState) (d : BiosData) → is_text 
 screen_is_text row c d t = ap (λ b. let x : Screen = (if b then text_screen row c d else pixel_screen row c d) in x) t
 
 pub shown_is : (c : CardState) (d : BiosData) (s : Screen) → is_text d.mode ≡ true → shown c d ≡ Some s → Shows c d s
-shown_is c d s t h = by_row (row_at d.mode d.height) refl h
-  where
-    by_row : (x : Option ModeRow) → row_at d.mode d.height ≡ x → shown_by x c d ≡ Some s → Shows c d s
-    by_row None e g = none_some s g
-    by_row (Some row) e g =
-        let parts = if_some (shows row c d) (screen_of row c d) s g in
-        let tests = tests_of row c d t parts.0 in
-        let text = text_row_is d.mode d.height row t e in
-        record {
-          is = record {
-            row = row;
-            mode = e;
-            display = text.display;
-            height = text.height;
-            text = text.is;
-            row_is = text.row_is;
-            number = text.number;
-            tests = tests;
-            has = data_is row d tests.data_test;
-            setting = setting_is text.display d.mode row c text.is tests.memory;
-          };
-          screen = sym (screen_is_text row c d t) ∙ parts.1;
-        }
+shown_is c d s t h =
+    let x = row_shown c d s h in
+    let text = text_row_is d.mode d.height x.row t x.mode in
+    record {
+      is = record {
+        row = x.row;
+        mode = x.mode;
+        display = text.display;
+        height = text.height;
+        text = text.is;
+        row_is = text.row_is;
+        number = text.number;
+        tests = tests_of x.row c d t (shows_by x.row c d x.tests);
+        has = data_is x.row d x.tests.data_test;
+        setting = setting_is text.display d.mode x.row c text.is x.tests.memory;
+      };
+      screen = sym (screen_is_text x.row c d t) ∙ x.screen;
+    }
 
 -- and back
 pub shown_of : (c : CardState) (d : BiosData) (row : ModeRow) → row_at d.mode d.height ≡ Some row → Tests row c d → shown c d ≡ Some (text_screen row c d)
-shown_of c d row e t =
-    ap (λ x. shown_by x c d) e
-    ∙ ap (λ b. if b then Some (screen_of row c d) else None) (test_of row c d t)
-    ∙ ap (λ (x : Screen). Some x) (screen_is_text row c d t.is_text)
+shown_of c d row e t = shown_by_row c d row e (all_of row c d t) ∙ ap (λ (x : Screen). Some x) (screen_is_text row c d t.is_text)
 
 -- ---- any mode
 
@@ -196,7 +209,9 @@ pub record HasMode (d : BiosData) (s : Screen) : Type 0 where
   pub set : (d.mode == 0) ≡ false
 
 pub mode_of_shown : (c : CardState) (d : BiosData) (s : Screen) → shown c d ≡ Some s → HasMode d s
-mode_of_shown c d s h = by_row (row_at d.mode d.height) refl h
+mode_of_shown c d s h =
+    let x = row_shown c d s h in
+    record { is = ap (λ (y : Screen). y.mode) (sym x.screen) ∙ by_kind (is_text d.mode) x.row; set = not_0 (d.mode == 0) x.row refl x.mode }
   where
     by_kind : (b : Bool) (row : ModeRow) → (let x : Screen = (if b then text_screen row c d else pixel_screen row c d) in x).mode ≡ d.mode
     by_kind true row = refl
@@ -205,12 +220,6 @@ mode_of_shown c d s h = by_row (row_at d.mode d.height) refl h
     not_0 : (b : Bool) (row : ModeRow) → (d.mode == 0) ≡ b → row_at d.mode d.height ≡ Some row → (d.mode == 0) ≡ false
     not_0 true row e g = none_some row (sym (ap (λ m. row_at m d.height) (same e)) ∙ g)
     not_0 false row e g = e
-
-    by_row : (x : Option ModeRow) → row_at d.mode d.height ≡ x → shown_by x c d ≡ Some s → HasMode d s
-    by_row None e g = none_some s g
-    by_row (Some row) e g =
-        let parts = if_some (shows row c d) (screen_of row c d) s g in
-        record { is = ap (λ (x : Screen). x.mode) (sym parts.1) ∙ by_kind (is_text d.mode) row; set = not_0 (d.mode == 0) row refl e }
 
 -- a screen of text
 pub text_shown : (c : CardState) (d : BiosData) (s : Screen) → shown c d ≡ Some s → is_text s.mode ≡ true → is_text d.mode ≡ true

@@ -225,30 +225,19 @@ module _ (fonts : FontSet) (load : GlyphLoad) (block : List ℕ) (bytes : AreByt
 -- ---- the screen
 
 -- the data of a mode with a height, by cases
-own_row : (disp : Display) (new : Height) → row_at (number_of disp) (row_with disp new).height ≡ Some (row_with disp new)
-own_row Colour Eight = refl
-own_row Colour Fourteen = refl
-own_row Colour Sixteen = refl
-own_row Monochrome Eight = refl
-own_row Monochrome Fourteen = refl
-own_row Monochrome Sixteen = refl
+record IsOwn (disp : Display) (new : Height) : Type 0 where
+  row_is : row_at (number_of disp) (row_with disp new).height ≡ Some (row_with disp new)
+  data_test : (mode : ℕ) → shows_data (row_with disp new) (data_of_mode mode (row_with disp new)) ≡ true
+  crtc : crtc_registers (row_with disp new) (row_with disp new).cursor_type 0 0
+      ≡ text_crtc (row_with disp new) (data_of_mode (number_of disp) (row_with disp new))
 
-data_by : (disp : Display) (new : Height) (mode : ℕ) → shows_data (row_with disp new) (data_of_mode mode (row_with disp new)) ≡ true
-data_by Colour Eight mode = refl
-data_by Colour Fourteen mode = refl
-data_by Colour Sixteen mode = refl
-data_by Monochrome Eight mode = refl
-data_by Monochrome Fourteen mode = refl
-data_by Monochrome Sixteen mode = refl
-
-crtc_by : (disp : Display) (new : Height) → (let d = data_of_mode (number_of disp) (row_with disp new) in
-    crtc_registers (row_with disp new) (row_with disp new).cursor_type 0 0 ≡ text_crtc (row_with disp new) d)
-crtc_by Colour Eight = refl
-crtc_by Colour Fourteen = refl
-crtc_by Colour Sixteen = refl
-crtc_by Monochrome Eight = refl
-crtc_by Monochrome Fourteen = refl
-crtc_by Monochrome Sixteen = refl
+own_by : (disp : Display) (new : Height) → IsOwn disp new
+own_by Colour Eight = record { row_is = refl; data_test = λ _. refl; crtc = refl }
+own_by Colour Fourteen = record { row_is = refl; data_test = λ _. refl; crtc = refl }
+own_by Colour Sixteen = record { row_is = refl; data_test = λ _. refl; crtc = refl }
+own_by Monochrome Eight = record { row_is = refl; data_test = λ _. refl; crtc = refl }
+own_by Monochrome Fourteen = record { row_is = refl; data_test = λ _. refl; crtc = refl }
+own_by Monochrome Sixteen = record { row_is = refl; data_test = λ _. refl; crtc = refl }
 
 memory_by : (disp : Display) → (let s = text_setting disp in let row = row_of disp in (s.misc == row.misc)
     && (bytes_eq s.seq row.sequencer && bytes_eq s.gfx row.graphics)) ≡ true
@@ -256,8 +245,8 @@ memory_by Colour = refl
 memory_by Monochrome = refl
 
 -- the tests of attributes look at the row's attributes alone
-attribute_stays : (row other : ModeRow) (a : AttrState) → row.attribute ≡ other.attribute → shows_attribute row a ≡ true → shows_attribute other a ≡ true
-attribute_stays row other a e t =
+attribute_stays : (old new : ModeRow) (a : AttrState) → old.attribute ≡ new.attribute → shows_attribute old a ≡ true → shows_attribute new a ≡ true
+attribute_stays old new a e t =
     sym (ap (λ (l : List ℕ). is_palette_shown a && ((bit_and (slice_index a.registers 0x10) 0xF7 == bit_and (slice_index l 0x10) 0xF7)
     && bytes_eq (drop 0x12 a.registers) (drop 0x12 l))) e) ∙ t
 
@@ -275,12 +264,13 @@ load_shown fonts load block bytes are there c d h z new =
     let s = screen_shown c d h in
     let set : setting y ≡ text_setting disp = ap (λ (x : Setting). let q : Setting =
     record { misc = x.misc; seq = (text_setting disp).seq; gfx = (text_setting disp).gfx } in q) h.setting in
-    let own : row_at d.mode row.height ≡ Some row = ap (λ m. row_at m row.height) h.number ∙ own_row disp new in
+    let by = own_by disp new in
+    let own : row_at d.mode row.height ≡ Some row = ap (λ m. row_at m row.height) h.number ∙ by.row_is in
     let tests : Tests row y after = record {
       is_text = h.tests.is_text;
       memory = ap (λ (x : Setting). (x.misc == row.misc) && (bytes_eq x.seq row.sequencer && bytes_eq x.gfx row.graphics)) set ∙ memory_by disp;
-      data_test = data_by disp new d.mode;
-      crtc = crtc_by disp new ∙ sym (ap (λ m. text_crtc row (data_of_mode m row)) h.number);
+      data_test = by.data_test d.mode;
+      crtc = by.crtc ∙ sym (ap (λ m. text_crtc row (data_of_mode m row)) h.number);
       attribute = attribute_stays h.row row c.attr (ap (λ (r : ModeRow). r.attribute) h.row_is) h.tests.attribute;
     } in
     let columns : row.columns ≡ d.columns = sym (h.has.columns ∙ ap (λ (r : ModeRow). r.columns) h.row_is) in
