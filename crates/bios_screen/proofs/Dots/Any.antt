@@ -14,7 +14,8 @@ use Rattle.bios_screen.specs.Raster.{Raster, HasRaster, Draws, width, line_dots 
 use Rattle.bios_screen.specs.Drawing.{dots_a_line, lines_a_frame, columns_of}
 use Rattle.bios_screen.proofs.Modes.TextModes.{Display, number_of as text_number}
 use Rattle.bios_screen.proofs.Modes.TextModes.Display.{Colour, Monochrome}
-use Rattle.bios_screen.proofs.Modes.PixelModes.{Graphics, row_in, number_in, graphics_row, raster_in}
+use Rattle.bios_screen.proofs.Modes.PixelModes.{Graphics, row_in, number_in, raster_in}
+use Rattle.bios_screen.proofs.Modes.AnyModes.{graphics_row}
 use Rattle.bios_screen.proofs.Modes.PixelModes.Planes.{Low, Middle, High}
 use Rattle.bios_screen.proofs.Modes.PixelModes.Graphics.{Sixteen, Many}
 use Rattle.bios_screen.proofs.Shows.Screens.{IsShown, screen_shown, shown_is, all_of, data_is, AllTests}
@@ -50,16 +51,13 @@ text_frames c d h z =
     let s = screen_shown c d h in
     let t = h.tests in
     let row = h.row in
-    let turned : 9 * row.columns ≡ row.columns * 9 = omega arith in
     record {
       raster = text_raster row;
       has = frames.has_raster (text_raster row) row (frame_of c d h).frame c d (all_of row c d t);
       line = sym (ap (λ b. if b then 900 else 10 * (pixel_width d.mode * columns_of d.mode)) t.is_text);
       lines = sym (ap lines_a_frame h.number ∙ text_lines h.display);
-      wide = sym (ap (λ b. if b then 9 * d.columns else pixel_width d.mode * (8 * d.columns)) t.is_text ∙ ap (λ n. 9 * n) h.has.columns ∙ turned);
-      high = sym (ap (λ b. if b then d.height * (d.last_row + 1) else pixel_height d.mode * (d.height * (d.last_row + 1))) t.is_text
-          ∙ ap (λ n. n * (d.last_row + 1)) h.has.height
-          ∙ ap (λ n. row.height * (n + 1)) h.has.last_row);
+      wide = rw (t.is_text, h.has.columns) (omega arith);
+      high = rw (t.is_text, h.has.height, h.has.last_row) refl;
       page = h.has.page;
       draws = λ g lg. subst (λ a. Draws (text_raster row) c a (dot_at s g)) (sym (text.start_is c d h z g)) (text.draws c d h z g lg);
       first = text.first_is c d h z;
@@ -106,13 +104,8 @@ pixel_frames k c d t z =
       has = pixels.has_raster k c d t;
       line = line_by k ∙ sym (ap dots_a_line t.number);
       lines = lines_by k ∙ sym (ap lines_a_frame t.number);
-      wide = wide_by k ∙ sym (ap (λ b. if b then 9 * d.columns else pixel_width d.mode * (8 * d.columns)) off
-          ∙ ap (λ n. pixel_width n * (8 * d.columns)) t.number
-          ∙ ap (λ n. pixel_width (number_in k) * (8 * n)) t.has.columns);
-      high = high_by k ∙ sym (ap (λ b. if b then d.height * (d.last_row + 1) else pixel_height d.mode * (d.height * (d.last_row + 1))) off
-          ∙ ap (λ n. pixel_height n * (d.height * (d.last_row + 1))) t.number
-          ∙ ap (λ n. pixel_height (number_in k) * (n * (d.last_row + 1))) t.has.height
-          ∙ ap (λ n. pixel_height (number_in k) * ((row_in k).height * (n + 1))) t.has.last_row);
+      wide = rw (off, t.number, t.has.columns) (wide_by k);
+      high = rw (off, t.number, t.has.height, t.has.last_row) (high_by k);
       page = t.has.page;
       draws = λ g lg. subst (λ a. Draws m c a (dot_at s g)) (sym (pixels.start_is k c d t g)) (λ v x i lv lx li.
           draws_by k c d t z g lg v x i lv lx li

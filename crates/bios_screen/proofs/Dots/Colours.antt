@@ -1,6 +1,6 @@
 -- From the four bits of a dot to its colour, in text and in sixteen colours.
 use Rattle.std.proofs.Common.{◌≡◌, ℕ, ◌+◌, ◌*◌, ◌<◌, refl, sym, ap, ◌∙◌, arith, Bool, true, false, [], ◌∷◌, length}
-use Rattle.std.specs.Prelude.{not, ◌==◌, ◌&&◌, if◌then◌else◌, slice_index, bit_and, drop, take}
+use Rattle.std.specs.Prelude.{◌==◌, ◌&&◌, if◌then◌else◌, slice_index, bit_and, drop, take}
 use Rattle.std.specs.Str.{bytes_eq}
 use Rattle.std.proofs.lemmas.Slice.Eq.{bytes_eq-Decides}
 use Rattle.std.proofs.lemmas.Nat.{and_mask}
@@ -9,11 +9,9 @@ use Rattle.vga_bits.proofs.BitLemmas.{is_set_and}
 use Rattle.vga_host.specs.Fields.{is_screen_off, is_256_colours}
 use Rattle.vga_crtc.specs.Crtc.{CrtcState}
 use Rattle.vga_attr.specs.Attr.{AttrState, IsAttr}
-use Rattle.vga_attr.specs.Fields.{is_palette_shown, is_colour_select_wide, colour_select_high, colour_select_middle, overscan}
+use Rattle.vga_attr.specs.Fields.{is_palette_shown, is_colour_select_wide}
 use Rattle.vga_attr.specs.Colour.{picked, colour_index}
 use Rattle.vga_dac.specs.Dac.{entry_of}
-use Rattle.vga_dots.specs.SourceDot.{source_dot}
-use Rattle.vga_dots.specs.Graphics.{packed_byte}
 use Rattle.vga_dots.specs.Colour.{nibble, colour_number, dot_colour}
 use Rattle.vga_card.specs.Bounds.{IsCard}
 use Rattle.vga_card.specs.Card.{CardState}
@@ -99,18 +97,11 @@ module _ (c : CardState) (t : Coloured c) (z : IsCard c) where
       let p = slice_index c.attr.registers n in
       let e : picked c.attr n ≡ p = ap (λ (i : ℕ). slice_index c.attr.registers (bit_and n (field i 3 0))) t.planes
       ∙ ap (slice_index c.attr.registers) (same_nibble n l) in
-      ap (λ i. field i 3 0 + 16 * (if is_colour_select_wide c.attr then colour_select_middle c.attr else field i 5 4) + 64 * colour_select_high c.attr) e
-      ∙ ap (λ w. field p 3 0 + 16 * (if w then colour_select_middle c.attr else field p 5 4) + 64 * colour_select_high c.attr) t.wide
-      ∙ ap (λ i. field p 3 0 + 16 * field p 5 4 + 64 * field i 3 2) t.select
-      ∙ low_fields p (z.attr.palette n l)
-      ∙ sym (value_is n l)
+      rw (e, t.wide, t.select) (low_fields p (z.attr.palette n l) ∙ sym (value_is n l))
 
   number_is : (s : CrtcState) → colour_number c.host s c.attr ≡ colour_index c.attr (nibble c.host s c.attr)
   unfolding colour_number
-  number_is s =
-      ap (λ w. if not w then overscan c.attr else if is_256_colours c.host then packed_byte c.host s (source_dot c.host s c.attr)
-      else colour_index c.attr (nibble c.host s c.attr)) t.shown
-      ∙ ap (λ w. if w then packed_byte c.host s (source_dot c.host s c.attr) else colour_index c.attr (nibble c.host s c.attr)) t.many
+  number_is s = rw (t.shown, t.many) refl
 
   -- a dot of these four bits has their colour
   pub dot_shade : (s : CrtcState) (n : ℕ) → nibble c.host s c.attr ≡ n → n < 16 → dot_colour c.host s c.attr c.dac ≡ shade (palette_in c) n

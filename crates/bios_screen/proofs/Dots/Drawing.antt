@@ -39,7 +39,7 @@ pub record DotLaws : Type 0 where
   pub regular_shape : (width height : ℕ) (drawn : List Dot) → 0 < width → 0 < height → lines_of drawn ≡ lines_from 0 (replicate height width) →
       shape drawn ≡ Some (record { width = width; height = height })
 
-wide : (v : Bool) → 0 < (if v then 8 else 9)
+pub wide : (v : Bool) → 0 < (if v then 8 else 9)
 wide true = omega arith
 wide false = omega arith
 

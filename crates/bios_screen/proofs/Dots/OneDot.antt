@@ -23,7 +23,7 @@ use Rattle.bios_screen.specs.Picture.{dot_at, picture_width, picture_height, nex
 use Rattle.bios_screen.specs.Raster.{Raster, Colours, raster_of, HasRaster, width, line_dots as dots_of_line, all_dots, picture_dot, IsAtDot as AtDot}
 use Rattle.bios_screen.specs.Raster.{IsFurther, FrameEnded}
 use Rattle.bios_screen.proofs.Base.DotLists.{bytes_append, no_bytes, bytes_joined, same_joined, whole_picture, picture_lines}
-use Rattle.bios_screen.proofs.Dots.Drawing.{DotLaws, dots_are_picture, dots_go_on, frame_is_ended, starts_at_0}
+use Rattle.bios_screen.proofs.Dots.Drawing.{DotLaws, wide, dots_are_picture, dots_go_on, frame_is_ended, starts_at_0}
 use Rattle.bios_screen.specs.Drawing.{dots_a_line, lines_a_frame, dots_a_frame, Drawing, page_shown, so_far, is_of_picture, colour_of, is_last, take_dot}
 use Rattle.bios_screen.specs.Drawing.{take_dots, take_frame}
 use Rattle.bios_screen.specs.Follows.{BeamIsAt, RowsJoin, lines_before, Follows, EndsFrame}
@@ -71,10 +71,6 @@ less_test a b l = grind (arith, nat_tests)
 is_away : (v : Bool) → (v ≡ true → ⊥) → v ≡ false
 is_away true h = absurd (h refl)
 is_away false h = refl
-
-wide : (v : Bool) → 0 < (if v then 8 else 9)
-wide true = omega arith
-wide false = omega arith
 
 -- ---- the plain screen
 
@@ -143,10 +139,7 @@ dot_by line w h f n = if nat_lt (n % line) w && nat_lt (n / line) h then record 
 
 module _ (c : CardState) (d : BiosData) (s : Screen) (h : HasFrames c d s) where
   dot_is : (f : Colours) (n : ℕ) → picture_dot h.raster f n ≡ dot_by (dots_a_line s.mode) (picture_width s) (picture_height s) f n
-  dot_is f n =
-      ap (λ l. dot_by l (width h.raster) h.raster.height f n) h.line
-      ∙ ap (λ w. dot_by (dots_a_line s.mode) w h.raster.height f n) h.wide
-      ∙ ap (λ v. dot_by (dots_a_line s.mode) (picture_width s) v f n) h.high
+  dot_is f n = rw (h.line, h.wide, h.high) refl
 
   dot_line : (f : Colours) (n : ℕ) → lines_of (picture_dot h.raster f n) ≡ (if is_of_picture s n then n / dots_a_line s.mode ∷ [] else [])
   dot_line f n = ap lines_of (dot_is f n) ∙ lines_if (is_of_picture s n) _

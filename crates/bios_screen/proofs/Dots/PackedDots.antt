@@ -1,15 +1,13 @@
 -- The dot at a place of a frame of 256 colours is the screen's pixel.
-use Rattle.std.proofs.Common.{◌≡◌, ℕ, ◌+◌, ◌*◌, ◌/◌, ◌%◌, ◌<◌, sym, ap, ◌∙◌, arith, true, false, [], ◌∷◌}
-use Rattle.std.specs.Prelude.{not, if◌then◌else◌, ◌&&◌, slice_index, bit_and}
+use Rattle.std.proofs.Common.{◌≡◌, ℕ, ◌+◌, ◌*◌, ◌/◌, ◌%◌, ◌<◌, sym, ap, ◌∙◌, arith, true, false}
+use Rattle.std.specs.Prelude.{if◌then◌else◌, ◌&&◌, slice_index}
 use Rattle.vga_bits.specs.Bits.{is_set}
 use Rattle.vga_planes.specs.Planes.{byte_at}
 use Rattle.vga_host.specs.Fields.{is_screen_off, is_256_colours}
-use Rattle.vga_attr.specs.Fields.{is_palette_shown, overscan}
-use Rattle.vga_attr.specs.Colour.{colour_index}
-use Rattle.vga_dac.specs.Dac.{entry_of}
+use Rattle.vga_attr.specs.Fields.{is_palette_shown}
 use Rattle.vga_dots.specs.SourceDot.{source_dot, fetch_address}
 use Rattle.vga_dots.specs.Graphics.{packed_byte}
-use Rattle.vga_dots.specs.Colour.{nibble, colour_number, dot_colour}
+use Rattle.vga_dots.specs.Colour.{colour_number, dot_colour}
 use Rattle.vga_card.specs.Bounds.{IsCard}
 use Rattle.vga_card.specs.Card.{CardState}
 use Rattle.bios_modes.specs.Modes.{bytes_320_by_200}
@@ -60,11 +58,5 @@ module _ (c : CardState) (d : BiosData) (t : IsPacked c d) (z : IsCard c) (g : �
   pub draws : Draws (raster_in Many) c (0xFA00 * g) (pixel_dot (pixel_screen bytes_320_by_200 c d) g)
   unfolding dot_colour colour_number
   draws v x i lv lx li =
-      let at = placed Many c d t g v x i in
-      let packed = packed_byte c.host at (source_dot c.host at c.attr) in
-      let other = colour_index c.attr (nibble c.host at c.attr) in
-      ap (λ w. if w then 0 ∷ 0 ∷ 0 ∷ [] else entry_of c.dac (bit_and (colour_number c.host at c.attr) c.dac.mask)) screen_on
-      ∙ ap (λ w. tint (palette_in c) (if not w then overscan c.attr else if is_256_colours c.host then packed else other)) shown
-      ∙ ap (λ w. tint (palette_in c) (if w then packed else other)) many_colours
-      ∙ ap (tint (palette_in c)) (byte_is v x i lv lx li)
+      rw (screen_on, shown, many_colours) (ap (tint (palette_in c)) (byte_is v x i lv lx li))
       ∙ sym (dot_is Many c d t g v x i lg lv lx li)

@@ -92,18 +92,9 @@ module _ (k : Graphics) (c : CardState) (d : BiosData) (t : IsGraphics k c d) wh
   pixel_is : (g v x i : ℕ) → g < (row_in k).pages → v < (raster_in k).height → x < (raster_in k).columns → i < 8 →
       pixel_on s g ((x * 8 + i) / pixel_width (number_in k)) (v / tall) ≡ pixel g v x i
   pixel_is g v x i lg lv lx li =
-      let m = c.host.memory in
       let row = row_in k in
-      let j = (x * 8 + i) / pixel_width (number_in k) in
-      let y = v / tall in
-      let at = number_of_pixel v x i in
-      let count = 8 * columns * (row.height * (row.last_row + 1)) in
-      ap (λ n. slice_index (get_or (pixel_pages d.mode m d.size (8 * n * (d.height * (d.last_row + 1))) row.pages) g []) (8 * n * y + j)) t.has.columns
-      ∙ ap (λ n. slice_index (get_or (pixel_pages d.mode m d.size (8 * columns * (n * (d.last_row + 1))) row.pages) g []) at) t.has.height
-      ∙ ap (λ n. slice_index (get_or (pixel_pages d.mode m d.size (8 * columns * (row.height * (n + 1))) row.pages) g []) at) t.has.last_row
-      ∙ ap (λ n. slice_index (get_or (pixel_pages d.mode m n count row.pages) g []) at) t.has.size
-      ∙ ap (λ n. slice_index (get_or (pixel_pages n m size count row.pages) g []) at) t.number
-      ∙ pixel_at (number_in k) m size count row.pages g at lg (pixel_within k v x i lv lx li)
+      rw (t.has.columns, t.has.height, t.has.last_row, t.has.size, t.number) (pixel_at (number_in k) c.host.memory size
+      (8 * columns * (row.height * (row.last_row + 1))) row.pages g (number_of_pixel v x i) lg (pixel_within k v x i lv lx li))
 
   pub dot_is : (g v x i : ℕ) → g < (row_in k).pages → v < (raster_in k).height → x < (raster_in k).columns → i < 8 →
       pixel_dot s g (x * 8 + i) v ≡ (if is_packed (number_in k) then tint s.palette (pixel g v x i) else shade s.palette (pixel g v x i))

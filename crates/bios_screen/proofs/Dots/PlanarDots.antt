@@ -8,24 +8,22 @@ use Rattle.vga_bits.specs.Bits.{is_set}
 use Rattle.vga_planes.specs.Planes.{byte_at}
 use Rattle.vga_host.specs.Host.{HostState}
 use Rattle.vga_host.specs.Fields.{is_graphics}
-use Rattle.vga_dots.specs.SourceDot.{source_dot, fetch_address}
-use Rattle.vga_dots.specs.Text.{text_nibble}
 use Rattle.vga_dots.specs.Graphics.{plane_bits, planar_nibble}
 use Rattle.vga_dots.specs.Colour.{nibble}
 use Rattle.vga_card.specs.Bounds.{IsCard}
 use Rattle.vga_card.specs.Card.{CardState}
 use Rattle.bios_modes.specs.Bda.{BiosData}
-use Rattle.bios_screen.specs.Shown.{planar_pixel, packed_pixel, pixel_screen}
+use Rattle.bios_screen.specs.Shown.{planar_pixel, pixel_screen}
 use Rattle.bios_screen.specs.Picture.{shade, tint, pixel_height, pixel_dot}
 use Rattle.bios_screen.specs.Raster.{Draws}
 use Rattle.bios_screen.proofs.Base.Tests.{lt_test}
 use Rattle.bios_screen.proofs.Base.Setting.{Setting}
 use Rattle.bios_screen.proofs.Shows.Screens.{setting_by}
 use Rattle.bios_screen.proofs.Dots.Colours.{coloured, dot_shade}
-use Rattle.bios_screen.proofs.Modes.PixelModes.{Planes, Graphics, row_of, number_of, graphics_by, packed_by, shades_by, raster_in, frame_in, dots_in}
-use Rattle.bios_screen.proofs.Modes.PixelModes.{columns_by, fetch_by}
+use Rattle.bios_screen.proofs.Modes.PixelModes.{Planes, Graphics, row_of, number_of, graphics_by, packed_by, shades_by, raster_in, frame_in}
+use Rattle.bios_screen.proofs.Modes.PixelModes.{dots_in, columns_by, fetch_by}
 use Rattle.bios_screen.proofs.Modes.PixelModes.Graphics.{Sixteen}
-use Rattle.bios_screen.proofs.Dots.PixelDots.{IsGraphics, placed, place, number_of_pixel, pixel, source_is, fetch_is, dot_is}
+use Rattle.bios_screen.proofs.Dots.PixelDots.{IsGraphics, placed, place, pixel, source_is, fetch_is, dot_is}
 
 -- the adapter and the data show a screen of sixteen colours
 abbrev pub IsPlanar : Planes → CardState → BiosData → Type 0
@@ -72,24 +70,13 @@ module _ (m : Planes) (c : CardState) (d : BiosData) (t : IsPlanar m c d) (z : I
       nibble c.host (placed k c d t g v x i) c.attr ≡ bits v x i
   unfolding nibble planar_nibble
   dot_bits v x i lv lx li li8 =
-      let at = placed k c d t g v x i in
       let n = place k c d t g v x in
-      ap (λ w. if w then planar_nibble c.host at (source_dot c.host at c.attr) else text_nibble c.host at c.attr (source_dot c.host at c.attr)) graphics_on
-      ∙ ap (planar_nibble c.host at) (source_is k c d t z g v x i lg lv lx li)
-      ∙ ap (λ w. if w then plane_bits c.host (fetch_address c.crtc.registers n) (7 - i) else 0) (lt_test i 8 li8)
-      ∙ ap (λ a. plane_bits c.host a (7 - i)) (fetch_is k c d t n ∙ fetch_by m n)
+      rw (graphics_on, source_is k c d t z g v x i lg lv lx li, lt_test i 8 li8, fetch_is k c d t n, fetch_by m n) refl
 
   -- are those of the pixel
   pixel_bits : (v x i : ℕ) → i < 8 → pixel k c d t g v x i ≡ bits v x i
-  pixel_bits v x i li =
-      let a = (row_of m).size * g in
-      let w = (row_of m).columns in
-      let y = v / pixel_height (number_of m) in
-      let at = number_of_pixel k c d t v x i in
-      ap (λ b. if b then packed_pixel c.host.memory (a + at) else planar_pixel c.host.memory a at) (packed_by m)
-      ∙ ap (λ b. planar_pixel c.host.memory a (8 * w * y + (x * 8 + i) / (if b then 2 else 1))) (packed_by m)
-      ∙ pixel_there c.host a w y x i li
-      ∙ ap (λ n. plane_bits c.host (a + (n * y + x)) (7 - i)) (sym (columns_by m))
+  pixel_bits v x i li = rw (packed_by m, columns_by m)
+      (pixel_there c.host ((row_of m).size * g) (row_of m).columns (v / pixel_height (number_of m)) x i li)
 
   pub draws : Draws (raster_in k) c ((row_of m).size * g) (pixel_dot (pixel_screen (row_of m) c d) g)
   draws v x i lv lx li =

@@ -15,8 +15,7 @@ use Rattle.vga_dots.specs.declared.source_dot.SourceDot.{SourceDot}
 use Rattle.vga_dots.specs.declared.text.Cell.{Cell as DotCell}
 use Rattle.vga_dots.specs.SourceDot.{source_dot, fetch_address}
 use Rattle.vga_dots.specs.Text.{cell_at, map_start, glyph_row as row_of_glyph, is_glyph_dot as is_dot_of_glyph, is_underlined as is_cell_underlined}
-use Rattle.vga_dots.specs.Text.{is_blinked_away as is_cell_blinked, is_cursor_at, is_foreground as is_cell_foreground, cell_nibble, text_nibble}
-use Rattle.vga_dots.specs.Graphics.{planar_nibble}
+use Rattle.vga_dots.specs.Text.{is_blinked_away as is_cell_blinked, is_cursor_at, is_foreground as is_cell_foreground, text_nibble}
 use Rattle.vga_dots.specs.Colour.{nibble as dot_nibble, dot_colour}
 use Rattle.vga_card.specs.Bounds.{IsCard}
 use Rattle.vga_card.specs.Card.{CardState}
@@ -211,9 +210,7 @@ module _ (c : CardState) (d : BiosData) (h : IsShown c d) (z : IsCard c) (g : �
   glyph_dot_is q r i lr =
       let ch = (there q).0 in
       let byte = glyph_row s ch r in
-      ap (λ b. if nat_lt i 8 then is_set b (7 - i) else is_line_graphics c.attr && nat_le 0xC0 ch && nat_le ch 0xDF && is_set b 0) (row_is q r lr)
-      ∙ ap (λ w. if nat_lt i 8 then is_set byte (7 - i) else w && nat_le 0xC0 ch && nat_le ch 0xDF && is_set byte 0) line_is
-      ∙ ap (λ w. if nat_lt i 8 then is_set byte (7 - i) else w) (regrouped (nat_le 0xC0 ch) (nat_le ch 0xDF) (is_set byte 0))
+      rw (row_is q r lr, line_is) (ap (λ w. if nat_lt i 8 then is_set byte (7 - i) else w) (regrouped (nat_le 0xC0 ch) (nat_le ch 0xDF) (is_set byte 0)))
     where
       regrouped : (a b e : Bool) → (true && a && b && e) ≡ (a && (b && e))
       regrouped true b e = refl
@@ -260,14 +257,8 @@ module _ (c : CardState) (d : BiosData) (h : IsShown c d) (z : IsCard c) (g : �
       let f = nat_lt (c.crtc.beam.frame % 16) 8 in
       ap (λ l. (n == cursor_location l) && not (is_cursor_off l) && nat_le (cursor_start l) r && nat_le r (cursor_end l) && f) h.tests.crtc
       ∙ cursor_by h.row type (start_address d d.page) location n r f
-      ∙ ap (λ m. (n == m) && not (is_set (bit_and (high type) 0x3F) 5) && nat_le (field (bit_and (high type) 0x3F) 4 0) r
-      && nat_le r (field (bit_and (low type) 0x7F) 4 0) && f) (two_bytes location ∙ location_is)
-      ∙ ap (λ w. (n == cursor_cell s d.page) && not w && nat_le (field (bit_and (high type) 0x3F) 4 0) r && nat_le r (field (bit_and (low type) 0x7F) 4 0)
-      && f) (off_bit (high type))
-      ∙ ap (λ m. (n == cursor_cell s d.page) && not (is_set (high type) 5) && nat_le m r && nat_le r (field (bit_and (low type) 0x7F) 4 0)
-      && f) (start_field (high type))
-      ∙ ap (λ m. (n == cursor_cell s d.page) && not (is_set (high type) 5) && nat_le (field (high type) 4 0) r && nat_le r m && f) (end_field (low type))
-      ∙ regrouped (n == cursor_cell s d.page) (not (is_set (high type) 5)) (nat_le (field (high type) 4 0) r) (nat_le r (field (low type) 4 0)) f
+      ∙ rw (two_bytes location, location_is, off_bit (high type), start_field (high type), end_field (low type))
+      (regrouped (n == cursor_cell s d.page) (not (is_set (high type) 5)) (nat_le (field (high type) 4 0) r) (nat_le r (field (low type) 4 0)) f)
     where
       regrouped : (a b e q w : Bool) → (a && b && e && q && w) ≡ (a && (b && (e && (q && w))))
       regrouped true true true q w = refl
@@ -285,34 +276,21 @@ module _ (c : CardState) (d : BiosData) (h : IsShown c d) (z : IsCard c) (g : �
       let r = v % height in
       let lr = scan_small v in
       let n = half * g + q in
-      let glyph = is_dot_of_glyph c.attr (there q).0 (row_of_glyph c.host (dot_cell q) r) k in
-      let under = is_cell_underlined (placed v x k) c.attr (dot_cell q) in
-      ap (λ w. if w then true else if is_cell_blinked (placed v x k) c.attr (dot_cell q) then false else if under then true else glyph) (cursor_is n v x k)
-      ∙ ap (λ w. if is_cursor s n r then true else if w then false else if under then true else glyph) (blinked_is q v x k)
-      ∙ ap (λ w. if is_cursor s n r then true else if is_blinked_away s (there q) then false else if w then true else glyph) (underlined_is q v x k)
-      ∙ ap (λ w. if is_cursor s n r then true else if is_blinked_away s (there q) then false else if is_underlined s (there q) r then true
-      else w) (glyph_dot_is q r k lr)
-      ∙ ap (λ (p : Cell). if is_cursor s n r then true else if is_blinked_away s p then false else if is_underlined s p r then true
-      else is_glyph_dot p.0 (glyph_row s p.0 r) k) (sym (on_screen q lq))
+      rw (cursor_is n v x k, blinked_is q v x k, underlined_is q v x k, glyph_dot_is q r k lr)
+      (ap (λ (p : Cell). if is_cursor s n r then true else if is_blinked_away s p then false else if is_underlined s p r then true
+      else is_glyph_dot p.0 (glyph_row s p.0 r) k) (sym (on_screen q lq)))
 
   nibble_is : (q v x k : ℕ) → q < columns * rows → text_nibble c.host (placed v x k) c.attr (record { counter = half * g + q; dot = k })
       ≡ nibble s (half * g + q) (v % height) k
   unfolding text_nibble nibble
   nibble_is q v x k lq =
-      let source : SourceDot = record { counter = half * g + q; dot = k } in
-      let n = half * g + q in
-      ap (cell_nibble c.host (placed v x k) c.attr source) (cell_is q lq)
-      ∙ ap (λ w. if w then field (there q).1 3 0 else background s (there q)) (on_is q v x k lq)
-      ∙ ap (λ (p : Cell). if is_foreground s n (v % height) k then field p.1 3 0 else background s p) (sym (on_screen q lq))
+      rw (cell_is q lq, on_is q v x k lq)
+      (ap (λ (p : Cell). if is_foreground s (half * g + q) (v % height) k then field p.1 3 0 else background s p) (sym (on_screen q lq)))
 
   dot_bits : (v x k : ℕ) → v < height * rows → x < columns → k < 9 → dot_nibble c.host (placed v x k) c.attr
       ≡ nibble s (half * g + (columns * (v / height) + x)) (v % height) k
   unfolding dot_nibble
-  dot_bits v x k lv lx lk =
-      let at = placed v x k in
-      ap (λ w. if w then planar_nibble c.host at (source_dot c.host at c.attr) else text_nibble c.host at c.attr (source_dot c.host at c.attr)) graphics_off
-      ∙ ap (text_nibble c.host at c.attr) (source_is v x k lv lx lk)
-      ∙ nibble_is (columns * (v / height) + x) v x k (place_there v x lv lx)
+  dot_bits v x k lv lx lk = rw (graphics_off, source_is v x k lv lx lk) (nibble_is (columns * (v / height) + x) v x k (place_there v x lv lx))
 
   small_if : (b w : Bool) (x y q : ℕ) → x < 16 → y < 16 → q < 16 → (if b then x else if w then y else q) < 16
   small_if true w x y q lx ly lq = lx
@@ -329,6 +307,7 @@ module _ (c : CardState) (d : BiosData) (h : IsShown c d) (z : IsCard c) (g : �
   -- the dot at the place has the screen's colour
   pub place_is : (v x k : ℕ) → v < height * rows → x < columns → k < 9 → dot_colour c.host (placed v x k) c.attr c.dac
       ≡ shade s.palette (nibble s (half * g + (columns * (v / height) + x)) (v % height) k)
-  place_is v x k lv lx lk = dot_shade c (coloured h.row c d t.shades t.frame.attributes (all_of h.row c d h.tests) z) z (placed v x k)
-      (nibble s (half * g + (columns * (v / height) + x)) (v % height) k) (dot_bits v x k lv lx lk)
-      (nibble_small (half * g + (columns * (v / height) + x)) (v % height) k)
+  place_is v x k lv lx lk =
+      let n = half * g + (columns * (v / height) + x) in
+      dot_shade c (coloured h.row c d t.shades t.frame.attributes (all_of h.row c d h.tests) z) z (placed v x k) (nibble s n (v % height) k)
+      (dot_bits v x k lv lx lk) (nibble_small n (v % height) k)

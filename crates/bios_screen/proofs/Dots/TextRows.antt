@@ -60,14 +60,13 @@ cursor_by row type start location k r f = refl
 
 -- ---- each row of text is one
 
-raster_by : (disp : Display) (height : Height) → IsRaster (text_raster (row_with disp height))
-raster_by Colour Eight = record { some_dots = omega arith; some_columns = omega arith; some_lines = omega arith; narrow = omega arith; low = omega arith }
-raster_by Colour Fourteen = record { some_dots = omega arith; some_columns = omega arith; some_lines = omega arith; narrow = omega arith; low = omega arith }
-raster_by Colour Sixteen = record { some_dots = omega arith; some_columns = omega arith; some_lines = omega arith; narrow = omega arith; low = omega arith }
-raster_by Monochrome Eight = record { some_dots = omega arith; some_columns = omega arith; some_lines = omega arith; narrow = omega arith; low = omega arith }
-raster_by Monochrome Fourteen = record { some_dots = omega arith; some_columns = omega arith; some_lines = omega arith; narrow = omega arith;
-    low = omega arith }
-raster_by Monochrome Sixteen = record { some_dots = omega arith; some_columns = omega arith; some_lines = omega arith; narrow = omega arith; low = omega arith }
+fits_by : (disp : Display) (height : Height) → IsRaster (text_raster (row_with disp height))
+fits_by Colour Eight = record { some_dots = omega arith; some_columns = omega arith; some_lines = omega arith; narrow = omega arith; low = omega arith }
+fits_by Colour Fourteen = record { some_dots = omega arith; some_columns = omega arith; some_lines = omega arith; narrow = omega arith; low = omega arith }
+fits_by Colour Sixteen = record { some_dots = omega arith; some_columns = omega arith; some_lines = omega arith; narrow = omega arith; low = omega arith }
+fits_by Monochrome Eight = record { some_dots = omega arith; some_columns = omega arith; some_lines = omega arith; narrow = omega arith; low = omega arith }
+fits_by Monochrome Fourteen = record { some_dots = omega arith; some_columns = omega arith; some_lines = omega arith; narrow = omega arith; low = omega arith }
+fits_by Monochrome Sixteen = record { some_dots = omega arith; some_columns = omega arith; some_lines = omega arith; narrow = omega arith; low = omega arith }
 
 numbers_by : (disp : Display) (height : Height) → numbers_of 9 (row_with disp height).crtc ≡ text_raster (row_with disp height)
 unfolding horizontal_total horizontal_display_end vertical_total vertical_display_end
@@ -90,7 +89,7 @@ regular_by Monochrome Sixteen = record { uncut = omega arith; unscrolled = refl 
 frame_by : (disp : Display) (height : Height) → IsFrame (text_raster (row_with disp height)) (row_with disp height)
 unfolding byte_panning
 frame_by Colour height = record {
-  raster = raster_by Colour height;
+  raster = fits_by Colour height;
   clock = refl;
   numbers = numbers_by Colour height;
   regular = regular_by Colour height;
@@ -99,7 +98,7 @@ frame_by Colour height = record {
   still = refl;
 }
 frame_by Monochrome height = record {
-  raster = raster_by Monochrome height;
+  raster = fits_by Monochrome height;
   clock = refl;
   numbers = numbers_by Monochrome height;
   regular = regular_by Monochrome height;

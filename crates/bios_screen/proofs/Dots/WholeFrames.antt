@@ -12,7 +12,7 @@ use Rattle.bios_screen.proofs.Base.DotLists.{bytes_joined, same_joined, whole_pi
 use Rattle.bios_screen.specs.Drawing.{dots_a_line, lines_a_frame, dots_a_frame, Drawing, page_shown, so_far, is_of_picture, colour_of, take_dot, take_dots}
 use Rattle.bios_screen.specs.Drawing.{take_frame}
 use Rattle.bios_screen.specs.Whole.{FitsFrame, IsFrameTaken, IsWhole}
-use Rattle.bios_screen.proofs.Dots.OneDot.{not_zero, is_zero, dot_by, bytes_if, renewed, taken_on, taken_last, dots_on, taken_more}
+use Rattle.bios_screen.proofs.Dots.OneDot.{not_zero, is_zero, bytes_if, renewed, taken_on, taken_last, dots_on, taken_more}
 
 pub taken_split : (a b : ℕ) (x : Drawing) → take_dots (a + b) x ≡ take_dots b (take_dots a x)
 unfolding take_dots
@@ -99,9 +99,7 @@ once n = omega arith
 
 dot_bytes : (s : Screen) (g n : ℕ) → bytes_of (picture_dot (raster_of s) (dot_at s g) n) ≡ colour_of s g n
 dot_bytes s g n =
-    ap (λ l. bytes_of (dot_by l (picture_width s * 1) (picture_height s) (dot_at s g) n)) (once (dots_a_line s.mode))
-    ∙ ap (λ w. bytes_of (dot_by (dots_a_line s.mode) w (picture_height s) (dot_at s g) n)) (once (picture_width s))
-    ∙ bytes_if (is_of_picture s n) _
+    rw (once (dots_a_line s.mode), once (picture_width s)) (bytes_if (is_of_picture s n) _)
 
 whole_colours : (s : Screen) (g : ℕ) → FitsFrame s → join (colour_of s g) (dots_a_frame s.mode)
     ≡ picture_bytes (picture_width s) (picture_height s) (dot_at s g)

@@ -4,7 +4,7 @@ use Rattle.std.specs.Prelude.{◌==◌, ◌&&◌, slice_index, slice_set, bit_an
 use Rattle.std.proofs.lemmas.Bool.{cases_eq, agree_below, agree_below_at}
 use Rattle.std.proofs.lemmas.List.{get_or-set_same, get_or-set_other, length-set}
 use Rattle.vga_dac.specs.declared.component.Component.TheVariants.{Red}
-use Rattle.vga_dac.specs.Dac.{DacState}
+use Rattle.vga_dac.specs.Dac.{DacState, IsDac}
 use Rattle.vga_card.specs.Bus.{card_meaning}
 use Rattle.vga_card.specs.Card.{CardState}
 use Rattle.vga_card.specs.Port.{port_of}
@@ -14,7 +14,7 @@ use Rattle.bios_modes.specs.declared.palette.Palette.TheVariants.{Colours16, Col
 use Rattle.bios_modes.specs.Palette.{palette_entry}
 use Rattle.bios_services.specs.Plan.{run, each}
 use Rattle.bios_services.specs.ModeSet.{colour_plan}
-use Rattle.bios_screen.proofs.Base.Flat.{Edited, Leaves, set_cell, set_same, set_other}
+use Rattle.bios_screen.proofs.Base.Flat.{Edited, Turn, Leaves, set_cell, set_same, set_other}
 use Rattle.bios_screen.proofs.Base.Edits.{one_edit, edits}
 use Rattle.bios_screen.proofs.Base.Tests.{both_true, same}
 
@@ -68,7 +68,7 @@ three l i c e w =
     ap (λ x. (run card_meaning (colour_plan l) (record c { dac = record c.dac { component = x } })).0) e
     ∙ ap (λ x. let t : CardState = record c { dac = stored c.dac x (colour_of l) } in t) w
 
-pub one_entry : (rest : CardState) (colour : List ℕ) (i : ℕ) (s : CardState) (c : ℕ → Colour) → i < 256 → HasEntries rest i s c →
+one_entry : (rest : CardState) (colour : List ℕ) (i : ℕ) (s : CardState) (c : ℕ → Colour) → i < 256 → HasEntries rest i s c →
     Leaves CardState Colour (HasEntries rest (i + 1)) (run card_meaning (colour_plan colour) s).0
     (Edited Colour (Unit {0}) (λ _. i) (λ _ x. kept_colour (colour_of colour)) c)
 one_entry rest colour i s c l t =
@@ -98,20 +98,35 @@ one_entry rest colour i s c l t =
     } in
     record { cells = d; shown = subst (λ x. HasEntries rest (i + 1) x d) (sym (three colour i s t.component (t.index ∙ z))) still; fact = one_edit i new c }
 
+-- an adapter whose DAC waits for red of entry i
+pub before_entry : (c : CardState) (i : ℕ) → IsDac c.dac → i < 256 →
+    HasEntries (without_entries c) i (record c { dac = record c.dac { index = i; component = Red } }) (entry_at c.dac)
+before_entry c i z l = record {
+  index = omega arith;
+  component = refl;
+  reds = z.reds;
+  greens = z.greens;
+  blues = z.blues;
+  entry = λ k m. refl;
+  others = refl;
+}
+
+-- so many colours from entry i on
+pub entries_written : (rest : CardState) (colour : ℕ → List ℕ) (i n : ℕ) (s : CardState) (c : ℕ → Colour) → i + n ≤ 256 → HasEntries rest i s c →
+    Leaves CardState Colour (HasEntries rest (i + n)) (run card_meaning (each (λ r. colour_plan (colour r)) n 0) s).0
+    (Edited Colour (Turn (λ _. Unit {0}) 0 n) (λ h. i + h.turn) (λ h x. kept_colour (colour_of (colour h.turn))) c)
+entries_written rest colour i n s c l t =
+    let z : i ≡ i + 0 = omega arith in
+    edits CardState Colour card_meaning (λ r. colour_plan (colour r)) (λ r. HasEntries rest (i + r)) 0 n (λ _. Unit {0}) (λ r h. i + r) (λ r h x.
+    kept_colour (colour_of (colour r))) (λ j k a b lb lo hi q. absurd (omega arith))
+    (λ r x g lb w there. let a : i + r + 1 ≡ i + (r + 1) = omega arith in
+    subst (λ k. Leaves CardState Colour (HasEntries rest k) (run card_meaning (colour_plan (colour r)) x).0
+    (Edited Colour (Unit {0}) (λ _. i + r) (λ _ y. kept_colour (colour_of (colour r))) g)) a (one_entry rest (colour r) (i + r) x g (omega arith) there))
+    n 0 s c (omega arith) (omega arith) (subst (λ k. HasEntries rest k s c) z t)
+
 -- a palette's entries have no bits to lose
 abbrev pub keeps_entries : Palette → ℕ → Type 0
 keeps_entries palette n = (k : ℕ) → k < n → kept_colour (colour_of (palette_entry palette k)) ≡ colour_of (palette_entry palette k)
-
--- all the entries, n of them
-pub entries_set : (rest : CardState) (palette : Palette) (n : ℕ) (s : CardState) (c : ℕ → Colour) → n ≤ 256 → keeps_entries palette n → HasEntries rest 0 s c →
-    Leaves CardState Colour (HasEntries rest n) (run card_meaning (each (λ i. colour_plan (palette_entry palette i)) n 0) s).0 (λ d. (k : ℕ) → k < n →
-    d k ≡ colour_of (palette_entry palette k))
-entries_set rest palette n s c l small t =
-    let all = edits CardState Colour card_meaning (λ i. colour_plan (palette_entry palette i)) (HasEntries rest) 0 n (λ _. Unit {0}) (λ r h. r) (λ r h x.
-    kept_colour (colour_of (palette_entry palette r))) (λ j k a b lb lo hi q. absurd (omega arith))
-    (λ r s c lb w t. one_entry rest (palette_entry palette r) r s c (omega arith) t)
-    n 0 s c (omega arith) (omega arith) t in
-    record { cells = all.cells; shown = all.shown; fact = λ k h. all.fact.inside (record { turn = k; from = omega arith; before = h; place = tt }) ∙ small k h }
 
 -- where that is so of each component, which is computed
 abbrev is_kept : List ℕ → Bool

@@ -1,5 +1,5 @@
 -- A clearing mode set, down to its memory: registers and the DAC's entries; and the call around it.
-use Rattle.std.proofs.Common.{◌≡◌, ℕ, ◌<◌, refl, ap, ◌∙◌, subst, arith, List, length, Option, Some, false}
+use Rattle.std.proofs.Common.{◌≡◌, ℕ, ◌+◌, ◌<◌, refl, ap, ◌∙◌, subst, arith, List, length, Option, Some, false}
 use Rattle.std.specs.Prelude.{slice_index}
 use Rattle.vga_dac.specs.declared.component.Component.TheVariants.{Red}
 use Rattle.vga_dac.specs.Dac.{DacState}
@@ -21,7 +21,6 @@ use Rattle.bios_services.specs.declared.call.Call.TheVariants.{SetMode}
 use Rattle.bios_services.specs.Service.{call_plan, set_mode_plan, answer_of, Answered, service as whole_service}
 use Rattle.bios_services.specs.Plan.{Plan, Done, run, each, ◌>>◌}
 use Rattle.bios_services.specs.ModeSet.{registers_plan, colour_plan, palette_plan, mode_set_plan}
-use Rattle.bios_screen.specs.Screen.{Palette}
 use Rattle.bios_screen.specs.Shown.{palette_in, shown}
 use Rattle.bios_screen.specs.Fresh.{default_component, fresh_palette, fresh_screen}
 use Rattle.bios_screen.specs.Served.{SetsFresh}
@@ -34,7 +33,7 @@ use Rattle.bios_screen.proofs.Modes.PixelModes.Graphics.{Sixteen, Many}
 use Rattle.bios_screen.proofs.Modes.AnyModes.{Tabled, row_of, number_of}
 use Rattle.bios_screen.proofs.Modes.AnyModes.Tabled.{OfText, OfPixels}
 use Rattle.bios_screen.proofs.Modes.Registers.{in_mode, registers_set}
-use Rattle.bios_screen.proofs.Modes.Entries.{Colour as Entry, colour_of, entry_at, without_entries, HasEntries, keeps, entries_set}
+use Rattle.bios_screen.proofs.Modes.Entries.{Colour as Entry, colour_of, entry_at, without_entries, before_entry, entries_written, keeps}
 
 -- ---- the DAC
 
@@ -70,11 +69,7 @@ coloured row c d = record (in_mode row c) { dac = d }
 
 -- then its palette is the fresh screen's
 pub palette_is : (row : ModeRow) (c : CardState) (d : DacState) → HasColours row.palette d → palette_in (coloured row c d) ≡ fresh_palette row
-palette_is row c d t =
-    ap (λ k. let p : Palette = record (palette_in (coloured row c d)) { mask = k } in p) t.mask
-    ∙ ap (λ k. let p : Palette = record (fresh_palette row) { reds = k; greens = d.greens; blues = d.blues } in p) t.reds
-    ∙ ap (λ k. let p : Palette = record (fresh_palette row) { greens = k; blues = d.blues } in p) t.greens
-    ∙ ap (λ k. let p : Palette = record (fresh_palette row) { blues = k } in p) t.blues
+palette_is row c d t = rw (t.mask, t.reds, t.greens, t.blues) refl
 
 -- what registers and palette of a mode leave, before the rest of its plan
 pub record Prepared (row : ModeRow) (c : CardState) : Type 0 where
@@ -98,19 +93,13 @@ prepared k c z =
       dac = record { reds = z0.dac.reds; greens = z0.dac.greens; blues = z0.dac.blues };
     } in
     let s2 = (run card_meaning entries y1).0 in
-    let start : HasEntries (without_entries y1) 0 y1 (entry_at y1.dac) = record {
-      index = refl;
-      component = refl;
-      reds = z1.dac.reds;
-      greens = z1.dac.greens;
-      blues = z1.dac.blues;
-      entry = λ i l. refl;
-      others = refl;
-    } in
-    let set = entries_set (without_entries y1) row.palette 256 y1 (entry_at y1.dac) (omega arith) (keeps row.palette) start in
+    let set = entries_written (without_entries y1) (palette_entry row.palette) 0 256 y1 (entry_at y1.dac) (omega arith)
+        (before_entry y1 0 z1.dac (omega arith)) in
     let d : DacState = record s2.dac { mask = 0xFF } in
     let e : s2 ≡ coloured row c d = but_entries s2 y1 set.shown.others in
-    let entry : (i : ℕ) → i < 256 → entry_at d i ≡ colour_of (palette_entry row.palette i) = λ i l. set.shown.entry i l ∙ set.fact i l in
+    let entry : (i : ℕ) → i < 256 → entry_at d i ≡ colour_of (palette_entry row.palette i) = λ i l.
+    let at : i ≡ 0 + i = omega arith in
+    set.shown.entry i l ∙ ap set.cells at ∙ set.fact.inside (record { turn = i; from = omega arith; before = l; place = tt }) ∙ keeps row.palette i l in
     record {
       dac = d;
       colours = record {

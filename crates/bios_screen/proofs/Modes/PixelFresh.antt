@@ -1,9 +1,9 @@
 -- A clearing mode set to graphics: from any state to one that shows the fresh screen.
-use Rattle.std.proofs.Common.{◌≡◌, ◌≢◌, ℕ, zero, suc, ◌+◌, ◌-◌, ◌*◌, ◌/◌, ◌%◌, ◌<◌, ◌≤◌, ⊎_elim, refl, sym, ap, ◌∙◌, subst, arith, List, [], length, replicate}
+use Rattle.std.proofs.Common.{◌≡◌, ℕ, zero, suc, ◌+◌, ◌-◌, ◌*◌, ◌/◌, ◌%◌, ◌<◌, ◌≤◌, ⊎_elim, refl, sym, ap, ◌∙◌, subst, arith, List, [], length, replicate}
 use Rattle.std.proofs.Common.{Some, None, true, false}
-use Rattle.std.specs.Prelude.{slice_index, slice_set, ◌==◌, if◌then◌else◌}
+use Rattle.std.specs.Prelude.{slice_index, slice_set, if◌then◌else◌}
 use Rattle.std.specs.Int.{bit_at}
-use Rattle.std.proofs.lemmas.Bool.{cases_eq, cases_lt}
+use Rattle.std.proofs.lemmas.Bool.{cases_lt}
 use Rattle.std.proofs.lemmas.Bool.Decides.{nat_tests}
 use Rattle.std.proofs.lemmas.List.{get_or-set_same, get_or-set_other}
 use Rattle.std.proofs.lemmas.Nat.Bits.{bit_at-zero}
@@ -18,22 +18,22 @@ use Rattle.vga_card.specs.Bounds.{IsCard}
 use Rattle.vga_card.specs.Bus.{card_meaning}
 use Rattle.vga_card.specs.Card.{CardState}
 use Rattle.bios_modes.specs.declared.modes.ModeRow.{ModeRow}
-use Rattle.bios_modes.specs.Heights.{row_at}
 use Rattle.bios_modes.specs.Begin.{data_of_mode}
 use Rattle.bios_modes.specs.Bda.{BiosData}
 use Rattle.bios_services.specs.Plan.{Plan, run, put, each}
-use Rattle.bios_modes.specs.Kinds.{is_text}
 use Rattle.bios_services.specs.ModeSet.{clear_plan, memory_plan, mode_set_plan}
 use Rattle.bios_screen.specs.Screen.{Pixels, Palette, Screen}
 use Rattle.bios_screen.specs.Shown.{planar_pixel, packed_pixel, pixel_in, pixels_in, pixel_pages, shows, screen_by, text_screen, pixel_screen, screen_of, shown}
 use Rattle.bios_screen.specs.Shown.{shown_by}
 use Rattle.bios_screen.specs.Fresh.{blank_pixels, fresh_text, fresh_pixels}
 use Rattle.bios_screen.specs.Served.{SetsFresh}
+use Rattle.bios_screen.proofs.Base.Flat.{set_same, set_other}
 use Rattle.bios_screen.proofs.Base.Lists.{blank_listing}
 use Rattle.bios_services.proofs.CardLemmas.{plan_bounds}
 use Rattle.bios_screen.proofs.Base.Setting.{setting, host_at, with_memory, offset_is, put_decoded}
+use Rattle.bios_screen.proofs.Packed.Memory.{packed_memory, pixel_put}
 use Rattle.bios_screen.proofs.Modes.Fresh.{palette_is, coloured, prepared, ShowsFresh, sets_fresh}
-use Rattle.bios_screen.proofs.Modes.PixelModes.{Planes, row_of, Graphics, row_in, setting_in, number_in, text_by, packed_by}
+use Rattle.bios_screen.proofs.Modes.PixelModes.{Planes, row_of, Graphics, row_in, setting_in, number_in, row_by, text_in, packed_by}
 use Rattle.bios_screen.proofs.Modes.PixelModes.Planes.{Low, Middle, High}
 use Rattle.bios_screen.proofs.Modes.PixelModes.Graphics.{Sixteen, Many}
 use Rattle.bios_screen.proofs.Modes.AnyModes.Tabled.{OfPixels}
@@ -58,7 +58,7 @@ offset_by Many h w l = offset_is w l
 -- a Put of 0 reaches all planes, or the one of its address
 abbrev cleared_at : Graphics → Four (List ℕ) → ℕ → Four (List ℕ)
 cleared_at (Sixteen m) f w = four (λ p. slice_set (of_plane f p) w 0)
-cleared_at Many f w = four (λ p. if p == w % 4 then slice_set (of_plane f p) (w / 4 * 4) 0 else of_plane f p)
+cleared_at Many f w = packed_memory f w 0
 
 put_zero : (k : Graphics) (h : HostState) (w : ℕ) → memory_after_put (host_at h (setting_in k)) w 0 ≡ cleared_at k h.memory w
 unfolding byte_of written_bit combined_bit
@@ -70,7 +70,7 @@ put_zero Many h w = refl
 -- what place w of the window reaches is 0
 abbrev IsClear : Graphics → Four (List ℕ) → ℕ → Type 0
 IsClear (Sixteen m) f w = (p : ℕ) → p < 4 → byte_at f p w ≡ 0
-IsClear Many f w = byte_at f (w % 4) (w / 4 * 4) ≡ 0
+IsClear Many f w = packed_pixel f w ≡ 0
 
 record IsCleared (k : Graphics) (rest : CardState) (n : ℕ) (c : CardState) : Type 0 where
   mode : setting c ≡ setting_in k
@@ -96,28 +96,11 @@ clear_more (Sixteen m) f i size l old w lw = λ p lp.
     ∙ get_or-set_same (of_plane f p) i 0 0 (omega (arith, long)))
     (cases_lt w i)
 clear_more Many f i size l old w lw =
-    let p = w % 4 in
-    let lp : p < 4 = omega arith in
-    let long = size p lp in
-    ap (λ q. slice_index q (w / 4 * 4)) (of_four (λ q. if q == i % 4 then slice_set (of_plane f q) (i / 4 * 4) 0 else of_plane f q) p lp)
+    pixel_put f i 0 w size l
     ∙ ⊎_elim
-    (λ (a : p ≡ i % 4). ap (λ b. slice_index (if b then slice_set (of_plane f p) (i / 4 * 4) 0 else of_plane f p) (w / 4 * 4)) (eq_true p (i % 4) a) ∙ ⊎_elim
-    (λ (b : w / 4 * 4 ≡ i / 4 * 4). ap (slice_index (slice_set (of_plane f p) (i / 4 * 4) 0)) b
-    ∙ get_or-set_same (of_plane f p) (i / 4 * 4) 0 0 (omega (arith, long)))
-    (λ (b : w / 4 * 4 ≢ i / 4 * 4). get_or-set_other (of_plane f p) (i / 4 * 4) (w / 4 * 4) 0 0 b ∙ old w (before w lw (λ e. b (ap (λ n. n / 4 * 4) e))))
-    (cases_eq (w / 4 * 4) (i / 4 * 4)))
-    (λ (a : p ≢ i % 4). ap (λ b. slice_index (if b then slice_set (of_plane f p) (i / 4 * 4) 0 else of_plane f p) (w / 4 * 4)) (eq_false p (i % 4) a)
-    ∙ old w (before w lw (λ e. a (ap (λ n. n % 4) e))))
-    (cases_eq p (i % 4))
-  where
-    eq_true : (a b : ℕ) → a ≡ b → (a == b) ≡ true
-    eq_true a b e = grind (arith, nat_tests)
-
-    eq_false : (a b : ℕ) → a ≢ b → (a == b) ≡ false
-    eq_false a b e = grind (arith, nat_tests)
-
-    before : (v : ℕ) → v < i + 1 → (v ≡ i → ⊥) → v < i
-    before v lv n = ⊎_elim (λ (a : v < i). a) (λ (a : i ≤ v). absurd (n (omega arith))) (cases_lt v i)
+    (λ (a : w < i). set_other (packed_pixel f) i 0 w (omega arith) ∙ old w a)
+    (λ (a : i ≤ w). set_same (packed_pixel f) i 0 w (omega arith))
+    (cases_lt w i)
 
 put_clears : (k : Graphics) (rest : CardState) (i : ℕ) (s : CardState) → i < 65536 → IsCard s → IsCleared k rest i s →
     IsCleared k rest (i + 1) (run card_meaning (put (0xA0000 + i) 0) s).0
@@ -154,13 +137,11 @@ no_bits i = ap (λ b. b + 2 * b + 4 * b + 8 * b) (bit_at-zero i)
 
 planar_zero : (f : Four (List ℕ)) (z k : ℕ) → ((p : ℕ) → p < 4 → byte_at f p (z + k / 8) ≡ 0) → planar_pixel f z k ≡ 0
 planar_zero f z k h =
-    let i = 7 - k % 8 in
-    ap (λ b. bit_at b i + 2 * bit_at (byte_at f 1 (z + k / 8)) i + 4 * bit_at (byte_at f 2 (z + k / 8)) i + 8 * bit_at (byte_at f 3 (z + k / 8)) i)
-    (h 0 (omega arith))
-    ∙ ap (λ b. bit_at 0 i + 2 * bit_at b i + 4 * bit_at (byte_at f 2 (z + k / 8)) i + 8 * bit_at (byte_at f 3 (z + k / 8)) i) (h 1 (omega arith))
-    ∙ ap (λ b. bit_at 0 i + 2 * bit_at 0 i + 4 * bit_at b i + 8 * bit_at (byte_at f 3 (z + k / 8)) i) (h 2 (omega arith))
-    ∙ ap (λ b. bit_at 0 i + 2 * bit_at 0 i + 4 * bit_at 0 i + 8 * bit_at b i) (h 3 (omega arith))
-    ∙ no_bits i
+    let a : byte_at f 0 (z + k / 8) ≡ 0 = h 0 (omega arith) in
+    let b : byte_at f 1 (z + k / 8) ≡ 0 = h 1 (omega arith) in
+    let e : byte_at f 2 (z + k / 8) ≡ 0 = h 2 (omega arith) in
+    let g : byte_at f 3 (z + k / 8) ≡ 0 = h 3 (omega arith) in
+    rw (a, b, e, g) (no_bits (7 - k % 8))
 
 -- how many pixels a page of a row has
 abbrev pub pixels_of : ModeRow → ℕ
@@ -193,16 +174,6 @@ pages_blank k f clear =
     ap (pixel_in mode f (row.size * p)) x ∙ pixel_zero k f p q clear lp lq))
 
 -- ---- one mode
-
-row_by : (k : Graphics) → row_at (number_in k) (row_in k).height ≡ Some (row_in k)
-row_by (Sixteen Low) = refl
-row_by (Sixteen Middle) = refl
-row_by (Sixteen High) = refl
-row_by Many = refl
-
-text_in : (k : Graphics) → is_text (number_in k) ≡ false
-text_in (Sixteen m) = text_by m
-text_in Many = refl
 
 memory_is : (k : Graphics) (font : List ℕ) (c : CardState) → (run card_meaning (memory_plan (row_in k) false font) c).0
     ≡ (run card_meaning (clear_plan 0x10000) c).0
@@ -243,7 +214,7 @@ shows_fresh k c fonts z small =
     let text = fresh_text mode row font c.crtc.beam.frame in
     let pages = replicate row.pages (blank_pixels (pixels_of row)) in
     ap (λ x. shown x d) (first.runs (memory_plan row false font) ∙ memory_is k font y)
-    ∙ ap (λ x. shown_by x s d) (row_by k)
+    ∙ ap (λ x. shown_by x s d) (row_by k row.height)
     ∙ ap (λ b. if b then Some (screen_of row s d) else None) (test_stays row y s d t.others ∙ test_by k c first.dac)
     ∙ ap (λ b. let x : Screen = (if b then text_screen row s d else pixel_screen row s d) in Some x) (text_in k)
     ∙ ap (λ p. Some (screen_by row s d 0 (Pixels p) [])) (pages_blank k s.host.memory t.clear)

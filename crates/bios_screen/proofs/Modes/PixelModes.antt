@@ -1,18 +1,17 @@
 -- The rows of the mode table that are graphics: what their registers say of colours and of frames.
-use Rattle.std.proofs.Common.{◌≡◌, ℕ, ◌+◌, ◌*◌, ◌/◌, ◌%◌, ◌<◌, refl, sym, ap, ◌∙◌, arith, Bool, true, false, List, Option, Some, None}
-use Rattle.std.specs.Prelude.{◌==◌, bit_and, slice_index, if◌then◌else◌}
+use Rattle.std.proofs.Common.{◌≡◌, ℕ, ◌+◌, ◌*◌, ◌/◌, ◌%◌, ◌<◌, refl, arith, false, List, Some}
+use Rattle.std.specs.Prelude.{bit_and, slice_index}
 use Rattle.vga_crtc.specs.Fields.{horizontal_total, horizontal_display_end, vertical_total, preset_row_scan, byte_panning, maximum_scan_line, is_double_scan}
 use Rattle.vga_crtc.specs.Fields.{vertical_display_end, offset, is_double_word, is_byte_mode, line_compare}
 use Rattle.vga_crtc.specs.Raster.{IsRegular, regular_beam}
 use Rattle.vga_dots.specs.SourceDot.{fetch_address}
 use Rattle.bios_modes.specs.declared.modes.ModeRow.{ModeRow}
-use Rattle.bios_modes.specs.Heights.{if_row, at_height, row_at}
-use Rattle.bios_modes.specs.Modes.{mode_row, colour_text, monochrome_text, planes_320_by_200, planes_640_by_350, planes_640_by_480, bytes_320_by_200}
+use Rattle.bios_modes.specs.Heights.{row_at}
+use Rattle.bios_modes.specs.Modes.{planes_320_by_200, planes_640_by_350, planes_640_by_480, bytes_320_by_200}
 use Rattle.bios_modes.specs.Kinds.{is_text, is_packed}
 use Rattle.bios_screen.specs.Picture.{pixel_width, pixel_height}
 use Rattle.bios_screen.specs.Raster.{Raster, IsRaster}
 use Rattle.bios_screen.proofs.Base.Setting.{Setting}
-use Rattle.bios_screen.proofs.Base.Tests.{none_some, same, some_same}
 use Rattle.bios_screen.proofs.Modes.Frames.{IsFrame, HasShades}
 
 -- 320 by 200, 640 by 350, 640 by 480
@@ -48,45 +47,12 @@ number_in Many = 0x13
 abbrev pub setting_in : Graphics → Setting
 setting_in k = record { misc = (row_in k).misc; seq = (row_in k).sequencer; gfx = (row_in k).graphics }
 
--- a row of the table that is no text is one of these
-pub record GraphicsRow (mode : ℕ) (row : ModeRow) : Type 0 where
-  pub kind : Graphics
-  pub number : mode ≡ number_in kind
-  pub row_is : row_in kind ≡ row
-
-not_both : {Y : Type 0} (b : Bool) → b ≡ true → b ≡ false → Y
-not_both b t f = absurd (cc)
-
--- what is left of the table behind its first rows
-abbrev fourth : ℕ → Option ModeRow
-fourth mode = if mode == 0x10 then Some planes_640_by_350 else if mode == 0x12 then Some planes_640_by_480 else if mode == 0x13 then Some bytes_320_by_200
-    else None
-
-pub graphics_row : (mode height : ℕ) (row : ModeRow) → is_text mode ≡ false → row_at mode height ≡ Some row → GraphicsRow mode row
-graphics_row mode height row text e = by_tests (mode == 0x03) (mode == 0x07) (mode == 0x0D) (mode == 0x10) (mode == 0x12) (mode == 0x13) refl refl refl refl
-    refl refl
-  where
-    there : (k : Graphics) → mode ≡ number_in k → row_at (number_in k) height ≡ Some (row_in k) → GraphicsRow mode row
-    there k n r = record { kind = k; number = n; row_is = some_same (row_in k) row (sym r ∙ sym (ap (λ m. row_at m height) n) ∙ e) }
-
-    by_tests : (a b f g i j : Bool) → (mode == 0x03) ≡ a → (mode == 0x07) ≡ b → (mode == 0x0D) ≡ f → (mode == 0x10) ≡ g → (mode == 0x12) ≡ i →
-        (mode == 0x13) ≡ j → GraphicsRow mode row
-    by_tests true b f g i j ea eb ef eg ei ej = not_both (is_text mode) (ap is_text (same ea)) text
-    by_tests false true f g i j ea eb ef eg ei ej = not_both (is_text mode) (ap is_text (same eb)) text
-    by_tests false false true g i j ea eb ef eg ei ej = there (Sixteen Low) (same ef) refl
-    by_tests false false false true i j ea eb ef eg ei ej = there (Sixteen Middle) (same eg) refl
-    by_tests false false false false true j ea eb ef eg ei ej = there (Sixteen High) (same ei) refl
-    by_tests false false false false false true ea eb ef eg ei ej = there Many (same ej) refl
-    by_tests false false false false false false ea eb ef eg ei ej =
-        let none : mode_row mode ≡ None =
-        ap (λ w. if w then Some colour_text else if mode == 0x07 then Some monochrome_text else if mode == 0x0D then Some planes_320_by_200 else fourth mode) ea
-        ∙ ap (λ w. if w then Some monochrome_text else if mode == 0x0D then Some planes_320_by_200 else fourth mode) eb
-        ∙ ap (λ w. if w then Some planes_320_by_200 else fourth mode) ef
-        ∙ ap (λ w. if w then Some planes_640_by_350 else if mode == 0x12 then Some planes_640_by_480 else if mode == 0x13 then Some bytes_320_by_200
-        else None) eg
-        ∙ ap (λ w. if w then Some planes_640_by_480 else if mode == 0x13 then Some bytes_320_by_200 else None) ei
-        ∙ ap (λ w. if w then Some bytes_320_by_200 else None) ej in
-        none_some row (sym (ap (λ (x : Option ModeRow). if_row x (λ r. at_height r height)) none) ∙ e)
+-- whatever the height of characters is
+pub row_by : (k : Graphics) (height : ℕ) → row_at (number_in k) height ≡ Some (row_in k)
+row_by (Sixteen Low) height = refl
+row_by (Sixteen Middle) height = refl
+row_by (Sixteen High) height = refl
+row_by Many height = refl
 
 -- ---- what is alike
 
@@ -152,13 +118,14 @@ regular_by Many = record { uncut = omega arith; unscrolled = refl }
 pub frame_in : (k : Graphics) → IsFrame (raster_in k) (row_in k)
 unfolding horizontal_total horizontal_display_end vertical_total vertical_display_end byte_panning
 frame_in (Sixteen Low) =
-    record { raster = is_raster (Sixteen Low); clock = refl; numbers = refl; regular = regular_by (Sixteen Low); whole = refl; attributes = refl; still = refl }
+    let k = Sixteen Low in
+    record { raster = is_raster k; clock = refl; numbers = refl; regular = regular_by k; whole = refl; attributes = refl; still = refl }
 frame_in (Sixteen Middle) =
-    record { raster = is_raster (Sixteen Middle); clock = refl; numbers = refl; regular = regular_by (Sixteen Middle); whole = refl; attributes = refl;
-        still = refl }
+    let k = Sixteen Middle in
+    record { raster = is_raster k; clock = refl; numbers = refl; regular = regular_by k; whole = refl; attributes = refl; still = refl }
 frame_in (Sixteen High) =
-    record { raster = is_raster (Sixteen High); clock = refl; numbers = refl; regular = regular_by (Sixteen High); whole = refl; attributes = refl;
-        still = refl }
+    let k = Sixteen High in
+    record { raster = is_raster k; clock = refl; numbers = refl; regular = regular_by k; whole = refl; attributes = refl; still = refl }
 frame_in Many = record { raster = is_raster Many; clock = refl; numbers = refl; regular = regular_by Many; whole = refl; attributes = refl; still = refl }
 
 pub start_small : (k : Graphics) (page : ℕ) → page < (row_in k).pages → (row_in k).size * page < 65536

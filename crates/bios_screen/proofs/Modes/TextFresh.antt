@@ -14,7 +14,6 @@ use Rattle.bios_modes.specs.Bounds.{AreBytes}
 use Rattle.bios_modes.specs.Begin.{data_of_mode}
 use Rattle.bios_services.specs.Plan.{Plan, run, put, ◌>>◌}
 use Rattle.bios_services.specs.Cycles.{sequencer, graphics}
-use Rattle.bios_modes.specs.Kinds.{is_text}
 use Rattle.bios_services.specs.ModeSet.{glyphs_plan, font_plan, blank_byte, blank_plan, text_plan, memory_plan, mode_set_plan}
 use Rattle.bios_screen.specs.Screen.{Cell, Palette, Screen}
 use Rattle.bios_screen.specs.Shown.{cell_in, cells_in, glyph_byte, glyphs_in, shows, screen_with, screen_of, all_cells, shown, shown_by}
@@ -27,7 +26,7 @@ use Rattle.bios_screen.proofs.Base.Edits.{one_edit, edits}
 use Rattle.bios_screen.proofs.Base.Lists.{same_from_0, blank_listing}
 use Rattle.bios_services.proofs.CardLemmas.{plan_bounds}
 use Rattle.bios_screen.proofs.Base.Setting.{setting}
-use Rattle.bios_screen.proofs.Modes.TextModes.{Display, base_of, text_setting, row_of, number_of}
+use Rattle.bios_screen.proofs.Modes.TextModes.{Display, base_of, text_setting, row_of, number_of, text_by}
 use Rattle.bios_screen.proofs.Modes.TextModes.Display.{Colour, Monochrome}
 use Rattle.bios_screen.proofs.Text.Memory.{IsTextual, without_text, text_put}
 use Rattle.bios_screen.proofs.Text.Cells.{has_cells}
@@ -108,24 +107,18 @@ off_is Colour c d l = refl
 off_is Monochrome c d l = refl
 
 -- the test, where all is literal
-test_is : (disp : Display) (c : CardState) (d : DacState) (l : List ℕ) → shows (row_of disp)
-    (in_text disp (with_glyphs (in_glyphs disp (coloured (row_of disp) c d)) l))
-    (data_of_mode (number_of disp) (row_of disp)) ≡ true
+test_is : (disp : Display) (c : CardState) (d : DacState) (l : List ℕ) →
+    shows (row_of disp) (in_text disp (with_glyphs (in_glyphs disp (coloured (row_of disp) c d)) l)) (data_of_mode (number_of disp) (row_of disp)) ≡ true
 unfolding shows
 test_is Colour c d l = refl
 test_is Monochrome c d l = refl
-
-text_mode : (disp : Display) → is_text (number_of disp) ≡ true
-text_mode Colour = refl
-text_mode Monochrome = refl
 
 row_is : (disp : Display) → row_at (number_of disp) (row_of disp).height ≡ Some (row_of disp)
 row_is Colour = refl
 row_is Monochrome = refl
 
-text_setting_is : (disp : Display) (c : CardState) (d : DacState) (l : List ℕ) → setting
-    (in_text disp (with_glyphs (in_glyphs disp (coloured (row_of disp) c d)) l))
-    ≡ text_setting disp
+text_setting_is : (disp : Display) (c : CardState) (d : DacState) (l : List ℕ) →
+    setting (in_text disp (with_glyphs (in_glyphs disp (coloured (row_of disp) c d)) l)) ≡ text_setting disp
 text_setting_is Colour c d l = refl
 text_setting_is Monochrome c d l = refl
 
@@ -223,12 +216,13 @@ shows_fresh disp c fonts z small =
     ap (λ x. shown x d) (first.runs (memory_plan row false font))
     ∙ ap (λ x. shown_by x s d) (row_is disp)
     ∙ ap (λ b. if b then Some (screen_of row s d) else None) (test_stays row y s d t.others ∙ test_is disp c first.dac t.plane2)
-    ∙ ap (λ (x : Screen). Some x) (screen_is_text row s d (text_mode disp))
+    ∙ ap (λ (x : Screen). Some x) (screen_is_text row s d (text_by disp))
     ∙ ap (λ k. Some (screen_with row s d k)) t.cells
     ∙ ap (λ x. Some (screen_with row x d blank)) t.others
-    ∙ ap (λ (k : Palette). let x : Screen = record new { palette = k; glyphs = glyphs_in t.plane2 4096 } in Some x) (palette_is row c first.dac first.colours)
+    ∙ ap (λ (k : Palette). let x : Screen = record new { palette = k; glyphs = glyphs_in t.plane2 4096 } in Some x)
+    (palette_is row c first.dac first.colours)
     ∙ ap (λ k. let x : Screen = record new { glyphs = k } in Some x) t.glyphs
-    ∙ sym (ap (λ b. let x : Screen = (if b then new else pixels) in Some x) (text_mode disp))
+    ∙ sym (ap (λ b. let x : Screen = (if b then new else pixels) in Some x) (text_by disp))
 
 pub text_set_fresh : (disp : Display) → SetsFresh (number_of disp) (row_of disp)
 text_set_fresh disp = sets_fresh (OfText disp) (shows_fresh disp)

@@ -1,15 +1,15 @@
 -- The two text displays, and the rows of the mode table that are text.
-use Rattle.std.proofs.Common.{◌≡◌, ℕ, ◌+◌, ◌*◌, ◌<◌, ◌≤◌, refl, sym, subst, arith, List, [], ◌∷◌, length, Bool, true, false, Some, None}
-use Rattle.std.specs.Prelude.{slice_index, bit_and, ◌==◌, ◌||◌, if◌then◌else◌}
+use Rattle.std.proofs.Common.{◌≡◌, ℕ, ◌+◌, ◌*◌, ◌<◌, ◌≤◌, refl, subst, arith, List, [], ◌∷◌, length, Bool, true, false, Some, None}
+use Rattle.std.specs.Prelude.{slice_index, bit_and, ◌==◌, if◌then◌else◌}
 use Rattle.vga_card.specs.Port.{crtc_port}
 use Rattle.bios_modes.specs.declared.modes.ModeRow.{ModeRow}
 use Rattle.bios_modes.specs.declared.heights.TextRow.{TextRow as HeightRow}
 use Rattle.bios_modes.specs.Heights.{fifty_rows, twenty_eight_rows, twenty_five_rows, with_text, with_height, row_at}
-use Rattle.bios_modes.specs.Modes.{colour_text, monochrome_text, planes_320_by_200, planes_640_by_350, planes_640_by_480, bytes_320_by_200}
-use Rattle.bios_modes.specs.Kinds.{is_text, is_text_kind, kind_in}
+use Rattle.bios_modes.specs.Modes.{colour_text, monochrome_text}
+use Rattle.bios_modes.specs.Kinds.{is_text}
 use Rattle.bios_services.specs.Cells.{page_base}
 use Rattle.bios_screen.proofs.Base.Setting.{Setting}
-use Rattle.bios_screen.proofs.Base.Tests.{none_some, same, some_same}
+use Rattle.bios_screen.proofs.Base.Tests.{none_some, some_same}
 
 pub data Display : Type 0 where
   Colour : Display
@@ -70,6 +70,10 @@ row_of Monochrome = monochrome_text
 abbrev pub number_of : Display → ℕ
 number_of Colour = 0x03
 number_of Monochrome = 0x07
+
+pub text_by : (k : Display) → is_text (number_of k) ≡ true
+text_by Colour = refl
+text_by Monochrome = refl
 
 -- mode control without blink
 abbrev pub control_of : Display → ℕ
@@ -165,32 +169,6 @@ with_lines k row false false false h = none_some row h
 of_height : (k : Display) (row : ModeRow) → HasHeight k row → TextRow (number_of k) row
 of_height k row h = subst (TextRow (number_of k)) h.is (record { display = k; height = h.height; is = row_by k h.height; row_is = refl; number = refl })
 
--- a mode of text is one of two
-text_number : (mode : ℕ) → is_text mode ≡ true → ((mode == 0x03) || (mode == 0x07)) ≡ true
-text_number mode = by_tests (mode == 0x03) (mode == 0x07) (mode == 0x0D) (mode == 0x10) (mode == 0x12) (mode == 0x13)
-  where
-    by_tests : (a b f g i j : Bool)
-        → is_text_kind (kind_in (if a then Some colour_text else if b then Some monochrome_text else if f then Some planes_320_by_200 else if g
-        then Some planes_640_by_350
-        else if i then Some planes_640_by_480 else if j then Some bytes_320_by_200 else None)) ≡ true → (a || b) ≡ true
-    by_tests true b f g i j t = refl
-    by_tests false true f g i j t = refl
-    by_tests false false true g i j t = t
-    by_tests false false false true i j t = t
-    by_tests false false false false true j t = t
-    by_tests false false false false false true t = t
-    by_tests false false false false false false t = t
-
-pub text_row_is : (mode height : ℕ) (row : ModeRow) → is_text mode ≡ true → row_at mode height ≡ Some row → TextRow mode row
-text_row_is mode height row t e = by_tests (mode == 0x03) (mode == 0x07) refl refl (text_number mode t)
-  where
-    by_tests : (a b : Bool) → (mode == 0x03) ≡ a → (mode == 0x07) ≡ b → (a || b) ≡ true → TextRow mode row
-    by_tests true b ea eb h =
-        let m : mode ≡ 3 = same ea in
-        let z : row_at 3 height ≡ Some row = subst (λ n. row_at n height ≡ Some row) m e in
-        subst (λ x. TextRow x row) (sym m) (of_height Colour row (with_lines Colour row (height == 8) (height == 14) (height == 16) z))
-    by_tests false true ea eb h =
-        let m : mode ≡ 7 = same eb in
-        let z : row_at 7 height ≡ Some row = subst (λ n. row_at n height ≡ Some row) m e in
-        subst (λ x. TextRow x row) (sym m) (of_height Monochrome row (with_lines Monochrome row (height == 8) (height == 14) (height == 16) z))
-    by_tests false false ea eb h = absurd (cc)
+pub row_of_text : (k : Display) (height : ℕ) (row : ModeRow) → row_at (number_of k) height ≡ Some row → TextRow (number_of k) row
+row_of_text Colour height row e = of_height Colour row (with_lines Colour row (height == 8) (height == 14) (height == 16) e)
+row_of_text Monochrome height row e = of_height Monochrome row (with_lines Monochrome row (height == 8) (height == 14) (height == 16) e)

@@ -19,7 +19,7 @@ use Rattle.bios_screen.specs.Shown.{page_pixels, pixel_screen, shown}
 use Rattle.bios_screen.specs.Step.{pixel_of, pixel_cell, pixel_line, with_pixels, glyph_pixel, draw_characters}
 use Rattle.bios_screen.proofs.Base.Flat.{Edited, Turn, Leaves}
 use Rattle.bios_screen.proofs.Base.Edits.{edits}
-use Rattle.bios_screen.proofs.Base.Bands.{band_by}
+use Rattle.bios_services.specs.Bands.{band_by}
 use Rattle.bios_screen.proofs.Base.Tests.{of_run}
 use Rattle.bios_screen.proofs.Base.CellPlaces.{cell_of, line_of, strip_at, strip_of_cell, cell_of_strip, strip_within, pixel_cell_is, pixel_line_is}
 

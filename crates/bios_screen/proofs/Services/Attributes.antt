@@ -47,13 +47,7 @@ value_by s l i v = refl
 
 value_written : (s : CardState) (l : List ℕ) (i v : ℕ) → Names i → (run card_meaning (out 0x3C0 v) (with_attr s l i true)).0
     ≡ with_attr s (slice_set l i (bit_and v (slice_index attr_masks i))) i false
-value_written s l i v n =
-    value_by s l i v
-    ∙ ap (λ k. (written_unless (nat_lt 20 k) (with_attr s l i true) (with_attr s (if nat_lt k 16 && is_set i 5 then l
-    else slice_set l k (bit_and v (slice_index attr_masks k))) i false)).0) n.number
-    ∙ ap (λ b. (written_unless b (with_attr s l i true) (with_attr s (if nat_lt i 16 && is_set i 5 then l
-    else slice_set l i (bit_and v (slice_index attr_masks i))) i false)).0) n.there
-    ∙ ap (λ b. with_attr s (if b then l else slice_set l i (bit_and v (slice_index attr_masks i))) i false) n.free
+value_written s l i v n = value_by s l i v ∙ rw (n.number, n.there, n.free) refl
 
 -- the palette is shown again
 again : (c : CardState) (l : List ℕ) (i : ℕ) → (run card_meaning (show_palette (crtc_port c.misc)) (with_attr c l i false)).0 ≡ with_attr c l 0x20 false
@@ -61,8 +55,8 @@ unfolding reached_by out_at
 again c l i = let done : Plan (Unit {0}) = Done tt in ap (λ r. r.0) (expected_runs done (with_attr c l 0x20 true))
 
 pub register_set : (c : CardState) (i v : ℕ) → i < 18 →
-    (run card_meaning (set_register_plan (crtc_port c.misc) i v) c).0 ≡ with_attr c (slice_set c.attr.registers i (bit_and v (slice_index attr_masks i))) 0x20
-        false
+    (run card_meaning (set_register_plan (crtc_port c.misc) i v) c).0
+    ≡ with_attr c (slice_set c.attr.registers i (bit_and v (slice_index attr_masks i))) 0x20 false
 unfolding set_register_plan reached_by out_at
 register_set c i v l =
     let p = crtc_port c.misc in
@@ -157,11 +151,7 @@ value_read_by s l j = refl
 
 value_read : (s : CardState) (l : List ℕ) (i : ℕ) → Reads i → run card_meaning (inp 0x3C1) (with_attr s l (0x20 + i) true)
     ≡ (with_attr s l (0x20 + i) true, slice_index l i)
-value_read s l i n =
-    let x = with_attr s l (0x20 + i) true in
-    value_read_by s l (0x20 + i)
-    ∙ ap (λ k. let r = answered_unless (nat_lt 20 k) x x (slice_index l k) in let p : CardState × ℕ = (r.0, byte_of r.1) in p) n.number
-    ∙ ap (λ b. let r = answered_unless b x x (slice_index l i) in let p : CardState × ℕ = (r.0, byte_of r.1) in p) n.there
+value_read s l i n = value_read_by s l (0x20 + i) ∙ rw (n.number, n.there) refl
 
 -- where the next write is an index, and is again afterwards
 pub value_of_register : (c : CardState) (l : List ℕ) (j i : ℕ) → i < 18 →

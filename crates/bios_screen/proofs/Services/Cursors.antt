@@ -100,8 +100,8 @@ module _ (c : CardState) (row : ModeRow) (type start location : ℕ) (r : c.crtc
 
   -- the cursor of the active page is shown in text; that of another page is not, nor is one in graphics
   cursor_set : (e : BiosData) (p : ℕ) → e.crtc_address ≡ crtc_port c.misc → ((is_text e.mode && (p == e.page)) ≡ true → cursor_address e p < 65536) →
-      (run card_meaning (cursor_plan e p) c).0 ≡ with_crtc c (crtc_registers row type start (if is_text e.mode && (p == e.page) then cursor_address e p
-          else location))
+      (run card_meaning (cursor_plan e p) c).0
+      ≡ with_crtc c (crtc_registers row type start (if is_text e.mode && (p == e.page) then cursor_address e p else location))
       (if is_text e.mode && (p == e.page) then 0x0F else c.crtc.index)
   unfolding cursor_plan
   cursor_set e p port = by_tests (is_text e.mode) (p == e.page)

@@ -16,13 +16,12 @@ use Rattle.bios_services.specs.Dac.{set_entry_plan, components_plan, set_entries
 use Rattle.bios_services.specs.Colours.{read_entry_plan}
 use Rattle.bios_screen.specs.Listing.{listing}
 use Rattle.bios_screen.specs.Colours.{six_bits, component_over}
-use Rattle.bios_screen.proofs.Base.Flat.{Edited, Turn, Leaves}
+use Rattle.bios_screen.proofs.Base.Flat.{Edited, Turn}
 use Rattle.bios_screen.proofs.Base.Plans.{then_runs}
 use Rattle.std.proofs.lemmas.Grind.{same_number_lists}
 use Rattle.bios_screen.proofs.Base.Lists.{length_listing, listed_at}
 use Rattle.bios_screen.proofs.Base.Tests.{of_run}
-use Rattle.bios_screen.proofs.Base.Edits.{edits}
-use Rattle.bios_screen.proofs.Modes.Entries.{Colour, colour_of, kept_colour, entry_at, without_entries, HasEntries, one_entry}
+use Rattle.bios_screen.proofs.Modes.Entries.{Colour, colour_of, kept_colour, entry_at, without_entries, HasEntries, before_entry, entries_written}
 
 -- an adapter with another DAC
 abbrev pub with_dac : CardState → DacState → CardState
@@ -97,26 +96,9 @@ loaded_from : (c s : CardState) (first count : ℕ) (block : List ℕ) → IsDac
     s ≡ with_dac c (record c.dac { index = first; component = Red }) → IsLoaded c (run card_meaning (each (λ r. colour_plan (triple block r)) count 0) s).0
     first count block
 loaded_from c s first count block z l few e =
-    let z0 : first + 0 ≡ first = omega arith in
-    let small : first ≡ (first + 0) % 256 = omega arith in
     let f : ℕ → Colour = entry_at c.dac in
-    let start : HasEntries (without_entries c) (first + 0) (with_dac c (record c.dac { index = first; component = Red })) f = record {
-      index = small;
-      component = refl;
-      reds = z.reds;
-      greens = z.greens;
-      blues = z.blues;
-      entry = λ k m. refl;
-      others = refl;
-    } in
-    let there : HasEntries (without_entries c) (first + 0) s f = subst (λ x. HasEntries (without_entries c) (first + 0) x f) (sym e) start in
-    let done = edits CardState Colour card_meaning (λ r. colour_plan (triple block r)) (λ r. HasEntries (without_entries c) (first + r)) 0 count (λ _. Unit {0})
-    (λ r h. first + r) (λ r h x. kept_colour (colour_of (triple block r))) (λ j k a b lb lo hi q. absurd (omega arith))
-    (λ r x g lb w t. let a : first + r + 1 ≡ first + (r + 1) = omega arith in let one =
-    one_entry (without_entries c) (triple block r) (first + r) x g (omega arith) t in
-    subst (λ n. Leaves CardState Colour (HasEntries (without_entries c) n) (run card_meaning (colour_plan (triple block r)) x).0
-    (Edited Colour (Unit {0}) (λ _. first + r) (λ _ x. kept_colour (colour_of (triple block r))) g)) a one)
-    count 0 s f (omega arith) (omega arith) there in
+    let there : HasEntries (without_entries c) first s f = subst (λ x. HasEntries (without_entries c) first x f) (sym e) (before_entry c first z few) in
+    let done = entries_written (without_entries c) (triple block) first count s f l there in
     let y = (run card_meaning (each (λ r. colour_plan (triple block r)) count 0) s).0 in
     let at : (k : ℕ) → k < 256 → entry_at y.dac k ≡ (if nat_le first k && nat_lt k (first + count) then kept_colour (colour_of (triple block (k - first)))
     else f k) = λ k m. done.shown.entry k m ∙ entry_is first count block f done.cells done.fact k in

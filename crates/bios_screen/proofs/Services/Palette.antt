@@ -28,7 +28,7 @@ use Rattle.bios_services.specs.Registers.{with_high, with_low}
 use Rattle.bios_services.specs.Plan.{Plan, run, Done, out, ◌>>=◌, ◌>>◌}
 use Rattle.bios_services.specs.Palette.{set_register_plan, set_palette_plan, set_blinking_plan, read_register_plan}
 use Rattle.bios_services.specs.Dac.{set_entry_plan, set_entries_plan}
-use Rattle.bios_services.specs.Reasons.{◌or◌, refuse_unless, wrong_block}
+use Rattle.bios_services.specs.Reasons.{refuse_unless, wrong_block}
 use Rattle.bios_services.specs.Colours.{colour_refusal, has_entries, no_register, no_entry, no_entries, read_register_in_bh, read_mask_in_bl, colours_plan}
 use Rattle.bios_services.specs.Refusals.{refusal_in_mode}
 use Rattle.bios_services.specs.Service.{plan_of, Outcome}
@@ -57,15 +57,22 @@ pub record IsColoured (service : ColourService) (r : Regs) (block : List ℕ) (c
   pub answer : (run card_meaning (colours_plan service d.crtc_address r block) c).1 ≡ colours_answer s service r
   pub shows : shown (run card_meaning (colours_plan service d.crtc_address r block) c).0 d ≡ Some (with_colours s service block)
 
+-- entries that are not refused
+pub record EntriesAllowed (first count : ℕ) : Type 0 where
+  pub begin : first < 256
+  pub all : first + count ≤ 256
+
+pub entries_allowed : (first count : ℕ) → no_entries first count ≡ None → EntriesAllowed first count
+entries_allowed first count e =
+    let both = both_true (nat_lt first 0x100) (nat_le (first + count) 0x100) (holds (has_entries first count) BadRegister e) in
+    record { begin = lt_is first 0x100 both.0; all = le_is (first + count) 0x100 both.1 }
+
 module _ (c : CardState) (d : BiosData) (h : IsAny c d) where
   abbrev s : Screen
   s = any_screen c d h c
 
   abbrev registers : List ℕ
   registers = c.attr.registers
-
-  pub port_is : d.crtc_address ≡ crtc_port c.misc
-  port_is = h.port
 
   -- ---- the attribute controller
 
@@ -76,12 +83,7 @@ module _ (c : CardState) (d : BiosData) (h : IsAny c d) where
 
   attribute_stays : (l : List ℕ) (i : ℕ) → is_set i 5 ≡ true → bit_and (slice_index l 0x10) 0xF7 ≡ bit_and (slice_index registers 0x10) 0xF7 →
       drop 0x12 l ≡ drop 0x12 registers → shows_attribute h.row (with_attr c l i false).attr ≡ true
-  attribute_stays l i e control rest =
-      ap (λ b. b && ((bit_and (slice_index l 0x10) 0xF7 == bit_and (slice_index h.row.attribute 0x10) 0xF7)
-      && bytes_eq (drop 0x12 l) (drop 0x12 h.row.attribute))) e
-      ∙ ap (λ n. (n == bit_and (slice_index h.row.attribute 0x10) 0xF7) && bytes_eq (drop 0x12 l) (drop 0x12 h.row.attribute)) control
-      ∙ ap (λ m. (bit_and (slice_index registers 0x10) 0xF7 == bit_and (slice_index h.row.attribute 0x10) 0xF7) && bytes_eq m (drop 0x12 h.row.attribute)) rest
-      ∙ rest_is
+  attribute_stays l i e control rest = rw (e, control, rest) rest_is
 
   -- other registers show other colours
   attribute_shown : (l : List ℕ) (i : ℕ) → is_set i 5 ≡ true → bit_and (slice_index l 0x10) 0xF7 ≡ bit_and (slice_index registers 0x10) 0xF7 →
@@ -90,14 +92,7 @@ module _ (c : CardState) (d : BiosData) (h : IsAny c d) where
       → shown (with_attr c l i false) d ≡ Some (record s { palette = record s.palette { values = values }; overscan = overscan; is_blink = blink })
   attribute_shown l i e control rest values overscan blink ev eo eb =
       any_shown c (with_attr c l i false) d h refl refl (attribute_stays l i e control rest)
-      ∙ ap (λ k. let x : Screen = record s {
-        palette = record s.palette { values = k };
-        overscan = slice_index l 0x11;
-        is_blink = is_set (slice_index l 0x10) 3;
-      } in Some x) ev
-      ∙ ap (λ k. let x : Screen = record s { palette = record s.palette { values = values }; overscan = k; is_blink = is_set (slice_index l 0x10) 3 } in Some x)
-      eo
-      ∙ ap (λ k. let x : Screen = record s { palette = record s.palette { values = values }; overscan = overscan; is_blink = k } in Some x) eb
+      ∙ rw (ev, eo, eb) refl
 
   -- another DAC too
   pub dac_shown : (new : DacState) → shown (with_dac c new) d ≡ Some (record s {
@@ -108,17 +103,10 @@ module _ (c : CardState) (d : BiosData) (h : IsAny c d) where
 
   loaded_shown : (y : CardState) (first count : ℕ) (block : List ℕ) → IsLoaded c y first count block → shown y d ≡ Some (with_entries s first count block)
   loaded_shown y first count block t =
-      let p = s.palette in
-      let n = with_entries s first count block in
+      let mask : y.dac.mask ≡ c.dac.mask = ap (λ x. x.dac.mask) t.others in
       ap (λ x. shown x d) (ap (λ x. with_dac x y.dac) t.others)
       ∙ dac_shown y.dac
-      ∙ ap (λ k. let x : Screen = record s { palette = record p { reds = k; greens = y.dac.greens; blues = y.dac.blues; mask = y.dac.mask } } in Some x)
-      t.entries.reds
-      ∙ ap (λ k. let x : Screen = record s { palette = record p { reds = n.palette.reds; greens = k; blues = y.dac.blues; mask = y.dac.mask } } in Some x)
-      t.entries.greens
-      ∙ ap (λ k. let x : Screen = record s { palette = record p { reds = n.palette.reds; greens = n.palette.greens; blues = k; mask = y.dac.mask } } in Some x)
-      t.entries.blues
-      ∙ ap (λ k. let x : Screen = record n { palette = record n.palette { mask = k } } in Some x) (ap (λ x. x.dac.mask) t.others)
+      ∙ rw (t.entries.reds, t.entries.greens, t.entries.blues, mask) refl
 
   -- ---- services that set
 
@@ -131,7 +119,7 @@ module _ (c : CardState) (d : BiosData) (h : IsAny c d) where
       let done : Plan Regs = Done r in
       record {
         answer = ap (λ w. (run card_meaning w c).1) e ∙ then_answers q done c ∙ sym a;
-        shows = ap (λ w. shown (run card_meaning w c).0 d) e ∙ ap (λ x. shown x d) (then_runs q done c) ∙ ap (λ n. shown (run card_meaning (p n) c).0 d) port_is
+        shows = ap (λ w. shown (run card_meaning w c).0 d) e ∙ ap (λ x. shown x d) (then_runs q done c) ∙ ap (λ n. shown (run card_meaning (p n) c).0 d) h.port
             ∙ t;
       }
 
@@ -149,8 +137,8 @@ module _ (c : CardState) (d : BiosData) (h : IsAny c d) where
       (slice_set s.palette.values i x) s.overscan s.is_blink (take-set-lt 16 registers i x l) (get_or-set_other registers i 0x11 x 0 (omega arith))
       (ap (λ n. is_set n 3) control)
 
-  overscan_shown : (v : ℕ) → v < 256 → IsCard c → shown (run card_meaning (set_register_plan (crtc_port c.misc) 0x11 v) c).0 d
-      ≡ Some (record s { overscan = v })
+  overscan_shown : (v : ℕ) → v < 256 → IsCard c →
+      shown (run card_meaning (set_register_plan (crtc_port c.misc) 0x11 v) c).0 d ≡ Some (record s { overscan = v })
   overscan_shown v l z =
       let size = z.attr.size in
       let new = slice_set registers 0x11 v in
@@ -214,7 +202,7 @@ module _ (c : CardState) (d : BiosData) (h : IsAny c d) where
   register_in_bh i r l =
       let done : ℕ → Plan Regs = λ value. Done (record r { bx = with_high r.bx value }) in
       run_bind card_meaning (read_register_plan d.crtc_address i) done c
-      ∙ ap (λ p. let x = run card_meaning (read_register_plan p i) c in run card_meaning (done x.1) x.0) port_is
+      ∙ ap (λ p. let x = run card_meaning (read_register_plan p i) c in run card_meaning (done x.1) x.0) h.port
       ∙ ap (λ (x : CardState × ℕ). run card_meaning (done x.1) x.0) (register_read c i l)
 
   pub index_moved : (i : ℕ) → i < 18 → shown (with_attr c registers (0x20 + i) false) d ≡ Some s
@@ -234,17 +222,6 @@ module _ (c : CardState) (d : BiosData) (h : IsAny c d) where
 
   blink_allowed : (b : ℕ) → refuse_unless (nat_le b 1) BadRegister ≡ None → b < 2
   blink_allowed b e = let z = le_is b 1 (holds (nat_le b 1) BadRegister e) in omega arith
-
-  record EntriesAllowed (first count len : ℕ) : Type 0 where
-    begin : first < 256
-    all : first + count ≤ 256
-    whole : len ≡ 3 * count
-
-  entries_allowed : (first count len : ℕ) → (no_entries first count or wrong_block (3 * count) len) ≡ None → EntriesAllowed first count len
-  entries_allowed first count len e =
-      let there = neither (no_entries first count) (wrong_block (3 * count) len) e in
-      let both = both_true (nat_lt first 0x100) (nat_le (first + count) 0x100) (holds (has_entries first count) BadRegister there.0) in
-      record { begin = lt_is first 0x100 both.0; all = le_is (first + count) 0x100 both.1; whole = block_allowed (3 * count) len there.1 }
 
   -- ---- each subfunction
 
@@ -274,9 +251,11 @@ module _ (c : CardState) (d : BiosData) (h : IsAny c d) where
       (loaded_shown (run card_meaning (set_entry_plan entry red green blue) c).0 entry 1 (red ∷ green ∷ blue ∷ [])
       (entry_loaded c entry red green blue z.dac (entry_allowed entry e)))
   is_coloured (SetEntries first count) r block fits bytes z e =
-      let a = entries_allowed first count (length block) e in
+      let there = neither (no_entries first count) (wrong_block (3 * count) (length block)) e in
+      let a = entries_allowed first count there.0 in
       setting_served (SetEntries first count) r block (λ p. set_entries_plan first block) refl refl
-      (loaded_shown (run card_meaning (set_entries_plan first block) c).0 first count block (entries_loaded c first count block z.dac a.all a.begin a.whole))
+      (loaded_shown (run card_meaning (set_entries_plan first block) c).0 first count block (entries_loaded c first count block z.dac a.all a.begin
+      (block_allowed (3 * count) (length block) there.1)))
   is_coloured (ReadEntry entry) r block fits bytes z e =
       let runs = entry_read c entry r in
       record { answer = ap (λ x. x.1) runs; shows = ap (λ x. shown x.0 d) runs ∙ dac_shown (record c.dac { index = (entry + 1) % 256; component = Red }) }

@@ -1,9 +1,9 @@
 -- Calls for tables: from a state that shows a screen, its palette or some of its entries are replied, and it stays.
 use Rattle.std.proofs.Common.{◌≡◌, ℕ, zero, suc, ◌+◌, ◌*◌, ◌%◌, ◌<◌, ◌≤◌, refl, sym, ap, ◌∙◌, subst, arith, List, [], ◌∷◌, ◌++◌, Option, Some, None, false, Err}
 use Rattle.std.proofs.lemmas.Bool.Decides.{nat_tests}
-use Rattle.std.specs.Prelude.{nat_lt, nat_le, if◌then◌else◌, slice_index, take}
+use Rattle.std.specs.Prelude.{if◌then◌else◌, slice_index, take}
 use Rattle.vga_bits.specs.declared.refusal.Refusal.{Refusal}
-use Rattle.vga_bits.specs.declared.refusal.Refusal.TheVariants.{NoMode, BadRegister}
+use Rattle.vga_bits.specs.declared.refusal.Refusal.TheVariants.{NoMode}
 use Rattle.vga_dac.specs.declared.component.Component.TheVariants.{Red}
 use Rattle.vga_card.specs.Bounds.{IsCard}
 use Rattle.vga_card.specs.Bus.{card_meaning}
@@ -22,8 +22,6 @@ use Rattle.bios_services.specs.declared.call.Call.TheVariants.{ReadTable}
 use Rattle.bios_services.specs.Plan.{Plan, run, Done, out, inp, gather, ◌>>=◌}
 use Rattle.bios_services.specs.Palette.{register_plan}
 use Rattle.bios_services.specs.Tables.{table_refusal, palette_register, registers_plan, read_palette_plan, read_components_plan, read_entries_plan, table_plan}
-use Rattle.bios_services.specs.Colours.{has_entries, no_entries}
-use Rattle.bios_screen.proofs.Base.Reasons.{holds}
 use Rattle.bios_services.specs.Calls.{call_of}
 use Rattle.bios_services.specs.Service.{Answered, answer_with, refuse, table_unless, table_in_mode_plan, call_plan}
 use Rattle.bios_screen.specs.Listing.{listing}
@@ -35,13 +33,12 @@ use Rattle.bios_screen.specs.Called.{IsRead, WantsMemory, IsLeft, table_unless a
 use Rattle.bios_screen.proofs.Base.Plans.{run_bind}
 use Rattle.bios_screen.proofs.Base.Ports.{expected_runs}
 use Rattle.bios_screen.proofs.Base.Lists.{spelled}
-use Rattle.bios_screen.proofs.Base.Tests.{both_true, lt_is, le_is}
 use Rattle.bios_services.proofs.CardLemmas.{plan_beam}
 use Rattle.bios_screen.proofs.Shows.Screens.{mode_of_shown}
 use Rattle.bios_screen.proofs.Shows.Any.{IsAny, any_screen, any_is}
 use Rattle.bios_screen.proofs.Services.Attributes.{with_attr, value_of_register}
 use Rattle.bios_screen.proofs.Services.Dacs.{with_dac}
-use Rattle.bios_screen.proofs.Services.Palette.{port_is, index_moved, dac_shown}
+use Rattle.bios_screen.proofs.Services.Palette.{entries_allowed, index_moved, dac_shown}
 
 -- ---- the palette is read
 
@@ -139,15 +136,6 @@ entries_read c first count begin few =
 
 -- ---- a table that is not refused
 
-record EntriesAllowed (first count : ℕ) : Type 0 where
-  begin : first < 256
-  all : first + count ≤ 256
-
-entries_allowed : (first count : ℕ) → no_entries first count ≡ None → EntriesAllowed first count
-entries_allowed first count e =
-    let both = both_true (nat_lt first 0x100) (nat_le (first + count) 0x100) (holds (has_entries first count) BadRegister e) in
-    record { begin = lt_is first 0x100 both.0; all = le_is (first + count) 0x100 both.1 }
-
 record IsTable (service : TableService) (c : CardState) (d : BiosData) (s : Screen) : Type 0 where
   answer : (run card_meaning (table_plan service d.crtc_address) c).1 ≡ table_answer s service
   shows : shown (run card_meaning (table_plan service d.crtc_address) c).0 d ≡ Some s
@@ -159,7 +147,7 @@ is_table ReadPalette c d h z e =
     let done : List ℕ → Plan Table = λ values. Done (PaletteTable values) in
     let runs =
     run_bind card_meaning (read_palette_plan d.crtc_address) done c
-    ∙ ap (λ p. let x = run card_meaning (read_palette_plan p) c in run card_meaning (done x.1) x.0) (port_is c d h)
+    ∙ ap (λ p. let x = run card_meaning (read_palette_plan p) c in run card_meaning (done x.1) x.0) h.port
     ∙ ap (λ (x : CardState × List ℕ). run card_meaning (done x.1) x.0) (palette_read c z) in
     record { answer = ap (λ x. x.1) runs; shows = ap (λ x. shown x.0 d) runs ∙ index_moved c d h 0x11 (omega arith) }
 is_table (ReadEntries first count) c d h z e =

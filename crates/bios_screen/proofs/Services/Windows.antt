@@ -32,7 +32,8 @@ use Rattle.bios_screen.proofs.Planar.Scrolls as planar
 use Rattle.bios_screen.proofs.Packed.Scrolls as packed
 
 module _ (c : CardState) (d : BiosData) (s : Screen) (z : IsCard c) (e : shown c d ≡ Some s) where
-  window_shown : (p : ℕ) → p < pages_of d → (w : Window) → IsOnPage (d.last_row + 1) d.columns w → (direction : Direction) (n colour : ℕ) → 0 < n → n ≤ w.height →
+  window_shown : (p : ℕ) → p < pages_of d → (w : Window) → IsOnPage (d.last_row + 1) d.columns w → (direction : Direction) (n colour : ℕ) → 0 < n →
+      n ≤ w.height →
       colour < 256 → shown (run card_meaning (window_plan d p w direction n colour) c).0 d ≡ Some (scroll_window s p w direction n colour)
   window_shown p lp w on direction n colour some few lc =
       by_modes c d (λ x. shown (run card_meaning (window_plan d p w direction n colour) c).0 d ≡ Some (scroll_window x p w direction n colour))

@@ -20,10 +20,10 @@ use Rattle.bios_screen.proofs.Base.Places.{half_start, ends_before}
 use Rattle.bios_screen.proofs.Base.Setting.{Setting, setting}
 use Rattle.bios_screen.proofs.Modes.TextModes.{control_by as text_control_by, port_by as text_port_by}
 use Rattle.bios_screen.proofs.Shows.Screens.{AllTests, setting_by, shown_by_row, all_of, data_is, page_of, shown_is, screen_is_text}
-use Rattle.bios_screen.proofs.Modes.PixelModes.{Graphics, row_in, graphics_row, control_by, start_small}
+use Rattle.bios_screen.proofs.Modes.PixelModes.{Graphics, row_in, control_by, start_small}
 use Rattle.bios_screen.proofs.Modes.PixelModes.Graphics.{Sixteen, Many}
 use Rattle.bios_screen.proofs.Modes.PixelModes.Planes.{Low, Middle, High}
-use Rattle.bios_screen.proofs.Modes.AnyModes.{Tabled, control_of}
+use Rattle.bios_screen.proofs.Modes.AnyModes.{Tabled, control_of, graphics_row}
 use Rattle.bios_screen.proofs.Modes.AnyModes.Tabled.{OfText, OfPixels}
 use Rattle.bios_screen.proofs.Shows.Pixels.{screen_is_pixels, pixels_of_shown}
 

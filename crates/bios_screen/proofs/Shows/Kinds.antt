@@ -10,7 +10,8 @@ use Rattle.bios_screen.specs.Screen.{Screen}
 use Rattle.bios_screen.specs.Shown.{pixel_screen, shown}
 use Rattle.bios_screen.proofs.Shows.Screens.{AllTests, data_is, IsShown, screen_shown, shown_is}
 use Rattle.bios_screen.proofs.Shows.Pixels.{IsPixels, pixels_shown, pixels_of_shown}
-use Rattle.bios_screen.proofs.Modes.PixelModes.{Planes, Graphics, row_of, row_in, number_in, graphics_row}
+use Rattle.bios_screen.proofs.Modes.PixelModes.{Planes, Graphics, row_of, row_in, number_in}
+use Rattle.bios_screen.proofs.Modes.AnyModes.{graphics_row}
 use Rattle.bios_screen.proofs.Modes.PixelModes.Graphics.{Sixteen, Many}
 use Rattle.bios_screen.proofs.Dots.PlanarDots.{IsPlanar}
 use Rattle.bios_screen.proofs.Dots.PackedDots.{IsPacked}

@@ -23,9 +23,9 @@ use Rattle.bios_screen.specs.Raster.{join}
 use Rattle.bios_screen.proofs.Base.Lists.{spelled, same_from_0, length_listing, listed_at}
 use Rattle.bios_screen.proofs.Base.Places.{ends_before}
 use Rattle.bios_screen.proofs.Base.Tests.{lt_test}
-use Rattle.bios_screen.proofs.Modes.TextModes.{text_row_is}
+use Rattle.bios_screen.proofs.Modes.AnyModes.{text_row_is, graphics_row}
 use Rattle.bios_screen.proofs.Shows.Screens.{data_is, all_tests_of, tests_of}
-use Rattle.bios_screen.proofs.Modes.PixelModes.{Graphics, row_in, number_in, graphics_row}
+use Rattle.bios_screen.proofs.Modes.PixelModes.{Graphics, row_in, number_in}
 use Rattle.bios_screen.proofs.Modes.PixelModes.Graphics.{Sixteen, Many}
 use Rattle.bios_screen.proofs.Modes.PixelModes.Planes.{Low, Middle, High}
 
@@ -61,7 +61,8 @@ pub same_bytes : (a b : List ℕ) → length a ≡ length b → ((k : ℕ) → k
 same_bytes a b e h = sym ((bytes_eq-Decides a b).1 (same_number_lists a b e h))
 
 pub first_elements : (n : ℕ) (a b : List ℕ) → length a ≡ n → n ≤ length b → ((k : ℕ) → k < n → slice_index a k ≡ slice_index b k) → a ≡ take n b
-first_elements n a b e l h = same_number_lists a (take n b) (e ∙ sym (length-take-le n b l)) (λ k m. h k (omega arith) ∙ sym (get_or-take n b k 0 (omega arith)))
+first_elements n a b e l h = same_number_lists a (take n b) (e ∙ sym (length-take-le n b l)) (λ k m. h k (omega arith)
+    ∙ sym (get_or-take n b k 0 (omega arith)))
 
 -- ---- the pixels of all pages in one list
 

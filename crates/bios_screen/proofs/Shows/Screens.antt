@@ -19,8 +19,9 @@ use Rattle.bios_screen.specs.Shown.{shows_memory, crtc_registers, crtc_shown, sh
 use Rattle.bios_screen.specs.Shown.{shown_by, shown}
 use Rattle.bios_screen.proofs.Base.Tests.{both_true, if_some, none_some, same, lt_is}
 use Rattle.bios_screen.proofs.Base.Setting.{Setting, setting}
-use Rattle.bios_screen.proofs.Modes.TextModes.{Display, text_setting, text_sequencer, misc_of, IsTextRow, text_row_is, Height, row_with, number_of, control_of}
+use Rattle.bios_screen.proofs.Modes.TextModes.{Display, text_setting, text_sequencer, misc_of, IsTextRow, Height, row_with, number_of, control_of}
 use Rattle.bios_screen.proofs.Modes.TextModes.{control_by}
+use Rattle.bios_screen.proofs.Modes.AnyModes.{text_row_is}
 
 -- the data as numbers
 pub record HasData (row : ModeRow) (d : BiosData) : Type 0 where
