@@ -94,7 +94,7 @@ prepared k c z =
     } in
     let s2 = (run card_meaning entries y1).0 in
     let set = entries_written (without_entries y1) (palette_entry row.palette) 0 256 y1 (entry_at y1.dac) (omega arith)
-        (before_entry y1 0 z1.dac (omega arith)) in
+    (before_entry y1 0 z1.dac (omega arith)) in
     let d : DacState = record s2.dac { mask = 0xFF } in
     let e : s2 ≡ coloured row c d = but_entries s2 y1 set.shown.others in
     let entry : (i : ℕ) → i < 256 → entry_at d i ≡ colour_of (palette_entry row.palette i) = λ i l.

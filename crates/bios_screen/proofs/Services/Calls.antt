@@ -140,7 +140,7 @@ call_done service fonts r block c d s e old i =
     let runs : after_call fonts r block c d ≡ run card_meaning plan c =
     ap (λ (q : Option Call). run card_meaning (call_plan q fonts d r block) c) e
     ∙ ap (λ b. run card_meaning (if b then refuse NoMode d else unless (refusal_in_mode (on_page_named d service) d (length block)) (on_page_named d service)
-        fonts d r block) c)
+    fonts d r block) c)
     (mode_of_shown c d s old).set
     ∙ ap (λ q. run card_meaning (unless q (on_page_named d service) fonts d r block) c) i.refusal in
     let t = unless_leads why service fonts r block c d s old i.answer i.shows in
