@@ -25,14 +25,6 @@ ghost use Rattle.bios_screen.specs.Drawing.{Drawing, dots_a_frame, take_dots, Ma
 ghost use Rattle.bios_screen.specs.Whole.{FitsFrame, IsFrameTaken, IsWhole};
 ghost use Rattle.bios_screen.specs.Follows.{BeamIsAt, RowsJoin, Follows, EndsFrame};
 
-use crate::laws::calls_lead_to_screens;
-use bios_services::laws::{calls_draw_nothing, calls_keep_bounds};
-use vga_card::laws::{
-    bounds_stay, dots_are_places, dots_keep, dots_split as card_dots_split, frame_ends_first,
-    regular_shape,
-};
-use vga_crtc::laws::{beam_at_dot, beam_goes_on, dots_split, frame_left, start_is_taken_once};
-
 /// A service that sets no mode leaves the mode of a screen, and how it is cut.
 pub fn services_keep_the_cut()
     ensures mode { (fonts : FontSet) (s : Screen) (service : Service) (block : List ℕ) →
@@ -67,19 +59,7 @@ pub fn dots_follow_screens()
         Follows (dots n c) d (take_dots n b) }
     ensures frame { (c : CardState) (d : BiosData) (b : Drawing) → IsCard c → Follows c d b →
         EndsFrame c d b }
-{
-    dots_split();
-    start_is_taken_once();
-    beam_at_dot();
-    beam_goes_on();
-    frame_left();
-    dots_keep();
-    frame_ends_first();
-    dots_are_places();
-    regular_shape();
-    card_dots_split();
-    bounds_stay();
-}
+{}
 
 /// Calls between any two dots that set no mode: the adapter follows the next screen. A load of
 /// glyphs is one at dot 0 of a frame, and where it is refused.
@@ -106,9 +86,4 @@ pub fn calls_follow_screens()
         (c : CardState) (d : BiosData) (b : Drawing) →
         IsCard c → Follows c d b → call_of r ≡ Some (ReadTable service) →
         Follows (after_call fonts r block c d).0 (after_call fonts r block c d).1.1 b }
-{
-    calls_keep_bounds();
-    calls_lead_to_screens();
-    calls_draw_nothing();
-    dots_follow_screens();
-}
+{}

@@ -15,9 +15,6 @@ ghost use Rattle.bios_screen.specs.Raster.{Raster, IsRaster, HasRaster, IsAtDot,
 ghost use Rattle.bios_screen.specs.Raster.{PlacesDrawn, GoesOn, FrameEnded, FrameDrawn};
 ghost use Rattle.bios_screen.specs.Raster.{picture_dot, all_dots, IsPictureOf};
 
-use vga_card::laws::{dots_are_places, dots_keep, frame_ends_first, regular_shape};
-use vga_crtc::laws::{beam_at_dot, beam_goes_on, dots_split, frame_left, start_is_taken_once};
-
 /// The dots of a frame are those of the picture, one after another, for any number of dots from any
 /// dot of the frame on, and the adapter is then at the dot of that number; the frame ends with its
 /// last dot, and leaves the first dot of the next.
@@ -30,17 +27,7 @@ pub fn dots_are_picture()
         IsAtDot m c start n → Draws m c start f → FrameEnded m c n f }
     ensures begun { (m : Raster) (c : CardState) → HasRaster m c → IsFrameStart c.crtc.beam →
         IsAtDot m c (first_counter c.crtc.registers) 0 }
-{
-    dots_split();
-    start_is_taken_once();
-    beam_at_dot();
-    beam_goes_on();
-    frame_left();
-    dots_keep();
-    frame_ends_first();
-    dots_are_places();
-    regular_shape();
-}
+{}
 
 /// All dots of a frame, however many calls drew them, are a picture; and so one whole frame is.
 pub fn frame_is_picture()
@@ -48,31 +35,11 @@ pub fn frame_is_picture()
         drawn ≡ collect (picture_dot m f) (all_dots m) → IsPictureOf m drawn f }
     ensures whole { (m : Raster) (c : CardState) (f : Colours) → HasRaster m c →
         IsFrameStart c.crtc.beam → Draws m c (first_counter c.crtc.registers) f → FrameDrawn m c f }
-{
-    dots_split();
-    start_is_taken_once();
-    beam_at_dot();
-    beam_goes_on();
-    frame_left();
-    dots_keep();
-    frame_ends_first();
-    dots_are_places();
-    regular_shape();
-}
+{}
 
 /// From a state that shows a screen, at the first dot of a frame, a frame draws the screen's
 /// picture, and leaves the screen with the next frame's number, again at the first dot of a frame.
 pub fn frame_draws_screen()
     ensures { (c : CardState) (d : BiosData) (s : Screen) → IsCard c → shown c d ≡ Some s →
         IsFrameStart c.crtc.beam → IsFramed c d s }
-{
-    dots_split();
-    start_is_taken_once();
-    beam_at_dot();
-    beam_goes_on();
-    frame_left();
-    dots_keep();
-    frame_ends_first();
-    dots_are_places();
-    regular_shape();
-}
+{}

@@ -7,6 +7,7 @@ use Rattle.std.proofs.lemmas.Nat.{mul-le}
 use Rattle.vga_crtc.specs.declared.beam.Beam.{Beam}
 use Rattle.vga_crtc.specs.Beam.{is_first_dot}
 use Rattle.vga_crtc.specs.Raster.{IsFrameStart, beam_at}
+use Rattle.vga_crtc.proofs.Moves.{first_dot_starts}
 use Rattle.vga_card.specs.Bounds.{IsCard}
 use Rattle.vga_card.specs.Card.{CardState}
 use Rattle.vga_card.specs.Dots.{character_width, fresh, fresh_dots}
@@ -118,9 +119,9 @@ starts c d b z shows e first start =
 
 -- ---- a load of glyphs
 
--- that at the first dot of a frame whatever is shown is followed
-abbrev pub Begins : Type 0
-Begins = (c : CardState) (d : BiosData) (b : Drawing) → IsCard c → shown c d ≡ Some b.screen → b.dot ≡ 0 → IsFrameStart c.crtc.beam → Follows c d b
+-- at the first dot of a frame whatever is shown is followed
+pub begins : (c : CardState) (d : BiosData) (b : Drawing) → IsCard c → shown c d ≡ Some b.screen → b.dot ≡ 0 → IsFrameStart c.crtc.beam → Follows c d b
+begins c d b z shows e start = starts c d b z shows e ((first_dot_starts c.crtc.beam).1 start) start
 
 -- at dot 0 the beam is at the first dot of a frame
 pub start_of : (c : CardState) (d : BiosData) (b : Drawing) → Follows c d b → b.dot ≡ 0 → IsFrameStart c.crtc.beam
@@ -136,12 +137,12 @@ abbrev pub loaded_on : FontSet → Screen → GlyphLoad → List ℕ → Screen
 loaded_on fonts s load block = screen_unless (load_refusal_on s load (length block)) s (load_glyphs fonts s load block)
 
 -- it is followed
-pub load_follows : Begins → (fonts : FontSet) (load : GlyphLoad) (block : List ℕ) (c y : CardState) (d after : BiosData) (b : Drawing) →
+pub load_follows : (fonts : FontSet) (load : GlyphLoad) (block : List ℕ) (c y : CardState) (d after : BiosData) (b : Drawing) →
     MayLoad b load (length block) → Follows c d b → IsCard y
     → shown y after ≡ Some (loaded_on fonts b.screen load block) → y.crtc.beam ≡ c.crtc.beam → y.drawn ≡ c.drawn →
     Follows y after (record b { screen = loaded_on fonts b.screen load block })
-load_follows begins fonts load block c y d after b (inl refused) is z shows beam drawn =
+load_follows fonts load block c y d after b (inl refused) is z shows beam drawn =
     screen_follows c y d after b _ is z shows beam drawn (refused_cut (load_refusal_on b.screen load (length block)) b.screen
     (load_glyphs fonts b.screen load block) refused)
-load_follows begins fonts load block c y d after b (inr zeroth) is z shows beam drawn =
+load_follows fonts load block c y d after b (inr zeroth) is z shows beam drawn =
     begins y after (record b { screen = loaded_on fonts b.screen load block }) z shows zeroth (subst IsFrameStart (sym beam) (start_of c d b is zeroth))

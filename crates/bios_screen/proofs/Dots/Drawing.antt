@@ -11,33 +11,21 @@ use Rattle.vga_crtc.specs.Fields.{horizontal_display_end, vertical_display_end}
 use Rattle.vga_crtc.specs.Beam.{characters, lines, first_counter, is_first_dot, started, after_start, after_dots, dots as beam_dots}
 use Rattle.vga_crtc.specs.Status.{is_display}
 use Rattle.vga_crtc.specs.Raster.{dots_in_frame, IsSamePlace, IsFrameStart, IsRegular, regular_beam, line_dots as dots_of_line, beam_at}
+use Rattle.vga_crtc.proofs.Counts.{frame_left as dots_left}
+use Rattle.vga_crtc.proofs.Dots.{dots_none}
+use Rattle.vga_crtc.proofs.Ends.{same_frame_count, frame_ends as frames_end}
+use Rattle.vga_crtc.proofs.Frames.{at_dot, started_goes_on}
+use Rattle.vga_crtc.proofs.Moves.{first_dot_starts, started_place}
 use Rattle.vga_dots.specs.Colour.{dot_colour}
 use Rattle.vga_card.specs.Picture.{Dot, lines_of, lines_from, bytes_of, shape}
 use Rattle.vga_card.specs.Card.{CardState}
 use Rattle.vga_card.specs.Dots.{character_width, fresh, display_dot, dots}
 use Rattle.vga_card.specs.Frames.{frame_count, frame, collect, display_dot_at, EndsFirst, DrawsPlaces}
+use Rattle.vga_card.proofs.FrameLemmas.{dots_keep, frame_ends_first, dots_are_places, regular_shape}
 use Rattle.bios_screen.specs.Raster.{Raster, IsRaster, raster_of, HasRaster, Colours, width, line_dots, all_dots, colour_at, Draws, IsAtDot, picture_dot}
 use Rattle.bios_screen.specs.Raster.{PlacesDrawn, GoesOn, FrameEnded, IsPictureOf, picture_bytes, FrameDrawn}
 use Rattle.bios_screen.proofs.Base.Tests.{both_true, lt_is, le_is, lt_test, le_test, not_lt, not_le}
 use Rattle.bios_screen.proofs.Base.DotLists.{same_collected, dot_there, one_dot, row_dots, whole_picture, picture_lines, picture_bytes_are}
-
--- what the laws of the beam and of the adapter say of dots
-pub record DotLaws : Type 0 where
-  pub none : (cw : ℕ) (r : List ℕ) (b : Beam) → beam_dots cw r 0 b ≡ b
-  pub place : (r : List ℕ) (b : Beam) → IsSamePlace b (started r b)
-  pub first : (b : Beam) → (is_first_dot b ≡ true) ↔ IsFrameStart b
-  pub left : (cw : ℕ) (r : List ℕ) (b : Beam) → dots_in_frame cw r (started r b) ≡ dots_in_frame cw r b
-  pub by_number : (cw : ℕ) (r : List ℕ) (b : Beam) (n : ℕ) → IsRegular r → IsFrameStart b → 0 < cw → n < lines r * dots_of_line cw r →
-      started r (beam_dots cw r n b) ≡ beam_at cw r (first_counter r) b.frame n
-  pub any : (cw : ℕ) (r : List ℕ) (b : Beam) (start frame m n : ℕ) → IsRegular r → 0 < cw → m + n < lines r * dots_of_line cw r →
-      started r b ≡ beam_at cw r start frame m → started r (beam_dots cw r n b) ≡ beam_at cw r start frame (m + n)
-  pub counted : (cw : ℕ) (r : List ℕ) (start frame n : ℕ) → 0 < cw → n < lines r * dots_of_line cw r →
-      n + dots_in_frame cw r (beam_at cw r start frame n) ≡ lines r * dots_of_line cw r
-  pub keep : (n : ℕ) (c : CardState) → dots n c ≡ record c { crtc = after_dots c.crtc (character_width c) n; drawn = (dots n c).drawn }
-  pub ends : (c : CardState) → EndsFirst c
-  pub places : (c : CardState) → DrawsPlaces c
-  pub regular_shape : (width height : ℕ) (drawn : List Dot) → 0 < width → 0 < height → lines_of drawn ≡ lines_from 0 (replicate height width) →
-      shape drawn ≡ Some (record { width = width; height = height })
 
 pub wide : (v : Bool) → 0 < (if v then 8 else 9)
 wide true = omega arith
@@ -77,155 +65,154 @@ chosen false xs ys h = refl
 place_of : (n line cw : ℕ) → n / line * line + (n % line / cw * cw + n % line % cw) ≡ n
 place_of n line cw = ap (λ x. n / line * line + x) (div-add-mod' (n % line) cw) ∙ div-add-mod' n line
 
-module _ (law : DotLaws) where
-  -- at the first dot of a frame nothing is drawn
-  nothing_yet : (c : CardState) → IsFrameStart c.crtc.beam → fresh c ≡ []
-  nothing_yet c s = ap (λ v. if v then [] else c.drawn) ((law.first c.crtc.beam).1 s)
+-- at the first dot of a frame nothing is drawn
+nothing_yet : (c : CardState) → IsFrameStart c.crtc.beam → fresh c ≡ []
+nothing_yet c s = ap (λ v. if v then [] else c.drawn) ((first_dot_starts c.crtc.beam).1 s)
 
-  -- i dots on from dot n
-  beam_on : (c : CardState) (start n i : ℕ) → IsRegular c.crtc.registers → IsAtDot (raster_of c) c start n → n + i < all_dots (raster_of c)
-      → started c.crtc.registers (beam_dots (character_width c) c.crtc.registers i c.crtc.beam)
-      ≡ beam_at (character_width c) c.crtc.registers start c.crtc.beam.frame (n + i)
-  unfolding all_dots
-  beam_on c start n i regular at l = law.any (character_width c) c.crtc.registers c.crtc.beam start c.crtc.beam.frame n i regular (wide _) l at.beam
+-- i dots on from dot n
+beam_on : (c : CardState) (start n i : ℕ) → IsRegular c.crtc.registers → IsAtDot (raster_of c) c start n → n + i < all_dots (raster_of c)
+    → started c.crtc.registers (beam_dots (character_width c) c.crtc.registers i c.crtc.beam)
+    ≡ beam_at (character_width c) c.crtc.registers start c.crtc.beam.frame (n + i)
+unfolding all_dots
+beam_on c start n i regular at l = started_goes_on (character_width c) c.crtc.registers c.crtc.beam start c.crtc.beam.frame n i regular (wide _) l at.beam
 
-  frame_left : (c : CardState) (start n : ℕ) → IsAtDot (raster_of c) c start n → n + frame_count c ≡ all_dots (raster_of c)
-  unfolding all_dots
-  frame_left c start n at =
-      let w = character_width c in
+frame_left : (c : CardState) (start n : ℕ) → IsAtDot (raster_of c) c start n → n + frame_count c ≡ all_dots (raster_of c)
+unfolding all_dots
+frame_left c start n at =
+    let w = character_width c in
+    let r = c.crtc.registers in
+    ap (λ k. n + k) (sym (same_frame_count w r c.crtc.beam) ∙ ap (dots_in_frame w r) at.beam)
+    ∙ dots_left w r start c.crtc.beam.frame n (wide _) at.within
+
+module _ (c : CardState) (start : ℕ) (f : Colours) (draws : Draws (raster_of c) c start f) where
+  -- the place v, x, k shows what the picture has there
+  place_shows : (v x k : ℕ) → x < characters c.crtc.registers → k < character_width c
+      → seen c (regular_beam c.crtc.registers start c.crtc.beam.frame v x k)
+      ≡ picture_dot (raster_of c) f (v * (characters c.crtc.registers * character_width c) + (x * character_width c + k))
+  place_shows v x k lx lk =
+      let m = raster_of c in
       let r = c.crtc.registers in
-      ap (λ k. n + k) (sym (law.left w r c.crtc.beam) ∙ ap (dots_in_frame w r) at.beam)
-      ∙ law.counted w r start c.crtc.beam.frame n (wide _) at.within
+      let w = character_width c in
+      let hde = horizontal_display_end r in
+      let vde = vertical_display_end r in
+      let at = x * w + k in
+      let colour = colour_at c start v x k in
+      let small : at < characters r * w = omega (arith, mul-add-lt x w k (characters r) lx lk) in
+      ap (λ t. if t && nat_le v vde then record { line = v; colour = colour } ∷ [] else []) (shown_column w hde x k lk)
+      ∙ ap (λ t. if nat_lt at ((hde + 1) * w) && t then record { line = v; colour = colour } ∷ [] else []) (shown_line vde v)
+      ∙ chosen (nat_lt at ((hde + 1) * w) && nat_lt v (vde + 1)) (record { line = v; colour = colour } ∷ []) (one_dot f v at) (λ t.
+      let parts = both_true (nat_lt at ((hde + 1) * w)) (nat_lt v (vde + 1)) t in
+      let lc : x ≤ hde = le_is x hde (shown_column w hde x k lk ∙ parts.0) in
+      let lv : v < vde + 1 = lt_is v (vde + 1) parts.1 in
+      ap (λ q. record { line = v; colour = q } ∷ []) (draws v x k lv (omega arith) lk))
+      ∙ sym (dot_there m f v at small)
 
-  module _ (c : CardState) (start : ℕ) (f : Colours) (draws : Draws (raster_of c) c start f) where
-    -- the place v, x, k shows what the picture has there
-    place_shows : (v x k : ℕ) → x < characters c.crtc.registers → k < character_width c
-        → seen c (regular_beam c.crtc.registers start c.crtc.beam.frame v x k)
-        ≡ picture_dot (raster_of c) f (v * (characters c.crtc.registers * character_width c) + (x * character_width c + k))
-    place_shows v x k lx lk =
-        let m = raster_of c in
-        let r = c.crtc.registers in
-        let w = character_width c in
-        let hde = horizontal_display_end r in
-        let vde = vertical_display_end r in
-        let at = x * w + k in
-        let colour = colour_at c start v x k in
-        let small : at < characters r * w = omega (arith, mul-add-lt x w k (characters r) lx lk) in
-        ap (λ t. if t && nat_le v vde then record { line = v; colour = colour } ∷ [] else []) (shown_column w hde x k lk)
-        ∙ ap (λ t. if nat_lt at ((hde + 1) * w) && t then record { line = v; colour = colour } ∷ [] else []) (shown_line vde v)
-        ∙ chosen (nat_lt at ((hde + 1) * w) && nat_lt v (vde + 1)) (record { line = v; colour = colour } ∷ []) (one_dot f v at) (λ t.
-        let parts = both_true (nat_lt at ((hde + 1) * w)) (nat_lt v (vde + 1)) t in
-        let lc : x ≤ hde = le_is x hde (shown_column w hde x k lk ∙ parts.0) in
-        let lv : v < vde + 1 = lt_is v (vde + 1) parts.1 in
-        ap (λ q. record { line = v; colour = q } ∷ []) (draws v x k lv (omega arith) lk))
-        ∙ sym (dot_there m f v at small)
+  -- the dot i on from dot n is that of the picture
+  dot_shows : (n i : ℕ) → IsRegular c.crtc.registers → IsAtDot (raster_of c) c start n → n + i < all_dots (raster_of c) →
+      display_dot_at c i ≡ picture_dot (raster_of c) f (n + i)
+  unfolding all_dots
+  dot_shows n i regular at l =
+      let r = c.crtc.registers in
+      let w = character_width c in
+      let line = characters r * w in
+      let some : 0 < w = wide _ in
+      let full : 0 < line = omega (arith, mul-le 1 1 (characters r) w (omega arith) some) in
+      let j = n + i in
+      let lat : j % line < line = mod_below j line full in
+      let lx : j % line / w < characters r = div_below (j % line) w (characters r) some lat in
+      let lk : j % line % w < w = mod_below (j % line) w some in
+      seen_at c i ∙ ap (seen c) (beam_on c start n i regular at l)
+      ∙ place_shows (j / line) (j % line / w) (j % line % w) lx lk ∙ ap (picture_dot (raster_of c) f) (place_of j line w)
 
-    -- the dot i on from dot n is that of the picture
-    dot_shows : (n i : ℕ) → IsRegular c.crtc.registers → IsAtDot (raster_of c) c start n → n + i < all_dots (raster_of c) →
-        display_dot_at c i ≡ picture_dot (raster_of c) f (n + i)
-    unfolding all_dots
-    dot_shows n i regular at l =
-        let r = c.crtc.registers in
-        let w = character_width c in
-        let line = characters r * w in
-        let some : 0 < w = wide _ in
-        let full : 0 < line = omega (arith, mul-le 1 1 (characters r) w (omega arith) some) in
-        let j = n + i in
-        let lat : j % line < line = mod_below j line full in
-        let lx : j % line / w < characters r = div_below (j % line) w (characters r) some lat in
-        let lk : j % line % w < w = mod_below (j % line) w some in
-        seen_at c i ∙ ap (seen c) (beam_on c start n i regular at l)
-        ∙ place_shows (j / line) (j % line / w) (j % line % w) lx lk ∙ ap (picture_dot (raster_of c) f) (place_of j line w)
+  places_drawn : (n : ℕ) → IsRegular c.crtc.registers → IsAtDot (raster_of c) c start n → PlacesDrawn (raster_of c) c n f
+  places_drawn n regular at j lo hi =
+      let total = frame_left c start n at in
+      dots_are_places frames_end c j lo (omega (arith, total))
+      ∙ ap (λ l. fresh c ++ l) (same_collected (display_dot_at c) (λ i. picture_dot (raster_of c) f (n + i)) j (λ i h.
+      dot_shows n i regular at (omega arith)))
 
-    places_drawn : (n : ℕ) → IsRegular c.crtc.registers → IsAtDot (raster_of c) c start n → PlacesDrawn (raster_of c) c n f
-    places_drawn n regular at j lo hi =
-        let total = frame_left c start n at in
-        law.places c j lo (omega (arith, total))
-        ∙ ap (λ l. fresh c ++ l) (same_collected (display_dot_at c) (λ i. picture_dot (raster_of c) f (n + i)) j (λ i h.
-        dot_shows n i regular at (omega arith)))
-
-    frame_ended : (n : ℕ) → IsRegular c.crtc.registers → IsAtDot (raster_of c) c start n → FrameEnded (raster_of c) c n f
-    unfolding after_dots
-    frame_ended n regular at =
-        let total = frame_left c start n at in
-        let kept = law.keep (frame_count c) c in
-        record {
-          count = total;
-          drawn = places_drawn n regular at (frame_count c) (law.ends c).some (omega (arith, total));
-          leaves = kept ∙ ap (λ (b : Beam). record c { crtc = record c.crtc { beam = b }; drawn = (frame c).drawn })
-              (sym (ap (λ (s : CardState). s.crtc.beam) kept) ∙ (law.ends c).next);
-        }
-
-  goes_on_from : (c : CardState) (start n : ℕ) → IsRegular c.crtc.registers → IsAtDot (raster_of c) c start n → GoesOn (raster_of c) c start n
+  frame_ended : (n : ℕ) → IsRegular c.crtc.registers → IsAtDot (raster_of c) c start n → FrameEnded (raster_of c) c n f
   unfolding after_dots
-  goes_on_from c start n regular at j l =
-      let w = character_width c in
-      let r = c.crtc.registers in
-      let b = beam_dots w r j c.crtc.beam in
-      let on = beam_on c start n j regular at l in
-      let kept = law.keep j c in
-      let frame_is : c.crtc.beam.frame ≡ b.frame = sym (ap (λ (y : Beam). y.frame) on) ∙ (law.place r b).frame in
+  frame_ended n regular at =
+      let total = frame_left c start n at in
+      let kept = dots_keep (frame_count c) c in
       record {
-        at = subst (λ (s : CardState). IsAtDot (raster_of c) s start (n + j)) (sym kept)
-            (record { within = l; beam = on ∙ ap (λ f. beam_at w r start f (n + j)) frame_is });
-        keeps = kept ∙ ap (λ (y : Beam). record c { crtc = record c.crtc { beam = y }; drawn = (dots j c).drawn })
-            (sym (ap (λ (s : CardState). s.crtc.beam) kept));
-        frame = ap (λ (s : CardState). s.crtc.beam.frame) kept ∙ sym frame_is;
+        count = total;
+        drawn = places_drawn n regular at (frame_count c) (frame_ends_first frames_end c).some (omega (arith, total));
+        leaves = kept ∙ ap (λ (b : Beam). record c { crtc = record c.crtc { beam = b }; drawn = (frame c).drawn })
+            (sym (ap (λ (s : CardState). s.crtc.beam) kept) ∙ (frame_ends_first frames_end c).next);
       }
 
-  -- the first dot of a frame
-  at_start : (c : CardState) → IsRegular c.crtc.registers → IsFrameStart c.crtc.beam → IsAtDot (raster_of c) c (first_counter c.crtc.registers) 0
-  unfolding all_dots
-  at_start c regular start =
-      let w = character_width c in
-      let r = c.crtc.registers in
-      let some = mul-le 1 1 (lines r) (characters r * w) (omega arith) (mul-le 1 1 (characters r) w (omega arith) (wide _)) in
-      record {
-        within = omega (arith, some);
-        beam = ap (started r) (sym (law.none w r c.crtc.beam)) ∙ law.by_number w r c.crtc.beam 0 regular start (wide _) (omega (arith, some));
-      }
+goes_on_from : (c : CardState) (start n : ℕ) → IsRegular c.crtc.registers → IsAtDot (raster_of c) c start n → GoesOn (raster_of c) c start n
+unfolding after_dots
+goes_on_from c start n regular at j l =
+    let w = character_width c in
+    let r = c.crtc.registers in
+    let b = beam_dots w r j c.crtc.beam in
+    let on = beam_on c start n j regular at l in
+    let kept = dots_keep j c in
+    let frame_is : c.crtc.beam.frame ≡ b.frame = sym (ap (λ (y : Beam). y.frame) on) ∙ (started_place r b).frame in
+    record {
+      at = subst (λ (s : CardState). IsAtDot (raster_of c) s start (n + j)) (sym kept)
+          (record { within = l; beam = on ∙ ap (λ f. beam_at w r start f (n + j)) frame_is });
+      keeps = kept ∙ ap (λ (y : Beam). record c { crtc = record c.crtc { beam = y }; drawn = (dots j c).drawn })
+          (sym (ap (λ (s : CardState). s.crtc.beam) kept));
+      frame = ap (λ (s : CardState). s.crtc.beam.frame) kept ∙ sym frame_is;
+    }
 
-  -- ---- by the numbers of a mode
+-- the first dot of a frame
+at_start : (c : CardState) → IsRegular c.crtc.registers → IsFrameStart c.crtc.beam → IsAtDot (raster_of c) c (first_counter c.crtc.registers) 0
+unfolding all_dots
+at_start c regular start =
+    let w = character_width c in
+    let r = c.crtc.registers in
+    let some = mul-le 1 1 (lines r) (characters r * w) (omega arith) (mul-le 1 1 (characters r) w (omega arith) (wide _)) in
+    record {
+      within = omega (arith, some);
+      beam = ap (started r) (sym (dots_none w r c.crtc.beam)) ∙ at_dot w r c.crtc.beam 0 regular start (wide _) (omega (arith, some));
+    }
 
-  pub dots_are_picture : (m : Raster) (c : CardState) (start n : ℕ) (f : Colours) → HasRaster m c → IsAtDot m c start n → Draws m c start f →
-      PlacesDrawn m c n f
-  dots_are_picture m c start n f has = subst (λ (k : Raster). IsAtDot k c start n → Draws k c start f →
-      PlacesDrawn k c n f) has.numbers (λ at draws. places_drawn c start f draws n has.regular at)
+-- ---- by the numbers of a mode
 
-  pub dots_go_on : (m : Raster) (c : CardState) (start n : ℕ) → HasRaster m c → IsAtDot m c start n → GoesOn m c start n
-  dots_go_on m c start n has = subst (λ (k : Raster). IsAtDot k c start n → GoesOn k c start n) has.numbers (λ at. goes_on_from c start n has.regular at)
+pub dots_are_picture : (m : Raster) (c : CardState) (start n : ℕ) (f : Colours) → HasRaster m c → IsAtDot m c start n → Draws m c start f →
+    PlacesDrawn m c n f
+dots_are_picture m c start n f has = subst (λ (k : Raster). IsAtDot k c start n → Draws k c start f →
+    PlacesDrawn k c n f) has.numbers (λ at draws. places_drawn c start f draws n has.regular at)
 
-  pub frame_is_ended : (m : Raster) (c : CardState) (start n : ℕ) (f : Colours) → HasRaster m c → IsAtDot m c start n → Draws m c start f → FrameEnded m c n f
-  frame_is_ended m c start n f has = subst (λ (k : Raster). IsAtDot k c start n → Draws k c start f →
-      FrameEnded k c n f) has.numbers (λ at draws. frame_ended c start f draws n has.regular at)
+pub dots_go_on : (m : Raster) (c : CardState) (start n : ℕ) → HasRaster m c → IsAtDot m c start n → GoesOn m c start n
+dots_go_on m c start n has = subst (λ (k : Raster). IsAtDot k c start n → GoesOn k c start n) has.numbers (λ at. goes_on_from c start n has.regular at)
 
-  pub starts_at_0 : (m : Raster) (c : CardState) → HasRaster m c → IsFrameStart c.crtc.beam → IsAtDot m c (first_counter c.crtc.registers) 0
-  starts_at_0 m c has start = subst (λ (k : Raster). IsAtDot k c (first_counter c.crtc.registers) 0) has.numbers (at_start c has.regular start)
+pub frame_is_ended : (m : Raster) (c : CardState) (start n : ℕ) (f : Colours) → HasRaster m c → IsAtDot m c start n → Draws m c start f → FrameEnded m c n f
+frame_is_ended m c start n f has = subst (λ (k : Raster). IsAtDot k c start n → Draws k c start f →
+    FrameEnded k c n f) has.numbers (λ at draws. frame_ended c start f draws n has.regular at)
 
-  -- all dots of a frame are a picture
-  pub all_are_picture : (m : Raster) (drawn : List Dot) (f : Colours) → IsRaster m → drawn ≡ collect (picture_dot m f) (all_dots m) → IsPictureOf m drawn f
-  unfolding picture_bytes all_dots
-  all_are_picture m drawn f raster e =
-      let w = width m in
-      let h = m.height in
-      let narrow : w ≤ line_dots m = mul-le m.columns m.dots m.characters m.dots raster.narrow (omega arith) in
-      let rows : drawn ≡ collect (row_dots f w) h = e ∙ whole_picture m f narrow raster.low in
-      record {
-        shape = law.regular_shape w h drawn (mul-le 1 1 m.columns m.dots raster.some_columns raster.some_dots) raster.some_lines (ap lines_of rows
-            ∙ picture_lines f w h);
-        bytes = ap bytes_of rows ∙ picture_bytes_are f w h;
-      }
+pub starts_at_0 : (m : Raster) (c : CardState) → HasRaster m c → IsFrameStart c.crtc.beam → IsAtDot m c (first_counter c.crtc.registers) 0
+starts_at_0 m c has start = subst (λ (k : Raster). IsAtDot k c (first_counter c.crtc.registers) 0) has.numbers (at_start c has.regular start)
 
-  pub frame_is_picture : (m : Raster) (c : CardState) (f : Colours) → HasRaster m c → IsFrameStart c.crtc.beam → Draws m c (first_counter c.crtc.registers) f →
-      FrameDrawn m c f
-  frame_is_picture m c f has start draws =
-      let ended = frame_is_ended m c (first_counter c.crtc.registers) 0 f has (starts_at_0 m c has start) draws in
-      let none : 0 + frame_count c ≡ frame_count c = omega arith in
-      let all : frame_count c ≡ all_dots m = sym none ∙ ended.count in
-      record {
-        picture = all_are_picture m (frame c).drawn f has.raster (ended.drawn ∙ ap (λ l. l
-            ++ collect (λ i. picture_dot m f (0 + i)) (frame_count c)) (nothing_yet c start)
-            ∙ same_collected (λ i. picture_dot m f (0 + i)) (picture_dot m f) (frame_count c) (λ i l. let z : 0 + i ≡ i = omega arith in ap (picture_dot m f) z)
-            ∙ ap (collect (picture_dot m f)) all);
-        leaves = ended.leaves;
-      }
+-- all dots of a frame are a picture
+pub all_are_picture : (m : Raster) (drawn : List Dot) (f : Colours) → IsRaster m → drawn ≡ collect (picture_dot m f) (all_dots m) → IsPictureOf m drawn f
+unfolding picture_bytes all_dots
+all_are_picture m drawn f raster e =
+    let w = width m in
+    let h = m.height in
+    let narrow : w ≤ line_dots m = mul-le m.columns m.dots m.characters m.dots raster.narrow (omega arith) in
+    let rows : drawn ≡ collect (row_dots f w) h = e ∙ whole_picture m f narrow raster.low in
+    record {
+      shape = regular_shape w h drawn (mul-le 1 1 m.columns m.dots raster.some_columns raster.some_dots) raster.some_lines (ap lines_of rows
+          ∙ picture_lines f w h);
+      bytes = ap bytes_of rows ∙ picture_bytes_are f w h;
+    }
+
+pub frame_is_picture : (m : Raster) (c : CardState) (f : Colours) → HasRaster m c → IsFrameStart c.crtc.beam → Draws m c (first_counter c.crtc.registers) f →
+    FrameDrawn m c f
+frame_is_picture m c f has start draws =
+    let ended = frame_is_ended m c (first_counter c.crtc.registers) 0 f has (starts_at_0 m c has start) draws in
+    let none : 0 + frame_count c ≡ frame_count c = omega arith in
+    let all : frame_count c ≡ all_dots m = sym none ∙ ended.count in
+    record {
+      picture = all_are_picture m (frame c).drawn f has.raster (ended.drawn ∙ ap (λ l. l
+          ++ collect (λ i. picture_dot m f (0 + i)) (frame_count c)) (nothing_yet c start)
+          ∙ same_collected (λ i. picture_dot m f (0 + i)) (picture_dot m f) (frame_count c) (λ i l. let z : 0 + i ≡ i = omega arith in ap (picture_dot m f) z)
+          ∙ ap (collect (picture_dot m f)) all);
+      leaves = ended.leaves;
+    }

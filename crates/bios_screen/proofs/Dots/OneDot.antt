@@ -15,6 +15,12 @@ use Rattle.vga_card.specs.Bounds.{IsCard}
 use Rattle.vga_card.specs.Card.{CardState}
 use Rattle.vga_card.specs.Dots.{character_width, fresh, dot, dots}
 use Rattle.vga_card.specs.Frames.{frame_count, frame, collect}
+use Rattle.vga_crtc.proofs.Ends.{frame_ends as frames_end}
+use Rattle.vga_crtc.proofs.Frames.{past_start, beam_goes_on}
+use Rattle.vga_crtc.proofs.Moves.{first_dot_starts}
+use Rattle.vga_card.proofs.BoundLemmas.{dots_bounds}
+use Rattle.vga_card.proofs.DotLemmas.{dots_split}
+use Rattle.vga_card.proofs.FrameLemmas.{frame_ends_first, regular_shape}
 use Rattle.bios_modes.specs.Bda.{BiosData}
 use Rattle.bios_services.specs.Cursor.{start_address}
 use Rattle.bios_screen.specs.Screen.{Screen}
@@ -23,21 +29,12 @@ use Rattle.bios_screen.specs.Picture.{dot_at, picture_width, picture_height, nex
 use Rattle.bios_screen.specs.Raster.{Raster, Colours, raster_of, HasRaster, width, line_dots as dots_of_line, all_dots, picture_dot, IsAtDot as AtDot}
 use Rattle.bios_screen.specs.Raster.{IsFurther, FrameEnded}
 use Rattle.bios_screen.proofs.Base.DotLists.{bytes_append, no_bytes, bytes_joined, same_joined, whole_picture, picture_lines}
-use Rattle.bios_screen.proofs.Dots.Drawing.{DotLaws, wide, dots_are_picture, dots_go_on, frame_is_ended, starts_at_0}
+use Rattle.bios_screen.proofs.Dots.Drawing.{wide, dots_are_picture, dots_go_on, frame_is_ended, starts_at_0}
 use Rattle.bios_screen.specs.Drawing.{dots_a_line, lines_a_frame, dots_a_frame, Drawing, page_shown, so_far, is_of_picture, colour_of, is_last, take_dot}
 use Rattle.bios_screen.specs.Drawing.{take_dots, take_frame}
 use Rattle.bios_screen.specs.Follows.{BeamIsAt, RowsJoin, lines_before, Follows, EndsFrame}
 use Rattle.bios_screen.proofs.Dots.Any.{HasFrames, frames_of}
 use Rattle.bios_screen.proofs.Shows.Steady.{shown_moved, frame_shown}
-
--- what the laws of the beam and of the adapter say of dots
-pub record Laws : Type 0 where
-  pub of_dots : DotLaws
-  pub moves : (cw : ℕ) (r : List ℕ) (b : Beam) (start frame m n : ℕ) → IsRegular r → 0 < cw → m + n < lines r * line_of_dots cw r →
-      started r b ≡ beam_at cw r start frame m → 0 < n → beam_dots cw r n b ≡ beam_at cw r start frame (m + n)
-  pub past : (cw : ℕ) (r : List ℕ) (start frame n : ℕ) → 0 < n → started r (beam_at cw r start frame n) ≡ beam_at cw r start frame n
-  pub split : (a b : ℕ) (c : CardState) → dots (a + b) c ≡ dots b (dots a c)
-  pub bounds : (n : ℕ) (c : CardState) → IsCard c → IsCard (dots n c)
 
 -- ---- lists
 
@@ -176,26 +173,26 @@ module _ (c : CardState) (d : BiosData) (s : Screen) (h : HasFrames c d s) where
 
 -- ---- one dot
 
-at_of : Laws → (m : Raster) (c : CardState) (start n : ℕ) → HasRaster m c → n < all_dots m → (n ≡ 0 → first_counter c.crtc.registers ≡ start) →
+at_of : (m : Raster) (c : CardState) (start n : ℕ) → HasRaster m c → n < all_dots m → (n ≡ 0 → first_counter c.crtc.registers ≡ start) →
     BeamIsAt c start n → AtDot m c start n
-at_of law m c start zero has within first at = subst (λ a. AtDot m c a 0) (first refl) (starts_at_0 law.of_dots m c has at)
-at_of law m c start (suc n) has within first at = record {
+at_of m c start zero has within first at = subst (λ a. AtDot m c a 0) (first refl) (starts_at_0 m c has at)
+at_of m c start (suc n) has within first at = record {
   within = within;
-  beam = ap (started c.crtc.registers) at ∙ law.past (character_width c) c.crtc.registers start c.crtc.beam.frame (suc n) (omega arith);
+  beam = ap (started c.crtc.registers) at ∙ past_start (character_width c) c.crtc.registers start c.crtc.beam.frame (suc n) (omega arith);
 }
 
 -- whatever is drawn of a frame, its dots join that with the colours of the screen
-pub rows_join : Laws → (c : CardState) (d : BiosData) (s : Screen) (page n : ℕ) → IsCard c → shown c d ≡ Some s → page < s.layout.pages →
+pub rows_join : (c : CardState) (d : BiosData) (s : Screen) (page n : ℕ) → IsCard c → shown c d ≡ Some s → page < s.layout.pages →
     n < dots_a_frame s.mode → (n ≡ 0 → page ≡ s.page)
     → BeamIsAt c (start_address d page) n → RowsJoin c s page n
-rows_join law c d s page n z shows lp within first at j some few =
+rows_join c d s page n z shows lp within first at j some few =
     let h = frames_of c d s z shows in
     let m = h.raster in
     let f = dot_at s page in
     let all = all_is c d s h in
-    let here = at_of law m c (start_address d page) n h.has (omega arith) (λ e. h.first ∙ ap (start_address d) (sym (first e))) at in
+    let here = at_of m c (start_address d page) n h.has (omega arith) (λ e. h.first ∙ ap (start_address d) (sym (first e))) at in
     let one : ℕ → List Dot = λ i. picture_dot m f (n + i) in
-    ap bytes_of (dots_are_picture law.of_dots m c (start_address d page) n f h.has here (h.draws page lp) j some (omega arith))
+    ap bytes_of (dots_are_picture m c (start_address d page) n f h.has here (h.draws page lp) j some (omega arith))
     ∙ bytes_append (fresh c) (collect one j)
     ∙ ap (λ l. bytes_of (fresh c) ++ l) (bytes_joined one j ∙ same_joined (λ i. bytes_of (one i)) (λ i. colour_of s page (n + i)) j (λ i.
     dot_bytes c d s h page (n + i)))
@@ -206,7 +203,7 @@ pub record DotTaken (c : CardState) (d : BiosData) (b : Drawing) : Type 0 where
   pub bytes : bytes_of (dot c).drawn ≡ (take_dot b).picture
   pub follows : Follows (dot c) d (take_dot b)
 
-module _ (law : Laws) (c : CardState) (d : BiosData) (b : Drawing) (z : IsCard c) (is : Follows c d b) where
+module _ (c : CardState) (d : BiosData) (b : Drawing) (z : IsCard c) (is : Follows c d b) where
   abbrev s : Screen
   s = b.screen
 
@@ -229,10 +226,10 @@ module _ (law : Laws) (c : CardState) (d : BiosData) (b : Drawing) (z : IsCard c
   begins e = h.first ∙ ap (λ v. start_address d (if v then s.page else b.page)) (sym (is_zero n e))
 
   at : AtDot h.raster c start n
-  at = at_of law h.raster c start n h.has within begins is.at
+  at = at_of h.raster c start n h.has within begins is.at
 
   ended : FrameEnded h.raster c n (dot_at s g)
-  ended = frame_is_ended law.of_dots h.raster c start n (dot_at s g) h.has at (h.draws g is.page)
+  ended = frame_is_ended h.raster c start n (dot_at s g) h.has at (h.draws g is.page)
 
   drawn_is : (dot c).drawn ≡ fresh c ++ picture_dot h.raster (dot_at s g) n
   drawn_is =
@@ -240,7 +237,7 @@ module _ (law : Laws) (c : CardState) (d : BiosData) (b : Drawing) (z : IsCard c
       let none : n + 0 ≡ n = omega arith in
       let l = within in
       ap (λ (x : CardState). x.drawn) (sym (dot_is_one c))
-      ∙ dots_are_picture law.of_dots h.raster c start n f h.has at (h.draws g is.page) 1 (omega arith) (omega arith)
+      ∙ dots_are_picture h.raster c start n f h.has at (h.draws g is.page) 1 (omega arith) (omega arith)
       ∙ ap (λ k. fresh c ++ picture_dot h.raster f k) none
 
   lines_are : lines_of (dot c).drawn ≡ lines_before s (suc n)
@@ -267,11 +264,11 @@ module _ (law : Laws) (c : CardState) (d : BiosData) (b : Drawing) (z : IsCard c
     away = is_away (is_first_dot (dot c).crtc.beam) (λ t.
         let count = ended.count in
         let l = later in
-        (law.of_dots.ends c).first 1 (omega arith) (omega arith) (subst (λ (x : CardState). IsFrameStart x.crtc.beam) (sym (dot_is_one c))
-        ((law.of_dots.first (dot c).crtc.beam).0 t)))
+        (frame_ends_first frames_end c).first 1 (omega arith) (omega arith) (subst (λ (x : CardState). IsFrameStart x.crtc.beam) (sym (dot_is_one c))
+        ((first_dot_starts (dot c).crtc.beam).0 t)))
 
     further : IsFurther h.raster c start n 1
-    further = dots_go_on law.of_dots h.raster c start n h.has at 1 later
+    further = dots_go_on h.raster c start n h.has at 1 later
 
     frame_stays : (dot c).crtc.beam.frame ≡ c.crtc.beam.frame
     frame_stays = ap (λ (x : CardState). x.crtc.beam.frame) (sym (dot_is_one c)) ∙ further.frame
@@ -286,7 +283,7 @@ module _ (law : Laws) (c : CardState) (d : BiosData) (b : Drawing) (z : IsCard c
         let r = c.crtc.registers in
         let e : n + 1 ≡ suc n = omega arith in
         let numbers : all_dots (raster_of c) ≡ all_dots h.raster = ap all_dots h.has.numbers in
-        law.moves w r c.crtc.beam start c.crtc.beam.frame n 1 h.has.regular (wide _) (subst (λ k. n + 1 < k) (sym numbers) later) at.beam (omega arith)
+        beam_goes_on w r c.crtc.beam start c.crtc.beam.frame n 1 h.has.regular (wide _) (subst (λ k. n + 1 < k) (sym numbers) later) at.beam (omega arith)
         ∙ ap (beam_at w r start c.crtc.beam.frame) e
 
     at_next : BeamIsAt (dot c) start (suc n)
@@ -322,7 +319,7 @@ module _ (law : Laws) (c : CardState) (d : BiosData) (b : Drawing) (z : IsCard c
     starts = subst (λ (x : CardState). IsFrameStart x.crtc.beam) (sym leaves) (record { line = refl; character = refl; dot = refl })
 
     nothing : fresh (dot c) ≡ []
-    nothing = ap (λ v. if v then [] else (dot c).drawn) ((law.of_dots.first (dot c).crtc.beam).1 starts)
+    nothing = ap (λ v. if v then [] else (dot c).drawn) ((first_dot_starts (dot c).crtc.beam).1 starts)
 
     follows_renewed : Follows (dot c) d (renewed b)
     follows_renewed = record {
@@ -349,30 +346,30 @@ module _ (law : Laws) (c : CardState) (d : BiosData) (b : Drawing) (z : IsCard c
 
 -- ---- any number of dots
 
-pub dots_follow : Laws → (n : ℕ) (c : CardState) (d : BiosData) (b : Drawing) → IsCard c → Follows c d b → Follows (dots n c) d (take_dots n b)
+pub dots_follow : (n : ℕ) (c : CardState) (d : BiosData) (b : Drawing) → IsCard c → Follows c d b → Follows (dots n c) d (take_dots n b)
 unfolding dots take_dots
-dots_follow law zero c d b z is = is
-dots_follow law (suc n) c d b z is = dots_follow law n (dot c) d (take_dot b) (law.bounds 1 c z) (dot_taken law c d b z is).follows
+dots_follow zero c d b z is = is
+dots_follow (suc n) c d b z is = dots_follow n (dot c) d (take_dot b) (dots_bounds 1 c z) (dot_taken c d b z is).follows
 
 -- ---- the end of a frame
 
-pub frame_follows : Laws → (c : CardState) (d : BiosData) (b : Drawing) → IsCard c → Follows c d b → EndsFrame c d b
-frame_follows law c d b z is =
+pub frame_follows : (c : CardState) (d : BiosData) (b : Drawing) → IsCard c → Follows c d b → EndsFrame c d b
+frame_follows c d b z is =
     let s = b.screen in
     let n = b.dot in
     let all = dots_a_frame s.mode in
-    let f = h law c d b z is in
+    let f = h c d b z is in
     let k = all - n - 1 in
     let within = is.within in
     let left : all - n ≡ suc k = omega arith in
     let on = dots_on k b (omega arith) in
     let c' = dots k c in
     let b' = take_dots k b in
-    let last = dot_taken law c' d b' (law.bounds k c z) (dots_follow law k c d b z is) in
-    let total = (ended law c d b z is).count in
+    let last = dot_taken c' d b' (dots_bounds k c z) (dots_follow k c d b z is) in
+    let total = (ended c d b z is).count in
     let numbers = all_is c d s f in
     let count : frame_count c ≡ k + 1 = omega arith in
-    let frame_is : frame c ≡ dot c' = ap (λ j. dots j c) count ∙ law.split k 1 c ∙ dot_is_one c' in
+    let frame_is : frame c ≡ dot c' = ap (λ j. dots j c) count ∙ dots_split k 1 c ∙ dot_is_one c' in
     let taken_is : take_frame b ≡ take_dot b' = ap (λ j. take_dots j b) left ∙ taken_more k b in
     let whole : suc (n + k) ≡ all = omega arith in
     let lines = ap (λ (x : CardState). lines_of x.drawn) frame_is ∙ last.lines
@@ -380,7 +377,7 @@ frame_follows law c d b z is =
     let w : 0 < picture_width s = subst (λ j. 0 < j) f.wide (mul-le 1 1 f.raster.columns f.raster.dots f.has.raster.some_columns f.has.raster.some_dots) in
     let v : 0 < picture_height s = subst (λ j. 0 < j) f.high f.has.raster.some_lines in
     record {
-      size = law.of_dots.regular_shape (picture_width s) (picture_height s) (frame c).drawn w v lines;
+      size = regular_shape (picture_width s) (picture_height s) (frame c).drawn w v lines;
       bytes = ap (λ (x : CardState). bytes_of x.drawn) frame_is ∙ last.bytes ∙ ap (λ (x : Drawing). x.picture) (sym taken_is);
       follows = subst (λ (x : CardState). Follows x d (take_frame b)) (sym frame_is) (subst (Follows (dot c') d) (sym taken_is) last.follows);
     }

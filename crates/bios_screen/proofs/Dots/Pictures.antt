@@ -13,15 +13,15 @@ use Rattle.bios_screen.specs.Picture.{dot_at, picture_width}
 use Rattle.bios_screen.specs.Raster.{Draws, picture_bytes}
 use Rattle.bios_screen.specs.Framed.{IsFramed}
 use Rattle.bios_screen.proofs.Shows.Steady.{shown_moved, frame_shown}
-use Rattle.bios_screen.proofs.Dots.Drawing.{DotLaws, frame_is_picture}
+use Rattle.bios_screen.proofs.Dots.Drawing.{frame_is_picture}
 use Rattle.bios_screen.proofs.Dots.Any.{frames_of}
 
-pub frame_drawn : (law : DotLaws) (c : CardState) (d : BiosData) (s : Screen) → IsCard c → shown c d ≡ Some s → IsFrameStart c.crtc.beam → IsFramed c d s
-frame_drawn law c d s z e start =
+pub frame_drawn : (c : CardState) (d : BiosData) (s : Screen) → IsCard c → shown c d ≡ Some s → IsFrameStart c.crtc.beam → IsFramed c d s
+frame_drawn c d s z e start =
     let h = frames_of c d s z e in
     let m = h.raster in
     let f = dot_at s s.page in
-    let drawn = frame_is_picture law m c f h.has start (subst (λ a. Draws m c a f) (sym h.first) (h.draws s.page h.page)) in
+    let drawn = frame_is_picture m c f h.has start (subst (λ a. Draws m c a f) (sym h.first) (h.draws s.page h.page)) in
     record {
       size = drawn.picture.shape
           ∙ ap (λ n. let x : Shape = record { width = n; height = m.height } in Some x) h.wide
