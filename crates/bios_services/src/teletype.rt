@@ -4,7 +4,7 @@ ghost use Rattle.bios_services.specs.Plan.{run};
 ghost use Rattle.bios_services.specs.Bounds.{IsSet, StaysInMode, pages_of};
 ghost use Rattle.bios_services.specs.Cursor.{row_of, place_of};
 ghost use Rattle.bios_services.specs.Teletype.{line_feed_fill as line_feed_fill_plan};
-ghost use Rattle.bios_services.specs.Teletype.{line_feed_plan, cursor_advance_plan, show_plan};
+ghost use Rattle.bios_services.specs.Teletype.{line_feed_plan, cursor_advance_plan};
 ghost use Rattle.bios_services.specs.Teletype.{type_plan, teletype_plan};
 
 use crate::band::Direction;
@@ -74,31 +74,8 @@ fn cursor_advance<B: Bus>(bus: &mut B, bda: &Bda, page: u8, place: u16) -> u16
     below / 256 * 256
 }
 
-/// Writes a character at a place, and answers the place behind.
-#[tactic(auto, using(crate::proofs::PlanRuns::run_bind), unfolding(crate::specs::Teletype::show_plan))]
-fn show<B: Bus>(
-    bus: &mut B,
-    fonts: &Fonts,
-    bda: &Bda,
-    page: u8,
-    place: u16,
-    character: u8,
-    colouring: Colouring,
-) -> u16
-    requires data { IsSet bda.now }
-    requires page { page < pages_of bda.now }
-    requires row { row_of place ≤ bda.now.last_row }
-    ensures place { (bus.new, result) ≡ run B.meaning
-        (show_plan fonts.now bda.now page place character colouring) bus.old }
-    ensures row { row_of result ≤ bda.now.last_row }
-{
-    let q = cell_number(bda, place);
-    write_character(bus, fonts, bda, page, q, character, colouring);
-    cursor_advance(bus, bda, page, place)
-}
-
 /// Types a character at a place, and answers the place afterwards.
-#[tactic(auto, using(crate::proofs::PlanRuns::run_bind), unfolding(crate::specs::Teletype::type_plan))]
+#[tactic(auto, using(crate::proofs::PlanRuns::run_bind), unfolding(crate::specs::Teletype::type_plan, crate::specs::Teletype::show_plan))]
 pub(crate) fn type_character<B: Bus>(
     bus: &mut B,
     fonts: &Fonts,
@@ -120,7 +97,11 @@ pub(crate) fn type_character<B: Bus>(
         BACKSPACE => { if place % 256 == 0 { place } else { place - 1 } }
         LINE_FEED => line_feed(bus, bda, page, place),
         CARRIAGE_RETURN => place / 256 * 256,
-        _ => show(bus, fonts, bda, page, place, character, colouring),
+        _ => {
+            let q = cell_number(bda, place);
+            write_character(bus, fonts, bda, page, q, character, colouring);
+            cursor_advance(bus, bda, page, place)
+        }
     }
 }
 
