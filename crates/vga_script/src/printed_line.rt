@@ -1,5 +1,5 @@
 //! A line of printed text, before its newline.
-ghost use Rattle.std.specs.Prelude.{◌≡◌, ◌+◌, ◌≤◌, ◌++◌, length};
+ghost use Rattle.std.specs.Prelude.{◌≡◌, ◌+◌, ◌≤◌, ◌++◌, codes, length};
 ghost use Rattle.vga_script.specs.Printing.{address_text, port_text};
 
 use vga_bits::TextBuffer;
@@ -10,23 +10,36 @@ const LINE_LEN: usize = 64;
 /// The text of a line.
 pub(crate) type Line = TextBuffer<LINE_LEN>;
 
-/// Puts the digits of a port at the line's end.
+/// A line that begins with a name, and a space behind it.
+pub(crate) fn named_line(name: &[u8]) -> Line
+    requires { length name.now ≤ 16 }
+    ensures items { result ≡ name.now ++ codes " " }
+    ensures len { length result ≤ 17 }
+{
+    let mut line = Line::new();
+    line.push(name);
+    line.push(b" ");
+    line
+}
+
+/// A line with the digits of a port at its end.
 #[tactic(auto, unfolding(crate::specs::Printing::port_text))]
-pub(crate) fn push_port(line: &mut Line, port: u16)
-    requires { length line.old ≤ 60 }
-    ensures items { line.new ≡ line.old ++ port_text port }
-    ensures len { length line.new ≤ length line.old + 4 }
+pub(crate) fn with_port(mut line: Line, port: u16) -> Line
+    requires { length line ≤ 60 }
+    ensures items { result ≡ line ++ port_text port }
+    ensures len { length result ≤ length line + 4 }
 {
     let digits = if port < 0x1000 { 3 } else { 4 };
     line.push_hex(port as u32, digits);
+    line
 }
 
-/// Puts the digits of an address at the line's end.
+/// A line with the digits of an address at its end.
 #[tactic(auto, unfolding(crate::specs::Printing::address_text))]
-pub(crate) fn push_address(line: &mut Line, address: u32)
-    requires { length line.old ≤ 56 }
-    ensures items { line.new ≡ line.old ++ address_text address }
-    ensures len { length line.new ≤ length line.old + 8 }
+pub(crate) fn with_address(mut line: Line, address: u32) -> Line
+    requires { length line ≤ 56 }
+    ensures items { result ≡ line ++ address_text address }
+    ensures len { length result ≤ length line + 8 }
 {
     let digits = if address < 0x10_0000 {
         5
@@ -38,4 +51,5 @@ pub(crate) fn push_address(line: &mut Line, address: u32)
         8
     };
     line.push_hex(address, digits);
+    line
 }

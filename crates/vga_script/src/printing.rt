@@ -6,8 +6,7 @@ ghost use Rattle.hex.specs.Hex.{encode_upper};
 ghost use Rattle.vga_bits.specs.Hex.{hex};
 ghost use Rattle.vga_script.specs.Front.{items_in, steps_in};
 ghost use Rattle.vga_script.specs.Item.{expanded, step_limit};
-ghost use Rattle.vga_script.specs.Printing.{address_text, line_of, port_text, printed};
-ghost use Rattle.vga_script.specs.Printing.{printed_item};
+ghost use Rattle.vga_script.specs.Printing.{line_of, printed, printed_item};
 ghost use Rattle.vga_script.specs.Printing.{printed_line, printed_steps, version_line};
 ghost use Rattle.vga_script.specs.Spelled.{HasBody, spelled_item};
 ghost use Rattle.vga_script.specs.Spelling.{SpellsItems, SpellsSteps, script_limit};
@@ -16,7 +15,7 @@ use super::dump_range::Shown;
 use super::items::item_at;
 use super::opcode::HEADER_LEN;
 use super::output::append;
-use super::printed_line::{Line, push_address, push_port};
+use super::printed_line::{Line, named_line, with_address, with_port};
 use super::script::Script;
 use super::spelled_item::SpelledItem;
 use super::step::Step;
@@ -33,32 +32,6 @@ fn end_line(out: &mut Vec<u8>, mut line: Line) -> Result<(), Fault>
 {
     line.push(b"\n");
     append(out, line.as_slice())
-}
-
-/// The line of a name and a port.
-fn port_line(name: &[u8], port: u16) -> Line
-    requires { length name.now ≤ 16 }
-    ensures items { result ≡ name.now ++ (codes " " ++ port_text port) }
-    ensures len { length result ≤ 25 }
-{
-    let mut line = Line::new();
-    line.push(name);
-    line.push(b" ");
-    push_port(&mut line, port);
-    line
-}
-
-/// The line of a name and an address.
-fn address_line(name: &[u8], address: u32) -> Line
-    requires { length name.now ≤ 16 }
-    ensures items { result ≡ name.now ++ (codes " " ++ address_text address) }
-    ensures len { length result ≤ 25 }
-{
-    let mut line = Line::new();
-    line.push(name);
-    line.push(b" ");
-    push_address(&mut line, address);
-    line
 }
 
 /// Puts a value of so many digits, and a newline behind it, at the end of a line, and the line at
@@ -222,19 +195,25 @@ fn print_step(alloc: Global, out: &mut Vec<u8>, step: &Step<'_>) -> Result<(), F
 {
     match step {
         Step::Out { port, value } => {
-            end_with_value(out, port_line(b"out", *port), *value as u16, 2)
+            let line = with_port(named_line(b"out"), *port);
+            end_with_value(out, line, *value as u16, 2)
         }
-        Step::OutWord { port, value } => end_with_value(out, port_line(b"outw", *port), *value, 4),
-        Step::In { port } => end_line(out, port_line(b"in", *port)),
-        Step::InWord { port } => end_line(out, port_line(b"inw", *port)),
+        Step::OutWord { port, value } => {
+            let line = with_port(named_line(b"outw"), *port);
+            end_with_value(out, line, *value, 4)
+        }
+        Step::In { port } => end_line(out, with_port(named_line(b"in"), *port)),
+        Step::InWord { port } => end_line(out, with_port(named_line(b"inw"), *port)),
         Step::Put { address, value } => {
-            end_with_value(out, address_line(b"put", *address), *value as u16, 2)
+            let line = with_address(named_line(b"put"), *address);
+            end_with_value(out, line, *value as u16, 2)
         }
         Step::PutWord { address, value } => {
-            end_with_value(out, address_line(b"putw", *address), *value, 4)
+            let line = with_address(named_line(b"putw"), *address);
+            end_with_value(out, line, *value, 4)
         }
-        Step::Get { address } => end_line(out, address_line(b"get", *address)),
-        Step::GetWord { address } => end_line(out, address_line(b"getw", *address)),
+        Step::Get { address } => end_line(out, with_address(named_line(b"get"), *address)),
+        Step::GetWord { address } => end_line(out, with_address(named_line(b"getw"), *address)),
         Step::Int {
             ax,
             bx,
