@@ -1,10 +1,9 @@
 //! What the commands do, over readers and writers.
-ghost use Rattle.std.specs.Prelude.{◌≡◌, ◌≢◌, ◌⊎◌, ◌≤◌, ◌+◌, false, IfErr, Err};
+ghost use Rattle.std.specs.Prelude.{◌≡◌, ◌≢◌, ◌⊎◌, false, IfErr, Err};
 ghost use Rattle.vga_bits.specs.declared.fault.Fault.TheVariants.{WriteFault, OutOfMemory};
-ghost use Rattle.vga_bits.specs.Tracked.{inner_of, has_failed, is_write_fault, taken_of};
-ghost use Rattle.vga_bits.specs.LimitedReading.{TakesAtMost, is_read_fault};
+ghost use Rattle.vga_bits.specs.Tracked.{inner_of, has_failed, is_write_fault};
 ghost use Rattle.bios_modes.specs.Fonts.{fonts_of};
-ghost use Rattle.vga_script.specs.Spelling.{script_limit};
+ghost use Rattle.vga_script.specs.Input.{ReadsScript};
 ghost use Rattle.vga.specs.Scripts.{Assembles, FindsScript, Prints, RunsText, StopsText};
 
 use super::output_files::write_all;
@@ -23,10 +22,7 @@ use vga_script::{Script, assemble, decode, encode, print, read_script};
 fn script_of_text<R: Read>(alloc: Global, text: &mut Tracked<R>) -> Result<Script, Fault>
     requires { has_failed text.old ≡ false }
     ensures answer { FindsScript (R.remaining (inner_of text.old)) result }
-    ensures failed { has_failed text.new ≡ is_read_fault result }
-    ensures taken { TakesAtMost (script_limit + 1) (R.remaining (inner_of text.old))
-        (R.remaining (inner_of text.new)) }
-    ensures counted { taken_of text.new ≤ taken_of text.old + (script_limit + 1) }
+    ensures reading { ReadsScript R.remaining text.old text.new result }
 {
     let text = read_script(alloc, text)?;
     assemble(alloc, text.as_slice())
@@ -42,10 +38,7 @@ fn script_of_text<R: Read>(alloc: Global, text: &mut Tracked<R>) -> Result<Scrip
 pub fn assembled<R: Read>(alloc: Global, text: &mut Tracked<R>) -> Result<Vec<u8>, Fault>
     requires { has_failed text.old ≡ false }
     ensures answer { Assembles (R.remaining (inner_of text.old)) result }
-    ensures failed { has_failed text.new ≡ is_read_fault result }
-    ensures taken { TakesAtMost (script_limit + 1) (R.remaining (inner_of text.old))
-        (R.remaining (inner_of text.new)) }
-    ensures counted { taken_of text.new ≤ taken_of text.old + (script_limit + 1) }
+    ensures reading { ReadsScript R.remaining text.old text.new result }
 {
     let script = script_of_text(alloc, text)?;
     encode(alloc, &script)
@@ -69,11 +62,8 @@ pub fn print_script<R: Read, W: Write>(
     requires writer { has_failed out.old ≡ false }
     ensures answer { Prints (R.remaining (inner_of script.old)) (W.contents (inner_of out.old))
         (W.contents (inner_of out.new)) result }
-    ensures read_failed { has_failed script.new ≡ is_read_fault result }
+    ensures reading { ReadsScript R.remaining script.old script.new result }
     ensures write_failed { has_failed out.new ≡ is_write_fault result }
-    ensures taken { TakesAtMost (script_limit + 1) (R.remaining (inner_of script.old))
-        (R.remaining (inner_of script.new)) }
-    ensures counted { taken_of script.new ≤ taken_of script.old + (script_limit + 1) }
     ensures unwritten { IfErr result (λ e. e ≢ WriteFault → out.new ≡ out.old) }
 {
     let bytes = read_script(alloc, script)?;
@@ -101,11 +91,8 @@ pub fn run_text<R: Read, W: Write>(
     requires writer { has_failed out.old ≡ false }
     ensures answer { RunsText until fonts.now (R.remaining (inner_of text.old))
         (W.contents (inner_of out.old)) (W.contents (inner_of out.new)) result }
-    ensures read_failed { has_failed text.new ≡ is_read_fault result }
+    ensures reading { ReadsScript R.remaining text.old text.new result }
     ensures write_failed { has_failed out.new ≡ is_write_fault result }
-    ensures taken { TakesAtMost (script_limit + 1) (R.remaining (inner_of text.old))
-        (R.remaining (inner_of text.new)) }
-    ensures counted { taken_of text.new ≤ taken_of text.old + (script_limit + 1) }
     ensures unwritten { IfErr result (λ e. e ≢ WriteFault → e ≢ OutOfMemory → out.new ≡ out.old) }
     ensures stopped { result ≡ Err OutOfMemory → (out.new ≡ out.old)
         ⊎ StopsText until (fonts_of fonts.now) (R.remaining (inner_of text.old))

@@ -1,9 +1,7 @@
 //! Reading all the bytes of a script, or of its text.
-ghost use Rattle.std.specs.Prelude.{◌≡◌, ◌≤◌, ◌+◌, false, IfOk, IfErr};
-ghost use Rattle.vga_bits.specs.LimitedReading.{TakesAtMost, is_read_fault};
-ghost use Rattle.vga_bits.specs.Tracked.{inner_of, has_failed, taken_of};
-ghost use Rattle.vga_script.specs.Input.{IsInput, IsReadingFault};
-ghost use Rattle.vga_script.specs.Spelling.{script_limit};
+ghost use Rattle.std.specs.Prelude.{◌≡◌, false, IfOk, IfErr};
+ghost use Rattle.vga_bits.specs.Tracked.{inner_of, has_failed};
+ghost use Rattle.vga_script.specs.Input.{IsInput, IsReadingFault, ReadsScript};
 
 use super::script::SCRIPT_LIMIT;
 use std::alloc::Global;
@@ -22,11 +20,8 @@ pub fn read_script<R: Read>(alloc: Global, reader: &mut Tracked<R>) -> Result<Ve
     requires { has_failed reader.old ≡ false }
     ensures input { IfOk result (λ bytes. IsInput (R.remaining (inner_of reader.old)) bytes.items) }
     ensures fault { IfErr result (IsReadingFault (R.remaining (inner_of reader.old))) }
-    ensures failed { has_failed reader.new ≡ is_read_fault result }
     // No more is read of any reader, whether it tells its bytes or not.
-    ensures taken { TakesAtMost (script_limit + 1) (R.remaining (inner_of reader.old))
-        (R.remaining (inner_of reader.new)) }
-    ensures counted { taken_of reader.new ≤ taken_of reader.old + (script_limit + 1) }
+    ensures reading { ReadsScript R.remaining reader.old reader.new result }
 {
     let bytes = read_front(alloc, reader, SCRIPT_LIMIT + 1)?;
     if bytes.len() > SCRIPT_LIMIT {
