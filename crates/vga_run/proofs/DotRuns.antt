@@ -1,6 +1,6 @@
 -- Why runs of services, dots and frames write the plain screen's report, and that whole frames are such.
 use Rattle.std.proofs.Common.{◌≡◌, inl, inr, ℕ, ◌*◌, ◌<◌, ◌==◌, Bool, true, false, List, [], ◌∷◌, length, Option, Some, None, Result, Ok, Err, if◌then◌else◌}
-use Rattle.std.proofs.Common.{arith, refl, ap, subst, ◌∙◌}
+use Rattle.std.proofs.Common.{arith, refl, sym, ap, subst, ◌∙◌}
 use Rattle.std.specs.List.{AllByRecursion}
 use Rattle.std.specs.Io.KnownBytes.{Appends}
 use Rattle.vga_bits.specs.Tracked.{AppendsFront}
@@ -13,6 +13,7 @@ use Rattle.bios_services.specs.declared.call.Call.TheVariants.{SetMode, ReadTabl
 use Rattle.bios_services.specs.Calls.{call_of}
 use Rattle.vga_script.specs.declared.step.Step.{Step}
 use Rattle.vga_script.specs.declared.step.Step.TheVariants.{Int, Frame}
+use Rattle.vga_script.specs.Input.{IsReadingFault}
 use Rattle.vga_script.specs.Step.{AreInRange}
 use Rattle.vga_run.specs.Report.{report_of, steps_until}
 use Rattle.vga_run.specs.Run.{RunAnswers, ReportsSteps, RunsScript}
@@ -66,6 +67,16 @@ run_of_dots law one fit until file input before after (Err WriteFault) glyphs (s
     steps_of_dots law until (fonts_of file) steps before after (Err WriteFault) (glyph_bytes file glyphs) (fit bytes steps spelled) whole of
     (subst (λ (l : List Step). AppendsFront before after (report_of (fonts_of file) (steps_until until l))) same w)
 run_of_dots law one fit until file input before after (Err _) glyphs h = λ bytes steps whole e spelled of. tt
+
+-- an unread input has no such report
+pub unread_dots : (until : Option ℕ) (file : List ℕ) (input before after : Option (List ℕ)) (f : Fault) → IsReadingFault input f →
+    RunsDots until file input before after (Err f)
+unread_dots until file input before after f (inl is) =
+    subst (λ (x : Fault). RunsDots until file input before after (Err x)) (sym is) (λ bytes steps whole e spelled of. tt)
+unread_dots until file input before after f (inr (inl (is, long))) =
+    subst (λ (x : Fault). RunsDots until file input before after (Err x)) (sym is) (λ bytes steps whole e spelled of. tt)
+unread_dots until file input before after f (inr (inr is)) =
+    subst (λ (x : Fault). RunsDots until file input before after (Err x)) (sym is) (λ bytes steps whole e spelled of. tt)
 
 -- ---- whole frames
 

@@ -11,6 +11,7 @@ use Rattle.vga_bits.specs.declared.fault.Fault.{Fault}
 use Rattle.vga_bits.specs.declared.fault.Fault.TheVariants.{FontSize, WriteFault}
 use Rattle.vga_bits.specs.declared.refusal.Refusal.{Refusal}
 use Rattle.vga_bits.specs.declared.refusal.Refusal.TheVariants.{BadFunction, BadMode}
+use Rattle.vga_script.specs.Input.{IsReadingFault}
 use Rattle.vga_crtc.specs.Raster.{IsFrameStart}
 use Rattle.vga_card.specs.Bounds.{IsCard}
 use Rattle.vga_card.specs.Bus.{card_meaning}
@@ -369,3 +370,13 @@ run_of_screens law one fit until file input before after (Err WriteFault) glyphs
     steps_of_screens law until (fonts_of file) steps before after (Err WriteFault) (glyph_bytes file glyphs) (fit bytes steps spelled) whole of
     (subst (λ (l : List Step). AppendsFront before after (report_of (fonts_of file) (steps_until until l))) same w)
 run_of_screens law one fit until file input before after (Err _) glyphs h = λ bytes steps whole e spelled of. tt
+
+-- an unread input has no such report
+pub unread_screens : (until : Option ℕ) (file : List ℕ) (input before after : Option (List ℕ)) (f : Fault) → IsReadingFault input f →
+    RunsScreens until file input before after (Err f)
+unread_screens until file input before after f (inl is) =
+    subst (λ (x : Fault). RunsScreens until file input before after (Err x)) (sym is) (λ bytes steps whole e spelled of. tt)
+unread_screens until file input before after f (inr (inl (is, long))) =
+    subst (λ (x : Fault). RunsScreens until file input before after (Err x)) (sym is) (λ bytes steps whole e spelled of. tt)
+unread_screens until file input before after f (inr (inr is)) =
+    subst (λ (x : Fault). RunsScreens until file input before after (Err x)) (sym is) (λ bytes steps whole e spelled of. tt)

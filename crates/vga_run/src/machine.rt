@@ -20,7 +20,7 @@ pub struct Machine {
 
 impl Machine {
     /// A machine at power-on with these fonts. It fails with `OutOfMemory` alone.
-    pub(crate) fn power_on(alloc: Global, fonts: Fonts) -> Result<Machine, Fault>
+    pub fn power_on(alloc: Global, fonts: Fonts) -> Result<Machine, Fault>
         ensures ok { IfOk result (λ machine. machine ≡ power_on_machine fonts) }
         ensures err { IsOkUnless result Fault.OutOfMemory }
     {
@@ -33,7 +33,7 @@ impl Machine {
 
     /// Why a dump is refused: there are no cells to show.
     #[tactic(auto, unfolding(crate::specs::Step::dump_refusal))]
-    pub(crate) fn dump_refusal(&self, shown: Shown) -> Option<Refusal>
+    pub fn dump_refusal(&self, shown: Shown) -> Option<Refusal>
         ensures { result ≡ dump_refusal_of self.now shown }
     {
         match shown {

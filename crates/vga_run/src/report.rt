@@ -106,7 +106,11 @@ fn write_drawn<W: Write>(out: &mut Tracked<W>, n: usize, drawn: Drawn<'_>) -> Re
 
 /// Writes the dump of what a step shows, and nothing where that is refused.
 #[tactic(auto, unfolding(crate::specs::Step::dump_text))]
-fn write_dump<W: Write>(out: &mut Tracked<W>, machine: &Machine, shown: Shown) -> Result<(), Fault>
+pub fn write_dump<W: Write>(
+    out: &mut Tracked<W>,
+    machine: &Machine,
+    shown: Shown,
+) -> Result<(), Fault>
     requires writer { has_failed out.old ≡ false }
     requires range { IsShownInRange shown }
     requires valid { IsValid machine.now.bda }

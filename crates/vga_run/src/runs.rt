@@ -1,10 +1,11 @@
 //! A run of a script.
-ghost use Rattle.std.specs.Prelude.{◌≡◌, ◌≢◌, ◌⊎◌, ◌≤◌, ◌+◌, length, false, IfErr, IfOk, None};
+ghost use Rattle.std.specs.Prelude.{◌≡◌, ◌≢◌, ◌⊎◌, ◌≤◌, length, false, IfErr, IfOk, None};
 ghost use Rattle.std.specs.Prelude.{Some, Err};
 ghost use Rattle.vga_bits.specs.declared.fault.Fault.TheVariants.{WriteFault, OutOfMemory};
-ghost use Rattle.vga_bits.specs.Tracked.{inner_of, has_failed, is_write_fault, taken_of};
-ghost use Rattle.vga_bits.specs.LimitedReading.{TakesAtMost, is_read_fault};
+ghost use Rattle.vga_bits.specs.Tracked.{inner_of, has_failed, is_write_fault};
+ghost use Rattle.vga_bits.specs.LimitedReading.{is_read_fault};
 ghost use Rattle.bios_modes.specs.Fonts.{file_len, fonts_of};
+ghost use Rattle.vga_script.specs.Input.{ReadsScript};
 ghost use Rattle.vga_script.specs.Item.{expanded};
 ghost use Rattle.vga_script.specs.Spelling.{script_limit};
 ghost use Rattle.vga_run.specs.Run.{Reports, ReportsSteps, RunAnswers, RunsGoodScripts, RunsScript};
@@ -38,6 +39,7 @@ use vga_script::{Script, Steps, one_fault, one_list, read_script, steps_fit};
 /// `OutOfMemory` comes where a request for memory was refused: before the first byte is written, or
 /// in a step that takes memory, and then the answers of the steps before it are written, whole.
 /// Each other fault but `WriteFault` comes before the first byte is written.
+#[tactic(auto, using(crate::proofs::AnswerLemmas::input_answers, crate::proofs::AnswerLemmas::input_stops, crate::proofs::AnswerLemmas::font_answers, crate::proofs::AnswerLemmas::unread_answers))]
 pub fn run<R: Read, W: Write>(
     alloc: Global,
     script: &mut Tracked<R>,
@@ -61,14 +63,10 @@ pub fn run<R: Read, W: Write>(
     ensures dots { RunsDots until fonts.now (R.remaining (inner_of script.old))
         (W.contents (inner_of out.old)) (W.contents (inner_of out.new)) result }
 
-    // The reader and the writer fail exactly where the answer says so.
-    ensures read_failed { has_failed script.new ≡ is_read_fault result }
+    // The reader and the writer fail exactly where the answer says so. Of any reader at most
+    // 16,777,217 bytes are read, and none where the fonts are no font file.
+    ensures reading { ReadsScript R.remaining script.old script.new result }
     ensures write_failed { has_failed out.new ≡ is_write_fault result }
-
-    // What is read, of any reader at most 16,777,217 bytes, and what is left untouched.
-    ensures taken { TakesAtMost (script_limit + 1) (R.remaining (inner_of script.old))
-        (R.remaining (inner_of script.new)) }
-    ensures counted { taken_of script.new ≤ taken_of script.old + (script_limit + 1) }
     ensures unread { length fonts.now ≢ file_len → script.new ≡ script.old }
     // What is written at a fault that is not the writer's: nothing, or whole answers before want of
     // memory.
@@ -83,33 +81,6 @@ pub fn run<R: Read, W: Write>(
     reports_are_screens();
     reports_are_dots();
     bytes_fit(fonts);
-    run_steps(alloc, script, fonts, out, until)
-}
-
-/// What `run` does.
-#[tactic(auto, using(crate::proofs::AnswerLemmas::input_answers, crate::proofs::AnswerLemmas::input_stops, crate::proofs::AnswerLemmas::font_answers, crate::proofs::AnswerLemmas::unread_answers))]
-fn run_steps<R: Read, W: Write>(
-    alloc: Global,
-    script: &mut Tracked<R>,
-    fonts: &[u8],
-    out: &mut Tracked<W>,
-    until: Option<u32>,
-) -> Result<(), Fault>
-    requires reader { has_failed script.old ≡ false }
-    requires writer { has_failed out.old ≡ false }
-    ensures answer { RunAnswers until fonts.now (R.remaining (inner_of script.old))
-        (W.contents (inner_of out.old)) (W.contents (inner_of out.new)) result }
-    ensures read_failed { has_failed script.new ≡ is_read_fault result }
-    ensures write_failed { has_failed out.new ≡ is_write_fault result }
-    ensures taken { TakesAtMost (script_limit + 1) (R.remaining (inner_of script.old))
-        (R.remaining (inner_of script.new)) }
-    ensures counted { taken_of script.new ≤ taken_of script.old + (script_limit + 1) }
-    ensures unread { length fonts.now ≢ file_len → script.new ≡ script.old }
-    ensures unwritten { IfErr result (λ e. e ≢ WriteFault → e ≢ OutOfMemory → out.new ≡ out.old) }
-    ensures stopped { result ≡ Err OutOfMemory → (out.new ≡ out.old)
-        ⊎ StopsRun until (fonts_of fonts.now) (R.remaining (inner_of script.old))
-        (W.contents (inner_of out.old)) (W.contents (inner_of out.new)) }
-{
     let fonts = Fonts::from_bytes(alloc, fonts)?; // Nothing is read before.
     let bytes = read_script(alloc, script)?;
     run_bytes_over(alloc, bytes.as_slice(), fonts, out, until)

@@ -1,19 +1,59 @@
-use Rattle.vga_run.proofs.AnswerLemmas.{runs_good_scripts}
-use Rattle.vga_run.proofs.DotRuns.{run_of_dots}
-use Rattle.vga_run.proofs.ScreenLemmas.{run_of_screens}
+use Rattle.std.proofs.Common.{sym, subst, ◌∙◌}
+use Rattle.std.proofs.lemmas.Result.{err_from_is_err_and}
+use Rattle.vga_bits.specs.Tracked.{inner_of}
+use Rattle.vga_script.specs.Input.{IsInput}
+use Rattle.vga_run.proofs.AnswerLemmas.{input_answers, runs_good_scripts}
+use Rattle.vga_run.proofs.DotRuns.{run_of_dots, unread_dots}
+use Rattle.vga_run.proofs.ScreenLemmas.{run_of_screens, unread_screens}
 use Rattle.vga_run.proofs.runs.run.Goals as goal
 
 -- a script has no fault of its own
 pub returns-clause-runs : goal.returns-clause-runs
 returns-clause-runs g c =
-    let e = c.run_steps.ensures in runs_good_scripts c.one_fault.ensures.none _ _ _ _ _ _ _ _ e.answer e.read_failed e.write_failed
+    let input = g.R.Read.remaining (inner_of c.args.script.now) in
+    let before = g.W.Write.contents (inner_of c.args.out.now) in
+    let after = g.W.Write.contents (inner_of c.run_bytes_over.new.out) in
+    let over = c.run_bytes_over in
+    runs_good_scripts c.one_fault.ensures.none c.args.until c.args.fonts.now input before after _ _ over.result
+    (input_answers c.args.until c.args.fonts.now c.in_ok-fonts.fonts input before after c.as_slice.result.now over.result c.in_ok-fonts.ensures.ok
+    (subst (IsInput input) (sym c.as_slice.ensures.value) c.in_ok-bytes.ensures.input) over.ensures.answer)
+    (c.in_ok-bytes.ensures.reading.0 ∙ sym over.ensures.unread) over.ensures.write_failed
 
 -- and its report is one
 pub returns-clause-screens : goal.returns-clause-screens
-returns-clause-screens g c = run_of_screens c.reports_are_screens.ensures c.one_list.ensures c.steps_fit.ensures _ _ _ _ _ _ c.bytes_fit.ensures
-    c.run_steps.ensures.answer
+returns-clause-screens g c =
+    let input = g.R.Read.remaining (inner_of c.args.script.now) in
+    let before = g.W.Write.contents (inner_of c.args.out.now) in
+    let after = g.W.Write.contents (inner_of c.run_bytes_over.new.out) in
+    let over = c.run_bytes_over in
+    run_of_screens c.reports_are_screens.ensures c.one_list.ensures c.steps_fit.ensures c.args.until c.args.fonts.now input before after over.result
+    c.bytes_fit.ensures
+    (input_answers c.args.until c.args.fonts.now c.in_ok-fonts.fonts input before after c.as_slice.result.now over.result c.in_ok-fonts.ensures.ok
+    (subst (IsInput input) (sym c.as_slice.ensures.value) c.in_ok-bytes.ensures.input) over.ensures.answer)
 
 -- so it is dot by dot
 pub returns-clause-dots : goal.returns-clause-dots
-returns-clause-dots g c = run_of_dots c.reports_are_dots.ensures c.one_list.ensures c.steps_fit.ensures _ _ _ _ _ _ c.bytes_fit.ensures
-    c.run_steps.ensures.answer
+returns-clause-dots g c =
+    let input = g.R.Read.remaining (inner_of c.args.script.now) in
+    let before = g.W.Write.contents (inner_of c.args.out.now) in
+    let after = g.W.Write.contents (inner_of c.run_bytes_over.new.out) in
+    let over = c.run_bytes_over in
+    run_of_dots c.reports_are_dots.ensures c.one_list.ensures c.steps_fit.ensures c.args.until c.args.fonts.now input before after over.result
+    c.bytes_fit.ensures
+    (input_answers c.args.until c.args.fonts.now c.in_ok-fonts.fonts input before after c.as_slice.result.now over.result c.in_ok-fonts.ensures.ok
+    (subst (IsInput input) (sym c.as_slice.ensures.value) c.in_ok-bytes.ensures.input) over.ensures.answer)
+
+-- an unread script has no report
+pub returns-in_err-bytes-clause-screens : goal.returns-in_err-bytes-clause-screens
+returns-in_err-bytes-clause-screens g c =
+    let input = g.R.Read.remaining (inner_of c.args.script.now) in
+    let before = g.W.Write.contents (inner_of c.args.out.now) in
+    let p = err_from_is_err_and c.from_residual-in_err-bytes.result c.from_residual-in_err-bytes.ensures.1 in
+    rw (p.1, p.2) (unread_screens c.args.until c.args.fonts.now input before before _ c.in_err-bytes.ensures.fault)
+
+pub returns-in_err-bytes-clause-dots : goal.returns-in_err-bytes-clause-dots
+returns-in_err-bytes-clause-dots g c =
+    let input = g.R.Read.remaining (inner_of c.args.script.now) in
+    let before = g.W.Write.contents (inner_of c.args.out.now) in
+    let p = err_from_is_err_and c.from_residual-in_err-bytes.result c.from_residual-in_err-bytes.ensures.1 in
+    rw (p.1, p.2) (unread_dots c.args.until c.args.fonts.now input before before _ c.in_err-bytes.ensures.fault)
