@@ -45,7 +45,7 @@ module _ (cw : ℕ) (r : List ℕ) (b : Beam) (some : 0 < cw) (free : started r 
       ap (λ m. dots cw r m b) (sym (div-add-mod' i cw))
       ∙ on_dot (i / cw * cw) (i / cw) (i % cw) (on_character (i / cw) (div_below i cw (characters r) some l)) (mod_below i cw some)
 
-start_first : (cw : ℕ) (r : List ℕ) (n : ℕ) (b : Beam) → started r (dots cw r n b) ≡ started r (dots cw r n (started r b))
+pub start_first : (cw : ℕ) (r : List ℕ) (n : ℕ) (b : Beam) → started r (dots cw r n b) ≡ started r (dots cw r n (started r b))
 start_first cw r zero b = ap (started r) (dots_none cw r b) ∙ sym (started_again r b) ∙ ap (started r) (sym (dots_none cw r (started r b)))
 start_first cw r (suc n) b = ap (started r) (dots_started cw r (suc n) b (omega arith))
 

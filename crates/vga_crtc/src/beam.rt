@@ -1,5 +1,6 @@
 //! The beam, and how it moves.
-ghost use Rattle.std.specs.Prelude.{◌≡◌, ◌⊎◌};
+ghost use Rattle.std.specs.Prelude.{◌≡◌, ◌≤◌, ◌⊎◌};
+ghost use Rattle.vga_crtc.specs.Raster.{IsInLine, moved_in_line};
 
 use crate::registers::Registers;
 
@@ -132,5 +133,27 @@ impl Beam {
     {
         self.take_start(registers);
         self.end_line(registers);
+    }
+
+    /// Moves by `n` dots of the line, at a dot of which the beam is, or to the first dot of the
+    /// next line.
+    pub(crate) fn step_dots(&mut self, registers: &Registers, cw: u8, n: u32)
+        requires width { (cw ≡ 8) ⊎ (cw ≡ 9) }
+        requires place { IsBeam self.old }
+        requires inside { IsInLine cw registers.now self.old }
+        requires few { n ≤ 2340 }
+        ensures value { self.new ≡ moved_in_line cw registers.now n
+            (started registers.now self.old) }
+        ensures place { IsBeam self.new }
+    {
+        self.take_start(registers);
+        let width = cw as u32;
+        let at = self.character as u32 * width + self.dot as u32 + n;
+        if at < registers.characters() as u32 * width {
+            self.character = (at / width) as u16;
+            self.dot = (at % width) as u8;
+        } else {
+            self.end_line(registers);
+        }
     }
 }

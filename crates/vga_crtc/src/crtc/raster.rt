@@ -1,7 +1,7 @@
 //! Dots, lines and frames.
-ghost use Rattle.std.specs.Prelude.{ℕ, ◌≡◌, ◌≤◌, ◌⊎◌};
-ghost use Rattle.vga_crtc.specs.Beam.{after_start, after_dot};
-ghost use Rattle.vga_crtc.specs.Raster.{dots_in_line, dots_in_frame, IsLineTaken};
+ghost use Rattle.std.specs.Prelude.{ℕ, ◌≡◌, ◌<◌, ◌≤◌, ◌⊎◌, ◌↔◌, true};
+ghost use Rattle.vga_crtc.specs.Beam.{after_start, after_dot, after_dots};
+ghost use Rattle.vga_crtc.specs.Raster.{dots_in_line, dots_in_frame, IsLineTaken, IsInLine};
 
 use super::Crtc;
 
@@ -60,5 +60,27 @@ impl Crtc {
         ensures { IsLineTaken cw self.old self.new }
     {
         self.beam.step_line(&self.registers);
+    }
+
+    /// Whether the beam is at a dot that its line has: it is not where a register was lowered below
+    /// it. A character is `cw` dots wide.
+    pub fn is_in_line(&self, cw: u8) -> bool
+        ensures { (result ≡ true) ↔ IsInLine cw self.now.registers self.now.beam }
+    {
+        self.beam.character < self.registers.characters() && self.beam.dot < cw
+    }
+
+    /// Moves the beam by `n` dots of its line, at least one and at most those that lead to the next
+    /// line; a character is `cw` dots wide, 8 or 9. Where a frame begins, its start is taken first.
+    /// The beam goes there at once.
+    pub fn step_dots(&mut self, cw: u8, n: u32)
+        requires width { (cw ≡ 8) ⊎ (cw ≡ 9) }
+        requires inside { IsInLine cw self.old.registers self.old.beam }
+        requires some { 0 < n }
+        requires few { n ≤ dots_in_line cw self.old.registers self.old.beam }
+        requires at_most { n ≤ 2340 }
+        ensures { self.new ≡ after_dots self.old cw n }
+    {
+        self.beam.step_dots(&self.registers, cw, n);
     }
 }
