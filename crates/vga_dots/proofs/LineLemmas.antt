@@ -1,10 +1,11 @@
 -- The colours of a line's dots, with its panning and without.
-use Rattle.std.proofs.Common.{◌≡◌, ℕ, ◌+◌, ◌-◌, ◌*◌, ◌<◌, ◌≤◌, inr, ⊎_elim, refl, sym, ap, ◌∙◌, arith, Bool, true, false, List, [], ◌∷◌, slice_index}
+use Rattle.std.proofs.Common.{◌≡◌, ℕ, ◌+◌, ◌-◌, ◌*◌, ◌/◌, ◌%◌, ◌<◌, ◌≤◌, inr, ⊎_elim, refl, sym, ap, ◌∙◌, arith, Bool, true, false, List, [], ◌∷◌, slice_index}
 use Rattle.std.specs.Prelude.{nat_lt, not, if◌then◌else◌}
 use Rattle.std.proofs.lemmas.Bool.{cases_lt, lt-ltb, le-ltb}
-use Rattle.std.proofs.lemmas.Nat.{row_fits}
+use Rattle.std.proofs.lemmas.Nat.{row_fits, div-add-mod', div_below, mod_below, div-mul-add, mod-mul-add}
 use Rattle.vga_host.specs.Host.{HostState}
 use Rattle.vga_host.specs.Fields.{character_width, is_eight_dots, is_screen_off, is_graphics, is_256_colours}
+use Rattle.vga_crtc.specs.Raster.{dot_number}
 use Rattle.vga_attr.specs.Attr.{AttrState}
 use Rattle.vga_attr.specs.Fields.{is_palette_shown, overscan}
 use Rattle.vga_attr.specs.Colour.{colour_index}
@@ -16,7 +17,7 @@ use Rattle.vga_dots.specs.Graphics.{planar_nibble, packed_byte}
 use Rattle.vga_dots.specs.Colour.{dot_colour, colour_number, nibble}
 use Rattle.vga_dots.specs.Row.{dot_in, AreDotsPut, AreCharactersPut}
 use Rattle.vga_dots.specs.Display.{DisplayState}
-use Rattle.vga_dots.specs.Line.{placed, masked, shade, dot_of, source_colour, unpanned_colour, IsLineDrawn}
+use Rattle.vga_dots.specs.Line.{placed, masked, shade, dot_of, source_colour, placed_at, unpanned_colour, IsLineDrawn, IsPartDrawn}
 use Rattle.vga_dots.proofs.RowLemmas.{dot_byte}
 
 -- a choice of numbers is one of colours
@@ -39,6 +40,18 @@ line_source d x k =
     let s : SourceDot = source_at (placed d.crtc x k) (character_width d.host) (k + panned d.host d.crtc d.attr) in
     distribute (is_screen_off d.host) (not (is_palette_shown d.attr)) (is_256_colours d.host) (is_graphics d.host) d.attr d.dac (overscan d.attr)
     (packed_byte d.host d.crtc s) (planar_nibble d.host d.crtc s) (text_nibble d.host d.crtc d.attr s)
+
+-- a place has one character and one dot
+same_place : (cw x k y t : ℕ) → k < cw → t < cw → x * cw + k ≡ y * cw + t → (x ≡ y) × (k ≡ t)
+same_place cw x k y t lk lt e =
+    (sym (div-mul-add x cw k lk) ∙ ap (λ i. i / cw) e ∙ div-mul-add y cw t lt, sym (mod-mul-add x cw k lk) ∙ ap (λ i. i % cw) e ∙ mod-mul-add y cw t lt)
+
+-- the characters from the first on are those of the line
+pub from_first : (cw n : ℕ) (f : ℕ → ℕ → List ℕ) (row0 row1 : List ℕ) → AreCharactersPut cw n (λ x. f (0 + x)) row0 row1 → AreCharactersPut cw n f row0 row1
+from_first cw n f row0 row1 put = record {
+  inside = λ x i j lx li lj. let z : 0 + x ≡ x = omega arith in put.inside x i j lx li lj ∙ ap (λ q. slice_index (f q i) j) z;
+  outside = put.outside;
+}
 
 module _ (cw : ℕ) (d : DisplayState) (wide : cw ≡ character_width d.host) where
   abbrev chosen : ℕ → ℕ → Bool → List ℕ
@@ -97,6 +110,49 @@ module _ (cw : ℕ) (d : DisplayState) (wide : cw ≡ character_width d.host) wh
         ∙ ap (λ q. slice_index q j) (ap (λ q. unpanned_colour d (x + 1) (q - cw)) shown ∙ dot_next x k (omega (arith, l, by))))
         (cases_lt (k + p) cw);
     outside = λ i o. copied.outside i (inr (omega arith));
+  }
+
+  -- a part of one colour
+  pub part_filled : (n : ℕ) (colour row0 row1 : List ℕ) → AreCharactersPut 1 n (λ x i. colour) row0 row1 → ((s : SourceDot) → colour ≡ source_colour d s) →
+      IsPartDrawn cw n d row0 row1
+  part_filled n colour row0 row1 put same = record {
+    inside = λ i j li lj.
+        let q = dot_number cw d.crtc.beam + i in
+        let z : 3 * (0 + i) + j ≡ 3 * (i * 1 + 0) + j = omega arith in
+        ap (slice_index row1) z ∙ put.inside i 0 j li (omega arith) lj ∙ ap (λ q. slice_index q j) (same _ ∙ sym (line_source d (q / cw) (q % cw)));
+    outside = λ k o. put.outside k (⊎_elim (λ (l : k < 3 * 0). absurd (omega (arith, l))) (λ (l : 3 * (0 + n) ≤ k). omega (arith, l)) o);
+  }
+
+  -- whatever lies before the part in its first character is left out
+  pub part_panned : (n first skipped count p : ℕ) (blank drawn row0 row1 : List ℕ) → 0 < cw → p ≡ panned d.host d.crtc d.attr → p ≤ cw
+      → first * cw + skipped ≡ dot_number cw d.crtc.beam + p → skipped + n ≤ count * cw
+      → AreCharactersPut cw count (λ x. unpanned_colour d (first + x)) blank drawn
+      → AreDotsPut n 0 (λ i. dot_in drawn (skipped + i)) row0 row1 → IsPartDrawn cw n d row0 row1
+  part_panned n first skipped count p blank drawn row0 row1 some by few begin fits put copied = record {
+    inside = λ i j li lj.
+        let q = dot_number cw d.crtc.beam + i in
+        let x = q / cw in
+        let k = q % cw in
+        let at = div-add-mod' q cw in
+        let u = skipped + i in
+        let y = u / cw in
+        let t = u % cw in
+        let source = div-add-mod' u cw in
+        let inside = mod_below q cw some in
+        let within = mod_below u cw some in
+        let shown : k + p ≡ k + panned d.host d.crtc d.attr = ap (λ q. k + q) by in
+        let there : (first + y) * cw + t ≡ x * cw + k + p = omega (arith, at, source, begin) in
+        copied.inside i j li lj ∙ dot_byte drawn u j lj
+        ∙ ap (λ q. slice_index drawn (3 * q + j)) (sym source) ∙ put.inside y t j (div_below u cw count some (omega (arith, fits))) within lj
+        ∙ ap (λ q. slice_index q j) (⊎_elim
+        (λ (l : k + p < cw).
+        let same = same_place cw (first + y) t x (k + p) within l (omega (arith, there)) in
+        ap (λ q. unpanned_colour d q t) same.0 ∙ ap (unpanned_colour d x) (same.1 ∙ shown) ∙ dot_here x k (omega (arith, l, by)))
+        (λ (l : cw ≤ k + p).
+        let same = same_place cw (first + y) t (x + 1) (k + p - cw) within (omega (arith, inside, few, l)) (omega (arith, there, l)) in
+        ap (λ q. unpanned_colour d q t) same.0 ∙ ap (unpanned_colour d (x + 1)) (same.1 ∙ ap (λ q. q - cw) shown) ∙ dot_next x k (omega (arith, l, by)))
+        (cases_lt (k + p) cw));
+    outside = copied.outside;
   }
 
 narrow_if : (v : Bool) → (if v then 8 else 9) < 10

@@ -13,4 +13,4 @@ mod text_line;
 
 pub use colour::dot_colour;
 pub use display::Display;
-pub use line::{draw_line, shown_characters};
+pub use line::{MOST_PART, draw_line, draw_part, shown_characters};

@@ -5,7 +5,7 @@ ghost use Rattle.vga_dots.specs.SourceDot.{panned as panned_dots};
 ghost use Rattle.vga_dots.specs.Display.{ShowsMemory};
 ghost use Rattle.vga_dots.specs.Row.{AreCharactersPut};
 ghost use Rattle.vga_dots.specs.Line.{shown_characters as characters_shown, unpanned_colour};
-ghost use Rattle.vga_dots.specs.Line.{IsLineDrawn};
+ghost use Rattle.vga_dots.specs.Line.{IsLineDrawn, IsPartDrawn};
 
 use crate::character::{Characters, PackedCharacters, PlanarCharacters, TextCharacters, masked};
 use crate::colour::BLACK;
@@ -17,6 +17,12 @@ use vga_crtc::Registers;
 /// How many bytes the most characters of a line, and one more, have: 257 of nine dots.
 const UNPANNED_BYTES: usize = 6_939;
 
+/// The most dots of a part of a line.
+pub const MOST_PART: usize = 128;
+
+/// How many bytes the characters have in which the dots of a part lie: 145 dots.
+const PART_BYTES: usize = 435;
+
 /// How many characters of a line are displayed, 1 to 256.
 pub fn shown_characters(registers: &Registers) -> u16
     ensures value { result ≡ characters_shown registers.now }
@@ -25,40 +31,63 @@ pub fn shown_characters(registers: &Registers) -> u16
     (registers.horizontal_display_end() as u16 + 1).min(registers.characters())
 }
 
-/// Draws the first characters of the beam's line in one way, as if it were not panned.
+/// Draws some characters of the beam's line in one way, from `first` on, as if it were not panned.
 fn draw_each<const CW: usize, C: Characters<CW>>(
     display: &Display<'_>,
     characters: &C,
+    first: usize,
     count: usize,
     row: &mut [u8],
 )
     requires draws { C.draws characters.now display.now }
+    requires first { first ≤ 300 }
     requires count { count ≤ 257 }
     requires width { CW < 10 }
     requires room { 3 * (count * CW) ≤ length row.old }
-    ensures { AreCharactersPut CW count (unpanned_colour display.now) row.old row.new }
+    ensures { AreCharactersPut CW count (λ x. unpanned_colour display.now (first + x)) row.old
+        row.new }
 {
     let base = display.beam().base;
     for x in 0..count {
-        let counter = base.wrapping_add(x as u16);
+        let counter = base.wrapping_add((first + x) as u16);
         characters.put(display, counter, row, x * CW);
     }
 }
 
-/// Draws the first characters of the beam's line, which shows memory, as if it were not panned.
-fn draw_characters<const CW: usize>(display: &Display<'_>, count: usize, row: &mut [u8])
+/// Draws some characters of the beam's line, which shows memory, from `first` on, as if it were not
+/// panned.
+fn draw_characters<const CW: usize>(
+    display: &Display<'_>,
+    first: usize,
+    count: usize,
+    row: &mut [u8],
+)
     requires memory { ShowsMemory display.now }
+    requires first { first ≤ 300 }
     requires count { count ≤ 257 }
     requires width { CW < 10 }
     requires room { 3 * (count * CW) ≤ length row.old }
-    ensures { AreCharactersPut CW count (unpanned_colour display.now) row.old row.new }
+    ensures { AreCharactersPut CW count (λ x. unpanned_colour display.now (first + x)) row.old
+        row.new }
 {
     if display.host().is_256_colours() {
-        draw_each::<CW, PackedCharacters>(display, &PackedCharacters, count, row);
+        draw_each::<CW, PackedCharacters>(display, &PackedCharacters, first, count, row);
     } else if display.host().is_graphics() {
-        draw_each::<CW, PlanarCharacters>(display, &PlanarCharacters::new(display), count, row);
+        draw_each::<CW, PlanarCharacters>(
+            display,
+            &PlanarCharacters::new(display),
+            first,
+            count,
+            row,
+        );
     } else {
-        draw_each::<CW, TextCharacters>(display, &TextCharacters::at_beam(display), count, row);
+        draw_each::<CW, TextCharacters>(
+            display,
+            &TextCharacters::at_beam(display),
+            first,
+            count,
+            row,
+        );
     }
 }
 
@@ -74,7 +103,7 @@ fn draw_panned<const CW: usize>(display: &Display<'_>, count: usize, panned: usi
     ensures { IsLineDrawn CW count display.now row.old row.new }
 {
     let mut unpanned = [0; UNPANNED_BYTES];
-    draw_characters::<CW>(display, count + 1, &mut unpanned);
+    draw_characters::<CW>(display, 0, count + 1, &mut unpanned);
     copy_dots(row, &unpanned, panned, count * CW);
 }
 
@@ -88,7 +117,7 @@ fn draw_shown<const CW: usize>(display: &Display<'_>, count: usize, row: &mut [u
 {
     let panned = panned(display) as usize;
     if panned == 0 {
-        draw_characters::<CW>(display, count, row);
+        draw_characters::<CW>(display, 0, count, row);
     } else {
         draw_panned::<CW>(display, count, panned, row);
     }
@@ -110,5 +139,42 @@ pub fn draw_line<const CW: usize>(display: &Display<'_>, row: &mut [u8])
         fill::<CW>(row, count, masked(display.dac(), display.attr().overscan()));
     } else {
         draw_shown::<CW>(display, count, row);
+    }
+}
+
+/// Draws so many dots of the beam's line, which shows memory, from the beam's dot on: the
+/// characters in which they lie are drawn beside the row, from their first dots to their last.
+fn draw_part_shown<const CW: usize>(display: &Display<'_>, count: usize, row: &mut [u8])
+    requires memory { ShowsMemory display.now }
+    requires count { count ≤ 128 }
+    requires width { CW ≡ character_width display.now.host }
+    requires room { 3 * count ≤ length row.old }
+    ensures { IsPartDrawn CW count display.now row.old row.new }
+{
+    let beam = display.beam();
+    let start = beam.dot as usize + panned(display) as usize;
+    let first = beam.character as usize + start / CW;
+    let skipped = start % CW;
+    let characters = (skipped + count + CW - 1) / CW;
+    let mut unpanned = [0; PART_BYTES];
+    draw_characters::<CW>(display, first, characters, &mut unpanned);
+    copy_dots(row, &unpanned, skipped, count);
+}
+
+/// Writes red, green and blue of so many dots of the beam's line, at most 128, from the beam's dot
+/// on: as `dot_colour` has them with the beam there. No other byte of the row changes. A character
+/// is `CW` dots wide. Where a frame begins, its start is to be taken first (`Crtc::take_start`).
+pub fn draw_part<const CW: usize>(display: &Display<'_>, count: usize, row: &mut [u8])
+    requires count { count ≤ 128 }
+    requires width { CW ≡ character_width display.now.host }
+    requires room { 3 * count ≤ length row.old }
+    ensures { IsPartDrawn CW count display.now row.old row.new }
+{
+    if display.host().is_screen_off() {
+        fill::<1>(row, count, BLACK);
+    } else if !display.attr().is_palette_shown() {
+        fill::<1>(row, count, masked(display.dac(), display.attr().overscan()));
+    } else {
+        draw_part_shown::<CW>(display, count, row);
     }
 }

@@ -9,6 +9,7 @@ pub loop-x-preserved : goal.loop-x-preserved
 loop-x-preserved g c =
     let d = c.args.display.now in
     let x = c.loop-x.x in
-    characters_more g.row.CW x (unpanned_colour d) c.args.row.now c.loop-x.row c.put.new.row c.loop-x.invariant
-    (subst (λ (b : Beam). AreDotsPut g.row.CW (x * g.row.CW) (λ i. source_colour d (dot_of ((b.base + x) % 65536) i)) c.loop-x.row c.put.new.row)
+    let first = c.args.first in
+    characters_more g.row.CW x (λ x. unpanned_colour d (first + x)) c.args.row.now c.loop-x.row c.put.new.row c.loop-x.invariant
+    (subst (λ (b : Beam). AreDotsPut g.row.CW (x * g.row.CW) (λ i. source_colour d (dot_of ((b.base + (first + x)) % 65536) i)) c.loop-x.row c.put.new.row)
     c.beam-base.ensures.value c.put.ensures)

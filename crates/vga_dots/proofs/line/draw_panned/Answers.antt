@@ -1,6 +1,6 @@
 use Rattle.std.proofs.Common.{◌+◌, arith}
 use Rattle.std.proofs.lemmas.Nat.{mul-le}
-use Rattle.vga_dots.proofs.LineLemmas.{line_panned, narrow, eight_wide}
+use Rattle.vga_dots.proofs.LineLemmas.{from_first, line_panned, narrow, eight_wide}
 use Rattle.vga_dots.proofs.line.draw_panned.Goals as goal
 
 pub draw_characters-requires-clause-width : goal.draw_characters-requires-clause-width
@@ -20,4 +20,4 @@ pub returns : goal.returns
 returns g c =
     let some = eight_wide c.args.display.now.host g.row.CW c.requires.width in
     line_panned g.row.CW c.args.display.now c.requires.width c.args.count c.args.panned _ c.draw_characters.new.row c.args.row.now c.copy_dots.new.row
-    c.requires.panned (omega (arith, c.requires.few, some)) c.draw_characters.ensures c.copy_dots.ensures
+    c.requires.panned (omega (arith, c.requires.few, some)) (from_first _ _ _ _ _ c.draw_characters.ensures) c.copy_dots.ensures

@@ -1,6 +1,6 @@
 use Rattle.std.proofs.Common.{◌≡◌, sym, ◌∙◌, arith}
 use Rattle.vga_dots.specs.SourceDot.{panned}
-use Rattle.vga_dots.proofs.LineLemmas.{line_unpanned, narrow}
+use Rattle.vga_dots.proofs.LineLemmas.{from_first, line_unpanned, narrow}
 use Rattle.vga_dots.proofs.line.draw_shown.Goals as goal
 
 pub draw_characters-requires-clause-width : goal.draw_characters-requires-clause-width
@@ -11,4 +11,4 @@ returns-then-panned-eq0 g c =
     let d = c.args.display.now in
     let unmoved : c.panned-panned.result ≡ 0 = omega arith in
     let none : panned d.host d.crtc d.attr ≡ 0 = sym c.panned-panned.ensures.value ∙ unmoved in
-    line_unpanned g.row.CW d c.requires.width c.args.count c.args.row.now c.draw_characters.new.row none c.draw_characters.ensures
+    line_unpanned g.row.CW d c.requires.width c.args.count c.args.row.now c.draw_characters.new.row none (from_first _ _ _ _ _ c.draw_characters.ensures)
