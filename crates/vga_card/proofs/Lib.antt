@@ -8,3 +8,4 @@ pub mod BoundLemmas
 pub mod RowLemmas
 pub mod LineLemmas
 pub mod DrawnLemmas
+pub mod PartLemmas

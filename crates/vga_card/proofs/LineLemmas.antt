@@ -40,7 +40,7 @@ pub started_start : StartStays → (c : CrtcState) → IsLineStart c.beam → Is
 unfolding after_start
 started_start stays c start = start_stays stays c.registers c.beam start
 
-few_dots : (c : CardState) → (0 < line_count c) × (line_count c ≤ frame_count c)
+pub few_dots : (c : CardState) → (0 < line_count c) × (line_count c ≤ frame_count c)
 unfolding dots_in_frame dots_in_line
 few_dots c = (omega arith, omega arith)
 

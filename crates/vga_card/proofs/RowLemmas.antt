@@ -83,7 +83,7 @@ three_are n bs c l three h =
 
 -- ---- the dots of a displayed line
 
-shown_dot : (d : DisplayState) (x k : ℕ) → x ≤ horizontal_display_end d.crtc.registers → d.crtc.beam.line ≤ vertical_display_end d.crtc.registers
+pub shown_dot : (d : DisplayState) (x k : ℕ) → x ≤ horizontal_display_end d.crtc.registers → d.crtc.beam.line ≤ vertical_display_end d.crtc.registers
     → display_dot d.host (placed d.crtc x k) d.attr d.dac ≡ record { line = d.crtc.beam.line; colour = dot_colour d.host (placed d.crtc x k) d.attr d.dac } ∷ []
 unfolding display_dot
 shown_dot d x k in_line in_frame =
@@ -92,7 +92,7 @@ shown_dot d x k in_line in_frame =
     else []) (le-leb x (horizontal_display_end d.crtc.registers) in_line)
     ∙ ap (λ v. if v then dots else []) (le-leb d.crtc.beam.line (vertical_display_end d.crtc.registers) in_frame)
 
-hidden_dot : (d : DisplayState) (x k : ℕ) → horizontal_display_end d.crtc.registers < x → display_dot d.host (placed d.crtc x k) d.attr d.dac ≡ []
+pub hidden_dot : (d : DisplayState) (x k : ℕ) → horizontal_display_end d.crtc.registers < x → display_dot d.host (placed d.crtc x k) d.attr d.dac ≡ []
 unfolding display_dot
 hidden_dot d x k past =
     let dots : List Dot = record { line = d.crtc.beam.line; colour = dot_colour d.host (placed d.crtc x k) d.attr d.dac } ∷ [] in
@@ -103,7 +103,7 @@ and_false : (v : Bool) (dots : List Dot) → (if v && false then dots else []) �
 and_false true dots = refl
 and_false false dots = refl
 
-hidden_line_dot : (d : DisplayState) (x k : ℕ) → vertical_display_end d.crtc.registers < d.crtc.beam.line →
+pub hidden_line_dot : (d : DisplayState) (x k : ℕ) → vertical_display_end d.crtc.registers < d.crtc.beam.line →
     display_dot d.host (placed d.crtc x k) d.attr d.dac ≡ []
 unfolding display_dot
 hidden_line_dot d x k past =
@@ -118,7 +118,7 @@ three_of : (v : Bool) (x y z : ℕ) → (if v then 0 ∷ 0 ∷ 0 ∷ [] else x �
 three_of true x y z = refl
 three_of false x y z = refl
 
-three_bytes : (h : HostState) (c : CrtcState) (a : AttrState) (d : DacState) → dot_colour h c a d
+pub three_bytes : (h : HostState) (c : CrtcState) (a : AttrState) (d : DacState) → dot_colour h c a d
     ≡ slice_index (dot_colour h c a d) 0 ∷ slice_index (dot_colour h c a d) 1 ∷ slice_index (dot_colour h c a d) 2 ∷ []
 unfolding dot_colour
 three_bytes h c a d =

@@ -5,18 +5,19 @@ ghost use Rattle.std.specs.Prelude.{IfOk, IfSome, IsOkUnless};
 ghost use Rattle.vga_bits.specs.Bytes.{zeros};
 ghost use Rattle.vga_host.specs.Fields.{character_width};
 ghost use Rattle.vga_crtc.specs.Fields.{vertical_display_end};
-ghost use Rattle.vga_dots.specs.Line.{shown_characters, IsLineDrawn};
+ghost use Rattle.vga_crtc.specs.Raster.{dot_number};
+ghost use Rattle.vga_dots.specs.Line.{shown_characters, IsLineDrawn, IsPartDrawn};
 ghost use Rattle.vga_card.specs.Picture.{Dot, widest, highest, bytes_of, shape, rows, IsPictureOf};
 ghost use Rattle.vga_card.specs.Frames.{IsSmall};
-ghost use Rattle.vga_card.specs.Canvas.{IsSmallShape, blank_canvas, width_with};
-ghost use Rattle.vga_card.specs.Line.{line_dots, IsLineAppended};
+ghost use Rattle.vga_card.specs.Canvas.{IsSmallShape, blank_canvas, width_with, width_more};
+ghost use Rattle.vga_card.specs.Line.{line_dots, part_dots, IsLineAppended, IsPartAppended};
 
 use crate::drawn::Drawn;
 use crate::shape::{Shape, count_rows};
 use std::alloc::Global;
 use std::marker::Model;
 use vga_bits::Fault;
-use vga_dots::{Display, draw_line};
+use vga_dots::{Display, draw_line, draw_part};
 
 /// How many dots a line can have: 256 characters of 9 dots.
 const WIDEST: usize = 2_304;
@@ -145,6 +146,34 @@ fn put_line<const CW: usize>(display: &Display<'_>, buffer: &mut Vec<u8>, used: 
     draw_at::<CW>(display, buffer.as_mut_slice(), used);
 }
 
+/// Writes so many dots of the beam's line, three bytes each, from the beam's on, over those bytes
+/// that stand from `at` on.
+fn draw_part_at<const CW: usize>(display: &Display<'_>, count: usize, bytes: &mut [u8], at: usize)
+    requires count { count ≤ 128 }
+    requires width { CW ≡ character_width display.now.host }
+    requires room { at + 3 * count ≤ length bytes.old }
+    ensures front { take at bytes.new ≡ take at bytes.old }
+    ensures drawn { IsPartDrawn CW count display.now (drop at bytes.old) (drop at bytes.new) }
+{
+    draw_part::<CW>(display, count, &mut bytes[at..]);
+}
+
+/// Puts so many dots of the beam's line, from the beam's on, behind the first `used` bytes of a
+/// buffer, which has memory for them.
+fn put_part<const CW: usize>(display: &Display<'_>, count: usize, buffer: &mut Vec<u8>, used: usize)
+    requires count { count ≤ 128 }
+    requires width { CW ≡ character_width display.now.host }
+    requires used { used ≤ length buffer.old.items }
+    requires room { used + 3 * count ≤ vec_capacity buffer.old }
+    ensures part { IsPartAppended CW count display.now (take used buffer.old.items)
+        (take (used + 3 * count) buffer.new.items) }
+    ensures len { used + 3 * count ≤ length buffer.new.items }
+    ensures capacity { vec_capacity buffer.old ≤ vec_capacity buffer.new }
+{
+    lengthen(buffer, used + 3 * count);
+    draw_part_at::<CW>(display, count, buffer.as_mut_slice(), used);
+}
+
 impl Canvas {
     /// No dots, with room for the largest frame: no later call takes memory. It fails with
     /// `OutOfMemory` alone.
@@ -202,6 +231,31 @@ impl Canvas {
         self.used += 3 * dots;
         let width = &mut self.widths[line as usize];
         *width += dots as u32;
+        self.line = line;
+    }
+
+    /// Adds so many dots of the beam's line, at most 128, from the beam's on, all of them
+    /// displayed, to the last line or to one after it.
+    pub(crate) fn add_part<const CW: usize>(&mut self, display: &Display<'_>, count: usize)
+        requires width { CW ≡ character_width display.now.host }
+        requires count { count ≤ 128 }
+        requires shown { display.now.crtc.beam.line
+            ≤ vertical_display_end display.now.crtc.registers }
+        requires inside { dot_number CW display.now.crtc.beam + count
+            ≤ shown_characters display.now.crtc.registers * CW }
+        requires lines { display.now.crtc.beam.line < highest }
+        requires after { self.old.line ≤ display.now.crtc.beam.line }
+        requires room { display.now.crtc.beam.line ≡ self.old.line →
+            self.old.width + count ≤ widest }
+        ensures dots { self.new.dots ≡ self.old.dots ++ part_dots count display.now }
+        ensures line { self.new.line ≡ display.now.crtc.beam.line }
+        ensures width { self.new.width ≡ width_more self.old display.now.crtc.beam.line count }
+    {
+        let line = display.beam().line;
+        put_part::<CW>(display, count, &mut self.buffer, self.used);
+        self.used += 3 * count;
+        let width = &mut self.widths[line as usize];
+        *width += count as u32;
         self.line = line;
     }
 

@@ -1,19 +1,27 @@
 //! Dots of the adapter's clock.
-ghost use Rattle.std.specs.Prelude.{◌≡◌, ◌≤◌, ◌↔◌, ◌⊎◌, ◌++◌, IsOk, OnOk, IfErr};
+ghost use Rattle.std.specs.Prelude.{◌≡◌, ◌<◌, ◌≤◌, ◌↔◌, ◌⊎◌, ◌+◌, ◌-◌, ◌*◌, ◌++◌, min};
+ghost use Rattle.std.specs.Prelude.{IsOk, OnOk, IfErr};
+ghost use Rattle.vga_host.specs.Fields.{character_width as host_width};
 ghost use Rattle.vga_crtc.specs.Beam.{after_start, after_dot};
-ghost use Rattle.vga_crtc.specs.Raster.{IsLineStart};
-ghost use Rattle.vga_card.specs.Dots.{fresh_dots, display_dot, dot, dots, most_dots};
-ghost use Rattle.vga_card.specs.Line.{line_dots, line_count};
+ghost use Rattle.vga_crtc.specs.Fields.{horizontal_display_end};
+ghost use Rattle.vga_crtc.specs.Raster.{IsLineStart, IsInLine, dot_number, dots_in_line};
+ghost use Rattle.vga_dots.specs.Line.{shown_characters as characters_shown};
+ghost use Rattle.vga_card.specs.Dots.{character_width, fresh_dots, display_dot, dot, dots};
+ghost use Rattle.vga_card.specs.Dots.{most_dots};
+ghost use Rattle.vga_card.specs.Line.{line_dots, part_dots, line_count};
 ghost use Rattle.vga_card.specs.Valid.{fresh_count, IsDrawnTo};
 
 use super::Card;
 use crate::canvas::Canvas;
 use vga_attr::Attr;
 use vga_bits::Refusal;
-use vga_crtc::laws::{beam_in_line, dot_moves, frame_ends, line_moves, start_is_taken_once};
+use vga_crtc::laws::{
+    beam_goes_in_line, beam_in_line, dot_moves, frame_ends, line_ends, line_moves,
+    start_is_taken_once,
+};
 use vga_crtc::{Beam, Crtc};
 use vga_dac::Dac;
-use vga_dots::{Display, dot_colour, shown_characters};
+use vga_dots::{Display, MOST_PART, dot_colour, shown_characters};
 use vga_host::Host;
 
 /// The most dots that one step may advance.
@@ -68,6 +76,48 @@ fn draw_row(display: &Display<'_>, canvas: &mut Canvas)
     }
 }
 
+/// How many of the next `n` dots are displayed, at one of the beam's line that is.
+fn shown_count(display: &Display<'_>, n: u32) -> usize
+    requires inside { IsInLine (host_width display.now.host) display.now.crtc.registers
+        display.now.crtc.beam }
+    requires shown { display.now.crtc.beam.character
+        ≤ horizontal_display_end display.now.crtc.registers }
+    ensures few { characters_shown display.now.crtc.registers ≤ 256 }
+    ensures value { result ≡ min n (characters_shown display.now.crtc.registers
+        * host_width display.now.host
+        - dot_number (host_width display.now.host) display.now.crtc.beam) }
+{
+    let width = display.host().character_width() as u32;
+    let beam = display.beam();
+    let at = beam.character as u32 * width + beam.dot as u32;
+    let shown = shown_characters(display.crtc().fields()) as u32 * width;
+    n.min(shown.saturating_sub(at)) as usize
+}
+
+/// Adds the display dots among the next `n` dots of the beam's line, the start of whose frame is
+/// taken.
+fn draw_dots(display: &Display<'_>, canvas: &mut Canvas, n: u32)
+    requires place { IsDrawnTo display.now.crtc.beam 0 canvas.old.line canvas.old.width }
+    requires inside { IsInLine (host_width display.now.host) display.now.crtc.registers
+        display.now.crtc.beam }
+    requires few { n ≤ dots_in_line (host_width display.now.host) display.now.crtc.registers
+        display.now.crtc.beam }
+    requires at_most { n ≤ 128 }
+    ensures dots { canvas.new.dots ≡ canvas.old.dots ++ part_dots n display.now }
+    ensures place { IsDrawnTo display.now.crtc.beam n canvas.new.line canvas.new.width }
+{
+    beam_goes_in_line();
+    let crtc = display.crtc();
+    if crtc.is_display() {
+        let count = shown_count(display, n);
+        if display.host().is_eight_dots() {
+            canvas.add_part::<8>(display, count);
+        } else {
+            canvas.add_part::<9>(display, count);
+        }
+    }
+}
+
 impl Card {
     /// Takes the dots of a whole line, at whose first dot the beam is.
     fn take_line(&mut self)
@@ -84,6 +134,28 @@ impl Card {
         let display = Display::new(&self.host, &self.crtc, &self.attr, &self.dac);
         draw_row(&display, &mut self.canvas);
         self.crtc.step_line(width);
+    }
+
+    /// Takes `n` dots of the line, at a dot of which the beam is.
+    fn take_part(&mut self, n: u32)
+        requires some { 0 < n }
+        requires inside { IsInLine (character_width self.old) self.old.crtc.registers
+            self.old.crtc.beam }
+        requires few { n ≤ line_count self.old }
+        requires at_most { n ≤ 128 }
+        ensures { self.new ≡ dots n self.old }
+    {
+        start_is_taken_once();
+        beam_goes_in_line();
+        line_ends();
+        line_moves();
+        frame_ends();
+        let width = self.host.character_width();
+        clear_at_first_dot(self.crtc.beam(), &mut self.canvas);
+        self.crtc.take_start();
+        let display = Display::new(&self.host, &self.crtc, &self.attr, &self.dac);
+        draw_dots(&display, &mut self.canvas, n);
+        self.crtc.step_dots(width, n);
     }
 
     /// Takes one dot.
@@ -104,7 +176,7 @@ impl Card {
         );
     }
 
-    /// Takes so many dots, by whole lines where it can.
+    /// Takes so many dots, by whole lines and parts of lines where it can.
     pub(super) fn take_dots(&mut self, n: u32)
         ensures { self.new ≡ dots n self.old }
     {
@@ -115,6 +187,12 @@ impl Card {
             if beam.character == 0 && beam.dot == 0 && self.crtc.dots_in_line(width) <= left {
                 left -= self.crtc.dots_in_line(width);
                 self.take_line();
+            } else if 1 < left && self.crtc.is_in_line(width) {
+                let part = left
+                    .min(self.crtc.dots_in_line(width))
+                    .min(MOST_PART as u32);
+                self.take_part(part);
+                left -= part;
             } else {
                 self.take_dot();
                 left -= 1;
