@@ -4,6 +4,7 @@
 //! they are read and written.
 #![tactic(auto)]
 
+mod cut_advances;
 mod difference;
 mod hexadecimal;
 mod item;
@@ -12,14 +13,13 @@ mod picture;
 mod report_text;
 mod running;
 mod setting;
-mod single_dots;
 
 use anyhow::{Context, Result, bail};
+use cut_advances::{Cut, answers};
 use difference::{Difference, first_difference};
 use item::{Case, Form, Item};
 use report_text::shown_report;
 use setting::Setting;
-use single_dots::{answers, by_single_dots};
 use std::alloc::Global;
 use std::process::ExitCode;
 use std::rt::{Env, Files};
@@ -110,27 +110,29 @@ fn answers_of(alloc: Global, text: &str, setting: &Setting) -> Result<Option<Str
     Ok(Some(answers(alloc, shown.as_str())?))
 }
 
-/// Where a text answers otherwise if its advances are taken by single dots; None where there is
-/// nothing to compare, since it has no advance for that or is no script.
-fn difference_by_single_dots(
+/// Where a text answers otherwise if its advances are cut; None where there is nothing to compare,
+/// since it has no advance for that or is no script.
+fn difference_by_cut(
     alloc: Global,
+    cut: Cut,
     text: &str,
     setting: &Setting,
 ) -> Result<Option<Option<Difference>>> {
-    let Some(single) = by_single_dots(alloc, text)? else {
+    let Some(cut_text) = cut.of_text(alloc, text)? else {
         return Ok(None);
     };
     let Some(expected) = answers_of(alloc, text, setting)? else {
         return Ok(None);
     };
-    let got = answers_of(alloc, single.as_str(), setting)?.unwrap_or(String::new(alloc));
+    let got = answers_of(alloc, cut_text.as_str(), setting)?.unwrap_or(String::new(alloc));
     Ok(Some(first_difference(alloc, got.as_str(), expected.as_str())?))
 }
 
-/// Takes the advances of a case by single dots, prints whether it answers the same, and counts it.
-fn check_single_dots<R: Files + Print + AllocGlobal>(
+/// Cuts the advances of a case, prints whether it answers the same, and counts it.
+fn check_cut<R: Files + Print + AllocGlobal>(
     rt: &R,
     case: &Case,
+    cut: Cut,
     setting: &Setting,
     tally: &mut Tally,
 ) -> Result<()> {
@@ -139,12 +141,13 @@ fn check_single_dots<R: Files + Print + AllocGlobal>(
     let Ok(text) = from_utf8(text.as_slice()) else {
         return Ok(());
     };
-    let Some(difference) = difference_by_single_dots(rt.alloc(), text, setting)? else {
+    let Some(difference) = difference_by_cut(rt.alloc(), cut, text, setting)? else {
         return Ok(());
     };
+    let by = cut.name();
     match &difference {
-        None => println!(rt; "{name} ok by single dots")?,
-        Some(difference) => println!(rt; "{name} by single dots differs at {difference}")?,
+        None => println!(rt; "{name} ok by {by}")?,
+        Some(difference) => println!(rt; "{name} by {by} differs at {difference}")?,
     }
     tally.count(difference.is_none());
     Ok(())
@@ -170,7 +173,8 @@ fn take_item<R: Files + Print + AllocGlobal>(
         Item::Case(case) => {
             tally.count(check_case(rt, &case, setting)?);
             if case.is_of_whole_text() {
-                check_single_dots(rt, &case, setting, tally)?;
+                check_cut(rt, &case, Cut::SingleDots, setting, tally)?;
+                check_cut(rt, &case, Cut::Parts, setting, tally)?;
             }
         }
     }
