@@ -12,7 +12,7 @@ use vga_planes::PlaneSet;
 
 impl Host {
     /// The window's first address, and how many it has.
-    fn window(&self) -> (u32, u32)
+    pub(super) fn window(&self) -> (u32, u32)
         ensures start { result.0 ≡ window_start self.now }
         ensures len { result.1 ≡ window_len self.now }
     {

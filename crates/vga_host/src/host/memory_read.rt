@@ -61,7 +61,7 @@ impl Host {
     }
 
     /// The answer to a read at a place in the window, from the bytes loaded.
-    fn read_byte(&self, place: u16, bytes: Latch) -> u8
+    pub(super) fn read_byte(&self, place: u16, bytes: Latch) -> u8
         ensures { result ≡ byte_of (λ i. read_bit self.now place bytes i) }
     {
         self.read_bits(place, bytes)

@@ -1,0 +1,7 @@
+use Rattle.vga_host.proofs.RunLemmas.{move_kept}
+use Rattle.vga_host.proofs.host.Host.move_bytes.Goals as goal
+
+pub loop-i-preserved : goal.loop-i-preserved
+loop-i-preserved c =
+    move_kept c.aim-aim.result c.args.misc c.args.from c.args.to c.args.n c.loop-i.i c.loop-i.self c.move_aimed.new.self _ c.loop-i-test.true
+    c.move_aimed.ensures c.loop-i.invariant

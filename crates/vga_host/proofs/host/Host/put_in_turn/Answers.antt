@@ -1,0 +1,19 @@
+-- A turn keeps what the registers say, and leaves what the other turns begin with.
+use Rattle.std.proofs.Common.{◌∙◌, ap, ◌+◌}
+use Rattle.vga_host.specs.Runs.{put_bytes}
+use Rattle.vga_host.proofs.RunLemmas.{turn_kept, even_in_turn, odd_in_turn}
+use Rattle.vga_host.proofs.host.Host.put_in_turn.Goals as goal
+use Rattle.vga_host.proofs.host.Host.put_in_turn.Goals.{then-i-eq0, else-i-eq0}
+
+pub loop-i-preserved : goal.loop-i-preserved
+loop-i-preserved c =
+    elim c.if-i-eq0.branch [
+      | then-i-eq0 w ↦ turn_kept c.aim-aim.result c.written_aimed-bytes.result c.written_aimed-others.result c.args.misc c.args.first c.args.even c.args.odd
+          c.args.n
+          c.loop-i.i c.args.even c.loop-i.self c.if-i-eq0.self _ c.loop-i-test.true (even_in_turn c.args.even c.args.odd c.loop-i.i w.if-i-eq0.true) (w.self-is
+          ∙ w.put_aimed.ensures ∙ ap (put_bytes c.loop-i.self c.args.misc (c.args.first + c.loop-i.i)) c.loop-i.invariant.1) c.loop-i.invariant
+      | else-i-eq0 w ↦ turn_kept c.aim-aim.result c.written_aimed-bytes.result c.written_aimed-others.result c.args.misc c.args.first c.args.even c.args.odd
+          c.args.n
+          c.loop-i.i c.args.odd c.loop-i.self c.if-i-eq0.self _ c.loop-i-test.true (odd_in_turn c.args.even c.args.odd c.loop-i.i w.if-i-eq0.false) (w.self-is
+          ∙ w.put_aimed-else-i-eq0.ensures ∙ ap (put_bytes c.loop-i.self c.args.misc (c.args.first + c.loop-i.i)) c.loop-i.invariant.2) c.loop-i.invariant
+    ]

@@ -1,0 +1,80 @@
+-- Runs of writes: a byte to each of some addresses that follow one another, in ascending order.
+-- From the IBM PS/2 Hardware Interface Technical Reference, Video Subsystems: no write to memory
+-- changes a register or a latch.
+use Rattle.std.specs.Prelude.{ℕ, zero, suc, ◌≡◌, ◌+◌, ◌-◌, ◌*◌, ◌/◌, ◌%◌, ◌<◌, ◌==◌, ◌&&◌, ◌||◌}
+use Rattle.std.specs.Prelude.{Bool, true, false, if◌then◌else◌, slice_set}
+use Rattle.vga_bits.specs.Bits.{is_set}
+use Rattle.vga_bits.specs.Four.{Four, four, of_plane}
+use Rattle.vga_host.specs.declared.host.runs.Aim.{Aim}
+use Rattle.vga_host.specs.Host.{HostState}
+use Rattle.vga_host.specs.Fields.{is_memory_enabled, is_in_map_mask, is_odd_even_off, is_chain_four}
+use Rattle.vga_host.specs.Fields.{is_chain_odd_even, write_mode, rotate_count, function_select}
+use Rattle.vga_host.specs.Fields.{is_set_reset_enabled, bit_mask}
+use Rattle.vga_host.specs.Address.{is_decoded, window_start, window_len, window_offset}
+use Rattle.vga_host.specs.Address.{plane_offset, is_reached}
+use Rattle.vga_host.specs.MemoryWrite.{after_put}
+use Rattle.vga_host.specs.MemoryRead.{read_byte, after_get}
+
+-- a write to any address: one that is not decoded changes nothing
+abbrev pub put_where : HostState → ℕ → ℕ → ℕ → HostState
+put_where h misc address v = if is_decoded h misc address then after_put h address v else h
+
+-- n writes from number i on: write i is of byte f i, to the address i after the first
+abbrev pub after_puts : ℕ → ℕ → (ℕ → ℕ) → ℕ → ℕ → HostState → HostState
+after_puts misc first f zero i h = h
+after_puts misc first f (suc n) i h = after_puts misc first f n (i + 1)
+    (put_where h misc (first + i) (f i))
+
+-- a write that leaves these four bytes in the planes that it reaches, at any address
+abbrev pub put_bytes : HostState → ℕ → ℕ → Four ℕ → HostState
+put_bytes h misc address bytes =
+    if is_decoded h misc address
+    then record h {
+      memory = four (λ p. if is_reached h (window_offset h address) p
+          then slice_set (of_plane h.memory p) (plane_offset h (window_offset h address))
+          (of_plane bytes p) else of_plane h.memory p);
+    }
+    else h
+
+-- a read of any address, and its byte: one that is not decoded changes nothing, and gives FF
+abbrev pub get_where : HostState → ℕ → ℕ → HostState
+get_where h misc address = if is_decoded h misc address then after_get h address else h
+
+abbrev pub byte_where : HostState → ℕ → ℕ → ℕ
+byte_where h misc address = if is_decoded h misc address then read_byte h address else 0xFF
+
+-- a byte is read at one address, and written at another
+abbrev pub move_where : HostState → ℕ → ℕ → ℕ → HostState
+move_where h misc from to = put_where (get_where h misc from) misc to (byte_where h misc from)
+
+-- n such moves from number i on: move i is from the address i after the first, to that i after the
+-- other
+abbrev pub after_moves : ℕ → ℕ → ℕ → ℕ → ℕ → HostState → HostState
+after_moves misc from to zero i h = h
+after_moves misc from to (suc n) i h = after_moves misc from to n (i + 1)
+    (move_where h misc (from + i) (to + i))
+
+-- two bytes in turn
+abbrev pub in_turn : ℕ → ℕ → ℕ → ℕ
+in_turn even odd w = if w % 2 == 0 then even else odd
+
+-- a write replaces bytes as they are: write mode 0, no rotation, no function, no plane whose bit is
+-- its own, and each bit let through
+pub record IsPlain (h : HostState) : Type 0 where
+  pub mode : write_mode h ≡ 0
+  pub rotate : rotate_count h ≡ 0
+  pub function : function_select h ≡ 0
+  pub own : (p : ℕ) → p < 4 → is_set_reset_enabled h p ≡ false
+  pub mask : (i : ℕ) → i < 8 → bit_mask h i ≡ 1
+
+-- what registers say of every write: the window, which is empty where the memory does not answer,
+-- how places are shared out to planes, and the map mask
+pub record IsAim (aim : Aim) (h : HostState) (misc : ℕ) : Type 0 where
+  pub enabled : aim.enabled ≡ is_memory_enabled misc
+  pub start : aim.start ≡ window_start h
+  pub len : aim.len ≡ window_len h
+  pub four : aim.four ≡ is_chain_four h
+  pub pairs : aim.pairs ≡ is_chain_odd_even h
+  pub all : aim.all ≡ is_odd_even_off h
+  pub mask : (p : ℕ) → is_set aim.mask p ≡ is_in_map_mask h p
+  pub plain : aim.plain ≡ true → IsPlain h
