@@ -1,9 +1,14 @@
 //! What answers cycles of a byte at ports and addresses.
-ghost use Rattle.std.specs.Prelude.{◌≡◌};
-ghost use Rattle.vga_card.specs.Bus.{Meaning, AtPort, AtAddress, card_meaning};
+ghost use Rattle.std.specs.Prelude.{◌≡◌, ◌<◌, ◌+◌, ◌^◌, length, slice_index};
+ghost use Rattle.vga_card.specs.Bus.{Meaning, AtPort, AtAddress, card_meaning, after_puts};
+ghost use Rattle.vga_card.specs.Bus.{after_moves};
+ghost use Rattle.vga_host.specs.Runs.{in_turn};
 
 use crate::card::Card;
 use vga_bits::Refusal;
+
+/// What a refused read gives where it is moved.
+const REFUSED: u8 = 0xFF;
 
 /// What answers cycles of a byte at ports and addresses: an adapter, or what stands in its place.
 pub trait Bus {
@@ -25,6 +30,33 @@ pub trait Bus {
     /// Reads a byte from an address of memory. It fails where the bus refuses the cycle.
     fn get(&mut self, address: u32) -> Result<u8, Refusal>
         ensures { (self.new, result) ≡ meaning.read self.old (AtAddress address) };
+
+    /// Writes two bytes in turn to n addresses from the first on. A refused write does nothing.
+    fn put_in_turn(&mut self, first: u32, n: u32, even: u8, odd: u8)
+        requires { first + n < 2 ^ 32 }
+        ensures { self.new ≡ after_puts meaning first (in_turn even odd) n 0 self.old }
+    {
+        for i in 0..n {
+            let byte = if i % 2 == 0 { even } else { odd };
+            let _ = self.put(first + i, byte);
+        }
+    }
+
+    /// Moves n bytes, in ascending order: each is read at an address, and written at another. A
+    /// refused write does nothing, and a refused read gives FF.
+    fn move_bytes(&mut self, from: u32, to: u32, n: u32)
+        requires from { from + n < 2 ^ 32 }
+        requires to { to + n < 2 ^ 32 }
+        ensures { self.new ≡ after_moves meaning from to n 0 self.old }
+    {
+        for i in 0..n {
+            let byte = match self.get(from + i) {
+                Ok(byte) => byte,
+                Err(_) => REFUSED,
+            };
+            let _ = self.put(to + i, byte);
+        }
+    }
 }
 
 /// A cycle of an adapter is the register table's.
@@ -45,5 +77,13 @@ impl Bus for Card {
 
     fn get(&mut self, address: u32) -> Result<u8, Refusal> {
         Card::get(self, address)
+    }
+
+    fn put_in_turn(&mut self, first: u32, n: u32, even: u8, odd: u8) {
+        Card::put_in_turn(self, first, n, even, odd);
+    }
+
+    fn move_bytes(&mut self, from: u32, to: u32, n: u32) {
+        Card::move_bytes(self, from, to, n);
     }
 }
