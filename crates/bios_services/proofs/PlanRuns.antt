@@ -1,8 +1,9 @@
 -- What plans leave, one after another and turn by turn.
-use Rattle.std.proofs.Common.{◌≡◌, ℕ, suc, ◌+◌, ◌-◌, ◌<◌, ◌≤◌, refl, sym, ap, ◌∙◌, arith, List, [], ◌∷◌, ◌++◌, take, set, length, append_assoc}
+use Rattle.std.proofs.Common.{◌≡◌, ℕ, zero, suc, ◌+◌, ◌-◌, ◌%◌, ◌==◌, ◌<◌, ◌≤◌, refl, sym, ap, ◌∙◌, arith, Bool, true, false, if◌then◌else◌, List, [], ◌∷◌}
+use Rattle.std.proofs.Common.{◌++◌, take, set, length, append_assoc}
 use Rattle.std.proofs.lemmas.List.{take_more_set, take_all, append-nil}
-use Rattle.vga_card.specs.Bus.{Meaning, Place}
-use Rattle.bios_services.specs.Plan.{Plan, Done, Write, Read, ◌>>=◌, run, byte_of, each, each_down, fold, gather}
+use Rattle.vga_card.specs.Bus.{Meaning, Place, AtAddress, in_turn, after_puts, after_move, after_moves}
+use Rattle.bios_services.specs.Plan.{Plan, Done, Write, Read, ◌>>=◌, run, byte_of, put, move, each, each_down, fold, gather}
 
 -- a plan and then another leaves what the other leaves after it
 pub run_bind : {S A B : Type 0} (m : Meaning S) (p : Plan A) (f : A → Plan B) (s : S) → run m (p >>= f) s ≡ (let r = run m p s in run m (f r.1) r.0)
@@ -84,3 +85,23 @@ all_read {S} m f i e s into r h l before =
     let all = take_all i into (omega arith) in
     let same : into ≡ take i into ++ [] = sym (append-nil (take i into) ∙ all) in
     ap (λ xs. let p : S × List ℕ = (s, xs) in p) same ∙ ap (λ k. with_front (take i into) (run m (gather f k i) s)) (sym n) ∙ before
+
+-- a run of writes is the plan of them
+pub puts_run : {S : Type 0} (m : Meaning S) (first : ℕ) (f : ℕ → ℕ) (n i : ℕ) (s : S) →
+    after_puts m first f n i s ≡ (run m (each (λ w. put (first + w) (f w)) n i) s).0
+puts_run m first f zero i s = refl
+puts_run m first f (suc n) i s = puts_run m first f n (i + 1) (m.write s (AtAddress (first + i)) (f i)).0
+
+-- a run of moves is the plan of them
+pub moves_run : {S : Type 0} (m : Meaning S) (from to n i : ℕ) (s : S) → after_moves m from to n i s ≡ (run m (each (λ w. move (from + w) (to + w)) n i) s).0
+moves_run m from to zero i s = refl
+moves_run m from to (suc n) i s = moves_run m from to n (i + 1) (after_move m (from + i) (to + i) s)
+
+either_way : (d : Bool) (b : ℕ) → (if d then b else b) ≡ b
+either_way true b = refl
+either_way false b = refl
+
+-- one byte is two in turn
+pub puts_same : {S : Type 0} (m : Meaning S) (first b n i : ℕ) (s : S) → (run m (each (λ w. put (first + w) (in_turn b b w)) n i) s).0
+    ≡ (run m (each (λ w. put (first + w) b) n i) s).0
+puts_same m first b n i s = λ j. (run m (each (λ w. put (first + w) (either_way (w % 2 == 0) b j)) n i) s).0

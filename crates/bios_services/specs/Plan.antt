@@ -1,8 +1,8 @@
 -- The plan of a service: its cycles in order, of which later ones may depend on the bytes that were
 -- read.
-use Rattle.std.specs.Prelude.{ℕ, zero, suc, ◌+◌, List, [], ◌∷◌, Result, Ok, Err}
+use Rattle.std.specs.Prelude.{ℕ, zero, suc, ◌+◌, List, [], ◌∷◌, Result}
 use Rattle.vga_bits.specs.declared.refusal.Refusal.{Refusal}
-use Rattle.vga_card.specs.Bus.{Meaning, Place, AtPort, AtAddress}
+use Rattle.vga_card.specs.Bus.{Meaning, Place, AtPort, AtAddress, byte_of as moved_byte}
 
 -- a plan is done and has an answer, or asks for one more cycle
 pub data Plan (A : Type 0) : Type 0 where
@@ -24,8 +24,7 @@ p >> q = p >>= λ _. q
 
 -- the byte of a read; a refused one gives FF
 abbrev pub byte_of : Result ℕ Refusal → ℕ
-byte_of (Ok b) = b
-byte_of (Err refusal) = 0xFF
+byte_of r = moved_byte r
 
 -- what a plan leaves on a bus, and its answer; a refused write leaves what the bus says of it
 abbrev pub run : {S A : Type 0} → Meaning S → Plan A → S → S × A

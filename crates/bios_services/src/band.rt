@@ -10,7 +10,7 @@ ghost use Rattle.bios_services.specs.Bands.{fill_rows as fill_rows_plan, access_
 ghost use Rattle.bios_services.specs.Bands.{new_row as new_row_of, scroll_rows as scroll_rows_plan};
 
 use crate::cells::page_address;
-use crate::cycles::{graphics, move_byte, put, sequencer};
+use crate::cycles::{graphics, move_bytes, put_in_turn, sequencer};
 use crate::filling::Filling;
 use crate::kind::{Kind, by_kind, column_bytes, kind_of, row_lines};
 use crate::video_registers::{ALL_BITS, ALL_PLANES, COPY_LATCHES, GRAPHICS_MODE, MAP_MASK, PLAIN};
@@ -104,11 +104,9 @@ impl Band {
         requires line { line ≤ 16 }
         ensures { bus.new ≡ (run B.meaning (copy_line_plan self from to line) bus.old).0 }
     {
-        for i in 0..self.width {
-            let source = self.address(from, line, i);
-            let target = self.address(to, line, i);
-            move_byte(bus, source, target);
-        }
+        let source = self.address(from, line, 0);
+        let target = self.address(to, line, 0);
+        move_bytes(bus, source, target, self.width);
     }
 
     /// Copies a row to another.
@@ -154,9 +152,8 @@ impl Band {
         requires line { line ≤ 16 }
         ensures { bus.new ≡ (run B.meaning (fill_line_plan self filling row line) bus.old).0 }
     {
-        for i in 0..self.width {
-            put(bus, self.address(row, line, i), filling.byte(i));
-        }
+        let first = self.address(row, line, 0);
+        put_in_turn(bus, first, self.width, filling.even, filling.odd);
     }
 
     /// Fills a row.

@@ -1,8 +1,9 @@
 //! The cycles that services are made of. A refused write does nothing, and a refused read gives FF.
-ghost use Rattle.std.specs.Prelude.{◌≡◌, ◌<◌, ◌≤◌, length};
+ghost use Rattle.std.specs.Prelude.{◌≡◌, ◌<◌, ◌≤◌, ◌+◌, ◌^◌, length};
+ghost use Rattle.vga_card.specs.Bus.{in_turn};
 ghost use Rattle.bios_services.specs.Bounds.{ports_end};
 ghost use Rattle.bios_services.specs.Plan.{run, out as out_plan, put as put_plan, inp as inp_plan};
-ghost use Rattle.bios_services.specs.Plan.{get as get_plan, move as move_plan};
+ghost use Rattle.bios_services.specs.Plan.{each, get as get_plan, move as move_plan};
 ghost use Rattle.bios_services.specs.Cycles.{indexed as indexed_plan, sequencer as sequencer_plan};
 ghost use Rattle.bios_services.specs.Cycles.{graphics as graphics_plan};
 ghost use Rattle.bios_services.specs.Cycles.{attribute as attribute_plan, group as group_plan};
@@ -50,12 +51,25 @@ pub(crate) fn get<B: Bus>(bus: &mut B, address: u32) -> u8
     }
 }
 
-/// Reads a byte from an address, and writes it to another.
-pub(crate) fn move_byte<B: Bus>(bus: &mut B, from: u32, to: u32)
-    ensures { bus.new ≡ (run B.meaning (move_plan from to) bus.old).0 }
+/// Writes two bytes in turn to n addresses from the first on.
+#[tactic(auto, using(crate::proofs::PlanRuns::puts_run))]
+pub(crate) fn put_in_turn<B: Bus>(bus: &mut B, first: u32, n: u32, even: u8, odd: u8)
+    requires { first + n < 2 ^ 32 }
+    ensures { bus.new ≡ (run B.meaning (each (λ w. put_plan (first + w) (in_turn even odd w)) n 0)
+        bus.old).0 }
 {
-    let byte = get(bus, from);
-    put(bus, to, byte);
+    bus.put_in_turn(first, n, even, odd);
+}
+
+/// Reads n bytes from some addresses, and writes each to another.
+#[tactic(auto, using(crate::proofs::PlanRuns::moves_run))]
+pub(crate) fn move_bytes<B: Bus>(bus: &mut B, from: u32, to: u32, n: u32)
+    requires from { from + n < 2 ^ 32 }
+    requires to { to + n < 2 ^ 32 }
+    ensures { bus.new ≡ (run B.meaning (each (λ w. move_plan (from + w) (to + w)) n 0)
+        bus.old).0 }
+{
+    bus.move_bytes(from, to, n);
 }
 
 /// Writes register i behind an index port, whose data port is the next.

@@ -1,6 +1,6 @@
 //! The bytes that rows are filled with.
 ghost use Rattle.std.specs.Prelude.{◌≡◌};
-ghost use Rattle.bios_services.specs.Bands.{filling_byte, blank as blank_of, plain as plain_of};
+ghost use Rattle.bios_services.specs.Bands.{blank as blank_of, plain as plain_of};
 
 /// Two bytes in turn.
 #[derive(Clone, Copy)]
@@ -33,12 +33,5 @@ impl Filling {
             even: byte,
             odd: byte,
         }
-    }
-
-    /// What byte i of a line is filled with.
-    pub(crate) fn byte(self, i: u32) -> u8
-        ensures { result ≡ filling_byte self i }
-    {
-        if i % 2 == 0 { self.even } else { self.odd }
     }
 }

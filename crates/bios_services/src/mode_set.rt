@@ -1,13 +1,15 @@
 //! Setting a mode: every register, the palette, the font of a text mode, and the memory.
-ghost use Rattle.std.specs.Prelude.{◌≡◌, ◌<◌, ◌≤◌, ◌+◌, ◌*◌, ◌^◌, if◌then◌else◌};
+ghost use Rattle.std.specs.Prelude.{◌≡◌, ◌<◌, ◌≤◌, ◌+◌, ◌*◌, ◌^◌};
 ghost use Rattle.bios_services.specs.Bounds.{ports_end};
 ghost use Rattle.bios_services.specs.Plan.{run};
 ghost use Rattle.bios_services.specs.ModeSet.{registers_plan, colour_plan, palette_plan};
-ghost use Rattle.bios_services.specs.ModeSet.{blank_byte as blank_byte_of, blank_plan, clear_plan};
+ghost use Rattle.bios_services.specs.ModeSet.{blank_plan, clear_plan};
 ghost use Rattle.bios_services.specs.ModeSet.{text_plan, memory_plan, mode_set_plan};
 
 use crate::cells::GRAPHICS_BASE;
-use crate::cycles::{attribute_group, expect_index, group, indexed, out, put, show_palette};
+use crate::cycles::{
+    attribute_group, expect_index, group, indexed, out, put_in_turn, show_palette,
+};
 use crate::glyph_load::GlyphLoad;
 use crate::video_registers::{
     ALL_BITS, DAC_DATA, DAC_MASK, DAC_WRITE_INDEX, GRAPHICS, MISCELLANEOUS, MISCELLANEOUS_OUTPUT,
@@ -61,12 +63,10 @@ fn write_palette<B: Bus>(bus: &mut B, palette: Palette, n: u16)
     }
 }
 
-/// Byte w of blank cells: a blank, or its attribute.
-fn blank_byte(w: u32) -> u8
-    ensures { result ≡ blank_byte_of w }
-{
-    if w % 2 == 0 { 0x20 } else { 0x07 }
-}
+/// The two bytes of a blank cell: a blank, and its attribute.
+const BLANK: u8 = 0x20;
+
+const ATTRIBUTE_OF_BLANK: u8 = 0x07;
 
 /// Writes n bytes of blank cells from an address on.
 #[tactic(auto, using(crate::proofs::PlanRuns::run_bind), unfolding(crate::specs::ModeSet::blank_plan))]
@@ -74,20 +74,16 @@ fn write_blanks<B: Bus>(bus: &mut B, base: u32, n: u32)
     requires { base + n < 2 ^ 32 }
     ensures { bus.new ≡ (run B.meaning (blank_plan base n) bus.old).0 }
 {
-    for w in 0..n {
-        put(bus, base + w, blank_byte(w));
-    }
+    put_in_turn(bus, base, n, BLANK, ATTRIBUTE_OF_BLANK);
 }
 
 /// Writes n bytes of 0 to the memory of a graphics mode.
-#[tactic(auto, using(crate::proofs::PlanRuns::run_bind), unfolding(crate::specs::ModeSet::clear_plan))]
+#[tactic(auto, using(crate::proofs::PlanRuns::puts_same), unfolding(crate::specs::ModeSet::clear_plan))]
 fn clear<B: Bus>(bus: &mut B, n: u32)
     requires { n ≤ 65536 }
     ensures { bus.new ≡ (run B.meaning (clear_plan n) bus.old).0 }
 {
-    for w in 0..n {
-        put(bus, GRAPHICS_BASE + w, 0);
-    }
+    put_in_turn(bus, GRAPHICS_BASE, n, 0, 0);
 }
 
 /// Writes what a text mode has besides registers and palette.
