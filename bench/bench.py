@@ -48,9 +48,9 @@ def advance(dots):
     return struct.pack("<BI", 0x0A, dots)
 
 
-def service(ax, bx=0, cx=0, dx=0):
-    """A call of the video BIOS, without a block."""
-    return struct.pack("<BHHHHH", 0x09, ax, bx, cx, dx, 0)
+def service(ax, bx=0, cx=0, dx=0, memory=b""):
+    """A call of the video BIOS, with the block that the caller's memory has."""
+    return struct.pack("<BHHHHH", 0x09, ax, bx, cx, dx, len(memory)) + memory
 
 
 def block(count, steps):
@@ -118,6 +118,45 @@ def scrolls():
     return "run", HEADER + service(0x0003) + scroll * 10_000, 10_000, "scrolls"
 
 
+def planar_scrolls():
+    """A whole page of 640 by 480 dots of 16 colours, up by a row of characters."""
+    scroll = service(0x0601, dx=0x1D4F)
+    return "run", HEADER + service(0x0012) + scroll * 500, 500, "scrolls"
+
+
+def byte_scrolls():
+    """A whole page of 256 colours, up by a row of characters."""
+    scroll = service(0x0601, dx=0x1827)
+    return "run", HEADER + service(0x0013) + scroll * 500, 500, "scrolls"
+
+
+def line_feeds():
+    """The longest string of line feeds, on the last row of 640 by 480 dots of 16 colours: each scrolls the page."""
+    feeds = 65_535
+    string = service(0x1300, bx=0x0007, cx=feeds, dx=0x1D00, memory=b"\n" * feeds)
+    return "run", HEADER + service(0x0012) + string, feeds, "line feeds"
+
+
+def short_advances(mode):
+    """Dots as a core hands them over that advances after each instruction, 25 at a time: 18 frames or so."""
+    return "run", BLOCKS + service(mode) + block(60_000, advance(25)) * 5, 300_000, "advances"
+
+
+def text_advances():
+    """Text of 720 by 400 dots, 25 dots at a time."""
+    return short_advances(0x0003)
+
+
+def planar_advances():
+    """16 colours, 640 by 480 dots, 25 dots at a time."""
+    return short_advances(0x0012)
+
+
+def byte_advances():
+    """256 colours, 320 by 200 dots, 25 dots at a time."""
+    return short_advances(0x0013)
+
+
 def teletype():
     """A page of text typed to its last cell but one, again and again: it wraps, and never scrolls."""
     page = b"".join(service(0x0E20 + i % 95) for i in range(1_999))
@@ -156,7 +195,8 @@ def printing():
 
 
 SCRIPTS = (
-    puts, cycles, dots, text_frames, planar_frames, byte_frames, mode_sets, scrolls, teletype, teletype_scrolling,
+    puts, cycles, dots, text_frames, planar_frames, byte_frames, text_advances, planar_advances, byte_advances,
+    mode_sets, scrolls, planar_scrolls, byte_scrolls, line_feeds, teletype, teletype_scrolling,
     repeated, repeated_frames, assembling, printing)
 
 
