@@ -1,0 +1,9 @@
+pub mod Sealed
+pub mod Status
+pub mod Cards
+pub mod Buffers
+pub mod Opening
+pub mod Services
+pub mod Frames
+pub mod Dumps
+pub mod Runs

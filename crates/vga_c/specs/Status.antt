@@ -1,0 +1,52 @@
+-- The number that a call answers: 0 where it is done, that of the refusal, or that of what the call
+-- itself lacks.
+use Rattle.std.specs.Prelude.{ℕ}
+use Rattle.vga_bits.specs.declared.refusal.Refusal.{Refusal}
+use Rattle.vga_bits.specs.declared.refusal.Refusal.TheVariants.{NotDecoded, NotInProfile, NoMode}
+use Rattle.vga_bits.specs.declared.refusal.Refusal.TheVariants.{BadFunction, BadMode, WrongKind}
+use Rattle.vga_bits.specs.declared.refusal.Refusal.TheVariants.{BadPage, Outside, CountPast}
+use Rattle.vga_bits.specs.declared.refusal.Refusal.TheVariants.{BadRegister, BadBlock, TooFar}
+use Rattle.vga_bits.specs.declared.refusal.Refusal.TheVariants.{BadHeight}
+use Rattle.vga_run.specs.declared.answer.Answer.TheVariants.{Byte, Word, Refused}
+use Rattle.vga_run.specs.Answer.{Reply, Plain}
+
+-- the number of a refusal is its own
+abbrev pub refusal_status : Refusal → ℕ
+refusal_status NotDecoded = 1
+refusal_status NotInProfile = 2
+refusal_status NoMode = 3
+refusal_status BadFunction = 4
+refusal_status BadMode = 5
+refusal_status WrongKind = 6
+refusal_status BadPage = 7
+refusal_status Outside = 8
+refusal_status CountPast = 9
+refusal_status BadRegister = 10
+refusal_status BadBlock = 11
+refusal_status TooFar = 12
+refusal_status BadHeight = 13
+
+-- the number of a step's answer: 0, or that of the refusal
+abbrev pub status_of : Reply → ℕ
+status_of (Plain (Refused why)) = refusal_status why
+status_of reply = 0
+
+-- what a step leaves in the caller's variable: what it read, or what was there
+abbrev pub value_of : Reply → ℕ → ℕ
+value_of (Plain (Byte value)) before = value
+value_of (Plain (Word value)) before = value
+value_of reply before = before
+
+-- the numbers of what a call lacks: an open card, memory, room
+abbrev pub no_card : ℕ
+no_card = 20
+
+abbrev pub out_of_memory : ℕ
+out_of_memory = 23
+
+abbrev pub no_room : ℕ
+no_room = 25
+
+-- and of a frame whose rows differ in width
+abbrev pub ragged : ℕ
+ragged = 24

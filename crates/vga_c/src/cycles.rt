@@ -1,0 +1,202 @@
+//! Cycles of an open card, and dots of its clock.
+ghost use Rattle.std.specs.Prelude.{◌≡◌};
+ghost use Rattle.vga_script.specs.declared.step.Step.TheVariants.{Out, OutWord, In, InWord, Put};
+ghost use Rattle.vga_script.specs.declared.step.Step.TheVariants.{PutWord, Get, GetWord, Advance};
+ghost use Rattle.vga_run.specs.Step.{after_step, answer_to};
+ghost use Rattle.vga_c.specs.Status.{status_of, value_of};
+ghost use Rattle.vga_c.specs.Cards.{LeavesClosed, Reads, Takes};
+
+use crate::handle::{Handle, on_open_card};
+use crate::status::{byte_status, word_status, write_status};
+use std::alloc::Global;
+use vga_run::machine::Machine;
+
+/// Writes a byte to a port.
+#[tactic(auto, unfolding(vga_run::specs::Step::after_step, vga_run::specs::Step::answer_to))]
+fn out(machine: &mut Machine, port: u16, value: u8) -> u32
+    ensures after { machine.new ≡ after_step machine.old (Out port value) }
+    ensures status { result ≡ status_of (answer_to machine.old (Out port value)) }
+{
+    write_status(machine.card.out(port, value))
+}
+
+/// Writes a byte to a port.
+#[unsafe(no_mangle)]
+pub extern "C" fn zak_out(alloc: Global, card: &mut Handle, port: u16, value: u8) -> u32
+    ensures step { Takes (Out port value) card.old card.new result }
+    ensures closed { LeavesClosed card.old card.new result }
+{
+    on_open_card!(alloc, card, machine => out(machine, port, value))
+}
+
+/// Writes a word to a port and the next.
+#[tactic(auto, unfolding(vga_run::specs::Step::after_step, vga_run::specs::Step::answer_to))]
+fn out_word(machine: &mut Machine, port: u16, value: u16) -> u32
+    ensures after { machine.new ≡ after_step machine.old (OutWord port value) }
+    ensures status { result ≡ status_of (answer_to machine.old (OutWord port value)) }
+{
+    write_status(machine.card.out_word(port, value))
+}
+
+/// Writes a word to a port and the next.
+#[unsafe(no_mangle)]
+pub extern "C" fn zak_out_word(alloc: Global, card: &mut Handle, port: u16, value: u16) -> u32
+    ensures step { Takes (OutWord port value) card.old card.new result }
+    ensures closed { LeavesClosed card.old card.new result }
+{
+    on_open_card!(alloc, card, machine => out_word(machine, port, value))
+}
+
+/// Reads a byte from a port.
+#[tactic(auto, unfolding(vga_run::specs::Step::after_step, vga_run::specs::Step::answer_to))]
+fn inp(machine: &mut Machine, port: u16, value: &mut u8) -> u32
+    ensures after { machine.new ≡ after_step machine.old (In port) }
+    ensures status { result ≡ status_of (answer_to machine.old (In port)) }
+    ensures value { value.new ≡ value_of (answer_to machine.old (In port)) value.old }
+{
+    byte_status(machine.card.inp(port), value)
+}
+
+/// Reads a byte from a port.
+#[unsafe(no_mangle)]
+pub extern "C" fn zak_in(
+    alloc: Global,
+    card: &mut Handle,
+    port: u16,
+    value: &mut u8,
+) -> u32
+    ensures step { Takes (In port) card.old card.new result }
+    ensures value { Reads (In port) card.old value.old value.new }
+    ensures closed { LeavesClosed card.old card.new result }
+{
+    on_open_card!(alloc, card, machine => inp(machine, port, value))
+}
+
+/// Reads a word from a port and the next.
+#[tactic(auto, unfolding(vga_run::specs::Step::after_step, vga_run::specs::Step::answer_to))]
+fn inp_word(machine: &mut Machine, port: u16, value: &mut u16) -> u32
+    ensures after { machine.new ≡ after_step machine.old (InWord port) }
+    ensures status { result ≡ status_of (answer_to machine.old (InWord port)) }
+    ensures value { value.new ≡ value_of (answer_to machine.old (InWord port)) value.old }
+{
+    word_status(machine.card.inp_word(port), value)
+}
+
+/// Reads a word from a port and the next.
+#[unsafe(no_mangle)]
+pub extern "C" fn zak_in_word(
+    alloc: Global,
+    card: &mut Handle,
+    port: u16,
+    value: &mut u16,
+) -> u32
+    ensures step { Takes (InWord port) card.old card.new result }
+    ensures value { Reads (InWord port) card.old value.old value.new }
+    ensures closed { LeavesClosed card.old card.new result }
+{
+    on_open_card!(alloc, card, machine => inp_word(machine, port, value))
+}
+
+/// Writes a byte to an address.
+#[tactic(auto, unfolding(vga_run::specs::Step::after_step, vga_run::specs::Step::answer_to))]
+fn put(machine: &mut Machine, address: u32, value: u8) -> u32
+    ensures after { machine.new ≡ after_step machine.old (Put address value) }
+    ensures status { result ≡ status_of (answer_to machine.old (Put address value)) }
+{
+    write_status(machine.card.put(address, value))
+}
+
+/// Writes a byte to an address.
+#[unsafe(no_mangle)]
+pub extern "C" fn zak_put(alloc: Global, card: &mut Handle, address: u32, value: u8) -> u32
+    ensures step { Takes (Put address value) card.old card.new result }
+    ensures closed { LeavesClosed card.old card.new result }
+{
+    on_open_card!(alloc, card, machine => put(machine, address, value))
+}
+
+/// Writes a word to an address and the next.
+#[tactic(auto, unfolding(vga_run::specs::Step::after_step, vga_run::specs::Step::answer_to))]
+fn put_word(machine: &mut Machine, address: u32, value: u16) -> u32
+    ensures after { machine.new ≡ after_step machine.old (PutWord address value) }
+    ensures status { result ≡ status_of (answer_to machine.old (PutWord address value)) }
+{
+    write_status(machine.card.put_word(address, value))
+}
+
+/// Writes a word to an address and the next.
+#[unsafe(no_mangle)]
+pub extern "C" fn zak_put_word(alloc: Global, card: &mut Handle, address: u32, value: u16) -> u32
+    ensures step { Takes (PutWord address value) card.old card.new result }
+    ensures closed { LeavesClosed card.old card.new result }
+{
+    on_open_card!(alloc, card, machine => put_word(machine, address, value))
+}
+
+/// Reads a byte from an address.
+#[tactic(auto, unfolding(vga_run::specs::Step::after_step, vga_run::specs::Step::answer_to))]
+fn get(machine: &mut Machine, address: u32, value: &mut u8) -> u32
+    ensures after { machine.new ≡ after_step machine.old (Get address) }
+    ensures status { result ≡ status_of (answer_to machine.old (Get address)) }
+    ensures value { value.new ≡ value_of (answer_to machine.old (Get address)) value.old }
+{
+    byte_status(machine.card.get(address), value)
+}
+
+/// Reads a byte from an address.
+#[unsafe(no_mangle)]
+pub extern "C" fn zak_get(
+    alloc: Global,
+    card: &mut Handle,
+    address: u32,
+    value: &mut u8,
+) -> u32
+    ensures step { Takes (Get address) card.old card.new result }
+    ensures value { Reads (Get address) card.old value.old value.new }
+    ensures closed { LeavesClosed card.old card.new result }
+{
+    on_open_card!(alloc, card, machine => get(machine, address, value))
+}
+
+/// Reads a word from an address and the next.
+#[tactic(auto, unfolding(vga_run::specs::Step::after_step, vga_run::specs::Step::answer_to))]
+fn get_word(machine: &mut Machine, address: u32, value: &mut u16) -> u32
+    ensures after { machine.new ≡ after_step machine.old (GetWord address) }
+    ensures status { result ≡ status_of (answer_to machine.old (GetWord address)) }
+    ensures value { value.new ≡ value_of (answer_to machine.old (GetWord address)) value.old }
+{
+    word_status(machine.card.get_word(address), value)
+}
+
+/// Reads a word from an address and the next.
+#[unsafe(no_mangle)]
+pub extern "C" fn zak_get_word(
+    alloc: Global,
+    card: &mut Handle,
+    address: u32,
+    value: &mut u16,
+) -> u32
+    ensures step { Takes (GetWord address) card.old card.new result }
+    ensures value { Reads (GetWord address) card.old value.old value.new }
+    ensures closed { LeavesClosed card.old card.new result }
+{
+    on_open_card!(alloc, card, machine => get_word(machine, address, value))
+}
+
+/// Lets the clock run for so many dots.
+#[tactic(auto, unfolding(vga_run::specs::Step::after_step, vga_run::specs::Step::answer_to))]
+fn advance(machine: &mut Machine, dots: u32) -> u32
+    ensures after { machine.new ≡ after_step machine.old (Advance dots) }
+    ensures status { result ≡ status_of (answer_to machine.old (Advance dots)) }
+{
+    write_status(machine.card.advance(dots))
+}
+
+/// Lets the clock run for so many dots.
+#[unsafe(no_mangle)]
+pub extern "C" fn zak_advance(alloc: Global, card: &mut Handle, dots: u32) -> u32
+    ensures step { Takes (Advance dots) card.old card.new result }
+    ensures closed { LeavesClosed card.old card.new result }
+{
+    on_open_card!(alloc, card, machine => advance(machine, dots))
+}

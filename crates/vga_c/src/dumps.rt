@@ -1,0 +1,181 @@
+//! The state of an open card as text.
+ghost use Rattle.std.specs.Prelude.{◌≡◌, ◌+◌, ◌≤◌, ◌<◌, IfOk};
+ghost use Rattle.bios_modes.specs.Valid.{IsValid};
+ghost use Rattle.vga_script.specs.DumpRange.{IsShownInRange};
+ghost use Rattle.vga_script.specs.declared.dump_range.Shown.TheVariants as shown_as;
+ghost use Rattle.vga_run.specs.Step.{dump_refusal, dump_text as dump_text_of};
+ghost use Rattle.vga_c.specs.Cards.{LeavesClosed};
+ghost use Rattle.vga_c.specs.Dumps.{Dumps, IsDumped};
+
+use crate::buffer::copy_front;
+use crate::handle::{Handle, on_open_card};
+use crate::status::{BAD_ARGUMENT, BAD_CARD, NO_CARD, OUT_OF_MEMORY, refusal_status};
+use std::alloc::Global;
+use vga_bits::{Fault, Tracked};
+use vga_run::machine::Machine;
+use vga_run::write_dump;
+use vga_script::Shown;
+
+/// The text of a dump; it is empty where the dump is refused.
+fn dump_text(alloc: Global, machine: &Machine, shown: Shown) -> Result<Vec<u8>, Fault>
+    requires range { IsShownInRange shown }
+    requires valid { IsValid machine.now.bda }
+    ensures { IfOk result (λ text. text.items ≡ dump_text_of machine.now shown) }
+{
+    let mut out = Tracked::new(Vec::new(alloc));
+    write_dump(&mut out, machine, shown)?;
+    Ok(out.into_inner())
+}
+
+/// Gives the caller the text of a dump, or the number of its refusal.
+fn dump(
+    alloc: Global,
+    machine: &Machine,
+    shown: Shown,
+    text: &mut [u8],
+    len: &mut usize,
+) -> u32
+    requires { IsShownInRange shown }
+    ensures { IsValid machine.now.bda → IsDumped (dump_refusal machine.now shown)
+        (dump_text_of machine.now shown) text.new len.new result }
+{
+    if !machine.bda.valid() {
+        return BAD_CARD;
+    }
+    if let Some(why) = machine.dump_refusal(shown) {
+        return refusal_status(why);
+    }
+    match dump_text(alloc, machine, shown) {
+        Ok(bytes) => copy_front(text, len, bytes.as_slice()),
+        Err(_) => OUT_OF_MEMORY,
+    }
+}
+
+/// Shows a part of the state of a card.
+fn show(
+    alloc: Global,
+    card: &mut Handle,
+    shown: Shown,
+    text: &mut [u8],
+    len: &mut usize,
+) -> u32
+    requires { IsShownInRange shown }
+    ensures dump { Dumps shown card.old card.new text.new len.new result }
+    ensures closed { LeavesClosed card.old card.new result }
+{
+    on_open_card!(alloc, card, machine => dump(alloc, machine, shown, text, len))
+}
+
+/// Writes all registers as text.
+#[unsafe(no_mangle)]
+pub extern "C" fn zak_show_regs(
+    alloc: Global,
+    card: &mut Handle,
+    text: &mut [u8],
+    len: &mut usize,
+) -> u32
+    ensures dump { Dumps shown_as.Registers card.old card.new text.new len.new result }
+    ensures closed { LeavesClosed card.old card.new result }
+{
+    show(alloc, card, Shown::Registers, text, len)
+}
+
+/// Writes the beam as text.
+#[unsafe(no_mangle)]
+pub extern "C" fn zak_show_beam(
+    alloc: Global,
+    card: &mut Handle,
+    text: &mut [u8],
+    len: &mut usize,
+) -> u32
+    ensures dump { Dumps shown_as.Beam card.old card.new text.new len.new result }
+    ensures closed { LeavesClosed card.old card.new result }
+{
+    show(alloc, card, Shown::Beam, text, len)
+}
+
+/// Writes the latches as text.
+#[unsafe(no_mangle)]
+pub extern "C" fn zak_show_latches(
+    alloc: Global,
+    card: &mut Handle,
+    text: &mut [u8],
+    len: &mut usize,
+) -> u32
+    ensures dump { Dumps shown_as.Latches card.old card.new text.new len.new result }
+    ensures closed { LeavesClosed card.old card.new result }
+{
+    show(alloc, card, Shown::Latches, text, len)
+}
+
+/// Writes the BIOS data as text.
+#[unsafe(no_mangle)]
+pub extern "C" fn zak_show_bda(
+    alloc: Global,
+    card: &mut Handle,
+    text: &mut [u8],
+    len: &mut usize,
+) -> u32
+    ensures dump { Dumps shown_as.BiosData card.old card.new text.new len.new result }
+    ensures closed { LeavesClosed card.old card.new result }
+{
+    show(alloc, card, Shown::BiosData, text, len)
+}
+
+/// Writes the cells of the active page as text.
+#[unsafe(no_mangle)]
+pub extern "C" fn zak_show_cells(
+    alloc: Global,
+    card: &mut Handle,
+    text: &mut [u8],
+    len: &mut usize,
+) -> u32
+    ensures dump { Dumps shown_as.Cells card.old card.new text.new len.new result }
+    ensures closed { LeavesClosed card.old card.new result }
+{
+    show(alloc, card, Shown::Cells, text, len)
+}
+
+/// Writes an entry of the DAC as text.
+#[unsafe(no_mangle)]
+pub extern "C" fn zak_show_dac(
+    alloc: Global,
+    card: &mut Handle,
+    index: u8,
+    text: &mut [u8],
+    len: &mut usize,
+) -> u32
+    ensures dump { Dumps (shown_as.Dac index) card.old card.new text.new len.new result }
+    ensures closed { LeavesClosed card.old card.new result }
+{
+    show(alloc, card, Shown::Dac { index }, text, len)
+}
+
+/// Writes bytes of a plane as text: 1 to 256, from an offset on, to the end of the plane at most.
+#[unsafe(no_mangle)]
+pub extern "C" fn zak_show_plane(
+    alloc: Global,
+    card: &mut Handle,
+    plane: u8,
+    offset: u16,
+    count: u16,
+    text: &mut [u8],
+    len: &mut usize,
+) -> u32
+    ensures dump { IsShownInRange (shown_as.Plane plane offset count) →
+        Dumps (shown_as.Plane plane offset count) card.old card.new text.new len.new result }
+    ensures closed { LeavesClosed card.old card.new result }
+{
+    if !card.is_open {
+        return NO_CARD;
+    }
+    if plane >= 4 || count == 0 || count > 256 || offset as u32 + count as u32 > 65_536 {
+        return BAD_ARGUMENT;
+    }
+    let shown = Shown::Plane {
+        plane,
+        offset,
+        count,
+    };
+    show(alloc, card, shown, text, len)
+}

@@ -1,0 +1,58 @@
+//! A machine that lies in the memory of a C program.
+ghost use Rattle.std.specs.Prelude.{◌≡◌, true, false, Bool};
+ghost use Rattle.vga_run.specs.declared.machine.Machine.{Machine};
+ghost use Rattle.vga_c.specs.Sealed.{owns_if, machine_coded};
+
+use crate::parts::Parts;
+use std::alloc::Global;
+use std::marker::Model;
+use vga_run::machine::Machine;
+
+/// A machine on the heap by its pointer, or nothing. C sees the pointer alone.
+#[repr(C)]
+#[derive(Drop)]
+pub struct Sealed {
+    ptr: *mut u8,
+    alloc: Global,
+    pub(crate) ghost full: { Bool },
+    pub(crate) ghost machine: { Machine } by { machine_coded },
+}
+
+impl Model for Sealed {
+    ghost also_owns = { λ s. owns_if s.full s.alloc s.ptr s.machine };
+}
+
+impl Sealed {
+    /// Nothing.
+    pub(crate) fn empty(alloc: Global) -> Sealed
+        ensures { result.full ≡ false }
+    {
+        Sealed {
+            ptr: std::ptr::null_mut(),
+            alloc,
+        }
+    }
+
+    /// The machine of these parts.
+    pub(crate) fn of_parts(parts: Parts<Machine, Global>) -> Sealed
+        ensures { (result.full ≡ true) × (result.machine ≡ parts.value) }
+    {
+        let Parts { ptr, alloc } = parts;
+        Sealed {
+            ptr: ptr as *mut u8,
+            alloc,
+        }
+    }
+
+    /// The parts of the machine.
+    pub(crate) fn into_parts(self) -> Parts<Machine, Global>
+        requires { self.full ≡ true }
+        ensures { result.value ≡ self.machine }
+    {
+        let Sealed { ptr, alloc } = self;
+        Parts {
+            ptr: ptr as *mut Machine,
+            alloc,
+        }
+    }
+}

@@ -1,0 +1,93 @@
+//! Interrupt 10.
+ghost use Rattle.std.specs.Prelude.{◌≡◌};
+ghost use Rattle.bios_modes.specs.Valid.{IsValid};
+ghost use Rattle.vga_c.specs.Cards.{LeavesClosed};
+ghost use Rattle.vga_c.specs.Services.{Calls, HasOutcome, IsCalled};
+
+use crate::buffer::copy_front;
+use crate::handle::{Handle, on_open_card};
+use crate::status::{BAD_CARD, OUT_OF_MEMORY, refusal_status};
+use bios_services::{Regs, Reply, ServiceError, int10};
+use std::alloc::Global;
+use vga_run::machine::Machine;
+
+/// The registers of a call.
+#[repr(C)]
+#[derive(Clone, Copy)]
+pub struct Registers {
+    pub ax: u16,
+    pub bx: u16,
+    pub cx: u16,
+    pub dx: u16,
+}
+
+/// Gives the caller what a service answers.
+fn tell(
+    outcome: Result<Reply, ServiceError>,
+    registers: &mut Registers,
+    table: &mut [u8],
+    len: &mut usize,
+) -> u32
+    ensures { HasOutcome outcome registers.old registers.new table.new len.new result }
+{
+    match outcome {
+        Ok(reply) => {
+            let Regs { ax, bx, cx, dx } = reply.regs;
+            *registers = Registers { ax, bx, cx, dx };
+            copy_front(table, len, reply.table.as_slice())
+        }
+        Err(ServiceError::Refused(refusal)) => refusal_status(refusal),
+        Err(ServiceError::OutOfMemory) => OUT_OF_MEMORY,
+    }
+}
+
+/// Calls the video BIOS of a machine.
+#[tactic(auto, using(crate::proofs::ServiceLemmas::told_service), unfolding(vga_run::specs::Step::called))]
+fn call(
+    alloc: Global,
+    machine: &mut Machine,
+    registers: &mut Registers,
+    block: &[u8],
+    table: &mut [u8],
+    len: &mut usize,
+) -> u32
+    ensures called { IsValid machine.old.bda → IsCalled machine.old machine.new registers.old
+        registers.new block.now table.new len.new result }
+    ensures valid { IsValid machine.old.bda → IsValid machine.new.bda }
+{
+    if !machine.bda.valid() {
+        return BAD_CARD;
+    }
+    let regs = Regs {
+        ax: registers.ax,
+        bx: registers.bx,
+        cx: registers.cx,
+        dx: registers.dx,
+    };
+    let outcome = int10(
+        alloc,
+        &mut machine.card,
+        &mut machine.bda,
+        &machine.fonts,
+        regs,
+        block,
+    );
+    tell(outcome, registers, table, len)
+}
+
+/// Calls the video BIOS: AX, BX, CX and DX are those of interrupt 10.
+#[unsafe(no_mangle)]
+pub extern "C" fn zak_int10(
+    alloc: Global,
+    card: &mut Handle,
+    registers: &mut Registers,
+    block: &[u8],
+    table: &mut [u8],
+    len: &mut usize,
+) -> u32
+    ensures called { Calls card.old card.new registers.old registers.new block.now table.new len.new
+        result }
+    ensures closed { LeavesClosed card.old card.new result }
+{
+    on_open_card!(alloc, card, machine => call(alloc, machine, registers, block, table, len))
+}

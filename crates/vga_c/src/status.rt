@@ -1,0 +1,92 @@
+//! The number that a call answers.
+ghost use Rattle.std.specs.Prelude.{◌≡◌};
+ghost use Rattle.vga_run.specs.Answer.{of_write, of_byte, of_word, Plain};
+ghost use Rattle.vga_c.specs.Status.{refusal_status as refusal_status_of, status_of, value_of};
+
+use vga_bits::Refusal;
+
+/// The call is done.
+pub(crate) const DONE: u32 = 0;
+
+/// The card is not open.
+pub(crate) const NO_CARD: u32 = 20;
+
+/// The card is open already.
+pub(crate) const OPEN_ALREADY: u32 = 21;
+
+/// The font file has not 9,728 bytes.
+pub(crate) const FONT_SIZE: u32 = 22;
+
+/// A request for memory was refused.
+pub(crate) const OUT_OF_MEMORY: u32 = 23;
+
+/// Two rows of the picture differ in width.
+pub(crate) const RAGGED: u32 = 24;
+
+/// The caller's buffer is too short.
+pub(crate) const NO_ROOM: u32 = 25;
+
+/// An argument is out of range.
+pub(crate) const BAD_ARGUMENT: u32 = 26;
+
+/// The card's memory is not one that the calls leave.
+pub(crate) const BAD_CARD: u32 = 27;
+
+/// The number of a refusal.
+pub(crate) fn refusal_status(refusal: Refusal) -> u32
+    ensures { result ≡ refusal_status_of refusal }
+{
+    match refusal {
+        Refusal::NotDecoded => 1,
+        Refusal::NotInProfile => 2,
+        Refusal::NoMode => 3,
+        Refusal::BadFunction => 4,
+        Refusal::BadMode => 5,
+        Refusal::WrongKind => 6,
+        Refusal::BadPage => 7,
+        Refusal::Outside => 8,
+        Refusal::CountPast => 9,
+        Refusal::BadRegister => 10,
+        Refusal::BadBlock => 11,
+        Refusal::TooFar => 12,
+        Refusal::BadHeight => 13,
+    }
+}
+
+/// The number of a step that reads nothing.
+pub(crate) fn write_status(outcome: Result<(), Refusal>) -> u32
+    ensures { result ≡ status_of (Plain (of_write outcome)) }
+{
+    match outcome {
+        Ok(()) => DONE,
+        Err(refusal) => refusal_status(refusal),
+    }
+}
+
+/// The number of a step that reads a byte, which goes to the caller's variable.
+pub(crate) fn byte_status(outcome: Result<u8, Refusal>, value: &mut u8) -> u32
+    ensures status { result ≡ status_of (Plain (of_byte outcome)) }
+    ensures value { value.new ≡ value_of (Plain (of_byte outcome)) value.old }
+{
+    match outcome {
+        Ok(byte) => {
+            *value = byte;
+            DONE
+        }
+        Err(refusal) => refusal_status(refusal),
+    }
+}
+
+/// The number of a step that reads a word, which goes to the caller's variable.
+pub(crate) fn word_status(outcome: Result<u16, Refusal>, value: &mut u16) -> u32
+    ensures status { result ≡ status_of (Plain (of_word outcome)) }
+    ensures value { value.new ≡ value_of (Plain (of_word outcome)) value.old }
+{
+    match outcome {
+        Ok(word) => {
+            *value = word;
+            DONE
+        }
+        Err(refusal) => refusal_status(refusal),
+    }
+}
