@@ -1,0 +1,224 @@
+/* zaklimot.h: a VGA display adapter with its video BIOS, as a library.
+ *
+ * SPDX-License-Identifier: MIT
+ *
+ * Each call does what the step of the same name does in a script (docs/SCRIPT.md), by the register
+ * table (docs/REGISTERS.md), and a call that is refused changes nothing. docs/LIBRARY.md is the
+ * guide.
+ *
+ * A card lies in a struct of the caller's. All bytes 0 are a card that is not open. The caller
+ * writes none of its bytes, does not copy it, and closes it once. Two cards share nothing. A card
+ * may move from one thread to another, but takes one call at a time, and none from a signal
+ * handler.
+ *
+ * A pointer is never NULL, also with a length of 0, and no two pointers of a call overlap. A call
+ * that answers another status than ZAK_OK leaves what its pointers name, except where it says
+ * otherwise. Lengths count elements: bytes, or words where the pointer is to uint32_t.
+ */
+#ifndef ZAKLIMOT_H
+#define ZAKLIMOT_H
+
+#include <stdbool.h>
+#include <stddef.h>
+#include <stdint.h>
+
+#ifdef __cplusplus
+extern "C" {
+#endif
+
+/* The interface that this header describes. The major number changes when a call, a struct or a
+ * status is no longer what it was; the minor one grows when some are added. */
+#define ZAK_API_MAJOR 1
+#define ZAK_API_MINOR 0
+
+/* What a call answers. 1 to 13 are the refusals E1 to E13 of docs/REPORT.md; 102 and up are the
+ * faults of zak_run, 100 more than their numbers F2 to F11 there. */
+typedef uint32_t zak_status;
+enum {
+    ZAK_OK = 0,
+    ZAK_NOT_DECODED = 1,     /* no part of the adapter decodes the port or the address */
+    ZAK_NOT_IN_PROFILE = 2,  /* a register, value or port that docs/PROFILE.md leaves out */
+    ZAK_NO_MODE = 3,         /* no mode is set yet */
+    ZAK_BAD_FUNCTION = 4,
+    ZAK_BAD_MODE = 5,
+    ZAK_WRONG_KIND = 6,      /* of text in graphics, or of pixels in text */
+    ZAK_BAD_PAGE = 7,
+    ZAK_OUTSIDE = 8,
+    ZAK_COUNT_PAST = 9,
+    ZAK_BAD_REGISTER = 10,
+    ZAK_BAD_BLOCK = 11,
+    ZAK_TOO_FAR = 12,        /* more than ZAK_MOST_DOTS */
+    ZAK_BAD_HEIGHT = 13,
+    ZAK_NO_CARD = 20,        /* the card is not open */
+    ZAK_OPEN_ALREADY = 21,
+    ZAK_FONT_SIZE = 22,      /* the font file has not ZAK_FONTS_SIZE bytes */
+    ZAK_OUT_OF_MEMORY = 23,  /* malloc gave none; nothing has changed */
+    ZAK_RAGGED = 24,         /* two rows of the frame differ in width: there is no picture */
+    ZAK_NO_ROOM = 25,        /* the caller's buffer is too short, and nothing was written there */
+    ZAK_BAD_ARGUMENT = 26,   /* an argument is not in the range that the call names */
+    ZAK_BAD_CARD = 27,       /* BIOS data that no call leaves: memory was overwritten */
+    ZAK_NO_SCREEN = 28,      /* the adapter shows no plain screen (docs/SCREENS.md) */
+    ZAK_BAD_MAGIC = 102,
+    ZAK_BAD_VERSION = 103,
+    ZAK_BAD_STEP = 104,
+    ZAK_TRUNCATED = 105,
+    ZAK_TOO_LONG = 106,
+    ZAK_TOO_MANY = 111
+};
+
+#define ZAK_FONTS_SIZE 9728u                           /* bytes of a font file */
+#define ZAK_MOST_DOTS 16777216u                        /* dots of one zak_advance */
+#define ZAK_WIDEST 2304u                               /* dots in a row of a picture */
+#define ZAK_HIGHEST 1024u                              /* rows of a picture */
+#define ZAK_MOST_RGB (3u * ZAK_WIDEST * ZAK_HIGHEST)   /* bytes of a picture */
+#define ZAK_MOST_TABLE 768u                            /* bytes that an int10 answers */
+#define ZAK_MOST_TEXT 32768u                           /* bytes of a zak_show_.. */
+
+/* A card. Everything that it keeps lies behind `machine`, so the struct stays as large as it is. */
+typedef struct zak_card {
+    bool is_open;  /* not to be written */
+    void *machine; /* not to be used */
+} zak_card;
+
+#define ZAK_CARD_INIT { false, NULL }
+
+/* The interface of the library that is linked: 65,536 times its major number, and its minor one.
+ * Equal major numbers, and a minor one not below the header's, fit. */
+uint32_t zak_version(void);
+
+/* A machine at power-on, with the glyphs of a font file: fonts/zaklimot.fnt. It takes 7.4 MB by
+ * malloc, which zak_close frees. Of the other calls only zak_show_.., zak_screen_.., zak_run and
+ * zak_int10 with AX = 1017 (hexadecimal) take memory, which they free before they return. Answers
+ * ZAK_OPEN_ALREADY, ZAK_FONT_SIZE, ZAK_OUT_OF_MEMORY. */
+zak_status zak_open(zak_card *card, const uint8_t *fonts, size_t fonts_len);
+zak_status zak_close(zak_card *card);
+
+/* Cycles of a byte, and of a word: the low byte at the port or the address, the high one at the
+ * next. An address is one of the processor's, 0xA0000 to 0xBFFFF. Refused with E1 and E2. */
+zak_status zak_out(zak_card *card, uint16_t port, uint8_t value);
+zak_status zak_out_word(zak_card *card, uint16_t port, uint16_t value);
+zak_status zak_in(zak_card *card, uint16_t port, uint8_t *value);
+zak_status zak_in_word(zak_card *card, uint16_t port, uint16_t *value);
+zak_status zak_put(zak_card *card, uint32_t address, uint8_t value);
+zak_status zak_put_word(zak_card *card, uint32_t address, uint16_t value);
+zak_status zak_get(zak_card *card, uint32_t address, uint8_t *value);
+zak_status zak_get_word(zak_card *card, uint32_t address, uint16_t *value);
+
+/* So many dots of the clock, 0 to ZAK_MOST_DOTS; more are refused with E12. Dots may be added up
+ * until the next other call: n and then m dots are n + m dots. */
+zak_status zak_advance(zak_card *card, uint32_t dots);
+
+typedef struct zak_size { uint32_t width, height; } zak_size; /* dots in a row, and rows */
+
+/* To the end of the frame under way, at least one dot, and its picture, rows from the top, each
+ * from the left. zak_frame gives three bytes a dot, red, green and blue, 0 to 63 each.
+ * zak_frame_xrgb gives a word 00RRGGBB a dot, of eight bits a colour (a component c of six is 4 *
+ * c + c / 16); row y begins at pixels[pitch * y], the pitch counts words, and words beside the
+ * picture stay as they are. ZAK_RAGGED: *size stays. ZAK_NO_ROOM, where rgb_len is below 3 * width
+ * * height, or the pitch below width, or pixels_len below pitch * height: *size tells how large
+ * the picture is. With either the frame has passed all the same. */
+zak_status zak_frame(zak_card *card, zak_size *size, uint8_t *rgb, size_t rgb_len);
+zak_status zak_frame_xrgb(zak_card *card, zak_size *size, uint32_t *pixels, size_t pixels_len,
+                          size_t pitch);
+
+typedef struct zak_regs { uint16_t ax, bx, cx, dx; } zak_regs;
+
+/* Interrupt 10 (hexadecimal), with the registers of the processor, which are afterwards what it
+ * answers. block: what the caller's memory has at ES:BP or ES:DX, for functions that read some.
+ * table: room for what a function writes there, at most ZAK_MOST_TABLE bytes; *table_len tells how
+ * many. Refused with E3 to E11 and E13. ZAK_NO_ROOM: the service is done, *regs and *table_len are
+ * written, and the table is not. */
+zak_status zak_int10(zak_card *card, zak_regs *regs, const uint8_t *block, size_t block_len,
+                     uint8_t *table, size_t table_cap, size_t *table_len);
+
+/* The state as the text of the script's step `show` (docs/REPORT.md), with a newline and no 0
+ * behind it. ZAK_MOST_TEXT bytes are always enough; with ZAK_NO_ROOM *text_len tells how many it
+ * takes. zak_show_cells is refused with E3 and E6. zak_show_plane shows count bytes, 1 to 256, of
+ * plane 0 to 3 from an offset on, to the plane's end at most; else it answers ZAK_BAD_ARGUMENT. */
+zak_status zak_show_regs(zak_card *card, uint8_t *text, size_t text_cap, size_t *text_len);
+zak_status zak_show_beam(zak_card *card, uint8_t *text, size_t text_cap, size_t *text_len);
+zak_status zak_show_latches(zak_card *card, uint8_t *text, size_t text_cap, size_t *text_len);
+zak_status zak_show_bda(zak_card *card, uint8_t *text, size_t text_cap, size_t *text_len);
+zak_status zak_show_cells(zak_card *card, uint8_t *text, size_t text_cap, size_t *text_len);
+zak_status zak_show_dac(zak_card *card, uint8_t index, uint8_t *text, size_t text_cap,
+                        size_t *text_len);
+zak_status zak_show_plane(zak_card *card, uint8_t plane, uint16_t offset, uint16_t count,
+                          uint8_t *text, size_t text_cap, size_t *text_len);
+
+/* The state as it is. Nothing changes, also no index, latch or flip-flop. */
+typedef struct zak_registers {
+    uint8_t misc;                         /* miscellaneous output register */
+    uint8_t seq_index, seq[5];            /* sequencer */
+    uint8_t crtc_index, crtc[25];         /* CRT controller */
+    uint8_t gfx_index, gfx[9];            /* graphics controller */
+    uint8_t attr_index, attr_is_data;     /* index with bit 5; 1 where 3C0 takes data next */
+    uint8_t attr[21];                     /* attribute controller */
+    uint8_t dac_index, dac_component;     /* next is 0 red, 1 green, 2 blue */
+    uint8_t dac_mask, dac_waiting_red, dac_waiting_green;
+} zak_registers;
+
+typedef struct zak_colour { uint8_t red, green, blue; } zak_colour; /* 0 to 63 each */
+
+typedef struct zak_beam {
+    uint16_t line, character, dot;        /* where the next dot is: 0 to 1024, 0 to 259, 0 to 8 */
+    uint16_t base;                        /* counter of the row's first character */
+    uint16_t scan;                        /* scan line of the row of characters, 0 to 31 */
+    uint16_t rows;                        /* rows of this frame with a dot so far */
+    uint8_t frame;                        /* number of the frame, 0 to 31 */
+    uint8_t half;                         /* 1 in the second line of two under double scan */
+    uint8_t split;                        /* 1 where line compare was reached in this frame */
+} zak_beam;
+
+typedef struct zak_latches { uint8_t plane[4]; } zak_latches;
+
+typedef struct zak_bda {                  /* the BIOS data; all 0 until a mode is set */
+    uint16_t columns, size, start;        /* of a row; bytes of a page; the active page's first */
+    uint16_t cursor_places[8];            /* of each page: 256 * row + column */
+    uint16_t cursor_type;                 /* 256 * first scan line + last */
+    uint16_t crtc_address, height;        /* the CRT controller's port; lines of a character */
+    uint8_t mode, page, last_row;
+} zak_bda;
+
+zak_status zak_read_registers(zak_card *card, zak_registers *registers);
+zak_status zak_read_colour(zak_card *card, uint8_t index, zak_colour *colour);
+zak_status zak_read_beam(zak_card *card, zak_beam *beam);
+zak_status zak_read_latches(zak_card *card, zak_latches *latches);
+zak_status zak_read_bda(zak_card *card, zak_bda *bda);
+
+/* bytes_len bytes of plane 0 to 3 from an offset on, to its end at 65,536 at most; else it answers
+ * ZAK_BAD_ARGUMENT. */
+zak_status zak_read_plane(zak_card *card, uint8_t plane, uint16_t offset, uint8_t *bytes,
+                          size_t bytes_len);
+
+/* The plain screen, where the adapter shows one: cells of text or pixels, page after page, as
+ * programs see it that use the video BIOS alone. Else ZAK_NO_SCREEN. A call takes up to 0.3 MB for
+ * its time. ZAK_BAD_ARGUMENT: there is no such page, row or column, or x or y; no cell in
+ * graphics, and no pixel in text. */
+typedef struct zak_screen {
+    uint16_t columns, rows;               /* of characters */
+    uint16_t width, height;               /* of pixels: 8 a column, and scan lines */
+    uint8_t mode, is_text;                /* number of the mode; 1 in text, 0 in graphics */
+    uint8_t page, pages;                  /* the active one, and how many there are */
+} zak_screen;
+
+typedef struct zak_cell { uint8_t character, attribute; } zak_cell;
+typedef struct zak_place { uint8_t row, column; } zak_place;
+
+zak_status zak_screen_read(zak_card *card, zak_screen *screen);
+zak_status zak_screen_cell(zak_card *card, uint8_t page, uint8_t row, uint8_t column,
+                           zak_cell *cell);
+zak_status zak_screen_pixel(zak_card *card, uint8_t page, uint16_t x, uint16_t y, uint8_t *pixel);
+zak_status zak_screen_cursor(zak_card *card, uint8_t page, zak_place *place);
+
+/* A whole run with no card: the bytes of a script in (docs/SCRIPT.md), its report out
+ * (docs/REPORT.md). ZAK_NO_ROOM: *report_len tells how many bytes it takes. ZAK_BAD_STEP,
+ * ZAK_TRUNCATED, ZAK_TOO_MANY: *place is the offset in the script, in bytes, of the step or block.
+ * ZAK_FONT_SIZE, ZAK_OUT_OF_MEMORY, ZAK_BAD_MAGIC, ZAK_BAD_VERSION, ZAK_TOO_LONG have no place.
+ * Where a run fails, no report is written. */
+zak_status zak_run(const uint8_t *script, size_t script_len, const uint8_t *fonts, size_t fonts_len,
+                   uint8_t *report, size_t report_cap, size_t *report_len, size_t *place);
+
+#ifdef __cplusplus
+}
+#endif
+#endif
