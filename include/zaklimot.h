@@ -195,8 +195,8 @@ zak_status zak_read_plane(zak_card *card, uint8_t plane, uint16_t offset, uint8_
  * its time. ZAK_BAD_ARGUMENT: there is no such page, row or column, or x or y; no cell in
  * graphics, and no pixel in text. */
 typedef struct zak_screen {
+    uint32_t width, height;               /* of pixels: 8 a column, and scan lines */
     uint16_t columns, rows;               /* of characters */
-    uint16_t width, height;               /* of pixels: 8 a column, and scan lines */
     uint8_t mode, is_text;                /* number of the mode; 1 in text, 0 in graphics */
     uint8_t page, pages;                  /* the active one, and how many there are */
 } zak_screen;

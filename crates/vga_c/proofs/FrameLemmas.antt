@@ -1,17 +1,26 @@
 -- What was told of a frame is the picture of its dots.
-use Rattle.std.proofs.Common.{◌≡◌, ◌⊎◌, ℕ, List, length, take, sym, subst, Option, Some, None}
+use Rattle.std.proofs.Common.{◌≡◌, ℕ, List, sym, subst, Option}
 use Rattle.vga_card.specs.Picture.{Dot, IsPictureOf, bytes_of, shape}
 use Rattle.vga_card.specs.declared.drawn.Drawn.{Drawn}
 use Rattle.vga_card.specs.declared.drawn.Drawn.TheVariants as drawn
 use Rattle.vga_card.specs.declared.shape.Shape.{Shape}
-use Rattle.vga_run.specs.Answer.{Picture, Ragged, of_drawn, of_frame, of_shape}
+use Rattle.vga_run.specs.Answer.{Reply, Picture, of_drawn, of_frame, of_shape}
 use Rattle.vga_c.specs.declared.frames.Size.{Size}
-use Rattle.vga_c.specs.Frames.{HasPicture}
+use Rattle.vga_c.specs.Frames.{HasBytes, HasWords}
 
-pub told_frame : (dots : List Dot) (lent : Drawn) (size : Size) (rgb : List ℕ) (status : ℕ) → IsPictureOf dots lent →
-    HasPicture (of_drawn lent) size rgb status → HasPicture (of_frame dots) size rgb status
-told_frame dots (drawn.Picture width height bytes) size rgb status is told =
-    subst (λ (x : Option Shape). HasPicture (of_shape x (bytes_of dots)) size rgb status) (sym is.0)
-    (subst (λ (b : List ℕ). HasPicture (Picture width height b) size rgb status) is.1 told)
-told_frame dots drawn.Ragged size rgb status is told =
-    subst (λ (x : Option Shape). HasPicture (of_shape x (bytes_of dots)) size rgb status) (sym is) told
+-- what is said of the answer of a lent picture is said of that of its dots
+of_dots : (P : Reply → Type 0) (dots : List Dot) (lent : Drawn) → IsPictureOf dots lent → P (of_drawn lent) → P (of_frame dots)
+of_dots P dots (drawn.Picture width height bytes) is told =
+    subst (λ (x : Option Shape). P (of_shape x (bytes_of dots))) (sym is.0)
+    (subst (λ (b : List ℕ). P (Picture width height b)) is.1 told)
+of_dots P dots drawn.Ragged is told = subst (λ (x : Option Shape). P (of_shape x (bytes_of dots))) (sym is) told
+
+pub bytes_of_frame : (dots : List Dot) (lent : Drawn) (size_old size : Size) (old new : List ℕ) (status : ℕ) → IsPictureOf dots lent →
+    HasBytes (of_drawn lent) size_old size old new status → HasBytes (of_frame dots) size_old size old new status
+bytes_of_frame dots lent size_old size old new status is told =
+    of_dots (λ (reply : Reply). HasBytes reply size_old size old new status) dots lent is told
+
+pub words_of_frame : (dots : List Dot) (lent : Drawn) (pitch : ℕ) (size_old size : Size) (old new : List ℕ) (status : ℕ) → IsPictureOf dots lent →
+    HasWords (of_drawn lent) pitch size_old size old new status → HasWords (of_frame dots) pitch size_old size old new status
+words_of_frame dots lent pitch size_old size old new status is told =
+    of_dots (λ (reply : Reply). HasWords reply pitch size_old size old new status) dots lent is told

@@ -1,3 +1,5 @@
 pub mod AsBox
 pub mod ServiceLemmas
 pub mod FrameLemmas
+pub mod RunLemmas
+pub mod ScreenLemmas

@@ -1,4 +1,4 @@
--- What a call does to a card in the memory of a C program: a step of a script.
+-- What a call does to a card in the memory of a C program.
 use Rattle.std.specs.Prelude.{◌≡◌, ℕ, true, false}
 use Rattle.vga_script.specs.declared.step.Step.{Step}
 use Rattle.vga_run.specs.declared.machine.Machine.{Machine}
@@ -14,6 +14,10 @@ Holds card machine = (card.is_open ≡ true) × (card.sealed.machine ≡ machine
 abbrev pub LeavesClosed : Handle → Handle → ℕ → Type 0
 LeavesClosed old new status = old.is_open ≡ false → (new ≡ old) × (status ≡ no_card)
 
+-- and what is the caller's stays as it is
+abbrev pub Spares : {A : Type 0} → Handle → A → A → Type 0
+Spares old before after = old.is_open ≡ false → after ≡ before
+
 -- an open card does a step of a script, and the call answers its number
 abbrev pub Takes : Step → Handle → Handle → ℕ → Type 0
 Takes step old new status = old.is_open ≡ true →
@@ -28,3 +32,8 @@ Reads step old before after = old.is_open ≡ true →
 -- an open card stays as it is
 abbrev pub Keeps : Handle → Handle → Type 0
 Keeps old new = old.is_open ≡ true → Holds new old.sealed.machine
+
+-- and the caller's variable has what the machine has
+abbrev pub Tells : {A : Type 0} → (Machine → A) → Handle → A → ℕ → Type 0
+Tells value old after status = old.is_open ≡ true →
+    (after ≡ value old.sealed.machine) × (status ≡ 0)

@@ -1,37 +1,83 @@
 -- A frame's picture, as the caller has it.
-use Rattle.std.specs.Prelude.{◌≡◌, ◌⊎◌, ◌+◌, ◌*◌, ◌/◌, ℕ, true, List, length, take, slice_index}
+use Rattle.std.specs.Prelude.{◌≡◌, ◌+◌, ◌*◌, ◌/◌, ◌<◌, ◌≤◌, ◌&&◌, ℕ, true, nat_le, Bool}
+use Rattle.std.specs.Prelude.{if◌then◌else◌, List, length, slice_index}
 use Rattle.vga_script.specs.declared.step.Step.TheVariants.{Frame}
 use Rattle.vga_run.specs.Answer.{Reply, Picture, Ragged}
 use Rattle.vga_run.specs.Step.{after_step, answer_to}
 use Rattle.vga_c.specs.declared.frames.Size.{Size}
 use Rattle.vga_c.specs.declared.handle.Handle.{Handle}
+use Rattle.vga_c.specs.Buffers.{room_status, with_front}
 use Rattle.vga_c.specs.Cards.{Holds}
 use Rattle.vga_c.specs.Status.{no_room, ragged}
-
--- the caller has size and bytes of a picture, or only its size where there was no room; or it is
--- told that rows differ in width
-abbrev pub HasPicture : Reply → Size → List ℕ → ℕ → Type 0
-HasPicture (Picture width height bytes) size rgb status =
-    (size ≡ record { width = width; height = height })
-    × ((status ≡ no_room) ⊎ ((status ≡ 0) × (take (length bytes) rgb ≡ bytes)))
-HasPicture Ragged size rgb status = status ≡ ragged
-HasPicture reply size rgb status = ⊥
 
 -- an open card comes to the end of the frame under way
 abbrev pub EndsFrame : Handle → Handle → Type 0
 EndsFrame old new = old.is_open ≡ true → Holds new (after_step old.sealed.machine Frame)
 
--- and the caller has the frame's picture
-abbrev pub Draws : Handle → Size → List ℕ → ℕ → Type 0
-Draws old size rgb status = old.is_open ≡ true →
-    HasPicture (answer_to old.sealed.machine Frame) size rgb status
+-- how large a picture is
+abbrev pub size_of : ℕ → ℕ → Size
+size_of width height = record { width = width; height = height }
+
+-- ---- three bytes a dot
+
+-- the caller has size and bytes of a picture, or only its size where there was no room; or it is
+-- told that rows differ in width, and has what it had
+abbrev pub HasBytes : Reply → Size → Size → List ℕ → List ℕ → ℕ → Type 0
+HasBytes (Picture width height bytes) size_old size old new status =
+    (size ≡ size_of width height) × ((new ≡ with_front bytes old)
+    × (status ≡ room_status (length bytes) (length old)))
+HasBytes Ragged size_old size old new status =
+    (size ≡ size_old) × ((new ≡ old) × (status ≡ ragged))
+HasBytes reply size_old size old new status = ⊥
+
+-- that is so of the frame of an open card
+abbrev pub DrawsBytes : Handle → Size → Size → List ℕ → List ℕ → ℕ → Type 0
+DrawsBytes card size_old size old new status = card.is_open ≡ true →
+    HasBytes (answer_to card.sealed.machine Frame) size_old size old new status
+
+-- ---- a word a dot
 
 -- eight bits of a component of six: its two highest bits stand again below it
 abbrev pub eight_bits : ℕ → ℕ
 eight_bits six = 4 * six + six / 16
 
 -- the word 00RRGGBB of dot i of a picture
-abbrev pub word_of : List ℕ → ℕ → ℕ
-word_of bytes i = 0x1_0000 * eight_bits (slice_index bytes (3 * i))
+abbrev pub dot_word : List ℕ → ℕ → ℕ
+dot_word bytes i = 0x1_0000 * eight_bits (slice_index bytes (3 * i))
     + (0x100 * eight_bits (slice_index bytes (3 * i + 1))
     + eight_bits (slice_index bytes (3 * i + 2)))
+
+-- The words of a picture, of which row y begins at pitch * y, each word for its dot; what stands
+-- beside the picture and behind it stays.
+pub record IsWordPicture (width height pitch : ℕ) (bytes old new : List ℕ) : Type 0 where
+  pub dots : (x y : ℕ) → x < width → y < height →
+      slice_index new (pitch * y + x) ≡ dot_word bytes (width * y + x)
+  pub beside : (x y : ℕ) → width ≤ x → x < pitch → y < height →
+      slice_index new (pitch * y + x) ≡ slice_index old (pitch * y + x)
+  pub behind : (i : ℕ) → pitch * height ≤ i → slice_index new i ≡ slice_index old i
+  pub size : length new ≡ length old
+
+-- whether a buffer of so many words has room for the rows at their pitch
+abbrev pub has_room : ℕ → ℕ → ℕ → ℕ → Bool
+has_room width height pitch len = nat_le width pitch && nat_le (pitch * height) len
+
+-- the words are there, where they have room
+abbrev pub IsInWords : ℕ → ℕ → ℕ → List ℕ → List ℕ → List ℕ → ℕ → Type 0
+IsInWords width height pitch bytes old new status =
+    if has_room width height pitch (length old)
+    then IsWordPicture width height pitch bytes old new × (status ≡ 0)
+    else (new ≡ old) × (status ≡ no_room)
+
+-- the caller has size and words of a picture, or only its size where there was no room; or it is
+-- told that rows differ in width, and has what it had
+abbrev pub HasWords : Reply → ℕ → Size → Size → List ℕ → List ℕ → ℕ → Type 0
+HasWords (Picture width height bytes) pitch size_old size old new status =
+    (size ≡ size_of width height) × IsInWords width height pitch bytes old new status
+HasWords Ragged pitch size_old size old new status =
+    (size ≡ size_old) × ((new ≡ old) × (status ≡ ragged))
+HasWords reply pitch size_old size old new status = ⊥
+
+-- that is so of the frame of an open card
+abbrev pub DrawsWords : Handle → ℕ → Size → Size → List ℕ → List ℕ → ℕ → Type 0
+DrawsWords card pitch size_old size old new status = card.is_open ≡ true →
+    HasWords (answer_to card.sealed.machine Frame) pitch size_old size old new status

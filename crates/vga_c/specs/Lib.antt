@@ -6,4 +6,7 @@ pub mod Opening
 pub mod Services
 pub mod Frames
 pub mod Dumps
+pub mod State
+pub mod Screens
 pub mod Runs
+pub mod Version

@@ -1,49 +1,71 @@
 -- What a call of interrupt 10 (hexadecimal) does to a card, and what the caller has of it.
-use Rattle.std.specs.Prelude.{◌≡◌, ◌⊎◌, ℕ, true, Result, Ok, Err, List}
-use Rattle.vga_bits.specs.declared.refusal.Refusal.{Refusal}
+use Rattle.std.specs.Prelude.{◌≡◌, ◌⊎◌, ℕ, true, List, Result, Ok, Err}
 use Rattle.bios_modes.specs.Valid.{IsValid}
-use Rattle.bios_services.specs.Tables.{table_bytes}
-use Rattle.bios_services.specs.declared.reply.Reply.{Reply}
-use Rattle.bios_services.specs.declared.reply.ServiceError.{ServiceError}
-use Rattle.bios_services.specs.declared.reply.ServiceError.TheVariants.{Refused, OutOfMemory}
 use Rattle.bios_services.specs.declared.regs.Regs.{Regs}
+use Rattle.bios_services.specs.declared.reply.Reply.{Reply as ServiceReply}
+use Rattle.bios_services.specs.declared.reply.ServiceError.{ServiceError}
+use Rattle.bios_services.specs.declared.reply.ServiceError.TheVariants.{OutOfMemory}
+use Rattle.bios_services.specs.declared.reply.ServiceError.TheVariants.{Refused as ServiceRefused}
+use Rattle.vga_script.specs.declared.step.Step.{Step}
+use Rattle.vga_script.specs.declared.step.Step.TheVariants.{Int}
 use Rattle.vga_run.specs.declared.machine.Machine.{Machine}
-use Rattle.vga_run.specs.Step.{called}
+use Rattle.vga_run.specs.declared.answer.Answer.TheVariants.{Refused}
+use Rattle.vga_run.specs.Answer.{Reply, Plain, Served, of_service}
+use Rattle.vga_run.specs.Step.{TakesMemory, after_step, answer_to}
 use Rattle.vga_c.specs.declared.handle.Handle.{Handle}
-use Rattle.vga_c.specs.declared.services.Registers.{Registers}
+use Rattle.vga_c.specs.declared.services.CallRegisters.{CallRegisters}
 use Rattle.vga_c.specs.Buffers.{IsCopied}
-use Rattle.vga_c.specs.Status.{out_of_memory, refusal_status}
+use Rattle.vga_c.specs.Cards.{Holds}
+use Rattle.vga_c.specs.Status.{bad_card, out_of_memory, refusal_status}
 
--- the registers of a reply, as the caller has them
-abbrev pub registers_of : Regs → Registers
+-- what the caller has of a call: the registers, a buffer for a table, and how long the table is
+pub record Told : Type 0 where
+  pub registers : CallRegisters
+  pub table : List ℕ
+  pub len : ℕ
+
+abbrev pub told : CallRegisters → List ℕ → ℕ → Told
+told registers table len = record { registers = registers; table = table; len = len }
+
+-- the step of a script that makes the call
+abbrev pub call_step : CallRegisters → List ℕ → Step
+call_step r block = Int r.ax r.bx r.cx r.dx block
+
+-- the registers of an answer, as the caller has them
+abbrev pub registers_of : Regs → CallRegisters
 registers_of r = record { ax = r.ax; bx = r.bx; cx = r.cx; dx = r.dx }
 
--- the caller has registers and table of a reply, or the number of a refusal and the registers that
--- it had
-abbrev pub HasReply : Result Reply Refusal → Registers → Registers → List ℕ → ℕ → ℕ → Type 0
-HasReply (Ok reply) before after table len status = (after ≡ registers_of reply.regs)
-    × IsCopied (table_bytes reply.table) table len status
-HasReply (Err why) before after table len status = (status ≡ refusal_status why) × (after ≡ before)
-
--- the same of an outcome that may be want of memory
-abbrev pub HasOutcome : Result Reply ServiceError → Registers → Registers → List ℕ → ℕ → ℕ → Type 0
-HasOutcome (Ok reply) before after table len status = HasReply (Ok reply) before after table len
-    status
-HasOutcome (Err (Refused why)) before after table len status =
-    HasReply (Err why) before after table len status
-HasOutcome (Err OutOfMemory) before after table len status = (status ≡ out_of_memory)
+-- the caller has the registers and the table of an answer; or the number of a refusal, and all else
+-- as before
+abbrev pub HasAnswer : Reply → Told → Told → ℕ → Type 0
+HasAnswer (Served regs table) before after status = (after.registers ≡ registers_of regs)
+    × IsCopied table before.table after.table after.len status
+HasAnswer (Plain (Refused why)) before after status = (status ≡ refusal_status why)
     × (after ≡ before)
+HasAnswer reply before after status = ⊥
 
--- the service is done or refused; or there was no memory, and nothing has changed
-abbrev pub IsCalled : Machine → Machine → Registers → Registers → List ℕ → List ℕ → ℕ → ℕ → Type 0
-IsCalled old new before after block table len status =
-    ((status ≡ out_of_memory) × ((after ≡ before) × (new ≡ old)))
-    ⊎ (let done = called old before.ax before.bx before.cx before.dx block in
-    (new ≡ record old { card = done.0; bda = done.1.1 })
-    × HasReply done.1.0 before after table len status)
+-- the caller has what `int10` answers, where there was memory; else it has what it had
+abbrev pub HasOutcome : Result ServiceReply ServiceError → Told → Told → ℕ → Type 0
+HasOutcome (Ok reply) before after status = HasAnswer (of_service (Ok reply)) before after status
+HasOutcome (Err (ServiceRefused why)) before after status =
+    HasAnswer (of_service (Err why)) before after status
+HasOutcome (Err OutOfMemory) before after status = (status ≡ out_of_memory) × (after ≡ before)
+
+-- the step is taken; or it takes memory, there was none, and nothing has changed
+abbrev pub IsCalled : Machine → Machine → Step → Told → Told → ℕ → Type 0
+IsCalled old new step before after status =
+    ((status ≡ out_of_memory) × (TakesMemory old step × ((after ≡ before) × (new ≡ old))))
+    ⊎ ((new ≡ after_step old step) × HasAnswer (answer_to old step) before after status)
 
 -- that is so of an open card with valid BIOS data, which stay valid
-abbrev pub Calls : Handle → Handle → Registers → Registers → List ℕ → List ℕ → ℕ → ℕ → Type 0
-Calls old new before after block table len status = old.is_open ≡ true →
-    IsValid old.sealed.machine.bda → (new.is_open ≡ true) × (IsValid new.sealed.machine.bda
-    × IsCalled old.sealed.machine new.sealed.machine before after block table len status)
+abbrev pub Calls : Handle → Handle → List ℕ → Told → Told → ℕ → Type 0
+Calls old new block before after status = old.is_open ≡ true → IsValid old.sealed.machine.bda →
+    (new.is_open ≡ true) × (IsValid new.sealed.machine.bda
+    × IsCalled old.sealed.machine new.sealed.machine (call_step before.registers block) before after
+    status)
+
+-- an open card with other data stays as it is, and so does all that is the caller's
+abbrev pub LeavesBad : Handle → Handle → Told → Told → ℕ → Type 0
+LeavesBad old new before after status = old.is_open ≡ true →
+    (IsValid old.sealed.machine.bda → ⊥) →
+    Holds new old.sealed.machine × ((after ≡ before) × (status ≡ bad_card))

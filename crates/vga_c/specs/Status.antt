@@ -37,16 +37,38 @@ value_of (Plain (Byte value)) before = value
 value_of (Plain (Word value)) before = value
 value_of reply before = before
 
--- the numbers of what a call lacks: an open card, memory, room
+-- the card is not open
 abbrev pub no_card : ℕ
 no_card = 20
 
+-- the card is open already
+abbrev pub open_already : ℕ
+open_already = 21
+
+-- the font file has not 9,728 bytes
+abbrev pub font_size : ℕ
+font_size = 22
+
+-- a request for memory was refused
 abbrev pub out_of_memory : ℕ
 out_of_memory = 23
 
+-- two rows of the picture differ in width
+abbrev pub ragged : ℕ
+ragged = 24
+
+-- the caller's buffer is too short
 abbrev pub no_room : ℕ
 no_room = 25
 
--- and of a frame whose rows differ in width
-abbrev pub ragged : ℕ
-ragged = 24
+-- an argument is out of range
+abbrev pub bad_argument : ℕ
+bad_argument = 26
+
+-- the BIOS data are not valid
+abbrev pub bad_card : ℕ
+bad_card = 27
+
+-- the adapter shows no plain screen
+abbrev pub no_screen : ℕ
+no_screen = 28

@@ -1,18 +1,26 @@
 //! The caller's buffers.
 ghost use Rattle.std.specs.Prelude.{◌≡◌, length};
-ghost use Rattle.vga_c.specs.Buffers.{IsCopied};
+ghost use Rattle.vga_c.specs.Buffers.{IsCopied, room_status, with_front};
 
 use crate::status::{DONE, NO_ROOM};
 
-/// Copies bytes to the front of the caller's, if there is room, and tells how many they are.
-pub(crate) fn copy_front(to: &mut [u8], len: &mut usize, from: &[u8]) -> u32
-    ensures { IsCopied from.now to.new len.new result }
+/// Writes bytes to the front of the caller's, if there is room.
+pub(crate) fn write_front(to: &mut [u8], bytes: &[u8]) -> u32
+    ensures after { to.new ≡ with_front bytes.now to.old }
+    ensures status { result ≡ room_status (length bytes.now) (length to.old) }
 {
-    *len = from.len();
-    if to.len() < from.len() {
+    if to.len() < bytes.len() {
         return NO_ROOM;
     }
-    let (front, _) = to.split_at_mut(from.len());
-    front.copy_from_slice(from);
+    let (front, _) = to.split_at_mut(bytes.len());
+    front.copy_from_slice(bytes);
     DONE
+}
+
+/// The same, and tells how many bytes they are.
+pub(crate) fn copy_front(to: &mut [u8], len: &mut usize, bytes: &[u8]) -> u32
+    ensures { IsCopied bytes.now to.old to.new len.new result }
+{
+    *len = bytes.len();
+    write_front(to, bytes)
 }

@@ -4,7 +4,7 @@ ghost use Rattle.vga_script.specs.declared.step.Step.TheVariants.{Out, OutWord, 
 ghost use Rattle.vga_script.specs.declared.step.Step.TheVariants.{PutWord, Get, GetWord, Advance};
 ghost use Rattle.vga_run.specs.Step.{after_step, answer_to};
 ghost use Rattle.vga_c.specs.Status.{status_of, value_of};
-ghost use Rattle.vga_c.specs.Cards.{LeavesClosed, Reads, Takes};
+ghost use Rattle.vga_c.specs.Cards.{LeavesClosed, Reads, Spares, Takes};
 
 use crate::handle::{Handle, on_open_card};
 use crate::status::{byte_status, word_status, write_status};
@@ -59,15 +59,11 @@ fn inp(machine: &mut Machine, port: u16, value: &mut u8) -> u32
 
 /// Reads a byte from a port.
 #[unsafe(no_mangle)]
-pub extern "C" fn zak_in(
-    alloc: Global,
-    card: &mut Handle,
-    port: u16,
-    value: &mut u8,
-) -> u32
+pub extern "C" fn zak_in(alloc: Global, card: &mut Handle, port: u16, value: &mut u8) -> u32
     ensures step { Takes (In port) card.old card.new result }
     ensures value { Reads (In port) card.old value.old value.new }
     ensures closed { LeavesClosed card.old card.new result }
+    ensures spared { Spares card.old value.old value.new }
 {
     on_open_card!(alloc, card, machine => inp(machine, port, value))
 }
@@ -84,15 +80,11 @@ fn inp_word(machine: &mut Machine, port: u16, value: &mut u16) -> u32
 
 /// Reads a word from a port and the next.
 #[unsafe(no_mangle)]
-pub extern "C" fn zak_in_word(
-    alloc: Global,
-    card: &mut Handle,
-    port: u16,
-    value: &mut u16,
-) -> u32
+pub extern "C" fn zak_in_word(alloc: Global, card: &mut Handle, port: u16, value: &mut u16) -> u32
     ensures step { Takes (InWord port) card.old card.new result }
     ensures value { Reads (InWord port) card.old value.old value.new }
     ensures closed { LeavesClosed card.old card.new result }
+    ensures spared { Spares card.old value.old value.new }
 {
     on_open_card!(alloc, card, machine => inp_word(machine, port, value))
 }
@@ -145,15 +137,11 @@ fn get(machine: &mut Machine, address: u32, value: &mut u8) -> u32
 
 /// Reads a byte from an address.
 #[unsafe(no_mangle)]
-pub extern "C" fn zak_get(
-    alloc: Global,
-    card: &mut Handle,
-    address: u32,
-    value: &mut u8,
-) -> u32
+pub extern "C" fn zak_get(alloc: Global, card: &mut Handle, address: u32, value: &mut u8) -> u32
     ensures step { Takes (Get address) card.old card.new result }
     ensures value { Reads (Get address) card.old value.old value.new }
     ensures closed { LeavesClosed card.old card.new result }
+    ensures spared { Spares card.old value.old value.new }
 {
     on_open_card!(alloc, card, machine => get(machine, address, value))
 }
@@ -179,6 +167,7 @@ pub extern "C" fn zak_get_word(
     ensures step { Takes (GetWord address) card.old card.new result }
     ensures value { Reads (GetWord address) card.old value.old value.new }
     ensures closed { LeavesClosed card.old card.new result }
+    ensures spared { Spares card.old value.old value.new }
 {
     on_open_card!(alloc, card, machine => get_word(machine, address, value))
 }

@@ -1,11 +1,11 @@
 //! The state of an open card as text.
-ghost use Rattle.std.specs.Prelude.{◌≡◌, ◌+◌, ◌≤◌, ◌<◌, IfOk};
+ghost use Rattle.std.specs.Prelude.{◌≡◌, IfOk};
 ghost use Rattle.bios_modes.specs.Valid.{IsValid};
 ghost use Rattle.vga_script.specs.DumpRange.{IsShownInRange};
 ghost use Rattle.vga_script.specs.declared.dump_range.Shown.TheVariants as shown_as;
-ghost use Rattle.vga_run.specs.Step.{dump_refusal, dump_text as dump_text_of};
-ghost use Rattle.vga_c.specs.Cards.{LeavesClosed};
-ghost use Rattle.vga_c.specs.Dumps.{Dumps, IsDumped};
+ghost use Rattle.vga_run.specs.Step.{dump_text as dump_text_of};
+ghost use Rattle.vga_c.specs.Dumps.{Dumps, is_plane_part as is_plane_part_of, Shows, ShowsPart};
+ghost use Rattle.vga_c.specs.Dumps.{told};
 
 use crate::buffer::copy_front;
 use crate::handle::{Handle, on_open_card};
@@ -28,16 +28,9 @@ fn dump_text(alloc: Global, machine: &Machine, shown: Shown) -> Result<Vec<u8>, 
 }
 
 /// Gives the caller the text of a dump, or the number of its refusal.
-fn dump(
-    alloc: Global,
-    machine: &Machine,
-    shown: Shown,
-    text: &mut [u8],
-    len: &mut usize,
-) -> u32
+fn dump(alloc: Global, machine: &Machine, shown: Shown, text: &mut [u8], len: &mut usize) -> u32
     requires { IsShownInRange shown }
-    ensures { IsValid machine.now.bda → IsDumped (dump_refusal machine.now shown)
-        (dump_text_of machine.now shown) text.new len.new result }
+    ensures { Dumps machine.now shown (told text.old len.old) (told text.new len.new) result }
 {
     if !machine.bda.valid() {
         return BAD_CARD;
@@ -52,16 +45,9 @@ fn dump(
 }
 
 /// Shows a part of the state of a card.
-fn show(
-    alloc: Global,
-    card: &mut Handle,
-    shown: Shown,
-    text: &mut [u8],
-    len: &mut usize,
-) -> u32
+fn show(alloc: Global, card: &mut Handle, shown: Shown, text: &mut [u8], len: &mut usize) -> u32
     requires { IsShownInRange shown }
-    ensures dump { Dumps shown card.old card.new text.new len.new result }
-    ensures closed { LeavesClosed card.old card.new result }
+    ensures { Shows shown card.old card.new (told text.old len.old) (told text.new len.new) result }
 {
     on_open_card!(alloc, card, machine => dump(alloc, machine, shown, text, len))
 }
@@ -74,8 +60,8 @@ pub extern "C" fn zak_show_regs(
     text: &mut [u8],
     len: &mut usize,
 ) -> u32
-    ensures dump { Dumps shown_as.Registers card.old card.new text.new len.new result }
-    ensures closed { LeavesClosed card.old card.new result }
+    ensures { Shows shown_as.Registers card.old card.new (told text.old len.old) (told text.new len.new)
+        result }
 {
     show(alloc, card, Shown::Registers, text, len)
 }
@@ -88,8 +74,8 @@ pub extern "C" fn zak_show_beam(
     text: &mut [u8],
     len: &mut usize,
 ) -> u32
-    ensures dump { Dumps shown_as.Beam card.old card.new text.new len.new result }
-    ensures closed { LeavesClosed card.old card.new result }
+    ensures { Shows shown_as.Beam card.old card.new (told text.old len.old) (told text.new len.new)
+        result }
 {
     show(alloc, card, Shown::Beam, text, len)
 }
@@ -102,8 +88,8 @@ pub extern "C" fn zak_show_latches(
     text: &mut [u8],
     len: &mut usize,
 ) -> u32
-    ensures dump { Dumps shown_as.Latches card.old card.new text.new len.new result }
-    ensures closed { LeavesClosed card.old card.new result }
+    ensures { Shows shown_as.Latches card.old card.new (told text.old len.old) (told text.new len.new)
+        result }
 {
     show(alloc, card, Shown::Latches, text, len)
 }
@@ -116,8 +102,8 @@ pub extern "C" fn zak_show_bda(
     text: &mut [u8],
     len: &mut usize,
 ) -> u32
-    ensures dump { Dumps shown_as.BiosData card.old card.new text.new len.new result }
-    ensures closed { LeavesClosed card.old card.new result }
+    ensures { Shows shown_as.BiosData card.old card.new (told text.old len.old) (told text.new len.new)
+        result }
 {
     show(alloc, card, Shown::BiosData, text, len)
 }
@@ -130,8 +116,8 @@ pub extern "C" fn zak_show_cells(
     text: &mut [u8],
     len: &mut usize,
 ) -> u32
-    ensures dump { Dumps shown_as.Cells card.old card.new text.new len.new result }
-    ensures closed { LeavesClosed card.old card.new result }
+    ensures { Shows shown_as.Cells card.old card.new (told text.old len.old) (told text.new len.new)
+        result }
 {
     show(alloc, card, Shown::Cells, text, len)
 }
@@ -145,10 +131,17 @@ pub extern "C" fn zak_show_dac(
     text: &mut [u8],
     len: &mut usize,
 ) -> u32
-    ensures dump { Dumps (shown_as.Dac index) card.old card.new text.new len.new result }
-    ensures closed { LeavesClosed card.old card.new result }
+    ensures { Shows (shown_as.Dac index) card.old card.new (told text.old len.old)
+        (told text.new len.new) result }
 {
     show(alloc, card, Shown::Dac { index }, text, len)
+}
+
+/// Whether these are some bytes of a plane, 1 to 256, none past its end.
+fn is_plane_part(plane: u8, offset: u16, count: u16) -> bool
+    ensures { result ≡ is_plane_part_of plane offset count }
+{
+    plane < 4 && 0 < count && count <= 256 && offset as u32 + count as u32 <= 0x1_0000
 }
 
 /// Writes bytes of a plane as text: 1 to 256, from an offset on, to the end of the plane at most.
@@ -162,14 +155,13 @@ pub extern "C" fn zak_show_plane(
     text: &mut [u8],
     len: &mut usize,
 ) -> u32
-    ensures dump { IsShownInRange (shown_as.Plane plane offset count) →
-        Dumps (shown_as.Plane plane offset count) card.old card.new text.new len.new result }
-    ensures closed { LeavesClosed card.old card.new result }
+    ensures { ShowsPart plane offset count card.old card.new (told text.old len.old)
+        (told text.new len.new) result }
 {
     if !card.is_open {
         return NO_CARD;
     }
-    if plane >= 4 || count == 0 || count > 256 || offset as u32 + count as u32 > 65_536 {
+    if !is_plane_part(plane, offset, count) {
         return BAD_ARGUMENT;
     }
     let shown = Shown::Plane {

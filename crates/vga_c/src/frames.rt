@@ -1,11 +1,15 @@
 //! Frames and their pictures.
-ghost use Rattle.std.specs.Prelude.{◌≡◌};
+ghost use Rattle.std.specs.Prelude.{◌≡◌, ◌+◌, ◌*◌, ◌<◌, ◌≤◌, length, slice_index};
+ghost use Rattle.vga_card.specs.Frames.{IsSmall};
 ghost use Rattle.vga_run.specs.Answer.{of_drawn};
 ghost use Rattle.vga_run.specs.Step.{after_step, answer_to};
 ghost use Rattle.vga_script.specs.declared.step.Step.TheVariants.{Frame};
-ghost use Rattle.vga_c.specs.Cards.{LeavesClosed};
-ghost use Rattle.vga_c.specs.Frames.{Draws, EndsFrame, HasPicture};
+ghost use Rattle.vga_c.specs.Cards.{LeavesClosed, Spares};
+ghost use Rattle.vga_c.specs.Frames.{DrawsBytes, DrawsWords, EndsFrame, HasBytes, HasWords};
+ghost use Rattle.vga_c.specs.Frames.{IsWordPicture, dot_word as dot_word_of};
+ghost use Rattle.vga_c.specs.Frames.{eight_bits as eight_bits_of, has_room as has_room_of};
 
+use crate::buffer::write_front;
 use crate::handle::{Handle, on_open_card};
 use crate::status::{DONE, NO_ROOM, RAGGED};
 use std::alloc::Global;
@@ -20,34 +24,31 @@ pub struct Size {
     pub height: u32,
 }
 
-/// Gives the caller a picture, red, green and blue of each dot.
-fn tell(drawn: Drawn<'_>, size: &mut Size, rgb: &mut [u8]) -> u32
-    ensures { HasPicture (of_drawn drawn.entry) size.new rgb.new result }
+/// Gives the caller a picture as red, green and blue of each dot.
+fn tell_bytes(drawn: Drawn<'_>, size: &mut Size, rgb: &mut [u8]) -> u32
+    ensures { HasBytes (of_drawn drawn.entry) size.old size.new rgb.old rgb.new result }
 {
     match drawn {
         Drawn::Picture(width, height, bytes) => {
             *size = Size { width, height };
-            if rgb.len() < bytes.len() {
-                return NO_ROOM;
-            }
-            let (front, _) = rgb.split_at_mut(bytes.len());
-            front.copy_from_slice(bytes);
-            DONE
+            write_front(rgb, bytes)
         }
         Drawn::Ragged => RAGGED,
     }
 }
 
 /// Lets the clock of a machine run to the end of the frame under way.
-#[tactic(auto, using(crate::proofs::FrameLemmas::told_frame), unfolding(vga_run::specs::Step::after_step, vga_run::specs::Step::answer_to))]
+#[tactic(auto, using(crate::proofs::FrameLemmas::bytes_of_frame), unfolding(vga_run::specs::Step::after_step, vga_run::specs::Step::answer_to))]
 fn frame(machine: &mut Machine, size: &mut Size, rgb: &mut [u8]) -> u32
     ensures after { machine.new ≡ after_step machine.old Frame }
-    ensures picture { HasPicture (answer_to machine.old Frame) size.new rgb.new result }
+    ensures picture { HasBytes (answer_to machine.old Frame) size.old size.new rgb.old rgb.new
+        result }
 {
-    tell(machine.card.frame(), size, rgb)
+    tell_bytes(machine.card.frame(), size, rgb)
 }
 
-/// Lets the clock run to the end of the frame under way, and copies its picture.
+/// Lets the clock run to the end of the frame under way, and copies its picture: red, green and
+/// blue of each dot, 0 to 63 each.
 #[unsafe(no_mangle)]
 pub extern "C" fn zak_frame(
     alloc: Global,
@@ -56,8 +57,115 @@ pub extern "C" fn zak_frame(
     rgb: &mut [u8],
 ) -> u32
     ensures frame { EndsFrame card.old card.new }
-    ensures picture { Draws card.old size.new rgb.new result }
+    ensures picture { DrawsBytes card.old size.old size.new rgb.old rgb.new result }
     ensures closed { LeavesClosed card.old card.new result }
+    ensures size { Spares card.old size.old size.new }
+    ensures rgb { Spares card.old rgb.old rgb.new }
 {
     on_open_card!(alloc, card, machine => frame(machine, size, rgb))
+}
+
+/// Eight bits of a component of six.
+fn eight_bits(six: u8) -> u32
+    ensures { result ≡ eight_bits_of six }
+{
+    4 * six as u32 + six as u32 / 16
+}
+
+/// The word of dot i of a picture.
+fn dot_word(bytes: &[u8], i: usize) -> u32
+    requires { 3 * i + 2 < length bytes.now }
+    ensures { result ≡ dot_word_of bytes.now i }
+{
+    let red = eight_bits(bytes[3 * i]);
+    let green = eight_bits(bytes[3 * i + 1]);
+    let blue = eight_bits(bytes[3 * i + 2]);
+    0x1_0000 * red + (0x100 * green + blue)
+}
+
+/// Writes the words of so many dots of a picture, from dot `first` on, to the caller's, from `at`
+/// on.
+fn write_row(bytes: &[u8], first: usize, width: usize, pixels: &mut [u32], at: usize)
+    requires dots { 3 * (first + width) ≤ length bytes.now }
+    requires room { at + width ≤ length pixels.old }
+    ensures dots { (x : ℕ) → x < width →
+        slice_index pixels.new (at + x) ≡ dot_word_of bytes.now (first + x) }
+    ensures before { (i : ℕ) → i < at → slice_index pixels.new i ≡ slice_index pixels.old i }
+    ensures behind { (i : ℕ) → at + width ≤ i → slice_index pixels.new i ≡ slice_index pixels.old
+        i }
+    ensures size { length pixels.new ≡ length pixels.old }
+{
+    for x in 0..width {
+        pixels[at + x] = dot_word(bytes, first + x);
+    }
+}
+
+/// Writes the words of a picture to the caller's, of which each row begins so many behind the one
+/// before.
+fn write_rows(bytes: &[u8], width: usize, height: usize, pixels: &mut [u32], pitch: usize)
+    requires dots { length bytes.now ≡ 3 * (width * height) }
+    requires width { width ≤ pitch }
+    requires room { pitch * height ≤ length pixels.old }
+    ensures { IsWordPicture width height pitch bytes.now pixels.old pixels.new }
+{
+    for y in 0..height {
+        write_row(bytes, width * y, width, pixels, pitch * y);
+    }
+}
+
+/// Whether so many words have room for the rows of a picture at their pitch.
+fn has_room(width: usize, height: usize, pitch: usize, len: usize) -> bool
+    ensures { result ≡ has_room_of width height pitch len }
+{
+    match pitch.checked_mul(height) {
+        Some(words) => width <= pitch && words <= len,
+        None => false,
+    }
+}
+
+/// Gives the caller a picture as a word of each dot.
+fn tell_words(drawn: Drawn<'_>, size: &mut Size, pixels: &mut [u32], pitch: usize) -> u32
+    requires { IsSmall drawn }
+    ensures { HasWords (of_drawn drawn.entry) pitch size.old size.new pixels.old pixels.new result }
+{
+    match drawn {
+        Drawn::Picture(width, height, bytes) => {
+            *size = Size { width, height };
+            if !has_room(width as usize, height as usize, pitch, pixels.len()) {
+                return NO_ROOM;
+            }
+            write_rows(bytes, width as usize, height as usize, pixels, pitch);
+            DONE
+        }
+        Drawn::Ragged => RAGGED,
+    }
+}
+
+/// Lets the clock of a machine run to the end of the frame under way.
+#[tactic(auto, using(crate::proofs::FrameLemmas::words_of_frame), unfolding(vga_run::specs::Step::after_step, vga_run::specs::Step::answer_to))]
+fn frame_words(machine: &mut Machine, size: &mut Size, pixels: &mut [u32], pitch: usize) -> u32
+    ensures after { machine.new ≡ after_step machine.old Frame }
+    ensures picture { HasWords (answer_to machine.old Frame) pitch size.old size.new pixels.old
+        pixels.new result }
+{
+    tell_words(machine.card.frame(), size, pixels, pitch)
+}
+
+/// Lets the clock run to the end of the frame under way, and writes its picture as words 00RRGGBB,
+/// of which each row begins so many behind the one before.
+#[unsafe(no_mangle)]
+pub extern "C" fn zak_frame_xrgb(
+    alloc: Global,
+    card: &mut Handle,
+    size: &mut Size,
+    pixels: &mut [u32],
+    pitch: usize,
+) -> u32
+    ensures frame { EndsFrame card.old card.new }
+    ensures picture { DrawsWords card.old pitch size.old size.new pixels.old pixels.new result }
+    ensures closed { LeavesClosed card.old card.new result }
+    ensures size { Spares card.old size.old size.new }
+    ensures pixels { Spares card.old pixels.old pixels.new }
+{
+    on_open_card!(alloc, card, machine => frame_words(machine, size, pixels, pitch))
 }

@@ -1,9 +1,9 @@
 //! Opening and closing a card.
-ghost use Rattle.std.specs.Prelude.{◌≡◌, IfOk, false, length};
-ghost use Rattle.bios_modes.specs.Fonts.{fonts_of, file_len};
+ghost use Rattle.std.specs.Prelude.{◌≡◌, IfErr, IfOk, length};
+ghost use Rattle.bios_modes.specs.Fonts.{fonts_of, file_len, IsFontFault};
 ghost use Rattle.vga_run.specs.Machine.{power_on_machine};
 ghost use Rattle.vga_c.specs.Cards.{LeavesClosed};
-ghost use Rattle.vga_c.specs.Opening.{Opens};
+ghost use Rattle.vga_c.specs.Opening.{Closes, LeavesOpen, Opens, RefusesFile};
 
 use crate::handle::{Handle, give, take};
 use crate::status::{DONE, FONT_SIZE, NO_CARD, OPEN_ALREADY, OUT_OF_MEMORY};
@@ -14,8 +14,9 @@ use vga_run::machine::Machine;
 
 /// A machine at power-on, with the fonts of a font file.
 fn power_on(alloc: Global, file: &[u8]) -> Result<Machine, Fault>
-    ensures { IfOk result (λ machine. (length file.now ≡ file_len)
+    ensures ok { IfOk result (λ machine. (length file.now ≡ file_len)
         × (machine ≡ power_on_machine (fonts_of file.now))) }
+    ensures err { IfErr result (IsFontFault file.now) }
 {
     let fonts = Fonts::from_bytes(alloc, file)?;
     Machine::power_on(alloc, fonts)
@@ -24,7 +25,9 @@ fn power_on(alloc: Global, file: &[u8]) -> Result<Machine, Fault>
 /// Opens a card, with a machine at power-on that has the fonts of a font file.
 #[unsafe(no_mangle)]
 pub extern "C" fn zak_open(alloc: Global, card: &mut Handle, fonts: &[u8]) -> u32
-    ensures { Opens fonts.now card.old card.new result }
+    ensures opened { Opens fonts.now card.old card.new result }
+    ensures file { RefusesFile fonts.now card.old card.new result }
+    ensures open { LeavesOpen card.old card.new result }
 {
     if card.is_open {
         return OPEN_ALREADY;
@@ -47,7 +50,7 @@ pub extern "C" fn zak_open(alloc: Global, card: &mut Handle, fonts: &[u8]) -> u3
 /// Closes a card, and frees its memory.
 #[unsafe(no_mangle)]
 pub extern "C" fn zak_close(alloc: Global, card: &mut Handle) -> u32
-    ensures after { card.new.is_open ≡ false }
+    ensures open { Closes card.old card.new result }
     ensures closed { LeavesClosed card.old card.new result }
 {
     if !card.is_open {

@@ -1,55 +1,55 @@
 //! A whole run: the bytes of a script in, its report out.
-ghost use Rattle.std.specs.Prelude.{◌≡◌, ◌≤◌, IfOk, List};
-ghost use Rattle.bios_modes.specs.Fonts.{fonts_of};
-ghost use Rattle.vga_script.specs.declared.step.Step.{Step};
-ghost use Rattle.vga_script.specs.Spelled.{SpellsExpanded};
-ghost use Rattle.vga_run.specs.Report.{report_of};
-ghost use Rattle.vga_c.specs.Runs.{IsReported};
+ghost use Rattle.std.specs.Prelude.{◌≡◌, IfErr, IfOk};
+ghost use Rattle.vga_c.specs.Runs.{fault_place, fault_status as fault_status_of, IsFirstFault};
+ghost use Rattle.vga_c.specs.Runs.{IsReport, Runs, told};
 
 use crate::buffer::copy_front;
+use crate::status::{FONT_SIZE, OUT_OF_MEMORY};
 use std::alloc::Global;
 use vga_bits::{Fault, Tracked};
 use vga_run::run_bytes;
 
-/// The report of a script, or the fault that ends its run.
+/// The report of a script, or the first fault.
+#[tactic(auto, using(crate::proofs::RunLemmas::first_fault))]
 fn report(alloc: Global, script: &[u8], fonts: &[u8]) -> Result<Vec<u8>, Fault>
-    ensures { IfOk result (λ report. (steps : List Step) × SpellsExpanded script.now steps
-        × (report.items ≡ report_of (fonts_of fonts.now) steps)) }
+    ensures ok { IfOk result (λ report. IsReport fonts.now script.now report.items) }
+    ensures err { IfErr result (IsFirstFault fonts.now script.now) }
 {
     let mut out = Tracked::new(Vec::new(alloc));
     run_bytes(alloc, script, fonts, &mut out, None)?;
     Ok(out.into_inner())
 }
 
-/// The number of a fault, and the place of one that has a place.
-fn fault_status(fault: Fault, at: &mut usize) -> u32
-    ensures { 101 ≤ result }
+/// The number of a fault. The writer of a run is memory: it fails where there is none.
+fn fault_status(fault: Fault) -> u32
+    ensures { result ≡ fault_status_of fault }
 {
     match fault {
-        Fault::FontSize => 101,
+        Fault::FontSize => FONT_SIZE,
         Fault::BadMagic => 102,
         Fault::BadVersion => 103,
-        Fault::BadStep(place) => {
-            *at = place;
-            104
-        }
-        Fault::Truncated(place) => {
-            *at = place;
-            105
-        }
+        Fault::BadStep(_) => 104,
+        Fault::Truncated(_) => 105,
         Fault::TooLong => 106,
         Fault::BadLine(_) => 107,
         Fault::ReadFault => 108,
-        Fault::WriteFault => 109,
-        Fault::OutOfMemory => 110,
-        Fault::TooMany(place) => {
-            *at = place;
-            111
-        }
+        Fault::WriteFault | Fault::OutOfMemory => OUT_OF_MEMORY,
+        Fault::TooMany(_) => 111,
+    }
+}
+
+/// Gives the caller the place of a fault that has one.
+fn tell_place(fault: Fault, place: &mut usize)
+    ensures { place.new ≡ fault_place fault place.old }
+{
+    match fault {
+        Fault::BadStep(at) | Fault::Truncated(at) | Fault::TooMany(at) => *place = at,
+        _ => {}
     }
 }
 
 /// Runs a script from power-on, and writes its report. With no room, `len` tells how much it takes.
+#[tactic(auto, using(crate::proofs::RunLemmas::has_report, crate::proofs::RunLemmas::has_fault))]
 #[unsafe(no_mangle)]
 pub extern "C" fn zak_run(
     alloc: Global,
@@ -57,12 +57,16 @@ pub extern "C" fn zak_run(
     fonts: &[u8],
     out: &mut [u8],
     len: &mut usize,
-    at: &mut usize,
+    place: &mut usize,
 ) -> u32
-    ensures { result ≡ 0 → IsReported script.now fonts.now out.new len.new }
+    ensures { Runs fonts.now script.now (told out.old len.old place.old)
+        (told out.new len.new place.new) result }
 {
     match report(alloc, script, fonts) {
         Ok(report) => copy_front(out, len, report.as_slice()),
-        Err(fault) => fault_status(fault, at),
+        Err(fault) => {
+            tell_place(fault, place);
+            fault_status(fault)
+        }
     }
 }

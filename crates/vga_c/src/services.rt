@@ -1,8 +1,8 @@
 //! Interrupt 10.
 ghost use Rattle.std.specs.Prelude.{◌≡◌};
 ghost use Rattle.bios_modes.specs.Valid.{IsValid};
-ghost use Rattle.vga_c.specs.Cards.{LeavesClosed};
-ghost use Rattle.vga_c.specs.Services.{Calls, HasOutcome, IsCalled};
+ghost use Rattle.vga_c.specs.Cards.{LeavesClosed, Spares};
+ghost use Rattle.vga_c.specs.Services.{call_step, Calls, HasOutcome, IsCalled, LeavesBad, told};
 
 use crate::buffer::copy_front;
 use crate::handle::{Handle, on_open_card};
@@ -14,7 +14,7 @@ use vga_run::machine::Machine;
 /// The registers of a call.
 #[repr(C)]
 #[derive(Clone, Copy)]
-pub struct Registers {
+pub struct CallRegisters {
     pub ax: u16,
     pub bx: u16,
     pub cx: u16,
@@ -24,16 +24,17 @@ pub struct Registers {
 /// Gives the caller what a service answers.
 fn tell(
     outcome: Result<Reply, ServiceError>,
-    registers: &mut Registers,
+    registers: &mut CallRegisters,
     table: &mut [u8],
     len: &mut usize,
 ) -> u32
-    ensures { HasOutcome outcome registers.old registers.new table.new len.new result }
+    ensures { HasOutcome outcome (told registers.old table.old len.old)
+        (told registers.new table.new len.new) result }
 {
     match outcome {
         Ok(reply) => {
             let Regs { ax, bx, cx, dx } = reply.regs;
-            *registers = Registers { ax, bx, cx, dx };
+            *registers = CallRegisters { ax, bx, cx, dx };
             copy_front(table, len, reply.table.as_slice())
         }
         Err(ServiceError::Refused(refusal)) => refusal_status(refusal),
@@ -41,23 +42,21 @@ fn tell(
     }
 }
 
-/// Calls the video BIOS of a machine.
-#[tactic(auto, using(crate::proofs::ServiceLemmas::told_service), unfolding(vga_run::specs::Step::called))]
-fn call(
+/// Calls the video BIOS of a machine, whose data are valid.
+#[tactic(auto, using(crate::proofs::ServiceLemmas::told_service))]
+fn call_valid(
     alloc: Global,
     machine: &mut Machine,
-    registers: &mut Registers,
+    registers: &mut CallRegisters,
     block: &[u8],
     table: &mut [u8],
     len: &mut usize,
 ) -> u32
-    ensures called { IsValid machine.old.bda → IsCalled machine.old machine.new registers.old
-        registers.new block.now table.new len.new result }
-    ensures valid { IsValid machine.old.bda → IsValid machine.new.bda }
+    requires { IsValid machine.old.bda }
+    ensures called { IsCalled machine.old machine.new (call_step registers.old block.now)
+        (told registers.old table.old len.old) (told registers.new table.new len.new) result }
+    ensures valid { IsValid machine.new.bda }
 {
-    if !machine.bda.valid() {
-        return BAD_CARD;
-    }
     let regs = Regs {
         ax: registers.ax,
         bx: registers.bx,
@@ -75,19 +74,45 @@ fn call(
     tell(outcome, registers, table, len)
 }
 
+/// Calls the video BIOS of a machine, if its data are valid.
+fn call(
+    alloc: Global,
+    machine: &mut Machine,
+    registers: &mut CallRegisters,
+    block: &[u8],
+    table: &mut [u8],
+    len: &mut usize,
+) -> u32
+    ensures called { IsValid machine.old.bda → IsCalled machine.old machine.new
+        (call_step registers.old block.now) (told registers.old table.old len.old)
+        (told registers.new table.new len.new) result }
+    ensures valid { IsValid machine.old.bda → IsValid machine.new.bda }
+    ensures bad { (IsValid machine.old.bda → ⊥) → (result ≡ bad_card) × ((machine.new ≡ machine.old)
+        × (told registers.new table.new len.new ≡ told registers.old table.old len.old)) }
+{
+    if !machine.bda.valid() {
+        return BAD_CARD;
+    }
+    call_valid(alloc, machine, registers, block, table, len)
+}
+
 /// Calls the video BIOS: AX, BX, CX and DX are those of interrupt 10.
 #[unsafe(no_mangle)]
 pub extern "C" fn zak_int10(
     alloc: Global,
     card: &mut Handle,
-    registers: &mut Registers,
+    registers: &mut CallRegisters,
     block: &[u8],
     table: &mut [u8],
     len: &mut usize,
 ) -> u32
-    ensures called { Calls card.old card.new registers.old registers.new block.now table.new len.new
-        result }
+    ensures called { Calls card.old card.new block.now (told registers.old table.old len.old)
+        (told registers.new table.new len.new) result }
+    ensures bad { LeavesBad card.old card.new (told registers.old table.old len.old)
+        (told registers.new table.new len.new) result }
     ensures closed { LeavesClosed card.old card.new result }
+    ensures spared { Spares card.old (told registers.old table.old len.old)
+        (told registers.new table.new len.new) }
 {
     on_open_card!(alloc, card, machine => call(alloc, machine, registers, block, table, len))
 }

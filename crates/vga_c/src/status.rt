@@ -29,8 +29,11 @@ pub(crate) const NO_ROOM: u32 = 25;
 /// An argument is out of range.
 pub(crate) const BAD_ARGUMENT: u32 = 26;
 
-/// The card's memory is not one that the calls leave.
+/// The BIOS data are not valid.
 pub(crate) const BAD_CARD: u32 = 27;
+
+/// The adapter shows no plain screen.
+pub(crate) const NO_SCREEN: u32 = 28;
 
 /// The number of a refusal.
 pub(crate) fn refusal_status(refusal: Refusal) -> u32

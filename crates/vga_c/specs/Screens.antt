@@ -1,0 +1,85 @@
+-- The plain screen that a machine shows, as the caller has it.
+use Rattle.std.specs.Prelude.{◌≡◌, ◌⊎◌, ◌+◌, ◌*◌, ℕ, true, Option, None, Some}
+use Rattle.bios_modes.specs.declared.modes.ModeRow.{ModeRow}
+use Rattle.bios_modes.specs.Bda.{BiosData}
+use Rattle.bios_modes.specs.Kinds.{is_text}
+use Rattle.bios_screen.specs.Screen.{Screen}
+use Rattle.bios_screen.specs.Parts.{cell_at, pixel_at, cursor_at}
+use Rattle.bios_screen.specs.Shown.{shown}
+use Rattle.vga_run.specs.declared.machine.Machine.{Machine}
+use Rattle.vga_c.specs.declared.handle.Handle.{Handle}
+use Rattle.vga_c.specs.declared.screens.ScreenLayout.{ScreenLayout}
+use Rattle.vga_c.specs.declared.screens.Cell.{Cell}
+use Rattle.vga_c.specs.declared.screens.Place.{Place}
+use Rattle.vga_c.specs.State.{flag}
+use Rattle.vga_c.specs.Status.{bad_argument, no_screen, out_of_memory}
+
+-- mode, page and sizes of a screen
+abbrev pub layout_in : Screen → ScreenLayout
+layout_in s = record {
+  width = 8 * s.layout.columns;
+  height = s.layout.height * s.layout.rows;
+  columns = s.layout.columns;
+  rows = s.layout.rows;
+  mode = s.mode;
+  is_text = flag (is_text s.mode);
+  page = s.page;
+  pages = s.layout.pages;
+}
+
+-- the same of the BIOS data, where the mode has this row
+abbrev pub layout_by : Option ModeRow → BiosData → Option ScreenLayout
+layout_by None d = None
+layout_by (Some row) d = Some (record {
+  width = 8 * d.columns;
+  height = d.height * (d.last_row + 1);
+  columns = d.columns;
+  rows = d.last_row + 1;
+  mode = d.mode;
+  is_text = flag (is_text d.mode);
+  page = d.page;
+  pages = row.pages;
+})
+
+-- a cell, as the caller has it
+abbrev pub cell_of : Option (ℕ × ℕ) → Option Cell
+cell_of None = None
+cell_of (Some cell) = Some (record { character = cell.0; attribute = cell.1 })
+
+-- a place of the cursor, as the caller has it
+abbrev pub place_of : Option (ℕ × ℕ) → Option Place
+place_of None = None
+place_of (Some place) = Some (record { row = place.0; column = place.1 })
+
+-- the caller has what was asked for, if there is such
+abbrev pub IsAnswered : {A : Type 0} → Option A → A → A → ℕ → Type 0
+IsAnswered None before after status = (after ≡ before) × (status ≡ bad_argument)
+IsAnswered (Some value) before after status = (after ≡ value) × (status ≡ 0)
+
+-- that is so of the screen that is shown, if there is one
+abbrev pub IsAsked : {A : Type 0} → Option Screen → (Screen → Option A) → A → A → ℕ → Type 0
+IsAsked None ask before after status = (after ≡ before) × (status ≡ no_screen)
+IsAsked (Some screen) ask before after status = IsAnswered (ask screen) before after status
+
+-- and of the one that a machine shows; or there was no memory to read it
+abbrev pub HasOfScreen : {A : Type 0} → Machine → (Screen → Option A) → A → A → ℕ → Type 0
+HasOfScreen m ask before after status = ((after ≡ before) × (status ≡ out_of_memory))
+    ⊎ IsAsked (shown m.card m.bda) ask before after status
+
+-- that is so of an open card
+abbrev pub Asks : {A : Type 0} → (Screen → Option A) → Handle → A → A → ℕ → Type 0
+Asks ask card before after status = card.is_open ≡ true →
+    HasOfScreen card.sealed.machine ask before after status
+
+-- what is asked of a screen: its layout, a cell, a pixel, the cursor's place on a page
+abbrev pub ask_layout : Screen → Option ScreenLayout
+ask_layout s = Some (layout_in s)
+
+abbrev pub ask_cell : ℕ → ℕ → ℕ → Screen → Option Cell
+ask_cell page row column s = cell_of (cell_at s page row column)
+
+abbrev pub ask_pixel : ℕ → ℕ → ℕ → Screen → Option ℕ
+ask_pixel page x y s = pixel_at s page x y
+
+abbrev pub ask_cursor : ℕ → Screen → Option Place
+ask_cursor page s = place_of (cursor_at s page)

@@ -1,0 +1,208 @@
+//! The plain screen that an open card shows.
+ghost use Rattle.std.specs.Prelude.{◌≡◌};
+ghost use Rattle.bios_modes.specs.Heights.{row_at as row_at_of};
+ghost use Rattle.bios_screen.specs.Parts.{cell_at, cursor_at};
+ghost use Rattle.vga_c.specs.Cards.{Keeps, LeavesClosed, Spares};
+ghost use Rattle.vga_c.specs.Screens.{ask_cell, ask_cursor, ask_layout, ask_pixel, Asks, cell_of};
+ghost use Rattle.vga_c.specs.Screens.{HasOfScreen, IsAnswered, layout_by, place_of};
+
+use crate::handle::{Handle, on_open_card};
+use crate::status::{BAD_ARGUMENT, DONE, NO_SCREEN, OUT_OF_MEMORY};
+use bios_modes::{Bda, is_text, row_at};
+use bios_screen::Screen;
+use std::alloc::Global;
+use vga_run::machine::Machine;
+
+/// Mode, page and sizes of a screen.
+#[repr(C)]
+#[derive(Clone, Copy)]
+pub struct ScreenLayout {
+    pub width: u32,
+    pub height: u32,
+    pub columns: u16,
+    pub rows: u16,
+    pub mode: u8,
+    pub is_text: u8,
+    pub page: u8,
+    pub pages: u8,
+}
+
+/// A character and its attribute.
+#[repr(C)]
+#[derive(Clone, Copy)]
+pub struct Cell {
+    pub character: u8,
+    pub attribute: u8,
+}
+
+/// A place of the cursor.
+#[repr(C)]
+#[derive(Clone, Copy)]
+pub struct Place {
+    pub row: u8,
+    pub column: u8,
+}
+
+/// What a call answers that asks for a part of the screen that a machine shows, if it shows one.
+macro_rules! on_screen {
+    ($alloc:ident, $machine:ident, $screen:ident => $found:expr, $to:ident) => {
+        match Screen::read($alloc, &$machine.card, &$machine.bda) {
+            Ok(Some($screen)) => answer($found, $to),
+            Ok(None) => NO_SCREEN,
+            Err(_) => OUT_OF_MEMORY,
+        }
+    };
+}
+
+/// Gives the caller what was found.
+fn answer<T: Copy>(found: Option<T>, to: &mut T) -> u32
+    ensures { IsAnswered found to.old to.new result }
+{
+    match found {
+        Some(value) => {
+            *to = value;
+            DONE
+        }
+        None => BAD_ARGUMENT,
+    }
+}
+
+/// The layout of the screen that is shown with these data.
+fn layout_of(bda: &Bda) -> Option<ScreenLayout>
+    ensures { result ≡ layout_by (row_at_of bda.now.mode bda.now.height) bda.now }
+{
+    let row = row_at(bda.mode(), bda.height())?;
+    let rows = bda.last_row() as u16 + 1;
+    Some(ScreenLayout {
+        width: 8 * bda.columns() as u32,
+        height: bda.height() as u32 * rows as u32,
+        columns: bda.columns(),
+        rows,
+        mode: bda.mode(),
+        is_text: is_text(bda.mode()) as u8,
+        page: bda.page(),
+        pages: row.pages,
+    })
+}
+
+/// Asks for the layout of a machine's screen.
+#[tactic(auto, using(crate::proofs::ScreenLemmas::layout_shown))]
+fn read_layout(alloc: Global, machine: &Machine, layout: &mut ScreenLayout) -> u32
+    ensures { HasOfScreen machine.now ask_layout layout.old layout.new result }
+{
+    on_screen!(alloc, machine, _screen => layout_of(&machine.bda), layout)
+}
+
+/// Reads mode, page and sizes of the screen that is shown.
+#[unsafe(no_mangle)]
+pub extern "C" fn zak_screen_read(
+    alloc: Global,
+    card: &mut Handle,
+    layout: &mut ScreenLayout,
+) -> u32
+    ensures card { Keeps card.old card.new }
+    ensures layout { Asks ask_layout card.old layout.old layout.new result }
+    ensures closed { LeavesClosed card.old card.new result }
+    ensures spared { Spares card.old layout.old layout.new }
+{
+    on_open_card!(alloc, card, machine => read_layout(alloc, machine, layout))
+}
+
+/// The cell of a page at a row and a column.
+fn cell_in(screen: &Screen, page: u8, row: u8, column: u8) -> Option<Cell>
+    ensures { result ≡ cell_of (cell_at screen.now page row column) }
+{
+    let (character, attribute) = screen.cell(page, row, column)?;
+    Some(Cell {
+        character,
+        attribute,
+    })
+}
+
+/// Asks for a cell of a machine's screen.
+fn read_cell(
+    alloc: Global,
+    machine: &Machine,
+    page: u8,
+    row: u8,
+    column: u8,
+    cell: &mut Cell,
+) -> u32
+    ensures { HasOfScreen machine.now (ask_cell page row column) cell.old cell.new result }
+{
+    on_screen!(alloc, machine, screen => cell_in(&screen, page, row, column), cell)
+}
+
+/// Reads a cell of the screen that is shown.
+#[unsafe(no_mangle)]
+pub extern "C" fn zak_screen_cell(
+    alloc: Global,
+    card: &mut Handle,
+    page: u8,
+    row: u8,
+    column: u8,
+    cell: &mut Cell,
+) -> u32
+    ensures card { Keeps card.old card.new }
+    ensures cell { Asks (ask_cell page row column) card.old cell.old cell.new result }
+    ensures closed { LeavesClosed card.old card.new result }
+    ensures spared { Spares card.old cell.old cell.new }
+{
+    on_open_card!(alloc, card, machine => read_cell(alloc, machine, page, row, column, cell))
+}
+
+/// Asks for a pixel of a machine's screen.
+fn read_pixel(alloc: Global, machine: &Machine, page: u8, x: u16, y: u16, pixel: &mut u8) -> u32
+    ensures { HasOfScreen machine.now (ask_pixel page x y) pixel.old pixel.new result }
+{
+    on_screen!(alloc, machine, screen => screen.pixel(page, x, y), pixel)
+}
+
+/// Reads a pixel of the screen that is shown.
+#[unsafe(no_mangle)]
+pub extern "C" fn zak_screen_pixel(
+    alloc: Global,
+    card: &mut Handle,
+    page: u8,
+    x: u16,
+    y: u16,
+    pixel: &mut u8,
+) -> u32
+    ensures card { Keeps card.old card.new }
+    ensures pixel { Asks (ask_pixel page x y) card.old pixel.old pixel.new result }
+    ensures closed { LeavesClosed card.old card.new result }
+    ensures spared { Spares card.old pixel.old pixel.new }
+{
+    on_open_card!(alloc, card, machine => read_pixel(alloc, machine, page, x, y, pixel))
+}
+
+/// The place of the cursor on a page.
+fn cursor_in(screen: &Screen, page: u8) -> Option<Place>
+    ensures { result ≡ place_of (cursor_at screen.now page) }
+{
+    let (row, column) = screen.cursor(page)?;
+    Some(Place { row, column })
+}
+
+/// Asks for the cursor's place on a machine's screen.
+fn read_cursor(alloc: Global, machine: &Machine, page: u8, place: &mut Place) -> u32
+    ensures { HasOfScreen machine.now (ask_cursor page) place.old place.new result }
+{
+    on_screen!(alloc, machine, screen => cursor_in(&screen, page), place)
+}
+
+/// Reads the cursor's place on a page of the screen that is shown.
+#[unsafe(no_mangle)]
+pub extern "C" fn zak_screen_cursor(
+    alloc: Global,
+    card: &mut Handle,
+    page: u8,
+    place: &mut Place,
+) -> u32
+    ensures card { Keeps card.old card.new }
+    ensures place { Asks (ask_cursor page) card.old place.old place.new result }
+    ensures closed { LeavesClosed card.old card.new result }
+    ensures spared { Spares card.old place.old place.new }
+{
+    on_open_card!(alloc, card, machine => read_cursor(alloc, machine, page, place))
+}
