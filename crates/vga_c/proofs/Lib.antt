@@ -1,5 +1,6 @@
 pub mod AsBox
 pub mod ServiceLemmas
 pub mod FrameLemmas
+pub mod RowLemmas
 pub mod RunLemmas
 pub mod ScreenLemmas

@@ -29,7 +29,7 @@ pub told_service : (m : Machine) (c : CardState) (d : BiosData) (block : List �
     → (outcome ≡ Err OutOfMemory → takes_memory (call_of (regs_of before)) m.bda ≡ true)
     → HasOutcome outcome before after status
     → IsCalled m (with m c d) (call_step before.registers block) before after status
-unfolding called, after_step, answer_to
+unfolding called after_step answer_to
 told_service m c d block before after status (Ok reply) e takes told = inr (subst (Known m c d before after status) e (refl, told))
 told_service m c d block before after status (Err (Refused why)) e takes told = inr (subst (Known m c d before after status) e (refl, told))
 told_service m c d block before after status (Err OutOfMemory) e takes told =

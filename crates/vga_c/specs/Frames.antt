@@ -1,6 +1,6 @@
 -- A frame's picture, as the caller has it.
-use Rattle.std.specs.Prelude.{◌≡◌, ◌+◌, ◌*◌, ◌/◌, ◌<◌, ◌≤◌, ◌&&◌, ℕ, true, nat_le, Bool}
-use Rattle.std.specs.Prelude.{if◌then◌else◌, List, length, slice_index}
+use Rattle.std.specs.Prelude.{◌≡◌, ◌+◌, ◌*◌, ◌/◌, ◌<◌, ◌≤◌, ◌&&◌, ℕ, true, false, nat_le, Bool}
+use Rattle.std.specs.Prelude.{List, length, slice_index}
 use Rattle.vga_script.specs.declared.step.Step.TheVariants.{Frame}
 use Rattle.vga_run.specs.Answer.{Reply, Picture, Ragged}
 use Rattle.vga_run.specs.Step.{after_step, answer_to}
@@ -64,9 +64,9 @@ has_room width height pitch len = nat_le width pitch && nat_le (pitch * height) 
 -- the words are there, where they have room
 abbrev pub IsInWords : ℕ → ℕ → ℕ → List ℕ → List ℕ → List ℕ → ℕ → Type 0
 IsInWords width height pitch bytes old new status =
-    if has_room width height pitch (length old)
-    then IsWordPicture width height pitch bytes old new × (status ≡ 0)
-    else (new ≡ old) × (status ≡ no_room)
+    (has_room width height pitch (length old) ≡ true →
+    IsWordPicture width height pitch bytes old new × (status ≡ 0))
+    × (has_room width height pitch (length old) ≡ false → (new ≡ old) × (status ≡ no_room))
 
 -- the caller has size and words of a picture, or only its size where there was no room; or it is
 -- told that rows differ in width, and has what it had

@@ -1,5 +1,5 @@
 -- The state of a machine, as the caller has it.
-use Rattle.std.specs.Prelude.{◌≡◌, ◌+◌, ◌<◌, ◌&&◌, ℕ, true, nat_lt, nat_le, Bool, List, [], ◌∷◌}
+use Rattle.std.specs.Prelude.{◌≡◌, ◌+◌, ◌<◌, ◌&&◌, ℕ, true, false, nat_lt, nat_le, Bool, List, [], ◌∷◌}
 use Rattle.std.specs.Prelude.{if◌then◌else◌, length, slice_index}
 use Rattle.vga_bits.specs.Four.{Four}
 use Rattle.vga_planes.specs.Planes.{byte_at}
@@ -102,9 +102,9 @@ is_in_plane plane offset count = nat_lt plane 4 && nat_le (offset + count) 0x1_0
 -- the caller's bytes are those of a plane, where it has so many
 abbrev pub IsPlaneRead : Four (List ℕ) → ℕ → ℕ → List ℕ → List ℕ → ℕ → Type 0
 IsPlaneRead memory plane offset old new status =
-    if is_in_plane plane offset (length old)
-    then IsPlanePart memory plane offset old new × (status ≡ 0)
-    else (new ≡ old) × (status ≡ bad_argument)
+    (is_in_plane plane offset (length old) ≡ true →
+    IsPlanePart memory plane offset old new × (status ≡ 0))
+    × (is_in_plane plane offset (length old) ≡ false → (new ≡ old) × (status ≡ bad_argument))
 
 -- that is so of an open card's memory
 abbrev pub TellsPlane : ℕ → ℕ → Handle → List ℕ → List ℕ → ℕ → Type 0

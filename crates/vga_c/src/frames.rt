@@ -1,5 +1,5 @@
 //! Frames and their pictures.
-ghost use Rattle.std.specs.Prelude.{◌≡◌, ◌+◌, ◌*◌, ◌<◌, ◌≤◌, length, slice_index};
+ghost use Rattle.std.specs.Prelude.{◌≡◌, ◌+◌, ◌*◌, ◌<◌, ◌≤◌, ℕ, length, slice_index};
 ghost use Rattle.vga_card.specs.Frames.{IsSmall};
 ghost use Rattle.vga_run.specs.Answer.{of_drawn};
 ghost use Rattle.vga_run.specs.Step.{after_step, answer_to};

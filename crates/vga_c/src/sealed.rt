@@ -56,3 +56,6 @@ impl Sealed {
         }
     }
 }
+
+// All of a machine is its own: it may go on in another thread.
+unsafe impl Send for Sealed {}
