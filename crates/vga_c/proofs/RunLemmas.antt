@@ -1,29 +1,14 @@
--- What a run answers over a writer that is memory.
-use Rattle.std.proofs.Common.{◌≡◌, false, ℕ, List, Option, None, Some, Result, Ok, Err, refl}
+-- What the caller has of a run is that of its outcome.
+use Rattle.std.proofs.Common.{◌≡◌, ℕ, List, Ok, Err, refl, subst, ap}
 use Rattle.vga_bits.specs.declared.fault.Fault.{Fault}
-use Rattle.vga_bits.specs.declared.fault.Fault.TheVariants as fault
-use Rattle.vga_bits.specs.LimitedReading.{is_read_fault}
-use Rattle.vga_run.specs.Run.{RunAnswers}
 use Rattle.vga_c.specs.Buffers.{IsCopied}
-use Rattle.vga_c.specs.Runs.{HasOutcome, IsFirstFault, IsReport, Runs, Told, fault_place, fault_status, told}
+use Rattle.vga_c.specs.Runs.{IsFirstFault, IsReport, Runs, fault_place, fault_status, told}
 
-pub first_fault : (file script : List ℕ) (before after : Option (List ℕ)) (why : Fault) →
-    RunAnswers None file (Some script) before after (Err why) → is_read_fault (Err why) ≡ false → IsFirstFault file script why
-first_fault file script before after fault.FontSize is read = is
-first_fault file script before after fault.BadMagic is read = is
-first_fault file script before after fault.BadVersion is read = is
-first_fault file script before after (fault.BadStep place) is read = is
-first_fault file script before after (fault.Truncated place) is read = is
-first_fault file script before after fault.TooLong is read = is
-first_fault file script before after (fault.BadLine line) is read = is
-first_fault file script before after fault.WriteFault is read = tt
-first_fault file script before after fault.OutOfMemory is read = tt
-first_fault file script before after (fault.TooMany place) is read = is
+pub has_report : (file script report bytes out_old out : List ℕ) (len_old len place status : ℕ) → IsReport file script report →
+    bytes ≡ report → IsCopied bytes out_old out len status → Runs file script (told out_old len_old place) (told out len place) status
+has_report file script report bytes out_old out len_old len place status is same copied =
+    (Ok report, is, (refl, subst (λ (b : List ℕ). IsCopied b out_old out len status) same copied))
 
-pub has_report : (file script report : List ℕ) (before after : Told) (status : ℕ) → IsReport file script report →
-    HasOutcome (Ok report) before after status → Runs file script before after status
-has_report file script report before after status is has = (Ok report, (is, has))
-
-pub has_fault : (file script : List ℕ) (why : Fault) (before after : Told) (status : ℕ) → IsFirstFault file script why →
-    HasOutcome (Err why) before after status → Runs file script before after status
-has_fault file script why before after status is has = (Err why, (is, has))
+pub has_fault : (file script out : List ℕ) (len place_old place status : ℕ) (why : Fault) → IsFirstFault file script why →
+    status ≡ fault_status why → place ≡ fault_place why place_old → Runs file script (told out len place_old) (told out len place) status
+has_fault file script out len place_old place status why is number at = (Err why, is, (number, ap (told out len) at))

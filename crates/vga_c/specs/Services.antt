@@ -15,7 +15,6 @@ use Rattle.vga_run.specs.Step.{TakesMemory, after_step, answer_to}
 use Rattle.vga_c.specs.declared.handle.Handle.{Handle}
 use Rattle.vga_c.specs.declared.services.CallRegisters.{CallRegisters}
 use Rattle.vga_c.specs.Buffers.{IsCopied}
-use Rattle.vga_c.specs.Cards.{Holds}
 use Rattle.vga_c.specs.Status.{bad_card, out_of_memory, refusal_status}
 
 -- what the caller has of a call: the registers, a buffer for a table, and how long the table is
@@ -64,8 +63,12 @@ Calls old new block before after status = old.is_open ≡ true → IsValid old.s
     × IsCalled old.sealed.machine new.sealed.machine (call_step before.registers block) before after
     status)
 
--- an open card with other data stays as it is, and so does all that is the caller's
+-- a machine with other data stays as it is, and so does all that is the caller's
+abbrev pub IsLeftBad : Machine → Machine → Told → Told → ℕ → Type 0
+IsLeftBad old new before after status = (IsValid old.bda → ⊥) →
+    (new ≡ old) × ((after ≡ before) × (status ≡ bad_card))
+
+-- that is so of the machine of an open card
 abbrev pub LeavesBad : Handle → Handle → Told → Told → ℕ → Type 0
 LeavesBad old new before after status = old.is_open ≡ true →
-    (IsValid old.sealed.machine.bda → ⊥) →
-    Holds new old.sealed.machine × ((after ≡ before) × (status ≡ bad_card))
+    (new.is_open ≡ true) × IsLeftBad old.sealed.machine new.sealed.machine before after status

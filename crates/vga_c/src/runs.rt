@@ -10,7 +10,6 @@ use vga_bits::{Fault, Tracked};
 use vga_run::run_bytes;
 
 /// The report of a script, or the first fault.
-#[tactic(auto, using(crate::proofs::RunLemmas::first_fault))]
 fn report(alloc: Global, script: &[u8], fonts: &[u8]) -> Result<Vec<u8>, Fault>
     ensures ok { IfOk result (λ report. IsReport fonts.now script.now report.items) }
     ensures err { IfErr result (IsFirstFault fonts.now script.now) }
@@ -49,7 +48,6 @@ fn tell_place(fault: Fault, place: &mut usize)
 }
 
 /// Runs a script from power-on, and writes its report. With no room, `len` tells how much it takes.
-#[tactic(auto, using(crate::proofs::RunLemmas::has_report, crate::proofs::RunLemmas::has_fault))]
 #[unsafe(no_mangle)]
 pub extern "C" fn zak_run(
     alloc: Global,

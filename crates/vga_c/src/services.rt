@@ -2,7 +2,8 @@
 ghost use Rattle.std.specs.Prelude.{◌≡◌};
 ghost use Rattle.bios_modes.specs.Valid.{IsValid};
 ghost use Rattle.vga_c.specs.Cards.{LeavesClosed, Spares};
-ghost use Rattle.vga_c.specs.Services.{call_step, Calls, HasOutcome, IsCalled, LeavesBad, told};
+ghost use Rattle.vga_c.specs.Services.{call_step, Calls, HasOutcome, IsCalled, IsLeftBad, LeavesBad};
+ghost use Rattle.vga_c.specs.Services.{told};
 
 use crate::buffer::copy_front;
 use crate::handle::{Handle, on_open_card};
@@ -87,8 +88,8 @@ fn call(
         (call_step registers.old block.now) (told registers.old table.old len.old)
         (told registers.new table.new len.new) result }
     ensures valid { IsValid machine.old.bda → IsValid machine.new.bda }
-    ensures bad { (IsValid machine.old.bda → ⊥) → (result ≡ bad_card) × ((machine.new ≡ machine.old)
-        × (told registers.new table.new len.new ≡ told registers.old table.old len.old)) }
+    ensures bad { IsLeftBad machine.old machine.new (told registers.old table.old len.old)
+        (told registers.new table.new len.new) result }
 {
     if !machine.bda.valid() {
         return BAD_CARD;
