@@ -191,11 +191,11 @@ zak_status zak_read_plane(zak_card *card, uint8_t plane, uint16_t offset, uint8_
                           size_t bytes_len);
 
 /* The plain screen, where the adapter shows one: cells of text or pixels, page after page, as
- * programs see it that use the video BIOS alone. Else ZAK_NO_SCREEN. A call takes up to 0.3 MB for
- * its time. ZAK_BAD_ARGUMENT: there is no such page, row or column, or x or y; no cell in
- * graphics, and no pixel in text. */
+ * programs see it that use the video BIOS alone. Else ZAK_NO_SCREEN. A call reads all of it, into
+ * up to 0.8 MB that it takes for its time. ZAK_BAD_ARGUMENT: there is no such page, row or column,
+ * or x or y; no cell in graphics, and no pixel in text. */
 typedef struct zak_screen {
-    uint32_t width, height;               /* of pixels: 8 a column, and scan lines */
+    uint32_t width, height;               /* of pixels; 0 in text, which has none */
     uint16_t columns, rows;               /* of characters */
     uint8_t mode, is_text;                /* number of the mode; 1 in text, 0 in graphics */
     uint8_t page, pages;                  /* the active one, and how many there are */

@@ -1,5 +1,5 @@
 -- What a whole run gives the caller.
-use Rattle.std.specs.Prelude.{◌≡◌, ◌≢◌, ◌⊎◌, ⊤, ℕ, List, Some, Result, Ok, Err, length}
+use Rattle.std.specs.Prelude.{◌≡◌, ◌≢◌, ℕ, List, Some, Result, Ok, Err, length}
 use Rattle.vga_bits.specs.declared.fault.Fault.{Fault}
 use Rattle.vga_bits.specs.declared.fault.Fault.TheVariants as fault
 use Rattle.bios_modes.specs.Fonts.{file_len, fonts_of}
@@ -30,12 +30,12 @@ fault_place (fault.Truncated place) before = place
 fault_place (fault.TooMany place) before = place
 fault_place other before = before
 
--- the first fault of a font file and the bytes of a script; or there was no memory, for the report
--- or else
+-- the first fault of a font file and the bytes of a script; or, over a font file, there was no memory
+-- for the report or else
 abbrev pub IsFirstFault : List ℕ → List ℕ → Fault → Type 0
 IsFirstFault file script fault.FontSize = length file ≢ file_len
-IsFirstFault file script fault.WriteFault = ⊤
-IsFirstFault file script fault.OutOfMemory = ⊤
+IsFirstFault file script fault.WriteFault = length file ≡ file_len
+IsFirstFault file script fault.OutOfMemory = length file ≡ file_len
 IsFirstFault file script fault.ReadFault = ⊥
 IsFirstFault file script fault.TooLong = (length file ≡ file_len) × IsTooLong (Some script)
 IsFirstFault file script other = (length file ≡ file_len) × InputHasFault (Some script) other

@@ -1,5 +1,5 @@
 -- The plain screen that a machine shows, as the caller has it.
-use Rattle.std.specs.Prelude.{◌≡◌, ◌⊎◌, ◌+◌, ◌*◌, ℕ, true, Option, None, Some}
+use Rattle.std.specs.Prelude.{◌≡◌, ◌⊎◌, ◌+◌, ◌*◌, ℕ, true, if◌then◌else◌, Option, None, Some}
 use Rattle.bios_modes.specs.declared.modes.ModeRow.{ModeRow}
 use Rattle.bios_modes.specs.Bda.{BiosData}
 use Rattle.bios_modes.specs.Kinds.{is_text}
@@ -14,11 +14,15 @@ use Rattle.vga_c.specs.declared.screens.Place.{Place}
 use Rattle.vga_c.specs.State.{flag}
 use Rattle.vga_c.specs.Status.{bad_argument, no_screen, out_of_memory}
 
+-- a number of pixels: none in text
+abbrev pub pixels_of : ℕ → ℕ → ℕ
+pixels_of mode count = if is_text mode then 0 else count
+
 -- mode, page and sizes of a screen
 abbrev pub layout_in : Screen → ScreenLayout
 layout_in s = record {
-  width = 8 * s.layout.columns;
-  height = s.layout.height * s.layout.rows;
+  width = pixels_of s.mode (8 * s.layout.columns);
+  height = pixels_of s.mode (s.layout.height * s.layout.rows);
   columns = s.layout.columns;
   rows = s.layout.rows;
   mode = s.mode;
@@ -31,8 +35,8 @@ layout_in s = record {
 abbrev pub layout_by : Option ModeRow → BiosData → Option ScreenLayout
 layout_by None d = None
 layout_by (Some row) d = Some (record {
-  width = 8 * d.columns;
-  height = d.height * (d.last_row + 1);
+  width = pixels_of d.mode (8 * d.columns);
+  height = pixels_of d.mode (d.height * (d.last_row + 1));
   columns = d.columns;
   rows = d.last_row + 1;
   mode = d.mode;

@@ -4,7 +4,8 @@ ghost use Rattle.bios_modes.specs.Heights.{row_at as row_at_of};
 ghost use Rattle.bios_screen.specs.Parts.{cell_at, cursor_at};
 ghost use Rattle.vga_c.specs.Cards.{Keeps, LeavesClosed, Spares};
 ghost use Rattle.vga_c.specs.Screens.{ask_cell, ask_cursor, ask_layout, ask_pixel, Asks, cell_of};
-ghost use Rattle.vga_c.specs.Screens.{HasOfScreen, IsAnswered, layout_by, place_of};
+ghost use Rattle.vga_c.specs.Screens.{HasOfScreen, IsAnswered, layout_by, pixels_of as pixels_in};
+ghost use Rattle.vga_c.specs.Screens.{place_of};
 
 use crate::handle::{Handle, on_open_card};
 use crate::status::{BAD_ARGUMENT, DONE, NO_SCREEN, OUT_OF_MEMORY};
@@ -67,6 +68,13 @@ fn answer<T: Copy>(found: Option<T>, to: &mut T) -> u32
     }
 }
 
+/// A number of pixels: none in text.
+fn pixels_of(mode: u8, count: u32) -> u32
+    ensures { result ≡ pixels_in mode count }
+{
+    if is_text(mode) { 0 } else { count }
+}
+
 /// The layout of the screen that is shown with these data.
 fn layout_of(bda: &Bda) -> Option<ScreenLayout>
     ensures { result ≡ layout_by (row_at_of bda.now.mode bda.now.height) bda.now }
@@ -74,8 +82,8 @@ fn layout_of(bda: &Bda) -> Option<ScreenLayout>
     let row = row_at(bda.mode(), bda.height())?;
     let rows = bda.last_row() as u16 + 1;
     Some(ScreenLayout {
-        width: 8 * bda.columns() as u32,
-        height: bda.height() as u32 * rows as u32,
+        width: pixels_of(bda.mode(), 8 * bda.columns() as u32),
+        height: pixels_of(bda.mode(), bda.height() as u32 * rows as u32),
         columns: bda.columns(),
         rows,
         mode: bda.mode(),
