@@ -1,6 +1,6 @@
 -- What was told of a frame is the picture of its dots.
-use Rattle.std.proofs.Common.{◌≡◌, ℕ, List, sym, subst, Option}
-use Rattle.vga_card.specs.Picture.{Dot, IsPictureOf, bytes_of, shape}
+use Rattle.std.proofs.Common.{ℕ, List, sym, subst, Option}
+use Rattle.vga_card.specs.Picture.{Dot, IsPictureOf, bytes_of}
 use Rattle.vga_card.specs.declared.drawn.Drawn.{Drawn}
 use Rattle.vga_card.specs.declared.drawn.Drawn.TheVariants as drawn
 use Rattle.vga_card.specs.declared.shape.Shape.{Shape}

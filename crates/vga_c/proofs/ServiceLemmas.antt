@@ -1,10 +1,9 @@
 -- What was told of an outcome is the answer of the step that calls the service.
-use Rattle.std.proofs.Common.{◌≡◌, true, inl, inr, ℕ, List, refl, sym, subst, ap, Result, Ok, Err}
+use Rattle.std.proofs.Common.{◌≡◌, true, inl, inr, ℕ, List, refl, sym, subst, Result, Ok, Err}
 use Rattle.vga_card.specs.Card.{CardState}
 use Rattle.vga_card.specs.Bus.{card_meaning}
 use Rattle.bios_modes.specs.Bda.{BiosData}
 use Rattle.bios_services.specs.Calls.{call_of}
-use Rattle.bios_services.specs.Plan.{run}
 use Rattle.bios_services.specs.Service.{Answered, Serves, service, takes_memory}
 use Rattle.bios_services.specs.declared.regs.Regs.{Regs}
 use Rattle.bios_services.specs.declared.reply.Reply.{Reply}

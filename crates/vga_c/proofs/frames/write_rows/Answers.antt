@@ -1,4 +1,4 @@
-use Rattle.vga_c.proofs.RowLemmas.{next_row, no_rows}
+use Rattle.vga_c.proofs.RowLemmas.{next_row}
 use Rattle.vga_c.proofs.frames.write_rows.Goals as goal
 
 -- one row more
