@@ -1,0 +1,140 @@
+"""The library for C: what its header says, where its files lie, what a release holds, and that its tests can fail."""
+
+from __future__ import annotations
+
+import contextlib
+import io
+import re
+import tempfile
+import unittest
+from pathlib import Path
+from unittest import mock
+
+from library_tests.compilers import COMPILERS, Wrong
+from library_tests.examples import SIXTEEN, bars, colours_script
+from library_tests.header import LAYOUT, names_in
+from library_tests.programs import expect
+from library_tests.suite import judged
+from vga_library import command
+from vga_library.header import HEADER, TOP, Version, calls_of, version_of, without_comments
+from vga_library.making import Place, package_text
+from vga_report.trouble import Trouble
+
+TEXT = HEADER.read_text("ascii")
+PAGE = TOP / "docs" / "LIBRARY.md"
+STATUS = re.compile(r"^ +(ZAK_\w+) = (\d+)", re.M)
+STRUCT = re.compile(r"^typedef struct (zak_\w+) \{", re.M)
+REFUSAL = re.compile(r"^\| `E(\d+) \w+` \|", re.M)
+
+
+class Header(unittest.TestCase):
+    def test_its_version(self) -> None:
+        text = "#define ZAK_API_MAJOR 3 /* x */\n#define ZAK_API_MINOR 14\n"
+        self.assertEqual(version_of(text), Version(3, 14))
+        self.assertEqual(str(version_of(TEXT)), f"{version_of(TEXT).major}.{version_of(TEXT).minor}")
+        with self.assertRaises(Trouble):
+            version_of("#define ZAK_API_MAJOR 3\n")
+
+    def test_its_calls(self) -> None:
+        text = "/* zak_status zak_old(int); */\nzak_status zak_open(int a,\n    int b);\nuint32_t zak_version(void);\n"
+        self.assertEqual(calls_of(text), ["zak_open", "zak_version"])
+        calls = calls_of(TEXT)
+        self.assertEqual(len(calls), len(set(calls)))
+        # Each name of a call stands in a line that was read as one.
+        self.assertEqual(set(calls), set(re.findall(r"\b(zak_\w+)\(", without_comments(TEXT))))
+
+    def test_refusals_are_their_numbers(self) -> None:
+        numbers = {int(number) for number in REFUSAL.findall((TOP / "docs" / "REPORT.md").read_text())}
+        statuses = {int(number) for _, number in STATUS.findall(TEXT)}
+        self.assertEqual(numbers, {status for status in statuses if 0 < status < 20})
+
+    def test_each_struct_has_asserts(self) -> None:
+        asserted = set(re.findall(r"TAKES\((zak_\w+), ", LAYOUT.read_text("ascii")))
+        self.assertEqual(asserted, {*STRUCT.findall(TEXT), "zak_status"})
+
+
+class Places(unittest.TestCase):
+    def test_where_files_are_laid(self) -> None:
+        self.assertEqual(Place("/usr", stage="stage").folder("lib"), Path("stage/usr/lib"))
+        self.assertEqual(Place("/usr").folder("lib"), Path("/usr/lib"))
+        self.assertEqual(Place("kit").folder("include"), Path("kit/include"))
+
+    def test_what_packages_read(self) -> None:
+        text = package_text("/usr", "lib/x", Version(1, 2))
+        self.assertIn("prefix=/usr\nlibdir=${prefix}/lib/x\n", text)
+        self.assertIn("Version: 1.2\n", text)
+
+    def test_words_that_cannot_be_meant(self) -> None:
+        for words in (
+            ["install", "--prefix", "usr"], ["install", "--prefix", "/usr", "--libdir", "/lib"],
+            ["make", "kit", "--archive", "no-such-file"],
+        ):
+            said = io.StringIO()
+            with self.subTest(words), contextlib.redirect_stderr(said):
+                self.assertEqual(command.main(words), command.TROUBLE)
+            self.assertTrue(said.getvalue().startswith("vga-library: "))
+
+
+class Page(unittest.TestCase):
+    def test_its_program_is_the_example(self) -> None:
+        self.assertIn((TOP / "examples" / "c" / "picture.c").read_text("ascii"), PAGE.read_text("utf-8"))
+
+    def test_its_way_of_settling_is_the_core_s(self) -> None:
+        core = (TOP / "examples" / "c" / "core.c").read_text("ascii")
+        settle = core[core.index("static void settle(void)"):]
+        self.assertIn(settle[:settle.index("\n}\n") + 3], PAGE.read_text("utf-8"))
+
+    def test_each_call_is_named(self) -> None:
+        page = PAGE.read_text("utf-8")
+        self.assertEqual([name for name in calls_of(TEXT) if name not in page], [])
+
+
+class Checks(unittest.TestCase):
+    def test_names_of_objects(self) -> None:
+        table = "\nzaklimot.o:\n                 U malloc\n0000000000000010 T zak_open\n 0 w __gmon_start__\n U f@GLIBC_2\n"
+        self.assertEqual(names_in(table), ({"zak_open"}, {"malloc", "__gmon_start__", "f"}))
+
+    def test_a_case_that_differs_is_wrong(self) -> None:
+        def told(*answers: str) -> dict[str, object]:
+            return {"rules": [{"cases": [{"name": f"n{at}", "answer": one} for at, one in enumerate(answers)]}]}
+
+        self.assertEqual(judged(told("agrees", "skipped"), {"n1"}), "1 cases agree, 1 of bytes can't be stopped")
+        for answers in (["agrees", "differs"], ["agrees", "failed"], ["skipped", "agrees"], ["agrees", "skipped", "skipped"], []):
+            with self.subTest(answers), self.assertRaises(Wrong):
+                judged(told(*answers), {"n1"})
+
+    def test_another_text_is_wrong(self) -> None:
+        wanted = LAYOUT.with_name("threads.txt").read_text("ascii")
+        expect("threads", wanted)
+        with self.assertRaises(Wrong):
+            expect("threads", wanted.replace("alike", "differ", 1))
+
+    def test_what_is_lacking_is_told_with_its_package(self) -> None:
+        from library_tests import compilers
+
+        with mock.patch("shutil.which", return_value=None):
+            told = compilers.lacking()
+        for name in (*(compiler.c for compiler in COMPILERS), "nm", "objcopy"):
+            self.assertTrue(any(line.startswith(f"{name}: install the package ") for line in told), name)
+        with mock.patch.object(compilers, "_has_sanitizers", return_value=False):
+            told = compilers.lacking()
+        self.assertTrue(all("install the package" in line for line in told) and told)
+
+    def test_what_the_first_program_and_the_core_draw(self) -> None:
+        lines = colours_script().splitlines()
+        self.assertEqual(lines[:2] + lines[-2:], ["int ax=13", "put A0000 0", "put AF9FF FF", "frame"])
+        self.assertEqual((len(bars()), bars()[-3:].hex().upper()), (3 * 640 * 480, SIXTEEN[15]))
+
+
+class Laying(unittest.TestCase):
+    def test_what_is_laid_is_told(self) -> None:
+        from vga_library import making
+
+        with tempfile.TemporaryDirectory() as name, mock.patch.object(making, "run", return_value=""):
+            laid = making.make_library(Path("a"), Path("b"), Place(name), making.MOVING)
+            self.assertIn(Path(name) / "include" / "zaklimot.h", laid)
+            self.assertTrue((Path(name) / "share" / "zaklimot" / "zaklimot.fnt").is_file())
+
+
+if __name__ == "__main__":
+    unittest.main()

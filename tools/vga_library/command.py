@@ -1,0 +1,88 @@
+"""The words of the command line, what the command does, and how it ends."""
+
+from __future__ import annotations
+
+import argparse
+import os
+import sys
+from pathlib import Path
+from typing import Optional, Sequence
+
+from vga_report.trouble import Trouble
+
+from .making import MOVING, Place, make_library
+from .toolchain import ARCHIVE, BACKENDS, kit_archive, proved_archive
+
+DONE, TROUBLE, INTERRUPTED = 0, 2, 130
+# Where files go that a package names no other place for.
+USUAL_PREFIX = "/usr/local"
+
+
+def _add_archive(parser: argparse.ArgumentParser) -> None:
+    parser.add_argument(
+        "--backend", choices=BACKENDS, default=BACKENDS[0],
+        help="the compiler: llvm, or rattle, which is written in Rattle; else llvm",
+    )
+    parser.add_argument(
+        "--archive", type=Path, metavar="FILE",
+        help=f"an archive of the crate that was built already, as {ARCHIVE.name}; else `rt lib` proves and builds it",
+    )
+
+
+def _parser() -> argparse.ArgumentParser:
+    parser = argparse.ArgumentParser(prog="vga-library", description="Makes the library for C.")
+    commands = parser.add_subparsers(required=True, metavar="COMMAND")
+    command = commands.add_parser("make", help="makes it in a folder, which may be moved")
+    command.add_argument("folder", metavar="FOLDER", help="gets include/, lib/ and lib/pkgconfig/")
+    _add_archive(command)
+    command.set_defaults(job=_make)
+    command = commands.add_parser(
+        "install", help="lays it below a prefix, as packagers do",
+        epilog="PREFIX and DESTDIR of the environment stand for --prefix and --destdir where these are left out.",
+    )
+    command.add_argument("--prefix", metavar="FOLDER", help=f"where it is used; else {USUAL_PREFIX}")
+    command.add_argument("--destdir", metavar="FOLDER", help="stands before the prefix while files are laid; else nothing")
+    command.add_argument("--libdir", default="lib", metavar="NAME", help="the folder of libraries below the prefix; else lib")
+    _add_archive(command)
+    command.set_defaults(job=_install)
+    return parser
+
+
+def _lay(words: argparse.Namespace, place: Place, prefix: str) -> None:
+    """Makes the library, and tells its files."""
+    if words.archive is not None and not words.archive.is_file():
+        raise Trouble("there is no such file", str(words.archive))
+    archive = words.archive or proved_archive(words.backend)
+    for path in make_library(archive, kit_archive(), place, prefix):
+        print(path)
+
+
+def _make(words: argparse.Namespace) -> None:
+    _lay(words, Place(words.folder), MOVING)
+
+
+def _install(words: argparse.Namespace) -> None:
+    prefix = words.prefix or os.environ.get("PREFIX") or USUAL_PREFIX
+    if not os.path.isabs(prefix):
+        raise Trouble("a prefix begins with a slash", prefix)
+    if os.path.isabs(words.libdir):
+        raise Trouble("the folder of libraries is named from the prefix on", words.libdir)
+    stage = words.destdir if words.destdir is not None else os.environ.get("DESTDIR", "")
+    _lay(words, Place(prefix, words.libdir, stage), prefix)
+
+
+def main(words: Optional[Sequence[str]] = None) -> int:
+    """Runs a command line, and answers its exit status."""
+    parsed = _parser().parse_args(words)
+    try:
+        parsed.job(parsed)
+        sys.stdout.flush()
+        return DONE
+    except Trouble as trouble:
+        reason = str(trouble)
+    except OSError as error:
+        reason = f"{'standard output' if error.filename is None else error.filename}: {error.strerror}"
+    except KeyboardInterrupt:
+        return INTERRUPTED
+    print(f"vga-library: {reason}", file=sys.stderr)
+    return TROUBLE

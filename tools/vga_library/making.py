@@ -1,0 +1,94 @@
+"""Makes the files of the library, and lays them into a folder."""
+
+from __future__ import annotations
+
+import shutil
+import tempfile
+from pathlib import Path, PurePosixPath
+from typing import NamedTuple
+
+from .header import HEADER, TOP, Version, version
+from .toolchain import compiler, run
+
+NAME = "zaklimot"
+# The names that are seen of the library.
+SEEN = "zak_*"
+FONTS = TOP / "fonts" / f"{NAME}.fnt"
+# A prefix that goes with the folder wherever it is moved, from lib/pkgconfig in it.
+MOVING = "${pcfiledir}/../.."
+
+
+class Place(NamedTuple):
+    """Where the files lie: below a prefix, which a packager first has below a folder of his own."""
+
+    prefix: str
+    library_folder: str = "lib"
+    stage: str = ""
+
+    def folder(self, name: str) -> Path:
+        """The folder of this name below the prefix, as files are laid there."""
+        if not self.stage:
+            return Path(self.prefix) / name
+        return Path(self.stage) / PurePosixPath(self.prefix).relative_to("/") / name
+
+
+def package_text(prefix: str, library_folder: str, told: Version) -> str:
+    """What `pkg-config` reads."""
+    return (
+        f"prefix={prefix}\n"
+        f"libdir=${{prefix}}/{library_folder}\n"
+        "includedir=${prefix}/include\n"
+        "\n"
+        f"Name: {NAME}\n"
+        "Description: A VGA display adapter with its video BIOS, proved\n"
+        f"Version: {told}\n"
+        f"Libs: -L${{libdir}} -l{NAME}\n"
+        "Cflags: -I${includedir}\n"
+    )
+
+
+def joined_object(archive: Path, kit: Path, folder: Path) -> Path:
+    """One object of the crate's archive and the kit's, of which the names of the header alone are seen."""
+    made = folder / f"{NAME}.o"
+    run(["ld", "-r", "-z", "noexecstack", "-o", made, "--whole-archive", archive, kit])
+    run(["objcopy", "--wildcard", f"--keep-global-symbol={SEEN}", made])
+    return made
+
+
+def make_archive(whole: Path, made: Path) -> None:
+    """The static library. It has no times and no owners, so that it is the same each time."""
+    made.unlink(missing_ok=True)
+    run(["ar", "rcsD", made, whole])
+
+
+def make_shared(whole: Path, folder: Path, told: Version) -> None:
+    """The shared library under its version, with the names by which programs and linkers look for it."""
+    soname, file = f"lib{NAME}.so.{told.major}", f"lib{NAME}.so.{told}"
+    options = ["-shared", f"-Wl,-soname,{soname}", "-Wl,-z,noexecstack", "-Wl,-z,defs", "-Wl,--build-id=none"]
+    run([compiler(), *options, "-o", folder / file, whole])
+    for link in (soname, f"lib{NAME}.so"):
+        (folder / link).unlink(missing_ok=True)
+        (folder / link).symlink_to(file)
+
+
+def make_library(archive: Path, kit: Path, place: Place, prefix: str) -> list[Path]:
+    """Lays header, libraries, fonts, and the file for `pkg-config`, which names this prefix. Answers what was laid."""
+    told = version()
+    include, libraries = place.folder("include"), place.folder(place.library_folder)
+    packages, share = libraries / "pkgconfig", place.folder(f"share/{NAME}")
+    for folder in (include, libraries, packages, share):
+        folder.mkdir(parents=True, exist_ok=True)
+    shutil.copyfile(HEADER, include / HEADER.name)
+    shutil.copyfile(FONTS, share / FONTS.name)
+    with tempfile.TemporaryDirectory(prefix="vga-library-") as name:
+        whole = joined_object(archive, kit, Path(name))
+        make_archive(whole, libraries / f"lib{NAME}.a")
+        make_shared(whole, libraries, told)
+    (packages / f"{NAME}.pc").write_text(package_text(prefix, place.library_folder, told), "ascii")
+    laid = sorted(libraries.glob(f"lib{NAME}.*"))
+    return [include / HEADER.name, *laid, packages / f"{NAME}.pc", share / FONTS.name]
+
+
+def fonts_file() -> Path:
+    """The project's font, which a card is opened with."""
+    return FONTS

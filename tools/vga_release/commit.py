@@ -1,0 +1,56 @@
+"""The commit that a release is made from: its number, its time, and its files."""
+
+from __future__ import annotations
+
+import io
+import tarfile
+from typing import NamedTuple, Sequence
+
+from vga_library.header import TOP
+from vga_report.trouble import Trouble
+
+from .running import output_of
+
+EXECUTABLE = 0o100
+
+
+class File(NamedTuple):
+    """A file of a release."""
+
+    content: bytes
+    is_executable: bool = False
+
+
+class Commit(NamedTuple):
+    """A commit's number, and its time in seconds since 1970."""
+
+    number: str
+    time: int
+
+
+def clean_commit() -> Commit:
+    """The commit that is checked out. Where a file differs from it, there is none to make a release from."""
+    changed = _git("status", "--porcelain", "--untracked-files=no").decode("utf-8", "replace").split("\n")[0]
+    if changed:
+        raise Trouble(f"a release is made from a commit, and this is changed: {changed.strip()}")
+    number, time = _git("log", "-1", "--format=%H %ct").decode("ascii").split()
+    return Commit(number, int(time))
+
+
+def files_of(commit: Commit, paths: Sequence[str]) -> dict[str, File]:
+    """The files of a commit below these paths."""
+    with tarfile.open(fileobj=io.BytesIO(_git("archive", "--format=tar", commit.number, "--", *paths))) as archive:
+        return dict(_members(archive))
+
+
+def _members(archive: tarfile.TarFile) -> list[tuple[str, File]]:
+    files = []
+    for member in archive.getmembers():
+        stream = archive.extractfile(member) if member.isfile() else None
+        if stream is not None:
+            files.append((member.name, File(stream.read(), bool(member.mode & EXECUTABLE))))
+    return files
+
+
+def _git(*words: str) -> bytes:
+    return output_of(["git", "-C", str(TOP), *words])
