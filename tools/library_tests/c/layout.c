@@ -1,0 +1,82 @@
+/* How large each struct of the header is, and where its parts lie, as the proved side has them. It is
+ * compiled as C and as C++. */
+#include <assert.h>
+#include <stddef.h>
+
+#include "zaklimot.h"
+
+#define LIES(type, part, at) \
+    static_assert(offsetof(type, part) == (at), #type " has " #part " at " #at)
+#define TAKES(type, bytes) static_assert(sizeof(type) == (bytes), #type " takes " #bytes)
+
+TAKES(zak_status, 4);
+
+TAKES(zak_card, 16);
+LIES(zak_card, is_open, 0);
+LIES(zak_card, machine, 8);
+
+TAKES(zak_size, 8);
+LIES(zak_size, height, 4);
+
+TAKES(zak_regs, 8);
+LIES(zak_regs, bx, 2);
+LIES(zak_regs, cx, 4);
+LIES(zak_regs, dx, 6);
+
+TAKES(zak_registers, 71);
+LIES(zak_registers, seq_index, 1);
+LIES(zak_registers, seq, 2);
+LIES(zak_registers, crtc_index, 7);
+LIES(zak_registers, crtc, 8);
+LIES(zak_registers, gfx_index, 33);
+LIES(zak_registers, gfx, 34);
+LIES(zak_registers, attr_index, 43);
+LIES(zak_registers, attr_is_data, 44);
+LIES(zak_registers, attr, 45);
+LIES(zak_registers, dac_index, 66);
+LIES(zak_registers, dac_component, 67);
+LIES(zak_registers, dac_mask, 68);
+LIES(zak_registers, dac_waiting_red, 69);
+LIES(zak_registers, dac_waiting_green, 70);
+
+TAKES(zak_colour, 3);
+LIES(zak_colour, green, 1);
+LIES(zak_colour, blue, 2);
+
+TAKES(zak_beam, 16);
+LIES(zak_beam, character, 2);
+LIES(zak_beam, dot, 4);
+LIES(zak_beam, base, 6);
+LIES(zak_beam, scan, 8);
+LIES(zak_beam, rows, 10);
+LIES(zak_beam, frame, 12);
+LIES(zak_beam, half, 13);
+LIES(zak_beam, split, 14);
+
+TAKES(zak_latches, 4);
+
+TAKES(zak_bda, 32);
+LIES(zak_bda, size, 2);
+LIES(zak_bda, start, 4);
+LIES(zak_bda, cursor_places, 6);
+LIES(zak_bda, cursor_type, 22);
+LIES(zak_bda, crtc_address, 24);
+LIES(zak_bda, height, 26);
+LIES(zak_bda, mode, 28);
+LIES(zak_bda, page, 29);
+LIES(zak_bda, last_row, 30);
+
+TAKES(zak_screen, 16);
+LIES(zak_screen, height, 4);
+LIES(zak_screen, columns, 8);
+LIES(zak_screen, rows, 10);
+LIES(zak_screen, mode, 12);
+LIES(zak_screen, is_text, 13);
+LIES(zak_screen, page, 14);
+LIES(zak_screen, pages, 15);
+
+TAKES(zak_cell, 2);
+LIES(zak_cell, attribute, 1);
+
+TAKES(zak_place, 2);
+LIES(zak_place, column, 1);

@@ -1,0 +1,260 @@
+/* Refuses each growth of memory in turn to each call that takes some: the call answers
+ * ZAK_OUT_OF_MEMORY, keeps no memory and leaves the card and what its pointers name; and where no
+ * growth is refused it answers ZAK_OK. Other calls take none. It is linked with --wrap for malloc,
+ * realloc and free.
+ *
+ * A line for each call tells how many growths were refused to it. */
+#include <stdbool.h>
+#include <stdio.h>
+#include <stdlib.h>
+#include <string.h>
+
+#include "zaklimot.h"
+
+#define MOST_GROWTHS 1000
+#define MOST_STATE (4 * ZAK_MOST_TEXT)
+#define UNTOUCHED 0xEE
+
+void *__real_malloc(size_t bytes);
+void *__real_realloc(void *block, size_t bytes);
+void __real_free(void *block);
+void *__wrap_malloc(size_t bytes);
+void *__wrap_realloc(void *block, size_t bytes);
+void __wrap_free(void *block);
+
+/* Growths of the call under way, that one of them which is refused or 0, and blocks that are held. */
+static unsigned growths, refused;
+static long held;
+
+static bool is_refused(void)
+{
+    return ++growths == refused;
+}
+
+void *__wrap_malloc(size_t bytes)
+{
+    void *made = is_refused() ? NULL : __real_malloc(bytes);
+    held += made != NULL;
+    return made;
+}
+
+void *__wrap_realloc(void *block, size_t bytes)
+{
+    void *made = is_refused() ? NULL : __real_realloc(block, bytes);
+    held += made != NULL && block == NULL;
+    return made;
+}
+
+void __wrap_free(void *block)
+{
+    held -= block != NULL;
+    __real_free(block);
+}
+
+static uint8_t fonts[ZAK_FONTS_SIZE], answer[MOST_STATE], rgb[ZAK_MOST_RGB];
+static uint32_t pixels[640 * 480];
+static const uint8_t none[1];
+static size_t len, place;
+static zak_card card = ZAK_CARD_INIT, opened = ZAK_CARD_INIT;
+static zak_screen screen;
+static zak_cell cell;
+static uint8_t pixel;
+static zak_place cursor;
+
+static zak_status call_int10(uint16_t ax, uint16_t cx)
+{
+    zak_regs regs = {ax, 0, cx, 0};
+    return zak_int10(&card, &regs, none, 0, answer, sizeof answer, &len);
+}
+
+static zak_status do_open(void) { return zak_open(&opened, fonts, sizeof fonts); }
+static zak_status do_dac_entries(void) { return call_int10(0x1017, 256); }
+static zak_status do_regs(void) { return zak_show_regs(&card, answer, sizeof answer, &len); }
+static zak_status do_beam(void) { return zak_show_beam(&card, answer, sizeof answer, &len); }
+static zak_status do_latches(void) { return zak_show_latches(&card, answer, sizeof answer, &len); }
+static zak_status do_bda(void) { return zak_show_bda(&card, answer, sizeof answer, &len); }
+static zak_status do_cells(void) { return zak_show_cells(&card, answer, sizeof answer, &len); }
+static zak_status do_dac(void) { return zak_show_dac(&card, 1, answer, sizeof answer, &len); }
+static zak_status do_screen(void) { return zak_screen_read(&card, &screen); }
+static zak_status do_cell(void) { return zak_screen_cell(&card, 0, 0, 0, &cell); }
+static zak_status do_pixel(void) { return zak_screen_pixel(&card, 0, 0, 0, &pixel); }
+static zak_status do_cursor(void) { return zak_screen_cursor(&card, 0, &cursor); }
+
+static zak_status do_plane(void)
+{
+    return zak_show_plane(&card, 0, 0, 256, answer, sizeof answer, &len);
+}
+
+static zak_status do_run(void)
+{
+    static const uint8_t script[] = {'V', 'G', 'A', 'S', 1, 0x0B};
+    return zak_run(script, sizeof script, fonts, sizeof fonts, answer, sizeof answer, &len, &place);
+}
+
+/* A call that takes memory, and the mode in which it is made. */
+static const struct job {
+    const char *name;
+    zak_status (*call)(void);
+    uint16_t mode;
+} JOBS[] = {
+    {"zak_open", do_open, 3},
+    {"zak_int10", do_dac_entries, 3},
+    {"zak_show_regs", do_regs, 3},
+    {"zak_show_beam", do_beam, 3},
+    {"zak_show_latches", do_latches, 3},
+    {"zak_show_bda", do_bda, 3},
+    {"zak_show_cells", do_cells, 3},
+    {"zak_show_dac", do_dac, 3},
+    {"zak_show_plane", do_plane, 3},
+    {"zak_screen_read", do_screen, 3},
+    {"zak_screen_cell", do_cell, 3},
+    {"zak_screen_pixel", do_pixel, 0x13},
+    {"zak_screen_cursor", do_cursor, 3},
+    {"zak_run", do_run, 3},
+};
+
+static void wrong(const char *name, const char *what)
+{
+    printf("%s: growth %u: %s\n", name, refused, what);
+    exit(1);
+}
+
+/* The state of the card as text. */
+static size_t read_state(uint8_t *state)
+{
+    size_t at = 0, part;
+    zak_status status = zak_show_regs(&card, state, ZAK_MOST_TEXT, &part);
+    at += part;
+    status |= zak_show_beam(&card, state + at, ZAK_MOST_TEXT, &part);
+    at += part;
+    status |= zak_show_latches(&card, state + at, ZAK_MOST_TEXT, &part);
+    at += part;
+    status |= zak_show_bda(&card, state + at, ZAK_MOST_TEXT, &part);
+    if (status)
+        wrong("the state", "it can't be shown");
+    return at + part;
+}
+
+static void clear_answers(void)
+{
+    memset(answer, UNTOUCHED, sizeof answer);
+    memset(&screen, UNTOUCHED, sizeof screen);
+    memset(&cell, UNTOUCHED, sizeof cell);
+    memset(&cursor, UNTOUCHED, sizeof cursor);
+    pixel = UNTOUCHED;
+    len = place = 999;
+}
+
+static bool are_untouched(const void *bytes, size_t count)
+{
+    const uint8_t *at = bytes;
+    for (size_t i = 0; i < count; i++)
+        if (at[i] != UNTOUCHED)
+            return false;
+    return true;
+}
+
+static bool has_no_answer(void)
+{
+    return are_untouched(answer, sizeof answer) && are_untouched(&screen, sizeof screen) &&
+           are_untouched(&cell, sizeof cell) && are_untouched(&cursor, sizeof cursor) &&
+           are_untouched(&pixel, 1) && len == 999 && place == 999 && !opened.is_open;
+}
+
+/* Makes a call with one growth refused; whether there was one. */
+static bool refuse_growth(const struct job *job, unsigned number)
+{
+    static uint8_t before[MOST_STATE], after[MOST_STATE];
+    size_t before_len = read_state(before);
+    long held_before = held;
+    clear_answers();
+    growths = 0;
+    refused = number;
+    zak_status status = job->call();
+    bool was_refused = growths >= number;
+    refused = 0;
+    if (!was_refused) {
+        if (status != ZAK_OK)
+            wrong(job->name, "it fails where nothing is refused");
+        return false;
+    }
+    refused = number;
+    if (status != ZAK_OUT_OF_MEMORY)
+        wrong(job->name, "it does not answer ZAK_OUT_OF_MEMORY");
+    if (held != held_before)
+        wrong(job->name, "it keeps memory");
+    if (!has_no_answer())
+        wrong(job->name, "it answers something");
+    refused = 0;
+    size_t after_len = read_state(after);
+    if (after_len != before_len || memcmp(before, after, after_len) != 0)
+        wrong(job->name, "it changes the card");
+    return true;
+}
+
+static void refuse_all(const struct job *job)
+{
+    unsigned number = 1;
+    if (call_int10(job->mode, 0))
+        wrong(job->name, "its mode can't be set");
+    /* To the first dot of a whole frame. */
+    zak_size size;
+    zak_frame(&card, &size, rgb, sizeof rgb);
+    while (number < MOST_GROWTHS && refuse_growth(job, number))
+        number++;
+    if (number == 1)
+        wrong(job->name, "it takes no memory");
+    printf("%s %u\n", job->name, number - 1);
+    if (opened.is_open && zak_close(&opened))
+        wrong(job->name, "the card can't be closed");
+}
+
+/* The calls that take no memory. */
+static zak_status other_calls(void)
+{
+    uint8_t byte;
+    uint16_t word;
+    zak_size size;
+    zak_registers registers;
+    zak_colour colour;
+    zak_beam beam;
+    zak_latches latches;
+    zak_bda bda;
+    zak_status status = zak_out(&card, 0x3C4, 2) | zak_out_word(&card, 0x3C4, 0x0F02);
+    status |= zak_in(&card, 0x3CC, &byte) | zak_in_word(&card, 0x3C4, &word);
+    status |= zak_put(&card, 0xA0000, 1) | zak_put_word(&card, 0xA0000, 1);
+    status |= zak_get(&card, 0xA0000, &byte) | zak_get_word(&card, 0xA0000, &word);
+    status |= zak_advance(&card, 100) | zak_frame(&card, &size, rgb, sizeof rgb);
+    status |= zak_frame_xrgb(&card, &size, pixels, sizeof pixels / 4, 640);
+    status |= zak_read_registers(&card, &registers) | zak_read_colour(&card, 1, &colour);
+    status |= zak_read_beam(&card, &beam) | zak_read_latches(&card, &latches);
+    status |= zak_read_bda(&card, &bda) | zak_read_plane(&card, 0, 0, rgb, 65536);
+    return status | call_int10(0x0C01, 0);
+}
+
+int main(int argc, char **argv)
+{
+    static char out[4096];
+    FILE *file = argc == 2 ? fopen(argv[1], "rb") : NULL;
+    if (!file || fread(fonts, 1, sizeof fonts, file) != sizeof fonts)
+        return 2;
+    fclose(file);
+    /* So that printing takes no memory among the calls. */
+    setvbuf(stdout, out, _IOFBF, sizeof out);
+    held = 0;
+    if (zak_open(&card, fonts, sizeof fonts))
+        wrong("zak_open", "it fails");
+    for (size_t i = 0; i < sizeof JOBS / sizeof *JOBS; i++)
+        refuse_all(&JOBS[i]);
+    if (call_int10(0x12, 0) || zak_frame(&card, &(zak_size){0, 0}, rgb, sizeof rgb))
+        wrong("zak_int10", "mode 12 can't be set");
+    growths = 0;
+    zak_status status = other_calls();
+    if (status || growths)
+        wrong("the other calls", status ? "one fails" : "one takes memory");
+    zak_close(&card);
+    if (held)
+        wrong("zak_close", "it keeps memory");
+    printf("others 0\n");
+    return 0;
+}

@@ -1,0 +1,96 @@
+"""The words of the command line, and the checks one after the other."""
+
+from __future__ import annotations
+
+import argparse
+import shutil
+import sys
+import tempfile
+from contextlib import contextmanager
+from pathlib import Path
+from typing import Callable, Iterator, Optional, Sequence
+
+from vga_library.making import MOVING, Place, make_library
+from vga_library.toolchain import BACKENDS, kit_archive, proved_archive
+from vga_report.trouble import Trouble
+
+from .compilers import Built, Wrong, lacking
+from .examples import check_examples
+from .header import check_header, check_names
+from .installing import check_installing
+from .pc import check_pc
+from .programs import check_memory, check_misuse, check_state, check_threads
+from .suite import check_suite
+
+RIGHT, WRONG, TROUBLE = 0, 1, 2
+Check = Callable[[Built, Path], str]
+# Those of the library of each compiler, and those of one alone.
+EACH: dict[str, Check] = {
+    "names": lambda built, _: check_names(built),
+    "suite": check_suite,
+    "state": check_state,
+    "misuse": check_misuse,
+    "memory": check_memory,
+    "threads": check_threads,
+}
+ONCE: dict[str, Check] = {
+    "header": check_header, "examples": check_examples, "installing": check_installing, "pc": check_pc,
+}
+
+
+def _parser() -> argparse.ArgumentParser:
+    parser = argparse.ArgumentParser(
+        prog="vga-library-tests", description="Tests the library for C, as both compilers of Rattle build it.",
+        epilog="Exit status: 0 all is right; 1 something is wrong; 2 the tests can't be made.",
+    )
+    parser.add_argument(
+        "--archive", type=Path, metavar="FILE", help="an archive that was built already, in the place of both compilers'"
+    )
+    parser.add_argument(
+        "--only", action="append", default=[], choices=[*ONCE, *EACH], help="this check alone; again and again"
+    )
+    return parser
+
+
+@contextmanager
+def _libraries(archive: Optional[Path]) -> Iterator[list[Built]]:
+    """The libraries that are tested, in folders that are there as long as this lasts."""
+    with tempfile.TemporaryDirectory(prefix="vga-library-tests-") as name:
+        built = []
+        for backend in BACKENDS if archive is None else ["given"]:
+            folder, kept = Path(name) / backend, Path(name) / f"{backend}.a"
+            # The next compiler's archive takes the place of this one.
+            shutil.copyfile(archive or proved_archive(backend), kept)
+            make_library(kept, kit_archive(), Place(str(folder)), MOVING)
+            built.append(Built(backend, folder, kept))
+        yield built
+
+
+def _run(words: argparse.Namespace) -> None:
+    """Makes each check that is wanted, and tells what came of it."""
+    wanted = words.only or [*ONCE, *EACH]
+    with _libraries(words.archive) as libraries:
+        for name, check in {**ONCE, **EACH}.items():
+            for built in libraries if name in EACH else libraries[:1]:
+                if name not in wanted:
+                    continue
+                with tempfile.TemporaryDirectory(prefix="vga-library-tests-") as folder:
+                    told = check(built, Path(folder))
+                print(f"{name}, {built.name}: {told}" if name in EACH else f"{name}: {told}", flush=True)
+
+
+def main(given: Optional[Sequence[str]] = None) -> int:
+    """Runs a command line, and answers its exit status."""
+    words = _parser().parse_args(given)
+    missing = lacking()
+    try:
+        if missing:
+            raise Trouble("this machine lacks\n" + "\n".join(f"  {line}" for line in missing))
+        _run(words)
+        return RIGHT
+    except Wrong as wrong:
+        print(f"vga-library-tests: {wrong}", file=sys.stderr)
+        return WRONG
+    except Trouble as trouble:
+        print(f"vga-library-tests: {trouble}", file=sys.stderr)
+        return TROUBLE

@@ -1,0 +1,98 @@
+"""The PC, where Unicorn is: scripts that it runs from floppies, and the screens of its own floppy."""
+
+from __future__ import annotations
+
+import shutil
+import subprocess
+import sys
+from pathlib import Path
+from typing import Optional
+
+from vga_library.header import TOP
+from vga_library.making import fonts_file
+
+from .compilers import COMPILERS, Built, Wrong, build, run
+from .suite import HARNESS
+
+PC = TOP / "examples" / "pc"
+SOURCES = [PC / f"{name}.c" for name in ("pc", "machine", "bios", "display", "floppy", "keys", "window-files")]
+# Scripts whose answers hang on nothing but the adapter, so that the PC gives those of the harness.
+SCRIPTS = ("text-by-services", "asked-of-machines")
+PACKAGES = {"unicorn": "libunicorn-dev", "sdl2": "libsdl2-dev"}
+# A white bar at the end of mode 12, the first screen of the floppy, and its size.
+BAR, SIZE = 640 * 30 * b"\xff\xff\xff", b"P6\n640 480\n255\n"
+
+
+def flags_of(*packages: str) -> Optional[list[str]]:
+    """The words for a compiler; None where one of these is lacking."""
+    if not shutil.which("pkg-config"):
+        return None
+    done = subprocess.run(["pkg-config", "--cflags", "--libs", *packages], capture_output=True)
+    return done.stdout.decode().split() if done.returncode == 0 else None
+
+
+def _build(built: Built, made: Path, sources: list[Path], flags: list[str]) -> None:
+    # The interface of Unicorn takes functions as pointers to anything, which pedantic compilers refuse.
+    words = [COMPILERS[0].c, "-std=c99", "-O2", "-Wall", "-Wextra", "-Werror", "-I", built.include]
+    run([*words, *sources, built.static, *flags, "-o", made])
+
+
+def _tool(name: str, *words: str | Path) -> str:
+    return run([sys.executable, TOP / "tools" / name, *words])
+
+
+def _answers(report: str) -> list[str]:
+    """The answers of a report that a machine gives too."""
+    return [line for line in report.splitlines() if not line.endswith(" skipped")]
+
+
+def _check_script(built: Built, pc: Path, folder: Path, name: str) -> None:
+    """The answers that come back on the floppy are those of the harness, but for what a machine skips."""
+    script, image, harness = TOP / "examples" / f"{name}.vga", folder / f"{name}.img", folder / "harness"
+    _tool("vga-floppy", "make", script, image)
+    run([pc, image, fonts_file(), "--keys", " ", "--seconds", "5"])
+    came = _answers(_tool("vga-floppy", "read", image))
+    build(COMPILERS[0].c, built, HARNESS, harness, "-O2")
+    wanted = run([harness, script, fonts_file()]).splitlines()
+    others = [line for line in came if line not in wanted]
+    if others or not came:
+        raise Wrong(f"{name}: on the PC these answers are others: {others[:5]}")
+
+
+def _check_demo(pc: Path, folder: Path, *rom: str | Path) -> None:
+    """The floppy's first screen ends with a white bar."""
+    pictures = folder / "pictures"
+    shutil.rmtree(pictures, ignore_errors=True)
+    pictures.mkdir()
+    image = folder / "demo.img"
+    shutil.copyfile(PC / "demo.img", image)
+    run([pc, image, fonts_file(), "--seconds", "2", "--pictures", pictures, *rom])
+    last = max(pictures.iterdir()).read_bytes()
+    if not last.startswith(SIZE) or not last.endswith(BAR):
+        raise Wrong(f"the PC's floppy shows another first screen{' with ' + str(rom[1]) if rom else ''}")
+
+
+def _roms() -> list[Path]:
+    places = ("vgabios/vgabios.bin", "seabios/vgabios-stdvga.bin")
+    return [path for path in (Path("/usr/share") / place for place in places) if path.is_file()]
+
+
+def check_pc(built: Built, folder: Path) -> str:
+    """Builds the PC with and without a window, and runs the one without."""
+    flags = flags_of("unicorn")
+    if flags is None:
+        return f"left out: install the packages pkg-config and {PACKAGES['unicorn']}"
+    pc = folder / "pc"
+    _build(built, pc, SOURCES, flags)
+    for name in SCRIPTS:
+        _check_script(built, pc, folder, name)
+    _check_demo(pc, folder)
+    roms = _roms()
+    for rom in roms:
+        _check_demo(pc, folder, "--rom", rom)
+    told = f"{len(SCRIPTS)} scripts from floppies, and a screen by the library's BIOS and {len(roms)} ROMs"
+    both = flags_of("unicorn", "sdl2")
+    if both is None:
+        return f"{told}; the window is left out: install the package {PACKAGES['sdl2']}"
+    _build(built, folder / "pc-sdl", [*SOURCES[:-1], PC / "window-sdl.c"], both)
+    return f"{told}; the one with a window is built"

@@ -1,0 +1,55 @@
+"""Programs that call the library: misuse, threads, and want of memory."""
+
+from __future__ import annotations
+
+import difflib
+from pathlib import Path
+
+from vga_library.making import fonts_file
+
+from .compilers import COMPILERS, SANITIZED, Built, Wrong, build, run
+
+SOURCES = Path(__file__).resolve().parent / "c"
+WRAPPED = "-Wl,--wrap=malloc,--wrap=realloc,--wrap=free"
+
+
+def expect(name: str, written: str) -> None:
+    """What a program writes is to be the text beside its source."""
+    wanted = (SOURCES / f"{name}.txt").read_text("ascii")
+    if written != wanted:
+        lines = difflib.unified_diff(wanted.splitlines(), written.splitlines(), "expected", "written", lineterm="", n=0)
+        raise Wrong(f"{name} writes something else:\n" + "\n".join(lines))
+
+
+def check_misuse(built: Built, folder: Path) -> str:
+    """Calls that are wrong are answered by their statuses, and the sanitizers find nothing."""
+    for compiler in COMPILERS:
+        made = folder / f"misuse-{compiler.c}"
+        build(compiler.c, built, [SOURCES / "misuse.c"], made, *SANITIZED)
+        expect("misuse", run([made, fonts_file()]))
+    count = (SOURCES / "misuse.txt").read_text("ascii").count("(&card")
+    return f"{count} calls answered as they should be, with sanitizers"
+
+
+def check_state(built: Built, folder: Path) -> str:
+    """What is read of the state and of the screen says what the dumps say, so that structs are the proved side's."""
+    made = folder / "state"
+    build(COMPILERS[0].c, built, [SOURCES / "state.c"], made, *SANITIZED)
+    count = int(run([made, fonts_file()]))
+    return f"{count} readings are those of dumps and screens"
+
+
+def check_threads(built: Built, folder: Path) -> str:
+    """Cards in two threads, and one that moves, draw what one draws alone."""
+    made = folder / "threads"
+    build(COMPILERS[0].c, built, [SOURCES / "threads.c"], made, "-O2", "-pthread")
+    expect("threads", run([made, fonts_file()]))
+    return "two cards in two threads, and one that moves"
+
+
+def check_memory(built: Built, folder: Path) -> str:
+    """Each growth of memory is refused in turn."""
+    made = folder / "memory"
+    build(COMPILERS[0].c, built, [SOURCES / "memory.c"], made, "-g", WRAPPED)
+    counts = [line.split() for line in run([made, fonts_file()]).splitlines()]
+    return "growths refused: " + ", ".join(f"{name} {count}" for name, count in counts)

@@ -1,0 +1,46 @@
+"""The suite's scripts through the library, by the harness in C."""
+
+from __future__ import annotations
+
+import json
+import os
+import subprocess
+import sys
+from pathlib import Path
+from typing import Any
+
+from vga_library.header import TOP
+from vga_report.cases import read_cases
+from vga_report.output import AGREED, DIFFERED
+from vga_report.running import AGREES, SKIPPED
+from vga_report.words import SUITE
+
+from .compilers import COMPILERS, Built, Wrong, build
+
+# So many cases are told that do not agree.
+MOST_TOLD = 20
+HARNESS = [TOP / "examples" / "c" / name for name in ("harness.c", "script.c")]
+
+
+def judged(told: dict[str, Any], left_out: set[str]) -> str:
+    """What came of the cases, as `vga-report suite --json` tells it: each agrees that is not to be left out."""
+    cases = [case for rule in told["rules"] for case in rule["cases"]]
+    others = [case for case in cases if case["answer"] != AGREES]
+    wrong = [case for case in others if case["answer"] != SKIPPED or case["name"] not in left_out]
+    if wrong or len(cases) == len(others):
+        lines = [f"  {case['name']}: {case['answer']}: {case.get('reason', '')}" for case in wrong[:MOST_TOLD]]
+        raise Wrong("\n".join([f"{len(wrong)} of {len(cases)} cases do not agree", *lines]))
+    return f"{len(cases) - len(others)} cases agree, {len(others)} of bytes can't be stopped"
+
+
+def check_suite(built: Built, folder: Path) -> str:
+    """Each case agrees, but for those of bytes that are to be stopped, which the harness does not do."""
+    harness = folder / f"harness-{built.name}"
+    build(COMPILERS[0].c, built, HARNESS, harness, "-O2")
+    commands = [f"'{harness}' {{script}} {{fonts}} {{until}}", "--bytes", f"'{harness}' --bytes {{script}} {{fonts}}"]
+    words = [sys.executable, TOP / "tools" / "vga-report", "suite", *commands, "--json"]
+    done = subprocess.run([*words, "--jobs", str(os.cpu_count() or 1)], capture_output=True)
+    if done.returncode not in (AGREED, DIFFERED):
+        raise Wrong(done.stderr.decode("utf-8", "replace"))
+    left_out = {case.name for case in read_cases(str(SUITE)) if case.is_bytes and case.until is not None}
+    return judged(json.loads(done.stdout), left_out)
