@@ -1,0 +1,365 @@
+/* Performs a script's steps by the library, and writes the report that docs/REPORT.md tells.
+ *
+ *     harness SCRIPT FONTS [--until STEPS]     a text, step by step
+ *     harness --bytes SCRIPT FONTS             the bytes of a script, by zak_run
+ *
+ * A fault is a line on standard error, and the status is 1 then; it is 2 for words that are none.
+ *
+ * SPDX-License-Identifier: MIT
+ */
+#include <stdio.h>
+#include <stdlib.h>
+#include <string.h>
+
+#include "script.h"
+#include "zaklimot.h"
+
+#define MOST_FILE (SCRIPT_MOST + 1u)
+#define FIRST_ROOM ((size_t)1 << 20)
+
+/* What a run has: the card, what is written, and buffers for what calls answer. */
+struct run {
+    zak_card card;
+    FILE *out;
+    unsigned long number;
+    uint8_t rgb[ZAK_MOST_RGB];
+    uint8_t text[ZAK_MOST_TEXT];
+    uint8_t table[ZAK_MOST_TABLE];
+};
+
+static const char *const REFUSALS[] = {
+    NULL,        "NotDecoded", "NotInProfile", "NoMode",      "BadFunction", "BadMode", "WrongKind",
+    "BadPage",   "Outside",    "CountPast",    "BadRegister", "BadBlock",    "TooFar",  "BadHeight",
+};
+
+/* What a fault of zak_run is called, and whether it has a place. */
+static const struct fault {
+    zak_status status;
+    const char *name;
+    bool has_place;
+} FAULTS[] = {
+    {ZAK_FONT_SIZE, "F1 FontSize", false},
+    {ZAK_BAD_MAGIC, "F2 BadMagic", false},
+    {ZAK_BAD_VERSION, "F3 BadVersion", false},
+    {ZAK_BAD_STEP, "F4 BadStep", true},
+    {ZAK_TRUNCATED, "F5 Truncated", true},
+    {ZAK_TOO_LONG, "F6 TooLong", false},
+    {ZAK_OUT_OF_MEMORY, "F10 OutOfMemory", false},
+    {ZAK_TOO_MANY, "F11 TooMany", true},
+};
+
+/* Says how a run failed, and answers the status. */
+static int fail(zak_status status, size_t place)
+{
+    for (size_t i = 0; i < sizeof FAULTS / sizeof *FAULTS; i++) {
+        if (FAULTS[i].status != status)
+            continue;
+        fprintf(stderr, "harness: %s", FAULTS[i].name);
+        if (FAULTS[i].has_place)
+            fprintf(stderr, "(%zu)", place);
+        fputc('\n', stderr);
+        return 1;
+    }
+    fprintf(stderr, "harness: status %u\n", (unsigned)status);
+    return 1;
+}
+
+/* All bytes of a file, up to one more than a script may have; NULL where it can't be read. */
+static uint8_t *read_file(const char *path, size_t *len)
+{
+    FILE *file = fopen(path, "rb");
+    uint8_t *bytes = file ? malloc(MOST_FILE) : NULL;
+    *len = bytes ? fread(bytes, 1, MOST_FILE, file) : 0;
+    if (bytes && ferror(file)) {
+        free(bytes);
+        bytes = NULL;
+    }
+    if (file)
+        fclose(file);
+    if (!bytes)
+        fprintf(stderr, "harness: F8 ReadFault\n");
+    return bytes;
+}
+
+static zak_status write_picture(struct run *run)
+{
+    zak_size size = {0, 0};
+    zak_status status = zak_frame(&run->card, &size, run->rgb, sizeof run->rgb);
+    if (status == ZAK_RAGGED) {
+        fprintf(run->out, "ragged\n");
+        return ZAK_OK;
+    }
+    if (status)
+        return status;
+    char header[32];
+    int front = snprintf(header, sizeof header, "P6\n%u %u\n63\n", (unsigned)size.width,
+                         (unsigned)size.height);
+    size_t dots = (size_t)size.width * size.height;
+    fprintf(run->out, "picture %zu\n%s", (size_t)front + 3 * dots, header);
+    fwrite(run->rgb, 3, dots, run->out);
+    fputc('\n', run->out);
+    return ZAK_OK;
+}
+
+static zak_status write_call(struct run *run, const struct script *script, const struct step *step)
+{
+    static const uint8_t NOTHING[1] = {0};
+    const uint8_t *block = step->block_len ? script->blocks + step->block : NOTHING;
+    zak_regs regs = step->regs;
+    size_t len = 0;
+    zak_status status = zak_int10(&run->card, &regs, block, step->block_len, run->table,
+                                  sizeof run->table, &len);
+    if (status)
+        return status;
+    fprintf(run->out, "ax=%04X bx=%04X cx=%04X dx=%04X", regs.ax, regs.bx, regs.cx, regs.dx);
+    if (len)
+        fprintf(run->out, " block ");
+    for (size_t i = 0; i < len; i++)
+        fprintf(run->out, "%02X", run->table[i]);
+    fputc('\n', run->out);
+    return ZAK_OK;
+}
+
+static zak_status show(struct run *run, const struct step *step, size_t *len)
+{
+    zak_card *card = &run->card;
+    uint8_t *text = run->text;
+    size_t room = sizeof run->text;
+    switch (step->kind) {
+    case STEP_SHOW_REGS:
+        return zak_show_regs(card, text, room, len);
+    case STEP_SHOW_DAC:
+        return zak_show_dac(card, (uint8_t)step->value, text, room, len);
+    case STEP_SHOW_BEAM:
+        return zak_show_beam(card, text, room, len);
+    case STEP_SHOW_LATCHES:
+        return zak_show_latches(card, text, room, len);
+    case STEP_SHOW_PLANE:
+        return zak_show_plane(card, (uint8_t)step->value, (uint16_t)step->place,
+                              (uint16_t)step->count, text, room, len);
+    case STEP_SHOW_BDA:
+        return zak_show_bda(card, text, room, len);
+    default:
+        return zak_show_cells(card, text, room, len);
+    }
+}
+
+static zak_status write_dump(struct run *run, const struct step *step)
+{
+    size_t len = 0;
+    zak_status status = show(run, step, &len);
+    if (status == ZAK_OK)
+        fwrite(run->text, 1, len, run->out);
+    return status;
+}
+
+/* A step that reads nothing. */
+static zak_status perform(zak_card *card, const struct step *step)
+{
+    uint16_t port = (uint16_t)step->place, word = (uint16_t)step->value;
+    switch (step->kind) {
+    case STEP_OUT:
+        return zak_out(card, port, (uint8_t)word);
+    case STEP_OUT_WORD:
+        return zak_out_word(card, port, word);
+    case STEP_PUT:
+        return zak_put(card, step->place, (uint8_t)word);
+    case STEP_PUT_WORD:
+        return zak_put_word(card, step->place, word);
+    default:
+        return zak_advance(card, step->value);
+    }
+}
+
+static zak_status write_ok(struct run *run, const struct step *step)
+{
+    zak_status status = perform(&run->card, step);
+    if (status == ZAK_OK)
+        fprintf(run->out, "ok\n");
+    return status;
+}
+
+/* A step that reads a byte. */
+static zak_status write_byte(struct run *run, const struct step *step)
+{
+    uint8_t byte = 0;
+    zak_status status = step->kind == STEP_IN
+                            ? zak_in(&run->card, (uint16_t)step->place, &byte)
+                            : zak_get(&run->card, step->place, &byte);
+    if (status == ZAK_OK)
+        fprintf(run->out, "%02X\n", byte);
+    return status;
+}
+
+static zak_status write_word(struct run *run, const struct step *step)
+{
+    uint16_t word = 0;
+    zak_status status = step->kind == STEP_IN_WORD
+                            ? zak_in_word(&run->card, (uint16_t)step->place, &word)
+                            : zak_get_word(&run->card, step->place, &word);
+    if (status == ZAK_OK)
+        fprintf(run->out, "%04X\n", word);
+    return status;
+}
+
+static zak_status answer(struct run *run, const struct script *script, const struct step *step)
+{
+    switch (step->kind) {
+    case STEP_OUT:
+    case STEP_OUT_WORD:
+    case STEP_PUT:
+    case STEP_PUT_WORD:
+    case STEP_ADVANCE:
+        return write_ok(run, step);
+    case STEP_IN:
+    case STEP_GET:
+        return write_byte(run, step);
+    case STEP_IN_WORD:
+    case STEP_GET_WORD:
+        return write_word(run, step);
+    case STEP_INT10:
+        return write_call(run, script, step);
+    case STEP_FRAME:
+        return write_picture(run);
+    default:
+        return write_dump(run, step);
+    }
+}
+
+/* Writes the line of a step, which a refusal is too. Any other status ends the run. */
+static zak_status take(struct run *run, const struct script *script, const struct step *step)
+{
+    fprintf(run->out, "%lu ", ++run->number);
+    zak_status status = answer(run, script, step);
+    if (status == ZAK_OK || status >= sizeof REFUSALS / sizeof *REFUSALS)
+        return status;
+    fprintf(run->out, "E%u %s\n", (unsigned)status, REFUSALS[status]);
+    return ZAK_OK;
+}
+
+/* Takes the steps, those of a block so many times as it says, up to a number of them. */
+static zak_status take_all(struct run *run, const struct script *script, unsigned long until)
+{
+    size_t block = 0;
+    uint32_t left = 0;
+    for (size_t at = 0; at < script->count && run->number < until; at++) {
+        const struct step *step = &script->steps[at];
+        if (step->kind == STEP_REPEAT) {
+            block = at;
+            left = step->value;
+        } else if (step->kind == STEP_END) {
+            at = --left ? block : at;
+        } else {
+            zak_status status = take(run, script, step);
+            if (status)
+                return status;
+        }
+    }
+    return ZAK_OK;
+}
+
+/* The looks at the state behind the last step. */
+static zak_status take_looks(struct run *run)
+{
+    static const struct step LOOKS[] = {
+        {.kind = STEP_SHOW_REGS},
+        {.kind = STEP_SHOW_BEAM},
+        {.kind = STEP_SHOW_LATCHES},
+        {.kind = STEP_SHOW_BDA},
+    };
+    for (size_t i = 0; i < sizeof LOOKS / sizeof *LOOKS; i++) {
+        zak_status status = take(run, NULL, &LOOKS[i]);
+        if (status)
+            return status;
+    }
+    return ZAK_OK;
+}
+
+static zak_status run_steps(const struct script *script, const uint8_t *fonts, size_t fonts_len,
+                            const char *until)
+{
+    unsigned long most = until ? strtoul(until, NULL, 10) : (unsigned long)-1;
+    struct run *run = calloc(1, sizeof *run);
+    if (!run)
+        return ZAK_OUT_OF_MEMORY;
+    run->out = stdout;
+    zak_status status = zak_open(&run->card, fonts, fonts_len);
+    if (status == ZAK_OK) {
+        status = take_all(run, script, most);
+        if (status == ZAK_OK && until)
+            status = take_looks(run);
+        zak_close(&run->card);
+    }
+    free(run);
+    return status;
+}
+
+static int run_text(const uint8_t *text, size_t text_len, const uint8_t *fonts, size_t fonts_len,
+                    const char *until)
+{
+    struct script script;
+    size_t line = 0;
+    int status = 0;
+    switch (script_read(&script, (const char *)text, text_len, &line)) {
+    case SCRIPT_GOOD: {
+        zak_status ended = run_steps(&script, fonts, fonts_len, until);
+        status = ended ? fail(ended, 0) : 0;
+        break;
+    }
+    case SCRIPT_BAD_LINE:
+        fprintf(stderr, "harness: F7 BadLine(%zu)\n", line);
+        status = 1;
+        break;
+    case SCRIPT_TOO_LONG:
+        status = fail(ZAK_TOO_LONG, 0);
+        break;
+    case SCRIPT_NO_MEMORY:
+        status = fail(ZAK_OUT_OF_MEMORY, 0);
+        break;
+    }
+    script_free(&script);
+    return status;
+}
+
+/* A whole run by one call, with more room where the first was too little. */
+static int run_bytes(const uint8_t *bytes, size_t bytes_len, const uint8_t *fonts, size_t fonts_len)
+{
+    size_t room = FIRST_ROOM, len = 0, place = 0;
+    uint8_t *report = malloc(room);
+    zak_status status = ZAK_OUT_OF_MEMORY;
+    while (report) {
+        status = zak_run(bytes, bytes_len, fonts, fonts_len, report, room, &len, &place);
+        if (status != ZAK_NO_ROOM)
+            break;
+        free(report);
+        room = len;
+        report = malloc(room);
+        status = ZAK_OUT_OF_MEMORY;
+    }
+    if (status == ZAK_OK)
+        fwrite(report, 1, len, stdout);
+    free(report);
+    return status ? fail(status, place) : 0;
+}
+
+int main(int argc, char **argv)
+{
+    bool is_bytes = argc == 4 && strcmp(argv[1], "--bytes") == 0;
+    bool is_stopped = argc == 5 && strcmp(argv[3], "--until") == 0;
+    if (!is_bytes && !is_stopped && argc != 3) {
+        fprintf(stderr, "harness SCRIPT FONTS [--until STEPS]\nharness --bytes SCRIPT FONTS\n");
+        return 2;
+    }
+    char **files = argv + (is_bytes ? 2 : 1);
+    size_t script_len, fonts_len = 0;
+    uint8_t *script = read_file(files[0], &script_len);
+    uint8_t *fonts = script ? read_file(files[1], &fonts_len) : NULL;
+    int status = 1;
+    if (fonts)
+        status = is_bytes ? run_bytes(script, script_len, fonts, fonts_len)
+                          : run_text(script, script_len, fonts, fonts_len,
+                                     is_stopped ? argv[4] : NULL);
+    free(fonts);
+    free(script);
+    return status;
+}

@@ -1,0 +1,153 @@
+//! The library from Rust: what C sees, and a card that can be called in no wrong way.
+
+use std::ffi::c_void;
+use std::fmt;
+
+/// Bytes of a font file, and of the largest picture and table.
+pub const FONTS_SIZE: usize = 9728;
+const MOST_RGB: usize = 3 * 2304 * 1024;
+const MOST_TABLE: usize = 768;
+
+#[repr(C)]
+struct RawCard {
+    is_open: bool,
+    machine: *mut c_void,
+}
+
+#[repr(C)]
+struct RawSize {
+    width: u32,
+    height: u32,
+}
+
+/// The registers of interrupt 10 (hexadecimal).
+#[repr(C)]
+#[derive(Clone, Copy, Debug, Default, PartialEq, Eq)]
+pub struct Regs {
+    pub ax: u16,
+    pub bx: u16,
+    pub cx: u16,
+    pub dx: u16,
+}
+
+#[link(name = "zaklimot")]
+extern "C" {
+    fn zak_open(card: *mut RawCard, fonts: *const u8, fonts_len: usize) -> u32;
+    fn zak_close(card: *mut RawCard) -> u32;
+    fn zak_out(card: *mut RawCard, port: u16, value: u8) -> u32;
+    fn zak_in(card: *mut RawCard, port: u16, value: *mut u8) -> u32;
+    fn zak_put(card: *mut RawCard, address: u32, value: u8) -> u32;
+    fn zak_get(card: *mut RawCard, address: u32, value: *mut u8) -> u32;
+    fn zak_advance(card: *mut RawCard, dots: u32) -> u32;
+    fn zak_frame(card: *mut RawCard, size: *mut RawSize, rgb: *mut u8, rgb_len: usize) -> u32;
+    fn zak_int10(
+        card: *mut RawCard,
+        regs: *mut Regs,
+        block: *const u8,
+        block_len: usize,
+        table: *mut u8,
+        table_cap: usize,
+        table_len: *mut usize,
+    ) -> u32;
+}
+
+/// What a call answers that is not done: a status of `zaklimot.h`.
+#[derive(Clone, Copy, Debug, PartialEq, Eq)]
+pub struct Status(pub u32);
+
+impl fmt::Display for Status {
+    fn fmt(&self, f: &mut fmt::Formatter<'_>) -> fmt::Result {
+        write!(f, "the card answers status {}", self.0)
+    }
+}
+
+impl std::error::Error for Status {}
+
+fn done(status: u32) -> Result<(), Status> {
+    if status == 0 {
+        Ok(())
+    } else {
+        Err(Status(status))
+    }
+}
+
+/// A picture: red, green and blue of each dot, 0 to 63 each.
+pub struct Picture {
+    pub width: u32,
+    pub height: u32,
+    pub rgb: Vec<u8>,
+}
+
+/// A card that is open as long as it lives. A call takes it as `&mut`, so no two run at once, and the
+/// buffers of a call can't overlap. Where it moves, its old place is not used again.
+pub struct Card {
+    raw: RawCard,
+}
+
+// What a card has lies behind its pointer, and is its own: it may go to another thread.
+unsafe impl Send for Card {}
+
+impl Card {
+    /// A card at power-on, with the glyphs of a font file.
+    pub fn open(fonts: &[u8]) -> Result<Card, Status> {
+        let mut raw = RawCard { is_open: false, machine: std::ptr::null_mut() };
+        done(unsafe { zak_open(&mut raw, fonts.as_ptr(), fonts.len()) })?;
+        Ok(Card { raw })
+    }
+
+    pub fn out(&mut self, port: u16, value: u8) -> Result<(), Status> {
+        done(unsafe { zak_out(&mut self.raw, port, value) })
+    }
+
+    pub fn inp(&mut self, port: u16) -> Result<u8, Status> {
+        let mut value = 0;
+        done(unsafe { zak_in(&mut self.raw, port, &mut value) })?;
+        Ok(value)
+    }
+
+    pub fn put(&mut self, address: u32, value: u8) -> Result<(), Status> {
+        done(unsafe { zak_put(&mut self.raw, address, value) })
+    }
+
+    pub fn get(&mut self, address: u32) -> Result<u8, Status> {
+        let mut value = 0;
+        done(unsafe { zak_get(&mut self.raw, address, &mut value) })?;
+        Ok(value)
+    }
+
+    pub fn advance(&mut self, dots: u32) -> Result<(), Status> {
+        done(unsafe { zak_advance(&mut self.raw, dots) })
+    }
+
+    /// Calls the video BIOS: the registers afterwards, and the table that a function answers.
+    pub fn int10(&mut self, regs: Regs, block: &[u8]) -> Result<(Regs, Vec<u8>), Status> {
+        let (mut regs, mut table, mut len) = (regs, vec![0; MOST_TABLE], 0);
+        done(unsafe {
+            zak_int10(
+                &mut self.raw,
+                &mut regs,
+                block.as_ptr(),
+                block.len(),
+                table.as_mut_ptr(),
+                table.len(),
+                &mut len,
+            )
+        })?;
+        table.truncate(len);
+        Ok((regs, table))
+    }
+
+    /// The picture of the frame under way, whose end this is.
+    pub fn frame(&mut self) -> Result<Picture, Status> {
+        let (mut size, mut rgb) = (RawSize { width: 0, height: 0 }, vec![0; MOST_RGB]);
+        done(unsafe { zak_frame(&mut self.raw, &mut size, rgb.as_mut_ptr(), rgb.len()) })?;
+        rgb.truncate(3 * size.width as usize * size.height as usize);
+        Ok(Picture { width: size.width, height: size.height, rgb })
+    }
+}
+
+impl Drop for Card {
+    fn drop(&mut self) {
+        unsafe { zak_close(&mut self.raw) };
+    }
+}
