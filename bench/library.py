@@ -1,0 +1,85 @@
+"""Counts the instructions and the time of each call of the library: python3 bench/library.py FOLDER
+
+FOLDER is one that `tools/vga-library make` has made. Debian's packages gcc and valgrind are needed.
+"""
+
+from __future__ import annotations
+
+import re
+import subprocess
+import sys
+import tempfile
+import time
+from pathlib import Path
+from typing import NamedTuple
+
+TOP = Path(__file__).resolve().parents[1]
+SOURCE = TOP / "bench" / "calls.c"
+FONTS = TOP / "fonts" / "zaklimot.fnt"
+COUNTED = re.compile(r"Collected : (\d+)")
+# A time is that of the best of so many runs.
+RUNS = 3
+
+
+class Call(NamedTuple):
+    """A call in a mode: how often it is made to count its instructions, and to take its time."""
+
+    name: str
+    mode: str
+    counted: int = 10_000
+    timed: int = 10_000_000
+
+
+CALLS = (
+    Call("put", "13"), Call("put", "12"), Call("put_word", "13"), Call("get", "13"), Call("get", "12"),
+    Call("get_word", "13"), Call("out", "13"), Call("out_word", "13"), Call("in", "13"),
+    Call("advance_0", "13"), Call("advance_1", "13"), Call("advance_25", "13", timed=1_000_000),
+    Call("advance_line", "13", 1000, 100_000),
+    Call("frame", "13", 10, 500), Call("frame", "3", 10, 500), Call("frame", "12", 10, 500),
+    Call("frame_xrgb", "13", 10, 500), Call("frame_xrgb", "3", 10, 500), Call("frame_xrgb", "12", 10, 500),
+    Call("teletype", "3", 1000, 100_000), Call("read_registers", "13", 1000, 1_000_000),
+    Call("read_beam", "13", 1000, 1_000_000), Call("show_regs", "13", 1000, 100_000),
+)
+
+
+def instructions(program: Path, call: Call, times: int, folder: Path) -> int:
+    """How many instructions a run takes that makes a call so often."""
+    tool = ["valgrind", "--tool=callgrind", f"--callgrind-out-file={folder / 'counted'}"]
+    words = [*tool, program, FONTS, call.mode, call.name, str(times)]
+    said = subprocess.run(words, capture_output=True, check=True).stderr.decode("ascii", "replace")
+    counted = COUNTED.search(said)
+    assert counted is not None, said
+    return int(counted[1])
+
+
+def seconds(program: Path, call: Call, times: int) -> float:
+    """How long the best run takes that makes a call so often."""
+    took = []
+    for _ in range(RUNS):
+        start = time.perf_counter()
+        subprocess.run([program, FONTS, call.mode, call.name, str(times)], check=True)
+        took.append(time.perf_counter() - start)
+    return min(took)
+
+
+def main() -> int:
+    if len(sys.argv) != 2:
+        print(__doc__, file=sys.stderr)
+        return 2
+    library = Path(sys.argv[1])
+    print("| Call | Mode | Instructions | ns |\n|---|---|---|---|")
+    with tempfile.TemporaryDirectory(prefix="bench-library-") as name:
+        folder = Path(name)
+        program = folder / "calls"
+        words = ["gcc", "-std=c99", "-O2", "-I", library / "include", SOURCE, library / "lib" / "libzaklimot.a"]
+        subprocess.run([*words, "-o", program], check=True)
+        for call in CALLS:
+            counts = [instructions(program, call, times, folder) for times in (0, call.counted)]
+            took = seconds(program, call, call.timed) - seconds(program, call, 0)
+            each = round((counts[1] - counts[0]) / call.counted)
+            print(f"| `zak_{call.name}` | {call.mode} | {each:,} | {took * 1e9 / call.timed:,.0f} |", flush=True)
+    return 0
+
+
+if __name__ == "__main__":
+    sys.exit(main())
