@@ -30,8 +30,8 @@ fault_place (fault.Truncated place) before = place
 fault_place (fault.TooMany place) before = place
 fault_place other before = before
 
--- the first fault of a font file and the bytes of a script; or, over a font file, there was no memory
--- for the report or else
+-- the first fault of a font file and the bytes of a script; or the font file has its size, and
+-- there was no memory, for the report or else
 abbrev pub IsFirstFault : List ℕ → List ℕ → Fault → Type 0
 IsFirstFault file script fault.FontSize = length file ≢ file_len
 IsFirstFault file script fault.WriteFault = length file ≡ file_len

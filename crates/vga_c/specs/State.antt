@@ -1,6 +1,6 @@
 -- The state of a machine, as the caller has it.
-use Rattle.std.specs.Prelude.{◌≡◌, ◌+◌, ◌<◌, ◌&&◌, ℕ, true, false, nat_lt, nat_le, Bool, List, [], ◌∷◌}
-use Rattle.std.specs.Prelude.{if◌then◌else◌, length, slice_index}
+use Rattle.std.specs.Prelude.{◌≡◌, ◌+◌, ◌<◌, ◌&&◌, ℕ, true, false, nat_lt, nat_le, Bool}
+use Rattle.std.specs.Prelude.{if◌then◌else◌, List, [], ◌∷◌, length, slice_index}
 use Rattle.vga_bits.specs.Four.{Four}
 use Rattle.vga_planes.specs.Planes.{byte_at}
 use Rattle.vga_dac.specs.declared.component.Component.{Component}

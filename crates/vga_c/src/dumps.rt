@@ -60,8 +60,8 @@ pub extern "C" fn zak_show_regs(
     text: &mut [u8],
     len: &mut usize,
 ) -> u32
-    ensures { Shows shown_as.Registers card.old card.new (told text.old len.old) (told text.new len.new)
-        result }
+    ensures { Shows shown_as.Registers card.old card.new (told text.old len.old)
+        (told text.new len.new) result }
 {
     show(alloc, card, Shown::Registers, text, len)
 }
@@ -74,8 +74,8 @@ pub extern "C" fn zak_show_beam(
     text: &mut [u8],
     len: &mut usize,
 ) -> u32
-    ensures { Shows shown_as.Beam card.old card.new (told text.old len.old) (told text.new len.new)
-        result }
+    ensures { Shows shown_as.Beam card.old card.new (told text.old len.old)
+        (told text.new len.new) result }
 {
     show(alloc, card, Shown::Beam, text, len)
 }
@@ -88,8 +88,8 @@ pub extern "C" fn zak_show_latches(
     text: &mut [u8],
     len: &mut usize,
 ) -> u32
-    ensures { Shows shown_as.Latches card.old card.new (told text.old len.old) (told text.new len.new)
-        result }
+    ensures { Shows shown_as.Latches card.old card.new (told text.old len.old)
+        (told text.new len.new) result }
 {
     show(alloc, card, Shown::Latches, text, len)
 }
@@ -102,8 +102,8 @@ pub extern "C" fn zak_show_bda(
     text: &mut [u8],
     len: &mut usize,
 ) -> u32
-    ensures { Shows shown_as.BiosData card.old card.new (told text.old len.old) (told text.new len.new)
-        result }
+    ensures { Shows shown_as.BiosData card.old card.new (told text.old len.old)
+        (told text.new len.new) result }
 {
     show(alloc, card, Shown::BiosData, text, len)
 }
@@ -116,8 +116,8 @@ pub extern "C" fn zak_show_cells(
     text: &mut [u8],
     len: &mut usize,
 ) -> u32
-    ensures { Shows shown_as.Cells card.old card.new (told text.old len.old) (told text.new len.new)
-        result }
+    ensures { Shows shown_as.Cells card.old card.new (told text.old len.old)
+        (told text.new len.new) result }
 {
     show(alloc, card, Shown::Cells, text, len)
 }

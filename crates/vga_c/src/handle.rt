@@ -18,8 +18,8 @@ pub struct Handle {
 // A card may move to another thread, which then calls it alone.
 unsafe impl Send for Handle {}
 
-/// What a call does on the machine of a card, and the number that it answers; `NO_CARD`, if the card
-/// is not open. While the call runs the handle is empty.
+/// What a call does on the machine of a card, and the number that it answers; `NO_CARD`, if the
+/// card is not open. While the call runs the handle is empty.
 macro_rules! on_open_card {
     ($alloc:ident, $card:ident, $machine:ident => $call:expr) => {{
         if !$card.is_open {

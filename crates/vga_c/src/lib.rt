@@ -1,8 +1,9 @@
 //! The adapter and its video BIOS as a library that C programs link.
 //!
-//! A card lives in a struct of the caller's from `zak_open` to `zak_close`. Each call on it is a step
-//! of a script: the card is afterwards what it is after that step, and the call answers a number, 0
-//! or that of the refusal. A call on a card that is not open changes nothing, and says so.
+//! A card lives in a struct of the caller's from `zak_open` to `zak_close`. Each call on it is a
+//! step of a script: the card is afterwards what it is after that step, and the call answers a
+//! number, 0 or that of the refusal. Others read the state, and leave it. A call on a card that is
+//! not open changes nothing, and says so.
 #![tactic(auto)]
 
 mod buffer;

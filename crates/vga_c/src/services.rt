@@ -2,8 +2,8 @@
 ghost use Rattle.std.specs.Prelude.{◌≡◌};
 ghost use Rattle.bios_modes.specs.Valid.{IsValid};
 ghost use Rattle.vga_c.specs.Cards.{LeavesClosed, Spares};
-ghost use Rattle.vga_c.specs.Services.{call_step, Calls, HasOutcome, IsCalled, IsLeftBad, LeavesBad};
-ghost use Rattle.vga_c.specs.Services.{told};
+ghost use Rattle.vga_c.specs.Services.{call_step, Calls, HasOutcome, IsCalled, IsLeftBad};
+ghost use Rattle.vga_c.specs.Services.{LeavesBad, told};
 
 use crate::buffer::copy_front;
 use crate::handle::{Handle, on_open_card};
