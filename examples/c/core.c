@@ -82,12 +82,13 @@ static void look_at_clock(void)
         dot_rate /= 2;
 }
 
-/* The clocks of an instruction become dots, which are owed. */
-static void spend(uint32_t clocks)
+/* A frame of which two rows differ in width has no picture, as where a mode was set within it. */
+static void take_frame(void)
 {
-    parts_of_dot += clocks * dot_rate;
-    owed += (uint32_t)(parts_of_dot / CLOCK_RATE);
-    parts_of_dot %= CLOCK_RATE;
+    zak_status status = zak_frame(&card, &size, rgb, sizeof rgb);
+    if (status != ZAK_RAGGED)
+        check(status, "frame");
+    frames++;
 }
 
 /* Pays what is owed. A frame that ends is taken here, so none is missed. */
@@ -95,13 +96,22 @@ static void settle(void)
 {
     while (owed >= left) {
         owed -= left;
-        check(zak_frame(&card, &size, rgb, sizeof rgb), "frame");
-        frames++;
+        take_frame();
         look_at_clock();
     }
     check(zak_advance(&card, owed), "advance");
     left -= owed;
     owed = 0;
+}
+
+/* The clocks of an instruction become dots, which are owed, and paid where a frame has ended. */
+static void spend(uint32_t clocks)
+{
+    parts_of_dot += clocks * dot_rate;
+    owed += (uint32_t)(parts_of_dot / CLOCK_RATE);
+    parts_of_dot %= CLOCK_RATE;
+    if (owed >= left)
+        settle();
 }
 
 /* A cycle that the card refuses is nobody's: a write is lost, and a read gives bits of 1. */

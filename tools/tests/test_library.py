@@ -81,8 +81,9 @@ class Page(unittest.TestCase):
 
     def test_its_way_of_settling_is_the_core_s(self) -> None:
         core = (TOP / "examples" / "c" / "core.c").read_text("ascii")
-        settle = core[core.index("static void settle(void)"):]
-        self.assertIn(settle[:settle.index("\n}\n") + 3], PAGE.read_text("utf-8"))
+        for name in ("take_frame", "settle"):
+            function = core[core.index(f"static void {name}(void)\n{{"):]
+            self.assertIn(function[:function.index("\n}\n") + 3], PAGE.read_text("utf-8"))
 
     def test_each_call_is_named(self) -> None:
         page = PAGE.read_text("utf-8")
