@@ -62,6 +62,7 @@ class Places(unittest.TestCase):
     def test_what_packages_read(self) -> None:
         text = package_text("/usr", "lib/x", Version(1, 2))
         self.assertIn("prefix=/usr\nlibdir=${prefix}/lib/x\n", text)
+        self.assertIn("fonts=${prefix}/share/zaklimot/zaklimot.fnt\n", text)
         self.assertIn("Version: 1.2\n", text)
 
     def test_words_that_cannot_be_meant(self) -> None:

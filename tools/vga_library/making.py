@@ -38,6 +38,7 @@ def package_text(prefix: str, library_folder: str, told: Version) -> str:
         f"prefix={prefix}\n"
         f"libdir=${{prefix}}/{library_folder}\n"
         "includedir=${prefix}/include\n"
+        f"fonts=${{prefix}}/share/{NAME}/{FONTS.name}\n"
         "\n"
         f"Name: {NAME}\n"
         "Description: A VGA display adapter with its video BIOS, proved\n"
