@@ -91,12 +91,12 @@ static int run(struct machine *machine, const struct words *words)
 int main(int argc, char **argv)
 {
     struct words words;
-    struct machine *machine = calloc(1, sizeof *machine);
-    if (!read_words(argc, argv, &words) || !machine) {
+    if (!read_words(argc, argv, &words)) {
         fputs(USAGE, stderr);
         return 2;
     }
-    int status = run(machine, &words);
+    struct machine *machine = calloc(1, sizeof *machine);
+    int status = machine ? run(machine, &words) : fail("there is no memory", words.floppy);
     free(machine);
     return status;
 }
