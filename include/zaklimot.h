@@ -193,7 +193,8 @@ zak_status zak_read_plane(zak_card *card, uint8_t plane, uint16_t offset, uint8_
 /* The plain screen, where the adapter shows one: cells of text or pixels, page after page, as
  * programs see it that use the video BIOS alone. Else ZAK_NO_SCREEN. A call reads all of it, into
  * up to 0.8 MB that it takes for its time. ZAK_BAD_ARGUMENT: there is no such page, row or column,
- * or x or y; no cell in graphics, and no pixel in text. */
+ * or x or y; no cell in graphics, and no pixel in text. The BIOS keeps a cursor's place for each of
+ * pages 0 to 7 in every mode, so these are the pages of zak_screen_cursor. */
 typedef struct zak_screen {
     uint32_t width, height;               /* of pixels; 0 in text, which has none */
     uint16_t columns, rows;               /* of characters */
