@@ -1,2 +1,3 @@
 pub mod PaletteLemmas
 pub mod TableLemmas
+pub mod SavedLemmas

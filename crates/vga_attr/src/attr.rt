@@ -2,6 +2,7 @@
 ghost use Rattle.std.specs.Prelude.{◌≡◌, ◌<◌, ◌↔◌, IsTrue, OnOk, IfOk, IfErr, IsErr};
 
 mod fields;
+mod saved;
 
 use std::marker::Model;
 use vga_bits::{Refusal, RegFile};
@@ -44,7 +45,7 @@ impl Model for Attr {
       is_data = a.is_data;
     } };
 
-    ghost invariant = { λ a. a.registers.masks ≡ MASKS };
+    ghost invariant = { λ a. (a.registers.masks ≡ MASKS) × (a.index < 64) };
 }
 
 impl Attr {

@@ -1,8 +1,9 @@
 -- Registers hold bits of their masks alone.
-use Rattle.std.proofs.Common.{◌≡◌, ◌<◌, ℕ, zero, suc, true, List, [], ◌∷◌, arith, ap, sym, ◌∙◌, replicate}
+use Rattle.std.proofs.Common.{◌≡◌, ◌<◌, ℕ, zero, suc, true, List, [], ◌∷◌, length, inl, inr, arith, ap, sym, ◌∙◌, replicate}
 use Rattle.std.specs.Prelude.{slice_index, slice_set, nat_lt, bit_and}
 use Rattle.std.specs.Int.Bits.{and_self, and_zero_l}
-use Rattle.std.proofs.lemmas.Bool.{agree_below, agree_below_at, ltb-true}
+use Rattle.std.proofs.lemmas.Bool.{agree_below, agree_below_at, cases_lt, ltb-true}
+use Rattle.std.proofs.lemmas.List.{get_or_past}
 use Rattle.std.proofs.lemmas.Nat.{and_assoc, and_le_r}
 use Rattle.vga_bits.specs.Bytes.{zeros}
 use Rattle.vga_bits.specs.RegFile.{AreKept}
@@ -38,3 +39,13 @@ pub kept_below : (masks values : List ℕ) (n bound : ℕ) → AreKept masks val
 kept_below masks values n bound are below i within =
     let small = ltb-true (slice_index masks i) bound (agree_below_at (λ k. nat_lt (slice_index masks k) bound) (λ k. true) n i below within) in
     omega (arith, are.kept i, and_le_r (slice_index values i) (slice_index masks i), small)
+
+-- registers hold bits of their masks, where each that is there does
+pub kept_within : (masks values : List ℕ) → ((k : ℕ) → k < length values → bit_and (slice_index values k) (slice_index masks k) ≡ slice_index values k)
+    → AreKept masks values
+kept_within masks values kept = record {
+  kept = λ k. elim (cases_lt k (length values)) [
+    | inl within ↦ kept k within
+    | inr past ↦ ap (λ v. bit_and v (slice_index masks k)) (get_or_past values k 0 past) ∙ and_zero_l (slice_index masks k) ∙ sym (get_or_past values k 0 past)
+  ];
+}

@@ -6,6 +6,8 @@ pub mod Hex
 pub mod Refusal
 pub mod LimitedReading
 pub mod RegFile
+pub mod Saved
+pub mod StateFault
 pub mod Tally
 pub mod Tracked
 pub mod Words

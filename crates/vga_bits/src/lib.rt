@@ -1,7 +1,7 @@
 //! What every part of the adapter shares: bits and registers under write masks, the two ports of a
 //! group of registers, bytes that are seen as a list, text and its digits, the names of refusals
-//! and faults, readers and writers that remember a failure, and how many comparisons passed and
-//! failed.
+//! and faults, readers and writers that remember a failure, the bytes of saved states, and how many
+//! comparisons passed and failed.
 #![tactic(auto)]
 
 pub mod bits;
@@ -11,6 +11,8 @@ pub mod limited_reading;
 pub mod paired_port;
 pub mod refusal;
 pub mod reg_file;
+pub mod saved;
+pub mod state_fault;
 pub mod tally;
 pub mod text_buffer;
 pub mod tracked;
@@ -22,6 +24,8 @@ pub use limited_reading::read_front;
 pub use paired_port::PairedPort;
 pub use refusal::Refusal;
 pub use reg_file::RegFile;
+pub use saved::{are_kept, flag_byte, high_byte, low_byte, put_byte, put_bytes, put_word, word_at};
+pub use state_fault::StateFault;
 pub use tally::Tally;
 pub use text_buffer::{TextBuffer, hex_digit};
 pub use tracked::{Tracked, flush, write_whole};

@@ -67,6 +67,16 @@ impl<const N: usize> RegFile<N> {
         *register = v & self.masks[i];
     }
 
+    /// Each register gets its byte of those of the list, which hold bits of the masks alone.
+    pub fn restore(&mut self, values: &[u8])
+        requires count { length values.now ≡ N }
+        requires kept { AreKept self.old.masks values.now }
+        ensures masks { self.new.masks ≡ self.old.masks }
+        ensures values { self.new.values ≡ values.now }
+    {
+        self.values.copy_from_slice(values);
+    }
+
     /// There are N registers, and each holds bits of its mask alone, whatever was written. The
     /// clause is for proofs: nothing runs.
     pub fn bounds(&self)

@@ -2,6 +2,8 @@
 ghost use Rattle.std.specs.Prelude.{◌≡◌, ◌≤◌, ◌⊎◌};
 ghost use Rattle.vga_crtc.specs.Raster.{IsInLine, moved_in_line};
 
+mod saved;
+
 use crate::registers::Registers;
 
 /// Where the beam is, and what it counts.

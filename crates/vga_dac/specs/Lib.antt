@@ -1,1 +1,2 @@
 pub mod Dac
+pub mod Saved

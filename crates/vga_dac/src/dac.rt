@@ -1,6 +1,8 @@
 //! The 256 entries, with the index, the component counter and what waits for a write to be whole.
 ghost use Rattle.std.specs.Prelude.{◌≡◌};
 
+mod saved;
+
 use super::component::Component;
 use std::marker::Model;
 
@@ -27,6 +29,8 @@ pub struct Dac {
 }
 
 impl Model for Dac {
+    ghost use Rattle.std.specs.Prelude.{◌<◌};
+    ghost use Rattle.vga_dac.specs.Saved.{AreSmall};
     ghost use Rattle.vga_dac.specs.Dac.{DacState};
 
     ghost Value = { DacState };
@@ -41,6 +45,9 @@ impl Model for Dac {
       waiting_green = d.waiting_green;
       mask = d.mask;
     } };
+
+    ghost invariant = { λ d. AreSmall d.reds × AreSmall d.greens × AreSmall d.blues
+        × (d.waiting_red < 64) × (d.waiting_green < 64) };
 }
 
 ghost use Rattle.vga_bits.specs.Bytes.{zeros as zeros_of};
@@ -59,6 +66,7 @@ impl Dac {
     ghost use Rattle.vga_dac.specs.Dac.{IsDac};
 
     /// The DAC at power-on: all entries black, the index 0, red next, nothing waiting, the mask FF.
+    #[tactic(auto, using(crate::proofs::SavedLemmas::small_zeros))]
     pub fn new() -> Dac
         ensures { result ≡ power_on_dac }
     {
@@ -115,6 +123,7 @@ impl Dac {
 
     /// Writes the next component, of which six bits are kept. Red and green wait; blue stores all
     /// three in the entry of the index.
+    #[tactic(auto, using(crate::proofs::SavedLemmas::small_set, crate::proofs::SavedLemmas::small_and))]
     pub fn write_component(&mut self, v: u8)
         ensures { self.new ≡ after_write self.old v }
     {

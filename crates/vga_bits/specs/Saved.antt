@@ -1,0 +1,25 @@
+-- The bytes of saved states: written one after the other, and read by their places.
+use Rattle.std.specs.Prelude.{ℕ, ◌≡◌, ◌+◌, ◌*◌, ◌/◌, ◌%◌, ◌==◌, Bool, true, false, List, [], ◌∷◌}
+use Rattle.std.specs.Prelude.{◌++◌, length, take, slice_index}
+
+-- the two bytes of a word, of which the low one comes first
+abbrev pub word_bytes : ℕ → List ℕ
+word_bytes v = v % 256 ∷ v / 256 ∷ []
+
+-- the word whose two bytes stand at a place
+abbrev pub word_at : List ℕ → ℕ → ℕ
+word_at bytes at = slice_index bytes at + 256 * slice_index bytes (at + 1)
+
+-- a flag as a byte: 1 where it is set, and else 0
+abbrev pub flag_byte : Bool → ℕ
+flag_byte true = 1
+flag_byte false = 0
+
+-- the flag at a place
+abbrev pub flag_at : List ℕ → ℕ → Bool
+flag_at bytes at = slice_index bytes at == 1
+
+-- some bytes were put into a slice, from place `at` on to before `next`; those before `at` stay
+pub record IsPut (old new : List ℕ) (at next : ℕ) (bytes : List ℕ) : Type 0 where
+  pub end : next ≡ at + length bytes
+  pub front : take next new ≡ take at old ++ bytes
