@@ -4,6 +4,8 @@ ghost use Rattle.vga_bits.specs.Bytes.{zeros as zeros_of};
 ghost use Rattle.vga_planes.specs.Planes.{byte_at, bytes_at, with_bytes, zero_planes, IsMemory};
 ghost use Rattle.vga_bits.specs.Words.{bytes_of};
 
+mod saved;
+
 use super::latch::Latch;
 use super::words::{filled, selected};
 use std::alloc::Global;

@@ -1,0 +1,11 @@
+use Rattle.std.proofs.Common.{◌≡◌, ◌+◌, ◌<◌, length, arith}
+use Rattle.vga_bits.specs.Four.{of_plane}
+use Rattle.vga_planes.proofs.SavedLemmas.{one_more}
+use Rattle.vga_planes.proofs.planes.Planes.save_plane.Goals as goal
+
+pub loop-offset-preserved : goal.loop-offset-preserved
+loop-offset-preserved c =
+    let plane = of_plane c.args.self.now c.args.plane in
+    let size = c.bounds.ensures.size c.args.plane c.requires.plane in
+    one_more c.loop-offset.out c.args.out.now plane c.args.at c.loop-offset.offset c.byte.result c.loop-offset.invariant (omega arith)
+    (omega (arith, size)) c.byte.ensures
