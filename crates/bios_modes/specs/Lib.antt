@@ -7,3 +7,4 @@ pub mod Fonts
 pub mod Valid
 pub mod Begin
 pub mod Bounds
+pub mod Saved

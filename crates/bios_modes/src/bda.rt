@@ -1,6 +1,7 @@
 //! The video BIOS's data.
 ghost use Rattle.std.specs.Prelude.{◌≡◌, ◌<◌, slice_index};
 
+mod saved;
 mod valid;
 mod writers;
 

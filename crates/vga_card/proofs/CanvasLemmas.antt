@@ -14,7 +14,7 @@ use Rattle.vga_card.specs.Picture.{Dot, widest, highest, lines_of, lines_from}
 use Rattle.vga_card.specs.Canvas.{CanvasState, blank_canvas, dots_from, stored_dots, IsCanvas}
 
 -- no later line has a dot
-no_lines : (u : ℕ) (ws : List ℕ) → ((j : ℕ) → slice_index ws j ≡ 0) → lines_from u ws ≡ []
+pub no_lines : (u : ℕ) (ws : List ℕ) → ((j : ℕ) → slice_index ws j ≡ 0) → lines_from u ws ≡ []
 unfolding lines_from
 no_lines u [] h = refl
 no_lines u (w ∷ ws) h = ap (λ n. replicate n u ++ lines_from (u + 1) ws) (h 0) ∙ no_lines (u + 1) ws (λ j. h (suc j))

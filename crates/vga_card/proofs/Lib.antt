@@ -9,3 +9,4 @@ pub mod RowLemmas
 pub mod LineLemmas
 pub mod DrawnLemmas
 pub mod PartLemmas
+pub mod SavedLemmas

@@ -10,3 +10,4 @@ pub mod Valid
 pub mod Bounds
 pub mod Bus
 pub mod Line
+pub mod Saved

@@ -12,6 +12,8 @@ ghost use Rattle.vga_card.specs.Frames.{IsSmall};
 ghost use Rattle.vga_card.specs.Canvas.{IsSmallShape, blank_canvas, width_with, width_more};
 ghost use Rattle.vga_card.specs.Line.{line_dots, part_dots, IsLineAppended, IsPartAppended};
 
+pub(crate) mod saved;
+
 use crate::drawn::Drawn;
 use crate::shape::{Shape, count_rows};
 use std::alloc::Global;

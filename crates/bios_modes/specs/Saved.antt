@@ -1,0 +1,48 @@
+-- The BIOS data as bytes, in the order of their offsets: a byte is a byte, and a word two, the low one
+-- first.
+use Rattle.std.specs.Prelude.{ℕ, ◌≡◌, List, [], ◌∷◌, ◌++◌, length, take, drop, slice_index}
+use Rattle.std.specs.List.{flat_map}
+use Rattle.vga_bits.specs.Saved.{word_bytes, word_at, words_in}
+use Rattle.bios_modes.specs.Bda.{BiosData}
+use Rattle.bios_modes.specs.Valid.{IsValid}
+
+-- the bytes before the places of the cursor: mode, columns, size and start
+abbrev pub saved_front : BiosData → List ℕ
+saved_front d = (d.mode ∷ []) ++ (word_bytes d.columns ++ (word_bytes d.size ++ word_bytes d.start))
+
+-- the bytes behind them: the cursor's type, the page, the CRT controller's address, the last row and
+-- the height
+abbrev pub saved_back : BiosData → List ℕ
+saved_back d = word_bytes d.cursor_type ++ ((d.page ∷ []) ++ (word_bytes d.crtc_address
+    ++ ((d.last_row ∷ []) ++ word_bytes d.height)))
+
+-- the bytes of BIOS data
+unfoldable pub saved_bda : BiosData → List ℕ
+saved_bda d = saved_front d ++ (flat_map word_bytes d.cursor_places ++ saved_back d)
+
+-- what follows the front, and what follows the places of the cursor
+abbrev pub past_front : List ℕ → List ℕ
+past_front bytes = drop 7 bytes
+
+abbrev pub past_places : List ℕ → List ℕ
+past_places bytes = drop 16 (past_front bytes)
+
+-- the BIOS data that have these bytes
+unfoldable pub bda_from : List ℕ → BiosData
+bda_from bytes = record {
+  mode = slice_index bytes 0;
+  columns = word_at bytes 1;
+  size = word_at bytes 3;
+  start = word_at bytes 5;
+  cursor_places = words_in 8 (past_front bytes);
+  cursor_type = word_at (past_places bytes) 0;
+  page = slice_index (past_places bytes) 2;
+  crtc_address = word_at (past_places bytes) 3;
+  last_row = slice_index (past_places bytes) 5;
+  height = word_at (past_places bytes) 6;
+}
+
+-- bytes that BIOS data can have: those of valid ones
+pub record IsSavedBda (bytes : List ℕ) : Type 0 where
+  pub size : length bytes ≡ 31
+  pub valid : IsValid (bda_from bytes)

@@ -1,0 +1,116 @@
+-- The whole adapter as bytes: the miscellaneous output register, the CRT controller, the attribute
+-- controller, the DAC, the host path, and the dots that are drawn of the frame under way.
+use Rattle.std.specs.Prelude.{ℕ, zero, suc, ◌≡◌, ◌+◌, ◌*◌, ◌<◌, ◌≤◌, ◌==◌, min, nat_lt, true}
+use Rattle.std.specs.Prelude.{if◌then◌else◌, List, [], ◌∷◌, ◌++◌, length, take, drop, slice_index}
+use Rattle.std.specs.List.{count_by, flat_map}
+use Rattle.vga_bits.specs.Saved.{word_bytes, words_in}
+use Rattle.vga_host.specs.Saved.{saved_host, IsSavedHost, host_from}
+use Rattle.vga_crtc.specs.declared.beam.Beam.{Beam}
+use Rattle.vga_crtc.specs.Beam.{is_first_dot}
+use Rattle.vga_crtc.specs.Saved.{saved_crtc, IsSavedCrtc, crtc_from}
+use Rattle.vga_attr.specs.Saved.{saved_attr, IsSavedAttr, attr_from}
+use Rattle.vga_dac.specs.Saved.{saved_dac, IsSavedDac, dac_from}
+use Rattle.vga_card.specs.Picture.{Dot, widest, lines_of, lines_from, bytes_of}
+use Rattle.vga_card.specs.Canvas.{stored_dots}
+use Rattle.vga_card.specs.Card.{CardState}
+use Rattle.vga_card.specs.Dots.{fresh}
+
+-- ---- the dots drawn
+
+-- how many of these lines are line v, and how many are each of so many lines from v on
+abbrev pub count_on : List ℕ → ℕ → ℕ
+count_on lines v = count_by (λ x. x == v) lines
+
+unfoldable pub counts_from : List ℕ → ℕ → ℕ → List ℕ
+counts_from lines v zero = []
+counts_from lines v (suc n) = count_on lines v ∷ counts_from lines (v + 1) n
+
+-- how many dots each of 1,024 lines has
+unfoldable pub line_widths : List Dot → List ℕ
+line_widths dots = counts_from (lines_of dots) 0 1024
+
+-- the bytes of the dots drawn: for each line a word that counts them, and red, green and blue of each
+unfoldable pub saved_dots : List Dot → List ℕ
+saved_dots dots = flat_map word_bytes (line_widths dots) ++ bytes_of dots
+
+-- the width of each line, and what follows the widths
+unfoldable pub widths_in : List ℕ → List ℕ
+widths_in bytes = words_in 1024 bytes
+
+abbrev pub past_widths : List ℕ → List ℕ
+past_widths bytes = drop 2048 bytes
+
+-- the dots drawn that have these bytes
+unfoldable pub saved_dots_from : List ℕ → List Dot
+saved_dots_from bytes = stored_dots (widths_in bytes) (past_widths bytes)
+
+-- the most dots that line v can have where the beam is at b: on a line before the beam's as many as
+-- any, on its own those before it
+abbrev pub most_on : Beam → ℕ → ℕ
+most_on b v =
+    if nat_lt v b.line then widest
+    else if v == b.line then min (9 * b.character + b.dot) widest
+    else 0
+
+-- lines of these widths have no more dots than they can where the beam is at b
+pub record AreFew (b : Beam) (widths : List ℕ) : Type 0 where
+  pub most : (v : ℕ) → slice_index widths v ≤ most_on b v
+
+-- bytes that dots drawn can have where the beam is at b: no line has more dots than it can, each dot
+-- has three bytes, and at the first dot of a frame there is none
+pub record AreSavedDots (b : Beam) (bytes : List ℕ) : Type 0 where
+  pub few : AreFew b (widths_in bytes)
+  pub counted : length (past_widths bytes) ≡ 3 * length (lines_from 0 (widths_in bytes))
+  pub first : is_first_dot b ≡ true → length (past_widths bytes) ≡ 0
+
+-- ---- the adapter
+
+-- the adapter without the dots that no step can see any more: those of the frame that ended, while
+-- the beam is at the first dot of the next
+abbrev pub settled : CardState → CardState
+settled c = record c { drawn = fresh c }
+
+-- the bytes of an adapter
+unfoldable pub saved_card : CardState → List ℕ
+saved_card c = (c.misc ∷ []) ++ (saved_crtc c.crtc ++ (saved_attr c.attr ++ (saved_dac c.dac
+    ++ (saved_host c.host ++ saved_dots (fresh c)))))
+
+-- what follows each part of fixed size
+abbrev pub past_misc : List ℕ → List ℕ
+past_misc bytes = drop 1 bytes
+
+abbrev pub past_crtc : List ℕ → List ℕ
+past_crtc bytes = drop 37 (past_misc bytes)
+
+abbrev pub past_attr : List ℕ → List ℕ
+past_attr bytes = drop 23 (past_crtc bytes)
+
+abbrev pub past_dac : List ℕ → List ℕ
+past_dac bytes = drop 773 (past_attr bytes)
+
+abbrev pub past_host : List ℕ → List ℕ
+past_host bytes = drop 262164 (past_dac bytes)
+
+-- the beam of these bytes
+abbrev pub saved_beam_in : List ℕ → Beam
+saved_beam_in bytes = (crtc_from (take 37 (past_misc bytes))).beam
+
+-- bytes that an adapter can have: each part's are those that it can have
+pub record IsSavedCard (bytes : List ℕ) : Type 0 where
+  pub size : 265046 ≤ length bytes
+  pub crtc : IsSavedCrtc (take 37 (past_misc bytes))
+  pub attr : IsSavedAttr (take 23 (past_crtc bytes))
+  pub dac : IsSavedDac (take 773 (past_attr bytes))
+  pub host : IsSavedHost (take 262164 (past_dac bytes))
+  pub dots : AreSavedDots (saved_beam_in bytes) (past_host bytes)
+
+-- the adapter that has these bytes
+unfoldable pub card_from : List ℕ → CardState
+card_from bytes = record {
+  host = host_from (take 262164 (past_dac bytes));
+  crtc = crtc_from (take 37 (past_misc bytes));
+  attr = attr_from (take 23 (past_crtc bytes));
+  dac = dac_from (take 773 (past_attr bytes));
+  misc = slice_index bytes 0;
+  drawn = saved_dots_from (past_host bytes);
+}

@@ -1,0 +1,157 @@
+//! The dots drawn as bytes: for each of 1,024 lines a word that counts them, and red, green and blue
+//! of each dot in turn.
+ghost use Rattle.std.specs.Prelude.{◌≡◌, ℕ, ◌+◌, ◌*◌, ◌<◌, ◌≤◌, ◌↔◌, IsTrue, length, slice_index};
+ghost use Rattle.std.specs.Prelude.{[], take, IfSome, IfNone, vec_capacity, false};
+ghost use Rattle.std.specs.List.{flat_map};
+ghost use Rattle.vga_bits.specs.Bytes.{zeros};
+ghost use Rattle.vga_bits.specs.Saved.{word_bytes, IsPut};
+ghost use Rattle.vga_card.specs.Picture.{widest, highest, lines_from};
+ghost use Rattle.vga_card.specs.Valid.{IsDrawn};
+ghost use Rattle.vga_crtc.specs.Beam.{is_first_dot};
+ghost use Rattle.vga_card.specs.Saved.{saved_dots, saved_dots_from, widths_in, past_widths};
+ghost use Rattle.vga_card.specs.Saved.{most_on as most_dots_on, AreFew, AreSavedDots};
+
+use super::{Canvas, HIGHEST, WIDEST, lengthen};
+use vga_bits::{put_bytes, put_word, word_at};
+use vga_crtc::Beam;
+
+/// How many bytes the widths of all lines have.
+pub(crate) const WIDTHS_LEN: usize = 2 * HIGHEST;
+
+/// Puts a word for each width, at most 2,304, into a slice from place `at` on, and gives the place
+/// behind them.
+fn put_widths(out: &mut [u8], at: usize, widths: &[u32]) -> usize
+    requires narrow { (j : ℕ) → slice_index widths.now j ≤ widest }
+    requires few { length widths.now ≡ highest }
+    requires room { at + 2048 ≤ length out.old }
+    ensures put { IsPut out.old out.new at result (flat_map word_bytes widths.now) }
+    ensures end { result ≡ at + 2048 }
+{
+    let mut next = at;
+    for line in 0..widths.len() {
+        next = put_word(out, next, widths[line] as u16);
+    }
+    next
+}
+
+/// The widths of lines with no dot.
+#[tactic(auto, unfolding(vga_bits::specs::Bytes::zeros))]
+fn blank_widths<const N: usize>() -> [u32; N]
+    ensures { result ≡ zeros N }
+{
+    [0; N]
+}
+
+/// Puts the bytes of no dots into a slice from place `at` on, and gives the place behind them.
+pub(crate) fn put_no_dots(out: &mut [u8], at: usize) -> usize
+    requires { at + 2048 ≤ length out.old }
+    ensures put { IsPut out.old out.new at result (saved_dots []) }
+    ensures end { result ≡ at + 2048 }
+{
+    put_widths(out, at, &blank_widths::<HIGHEST>())
+}
+
+/// The most dots that a line can have where the beam is here.
+fn most_on(beam: Beam, line: usize) -> u32
+    ensures { result ≡ most_dots_on beam line }
+{
+    if line < beam.line as usize {
+        WIDEST as u32
+    } else if line == beam.line as usize {
+        (9 * beam.character as u32 + beam.dot as u32).min(WIDEST as u32)
+    } else {
+        0
+    }
+}
+
+/// How many dots all lines have together, or `None` where one has more than it can.
+fn count_dots(beam: Beam, bytes: &[u8]) -> Option<u32>
+    requires { 2048 ≤ length bytes.now }
+    ensures some { IfSome result (λ n. AreFew beam (widths_in bytes.now)
+        × (n ≡ length (lines_from 0 (widths_in bytes.now)))) }
+    ensures none { IfNone result (¬ AreFew beam (widths_in bytes.now)) }
+{
+    let mut count = 0;
+    for line in 0..HIGHEST {
+        let width = word_at(bytes, 2 * line) as u32;
+        if width > most_on(beam, line) {
+            return None;
+        }
+        count += width;
+    }
+    Some(count)
+}
+
+/// Whether some bytes are those of the dots of a frame under way where the beam is here: no line
+/// has more dots than it can, and each dot has three bytes.
+pub(crate) fn are_saved_dots(beam: Beam, bytes: &[u8]) -> bool
+    requires { 2048 ≤ length bytes.now }
+    ensures { IsTrue result ↔ AreSavedDots beam bytes.now }
+{
+    let rest = bytes.split_at(WIDTHS_LEN).1;
+    match count_dots(beam, bytes) {
+        Some(count) => {
+            rest.len() == 3 * count as usize && (rest.is_empty() || !beam.is_first_dot())
+        }
+        None => false,
+    }
+}
+
+/// Makes the widths those that stand in some bytes.
+fn restore_widths(widths: &mut [u32], bytes: &[u8])
+    requires lines { length widths.old ≡ highest }
+    requires all { 2048 ≤ length bytes.now }
+    ensures { widths.new ≡ widths_in bytes.now }
+{
+    for line in 0..widths.len() {
+        widths[line] = word_at(bytes, 2 * line) as u32;
+    }
+}
+
+/// Makes some bytes the first ones of a buffer, which has memory for them.
+fn restore_bytes(buffer: &mut Vec<u8>, bytes: &[u8])
+    requires { length bytes.now ≤ vec_capacity buffer.old }
+    ensures front { take (length bytes.now) buffer.new.items ≡ bytes.now }
+    ensures len { length bytes.now ≤ length buffer.new.items }
+    ensures capacity { vec_capacity buffer.old ≤ vec_capacity buffer.new }
+{
+    lengthen(buffer, bytes.len());
+    buffer.as_mut_slice()[..bytes.len()].copy_from_slice(bytes);
+}
+
+impl Canvas {
+    /// Puts the bytes of the dots into a slice from place `at` on, and gives the place behind them.
+    pub(crate) fn save(&self, out: &mut [u8], at: usize) -> usize
+        requires { at + (2048 + 3 * length self.now.dots) ≤ length out.old }
+        ensures put { IsPut out.old out.new at result (saved_dots self.now.dots) }
+        ensures end { result ≡ at + (2048 + 3 * length self.now.dots) }
+    {
+        let at = put_widths(out, at, self.widths.as_slice());
+        put_bytes(out, at, self.bytes())
+    }
+
+    /// Takes the dots of a frame under way from their bytes, where the beam is here.
+    pub(crate) fn restore(&mut self, beam: Beam, bytes: &[u8])
+        requires all { 2048 ≤ length bytes.now }
+        requires dots { AreSavedDots beam bytes.now }
+        ensures dots { self.new.dots ≡ saved_dots_from bytes.now }
+        ensures drawn { IsDrawn beam self.new }
+    {
+        let rest = bytes.split_at(WIDTHS_LEN).1;
+        restore_widths(self.widths.as_mut_slice(), bytes);
+        restore_bytes(&mut self.buffer, rest);
+        self.used = rest.len();
+        self.line = beam.line.min(HIGHEST as u16 - 1);
+    }
+
+    /// The dots that are saved are restored, whole, where the beam is here. The clauses are for
+    /// proofs: nothing runs.
+    pub(crate) fn saves_whole(&self, beam: Beam)
+        requires { IsDrawn beam self.now }
+        ensures saved { is_first_dot beam ≡ false → AreSavedDots beam (saved_dots self.now.dots) }
+        ensures back { saved_dots_from (saved_dots self.now.dots) ≡ self.now.dots }
+        ensures len { length (saved_dots self.now.dots) ≡ 2048 + 3 * length self.now.dots }
+    {
+        let _ = &self.widths;
+    }
+}
