@@ -10,3 +10,5 @@ pub mod LineLemmas
 pub mod DrawnLemmas
 pub mod PartLemmas
 pub mod SavedLemmas
+pub mod SavedCards
+pub mod SettledLemmas

@@ -23,20 +23,24 @@ use Rattle.vga_card.proofs.ShapeLemmas.{stored_bytes}
 
 -- ---- how many dots each line has
 
+count-append : (xs ys : List ℕ) (v : ℕ) → count_on (xs ++ ys) v ≡ count_on xs v + count_on ys v
+count-append xs ys v = sum_by-append (λ (x : ℕ). cond (x == v) 1 0) xs ys
+
 count_same : (w v : ℕ) → count_on (replicate w v) v ≡ w
 count_same zero v = refl
 count_same (suc w) v =
     let e : (v == v) ≡ true = grind (arith, nat_tests) in
-    omega (arith, ap (λ (b : Bool). cond b 1 0) e, count_same w v)
+    let one : 0 + 1 + w ≡ suc w = omega arith in
+    count-append (v ∷ []) (replicate w v) v ∙ ap {B = ℕ} (λ (b : Bool). 0 + cond b 1 0 + count_on (replicate w v) v) e
+    ∙ ap {B = ℕ} (λ (n : ℕ). 0 + 1 + n) (count_same w v) ∙ one
 
 count_other : (w u v : ℕ) → u ≢ v → count_on (replicate w u) v ≡ 0
 count_other zero u v apart = refl
 count_other (suc w) u v apart =
     let e : (u == v) ≡ false = grind (arith, nat_tests) in
-    omega (arith, ap (λ (b : Bool). cond b 1 0) e, count_other w u v apart)
-
-count-append : (xs ys : List ℕ) (v : ℕ) → count_on (xs ++ ys) v ≡ count_on xs v + count_on ys v
-count-append xs ys v = sum_by-append (λ (x : ℕ). cond (x == v) 1 0) xs ys
+    let none : 0 + 0 + 0 ≡ 0 = omega arith in
+    count-append (u ∷ []) (replicate w u) v ∙ ap {B = ℕ} (λ (b : Bool). 0 + cond b 1 0 + count_on (replicate w u) v) e
+    ∙ ap {B = ℕ} (λ (n : ℕ). 0 + 0 + n) (count_other w u v apart) ∙ none
 
 count_none : (u v : ℕ) (ws : List ℕ) → v < u → count_on (lines_from u ws) v ≡ 0
 unfolding lines_from
@@ -82,6 +86,15 @@ unfolding saved_dots
 canvas_bytes ws buffer lines counted =
     ap (λ (l : List ℕ). flat_map word_bytes l ++ buffer) (sym (widths_are ws buffer lines))
     ∙ ap (λ (l : List ℕ). flat_map word_bytes (line_widths (stored_dots ws buffer)) ++ l) (stored_bytes ws buffer counted)
+
+-- widths of a canvas and the bytes of its dots are those of its dots
+pub dots_bytes : (ws buffer : List ℕ) (dots : List Dot) → length ws ≡ 1024 → stored_dots ws buffer ≡ dots → flat_map word_bytes ws ++ bytes_of dots ≡ saved_dots dots
+unfolding saved_dots
+dots_bytes ws buffer dots lines shown = ap (λ (l : List ℕ). flat_map word_bytes l ++ bytes_of dots) (sym (widths_are ws buffer lines) ∙ ap line_widths shown)
+
+-- a canvas has no more bytes than its memory has room for
+pub canvas_small : (capacity : ℕ) (buffer ws : List ℕ) (line : ℕ) → IsCanvas capacity buffer ws line → 3 * length (stored_dots ws buffer) ≤ 7077888
+canvas_small capacity buffer ws line is = omega (arith, length-dots_from (lines_from 0 ws) buffer, is.fits, is.narrow line, is.inside)
 
 -- and those of no dots
 pub no_bytes : flat_map word_bytes (zeros 1024) ≡ saved_dots []

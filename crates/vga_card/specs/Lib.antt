@@ -11,3 +11,4 @@ pub mod Bounds
 pub mod Bus
 pub mod Line
 pub mod Saved
+pub mod Settled

@@ -65,11 +65,6 @@ pub record AreSavedDots (b : Beam) (bytes : List ℕ) : Type 0 where
 
 -- ---- the adapter
 
--- the adapter without the dots that no step can see any more: those of the frame that ended, while
--- the beam is at the first dot of the next
-abbrev pub settled : CardState → CardState
-settled c = record c { drawn = fresh c }
-
 -- the bytes of an adapter
 unfoldable pub saved_card : CardState → List ℕ
 saved_card c = (c.misc ∷ []) ++ (saved_crtc c.crtc ++ (saved_attr c.attr ++ (saved_dac c.dac

@@ -116,7 +116,7 @@ fn restore_bytes(buffer: &mut Vec<u8>, bytes: &[u8])
     ensures capacity { vec_capacity buffer.old ≤ vec_capacity buffer.new }
 {
     lengthen(buffer, bytes.len());
-    buffer.as_mut_slice()[..bytes.len()].copy_from_slice(bytes);
+    put_bytes(buffer.as_mut_slice(), 0, bytes);
 }
 
 impl Canvas {
@@ -128,6 +128,14 @@ impl Canvas {
     {
         let at = put_widths(out, at, self.widths.as_slice());
         put_bytes(out, at, self.bytes())
+    }
+
+    /// How many bytes the dots have beside the widths.
+    pub(crate) fn saved_len(&self) -> usize
+        ensures value { result ≡ 3 * length self.now.dots }
+        ensures few { result ≤ 7077888 }
+    {
+        self.used
     }
 
     /// Takes the dots of a frame under way from their bytes, where the beam is here.

@@ -39,6 +39,16 @@ impl Crtc {
         are_kept(&KEPT_BITS, registers) && index[0] <= INDEX_MASK && Beam::is_saved(beam)
     }
 
+    /// The beam of a CRT controller that has these 37 bytes.
+    #[tactic(auto, unfolding(crate::specs::Saved::crtc_from))]
+    pub fn saved_beam(bytes: &[u8]) -> Beam
+        requires { length bytes.now ≡ 37 }
+        ensures { result ≡ (crtc_from bytes.now).beam }
+    {
+        let rest = bytes.split_at(COUNT).1;
+        Beam::from_saved(rest.split_at(1).1)
+    }
+
     /// Takes registers, index and beam from the bytes of a CRT controller.
     #[tactic(auto, unfolding(crate::specs::Saved::crtc_from))]
     pub fn restore(&mut self, bytes: &[u8])

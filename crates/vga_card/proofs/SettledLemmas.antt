@@ -1,0 +1,217 @@
+-- An adapter without the dots of a frame that ended cannot be told from one with them.
+use Rattle.std.proofs.Common.{◌≡◌, ◌∙◌, ℕ, zero, suc, ◌+◌, ◌<◌, ◌/◌, ◌%◌, Bool, true, false, Option, Some, None, Result, Ok, Err, if◌then◌else◌, refl, sym, ap, arith, List, []}
+use Rattle.std.proofs.Common.{◌++◌}
+use Rattle.std.specs.Prelude.{◌==◌}
+use Rattle.vga_bits.specs.declared.refusal.Refusal.{Refusal}
+use Rattle.vga_bits.specs.declared.refusal.Refusal.TheVariants.{NotDecoded}
+use Rattle.vga_bits.specs.declared.paired_port.PairedPort.{PairedPort}
+use Rattle.vga_bits.specs.declared.paired_port.PairedPort.TheVariants.{Index, Data}
+use Rattle.vga_host.specs.Address.{is_decoded}
+use Rattle.vga_host.specs.declared.group.Group.TheVariants.{Sequencer, Graphics}
+use Rattle.vga_host.specs.Ports.{is_refused_out, is_refused_inp}
+use Rattle.vga_crtc.specs.declared.beam.Beam.{Beam}
+use Rattle.vga_crtc.specs.Beam.{is_first_dot, after_start, after_dot}
+use Rattle.vga_crtc.specs.Ports.{is_refused_out as is_refused_crtc, after_out as after_crtc, is_refused_inp as is_refused_crtc_inp}
+use Rattle.vga_crtc.specs.Raster.{dots_in_line, dots_in_frame}
+use Rattle.vga_crtc.proofs.Ports.{out_beam}
+use Rattle.vga_attr.specs.Attr.{is_refused_write, is_refused_read}
+use Rattle.vga_card.specs.declared.port.Port.{Port}
+use Rattle.vga_card.specs.declared.port.Port.TheVariants.{Attribute, AttributeRegister, MiscellaneousWrite, SubsystemEnable, SequencerIndex, SequencerData}
+use Rattle.vga_card.specs.declared.port.Port.TheVariants.{DacMask, DacReadIndex, DacWriteIndex, DacData, FeatureControl, MiscellaneousRead, GraphicsIndex}
+use Rattle.vga_card.specs.declared.port.Port.TheVariants.{GraphicsData, CrtcIndex, CrtcData, InputStatus1}
+use Rattle.vga_card.specs.Picture.{Dot}
+use Rattle.vga_card.specs.Card.{CardState}
+use Rattle.vga_card.specs.Port.{port_of}
+use Rattle.vga_card.specs.Cycles.{Written, Answered, written_unless, answered_unless, written_where, answered_where, out_at, inp_at, out_cycle, inp_cycle}
+use Rattle.vga_card.specs.Cycles.{put_cycle, get_cycle}
+use Rattle.vga_card.specs.Words.{both_written, both_read, out_bytes, inp_bytes, out_word_cycle, inp_word_cycle, put_word_cycle, get_word_cycle}
+use Rattle.vga_card.specs.Dots.{character_width, fresh_dots, fresh, display_dot, dot, dots}
+use Rattle.vga_card.specs.Frames.{frame_count, frame}
+use Rattle.vga_card.specs.Settled.{settled, settled_after, CannotBeTold}
+
+-- ---- a cycle of a byte
+
+unless_settled : (refused : Bool) (old new : CardState) → written_unless refused (settled old) (settled new) ≡ settled_after (written_unless refused old new)
+unless_settled true old new = refl
+unless_settled false old new = refl
+
+answered_settled : (refused : Bool) (old new : CardState) (v : ℕ) → answered_unless refused (settled old) (settled new) v
+    ≡ settled_after (answered_unless refused old new v)
+answered_settled true old new v = refl
+answered_settled false old new v = refl
+
+where_settled : (decoded : Bool) (old new : CardState) → written_where decoded (settled old) (settled new) ≡ settled_after (written_where decoded old new)
+where_settled true old new = refl
+where_settled false old new = refl
+
+answered_where_settled : (decoded : Bool) (old new : CardState) (v : ℕ) → answered_where decoded (settled old) (settled new) v
+    ≡ settled_after (answered_where decoded old new v)
+answered_where_settled true old new v = refl
+answered_where_settled false old new v = refl
+
+-- a write to the CRT controller moves no beam
+crtc_settled : (c : CardState) (port : PairedPort) (v : ℕ) → record (settled c) { crtc = after_crtc c.crtc port v }
+    ≡ settled (record c { crtc = after_crtc c.crtc port v })
+crtc_settled c port v =
+    ap (λ (b : Beam). record c { crtc = after_crtc c.crtc port v; drawn = fresh_dots b c.drawn }) (sym (out_beam c.crtc port v))
+
+out_at_settled : (c : CardState) (reached : Option Port) (v : ℕ) → out_at (settled c) reached v ≡ settled_after (out_at c reached v)
+unfolding out_at
+out_at_settled c None v = refl
+out_at_settled c (Some Attribute) v = unless_settled (is_refused_write c.attr) c _
+out_at_settled c (Some AttributeRegister) v = refl
+out_at_settled c (Some MiscellaneousWrite) v = refl
+out_at_settled c (Some SubsystemEnable) v = refl
+out_at_settled c (Some SequencerIndex) v = refl
+out_at_settled c (Some SequencerData) v = unless_settled (is_refused_out c.host Sequencer Data v) c _
+out_at_settled c (Some DacMask) v = refl
+out_at_settled c (Some DacReadIndex) v = refl
+out_at_settled c (Some DacWriteIndex) v = refl
+out_at_settled c (Some DacData) v = refl
+out_at_settled c (Some FeatureControl) v = refl
+out_at_settled c (Some MiscellaneousRead) v = refl
+out_at_settled c (Some GraphicsIndex) v = refl
+out_at_settled c (Some GraphicsData) v = unless_settled (is_refused_out c.host Graphics Data v) c _
+out_at_settled c (Some CrtcIndex) v = ap (λ (s : CardState). (s, Ok tt)) (crtc_settled c Index v)
+out_at_settled c (Some CrtcData) v =
+    ap (λ (s : CardState). written_unless (is_refused_crtc c.crtc Data v) (settled c) s) (crtc_settled c Data v)
+    ∙ unless_settled (is_refused_crtc c.crtc Data v) c _
+out_at_settled c (Some InputStatus1) v = refl
+
+inp_at_settled : (c : CardState) (reached : Option Port) → inp_at (settled c) reached ≡ settled_after (inp_at c reached)
+unfolding inp_at
+inp_at_settled c None = refl
+inp_at_settled c (Some Attribute) = refl
+inp_at_settled c (Some AttributeRegister) = answered_settled (is_refused_read c.attr) c c _
+inp_at_settled c (Some MiscellaneousWrite) = refl
+inp_at_settled c (Some SubsystemEnable) = refl
+inp_at_settled c (Some SequencerIndex) = refl
+inp_at_settled c (Some SequencerData) = answered_settled (is_refused_inp c.host Sequencer Data) c c _
+inp_at_settled c (Some DacMask) = refl
+inp_at_settled c (Some DacReadIndex) = refl
+inp_at_settled c (Some DacWriteIndex) = refl
+inp_at_settled c (Some DacData) = refl
+inp_at_settled c (Some FeatureControl) = refl
+inp_at_settled c (Some MiscellaneousRead) = refl
+inp_at_settled c (Some GraphicsIndex) = refl
+inp_at_settled c (Some GraphicsData) = answered_settled (is_refused_inp c.host Graphics Data) c c _
+inp_at_settled c (Some CrtcIndex) = refl
+inp_at_settled c (Some CrtcData) = answered_settled (is_refused_crtc_inp c.crtc Data) c c _
+inp_at_settled c (Some InputStatus1) = refl
+
+out_settled : (c : CardState) (port v : ℕ) → out_cycle (settled c) port v ≡ settled_after (out_cycle c port v)
+out_settled c port v = out_at_settled c (port_of c.misc port) v
+
+inp_settled : (c : CardState) (port : ℕ) → inp_cycle (settled c) port ≡ settled_after (inp_cycle c port)
+inp_settled c port = inp_at_settled c (port_of c.misc port)
+
+put_settled : (c : CardState) (address v : ℕ) → put_cycle (settled c) address v ≡ settled_after (put_cycle c address v)
+put_settled c address v = where_settled (is_decoded c.host c.misc address) c _
+
+get_settled : (c : CardState) (address : ℕ) → get_cycle (settled c) address ≡ settled_after (get_cycle c address)
+get_settled c address = answered_where_settled (is_decoded c.host c.misc address) c _ _
+
+-- ---- a cycle of a word
+
+both_settled : (old : CardState) (first : Result Unit Refusal) (second : Written) → both_written (settled old) first (settled_after second)
+    ≡ settled_after (both_written old first second)
+both_settled old (Ok u) (new, Ok w) = refl
+both_settled old (Ok u) (new, Err g) = refl
+both_settled old (Err f) (new, Ok w) = refl
+both_settled old (Err f) (new, Err g) = refl
+
+both_read_settled : (old : CardState) (first : Result ℕ Refusal) (second : Answered) → both_read (settled old) first (settled_after second)
+    ≡ settled_after (both_read old first second)
+both_read_settled old (Ok low) (new, Ok high) = refl
+both_read_settled old (Ok low) (new, Err g) = refl
+both_read_settled old (Err f) (new, Ok high) = refl
+both_read_settled old (Err f) (new, Err g) = refl
+
+-- two writes, of which the second is done in what the first leaves
+pair_written : (cycle : CardState → ℕ → ℕ → Written) → ((c : CardState) (place v : ℕ) → cycle (settled c) place v ≡ settled_after (cycle c place v))
+    → (c : CardState) (place low next high : ℕ) → (let first = cycle (settled c) place low in both_written (settled c) first.1 (cycle first.0 next high))
+    ≡ settled_after (let first = cycle c place low in both_written c first.1 (cycle first.0 next high))
+pair_written cycle settles c place low next high =
+    let first = cycle c place low in
+    ap (λ (w : Written). both_written (settled c) w.1 (cycle w.0 next high)) (settles c place low)
+    ∙ ap (λ (w : Written). both_written (settled c) first.1 w) (settles first.0 next high)
+    ∙ both_settled c first.1 (cycle first.0 next high)
+
+pair_read : (cycle : CardState → ℕ → Answered) → ((c : CardState) (place : ℕ) → cycle (settled c) place ≡ settled_after (cycle c place))
+    → (c : CardState) (place next : ℕ) → (let first = cycle (settled c) place in both_read (settled c) first.1 (cycle first.0 next))
+    ≡ settled_after (let first = cycle c place in both_read c first.1 (cycle first.0 next))
+pair_read cycle settles c place next =
+    let first = cycle c place in
+    ap (λ (a : Answered). both_read (settled c) a.1 (cycle a.0 next)) (settles c place)
+    ∙ ap (λ (a : Answered). both_read (settled c) first.1 a) (settles first.0 next)
+    ∙ both_read_settled c first.1 (cycle first.0 next)
+
+written_past : (last : Bool) (c : CardState) (s w : Written) → s ≡ settled_after w
+    → (let x : Written = (if last then (settled c, Err NotDecoded) else s) in x) ≡ settled_after (let x : Written = (if last then (c, Err NotDecoded) else w) in x)
+written_past true c s w e = refl
+written_past false c s w e = e
+
+read_past : (last : Bool) (c : CardState) (s w : Answered) → s ≡ settled_after w
+    → (let x : Answered = (if last then (settled c, Err NotDecoded) else s) in x) ≡ settled_after (let x : Answered = (if last then (c, Err NotDecoded) else w) in x)
+read_past true c s w e = refl
+read_past false c s w e = e
+
+out_word_settled : (c : CardState) (port v : ℕ) → out_word_cycle (settled c) port v ≡ settled_after (out_word_cycle c port v)
+out_word_settled c port v = written_past (port == 0xFFFF) c _ _ (pair_written out_cycle out_settled c port (v % 256) (port + 1) (v / 256))
+
+inp_word_settled : (c : CardState) (port : ℕ) → inp_word_cycle (settled c) port ≡ settled_after (inp_word_cycle c port)
+inp_word_settled c port = read_past (port == 0xFFFF) c _ _ (pair_read inp_cycle inp_settled c port (port + 1))
+
+put_word_settled : (c : CardState) (address v : ℕ) → put_word_cycle (settled c) address v ≡ settled_after (put_word_cycle c address v)
+put_word_settled c address v = written_past (address == 0xFFFFFFFF) c _ _ (pair_written put_cycle put_settled c address (v % 256) (address + 1) (v / 256))
+
+get_word_settled : (c : CardState) (address : ℕ) → get_word_cycle (settled c) address ≡ settled_after (get_word_cycle c address)
+get_word_settled c address = read_past (address == 0xFFFFFFFF) c _ _ (pair_read get_cycle get_settled c address (address + 1))
+
+-- ---- dots
+
+twice_fresh : (v : Bool) (drawn : List Dot) → (let x : List Dot = (if v then [] else (if v then [] else drawn)) in x) ≡ (if v then [] else drawn)
+twice_fresh true drawn = refl
+twice_fresh false drawn = refl
+
+fresh_settled : (c : CardState) → fresh (settled c) ≡ fresh c
+fresh_settled c = twice_fresh (is_first_dot c.crtc.beam) c.drawn
+
+under_way_settled : (c : CardState) → is_first_dot c.crtc.beam ≡ false → settled c ≡ c
+under_way_settled c away = ap (λ (v : Bool). record c { drawn = (if v then [] else c.drawn) }) away
+
+dot_settled : (c : CardState) → dot (settled c) ≡ dot c
+unfolding dot
+dot_settled c =
+    ap (λ (drawn : List Dot). record c {
+      crtc = after_dot c.crtc (character_width c);
+      drawn = drawn ++ display_dot c.host (after_start c.crtc) c.attr c.dac;
+    }) (fresh_settled c)
+
+dots_settled : (n : ℕ) (c : CardState) → 0 < n → dots n (settled c) ≡ dots n c
+unfolding dots
+dots_settled zero c some = absurd (omega arith)
+dots_settled (suc n) c some = ap (dots n) (dot_settled c)
+
+frame_some : (c : CardState) → 0 < frame_count c
+unfolding dots_in_frame dots_in_line
+frame_some c = omega arith
+
+frame_settled : (c : CardState) → frame (settled c) ≡ frame c
+frame_settled c = dots_settled (frame_count c) c (frame_some c)
+
+pub cannot_be_told : CannotBeTold
+cannot_be_told = record {
+  under_way = under_way_settled;
+  fresh = fresh_settled;
+  out = out_settled;
+  inp = inp_settled;
+  put = put_settled;
+  get = get_settled;
+  out_word = out_word_settled;
+  inp_word = inp_word_settled;
+  put_word = put_word_settled;
+  get_word = get_word_settled;
+  dots = dots_settled;
+  frame = frame_settled;
+}

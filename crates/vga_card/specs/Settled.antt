@@ -1,0 +1,41 @@
+-- The adapter without the dots that no step can see any more: those of the frame that ended, while the
+-- beam is at the first dot of the next. So it is where it was saved and restored.
+use Rattle.std.specs.Prelude.{ℕ, ◌≡◌, ◌<◌, false}
+use Rattle.vga_crtc.specs.Beam.{is_first_dot}
+use Rattle.vga_card.specs.Card.{CardState}
+use Rattle.vga_card.specs.Cycles.{out_cycle, inp_cycle, put_cycle, get_cycle}
+use Rattle.vga_card.specs.Words.{out_word_cycle, inp_word_cycle, put_word_cycle, get_word_cycle}
+use Rattle.vga_card.specs.Dots.{fresh, dots}
+use Rattle.vga_card.specs.Frames.{frame}
+
+abbrev pub settled : CardState → CardState
+settled c = record c { drawn = fresh c }
+
+-- what a cycle leaves, settled, and what it answers
+abbrev pub settled_after : {A : Type 0} → CardState × A → CardState × A
+settled_after after = (settled after.0, after.1)
+
+-- a settled adapter is the adapter while a frame is under way; and it can never be told from it: a
+-- cycle answers the same and leaves the same but for what is settled, one dot and more lead to the
+-- same state, and so does a frame
+pub record CannotBeTold : Type 0 where
+  pub under_way : (c : CardState) → is_first_dot c.crtc.beam ≡ false → settled c ≡ c
+  pub fresh : (c : CardState) → fresh (settled c) ≡ fresh c
+  pub out : (c : CardState) (port v : ℕ) → out_cycle (settled c) port v
+      ≡ settled_after (out_cycle c port v)
+  pub inp : (c : CardState) (port : ℕ) → inp_cycle (settled c) port
+      ≡ settled_after (inp_cycle c port)
+  pub put : (c : CardState) (address v : ℕ) → put_cycle (settled c) address v
+      ≡ settled_after (put_cycle c address v)
+  pub get : (c : CardState) (address : ℕ) → get_cycle (settled c) address
+      ≡ settled_after (get_cycle c address)
+  pub out_word : (c : CardState) (port v : ℕ) → out_word_cycle (settled c) port v
+      ≡ settled_after (out_word_cycle c port v)
+  pub inp_word : (c : CardState) (port : ℕ) → inp_word_cycle (settled c) port
+      ≡ settled_after (inp_word_cycle c port)
+  pub put_word : (c : CardState) (address v : ℕ) → put_word_cycle (settled c) address v
+      ≡ settled_after (put_word_cycle c address v)
+  pub get_word : (c : CardState) (address : ℕ) → get_word_cycle (settled c) address
+      ≡ settled_after (get_word_cycle c address)
+  pub dots : (n : ℕ) (c : CardState) → 0 < n → dots n (settled c) ≡ dots n c
+  pub frame : (c : CardState) → frame (settled c) ≡ frame c

@@ -1,0 +1,141 @@
+//! The whole adapter as bytes.
+ghost use Rattle.std.specs.Prelude.{◌≡◌, ◌+◌, ◌*◌, ◌≤◌, ◌↔◌, IsTrue, length, take, slice_index};
+ghost use Rattle.vga_bits.specs.Saved.{IsPut};
+ghost use Rattle.vga_card.specs.Dots.{fresh};
+ghost use Rattle.vga_card.specs.Saved.{saved_card, past_misc, past_crtc, past_attr, past_dac};
+ghost use Rattle.vga_card.specs.Saved.{past_host, IsSavedCard, card_from};
+ghost use Rattle.vga_card.specs.Settled.{settled};
+
+use super::Card;
+use crate::canvas::saved::{WIDTHS_LEN, are_saved_dots, put_no_dots};
+use vga_attr::Attr;
+use vga_bits::put_byte;
+use vga_crtc::Crtc;
+use vga_dac::Dac;
+use vga_host::Host;
+
+/// The bytes of each part of a saved adapter.
+#[derive(Clone, Copy)]
+struct Parts<'a> {
+    misc: u8,
+    crtc: &'a [u8],
+    attr: &'a [u8],
+    dac: &'a [u8],
+    host: &'a [u8],
+    dots: &'a [u8],
+}
+
+/// The bytes of each part: those of the dots are what is left behind the parts of fixed size.
+fn parts_of(bytes: &[u8]) -> Parts<'_>
+    requires { 265046 ≤ length bytes.now }
+    ensures misc { result.misc ≡ slice_index bytes.now 0 }
+    ensures crtc { result.crtc.now ≡ take 37 (past_misc bytes.now) }
+    ensures attr { result.attr.now ≡ take 23 (past_crtc bytes.now) }
+    ensures dac { result.dac.now ≡ take 773 (past_attr bytes.now) }
+    ensures host { result.host.now ≡ take 262164 (past_dac bytes.now) }
+    ensures dots { result.dots.now ≡ past_host bytes.now }
+    ensures widths { 2048 ≤ length result.dots.now }
+{
+    let (misc, rest) = bytes.split_at(1);
+    let (crtc, rest) = rest.split_at(Crtc::SAVED_LEN);
+    let (attr, rest) = rest.split_at(Attr::SAVED_LEN);
+    let (dac, rest) = rest.split_at(Dac::SAVED_LEN);
+    let (host, dots) = rest.split_at(Host::SAVED_LEN);
+    Parts {
+        misc: misc[0],
+        crtc,
+        attr,
+        dac,
+        host,
+        dots,
+    }
+}
+
+impl Card {
+    /// How many bytes an adapter has when it is saved at the first dot of a frame; elsewhere it has
+    /// three more for each dot drawn.
+    pub const SAVED_LEN: usize =
+        1 + Crtc::SAVED_LEN + Attr::SAVED_LEN + Dac::SAVED_LEN + Host::SAVED_LEN + WIDTHS_LEN;
+
+    /// How many bytes the adapter has when it is saved now.
+    pub fn saved_len(&self) -> usize
+        ensures value { result ≡ length (saved_card self.now) }
+        ensures dots { result ≡ 265046 + 3 * length (fresh self.now) }
+    {
+        self.saves_whole();
+        let dots = if self.crtc.beam().is_first_dot() {
+            0
+        } else {
+            self.canvas.saved_len()
+        };
+        Card::SAVED_LEN + dots
+    }
+
+    /// Puts the bytes of the adapter into a slice from place `at` on, where there is room for them,
+    /// and gives the place behind them: the miscellaneous output register, CRT controller, attribute
+    /// controller, DAC, host path, and the dots that are drawn of the frame under way, of which
+    /// there is none at its first dot.
+    #[tactic(auto, unfolding(crate::specs::Saved::saved_card))]
+    pub fn save(&self, out: &mut [u8], at: usize) -> usize
+        requires { at + (265046 + 3 * length (fresh self.now)) ≤ length out.old }
+        ensures { IsPut out.old out.new at result (saved_card self.now) }
+    {
+        let at = put_byte(out, at, self.misc);
+        let at = self.crtc.save(out, at);
+        let at = self.attr.save(out, at);
+        let at = self.dac.save(out, at);
+        let at = self.host.save(out, at);
+        if self.crtc.beam().is_first_dot() {
+            put_no_dots(out, at)
+        } else {
+            self.canvas.save(out, at)
+        }
+    }
+
+    /// Whether some bytes are those of an adapter: each part's are those that it can have, and the
+    /// dots are drawn up to the beam.
+    pub fn is_saved(bytes: &[u8]) -> bool
+        ensures { IsTrue result ↔ IsSavedCard bytes.now }
+    {
+        if bytes.len() < Card::SAVED_LEN {
+            return false;
+        }
+        let parts = parts_of(bytes);
+        if !Crtc::is_saved(parts.crtc) || !Attr::is_saved(parts.attr) {
+            return false;
+        }
+        if !Dac::is_saved(parts.dac) || !Host::is_saved(parts.host) {
+            return false;
+        }
+        are_saved_dots(Crtc::saved_beam(parts.crtc), parts.dots)
+    }
+
+    /// Takes all parts and the dots drawn from the bytes of an adapter. No memory is taken.
+    #[tactic(auto, unfolding(crate::specs::Saved::card_from))]
+    pub fn restore(&mut self, bytes: &[u8])
+        requires { IsSavedCard bytes.now }
+        ensures { self.new ≡ card_from bytes.now }
+    {
+        let parts = parts_of(bytes);
+        self.misc = parts.misc;
+        self.crtc.restore(parts.crtc);
+        self.attr.restore(parts.attr);
+        self.dac.restore(parts.dac);
+        self.host.restore(parts.host);
+        self.canvas.restore(self.crtc.beam(), parts.dots);
+    }
+
+    /// What is saved is restored, whole, but for dots that no step can see any more. The clauses
+    /// are for proofs: nothing runs.
+    pub fn saves_whole(&self)
+        ensures saved { IsSavedCard (saved_card self.now) }
+        ensures back { card_from (saved_card self.now) ≡ settled self.now }
+        ensures len { length (saved_card self.now) ≡ 265046 + 3 * length (fresh self.now) }
+    {
+        self.crtc.saves_whole();
+        self.attr.saves_whole();
+        self.dac.saves_whole();
+        self.host.saves_whole();
+        self.canvas.saves_whole(self.crtc.beam());
+    }
+}
