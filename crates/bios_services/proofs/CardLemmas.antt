@@ -1,11 +1,15 @@
--- What every plan keeps of an adapter, whatever it reads: its bounds, what is drawn, and the beam.
-use Rattle.std.proofs.Common.{◌≡◌, ℕ, refl}
+-- What every plan keeps of an adapter, whatever it reads: its bounds, what is drawn, and the beam; and
+-- that none tells a settled adapter from what it was.
+use Rattle.std.proofs.Common.{◌≡◌, ◌∙◌, ℕ, ap, refl}
 use Rattle.vga_card.specs.Bounds.{IsCard}
 use Rattle.vga_card.specs.Bus.{Place, AtPort, AtAddress, card_meaning, card_write, card_read}
 use Rattle.vga_card.specs.Card.{CardState}
+use Rattle.vga_card.specs.Cycles.{Written, Answered}
+use Rattle.vga_card.specs.Settled.{settled, settled_after}
 use Rattle.vga_card.proofs.BoundLemmas.{out_bounds, inp_bounds, put_bounds, get_bounds}
 use Rattle.vga_card.proofs.DrawnLemmas.{IsStill, still, still_after, out_still, inp_still, put_still, get_still}
-use Rattle.bios_services.specs.Plan.{Plan, run}
+use Rattle.vga_card.proofs.SettledLemmas.{cannot_be_told}
+use Rattle.bios_services.specs.Plan.{Plan, Done, Write, Read, byte_of, run}
 use Rattle.bios_services.proofs.PlanRuns.{run_keeps}
 
 write_bounds : (c : CardState) (place : Place) (v : ℕ) → IsCard c → IsCard (card_write c place v).0
@@ -36,3 +40,19 @@ plan_drawn p c = (plan_still p c).drawn
 
 pub plan_beam : {A : Type 0} (p : Plan A) (c : CardState) → (run card_meaning p c).0.crtc.beam ≡ c.crtc.beam
 plan_beam p c = (plan_still p c).beam
+
+write_settled : (c : CardState) (place : Place) (v : ℕ) → card_write (settled c) place v ≡ settled_after (card_write c place v)
+write_settled c (AtPort port) v = cannot_be_told.out c port v
+write_settled c (AtAddress address) v = cannot_be_told.put c address v
+
+read_settled : (c : CardState) (place : Place) → card_read (settled c) place ≡ settled_after (card_read c place)
+read_settled c (AtPort port) = cannot_be_told.inp c port
+read_settled c (AtAddress address) = cannot_be_told.get c address
+
+pub plan_settled : {A : Type 0} (p : Plan A) (c : CardState) → run card_meaning p (settled c) ≡ settled_after (run card_meaning p c)
+plan_settled (Done a) c = refl
+plan_settled (Write place v rest) c =
+    ap (λ (w : Written). run card_meaning rest w.0) (write_settled c place v) ∙ plan_settled rest (card_write c place v).0
+plan_settled (Read place rest) c =
+    let r = card_read c place in
+    ap (λ (a : Answered). run card_meaning (rest (byte_of a.1)) a.0) (read_settled c place) ∙ plan_settled (rest (byte_of r.1)) r.0

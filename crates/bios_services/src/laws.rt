@@ -3,6 +3,7 @@ ghost use Rattle.std.specs.Prelude.{◌≡◌, ◌<◌, ℕ, List};
 ghost use Rattle.vga_card.specs.Bounds.{IsCard};
 ghost use Rattle.vga_card.specs.Bus.{card_meaning};
 ghost use Rattle.vga_card.specs.Card.{CardState};
+ghost use Rattle.vga_card.specs.Settled.{settled, settled_after};
 ghost use Rattle.bios_modes.specs.Bda.{BiosData, power_on_data};
 ghost use Rattle.bios_modes.specs.Fonts.{FontSet};
 ghost use Rattle.bios_services.specs.declared.regs.Regs.{Regs};
@@ -31,4 +32,12 @@ pub fn calls_keep_bounds()
 pub fn calls_draw_nothing()
     ensures { (fonts : FontSet) (d : BiosData) (r : Regs) (block : List ℕ) (c : CardState) →
         (run card_meaning (service fonts d r block) c).0.drawn ≡ c.drawn }
+{}
+
+/// No call tells an adapter that was saved and restored from the one that it was: it answers the
+/// same, and leaves the same but for what is not saved.
+pub fn calls_cannot_tell()
+    ensures { (fonts : FontSet) (d : BiosData) (r : Regs) (block : List ℕ) (c : CardState) →
+        run card_meaning (service fonts d r block) (settled c)
+        ≡ settled_after (run card_meaning (service fonts d r block) c) }
 {}
