@@ -15,7 +15,8 @@ kept_zeros masks n = record {
   kept = λ i. ap (λ v. bit_and v (slice_index masks i)) (zeros_at n i) ∙ and_zero_l (slice_index masks i) ∙ sym (zeros_at n i);
 }
 
-masked_twice : (v m : ℕ) → bit_and (bit_and v m) m ≡ bit_and v m
+-- a mask masks once
+pub masked_twice : (v m : ℕ) → bit_and (bit_and v m) m ≡ bit_and v m
 masked_twice v m = and_assoc m v m ∙ ap (bit_and v) (and_self m)
 
 kept_at : (masks values : List ℕ) (i v j : ℕ) → bit_and (slice_index values j) (slice_index masks j) ≡ slice_index values j

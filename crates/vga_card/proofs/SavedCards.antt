@@ -1,6 +1,6 @@
 -- An adapter is read back from its bytes.
 use Rattle.std.proofs.Common.{◌≡◌, ℕ, ◌+◌, ◌*◌, ◌≤◌, refl, sym, ap, ◌∙◌, subst, arith, Bool, true, false, List, [], ◌∷◌, ◌++◌, length, take, drop, length-append}
-use Rattle.std.specs.Prelude.{slice_index, if◌then◌else◌}
+use Rattle.std.specs.Prelude.{slice_index, bit_and, if◌then◌else◌}
 use Rattle.std.proofs.lemmas.List.{take_at, drop_at}
 use Rattle.vga_host.specs.Saved.{saved_host, IsSavedHost, host_from}
 use Rattle.vga_crtc.specs.declared.beam.Beam.{Beam}
@@ -19,6 +19,7 @@ use Rattle.vga_card.proofs.SavedLemmas.{none_saved, none_back, none_len}
 
 -- each part is read back from its bytes, and so are the dots
 pub record IsWhole (c : CardState) : Type 0 where
+  pub misc : bit_and c.misc 0xEF ≡ c.misc
   pub crtc : IsSavedCrtc (saved_crtc c.crtc)
   pub crtc_back : crtc_from (saved_crtc c.crtc) ≡ c.crtc
   pub attr : IsSavedAttr (saved_attr c.attr)
@@ -109,6 +110,7 @@ module _ (c : CardState) (is : IsWhole c) where
   pub card_is_saved : IsSavedCard (saved_card c)
   card_is_saved = record {
     size = omega (arith, card_len);
+    misc = subst (λ (v : ℕ). bit_and v 0xEF ≡ v) (sym misc_is) is.misc;
     crtc = subst (λ (l : List ℕ). IsSavedCrtc l) (sym crtc_are) is.crtc;
     attr = subst (λ (l : List ℕ). IsSavedAttr l) (sym attr_are) is.attr;
     dac = subst (λ (l : List ℕ). IsSavedDac l) (sym dac_are) is.dac;

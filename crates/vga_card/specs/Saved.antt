@@ -2,6 +2,7 @@
 -- controller, the DAC, the host path, and the dots that are drawn of the frame under way.
 use Rattle.std.specs.Prelude.{ℕ, zero, suc, ◌≡◌, ◌+◌, ◌*◌, ◌<◌, ◌≤◌, ◌==◌, min, nat_lt, true}
 use Rattle.std.specs.Prelude.{if◌then◌else◌, List, [], ◌∷◌, ◌++◌, length, take, drop, slice_index}
+use Rattle.std.specs.Prelude.{bit_and}
 use Rattle.std.specs.List.{count_by, flat_map}
 use Rattle.vga_bits.specs.Saved.{word_bytes, words_in}
 use Rattle.vga_host.specs.Saved.{saved_host, IsSavedHost, host_from}
@@ -90,9 +91,11 @@ past_host bytes = drop 262164 (past_dac bytes)
 abbrev pub saved_beam_in : List ℕ → Beam
 saved_beam_in bytes = (crtc_from (take 37 (past_misc bytes))).beam
 
--- bytes that an adapter can have: each part's are those that it can have
+-- bytes that an adapter can have: each part's are those that it can have, and the miscellaneous
+-- output register holds bits that it keeps
 pub record IsSavedCard (bytes : List ℕ) : Type 0 where
   pub size : 265046 ≤ length bytes
+  pub misc : bit_and (slice_index bytes 0) 0xEF ≡ slice_index bytes 0
   pub crtc : IsSavedCrtc (take 37 (past_misc bytes))
   pub attr : IsSavedAttr (take 23 (past_crtc bytes))
   pub dac : IsSavedDac (take 773 (past_attr bytes))

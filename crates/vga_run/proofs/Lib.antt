@@ -8,3 +8,5 @@ pub mod StepLemmas
 pub mod DotLemmas
 pub mod DotRuns
 pub mod DotExamples
+pub mod SavedLemmas
+pub mod SettledLemmas

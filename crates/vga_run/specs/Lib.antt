@@ -5,3 +5,4 @@ pub mod Report
 pub mod Run
 pub mod ScreenReport
 pub mod DotReport
+pub mod Saved

@@ -1,9 +1,11 @@
 //! Laws of steps, each of which is a contract, and nothing that runs.
-ghost use Rattle.std.specs.Prelude.{◌≡◌};
+ghost use Rattle.std.specs.Prelude.{◌≡◌, ℕ, List};
 ghost use Rattle.vga_bits.specs.declared.refusal.Refusal.{Refusal};
 ghost use Rattle.vga_run.specs.declared.machine.Machine.{Machine};
 ghost use Rattle.vga_run.specs.Answer.{Plain};
 ghost use Rattle.vga_run.specs.Step.{answer_to, after_step};
+ghost use Rattle.vga_run.specs.Report.{report_from};
+ghost use Rattle.vga_run.specs.Saved.{settled_machine};
 ghost use Rattle.vga_script.specs.declared.step.Step.{Step};
 
 use super::answer::Answer;
@@ -21,3 +23,16 @@ pub fn refused_steps_change_nothing()
     refused_cycles_change_nothing();
     refused_services_do_nothing::<Card>();
 }
+
+/// No step tells a machine that was saved and restored from the one that it was: each step answers
+/// the same and leaves the same but for what is not saved, and so any steps have the same report.
+#[tactic(auto, using(crate::proofs::SettledLemmas::answer_same, crate::proofs::SettledLemmas::after_same, crate::proofs::SettledLemmas::report_same))]
+pub fn restored_machines_report_the_same()
+    ensures answer { (machine : Machine) (step : Step) →
+        answer_to (settled_machine machine) step ≡ answer_to machine step }
+    ensures after { (machine : Machine) (step : Step) →
+        settled_machine (after_step (settled_machine machine) step)
+        ≡ settled_machine (after_step machine step) }
+    ensures report { (machine : Machine) (n : ℕ) (steps : List Step) →
+        report_from (settled_machine machine) n steps ≡ report_from machine n steps }
+{}

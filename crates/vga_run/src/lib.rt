@@ -13,7 +13,7 @@ mod step_line;
 mod steps_report;
 
 pub use answer::Answer;
-pub use laws::refused_steps_change_nothing;
+pub use laws::{refused_steps_change_nothing, restored_machines_report_the_same};
 pub use report::write_dump;
 pub use runs::{run, run_bytes, run_script};
 pub use screens::{reports_are_dots, reports_are_screens, whole_frames_are_dots};

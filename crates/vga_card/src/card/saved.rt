@@ -7,6 +7,7 @@ ghost use Rattle.vga_card.specs.Saved.{past_host, IsSavedCard, card_from};
 ghost use Rattle.vga_card.specs.Settled.{settled};
 
 use super::Card;
+use super::cycles::MISCELLANEOUS_MASK;
 use crate::canvas::saved::{WIDTHS_LEN, are_saved_dots, put_no_dots};
 use vga_attr::Attr;
 use vga_bits::put_byte;
@@ -61,6 +62,7 @@ impl Card {
     pub fn saved_len(&self) -> usize
         ensures value { result ≡ length (saved_card self.now) }
         ensures dots { result ≡ 265046 + 3 * length (fresh self.now) }
+        ensures few { result ≤ 7342934 }
     {
         self.saves_whole();
         let dots = if self.crtc.beam().is_first_dot() {
@@ -101,6 +103,9 @@ impl Card {
             return false;
         }
         let parts = parts_of(bytes);
+        if parts.misc & MISCELLANEOUS_MASK != parts.misc {
+            return false;
+        }
         if !Crtc::is_saved(parts.crtc) || !Attr::is_saved(parts.attr) {
             return false;
         }

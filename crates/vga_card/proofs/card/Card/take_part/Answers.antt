@@ -22,7 +22,7 @@ draw_dots-requires-clause-place c =
       c.clear_at_first_dot.ensures.line,
       c.clear_at_first_dot.ensures.width,
       c.beam.ensures.value,
-    ) (drawn_started c.start_is_taken_once.ensures.place c.self.inside.crtc 0 _ _ c.self.invariant)
+    ) (drawn_started c.start_is_taken_once.ensures.place c.self.inside.crtc 0 _ _ c.self.invariant.0)
 
 pub draw_dots-requires-clause-inside : goal.draw_dots-requires-clause-inside
 draw_dots-requires-clause-inside c =
@@ -58,9 +58,9 @@ invariant_of-self c =
     λ x e is. subst (λ (y : CrtcState). IsDrawnTo y.beam c.args.n c.draw_dots.new.canvas.line c.draw_dots.new.canvas.width) e is in
     let drawn = at c.new-display.result.crtc (ap (λ (x : DisplayState). x.crtc) c.new-display.ensures
     ∙ c.take_start.ensures.started) c.draw_dots.ensures.place in
-    part_moves started c.start_is_taken_once.ensures.dots laws.place laws.count c.line_ends.ensures c.line_moves.ensures (host_width a.host) c.args.n
+    (part_moves started c.start_is_taken_once.ensures.dots laws.place laws.count c.line_ends.ensures c.line_moves.ensures (host_width a.host) c.args.n
     (after_start a.crtc) c.step_dots.new.self _ _ (widths a.host) (inside_started started _ a.crtc inside) (few_started started _ c.args.n a.crtc few) moves
-    drawn
+    drawn, c.self.invariant.1)
 
 pub returns : goal.returns
 returns c =

@@ -1,0 +1,143 @@
+-- No step tells a machine that was saved and restored from the one that it was.
+use Rattle.std.proofs.Common.{◌≡◌, ◌∙◌, ℕ, zero, suc, ◌+◌, ◌<◌, Bool, true, false, nat_le, if◌then◌else◌, Option, Some, None, Result, Ok, Err, refl, sym, ap, ap₂, arith}
+use Rattle.std.proofs.Common.{List, [], ◌∷◌, ◌++◌}
+use Rattle.vga_bits.specs.declared.refusal.Refusal.{Refusal}
+use Rattle.vga_bits.specs.declared.refusal.Refusal.TheVariants.{TooFar}
+use Rattle.vga_card.specs.Card.{CardState}
+use Rattle.vga_card.specs.Picture.{Dot, rows}
+use Rattle.vga_card.specs.Cycles.{Written, Answered}
+use Rattle.vga_card.specs.Dots.{dots, most_dots, fresh}
+use Rattle.vga_card.specs.Settled.{settled, settled_after}
+use Rattle.vga_card.proofs.DotLemmas.{dots_none}
+use Rattle.vga_card.proofs.SettledLemmas.{cannot_be_told}
+use Rattle.vga_script.specs.declared.dump_range.Shown.{Shown}
+use Rattle.vga_script.specs.declared.dump_range.Shown.TheVariants as shown
+use Rattle.vga_script.specs.declared.step.Step.{Step}
+use Rattle.vga_script.specs.declared.step.Step.TheVariants.{Out, OutWord, In, InWord, Put, PutWord, Get, GetWord, Int, Advance, Frame, Show}
+use Rattle.bios_modes.specs.Bda.{BiosData}
+use Rattle.bios_services.specs.Service.{Answered as Served, service}
+use Rattle.bios_services.proofs.CardLemmas.{plan_settled}
+use Rattle.vga_show.specs.Beam.{beam_line}
+use Rattle.vga_show.specs.Cells.{row_text, rows_text, cells_refusal, cells_text}
+use Rattle.vga_run.specs.declared.machine.Machine.{Machine}
+use Rattle.vga_run.specs.Answer.{Reply, Plain, of_write, of_byte, of_word, of_service, of_frame, of_dump}
+use Rattle.vga_run.specs.Step.{dump_text, dump_refusal, called, advance_cycle, answer_to, after_step}
+use Rattle.vga_run.specs.Report.{line, report_from}
+use Rattle.vga_run.specs.Saved.{settled_machine}
+
+-- ---- what is not saved
+
+twice : (c : CardState) → settled (settled c) ≡ settled c
+twice c = ap (λ (drawn : List Dot). record c { drawn = drawn }) (cannot_be_told.fresh c)
+
+dots_twice : (n : ℕ) (c : CardState) → settled (dots n (settled c)) ≡ settled (dots n c)
+dots_twice zero c = ap settled (dots_none (settled c)) ∙ twice c ∙ ap settled (sym (dots_none c))
+dots_twice (suc n) c = ap settled (cannot_be_told.dots (suc n) c (omega arith))
+
+answer_by : (few : Bool) (c : CardState) (count : ℕ) → (let x : Written = (if few then (dots count (settled c), Ok tt) else (settled c, Err TooFar)) in x).1
+    ≡ (let x : Written = (if few then (dots count c, Ok tt) else (c, Err TooFar)) in x).1
+answer_by true c count = refl
+answer_by false c count = refl
+
+advance_same : (c : CardState) (count : ℕ) → (advance_cycle (settled c) count).1 ≡ (advance_cycle c count).1
+advance_same c count = answer_by (nat_le count most_dots) c count
+
+after_by : (few : Bool) (c : CardState) (count : ℕ)
+    → settled (let x : Written = (if few then (dots count (settled c), Ok tt) else (settled c, Err TooFar)) in x).0
+    ≡ settled (let x : Written = (if few then (dots count c, Ok tt) else (c, Err TooFar)) in x).0
+after_by true c count = dots_twice count c
+after_by false c count = twice c
+
+advance_after : (c : CardState) (count : ℕ) → settled (advance_cycle (settled c) count).0 ≡ settled (advance_cycle c count).0
+advance_after c count = after_by (nat_le count most_dots) c count
+
+-- ---- dumps
+
+rows_same : (c : CardState) (bda : BiosData) (n row : ℕ) → rows_text (settled c) bda n row ≡ rows_text c bda n row
+unfolding rows_text
+rows_same c bda zero row = refl
+rows_same c bda (suc n) row = ap (λ (l : List ℕ). row_text c bda row ++ l) (rows_same c bda n (row + 1))
+
+cells_same : (why : Option Refusal) (c : CardState) (bda : BiosData) → cells_text why (settled c) bda ≡ cells_text why c bda
+cells_same None c bda = rows_same c bda (bda.last_row + 1) 0
+cells_same (Some why) c bda = refl
+
+dump_same : (m : Machine) (what : Shown) → dump_text (settled_machine m) what ≡ dump_text m what
+unfolding dump_text
+dump_same m shown.Registers = refl
+dump_same m (shown.Dac index) = refl
+dump_same m shown.Beam = ap (λ (drawn : List Dot). beam_line m.card.crtc.beam (rows drawn)) (cannot_be_told.fresh m.card)
+dump_same m shown.Latches = refl
+dump_same m (shown.Plane plane offset count) = refl
+dump_same m shown.BiosData = refl
+dump_same m shown.Cells = cells_same (cells_refusal m.bda.mode) m.card m.bda
+
+refusal_same : (m : Machine) (what : Shown) → dump_refusal (settled_machine m) what ≡ dump_refusal m what
+unfolding dump_refusal
+refusal_same m shown.Registers = refl
+refusal_same m (shown.Dac index) = refl
+refusal_same m shown.Beam = refl
+refusal_same m shown.Latches = refl
+refusal_same m (shown.Plane plane offset count) = refl
+refusal_same m shown.BiosData = refl
+refusal_same m shown.Cells = refl
+
+-- ---- steps
+
+-- a call of interrupt 10
+called_same : (m : Machine) (ax bx cx dx : ℕ) (block : List ℕ) → called (settled_machine m) ax bx cx dx block ≡ settled_after (called m ax bx cx dx block)
+unfolding called
+called_same m ax bx cx dx block = plan_settled (service m.fonts m.bda (record { ax = ax; bx = bx; cx = cx; dx = dx }) block) m.card
+
+pub answer_same : (m : Machine) (step : Step) → answer_to (settled_machine m) step ≡ answer_to m step
+unfolding answer_to
+answer_same m (Out port value) = ap (λ (w : Written). Plain (of_write w.1)) (cannot_be_told.out m.card port value)
+answer_same m (OutWord port value) = ap (λ (w : Written). Plain (of_write w.1)) (cannot_be_told.out_word m.card port value)
+answer_same m (In port) = ap (λ (a : Answered). Plain (of_byte a.1)) (cannot_be_told.inp m.card port)
+answer_same m (InWord port) = ap (λ (a : Answered). Plain (of_word a.1)) (cannot_be_told.inp_word m.card port)
+answer_same m (Put address value) = ap (λ (w : Written). Plain (of_write w.1)) (cannot_be_told.put m.card address value)
+answer_same m (PutWord address value) = ap (λ (w : Written). Plain (of_write w.1)) (cannot_be_told.put_word m.card address value)
+answer_same m (Get address) = ap (λ (a : Answered). Plain (of_byte a.1)) (cannot_be_told.get m.card address)
+answer_same m (GetWord address) = ap (λ (a : Answered). Plain (of_word a.1)) (cannot_be_told.get_word m.card address)
+answer_same m (Int ax bx cx dx block) = ap (λ (s : CardState × Served). of_service s.1.0) (called_same m ax bx cx dx block)
+answer_same m (Advance count) = ap (λ (r : Result Unit Refusal). Plain (of_write r)) (advance_same m.card count)
+answer_same m Frame = ap (λ (c : CardState). of_frame c.drawn) (cannot_be_told.frame m.card)
+answer_same m (Show what) = ap₂ of_dump (refusal_same m what) (dump_same m what)
+
+-- a machine with this adapter, settled
+abbrev with_card : Machine → CardState → Machine
+with_card m c = record m { card = settled c }
+
+pub after_same : (m : Machine) (step : Step) → settled_machine (after_step (settled_machine m) step) ≡ settled_machine (after_step m step)
+unfolding after_step
+after_same m (Out port value) = ap (λ (w : Written). with_card m w.0) (cannot_be_told.out m.card port value) ∙ ap (λ (c : CardState). record m { card = c }) (twice _)
+after_same m (OutWord port value) =
+    ap (λ (w : Written). with_card m w.0) (cannot_be_told.out_word m.card port value) ∙ ap (λ (c : CardState). record m { card = c }) (twice _)
+after_same m (In port) = ap (λ (a : Answered). with_card m a.0) (cannot_be_told.inp m.card port) ∙ ap (λ (c : CardState). record m { card = c }) (twice _)
+after_same m (InWord port) = ap (λ (a : Answered). with_card m a.0) (cannot_be_told.inp_word m.card port) ∙ ap (λ (c : CardState). record m { card = c }) (twice _)
+after_same m (Put address value) = ap (λ (w : Written). with_card m w.0) (cannot_be_told.put m.card address value) ∙ ap (λ (c : CardState). record m { card = c }) (twice _)
+after_same m (PutWord address value) =
+    ap (λ (w : Written). with_card m w.0) (cannot_be_told.put_word m.card address value) ∙ ap (λ (c : CardState). record m { card = c }) (twice _)
+after_same m (Get address) = ap (λ (a : Answered). with_card m a.0) (cannot_be_told.get m.card address) ∙ ap (λ (c : CardState). record m { card = c }) (twice _)
+after_same m (GetWord address) = ap (λ (a : Answered). with_card m a.0) (cannot_be_told.get_word m.card address) ∙ ap (λ (c : CardState). record m { card = c }) (twice _)
+after_same m (Int ax bx cx dx block) =
+    let after = called m ax bx cx dx block in
+    ap (λ (s : CardState × Served). record m { card = settled s.0; bda = s.1.1 }) (called_same m ax bx cx dx block)
+    ∙ ap (λ (c : CardState). record m { card = c; bda = after.1.1 }) (twice after.0)
+after_same m (Advance count) = ap (λ (c : CardState). record m { card = c }) (advance_after m.card count)
+after_same m Frame = ap (with_card m) (cannot_be_told.frame m.card)
+after_same m (Show what) = ap (λ (c : CardState). record m { card = c }) (twice m.card)
+
+-- ---- reports
+
+-- two machines that are one once they are settled
+alike : (m other : Machine) (n : ℕ) (steps : List Step) → settled_machine m ≡ settled_machine other → report_from m n steps ≡ report_from other n steps
+alike m other n [] same = refl
+alike m other n (step ∷ steps) same =
+    let answers = sym (answer_same m step) ∙ ap (λ (x : Machine). answer_to x step) same ∙ answer_same other step in
+    let leaves = sym (after_same m step) ∙ ap (λ (x : Machine). settled_machine (after_step x step)) same ∙ after_same other step in
+    ap (λ (r : Reply). line n r ++ report_from (after_step m step) (n + 1) steps) answers
+    ∙ ap (λ (l : List ℕ). line n (answer_to other step) ++ l) (alike (after_step m step) (after_step other step) (n + 1) steps leaves)
+
+pub report_same : (m : Machine) (n : ℕ) (steps : List Step) → report_from (settled_machine m) n steps ≡ report_from m n steps
+report_same m n steps = alike (settled_machine m) m n steps (ap (λ (c : CardState). record m { card = c }) (twice m.card))
