@@ -26,9 +26,9 @@ module _ (d : BiosData) (is : IsBda d) where
       ap (words_in 8) front_past ∙ ap (λ (n : ℕ). words_in n (flat_map word_bytes d.cursor_places ++ saved_back d)) (sym is.places)
       ∙ words_are_back d.cursor_places (saved_back d)
 
-  long : length (saved_bda d) ≡ 31
+  pub bda_len : length (saved_bda d) ≡ 31
   unfolding saved_bda
-  long = omega (arith, places_len, length-append (flat_map word_bytes d.cursor_places) (saved_back d))
+  bda_len = omega (arith, places_len, length-append (flat_map word_bytes d.cursor_places) (saved_back d))
 
   mode_is : slice_index (saved_bda d) 0 ≡ d.mode
   unfolding saved_bda
@@ -73,4 +73,4 @@ module _ (d : BiosData) (is : IsBda d) where
       }
 
   pub bda_is_saved : IsValid d → IsSavedBda (saved_bda d)
-  bda_is_saved valid = record { size = long; valid = subst (λ (x : BiosData). IsValid x) (sym bda_is_back) valid }
+  bda_is_saved valid = record { size = bda_len; valid = subst (λ (x : BiosData). IsValid x) (sym bda_is_back) valid }

@@ -118,12 +118,13 @@ impl Bda {
         *self = Bda::from_saved(bytes);
     }
 
-    /// Valid data that are saved are restored, whole. The clauses are for proofs: nothing runs.
-    #[tactic(auto, using(crate::proofs::SavedLemmas::bda_is_saved, crate::proofs::SavedLemmas::bda_is_back))]
+    /// What is saved is restored, whole, and the bytes of valid data are such. The clauses are for
+    /// proofs: nothing runs.
+    #[tactic(auto, using(crate::proofs::SavedLemmas::bda_is_saved, crate::proofs::SavedLemmas::bda_is_back, crate::proofs::SavedLemmas::bda_len))]
     pub fn saves_whole(&self)
-        requires { IsValid self.now }
-        ensures saved { IsSavedBda (saved_bda self.now) }
+        ensures saved { IsValid self.now → IsSavedBda (saved_bda self.now) }
         ensures back { bda_from (saved_bda self.now) ≡ self.now }
+        ensures len { length (saved_bda self.now) ≡ 31 }
     {
         self.bounds();
     }

@@ -103,6 +103,7 @@ impl Machine {
         ensures value { result ≡ length (saved_machine self.now) }
         ensures few { result < 4294967296 }
     {
+        self.bda.saves_whole();
         HEADER_LEN + Bda::SAVED_LEN + self.card.saved_len()
     }
 
@@ -113,6 +114,8 @@ impl Machine {
         requires { length out.old ≡ length (saved_machine self.now) }
         ensures { out.new ≡ saved_machine self.now }
     {
+        self.bda.saves_whole();
+        self.card.saves_whole();
         let len = self.saved_len();
         let at = put_header(out, len);
         let at = self.bda.save(out, at);
@@ -158,11 +161,10 @@ impl Machine {
         self.card.bounds();
     }
 
-    /// What is saved of a machine with valid BIOS data is restored, whole, but for dots that no
-    /// step can see any more. The clauses are for proofs: nothing runs.
+    /// What is saved is restored, whole, but for dots that no step can see any more; and the bytes
+    /// of a machine with valid BIOS data are such. The clauses are for proofs: nothing runs.
     pub fn saves_whole(&self)
-        requires { IsValid self.now.bda }
-        ensures saved { IsSavedMachine (saved_machine self.now) }
+        ensures saved { IsValid self.now.bda → IsSavedMachine (saved_machine self.now) }
         ensures back { machine_from self.now.fonts (saved_machine self.now)
             ≡ settled_machine self.now }
     {
