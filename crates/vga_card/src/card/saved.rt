@@ -55,8 +55,12 @@ fn parts_of(bytes: &[u8]) -> Parts<'_>
 impl Card {
     /// How many bytes an adapter has when it is saved at the first dot of a frame; elsewhere it has
     /// three more for each dot drawn.
-    pub const SAVED_LEN: usize =
-        1 + Crtc::SAVED_LEN + Attr::SAVED_LEN + Dac::SAVED_LEN + Host::SAVED_LEN + WIDTHS_LEN;
+    pub const SAVED_LEN: usize = 1
+        + Crtc::SAVED_LEN
+        + Attr::SAVED_LEN
+        + Dac::SAVED_LEN
+        + Host::SAVED_LEN
+        + WIDTHS_LEN;
 
     /// How many bytes the adapter has when it is saved now.
     pub fn saved_len(&self) -> usize

@@ -6,5 +6,5 @@ use Rattle.bios_modes.proofs.bda.saved.put_places.Given as goal
 abbrev pub invariant-loop-page : goal.invariant-loop-page
 invariant-loop-page l = record {
   put : IsPut l.initial.out l.out l.at l.next (flat_map word_bytes (take l.page l.places));
-  place : l.next ≡ l.at + 2 * l.page
+  place : l.next ≡ l.at + 2 * l.page;
 }

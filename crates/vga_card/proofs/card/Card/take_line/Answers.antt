@@ -29,9 +29,10 @@ draw_row-requires-clause-start c =
 
 pub invariant_of-self : goal.invariant_of-self
 invariant_of-self c =
-    let below = subst (λ (x : DisplayState). c.draw_row.new.canvas.line ≤ x.crtc.beam.line) c.new-display.ensures c.draw_row.ensures.below in
-    (line_moves c.start_is_taken_once.ensures.place c.line_moves.ensures _ c.take_start.new.self c.step_line.new.self _ _ c.step_line.ensures below,
-    c.self.invariant.1)
+    let below = subst (λ (x : DisplayState). c.draw_row.new.canvas.line ≤ x.crtc.beam.line) c.new-display.ensures c.draw_row.ensures.below in (
+      line_moves c.start_is_taken_once.ensures.place c.line_moves.ensures _ c.take_start.new.self c.step_line.new.self _ _ c.step_line.ensures below,
+      c.self.invariant.1,
+    )
 
 pub returns : goal.returns
 returns c =
