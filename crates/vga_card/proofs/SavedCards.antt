@@ -1,5 +1,6 @@
 -- An adapter is read back from its bytes.
-use Rattle.std.proofs.Common.{◌≡◌, ℕ, ◌+◌, ◌*◌, ◌≤◌, refl, sym, ap, ◌∙◌, subst, arith, Bool, true, false, List, [], ◌∷◌, ◌++◌, length, take, drop, length-append}
+use Rattle.std.proofs.Common.{◌≡◌, ℕ, ◌+◌, ◌*◌, ◌≤◌, refl, sym, ap, ◌∙◌, subst, arith, Bool, true, false, List, [], ◌∷◌, ◌++◌, length, take, drop}
+use Rattle.std.proofs.Common.{length-append}
 use Rattle.std.specs.Prelude.{slice_index, bit_and, if◌then◌else◌}
 use Rattle.std.proofs.lemmas.List.{take_at, drop_at}
 use Rattle.vga_host.specs.Saved.{saved_host, IsSavedHost, host_from}
@@ -33,7 +34,8 @@ pub record IsWhole (c : CardState) : Type 0 where
   pub dots_len : length (saved_dots (fresh c)) ≡ 2048 + 3 * length (fresh c)
 
 -- at the first dot of a frame no dots are read back, and elsewhere those that are drawn
-pub fresh_saved : (v : Bool) (b : Beam) (drawn : List Dot) → (v ≡ false → AreSavedDots b (saved_dots drawn)) → AreSavedDots b (saved_dots (if v then [] else drawn))
+pub fresh_saved : (v : Bool) (b : Beam) (drawn : List Dot) → (v ≡ false → AreSavedDots b (saved_dots drawn))
+    → AreSavedDots b (saved_dots (if v then [] else drawn))
 fresh_saved true b drawn there = none_saved b
 fresh_saved false b drawn there = there refl
 

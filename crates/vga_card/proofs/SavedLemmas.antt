@@ -1,5 +1,6 @@
 -- The dots drawn are read back from their bytes.
-use Rattle.std.proofs.Common.{◌≡◌, ◌≢◌, ℕ, zero, suc, ◌+◌, ◌*◌, ◌<◌, ◌≤◌, refl, sym, ap, ap₂, ◌∙◌, subst, arith, inl, inr, Bool, true, false, cond, List, [], ◌∷◌, ◌++◌, length}
+use Rattle.std.proofs.Common.{◌≡◌, ◌≢◌, ℕ, zero, suc, ◌+◌, ◌*◌, ◌<◌, ◌≤◌, refl, sym, ap, ap₂, ◌∙◌, subst, arith, inl, inr, Bool, true, false, cond}
+use Rattle.std.proofs.Common.{List, [], ◌∷◌, ◌++◌, length}
 use Rattle.std.proofs.Common.{replicate, take, drop, append_assoc, length-append}
 use Rattle.std.specs.Prelude.{slice_index, min, nat_lt, ◌==◌, if◌then◌else◌}
 use Rattle.std.specs.List.{count_by, flat_map}
@@ -88,7 +89,8 @@ canvas_bytes ws buffer lines counted =
     ∙ ap (λ (l : List ℕ). flat_map word_bytes (line_widths (stored_dots ws buffer)) ++ l) (stored_bytes ws buffer counted)
 
 -- widths of a canvas and the bytes of its dots are those of its dots
-pub dots_bytes : (ws buffer : List ℕ) (dots : List Dot) → length ws ≡ 1024 → stored_dots ws buffer ≡ dots → flat_map word_bytes ws ++ bytes_of dots ≡ saved_dots dots
+pub dots_bytes : (ws buffer : List ℕ) (dots : List Dot) → length ws ≡ 1024 → stored_dots ws buffer ≡ dots
+    → flat_map word_bytes ws ++ bytes_of dots ≡ saved_dots dots
 unfolding saved_dots
 dots_bytes ws buffer dots lines shown = ap (λ (l : List ℕ). flat_map word_bytes l ++ bytes_of dots) (sym (widths_are ws buffer lines) ∙ ap line_widths shown)
 
@@ -207,7 +209,8 @@ one_counted b bytes n count w are value few =
 -- a line with more dots than it can have
 pub too_many : (b : Beam) (bytes : List ℕ) (n w : ℕ) → n < 1024 → w ≡ word_at bytes (2 * n) → most_on b n < w → ¬ AreFew b (widths_in bytes)
 unfolding widths_in
-too_many b bytes n w within value many = λ (are : AreFew b (words_in 1024 bytes)). absurd (omega (arith, are.most n, word_in_at 1024 bytes n within, value, many))
+too_many b bytes n w within value many = λ (are : AreFew b (words_in 1024 bytes)).
+    absurd (omega (arith, are.most n, word_in_at 1024 bytes n within, value, many))
 
 pub all_counted : (b : Beam) (bytes : List ℕ) (n count : ℕ) → n ≡ 1024 → AreCounted b bytes n count
     → AreFew b (widths_in bytes) × (count ≡ length (lines_from 0 (widths_in bytes)))
@@ -220,7 +223,8 @@ all_counted b bytes n count all are =
 away : (b : Beam) (line width : ℕ) → is_first_dot b ≡ false → IsDrawnTo b 0 (fresh_count b line) (fresh_count b width) → IsDrawnTo b 0 line width
 away b line width there is = subst (λ (v : Bool). IsDrawnTo b 0 (if v then 0 else line) (if v then 0 else width)) there is
 
-few_drawn : (capacity : ℕ) (buffer ws : List ℕ) (b : Beam) (line : ℕ) → IsCanvas capacity buffer ws line → IsDrawnTo b 0 line (slice_index ws line) → AreFew b ws
+few_drawn : (capacity : ℕ) (buffer ws : List ℕ) (b : Beam) (line : ℕ) → IsCanvas capacity buffer ws line → IsDrawnTo b 0 line (slice_index ws line)
+    → AreFew b ws
 few_drawn capacity buffer ws b line is drawn = record {
   most = λ v. elim (cases_lt v b.line) [
     | inl before ↦ omega (arith, is.narrow v, most_before b v before)

@@ -1,5 +1,6 @@
 -- An adapter without the dots of a frame that ended cannot be told from one with them.
-use Rattle.std.proofs.Common.{◌≡◌, ◌∙◌, ℕ, zero, suc, ◌+◌, ◌<◌, ◌/◌, ◌%◌, Bool, true, false, Option, Some, None, Result, Ok, Err, if◌then◌else◌, refl, sym, ap, arith, List, []}
+use Rattle.std.proofs.Common.{◌≡◌, ◌∙◌, ℕ, zero, suc, ◌+◌, ◌<◌, ◌/◌, ◌%◌, Bool, true, false, Option, Some, None, Result, Ok, Err, if◌then◌else◌, refl}
+use Rattle.std.proofs.Common.{sym, ap, arith, List, []}
 use Rattle.std.proofs.Common.{◌++◌}
 use Rattle.std.specs.Prelude.{◌==◌}
 use Rattle.vga_bits.specs.declared.refusal.Refusal.{Refusal}
@@ -147,12 +148,14 @@ pair_read cycle settles c place next =
     ∙ both_read_settled c first.1 (cycle first.0 next)
 
 written_past : (last : Bool) (c : CardState) (s w : Written) → s ≡ settled_after w
-    → (let x : Written = (if last then (settled c, Err NotDecoded) else s) in x) ≡ settled_after (let x : Written = (if last then (c, Err NotDecoded) else w) in x)
+    → (let x : Written = (if last then (settled c, Err NotDecoded) else s) in x)
+    ≡ settled_after (let x : Written = (if last then (c, Err NotDecoded) else w) in x)
 written_past true c s w e = refl
 written_past false c s w e = e
 
 read_past : (last : Bool) (c : CardState) (s w : Answered) → s ≡ settled_after w
-    → (let x : Answered = (if last then (settled c, Err NotDecoded) else s) in x) ≡ settled_after (let x : Answered = (if last then (c, Err NotDecoded) else w) in x)
+    → (let x : Answered = (if last then (settled c, Err NotDecoded) else s) in x)
+    ≡ settled_after (let x : Answered = (if last then (c, Err NotDecoded) else w) in x)
 read_past true c s w e = refl
 read_past false c s w e = e
 

@@ -9,7 +9,8 @@ use Rattle.vga_card.specs.Settled.{settled}
 use Rattle.bios_modes.specs.Bda.{BiosData}
 use Rattle.bios_modes.specs.Saved.{saved_bda, IsSavedBda, bda_from}
 use Rattle.vga_run.specs.declared.machine.Machine.{Machine}
-use Rattle.vga_run.specs.Saved.{saved_mark, long_bytes, long_at, saved_parts, saved_machine, past_header, past_bda, IsSavedMachine, machine_from, settled_machine}
+use Rattle.vga_run.specs.Saved.{saved_mark, long_bytes, long_at, saved_parts, saved_machine, past_header, past_bda, IsSavedMachine, machine_from}
+use Rattle.vga_run.specs.Saved.{settled_machine}
 
 long_back : (n : ℕ) → n % 65536 % 256 + 256 * (n % 65536 / 256) + 65536 * (n / 65536 % 256 + 256 * (n / 65536 / 256)) ≡ n
 long_back n = omega arith
@@ -36,8 +37,8 @@ pub bda_fits : (slice left whole card next : ℕ) → left ≡ slice → slice �
 bda_fits slice left whole card next same given counted there = omega arith
 
 -- and behind the BIOS data for the adapter
-pub card_fits : (slice mid left whole card dots at next : ℕ) → mid ≡ slice → left ≡ mid → slice ≡ whole → whole ≡ 40 + card → card ≡ dots → at ≡ 9 → next ≡ at + 31
-    → next + dots ≤ left
+pub card_fits : (slice mid left whole card dots at next : ℕ) → mid ≡ slice → left ≡ mid → slice ≡ whole → whole ≡ 40 + card → card ≡ dots → at ≡ 9
+    → next ≡ at + 31 → next + dots ≤ left
 card_fits slice mid left whole card dots at next first second given counted drawn there behind = omega arith
 
 -- and the slice ends behind the adapter

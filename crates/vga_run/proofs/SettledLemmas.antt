@@ -1,5 +1,6 @@
 -- No step tells a machine that was saved and restored from the one that it was.
-use Rattle.std.proofs.Common.{◌≡◌, ◌∙◌, ℕ, zero, suc, ◌+◌, ◌<◌, Bool, true, false, nat_le, if◌then◌else◌, Option, Some, None, Result, Ok, Err, refl, sym, ap, ap₂, arith}
+use Rattle.std.proofs.Common.{◌≡◌, ◌∙◌, ℕ, zero, suc, ◌+◌, ◌<◌, Bool, true, false, nat_le, if◌then◌else◌, Option, Some, None, Result, Ok, Err, refl}
+use Rattle.std.proofs.Common.{sym, ap, ap₂, arith}
 use Rattle.std.proofs.Common.{List, [], ◌∷◌, ◌++◌}
 use Rattle.vga_bits.specs.declared.refusal.Refusal.{Refusal}
 use Rattle.vga_bits.specs.declared.refusal.Refusal.TheVariants.{TooFar}
@@ -108,25 +109,28 @@ answer_same m (Show what) = ap₂ of_dump (refusal_same m what) (dump_same m wha
 abbrev with_card : Machine → CardState → Machine
 with_card m c = record m { card = settled c }
 
+once : (m : Machine) (c : CardState) → with_card m (settled c) ≡ with_card m c
+once m c = ap (λ (s : CardState). record m { card = s }) (twice c)
+
 pub after_same : (m : Machine) (step : Step) → settled_machine (after_step (settled_machine m) step) ≡ settled_machine (after_step m step)
 unfolding after_step
-after_same m (Out port value) = ap (λ (w : Written). with_card m w.0) (cannot_be_told.out m.card port value) ∙ ap (λ (c : CardState). record m { card = c }) (twice _)
+after_same m (Out port value) = ap (λ (w : Written). with_card m w.0) (cannot_be_told.out m.card port value) ∙ once m _
 after_same m (OutWord port value) =
-    ap (λ (w : Written). with_card m w.0) (cannot_be_told.out_word m.card port value) ∙ ap (λ (c : CardState). record m { card = c }) (twice _)
-after_same m (In port) = ap (λ (a : Answered). with_card m a.0) (cannot_be_told.inp m.card port) ∙ ap (λ (c : CardState). record m { card = c }) (twice _)
-after_same m (InWord port) = ap (λ (a : Answered). with_card m a.0) (cannot_be_told.inp_word m.card port) ∙ ap (λ (c : CardState). record m { card = c }) (twice _)
-after_same m (Put address value) = ap (λ (w : Written). with_card m w.0) (cannot_be_told.put m.card address value) ∙ ap (λ (c : CardState). record m { card = c }) (twice _)
+    ap (λ (w : Written). with_card m w.0) (cannot_be_told.out_word m.card port value) ∙ once m _
+after_same m (In port) = ap (λ (a : Answered). with_card m a.0) (cannot_be_told.inp m.card port) ∙ once m _
+after_same m (InWord port) = ap (λ (a : Answered). with_card m a.0) (cannot_be_told.inp_word m.card port) ∙ once m _
+after_same m (Put address value) = ap (λ (w : Written). with_card m w.0) (cannot_be_told.put m.card address value) ∙ once m _
 after_same m (PutWord address value) =
-    ap (λ (w : Written). with_card m w.0) (cannot_be_told.put_word m.card address value) ∙ ap (λ (c : CardState). record m { card = c }) (twice _)
-after_same m (Get address) = ap (λ (a : Answered). with_card m a.0) (cannot_be_told.get m.card address) ∙ ap (λ (c : CardState). record m { card = c }) (twice _)
-after_same m (GetWord address) = ap (λ (a : Answered). with_card m a.0) (cannot_be_told.get_word m.card address) ∙ ap (λ (c : CardState). record m { card = c }) (twice _)
+    ap (λ (w : Written). with_card m w.0) (cannot_be_told.put_word m.card address value) ∙ once m _
+after_same m (Get address) = ap (λ (a : Answered). with_card m a.0) (cannot_be_told.get m.card address) ∙ once m _
+after_same m (GetWord address) = ap (λ (a : Answered). with_card m a.0) (cannot_be_told.get_word m.card address) ∙ once m _
 after_same m (Int ax bx cx dx block) =
     let after = called m ax bx cx dx block in
     ap (λ (s : CardState × Served). record m { card = settled s.0; bda = s.1.1 }) (called_same m ax bx cx dx block)
     ∙ ap (λ (c : CardState). record m { card = c; bda = after.1.1 }) (twice after.0)
 after_same m (Advance count) = ap (λ (c : CardState). record m { card = c }) (advance_after m.card count)
 after_same m Frame = ap (with_card m) (cannot_be_told.frame m.card)
-after_same m (Show what) = ap (λ (c : CardState). record m { card = c }) (twice m.card)
+after_same m (Show what) = once m m.card
 
 -- ---- reports
 
@@ -140,4 +144,4 @@ alike m other n (step ∷ steps) same =
     ∙ ap (λ (l : List ℕ). line n (answer_to other step) ++ l) (alike (after_step m step) (after_step other step) (n + 1) steps leaves)
 
 pub report_same : (m : Machine) (n : ℕ) (steps : List Step) → report_from (settled_machine m) n steps ≡ report_from m n steps
-report_same m n steps = alike (settled_machine m) m n steps (ap (λ (c : CardState). record m { card = c }) (twice m.card))
+report_same m n steps = alike (settled_machine m) m n steps (once m m.card)

@@ -27,7 +27,8 @@ invariant_of-self c =
     let count = widths_count bytes in
     let whole : length c.restore_widths.new.widths ≡ a.widths.len = omega (arith, ap length c.as_mut_slice.ensures.value) in
     let restored = canvas_restored _ c.split_at.result.1.now (widths_in bytes) c.args.beam c.min-self-inside.result
-    (omega (arith, c.self.invariant.1.room, c.restore_bytes.ensures.capacity)) count dots.few (ap length c.split_at.ensures.back ∙ dots.counted) (omega arith) in
+    (omega (arith, c.self.invariant.1.room, c.restore_bytes.ensures.capacity)) count dots.few
+    (ap length c.split_at.ensures.back ∙ dots.counted) (omega arith) in
     rw (written_back a.widths.len c.restore_widths.new.widths a.widths.items whole, c.restore_widths.ensures, c.restore_bytes.ensures.front)
     (c.restore_bytes.ensures.len, restored)
 

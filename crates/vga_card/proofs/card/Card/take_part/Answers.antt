@@ -59,8 +59,8 @@ invariant_of-self c =
     let drawn = at c.new-display.result.crtc (ap (λ (x : DisplayState). x.crtc) c.new-display.ensures
     ∙ c.take_start.ensures.started) c.draw_dots.ensures.place in (
       part_moves started c.start_is_taken_once.ensures.dots laws.place laws.count c.line_ends.ensures c.line_moves.ensures (host_width a.host) c.args.n
-          (after_start a.crtc) c.step_dots.new.self _ _ (widths a.host) (inside_started started _ a.crtc inside) (few_started started _ c.args.n a.crtc few) moves
-          drawn,
+          (after_start a.crtc) c.step_dots.new.self _ _ (widths a.host) (inside_started started _ a.crtc inside) (few_started started _ c.args.n a.crtc few)
+          moves drawn,
       c.self.invariant.1,
     )
 

@@ -20,6 +20,6 @@ pub returns : goal.returns
 returns c =
     let m = c.args.self.now in
     let joined = put_after c.put_header-at.ensures.put (put_after c.save-at.ensures.put c.save.ensures) in
-    let bytes = subst (λ (l : List ℕ). IsPut c.args.out.now c.save.new.out 0 c.save.result l) (machine_bytes m c.saved_len-len.result c.saved_len-len.ensures.value)
-    joined in
+    let bytes = subst (λ (l : List ℕ). IsPut c.args.out.now c.save.new.out 0 c.save.result l)
+    (machine_bytes m c.saved_len-len.result c.saved_len-len.ensures.value) joined in
     put_whole bytes (whole_put _ _ _ _ _ _ c.put_header-at.auto.out c.save-at.auto.out c.save.auto.out c.requires bytes.end)
