@@ -58,6 +58,10 @@ enum {
     ZAK_BAD_ARGUMENT = 26,   /* an argument is not in the range that the call names */
     ZAK_BAD_CARD = 27,       /* BIOS data that no call leaves: memory was overwritten */
     ZAK_NO_SCREEN = 28,      /* the adapter shows no plain screen (docs/SCREENS.md) */
+    ZAK_STATE_MAGIC = 30,    /* of zak_restore: the bytes are no saved state */
+    ZAK_STATE_VERSION = 31,  /* one of another version of the format */
+    ZAK_STATE_LENGTH = 32,   /* one that is cut off or goes on */
+    ZAK_STATE_PART = 33,     /* one that no adapter can have */
     ZAK_BAD_MAGIC = 102,
     ZAK_BAD_VERSION = 103,
     ZAK_BAD_STEP = 104,
@@ -73,6 +77,8 @@ enum {
 #define ZAK_MOST_RGB (3u * ZAK_WIDEST * ZAK_HIGHEST)   /* bytes of a picture */
 #define ZAK_MOST_TABLE 768u                            /* bytes that an int10 answers */
 #define ZAK_MOST_TEXT 32768u                           /* bytes of a zak_show_.. */
+#define ZAK_FIRST_STATE 265086u                        /* bytes of a state at a frame's first dot */
+#define ZAK_MOST_STATE 7342974u                        /* bytes of a state at any dot */
 
 /* A card. Everything that it keeps lies behind `machine`, so the struct stays as large as it is. */
 typedef struct zak_card {
@@ -210,6 +216,16 @@ zak_status zak_screen_cell(zak_card *card, uint8_t page, uint8_t row, uint8_t co
                            zak_cell *cell);
 zak_status zak_screen_pixel(zak_card *card, uint8_t page, uint16_t x, uint16_t y, uint8_t *pixel);
 zak_status zak_screen_cursor(zak_card *card, uint8_t page, zak_place *place);
+
+/* The state of a card as bytes, from which it, or another card, goes on as if nothing had been: the
+ * BIOS data and the adapter, with the dots drawn of the frame under way, three bytes each; so at the
+ * first dot of a frame it has ZAK_FIRST_STATE bytes. The fonts are not among them. zak_save answers
+ * ZAK_NO_ROOM where there is none, and then *len tells how many bytes it takes, as zak_save_size does.
+ * Any other bytes are refused by zak_restore with one of ZAK_STATE_.., and leave the card, or are
+ * those of a state that an adapter can have. */
+zak_status zak_save_size(zak_card *card, size_t *len);
+zak_status zak_save(zak_card *card, uint8_t *bytes, size_t bytes_cap, size_t *len);
+zak_status zak_restore(zak_card *card, const uint8_t *bytes, size_t bytes_len);
 
 /* A whole run with no card: the bytes of a script in (docs/SCRIPT.md), its report out
  * (docs/REPORT.md). ZAK_NO_ROOM: *report_len tells how many bytes it takes. ZAK_BAD_STEP,

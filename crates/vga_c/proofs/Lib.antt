@@ -3,4 +3,5 @@ pub mod ServiceLemmas
 pub mod FrameLemmas
 pub mod RowLemmas
 pub mod RunLemmas
+pub mod SavedLemmas
 pub mod ScreenLemmas

@@ -8,5 +8,6 @@ pub mod Frames
 pub mod Dumps
 pub mod State
 pub mod Screens
+pub mod Saved
 pub mod Runs
 pub mod Version

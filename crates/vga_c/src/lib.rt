@@ -14,6 +14,7 @@ mod handle;
 mod opening;
 mod parts;
 mod runs;
+mod saved;
 mod screens;
 mod sealed;
 mod services;
