@@ -127,6 +127,14 @@ zak_status zak_frame(zak_card *card, zak_size *size, uint8_t *rgb, size_t rgb_le
 zak_status zak_frame_xrgb(zak_card *card, zak_size *size, uint32_t *pixels, size_t pixels_len,
                           size_t pitch);
 
+/* To the end of the frame under way too, and its dots line by line, also where it is ragged.
+ * widths[y], of ZAK_HIGHEST, is how many dots line y has, at most ZAK_WIDEST, and 0 for a line with
+ * none. rgb has three bytes a dot, those of line 0 from the left, then those of line 1, and so on;
+ * *rgb_used tells how many bytes. ZAK_NO_ROOM: widths and *rgb_used are written all the same, and
+ * rgb is not. */
+zak_status zak_frame_lines(zak_card *card, uint32_t widths[ZAK_HIGHEST], uint8_t *rgb,
+                           size_t rgb_len, size_t *rgb_used);
+
 typedef struct zak_regs { uint16_t ax, bx, cx, dx; } zak_regs;
 
 /* Interrupt 10 (hexadecimal), with the registers of the processor, which are afterwards what it
@@ -218,11 +226,11 @@ zak_status zak_screen_pixel(zak_card *card, uint8_t page, uint16_t x, uint16_t y
 zak_status zak_screen_cursor(zak_card *card, uint8_t page, zak_place *place);
 
 /* The state of a card as bytes, from which it, or another card, goes on as if nothing had been: the
- * BIOS data and the adapter, with the dots drawn of the frame under way, three bytes each; so at the
- * first dot of a frame it has ZAK_FIRST_STATE bytes. The fonts are not among them. zak_save answers
- * ZAK_NO_ROOM where there is none, and then *len tells how many bytes it takes, as zak_save_size does.
- * Any other bytes are refused by zak_restore with one of ZAK_STATE_.., and leave the card, or are
- * those of a state that an adapter can have. */
+ * BIOS data and the adapter, with the dots drawn of the frame under way, three bytes each; so at
+ * the first dot of a frame it has ZAK_FIRST_STATE bytes (docs/STATE.md). The fonts are not among
+ * them. zak_save: *len tells how many bytes the state has, as zak_save_size does, also with
+ * ZAK_NO_ROOM. zak_restore takes the bytes of any state that an adapter can have; others it refuses
+ * with one of ZAK_STATE_.., and leaves the card. */
 zak_status zak_save_size(zak_card *card, size_t *len);
 zak_status zak_save(zak_card *card, uint8_t *bytes, size_t bytes_cap, size_t *len);
 zak_status zak_restore(zak_card *card, const uint8_t *bytes, size_t bytes_len);

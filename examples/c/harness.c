@@ -1,6 +1,9 @@
 /* Performs a script's steps by the library, and writes the report that docs/REPORT.md tells.
  *
  *     harness SCRIPT FONTS [--until STEPS]     a text, step by step
+ *     harness --restored SCRIPT FONTS [--until STEPS]
+ *                                              the same, but the card is saved at pseudo-random
+ *                                              steps and dots, and another goes on from its state
  *     harness --bytes SCRIPT FONTS             the bytes of a script, by zak_run
  *
  * A fault is a line on standard error, and the status is 1 then; it is 2 for words that are none.
@@ -17,11 +20,17 @@
 #define MOST_FILE (SCRIPT_MOST + 1u)
 #define FIRST_ROOM ((size_t)1 << 20)
 
-/* What a run has: the card, what is written, and buffers for what calls answer. */
+/* What a run has: the card, what is written, the number of the last step, and buffers for what calls
+ * answer. Where cards are restored, the fonts of the next one, and behind which step it goes on. */
 struct run {
     zak_card card;
     FILE *out;
     unsigned long number;
+    bool is_restored;
+    const uint8_t *fonts;
+    size_t fonts_len;
+    unsigned long next;
+    uint32_t random;
     uint8_t rgb[ZAK_MOST_RGB];
     uint8_t text[ZAK_MOST_TEXT];
     uint8_t table[ZAK_MOST_TABLE];
@@ -79,6 +88,68 @@ static uint8_t *read_file(const char *path, size_t *len)
     if (!bytes)
         fprintf(stderr, "harness: F8 ReadFault\n");
     return bytes;
+}
+
+/* A number below another one. */
+static uint32_t random_below(struct run *run, uint32_t limit)
+{
+    run->random = 1664525u * run->random + 1013904223u;
+    return (run->random >> 8) % limit;
+}
+
+/* Whether another card is to go on: often at first and then ever more seldom, so that a long script
+ * has some hundred of them. */
+static bool is_time(struct run *run)
+{
+    if (!run->is_restored || run->number < run->next)
+        return false;
+    run->next = run->number + 1 + random_below(run, 2 + (uint32_t)(run->number / 8));
+    return true;
+}
+
+/* Makes another card that has these bytes. */
+static zak_status open_restored(const struct run *run, zak_card *card, const uint8_t *state,
+                                size_t len)
+{
+    zak_status status = zak_open(card, run->fonts, run->fonts_len);
+    if (status)
+        return status;
+    status = zak_restore(card, state, len);
+    if (status)
+        zak_close(card);
+    return status;
+}
+
+/* Saves the card and closes it; another one goes on. */
+static zak_status go_on(struct run *run)
+{
+    zak_card other = ZAK_CARD_INIT;
+    size_t len = 0;
+    zak_status status = zak_save_size(&run->card, &len);
+    uint8_t *state = status ? NULL : malloc(len);
+    if (!state)
+        return status ? status : ZAK_OUT_OF_MEMORY;
+    status = zak_save(&run->card, state, len, &len);
+    if (status == ZAK_OK)
+        status = open_restored(run, &other, state, len);
+    free(state);
+    if (status)
+        return status;
+    zak_close(&run->card);
+    run->card = other;
+    return ZAK_OK;
+}
+
+/* Dots of the clock, at one of which another card goes on where it is time. */
+static zak_status advance(struct run *run, uint32_t dots)
+{
+    if (dots > ZAK_MOST_DOTS || !is_time(run))
+        return zak_advance(&run->card, dots);
+    uint32_t first = random_below(run, dots + 1);
+    zak_status status = zak_advance(&run->card, first);
+    if (status == ZAK_OK)
+        status = go_on(run);
+    return status ? status : zak_advance(&run->card, dots - first);
 }
 
 static zak_status write_picture(struct run *run)
@@ -154,8 +225,9 @@ static zak_status write_dump(struct run *run, const struct step *step)
 }
 
 /* A step that reads nothing. */
-static zak_status perform(zak_card *card, const struct step *step)
+static zak_status perform(struct run *run, const struct step *step)
 {
+    zak_card *card = &run->card;
     uint16_t port = (uint16_t)step->place, word = (uint16_t)step->value;
     switch (step->kind) {
     case STEP_OUT:
@@ -167,13 +239,13 @@ static zak_status perform(zak_card *card, const struct step *step)
     case STEP_PUT_WORD:
         return zak_put_word(card, step->place, word);
     default:
-        return zak_advance(card, step->value);
+        return advance(run, step->value);
     }
 }
 
 static zak_status write_ok(struct run *run, const struct step *step)
 {
-    zak_status status = perform(&run->card, step);
+    zak_status status = perform(run, step);
     if (status == ZAK_OK)
         fprintf(run->out, "ok\n");
     return status;
@@ -229,8 +301,10 @@ static zak_status answer(struct run *run, const struct script *script, const str
 /* Writes the line of a step, which a refusal is too. Any other status ends the run. */
 static zak_status take(struct run *run, const struct script *script, const struct step *step)
 {
+    zak_status status = step->kind != STEP_ADVANCE && is_time(run) ? go_on(run) : ZAK_OK;
     fprintf(run->out, "%lu ", ++run->number);
-    zak_status status = answer(run, script, step);
+    if (status == ZAK_OK)
+        status = answer(run, script, step);
     if (status == ZAK_OK || status >= sizeof REFUSALS / sizeof *REFUSALS)
         return status;
     fprintf(run->out, "E%u %s\n", (unsigned)status, REFUSALS[status]);
@@ -275,14 +349,24 @@ static zak_status take_looks(struct run *run)
     return ZAK_OK;
 }
 
+/* What the words of the command line ask for. */
+struct words {
+    bool is_bytes, is_restored;
+    const char *script, *fonts, *until;
+};
+
 static zak_status run_steps(const struct script *script, const uint8_t *fonts, size_t fonts_len,
-                            const char *until)
+                            const struct words *words)
 {
+    const char *until = words->until;
     unsigned long most = until ? strtoul(until, NULL, 10) : (unsigned long)-1;
     struct run *run = calloc(1, sizeof *run);
     if (!run)
         return ZAK_OUT_OF_MEMORY;
     run->out = stdout;
+    run->is_restored = words->is_restored;
+    run->fonts = fonts;
+    run->fonts_len = fonts_len;
     zak_status status = zak_open(&run->card, fonts, fonts_len);
     if (status == ZAK_OK) {
         status = take_all(run, script, most);
@@ -295,14 +379,14 @@ static zak_status run_steps(const struct script *script, const uint8_t *fonts, s
 }
 
 static int run_text(const uint8_t *text, size_t text_len, const uint8_t *fonts, size_t fonts_len,
-                    const char *until)
+                    const struct words *words)
 {
     struct script script;
     size_t line = 0;
     int status = 0;
     switch (script_read(&script, (const char *)text, text_len, &line)) {
     case SCRIPT_GOOD: {
-        zak_status ended = run_steps(&script, fonts, fonts_len, until);
+        zak_status ended = run_steps(&script, fonts, fonts_len, words);
         status = ended ? fail(ended, 0) : 0;
         break;
     }
@@ -342,23 +426,37 @@ static int run_bytes(const uint8_t *bytes, size_t bytes_len, const uint8_t *font
     return status ? fail(status, place) : 0;
 }
 
+/* Whether the words of the command line are some, and what they ask for. */
+static bool read_words(int argc, char **argv, struct words *words)
+{
+    int at = 1;
+    words->is_bytes = at < argc && strcmp(argv[at], "--bytes") == 0;
+    words->is_restored = at < argc && strcmp(argv[at], "--restored") == 0;
+    at += words->is_bytes || words->is_restored;
+    bool is_stopped = !words->is_bytes && argc == at + 4 && strcmp(argv[at + 2], "--until") == 0;
+    if (argc != at + 2 && !is_stopped)
+        return false;
+    words->script = argv[at];
+    words->fonts = argv[at + 1];
+    words->until = is_stopped ? argv[at + 3] : NULL;
+    return true;
+}
+
 int main(int argc, char **argv)
 {
-    bool is_bytes = argc == 4 && strcmp(argv[1], "--bytes") == 0;
-    bool is_stopped = argc == 5 && strcmp(argv[3], "--until") == 0;
-    if (!is_bytes && !is_stopped && argc != 3) {
-        fprintf(stderr, "harness SCRIPT FONTS [--until STEPS]\nharness --bytes SCRIPT FONTS\n");
+    struct words words = {0};
+    if (!read_words(argc, argv, &words)) {
+        fprintf(stderr, "harness [--restored] SCRIPT FONTS [--until STEPS]\n"
+                        "harness --bytes SCRIPT FONTS\n");
         return 2;
     }
-    char **files = argv + (is_bytes ? 2 : 1);
     size_t script_len, fonts_len = 0;
-    uint8_t *script = read_file(files[0], &script_len);
-    uint8_t *fonts = script ? read_file(files[1], &fonts_len) : NULL;
+    uint8_t *script = read_file(words.script, &script_len);
+    uint8_t *fonts = script ? read_file(words.fonts, &fonts_len) : NULL;
     int status = 1;
     if (fonts)
-        status = is_bytes ? run_bytes(script, script_len, fonts, fonts_len)
-                          : run_text(script, script_len, fonts, fonts_len,
-                                     is_stopped ? argv[4] : NULL);
+        status = words.is_bytes ? run_bytes(script, script_len, fonts, fonts_len)
+                                : run_text(script, script_len, fonts, fonts_len, &words);
     free(fonts);
     free(script);
     return status;

@@ -37,6 +37,9 @@ CALLS: dict[str, list[Any]] = {
     "advance": [U32],
     "frame": [ctypes.POINTER(_Size), BYTES, SIZE],
     "int10": [ctypes.POINTER(_Regs), BYTES, SIZE, BYTES, SIZE, COUNT],
+    "save_size": [COUNT],
+    "save": [BYTES, SIZE, COUNT],
+    "restore": [BYTES, SIZE],
     "show_regs": [BYTES, SIZE, COUNT],
     "show_cells": [BYTES, SIZE, COUNT],
 }
@@ -125,3 +128,15 @@ class Card:
         text, length = ctypes.create_string_buffer(MOST_TEXT), SIZE()
         self._call(f"show_{what}", text, MOST_TEXT, ctypes.byref(length))
         return text.raw[:length.value].decode("ascii")
+
+    def save(self) -> bytes:
+        """The state as bytes, from which this card or another can go on."""
+        length = SIZE()
+        self._call("save_size", ctypes.byref(length))
+        state = ctypes.create_string_buffer(length.value)
+        self._call("save", state, length.value, ctypes.byref(length))
+        return state.raw
+
+    def restore(self, state: bytes) -> None:
+        """Goes on from a state that was saved."""
+        self._call("restore", state, len(state))

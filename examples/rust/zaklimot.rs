@@ -49,6 +49,9 @@ extern "C" {
         table_cap: usize,
         table_len: *mut usize,
     ) -> u32;
+    fn zak_save_size(card: *mut RawCard, len: *mut usize) -> u32;
+    fn zak_save(card: *mut RawCard, bytes: *mut u8, bytes_cap: usize, len: *mut usize) -> u32;
+    fn zak_restore(card: *mut RawCard, bytes: *const u8, bytes_len: usize) -> u32;
 }
 
 /// What a call answers that is not done: a status of `zaklimot.h`.
@@ -143,6 +146,20 @@ impl Card {
         done(unsafe { zak_frame(&mut self.raw, &mut size, rgb.as_mut_ptr(), rgb.len()) })?;
         rgb.truncate(3 * size.width as usize * size.height as usize);
         Ok(Picture { width: size.width, height: size.height, rgb })
+    }
+
+    /// The state as bytes, from which this card or another can go on.
+    pub fn save(&mut self) -> Result<Vec<u8>, Status> {
+        let mut len = 0;
+        done(unsafe { zak_save_size(&mut self.raw, &mut len) })?;
+        let mut bytes = vec![0; len];
+        done(unsafe { zak_save(&mut self.raw, bytes.as_mut_ptr(), bytes.len(), &mut len) })?;
+        Ok(bytes)
+    }
+
+    /// Goes on from a state that was saved.
+    pub fn restore(&mut self, bytes: &[u8]) -> Result<(), Status> {
+        done(unsafe { zak_restore(&mut self.raw, bytes.as_ptr(), bytes.len()) })
     }
 }
 

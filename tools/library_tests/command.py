@@ -20,7 +20,7 @@ from .header import check_header, check_names
 from .installing import check_installing
 from .pc import check_pc
 from .programs import check_memory, check_misuse, check_state, check_threads
-from .suite import check_suite
+from .suite import check_restored, check_suite
 
 RIGHT, WRONG, TROUBLE = 0, 1, 2
 Check = Callable[[Built, Path], str]
@@ -28,6 +28,7 @@ Check = Callable[[Built, Path], str]
 EACH: dict[str, Check] = {
     "names": lambda built, _: check_names(built),
     "suite": check_suite,
+    "restored": check_restored,
     "state": check_state,
     "misuse": check_misuse,
     "memory": check_memory,

@@ -33,14 +33,25 @@ def judged(told: dict[str, Any], left_out: set[str]) -> str:
     return f"{len(cases) - len(others)} cases agree, {len(others)} of bytes can't be stopped"
 
 
-def check_suite(built: Built, folder: Path) -> str:
-    """Each case agrees, but for those of bytes that are to be stopped, which the harness does not do."""
+def _answers(built: Built, folder: Path, *restored: str) -> str:
+    """What comes of all cases by the harness, but for those of bytes that are to be stopped, which it does not do."""
     harness = folder / f"harness-{built.name}"
     build(COMPILERS[0].c, built, HARNESS, harness, "-O2")
-    commands = [f"'{harness}' {{script}} {{fonts}} {{until}}", "--bytes", f"'{harness}' --bytes {{script}} {{fonts}}"]
+    step_by_step = " ".join([f"'{harness}'", *restored, "{script} {fonts} {until}"])
+    commands = [step_by_step, "--bytes", f"'{harness}' --bytes {{script}} {{fonts}}"]
     words = [sys.executable, TOP / "tools" / "vga-report", "suite", *commands, "--json"]
     done = subprocess.run([*words, "--jobs", str(os.cpu_count() or 1)], capture_output=True)
     if done.returncode not in (AGREED, DIFFERED):
         raise Wrong(done.stderr.decode("utf-8", "replace"))
     left_out = {case.name for case in read_cases(str(SUITE)) if case.is_bytes and case.until is not None}
     return judged(json.loads(done.stdout), left_out)
+
+
+def check_suite(built: Built, folder: Path) -> str:
+    """Each case agrees."""
+    return _answers(built, folder)
+
+
+def check_restored(built: Built, folder: Path) -> str:
+    """So does each where cards are saved and others restored, at pseudo-random steps and dots."""
+    return _answers(built, folder, "--restored")

@@ -12,15 +12,6 @@ before_row p x y z within earlier = omega (arith, mul-add-lt z p x y earlier wit
 row_or_earlier : (y z : ℕ) → z < y + 1 → (z ≡ y) ⊎ (z < y)
 row_or_earlier y z within = eq-or-lt_of_le (omega (arith, within))
 
--- nothing is written of a picture with no row
-pub no_rows : (w p : ℕ) (bytes pixels : List ℕ) → IsWordPicture w 0 p bytes pixels pixels
-no_rows w p bytes pixels = record {
-  dots = λ x y a b. absurd (omega (arith, b));
-  beside = λ x y a b c. refl;
-  behind = λ i a. refl;
-  size = refl;
-}
-
 module _ (w y p : ℕ) (bytes old mid new : List ℕ) (fits : w ≤ p) (so_far : IsWordPicture w y p bytes old mid)
     (dots : (x : ℕ) → x < w → slice_index new (p * y + x) ≡ dot_word bytes (w * y + x))
     (before : (i : ℕ) → i < p * y → slice_index new i ≡ slice_index mid i)

@@ -1,12 +1,16 @@
 -- A frame's picture, as the caller has it.
 use Rattle.std.specs.Prelude.{◌≡◌, ◌+◌, ◌*◌, ◌/◌, ◌<◌, ◌≤◌, ◌&&◌, ℕ, true, false, nat_le, Bool}
 use Rattle.std.specs.Prelude.{List, length, slice_index}
+use Rattle.vga_card.specs.Frames.{frame}
+use Rattle.vga_card.specs.Lines.{line_widths}
+use Rattle.vga_card.specs.Picture.{Dot, bytes_of}
 use Rattle.vga_script.specs.declared.step.Step.TheVariants.{Frame}
+use Rattle.vga_run.specs.declared.machine.Machine.{Machine}
 use Rattle.vga_run.specs.Answer.{Reply, Picture, Ragged}
 use Rattle.vga_run.specs.Step.{after_step, answer_to}
 use Rattle.vga_c.specs.declared.frames.Size.{Size}
 use Rattle.vga_c.specs.declared.handle.Handle.{Handle}
-use Rattle.vga_c.specs.Buffers.{room_status, with_front}
+use Rattle.vga_c.specs.Buffers.{IsCopied, room_status, with_front}
 use Rattle.vga_c.specs.Cards.{Holds}
 use Rattle.vga_c.specs.Status.{no_room, ragged}
 
@@ -81,3 +85,19 @@ HasWords reply pitch size_old size old new status = ⊥
 abbrev pub DrawsWords : Handle → ℕ → Size → Size → List ℕ → List ℕ → ℕ → Type 0
 DrawsWords card pitch size_old size old new status = card.is_open ≡ true →
     HasWords (answer_to card.sealed.machine Frame) pitch size_old size old new status
+
+-- ---- line by line
+
+-- the dots of the frame that a machine has under way, drawn to its end
+abbrev pub frame_dots : Machine → List Dot
+frame_dots m = (frame m.card).drawn
+
+-- the caller has how many of the frame of an open card each line has
+abbrev pub CountsLines : Handle → List ℕ → Type 0
+CountsLines card widths = card.is_open ≡ true →
+    widths ≡ line_widths (frame_dots card.sealed.machine)
+
+-- and their colours, of which it is told how many bytes they are; or there was no room for them
+abbrev pub CopiesDots : Handle → List ℕ → List ℕ → ℕ → ℕ → Type 0
+CopiesDots card old new len status = card.is_open ≡ true →
+    IsCopied (bytes_of (frame_dots card.sealed.machine)) old new len status

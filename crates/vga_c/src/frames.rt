@@ -5,11 +5,15 @@ ghost use Rattle.vga_run.specs.Answer.{of_drawn};
 ghost use Rattle.vga_run.specs.Step.{after_step, answer_to};
 ghost use Rattle.vga_script.specs.declared.step.Step.TheVariants.{Frame};
 ghost use Rattle.vga_c.specs.Cards.{LeavesClosed, Spares};
+ghost use Rattle.vga_card.specs.Lines.{line_widths};
+ghost use Rattle.vga_card.specs.Picture.{bytes_of};
+ghost use Rattle.vga_c.specs.Buffers.{IsCopied};
+ghost use Rattle.vga_c.specs.Frames.{CopiesDots, CountsLines, frame_dots};
 ghost use Rattle.vga_c.specs.Frames.{DrawsBytes, DrawsWords, EndsFrame, HasBytes, HasWords};
 ghost use Rattle.vga_c.specs.Frames.{IsWordPicture, dot_word as dot_word_of};
 ghost use Rattle.vga_c.specs.Frames.{eight_bits as eight_bits_of, has_room as has_room_of};
 
-use crate::buffer::write_front;
+use crate::buffer::{copy_front, write_front};
 use crate::handle::{Handle, on_open_card};
 use crate::status::{DONE, NO_ROOM, RAGGED};
 use std::alloc::Global;
@@ -168,4 +172,42 @@ pub extern "C" fn zak_frame_xrgb(
     ensures pixels { Spares card.old pixels.old pixels.new }
 {
     on_open_card!(alloc, card, machine => frame_words(machine, size, pixels, pitch))
+}
+
+/// Lets the clock of a machine run to the end of the frame under way.
+#[tactic(auto, unfolding(vga_run::specs::Step::after_step))]
+fn frame_lines(
+    machine: &mut Machine,
+    widths: &mut [u32; 1024],
+    rgb: &mut [u8],
+    len: &mut usize,
+) -> u32
+    ensures after { machine.new ≡ after_step machine.old Frame }
+    ensures widths { widths.new ≡ line_widths (frame_dots machine.old) }
+    ensures dots { IsCopied (bytes_of (frame_dots machine.old)) rgb.old rgb.new len.new result }
+{
+    let lines = machine.card.frame_lines();
+    widths.copy_from_slice(lines.widths);
+    copy_front(rgb, len, lines.bytes)
+}
+
+/// Lets the clock run to the end of the frame under way, and tells how many dots each of its lines
+/// has, and red, green and blue of each, 0 to 63 each, also where lines differ in width.
+#[unsafe(no_mangle)]
+pub extern "C" fn zak_frame_lines(
+    alloc: Global,
+    card: &mut Handle,
+    widths: &mut [u32; 1024],
+    rgb: &mut [u8],
+    len: &mut usize,
+) -> u32
+    ensures frame { EndsFrame card.old card.new }
+    ensures widths { CountsLines card.old widths.new }
+    ensures dots { CopiesDots card.old rgb.old rgb.new len.new result }
+    ensures closed { LeavesClosed card.old card.new result }
+    ensures spared { Spares card.old widths.old widths.new }
+    ensures rgb { Spares card.old rgb.old rgb.new }
+    ensures len { Spares card.old len.old len.new }
+{
+    on_open_card!(alloc, card, machine => frame_lines(machine, widths, rgb, len))
 }

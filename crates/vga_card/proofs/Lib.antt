@@ -9,6 +9,7 @@ pub mod RowLemmas
 pub mod LineLemmas
 pub mod DrawnLemmas
 pub mod PartLemmas
+pub mod WidthLemmas
 pub mod SavedLemmas
 pub mod SavedCards
 pub mod SettledLemmas

@@ -17,66 +17,12 @@ use Rattle.vga_crtc.specs.Beam.{is_first_dot}
 use Rattle.vga_card.specs.Picture.{Dot, widest, lines_of, lines_from, bytes_of}
 use Rattle.vga_card.specs.Canvas.{dots_from, stored_dots, IsCanvas}
 use Rattle.vga_card.specs.Valid.{fresh_count, IsDrawnTo}
-use Rattle.vga_card.specs.Saved.{count_on, counts_from, line_widths, saved_dots, widths_in, past_widths, saved_dots_from, most_on, AreFew, AreSavedDots}
+use Rattle.vga_card.specs.Lines.{counts_from, line_widths}
+use Rattle.vga_card.specs.Saved.{saved_dots, widths_in, past_widths, saved_dots_from, most_on, AreFew, AreSavedDots}
 use Rattle.vga_card.proofs.CanvasLemmas.{no_lines, lines-dots_from, length-dots_from}
 use Rattle.vga_card.proofs.PlaceLemmas.{decided}
 use Rattle.vga_card.proofs.ShapeLemmas.{stored_bytes}
-
--- ---- how many dots each line has
-
-count-append : (xs ys : List ℕ) (v : ℕ) → count_on (xs ++ ys) v ≡ count_on xs v + count_on ys v
-count-append xs ys v = sum_by-append (λ (x : ℕ). cond (x == v) 1 0) xs ys
-
-count_same : (w v : ℕ) → count_on (replicate w v) v ≡ w
-count_same zero v = refl
-count_same (suc w) v =
-    let e : (v == v) ≡ true = grind (arith, nat_tests) in
-    let one : 0 + 1 + w ≡ suc w = omega arith in
-    count-append (v ∷ []) (replicate w v) v ∙ ap {B = ℕ} (λ (b : Bool). 0 + cond b 1 0 + count_on (replicate w v) v) e
-    ∙ ap {B = ℕ} (λ (n : ℕ). 0 + 1 + n) (count_same w v) ∙ one
-
-count_other : (w u v : ℕ) → u ≢ v → count_on (replicate w u) v ≡ 0
-count_other zero u v apart = refl
-count_other (suc w) u v apart =
-    let e : (u == v) ≡ false = grind (arith, nat_tests) in
-    let none : 0 + 0 + 0 ≡ 0 = omega arith in
-    count-append (u ∷ []) (replicate w u) v ∙ ap {B = ℕ} (λ (b : Bool). 0 + cond b 1 0 + count_on (replicate w u) v) e
-    ∙ ap {B = ℕ} (λ (n : ℕ). 0 + 0 + n) (count_other w u v apart) ∙ none
-
-count_none : (u v : ℕ) (ws : List ℕ) → v < u → count_on (lines_from u ws) v ≡ 0
-unfolding lines_from
-count_none u v [] below = refl
-count_none u v (w ∷ ws) below =
-    let apart : u ≢ v = omega arith in
-    omega (arith, count-append (replicate w u) (lines_from (u + 1) ws) v, count_other w u v apart, count_none (u + 1) v ws (omega arith))
-
-counts_skip : (w u v n : ℕ) (lines : List ℕ) → u < v → counts_from (replicate w u ++ lines) v n ≡ counts_from lines v n
-unfolding counts_from
-counts_skip w u v zero lines below = refl
-counts_skip w u v (suc n) lines below =
-    let apart : u ≢ v = omega arith in
-    let here : count_on (replicate w u ++ lines) v ≡ count_on lines v = omega (arith, count-append (replicate w u) lines v, count_other w u v apart) in
-    ap (λ (k : ℕ). k ∷ counts_from (replicate w u ++ lines) (v + 1) n) here
-    ∙ ap (λ (l : List ℕ). count_on lines v ∷ l) (counts_skip w u (v + 1) n lines (omega arith))
-
-counts_are : (u : ℕ) (ws : List ℕ) → counts_from (lines_from u ws) u (length ws) ≡ ws
-unfolding counts_from lines_from
-counts_are u [] = refl
-counts_are u (w ∷ ws) =
-    let here : count_on (replicate w u ++ lines_from (u + 1) ws) u ≡ w =
-    omega (arith, count-append (replicate w u) (lines_from (u + 1) ws) u, count_same w u, count_none (u + 1) u ws (omega arith)) in
-    ap (λ (k : ℕ). k ∷ counts_from (replicate w u ++ lines_from (u + 1) ws) (u + 1) (length ws)) here
-    ∙ ap (λ (l : List ℕ). w ∷ l) (counts_skip w u (u + 1) (length ws) (lines_from (u + 1) ws) (omega arith) ∙ counts_are (u + 1) ws)
-
-counts_none : (v n : ℕ) → counts_from [] v n ≡ zeros n
-unfolding counts_from zeros
-counts_none v zero = refl
-counts_none v (suc n) = ap (λ (l : List ℕ). 0 ∷ l) (counts_none (v + 1) n)
-
-widths_are : (ws buffer : List ℕ) → length ws ≡ 1024 → line_widths (stored_dots ws buffer) ≡ ws
-unfolding line_widths
-widths_are ws buffer lines =
-    ap (λ (l : List ℕ). counts_from l 0 1024) (lines-dots_from (lines_from 0 ws) buffer) ∙ ap (counts_from (lines_from 0 ws) 0) (sym lines) ∙ counts_are 0 ws
+use Rattle.vga_card.proofs.WidthLemmas.{counts_none, widths_are}
 
 -- ---- the bytes of a canvas
 

@@ -1,4 +1,5 @@
 pub mod Picture
+pub mod Lines
 pub mod Canvas
 pub mod Card
 pub mod Port

@@ -1,9 +1,9 @@
 -- The whole adapter as bytes: the miscellaneous output register, the CRT controller, the attribute
 -- controller, the DAC, the host path, and the dots that are drawn of the frame under way.
-use Rattle.std.specs.Prelude.{ℕ, zero, suc, ◌≡◌, ◌+◌, ◌*◌, ◌<◌, ◌≤◌, ◌==◌, min, nat_lt, true}
+use Rattle.std.specs.Prelude.{ℕ, ◌≡◌, ◌+◌, ◌*◌, ◌<◌, ◌≤◌, ◌==◌, min, nat_lt, true}
 use Rattle.std.specs.Prelude.{if◌then◌else◌, List, [], ◌∷◌, ◌++◌, length, take, drop, slice_index}
 use Rattle.std.specs.Prelude.{bit_and}
-use Rattle.std.specs.List.{count_by, flat_map}
+use Rattle.std.specs.List.{flat_map}
 use Rattle.vga_bits.specs.Saved.{word_bytes, words_in}
 use Rattle.vga_host.specs.Saved.{saved_host, IsSavedHost, host_from}
 use Rattle.vga_crtc.specs.declared.beam.Beam.{Beam}
@@ -11,24 +11,13 @@ use Rattle.vga_crtc.specs.Beam.{is_first_dot}
 use Rattle.vga_crtc.specs.Saved.{saved_crtc, IsSavedCrtc, crtc_from}
 use Rattle.vga_attr.specs.Saved.{saved_attr, IsSavedAttr, attr_from}
 use Rattle.vga_dac.specs.Saved.{saved_dac, IsSavedDac, dac_from}
-use Rattle.vga_card.specs.Picture.{Dot, widest, lines_of, lines_from, bytes_of}
+use Rattle.vga_card.specs.Picture.{Dot, widest, lines_from, bytes_of}
 use Rattle.vga_card.specs.Canvas.{stored_dots}
 use Rattle.vga_card.specs.Card.{CardState}
 use Rattle.vga_card.specs.Dots.{fresh}
+use Rattle.vga_card.specs.Lines.{line_widths}
 
 -- ---- the dots drawn
-
--- how many of these lines are line v, and how many are each of so many lines from v on
-abbrev pub count_on : List ℕ → ℕ → ℕ
-count_on lines v = count_by (λ x. x == v) lines
-
-unfoldable pub counts_from : List ℕ → ℕ → ℕ → List ℕ
-counts_from lines v zero = []
-counts_from lines v (suc n) = count_on lines v ∷ counts_from lines (v + 1) n
-
--- how many dots each of 1,024 lines has
-unfoldable pub line_widths : List Dot → List ℕ
-line_widths dots = counts_from (lines_of dots) 0 1024
 
 -- the bytes of the dots drawn: for each line a word that counts them, and red, green and blue of each
 unfoldable pub saved_dots : List Dot → List ℕ

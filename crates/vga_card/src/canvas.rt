@@ -11,10 +11,12 @@ ghost use Rattle.vga_card.specs.Picture.{Dot, widest, highest, bytes_of, shape, 
 ghost use Rattle.vga_card.specs.Frames.{IsSmall};
 ghost use Rattle.vga_card.specs.Canvas.{IsSmallShape, blank_canvas, width_with, width_more};
 ghost use Rattle.vga_card.specs.Line.{line_dots, part_dots, IsLineAppended, IsPartAppended};
+ghost use Rattle.vga_card.specs.Lines.{line_widths, IsLinesOf};
 
 pub(crate) mod saved;
 
 use crate::drawn::Drawn;
+use crate::lines::Lines;
 use crate::shape::{Shape, count_rows};
 use std::alloc::Global;
 use std::marker::Model;
@@ -302,6 +304,24 @@ impl Canvas {
         match self.shape() {
             Some(shape) => Drawn::Picture(shape.width, shape.height, self.bytes()),
             None => Drawn::Ragged,
+        }
+    }
+    /// How many dots each line has.
+    fn widths(&self) -> &[u32]
+        ensures value { result.now ≡ line_widths self.now.dots }
+        ensures count { length result.now ≡ highest }
+    {
+        self.widths.as_slice()
+    }
+
+    /// The dots, line by line.
+    pub(crate) fn lines(&self) -> Lines<'_>
+        ensures lines { IsLinesOf self.now.dots result }
+        ensures count { length result.widths.now ≡ highest }
+    {
+        Lines {
+            widths: self.widths(),
+            bytes: self.bytes(),
         }
     }
 }

@@ -52,7 +52,7 @@ void __wrap_free(void *block)
 }
 
 static uint8_t fonts[ZAK_FONTS_SIZE], answer[MOST_STATE], rgb[ZAK_MOST_RGB];
-static uint32_t pixels[640 * 480];
+static uint32_t pixels[640 * 480], widths[ZAK_HIGHEST];
 static const uint8_t none[1];
 static size_t len, place;
 static zak_card card = ZAK_CARD_INIT, opened = ZAK_CARD_INIT;
@@ -226,6 +226,9 @@ static zak_status other_calls(void)
     status |= zak_get(&card, 0xA0000, &byte) | zak_get_word(&card, 0xA0000, &word);
     status |= zak_advance(&card, 100) | zak_frame(&card, &size, rgb, sizeof rgb);
     status |= zak_frame_xrgb(&card, &size, pixels, sizeof pixels / 4, 640);
+    status |= zak_frame_lines(&card, widths, rgb, sizeof rgb, &len);
+    status |= zak_save_size(&card, &len) | zak_save(&card, rgb, sizeof rgb, &len);
+    status |= zak_restore(&card, rgb, len);
     status |= zak_read_registers(&card, &registers) | zak_read_colour(&card, 1, &colour);
     status |= zak_read_beam(&card, &beam) | zak_read_latches(&card, &latches);
     status |= zak_read_bda(&card, &bda) | zak_read_plane(&card, 0, 0, rgb, 65536);

@@ -25,6 +25,15 @@ static uint8_t *buffer(size_t len)
     return bytes;
 }
 
+/* How many dots lines have together. */
+static size_t dots_of(const uint32_t *widths)
+{
+    size_t dots = 0;
+    for (size_t line = 0; line < ZAK_HIGHEST; line++)
+        dots += widths[line];
+    return dots;
+}
+
 static void cycles_of_closed(void)
 {
     uint8_t byte = UNTOUCHED;
@@ -45,13 +54,17 @@ static void calls_of_closed(void)
 {
     zak_size size = {7, 7};
     zak_regs regs = {3, 0, 0, 0};
-    uint32_t pixel = 7;
+    uint32_t pixel = 7, widths[ZAK_HIGHEST] = {7};
     size_t len = 999;
     uint8_t *bytes = buffer(1);
     SHOW(zak_close(&card));
     SHOW(zak_frame(&card, &size, bytes, 1));
     SHOW(zak_frame_xrgb(&card, &size, &pixel, 1, 1));
+    SHOW(zak_frame_lines(&card, widths, bytes, 1, &len));
     SHOW(zak_int10(&card, &regs, none, 0, bytes, 1, &len));
+    SHOW(zak_save_size(&card, &len));
+    SHOW(zak_save(&card, bytes, 1, &len));
+    SHOW(zak_restore(&card, bytes, 1));
     SHOW(zak_show_regs(&card, bytes, 1, &len));
     SHOW(zak_show_beam(&card, bytes, 1, &len));
     SHOW(zak_show_latches(&card, bytes, 1, &len));
@@ -61,6 +74,7 @@ static void calls_of_closed(void)
     SHOW(zak_show_plane(&card, 0, 0, 1, bytes, 1, &len));
     SHOW(zak_show_plane(&card, 4, 0, 1, bytes, 1, &len));
     SHOW(size.width == 7 && pixel == 7 && len == 999 && *bytes == UNTOUCHED);
+    SHOW(widths[0] == 7 && widths[1] == 0);
     free(bytes);
 }
 
@@ -254,6 +268,92 @@ static void ragged_frame(void)
     free(rgb);
 }
 
+/* Such a frame line by line: lines of 640 dots, and then shorter ones. */
+static void ragged_lines(void)
+{
+    size_t len = 999, room = ZAK_MOST_RGB;
+    uint32_t widths[ZAK_HIGHEST];
+    uint8_t *rgb = buffer(room), *little = buffer(1);
+    SHOW(zak_out_word(&card, 0x3D4, 0x4F01));
+    SHOW(zak_advance(&card, 100000));
+    SHOW(zak_out_word(&card, 0x3D4, 0x2001));
+    SHOW(zak_frame_lines(&card, widths, little, 1, &len));
+    SHOW(len > 1 && little[0] == UNTOUCHED);
+    SHOW(zak_out_word(&card, 0x3D4, 0x4F01));
+    SHOW(zak_advance(&card, 100000));
+    SHOW(zak_out_word(&card, 0x3D4, 0x2001));
+    SHOW(zak_frame_lines(&card, widths, rgb, room, &len));
+    SHOW(widths[0]);
+    SHOW(widths[399]);
+    SHOW(widths[400]);
+    SHOW(len == 3 * dots_of(widths) && rgb[len] == UNTOUCHED);
+    free(rgb);
+    free(little);
+}
+
+/* The state of the card, as long as it is. */
+static uint8_t *state_of(size_t *len)
+{
+    SHOW(zak_save_size(&card, len));
+    uint8_t *state = buffer(*len);
+    SHOW(zak_save(&card, state, *len, len));
+    return state;
+}
+
+/* Restores a state in which a byte is another, and puts it back. */
+static zak_status restore_with(uint8_t *state, size_t len, size_t at, uint8_t value)
+{
+    uint8_t *exact = buffer(len);
+    memcpy(exact, state, len);
+    exact[at] = value;
+    zak_status status = zak_restore(&card, exact, len);
+    free(exact);
+    return status;
+}
+
+/* Bytes that are none of a state, at the offsets of docs/STATE.md. The card stays. */
+static void foreign_states(uint8_t *state, size_t len)
+{
+    SHOW(zak_restore(&card, none, 0));
+    SHOW(zak_restore(&card, fonts, sizeof fonts));
+    SHOW(restore_with(state, len, 3, 'T'));
+    SHOW(restore_with(state, len, 4, 2));
+    SHOW(restore_with(state, len, 5, (uint8_t)(state[5] + 1)));
+    SHOW(zak_restore(&card, state, len - 1));
+    SHOW(zak_restore(&card, state, 9));
+    SHOW(restore_with(state, len, 9, 0x14));
+    SHOW(restore_with(state, len, 40, 0xFF));
+    SHOW(restore_with(state, len, 66, 0xFF));
+    SHOW(restore_with(state, len, 99, 0xFF));
+    SHOW(restore_with(state, len, 101, 64));
+    SHOW(restore_with(state, len, 892, 8));
+    SHOW(restore_with(state, len, 263038, 0xFF));
+    SHOW(restore_with(state, len, len - 1, 0xFF));
+}
+
+/* What is saved is restored, also where there was too little room before, and over another state. */
+static void states(void)
+{
+    size_t len = 999, again = 999;
+    SHOW(zak_advance(&card, 30000));
+    uint8_t *state = state_of(&len), *little = buffer(len - 1);
+    SHOW(len > ZAK_FIRST_STATE && len <= ZAK_MOST_STATE);
+    SHOW(zak_save(&card, little, len - 1, &again));
+    SHOW(again == len && little[0] == UNTOUCHED && little[len - 2] == UNTOUCHED);
+    foreign_states(state, len);
+    uint8_t *after = state_of(&again);
+    /* The last of them, of which a dot has another colour, is a state. */
+    SHOW(again == len && memcmp(state, after, len - 1) == 0 && after[len - 1] == 0xFF);
+    free(after);
+    SHOW(zak_advance(&card, 1000000));
+    SHOW(zak_restore(&card, state, len));
+    after = state_of(&again);
+    SHOW(again == len && memcmp(state, after, len) == 0);
+    free(after);
+    free(little);
+    free(state);
+}
+
 static void runs(void)
 {
     static const uint8_t script[] = {'V', 'G', 'A', 'S', 1, 0x0B, 0xFF};
@@ -295,6 +395,8 @@ int main(int argc, char **argv)
     pixels_out_of_range();
     ragged_frame();
     no_screen();
+    ragged_lines();
+    states();
     runs();
     SHOW(zak_close(&card));
     SHOW(zak_close(&card));
