@@ -1,32 +1,32 @@
 -- The adapter after some dots of a line.
-use Rattle.std.proofs.Common.{◌≡◌, ℕ, ◌+◌, ◌-◌, ◌*◌, ◌/◌, ◌%◌, ◌<◌, ◌≤◌, ◌⊎◌, ⊎_elim, inl, inr, refl, sym, ap, subst, ◌∙◌, arith, Bool, true, false, List, []}
+use Rattle.std.proofs.Common.{◌≡◌, ℕ, ◌+◌, ◌-◌, ◌*◌, ◌/◌, ◌%◌, ◌<◌, ◌≤◌, ◌⊎◌, ⊎_elim, inl, inr, refl, sym, ap, ◌∙◌, arith, Bool, true, false, List, []}
 use Rattle.std.proofs.Common.{◌∷◌, ◌++◌, length, replicate, take, drop, take-add, slice_index}
 use Rattle.std.specs.Prelude.{if◌then◌else◌, ◌==◌, ◌&&◌, nat_le, min}
 use Rattle.std.proofs.lemmas.Bool.{cases_lt, le-leb}
 use Rattle.std.proofs.lemmas.Bool.Decides.{nat_tests}
-use Rattle.std.proofs.lemmas.Nat.{div-add-mod', div_below, mod_below, div-mul-add, mul-le}
-use Rattle.std.proofs.lemmas.List.{append-nil, length-take, get_or-take, take-take, length-drop}
+use Rattle.std.proofs.lemmas.Nat.{div-add-mod', div_below, mod_below, mul-le}
+use Rattle.std.proofs.lemmas.List.{length-take, get_or-take, take-take, length-drop}
 use Rattle.vga_host.specs.Host.{HostState}
 use Rattle.vga_host.specs.Fields.{character_width as host_width, is_eight_dots}
 use Rattle.vga_crtc.specs.declared.beam.Beam.{Beam}
 use Rattle.vga_crtc.specs.Crtc.{CrtcState}
 use Rattle.vga_crtc.specs.Status.{is_display}
 use Rattle.vga_crtc.specs.Fields.{horizontal_display_end, vertical_display_end}
-use Rattle.vga_crtc.specs.Beam.{is_first_dot, characters, started, next_line, after_start, after_dots, dots as beam_dots}
-use Rattle.vga_crtc.specs.Raster.{dots_in_line, in_line, line_dots as line_length, dot_number, IsInLine, IsSamePlace, IsLineTaken, LineEnds}
+use Rattle.vga_crtc.specs.Beam.{is_first_dot, characters, started, after_start, after_dots, dots as beam_dots}
+use Rattle.vga_crtc.specs.Raster.{dots_in_line, in_line, line_dots as line_length, dot_number, IsInLine, LineEnds}
 use Rattle.vga_dots.specs.Colour.{dot_colour}
 use Rattle.vga_dots.specs.Display.{DisplayState}
-use Rattle.vga_dots.specs.Line.{placed, placed_at, shown_characters, IsPartDrawn}
+use Rattle.vga_dots.specs.Line.{placed_at, shown_characters, IsPartDrawn}
 use Rattle.vga_card.specs.Picture.{Dot, widest}
 use Rattle.vga_card.specs.Canvas.{CanvasState, dots_from, width_more}
 use Rattle.vga_card.specs.Card.{CardState}
 use Rattle.vga_card.specs.Dots.{character_width, fresh, display_dot, dots}
-use Rattle.vga_card.specs.Frames.{frame_count, collect, display_dot_at}
+use Rattle.vga_card.specs.Frames.{collect, display_dot_at}
 use Rattle.vga_card.specs.Line.{started_display, part_dots, line_count, IsPartAppended}
 use Rattle.vga_card.specs.Valid.{fresh_count, IsDrawnTo}
-use Rattle.vga_card.proofs.FrameLemmas.{FramesEnd, dots_are_places, dots_keep, wide}
+use Rattle.vga_card.proofs.FrameLemmas.{FramesEnd, dots_are_places, dots_keep}
 use Rattle.vga_card.proofs.DotLemmas.{dots_split}
-use Rattle.vga_card.proofs.PlaceLemmas.{StartStays, decided, drawn_started}
+use Rattle.vga_card.proofs.PlaceLemmas.{StartStays, decided}
 use Rattle.vga_card.proofs.RowLemmas.{collect_same, collect_none, collect_row, row_dot, three_are, three_bytes, shown_dot, hidden_dot, hidden_line_dot}
 use Rattle.vga_card.proofs.LineLemmas.{DotsBegin, LineMoves, line_moves, few_dots}
 

@@ -1,18 +1,17 @@
 -- An adapter is read back from its bytes.
-use Rattle.std.proofs.Common.{◌≡◌, ℕ, ◌+◌, ◌*◌, ◌≤◌, refl, sym, ap, ◌∙◌, subst, arith, Bool, true, false, List, [], ◌∷◌, ◌++◌, length, take, drop}
+use Rattle.std.proofs.Common.{◌≡◌, ℕ, ◌+◌, ◌*◌, refl, sym, ap, ◌∙◌, subst, arith, Bool, true, false, List, [], ◌++◌, length, take, drop}
 use Rattle.std.proofs.Common.{length-append}
 use Rattle.std.specs.Prelude.{slice_index, bit_and, if◌then◌else◌}
 use Rattle.std.proofs.lemmas.List.{take_at, drop_at}
 use Rattle.vga_host.specs.Saved.{saved_host, IsSavedHost, host_from}
 use Rattle.vga_crtc.specs.declared.beam.Beam.{Beam}
 use Rattle.vga_crtc.specs.Crtc.{CrtcState}
-use Rattle.vga_crtc.specs.Beam.{is_first_dot}
 use Rattle.vga_crtc.specs.Saved.{saved_crtc, IsSavedCrtc, crtc_from}
 use Rattle.vga_attr.specs.Saved.{saved_attr, IsSavedAttr, attr_from}
 use Rattle.vga_dac.specs.Saved.{saved_dac, IsSavedDac, dac_from}
 use Rattle.vga_card.specs.Picture.{Dot}
 use Rattle.vga_card.specs.Card.{CardState}
-use Rattle.vga_card.specs.Dots.{fresh, fresh_dots}
+use Rattle.vga_card.specs.Dots.{fresh}
 use Rattle.vga_card.specs.Saved.{saved_dots, saved_dots_from, AreSavedDots, saved_card, past_misc, past_crtc, past_attr, past_dac, past_host, IsSavedCard}
 use Rattle.vga_card.specs.Saved.{card_from}
 use Rattle.vga_card.specs.Settled.{settled}

@@ -1,25 +1,24 @@
 -- The dots drawn are read back from their bytes.
-use Rattle.std.proofs.Common.{◌≡◌, ◌≢◌, ℕ, zero, suc, ◌+◌, ◌*◌, ◌<◌, ◌≤◌, refl, sym, ap, ap₂, ◌∙◌, subst, arith, inl, inr, Bool, true, false, cond}
+use Rattle.std.proofs.Common.{◌≡◌, ℕ, zero, suc, ◌+◌, ◌*◌, ◌<◌, ◌≤◌, refl, sym, ap, ◌∙◌, subst, arith, inl, inr, Bool, true, false}
 use Rattle.std.proofs.Common.{List, [], ◌∷◌, ◌++◌, length}
-use Rattle.std.proofs.Common.{replicate, take, drop, append_assoc, length-append}
+use Rattle.std.proofs.Common.{replicate, length-append}
 use Rattle.std.specs.Prelude.{slice_index, min, nat_lt, ◌==◌, if◌then◌else◌}
-use Rattle.std.specs.List.{count_by, flat_map}
+use Rattle.std.specs.List.{flat_map}
 use Rattle.std.proofs.lemmas.Bool.{cases_lt, cases_eq}
 use Rattle.std.proofs.lemmas.Bool.Decides.{nat_tests}
 use Rattle.std.proofs.lemmas.List.{append-nil, drop_at, length-replicate, get_or_append_left, get_or_push, get_or_past, length_push}
-use Rattle.std.proofs.lemmas.List.Sums.{sum_by-append}
 use Rattle.vga_bits.specs.Bytes.{zeros}
 use Rattle.vga_bits.proofs.ByteLemmas.{length-zeros, zeros_at}
 use Rattle.vga_bits.specs.Saved.{word_bytes, word_at, words_in}
 use Rattle.vga_bits.proofs.SavedLemmas.{length-word_bytes, length-words_in, words_are_back, words_more, word_in_at}
 use Rattle.vga_crtc.specs.declared.beam.Beam.{Beam}
 use Rattle.vga_crtc.specs.Beam.{is_first_dot}
-use Rattle.vga_card.specs.Picture.{Dot, widest, lines_of, lines_from, bytes_of}
+use Rattle.vga_card.specs.Picture.{Dot, widest, lines_from, bytes_of}
 use Rattle.vga_card.specs.Canvas.{dots_from, stored_dots, IsCanvas}
 use Rattle.vga_card.specs.Valid.{fresh_count, IsDrawnTo}
 use Rattle.vga_card.specs.Lines.{counts_from, line_widths}
 use Rattle.vga_card.specs.Saved.{saved_dots, widths_in, past_widths, saved_dots_from, most_on, AreFew, AreSavedDots}
-use Rattle.vga_card.proofs.CanvasLemmas.{no_lines, lines-dots_from, length-dots_from}
+use Rattle.vga_card.proofs.CanvasLemmas.{no_lines, length-dots_from}
 use Rattle.vga_card.proofs.PlaceLemmas.{decided}
 use Rattle.vga_card.proofs.ShapeLemmas.{stored_bytes}
 use Rattle.vga_card.proofs.WidthLemmas.{counts_none, widths_are}

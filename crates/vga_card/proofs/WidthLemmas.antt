@@ -1,17 +1,15 @@
 -- How many dots each line has, counted from the dots, is what a buffer keeps.
-use Rattle.std.proofs.Common.{◌≡◌, ◌≢◌, ℕ, zero, suc, ◌+◌, ◌*◌, ◌<◌, ◌≤◌, refl, sym, ap, ap₂, ◌∙◌, subst, arith, inl, inr, Bool, true, false, cond}
+use Rattle.std.proofs.Common.{◌≡◌, ◌≢◌, ℕ, zero, suc, ◌+◌, ◌<◌, refl, sym, ap, ◌∙◌, arith, Bool, true, false, cond}
 use Rattle.std.proofs.Common.{List, [], ◌∷◌, ◌++◌, length}
-use Rattle.std.proofs.Common.{replicate, take, drop, append_assoc, length-append}
-use Rattle.std.specs.Prelude.{slice_index, min, nat_lt, ◌==◌, if◌then◌else◌}
-use Rattle.std.specs.List.{count_by}
-use Rattle.std.proofs.lemmas.Bool.{cases_lt, cases_eq}
+use Rattle.std.proofs.Common.{replicate}
+use Rattle.std.specs.Prelude.{◌==◌}
 use Rattle.std.proofs.lemmas.Bool.Decides.{nat_tests}
 use Rattle.std.proofs.lemmas.List.Sums.{sum_by-append}
 use Rattle.vga_bits.specs.Bytes.{zeros}
-use Rattle.vga_card.specs.Picture.{Dot, lines_of, lines_from}
+use Rattle.vga_card.specs.Picture.{lines_from}
 use Rattle.vga_card.specs.Canvas.{stored_dots}
 use Rattle.vga_card.specs.Lines.{count_on, counts_from, line_widths}
-use Rattle.vga_card.proofs.CanvasLemmas.{no_lines, lines-dots_from}
+use Rattle.vga_card.proofs.CanvasLemmas.{lines-dots_from}
 
 count-append : (xs ys : List ℕ) (v : ℕ) → count_on (xs ++ ys) v ≡ count_on xs v + count_on ys v
 count-append xs ys v = sum_by-append (λ (x : ℕ). cond (x == v) 1 0) xs ys

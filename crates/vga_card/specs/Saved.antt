@@ -1,6 +1,6 @@
 -- The whole adapter as bytes: the miscellaneous output register, the CRT controller, the attribute
 -- controller, the DAC, the host path, and the dots that are drawn of the frame under way.
-use Rattle.std.specs.Prelude.{ℕ, ◌≡◌, ◌+◌, ◌*◌, ◌<◌, ◌≤◌, ◌==◌, min, nat_lt, true}
+use Rattle.std.specs.Prelude.{ℕ, ◌≡◌, ◌+◌, ◌*◌, ◌≤◌, ◌==◌, min, nat_lt, true}
 use Rattle.std.specs.Prelude.{if◌then◌else◌, List, [], ◌∷◌, ◌++◌, length, take, drop, slice_index}
 use Rattle.std.specs.Prelude.{bit_and}
 use Rattle.std.specs.List.{flat_map}

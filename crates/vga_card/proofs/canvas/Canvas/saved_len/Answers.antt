@@ -1,4 +1,4 @@
-use Rattle.std.proofs.Common.{◌≡◌, ◌*◌, ◌≤◌, ap, length, take, arith}
+use Rattle.std.proofs.Common.{ap, length, take, arith}
 use Rattle.std.proofs.lemmas.List.{length-take}
 use Rattle.vga_card.specs.Canvas.{CanvasState}
 use Rattle.vga_card.proofs.ShapeLemmas.{stored_length}

@@ -1,8 +1,7 @@
-use Rattle.std.proofs.Common.{◌≡◌, ◌+◌, ◌*◌, ℕ, List, false, length, take, ap, sym, subst}
+use Rattle.std.proofs.Common.{◌≡◌, ◌+◌, ◌*◌, length, take, sym, subst}
 use Rattle.std.specs.Prelude.{slice_index}
-use Rattle.vga_crtc.specs.Beam.{is_first_dot}
 use Rattle.vga_card.specs.Canvas.{CanvasState, stored_dots}
-use Rattle.vga_card.specs.Valid.{IsDrawn, fresh_count, IsDrawnTo}
+use Rattle.vga_card.specs.Valid.{IsDrawn}
 use Rattle.vga_card.specs.Saved.{saved_dots, saved_dots_from, AreSavedDots}
 use Rattle.vga_card.proofs.SavedLemmas.{canvas_saved, canvas_back, canvas_len}
 use Rattle.vga_card.proofs.canvas.Canvas.saves_whole.Goals as goal

@@ -1,5 +1,4 @@
-use Rattle.std.proofs.Common.{◌≡◌, ◌<◌, ◌≤◌, arith}
-use Rattle.vga_card.specs.Saved.{most_on}
+use Rattle.std.proofs.Common.{arith}
 use Rattle.vga_card.proofs.SavedLemmas.{none_counted, one_counted, too_many, all_counted}
 use Rattle.vga_card.proofs.canvas.saved.count_dots.Goals as goal
 

@@ -1,4 +1,4 @@
-use Rattle.std.proofs.Common.{◌≡◌, ℕ, false, subst}
+use Rattle.std.proofs.Common.{◌≡◌, false, subst}
 use Rattle.vga_crtc.specs.declared.beam.Beam.{Beam}
 use Rattle.vga_crtc.specs.Beam.{is_first_dot}
 use Rattle.vga_card.specs.Card.{CardState}

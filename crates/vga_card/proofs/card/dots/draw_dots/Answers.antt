@@ -1,4 +1,4 @@
-use Rattle.std.proofs.Common.{◌≡◌, ◌+◌, ◌*◌, ◌++◌, ◌<◌, ◌≤◌, refl, sym, ap, subst, ◌∙◌, arith, true, false, List}
+use Rattle.std.proofs.Common.{◌≡◌, ◌+◌, ◌*◌, ◌++◌, ◌<◌, ◌≤◌, refl, sym, ap, subst, ◌∙◌, arith, true, List}
 use Rattle.std.proofs.lemmas.List.{append-nil}
 use Rattle.vga_host.specs.Fields.{character_width as host_width}
 use Rattle.vga_crtc.specs.Beam.{characters}
