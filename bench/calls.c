@@ -9,7 +9,8 @@
 
 static uint8_t fonts[ZAK_FONTS_SIZE], rgb[ZAK_MOST_RGB], table[ZAK_MOST_TABLE];
 static uint8_t text[ZAK_MOST_TEXT];
-static uint32_t pixels[ZAK_WIDEST * ZAK_HIGHEST];
+static uint8_t state[ZAK_MOST_STATE];
+static uint32_t pixels[ZAK_WIDEST * ZAK_HIGHEST], widths[ZAK_HIGHEST];
 static const uint8_t none[1];
 static zak_card card = ZAK_CARD_INIT;
 static zak_size size;
@@ -68,6 +69,23 @@ static zak_status do_frame_xrgb(uint32_t i)
     return zak_frame_xrgb(&card, &size, pixels, sizeof pixels / 4, ZAK_WIDEST);
 }
 
+static zak_status do_frame_lines(uint32_t i)
+{
+    (void)i;
+    return zak_frame_lines(&card, widths, rgb, sizeof rgb, &len);
+}
+
+static zak_status do_save(uint32_t i)
+{
+    (void)i;
+    return zak_save(&card, state, sizeof state, &len);
+}
+
+static zak_status do_restore(uint32_t i)
+{
+    return i == 0 ? do_save(i) : zak_restore(&card, state, len);
+}
+
 static zak_status do_teletype(uint32_t i) { return call_int10(0x0E41, 7 + (i & 0)); }
 
 static zak_status do_read_registers(uint32_t i)
@@ -105,10 +123,13 @@ static const struct call {
     {"advance_line", do_advance_line},
     {"frame", do_frame},
     {"frame_xrgb", do_frame_xrgb},
+    {"frame_lines", do_frame_lines},
     {"teletype", do_teletype},
     {"read_registers", do_read_registers},
     {"read_beam", do_read_beam},
     {"show_regs", do_show_regs},
+    {"save", do_save},
+    {"restore", do_restore},
 };
 
 static zak_status repeat(const struct call *call, uint32_t times)

@@ -37,8 +37,10 @@ CALLS = (
     Call("advance_line", "13", 1000, 100_000),
     Call("frame", "13", 10, 500), Call("frame", "3", 10, 500), Call("frame", "12", 10, 500),
     Call("frame_xrgb", "13", 10, 500), Call("frame_xrgb", "3", 10, 500), Call("frame_xrgb", "12", 10, 500),
+    Call("frame_lines", "12", 10, 500),
     Call("teletype", "3", 1000, 100_000), Call("read_registers", "13", 1000, 1_000_000),
     Call("read_beam", "13", 1000, 1_000_000), Call("show_regs", "13", 1000, 100_000),
+    Call("save", "13", 10, 2000), Call("restore", "13", 10, 2000),
 )
 
 
