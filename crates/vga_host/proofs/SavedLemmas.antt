@@ -1,6 +1,5 @@
 -- A host path is read back from its bytes.
-use Rattle.std.proofs.Common.{◌≡◌, ℕ, ◌<◌, ap, ◌∙◌, sym, refl, arith, List, [], ◌∷◌, ◌++◌, length, take, drop, length-append}
-use Rattle.std.specs.Prelude.{slice_index}
+use Rattle.std.proofs.Common.{◌≡◌, ℕ, ◌<◌, ap, ◌∙◌, refl, arith, List, [], ◌∷◌, ◌++◌, length, take, drop, length-append}
 use Rattle.std.proofs.lemmas.List.{take_at, drop_at}
 use Rattle.vga_planes.specs.Saved.{saved_memory, memory_from}
 use Rattle.vga_host.specs.Host.{HostState}

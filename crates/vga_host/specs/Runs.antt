@@ -1,18 +1,17 @@
 -- Runs of writes: a byte to each of some addresses that follow one another, in ascending order.
 -- From the IBM PS/2 Hardware Interface Technical Reference, Video Subsystems: no write to memory
 -- changes a register or a latch.
-use Rattle.std.specs.Prelude.{ℕ, zero, suc, ◌≡◌, ◌+◌, ◌-◌, ◌*◌, ◌/◌, ◌%◌, ◌<◌, ◌==◌, ◌&&◌, ◌||◌}
-use Rattle.std.specs.Prelude.{Bool, true, false, if◌then◌else◌, slice_set}
+use Rattle.std.specs.Prelude.{ℕ, zero, suc, ◌≡◌, ◌+◌, ◌%◌, ◌==◌}
+use Rattle.std.specs.Prelude.{true, if◌then◌else◌, slice_set}
 use Rattle.vga_bits.specs.Bits.{is_set}
 use Rattle.vga_bits.specs.Four.{Four, four, of_plane}
 use Rattle.vga_host.specs.declared.host.runs.Aim.{Aim}
 use Rattle.vga_host.specs.Host.{HostState}
 use Rattle.vga_host.specs.Fields.{is_memory_enabled, is_in_map_mask, is_odd_even_off, is_chain_four}
-use Rattle.vga_host.specs.Fields.{is_chain_odd_even, write_mode, rotate_count, function_select}
-use Rattle.vga_host.specs.Fields.{is_set_reset_enabled, bit_mask}
+use Rattle.vga_host.specs.Fields.{is_chain_odd_even}
 use Rattle.vga_host.specs.Address.{is_decoded, window_start, window_len, window_offset}
 use Rattle.vga_host.specs.Address.{plane_offset, is_reached}
-use Rattle.vga_host.specs.MemoryWrite.{after_put}
+use Rattle.vga_host.specs.MemoryWrite.{after_put, IsPlain}
 use Rattle.vga_host.specs.MemoryRead.{read_byte, after_get}
 
 -- a write to any address: one that is not decoded changes nothing
@@ -57,15 +56,6 @@ after_moves misc from to (suc n) i h = after_moves misc from to n (i + 1)
 -- two bytes in turn
 abbrev pub in_turn : ℕ → ℕ → ℕ → ℕ
 in_turn even odd w = if w % 2 == 0 then even else odd
-
--- a write replaces bytes as they are: write mode 0, no rotation, no function, no plane whose bit is
--- its own, and each bit let through
-pub record IsPlain (h : HostState) : Type 0 where
-  pub mode : write_mode h ≡ 0
-  pub rotate : rotate_count h ≡ 0
-  pub function : function_select h ≡ 0
-  pub own : (p : ℕ) → p < 4 → is_set_reset_enabled h p ≡ false
-  pub mask : (i : ℕ) → i < 8 → bit_mask h i ≡ 1
 
 -- what registers say of every write: the window, which is empty where the memory does not answer,
 -- how places are shared out to planes, and the map mask

@@ -1,12 +1,13 @@
 //! A write of a byte to display memory.
 ghost use Rattle.std.specs.Prelude.{◌≡◌, ◌<◌, ◌↔◌, ℕ, if◌then◌else◌, IsTrue, OnOk, IfErr, IsOk};
+ghost use Rattle.std.specs.Prelude.{true};
 ghost use Rattle.std.specs.Int.{bit_at};
 ghost use Rattle.vga_bits.specs.Four.{four};
 ghost use Rattle.vga_host.specs.Address.{is_decoded};
 ghost use Rattle.vga_host.specs.Fields.{bit_mask, set_reset, is_set_reset_enabled};
 ghost use Rattle.vga_bits.specs.Words.{word_bit};
 ghost use Rattle.vga_host.specs.MemoryWrite.{rotated_bit, data_bit, mask_bit, combined_bit};
-ghost use Rattle.vga_host.specs.MemoryWrite.{written_bit, written_byte, after_put};
+ghost use Rattle.vga_host.specs.MemoryWrite.{written_bit, written_byte, after_put, IsPlain};
 
 use super::Host;
 use crate::bytes::{combined, rotated};
@@ -89,12 +90,36 @@ impl Host {
         }
     }
 
-    /// The bytes that the four planes get where a write reaches them.
-    pub(super) fn written(&self, v: u8) -> Latch
+    /// Whether a write replaces bytes as they are.
+    pub(super) fn is_plain(&self) -> bool
+        ensures { result ≡ true → IsPlain self.now }
+    {
+        // Each of these numbers changes what is written, where it is not 0.
+        let changes = self.write_mode() as u32
+            + self.rotate_count() as u32
+            + self.function_select() as u32
+            + self.set_reset_enabled() as u32;
+        changes == 0 && self.bit_mask() == 0xFF
+    }
+
+    /// The bytes that the four planes get where a write reaches them. That a write is plain is told
+    /// for speed alone.
+    pub(super) fn written_as(&self, is_plain: bool, v: u8) -> Latch
+        requires { is_plain ≡ true → IsPlain self.now }
         ensures { result ≡ four (λ p. written_byte self.now v p) }
     {
+        if is_plain {
+            return Latch::from_word(spread(v));
+        }
         let word = self.written_bits(v);
         Latch::from_word(word)
+    }
+
+    /// The bytes that the four planes get where a write reaches them.
+    fn written(&self, v: u8) -> Latch
+        ensures { result ≡ four (λ p. written_byte self.now v p) }
+    {
+        self.written_as(self.is_plain(), v)
     }
 
     /// Writes a byte to an address of display memory; `misc` is the miscellaneous output register.

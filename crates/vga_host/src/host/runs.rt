@@ -7,11 +7,10 @@ ghost use Rattle.vga_bits.specs.Bits.{is_set};
 ghost use Rattle.vga_bits.specs.Four.{four};
 ghost use Rattle.vga_host.specs.MemoryWrite.{written_byte};
 ghost use Rattle.vga_host.specs.Runs.{put_bytes, get_where, byte_where, move_where, after_puts};
-ghost use Rattle.vga_host.specs.Runs.{after_moves, in_turn, IsAim, IsPlain};
+ghost use Rattle.vga_host.specs.Runs.{after_moves, in_turn, IsAim};
 
 use super::Host;
 use super::fields::is_memory_enabled;
-use vga_planes::words::spread;
 use vga_planes::{Latch, PlaneSet};
 
 /// What a read gives that is not decoded.
@@ -109,18 +108,6 @@ impl Aim {
 }
 
 impl Host {
-    /// Whether a write replaces bytes as they are.
-    fn is_plain(&self) -> bool
-        ensures { result ≡ true → IsPlain self.now }
-    {
-        // Each of these numbers changes what is written, where it is not 0.
-        let changes = self.write_mode() as u32
-            + self.rotate_count() as u32
-            + self.function_select() as u32
-            + self.set_reset_enabled() as u32;
-        changes == 0 && self.bit_mask() == 0xFF
-    }
-
     /// What the registers say of every cycle; `misc` is the miscellaneous output register.
     fn aim(&self, misc: u8) -> Aim
         ensures aim { IsAim result self.now misc }
@@ -145,11 +132,7 @@ impl Host {
         requires { IsAim aim self.now misc }
         ensures { result ≡ four (λ p. written_byte self.now v p) }
     {
-        if aim.plain {
-            Latch::from_word(spread(v))
-        } else {
-            self.written(v)
-        }
+        self.written_as(aim.plain, v)
     }
 
     /// Writes these four bytes to the planes that an address reaches where it is decoded, by what

@@ -1,5 +1,5 @@
 -- A read by what the registers say is a read.
-use Rattle.std.proofs.Common.{◌≡◌, ◌∙◌, ap, List, ℕ}
+use Rattle.std.proofs.Common.{◌∙◌, ap, List, ℕ}
 use Rattle.vga_bits.specs.Bits.{byte_of}
 use Rattle.vga_bits.specs.Four.{Four}
 use Rattle.vga_planes.specs.Planes.{bytes_at}

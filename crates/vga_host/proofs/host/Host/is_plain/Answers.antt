@@ -1,5 +1,5 @@
 use Rattle.std.proofs.Common.{◌≡◌, ◌∙◌, sym, arith}
-use Rattle.vga_host.proofs.RunLemmas.{plain_by}
+use Rattle.vga_host.proofs.PlainLemmas.{plain_by}
 use Rattle.vga_host.proofs.host.Host.is_plain.Goals as goal
 
 pub returns-then-changes-eq0 : goal.returns-then-changes-eq0

@@ -1,5 +1,5 @@
 -- A load keeps what the registers say; what is read is written.
-use Rattle.std.proofs.Common.{◌≡◌, ◌∙◌, ap, sym, subst}
+use Rattle.std.proofs.Common.{◌∙◌, ap, sym, subst}
 use Rattle.vga_bits.specs.Four.{four}
 use Rattle.vga_host.specs.MemoryWrite.{written_byte}
 use Rattle.vga_host.specs.Runs.{put_where, put_bytes, byte_where, IsAim}

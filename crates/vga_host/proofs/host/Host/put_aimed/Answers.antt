@@ -1,4 +1,4 @@
-use Rattle.std.proofs.Common.{◌≡◌, ◌<◌, ◌∙◌, ap, sym, subst, ◌%◌, ◌==◌, ◌&&◌, ◌||◌, if◌then◌else◌}
+use Rattle.std.proofs.Common.{◌≡◌, ◌∙◌, ap, sym, subst, ◌%◌, ◌==◌, ◌&&◌, ◌||◌, if◌then◌else◌}
 use Rattle.vga_bits.specs.Bits.{is_set}
 use Rattle.vga_planes.specs.Planes.{with_bytes}
 use Rattle.vga_bits.proofs.FourLemmas.{by_plane}
