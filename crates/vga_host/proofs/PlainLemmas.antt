@@ -1,4 +1,4 @@
--- Plain writes: their registers, and what they leave.
+-- Plain writes, and those of the latches: their registers, and what they leave.
 use Rattle.std.proofs.Common.{true, false, ◌≡◌, ℕ, ◌+◌, ◌%◌, ◌<◌, ◌==◌, refl, sym, ap, ◌∙◌, arith, if◌then◌else◌}
 use Rattle.std.specs.Prelude.{min}
 use Rattle.std.specs.Int.{bit_at}
@@ -8,7 +8,7 @@ use Rattle.vga_bits.proofs.FourLemmas.{by_plane}
 use Rattle.vga_bits.specs.Bits.{is_set}
 use Rattle.vga_bits.specs.Four.{of_plane}
 use Rattle.vga_host.specs.Host.{HostState}
-use Rattle.vga_host.specs.MemoryWrite.{written_bit, combined_bit, combined_by, IsPlain}
+use Rattle.vga_host.specs.MemoryWrite.{written_bit, mask_bit, combined_bit, combined_by, IsPlain}
 use Rattle.vga_host.specs.Fields.{write_mode, rotate_count, function_select, is_set_reset_enabled, set_reset, bit_mask}
 
 -- the registers of a plain write, by their numbers
@@ -35,3 +35,10 @@ plain_bit h v p i is lp li =
     else combined_by (is.function j) (if is.mode j == 0 then (if is.own p lp j then set_reset h p else bit_at v ((i + is.rotate j) % 8))
     else if is.mode j == 2 then bit_at v p else set_reset h p) latch)
     ∙ ap (bit_at v) z
+
+-- in write mode 1 a write leaves the bits of the latches
+pub latched_bit : (h : HostState) (v p i : ℕ) → write_mode h ≡ 1 → written_bit h v p i ≡ bit_at (of_plane h.latches p) i
+unfolding written_bit
+latched_bit h v p i is =
+    let latch = bit_at (of_plane h.latches p) i in
+    λ j. if is j == 1 then latch else if mask_bit h v i == 0 then latch else combined_bit h v p i

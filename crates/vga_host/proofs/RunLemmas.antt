@@ -11,6 +11,7 @@ use Rattle.vga_host.specs.Address.{is_decoded, window_offset, plane_offset, is_r
 use Rattle.vga_host.specs.MemoryWrite.{written_bit, combined_bit, written_byte, after_put}
 use Rattle.vga_host.specs.MemoryRead.{loaded, read_bit, read_byte, after_get}
 use Rattle.vga_host.specs.Runs.{put_where, put_bytes, get_where, byte_where, move_where, after_puts, after_moves, in_turn, IsAim}
+use Rattle.vga_host.specs.Fields.{write_mode}
 
 -- ---- what the registers say stays
 
@@ -24,6 +25,7 @@ aim_where true aim h misc a v is = record {
   all = is.all;
   mask = is.mask;
   plain = λ e. let p = is.plain e in record { mode = p.mode; rotate = p.rotate; function = p.function; own = p.own; mask = p.mask };
+  latched = is.latched;
 }
 aim_where false aim h misc a v is = is
 
@@ -120,12 +122,21 @@ aim_loaded true aim h misc a is = record {
   all = is.all;
   mask = is.mask;
   plain = λ e. let p = is.plain e in record { mode = p.mode; rotate = p.rotate; function = p.function; own = p.own; mask = p.mask };
+  latched = is.latched;
 }
 aim_loaded false aim h misc a is = is
 
 -- nor does a read change what the registers say
 pub aim_read : (aim : Aim) (h : HostState) (misc a : ℕ) → IsAim aim h misc → IsAim aim (get_where h misc a) misc
 aim_read aim h misc a is = aim_loaded (is_decoded h misc a) aim h misc a is
+
+mode_loaded : (d : Bool) (h : HostState) (a : ℕ) → write_mode (if d then after_get h a else h) ≡ write_mode h
+mode_loaded true h a = refl
+mode_loaded false h a = refl
+
+-- and least the write mode
+pub mode_read : (h : HostState) (misc a : ℕ) → write_mode (get_where h misc a) ≡ write_mode h
+mode_read h misc a = mode_loaded (is_decoded h misc a) h a
 
 -- what a loop of moves keeps
 pub move_kept : (aim : Aim) (misc from to n i : ℕ) (h t r : HostState) → i < n → t ≡ move_where h misc (from + i) (to + i)

@@ -8,7 +8,7 @@ use Rattle.vga_bits.specs.Four.{Four, four, of_plane}
 use Rattle.vga_host.specs.declared.host.runs.Aim.{Aim}
 use Rattle.vga_host.specs.Host.{HostState}
 use Rattle.vga_host.specs.Fields.{is_memory_enabled, is_in_map_mask, is_odd_even_off, is_chain_four}
-use Rattle.vga_host.specs.Fields.{is_chain_odd_even}
+use Rattle.vga_host.specs.Fields.{is_chain_odd_even, write_mode}
 use Rattle.vga_host.specs.Address.{is_decoded, window_start, window_len, window_offset}
 use Rattle.vga_host.specs.Address.{plane_offset, is_reached}
 use Rattle.vga_host.specs.MemoryWrite.{after_put, IsPlain}
@@ -68,3 +68,4 @@ pub record IsAim (aim : Aim) (h : HostState) (misc : ℕ) : Type 0 where
   pub all : aim.all ≡ is_odd_even_off h
   pub mask : (p : ℕ) → is_set aim.mask p ≡ is_in_map_mask h p
   pub plain : aim.plain ≡ true → IsPlain h
+  pub latched : aim.latched ≡ true → write_mode h ≡ 1

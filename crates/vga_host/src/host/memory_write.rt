@@ -4,7 +4,7 @@ ghost use Rattle.std.specs.Prelude.{true};
 ghost use Rattle.std.specs.Int.{bit_at};
 ghost use Rattle.vga_bits.specs.Four.{four};
 ghost use Rattle.vga_host.specs.Address.{is_decoded};
-ghost use Rattle.vga_host.specs.Fields.{bit_mask, set_reset, is_set_reset_enabled};
+ghost use Rattle.vga_host.specs.Fields.{bit_mask, set_reset, is_set_reset_enabled, write_mode};
 ghost use Rattle.vga_bits.specs.Words.{word_bit};
 ghost use Rattle.vga_host.specs.MemoryWrite.{rotated_bit, data_bit, mask_bit, combined_bit};
 ghost use Rattle.vga_host.specs.MemoryWrite.{written_bit, written_byte, after_put, IsPlain};
@@ -112,6 +112,16 @@ impl Host {
             return Latch::from_word(spread(v));
         }
         let word = self.written_bits(v);
+        Latch::from_word(word)
+    }
+
+    /// The bytes that the four planes get in write mode 1 where a write reaches them: the latches,
+    /// whatever is written.
+    pub(super) fn latched(&self) -> Latch
+        requires { write_mode self.now ≡ 1 }
+        ensures { (v : ℕ) → result ≡ four (λ p. written_byte self.now v p) }
+    {
+        let word = self.latch.word();
         Latch::from_word(word)
     }
 

@@ -5,6 +5,7 @@ ghost use Rattle.std.specs.Prelude.{nat_le, nat_lt, if◌then◌else◌, IsTrue,
 ghost use Rattle.std.specs.Option.{SomeIff};
 ghost use Rattle.vga_bits.specs.Bits.{is_set};
 ghost use Rattle.vga_bits.specs.Four.{four};
+ghost use Rattle.vga_host.specs.Fields.{write_mode};
 ghost use Rattle.vga_host.specs.MemoryWrite.{written_byte};
 ghost use Rattle.vga_host.specs.Runs.{put_bytes, get_where, byte_where, move_where, after_puts};
 ghost use Rattle.vga_host.specs.Runs.{after_moves, in_turn, IsAim};
@@ -34,6 +35,8 @@ pub(crate) struct Aim {
     pub mask: PlaneSet,
     /// Whether a write replaces bytes as they are.
     pub plain: bool,
+    /// Whether a write stores the latches.
+    pub latched: bool,
 }
 
 impl Aim {
@@ -123,6 +126,7 @@ impl Host {
             all: self.is_odd_even_off(),
             mask: self.map_mask(),
             plain: self.is_plain(),
+            latched: self.write_mode() == 1,
         }
     }
 
@@ -175,8 +179,21 @@ impl Host {
         }
     }
 
+    /// Loads the latches from an address, and stores them at another. The byte read is not looked
+    /// at.
+    fn move_latches(&mut self, aim: Aim, from: u32, to: u32, misc: u8)
+        requires aim { IsAim aim self.old misc }
+        requires small { aim.start + aim.len < 2 ^ 32 }
+        requires mode { write_mode self.old ≡ 1 }
+        ensures { self.new ≡ move_where self.old misc from to }
+    {
+        self.load_aimed(aim, from, misc);
+        let bytes = self.latched();
+        self.put_aimed(aim, bytes, to, misc);
+    }
+
     /// Reads a byte from an address, and writes it to another.
-    fn move_aimed(&mut self, aim: Aim, from: u32, to: u32, misc: u8)
+    fn move_byte(&mut self, aim: Aim, from: u32, to: u32, misc: u8)
         requires aim { IsAim aim self.old misc }
         requires small { aim.start + aim.len < 2 ^ 32 }
         ensures { self.new ≡ move_where self.old misc from to }
@@ -185,6 +202,19 @@ impl Host {
         self.load_aimed(aim, from, misc);
         let bytes = self.written_aimed(aim, byte, misc);
         self.put_aimed(aim, bytes, to, misc);
+    }
+
+    /// Moves a byte from an address to another, in the way of the write mode.
+    fn move_aimed(&mut self, aim: Aim, from: u32, to: u32, misc: u8)
+        requires aim { IsAim aim self.old misc }
+        requires small { aim.start + aim.len < 2 ^ 32 }
+        ensures { self.new ≡ move_where self.old misc from to }
+    {
+        if aim.latched {
+            self.move_latches(aim, from, to, misc);
+        } else {
+            self.move_byte(aim, from, to, misc);
+        }
     }
 
     /// Moves n bytes, in ascending order: each is read at an address, and written at another, a

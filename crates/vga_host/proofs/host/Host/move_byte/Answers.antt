@@ -4,7 +4,7 @@ use Rattle.vga_bits.specs.Four.{four}
 use Rattle.vga_host.specs.MemoryWrite.{written_byte}
 use Rattle.vga_host.specs.Runs.{put_where, put_bytes, byte_where, IsAim}
 use Rattle.vga_host.proofs.RunLemmas.{aim_read}
-use Rattle.vga_host.proofs.host.Host.move_aimed.Goals as goal
+use Rattle.vga_host.proofs.host.Host.move_byte.Goals as goal
 
 pub written_aimed-bytes-requires : goal.written_aimed-bytes-requires
 written_aimed-bytes-requires c =
