@@ -1,3 +1,4 @@
 pub mod PlainLemmas
+pub mod WordLemmas
 pub mod RunLemmas
 pub mod SavedLemmas

@@ -54,6 +54,16 @@ impl Aim {
         }
     }
 
+    /// Whether the memory has n addresses from the first on.
+    pub(super) fn covers(self, first: u32, n: u32) -> bool
+        requires small { self.start + self.len < 2 ^ 32 }
+        requires few { first + n < 2 ^ 32 }
+        ensures { result ≡ (self.enabled && (nat_le self.start first
+            && nat_le (first + n) (self.start + self.len))) }
+    {
+        self.enabled && self.start <= first && first + n <= self.start + self.len
+    }
+
     /// The offset in each plane of a place in the window.
     fn offset(self, place: u16) -> u16
         ensures { result ≡ (if self.four then place / 4 * 4 else if self.pairs then place / 2 * 2
@@ -225,7 +235,8 @@ impl Host {
         ensures { self.new ≡ after_moves misc from to n 0 self.old }
     {
         let aim = self.aim(misc);
-        for i in 0..n {
+        let done = self.move_words(aim, from, to, n, misc);
+        for i in done..n {
             self.move_aimed(aim, from + i, to + i, misc);
         }
     }

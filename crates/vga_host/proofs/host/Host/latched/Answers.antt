@@ -12,5 +12,6 @@ pub returns : goal.returns
 returns c = λ v.
     let h = c.args.self.now in
     c.from_word.ensures
-    ∙ bytes_from_bits c.word-word.result (λ p i. written_bit h v p i) (λ p i lp li. c.word-word.ensures.bits p i lp li ∙ ap (λ (x : HostState). bit_at (of_plane x.latches p) i) c.self.view_is
+    ∙ bytes_from_bits c.word-word.result (λ p i. written_bit h v p i) (λ p i lp li. c.word-word.ensures.bits p i lp li
+    ∙ ap (λ (x : HostState). bit_at (of_plane x.latches p) i) c.self.view_is
     ∙ sym (latched_bit h v p i c.requires))

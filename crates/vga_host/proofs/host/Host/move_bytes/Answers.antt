@@ -1,3 +1,4 @@
+use Rattle.vga_host.proofs.WordLemmas.{moves_rest}
 use Rattle.vga_host.proofs.RunLemmas.{move_kept}
 use Rattle.vga_host.proofs.host.Host.move_bytes.Goals as goal
 
@@ -5,3 +6,10 @@ pub loop-i-preserved : goal.loop-i-preserved
 loop-i-preserved c =
     move_kept c.aim-aim.result c.args.misc c.args.from c.args.to c.args.n c.loop-i.i c.loop-i.self c.move_aimed.new.self _ c.loop-i-test.true
     c.move_aimed.ensures c.loop-i.invariant
+
+pub loop-i-init : goal.loop-i-init
+loop-i-init c = (
+  c.move_words-done.ensures.aim,
+  moves_rest c.args.misc c.args.from c.args.to c.args.n c.move_words-done.result c.args.self.now _ c.move_words-done.ensures.few
+      c.move_words-done.ensures.moved,
+)

@@ -1,5 +1,5 @@
 -- A load keeps what the registers say; whatever is read, the latches are stored.
-use Rattle.std.proofs.Common.{◌≡◌, ◌∙◌, ap, sym, subst}
+use Rattle.std.proofs.Common.{◌∙◌, ap, sym, subst}
 use Rattle.vga_host.specs.Fields.{write_mode}
 use Rattle.vga_host.specs.Runs.{put_where, put_bytes, byte_where, IsAim}
 use Rattle.vga_host.proofs.RunLemmas.{aim_read, mode_read}
