@@ -13,3 +13,4 @@ pub mod WidthLemmas
 pub mod SavedLemmas
 pub mod SavedCards
 pub mod SettledLemmas
+pub mod RepeatLemmas

@@ -140,18 +140,14 @@ module _ (d : DisplayState) (cw : ℕ) (wide : cw ≡ host_width d.host) (some :
   pub hidden_line : vertical_display_end d.crtc.registers < d.crtc.beam.line → line_dots d ≡ []
   hidden_line past = by_width ∙ none (characters d.crtc.registers * cw) (λ i l. hidden_line_dot d (i / cw) (i % cw) past)
 
-  -- a line that is displayed has those that are drawn
-  pub shown_line : (row old : List ℕ) → d.crtc.beam.line ≤ vertical_display_end d.crtc.registers →
-      IsLineDrawn cw (shown_characters d.crtc.registers) d old row → 3 * (shown_characters d.crtc.registers * cw) ≤ length row
-      → line_dots d ≡ dots_from (replicate (shown_characters d.crtc.registers * cw) d.crtc.beam.line) (take (3 * (shown_characters d.crtc.registers * cw)) row)
-  shown_line row old in_frame drawn room =
+  -- the display dots of a line are those of its displayed characters
+  pub shown_places : line_dots d ≡ collect place_dot (shown_characters d.crtc.registers * cw)
+  shown_places =
       let r = d.crtc.registers in
       let n = shown_characters r in
       let m = n * cw in
-      let bytes = take (3 * m) row in
       let fits : n ≤ characters r = omega arith in
       let whole : m + (characters r * cw - m) ≡ characters r * cw = omega (arith, mul-le n cw (characters r) cw fits (le_refl cw)) in
-      let long : length bytes ≡ 3 * m = omega (arith, length-take (3 * m) row) in
       let at : (i : ℕ) → i / cw * cw + i % cw ≡ i = λ i. div-add-mod' i cw in
       by_width ∙ ap (collect place_dot) (sym whole)
       ∙ collect_none place_dot m (characters r * cw - m) (λ i lo hi.
@@ -161,6 +157,18 @@ module _ (d : DisplayState) (cw : ℕ) (wide : cw ≡ host_width d.host) (some :
       (λ (l : i / cw < n). absurd (omega (arith, lo, at i, mod_below i cw some, mul-le (i / cw + 1) cw n cw (omega arith) (le_refl cw))))
       (λ (l : n ≤ i / cw). hidden_dot d (i / cw) (i % cw) (omega (arith, x, l)))
       (cases_lt (i / cw) n))
+
+  -- a line that is displayed has those that are drawn
+  pub shown_line : (row old : List ℕ) → d.crtc.beam.line ≤ vertical_display_end d.crtc.registers →
+      IsLineDrawn cw (shown_characters d.crtc.registers) d old row → 3 * (shown_characters d.crtc.registers * cw) ≤ length row
+      → line_dots d ≡ dots_from (replicate (shown_characters d.crtc.registers * cw) d.crtc.beam.line) (take (3 * (shown_characters d.crtc.registers * cw)) row)
+  shown_line row old in_frame drawn room =
+      let n = shown_characters d.crtc.registers in
+      let m = n * cw in
+      let bytes = take (3 * m) row in
+      let long : length bytes ≡ 3 * m = omega (arith, length-take (3 * m) row) in
+      let at : (i : ℕ) → i / cw * cw + i % cw ≡ i = λ i. div-add-mod' i cw in
+      shown_places
       ∙ collect_same place_dot (row_dot d.crtc.beam.line bytes) m (λ i l.
       let x = div_below i cw n some l in
       let k = mod_below i cw some in

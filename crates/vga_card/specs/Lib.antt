@@ -13,3 +13,4 @@ pub mod Bus
 pub mod Line
 pub mod Saved
 pub mod Settled
+pub mod Repeat

@@ -13,6 +13,7 @@ ghost use Rattle.vga_card.specs.Canvas.{IsSmallShape, blank_canvas, width_with, 
 ghost use Rattle.vga_card.specs.Line.{line_dots, part_dots, IsLineAppended, IsPartAppended};
 ghost use Rattle.vga_card.specs.Lines.{line_widths, IsLinesOf};
 
+mod repeated;
 pub(crate) mod saved;
 
 use crate::drawn::Drawn;

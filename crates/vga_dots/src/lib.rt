@@ -5,6 +5,7 @@ mod character;
 pub mod colour;
 pub mod display;
 mod graphics;
+pub mod laws;
 pub mod line;
 mod row;
 mod source_dot;

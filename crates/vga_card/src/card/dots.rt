@@ -1,6 +1,6 @@
 //! Dots of the adapter's clock.
 ghost use Rattle.std.specs.Prelude.{◌≡◌, ◌<◌, ◌≤◌, ◌↔◌, ◌⊎◌, ◌+◌, ◌-◌, ◌*◌, ◌++◌, min};
-ghost use Rattle.std.specs.Prelude.{IsOk, OnOk, IfErr};
+ghost use Rattle.std.specs.Prelude.{IsOk, OnOk, IfErr, IfSome};
 ghost use Rattle.vga_host.specs.Fields.{character_width as host_width};
 ghost use Rattle.vga_crtc.specs.Beam.{after_start, after_dot};
 ghost use Rattle.vga_crtc.specs.Fields.{horizontal_display_end};
@@ -8,10 +8,12 @@ ghost use Rattle.vga_crtc.specs.Raster.{IsLineStart, IsInLine, dot_number, dots_
 ghost use Rattle.vga_dots.specs.Line.{shown_characters as characters_shown};
 ghost use Rattle.vga_card.specs.Dots.{character_width, fresh_dots, display_dot, dot, dots};
 ghost use Rattle.vga_card.specs.Dots.{most_dots};
-ghost use Rattle.vga_card.specs.Line.{line_dots, part_dots, line_count};
+ghost use Rattle.vga_card.specs.Line.{line_dots, part_dots, line_count, started_display};
+ghost use Rattle.vga_card.specs.Repeat.{EndsWithLine};
 ghost use Rattle.vga_card.specs.Valid.{fresh_count, IsDrawnTo};
 
 use super::Card;
+use super::repeats::add_row;
 use crate::canvas::Canvas;
 use vga_attr::Attr;
 use vga_bits::Refusal;
@@ -59,7 +61,7 @@ fn draw_dot(host: &Host, crtc: &mut Crtc, attr: &Attr, dac: &Dac, canvas: &mut C
 }
 
 /// Adds the display dots of the beam's line, the start of whose frame is taken.
-fn draw_row(display: &Display<'_>, canvas: &mut Canvas)
+pub(super) fn draw_row(display: &Display<'_>, canvas: &mut Canvas)
     requires place { IsDrawnTo display.now.crtc.beam 0 canvas.old.line canvas.old.width }
     requires start { IsLineStart display.now.crtc.beam }
     ensures dots { canvas.new.dots ≡ canvas.old.dots ++ line_dots display.now }
@@ -119,10 +121,13 @@ fn draw_dots(display: &Display<'_>, canvas: &mut Canvas, n: u32)
 }
 
 impl Card {
-    /// Takes the dots of a whole line, at whose first dot the beam is.
-    fn take_line(&mut self)
-        requires { IsLineStart self.old.crtc.beam }
-        ensures { self.new ≡ dots (line_count self.old) self.old }
+    /// Takes the dots of a whole line, at whose first dot the beam is, and gives the beam that it
+    /// was drawn with. If the dots drawn last are those of a whole line, `before` is that beam.
+    fn take_line(&mut self, before: Option<Beam>) -> Beam
+        requires start { IsLineStart self.old.crtc.beam }
+        requires before { IfSome before (EndsWithLine (started_display self.old) self.old.drawn) }
+        ensures taken { self.new ≡ dots (line_count self.old) self.old }
+        ensures ends { EndsWithLine (started_display self.new) self.new.drawn result }
     {
         start_is_taken_once();
         beam_in_line();
@@ -132,8 +137,10 @@ impl Card {
         clear_at_first_dot(self.crtc.beam(), &mut self.canvas);
         self.crtc.take_start();
         let display = Display::new(&self.host, &self.crtc, &self.attr, &self.dac);
-        draw_row(&display, &mut self.canvas);
+        add_row(&display, &mut self.canvas, before);
+        let beam = display.beam();
         self.crtc.step_line(width);
+        beam
     }
 
     /// Takes `n` dots of the line, at a dot of which the beam is.
@@ -182,20 +189,23 @@ impl Card {
     {
         let width = self.host.character_width();
         let mut left = n;
+        let mut before = None;
         while left > 0 {
             let beam = self.crtc.beam();
             if beam.character == 0 && beam.dot == 0 && self.crtc.dots_in_line(width) <= left {
                 left -= self.crtc.dots_in_line(width);
-                self.take_line();
+                before = Some(self.take_line(before));
             } else if 1 < left && self.crtc.is_in_line(width) {
                 let part = left
                     .min(self.crtc.dots_in_line(width))
                     .min(MOST_PART as u32);
                 self.take_part(part);
                 left -= part;
+                before = None;
             } else {
                 self.take_dot();
                 left -= 1;
+                before = None;
             }
         }
     }

@@ -25,10 +25,14 @@ loop-left-preserved-then-dots_in_line-left c =
     let count : c.dots_in_line-left.result ≡ line_count s = c.dots_in_line-left.ensures.value
     ∙ ap (λ w. dots_in_line w a.crtc.registers a.crtc.beam) c.loop-left.invariant.1
     ∙ ap (λ (x : CardState). dots_in_line (character_width s) x.crtc.registers x.crtc.beam) c.self-in-loop-left.view_is in
-    let taken : c.take_line.new.self ≡ dots (line_count s) s = c.take_line.ensures in (
+    let taken : c.take_line.new.self ≡ dots (line_count s) s = c.take_line.ensures.taken in (
       line_went c.loop-left.left c.dots_in_line-left.result s c.take_line.new.self _ (omega (arith, same)) count taken c.loop-left.invariant.0,
       c.loop-left.invariant.1 ∙ width_kept (line_count s) s c.take_line.new.self taken,
+      c.take_line.ensures.ends,
     )
+
+pub take_line-requires-clause-before : goal.take_line-requires-clause-before
+take_line-requires-clause-before c = c.loop-left.invariant.2
 
 pub take_part-requires-clause-some : goal.take_part-requires-clause-some
 take_part-requires-clause-some c =
@@ -61,6 +65,7 @@ loop-left-preserved-then-is_in_line c =
       part_went c.loop-left.left n s c.take_part.new.self _ within taken c.loop-left.invariant.0,
       c.loop-left.invariant.1
           ∙ width_kept n s c.take_part.new.self taken,
+      tt,
     )
 
 pub loop-left-preserved : goal.loop-left-preserved
@@ -70,6 +75,7 @@ loop-left-preserved c =
       dot_went c.loop-left.left s c.take_dot.new.self _ (omega arith) taken c.loop-left.invariant.0,
       c.loop-left.invariant.1
           ∙ width_kept_dot s c.take_dot.new.self taken,
+      tt,
     )
 
 pub returns : goal.returns

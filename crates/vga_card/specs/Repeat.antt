@@ -1,0 +1,31 @@
+-- Rows that are copied: what a line shows that has the memory of the line before it.
+use Rattle.std.specs.Prelude.{◌≡◌, ◌<◌, ℕ, ◌-◌, true, List, ◌++◌, length, drop, map}
+use Rattle.vga_host.specs.Fields.{is_graphics}
+use Rattle.vga_crtc.specs.declared.beam.Beam.{Beam}
+use Rattle.vga_dots.specs.Display.{DisplayState}
+use Rattle.vga_dots.specs.Repeat.{IsSameFetch}
+use Rattle.vga_card.specs.Picture.{Dot}
+use Rattle.vga_card.specs.Line.{line_dots}
+
+-- a dot of the same colour on another line
+abbrev pub on_line : ℕ → Dot → Dot
+on_line v dot = record { line = v; colour = dot.colour }
+
+-- the last n of some dots, on another line
+abbrev pub last_on_line : ℕ → ℕ → List Dot → List Dot
+last_on_line v n dots = map (on_line v) (drop (length dots - n) dots)
+
+-- the display with another beam
+abbrev pub with_beam : DisplayState → Beam → DisplayState
+with_beam d b = record d { crtc = record d.crtc { beam = b } }
+
+-- some dots end with those of the whole line that has this beam
+pub record EndsWithLine (d : DisplayState) (dots : List Dot) (b : Beam) : Type 0 where
+  pub front : List Dot
+  pub whole : dots ≡ front ++ line_dots (with_beam d b)
+
+-- the beam's line shows in graphics what an earlier line of the frame showed, which has this beam
+pub record ShowsAgain (d : DisplayState) (b : Beam) : Type 0 where
+  pub graphics : is_graphics d.host ≡ true
+  pub fetch : IsSameFetch b d.crtc.beam
+  pub later : b.line < d.crtc.beam.line

@@ -1,0 +1,54 @@
+//! Rows that are copied: it serves speed alone, since a row can be drawn again.
+ghost use Rattle.std.specs.Prelude.{◌≡◌, ◌+◌, ◌-◌, ◌*◌, ◌<◌, ◌≤◌, ◌++◌, length, take, drop};
+ghost use Rattle.std.specs.Prelude.{vec_capacity};
+ghost use Rattle.vga_card.specs.Picture.{widest, highest};
+ghost use Rattle.vga_card.specs.Repeat.{last_on_line};
+
+use super::{Canvas, lengthen};
+
+/// Copies the last `len` of the first `used` bytes over those behind them.
+fn copy_last(bytes: &mut [u8], used: usize, len: usize)
+    requires few { len ≤ used }
+    requires room { used + len ≤ length bytes.old }
+    ensures len { length bytes.new ≡ length bytes.old }
+    ensures copied { take (used + len) bytes.new ≡ take used bytes.old
+        ++ drop (used - len) (take used bytes.old) }
+{
+    let (front, back) = bytes.split_at_mut(used);
+    back[..len].copy_from_slice(&front[used - len..]);
+}
+
+/// Puts the last `len` of the first `used` bytes of a buffer behind them once more. The buffer has
+/// memory for that.
+fn put_again(buffer: &mut Vec<u8>, used: usize, len: usize)
+    requires used { used ≤ length buffer.old.items }
+    requires few { len ≤ used }
+    requires room { used + len ≤ vec_capacity buffer.old }
+    ensures copied { take (used + len) buffer.new.items ≡ take used buffer.old.items
+        ++ drop (used - len) (take used buffer.old.items) }
+    ensures len { used + len ≤ length buffer.new.items }
+    ensures capacity { vec_capacity buffer.old ≤ vec_capacity buffer.new }
+{
+    lengthen(buffer, used + len);
+    copy_last(buffer.as_mut_slice(), used, len);
+}
+
+impl Canvas {
+    /// Adds the last `count` dots once more, on another line: the last one or one after it. A line
+    /// is below 1,024 and has at most 2,304 dots.
+    pub(crate) fn repeat(&mut self, line: u16, count: usize)
+        requires all { count ≤ length self.old.dots }
+        requires lines { line < highest }
+        requires after { self.old.line ≤ line }
+        requires few { count ≤ widest }
+        requires room { line ≡ self.old.line → self.old.width + count ≤ widest }
+        ensures dots { self.new.dots ≡ self.old.dots ++ last_on_line line count self.old.dots }
+        ensures line { self.new.line ≡ line }
+    {
+        put_again(&mut self.buffer, self.used, 3 * count);
+        self.used += 3 * count;
+        let width = &mut self.widths[line as usize];
+        *width += count as u32;
+        self.line = line;
+    }
+}

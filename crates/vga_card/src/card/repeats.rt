@@ -1,0 +1,61 @@
+//! Rows that are copied from the line before: it serves speed alone, since `draw_row` can draw them
+//! all. In graphics the lines of one row of characters, and the two of a doubled line, have the
+//! same dots.
+ghost use Rattle.std.specs.Prelude.{◌≡◌, ◌<◌, ◌≤◌, ◌++◌, true, IfSome};
+ghost use Rattle.vga_crtc.specs.Raster.{IsLineStart};
+ghost use Rattle.vga_card.specs.Line.{line_dots};
+ghost use Rattle.vga_card.specs.Repeat.{EndsWithLine, ShowsAgain};
+ghost use Rattle.vga_card.specs.Valid.{IsDrawnTo};
+
+use super::dots::draw_row;
+use crate::canvas::Canvas;
+use vga_crtc::Beam;
+use vga_dots::laws::graphics_lines_repeat;
+use vga_dots::{Display, shown_characters};
+
+/// Whether the beam's line shows in graphics what an earlier line of the frame showed, whose beam
+/// was `before`.
+fn shows_again(display: &Display<'_>, before: Beam) -> bool
+    ensures { result ≡ true → ShowsAgain display.now before }
+{
+    let beam = display.beam();
+    display.host().is_graphics()
+        && before.base == beam.base
+        && before.split == beam.split
+        && before.line < beam.line
+}
+
+/// Adds the display dots of the beam's line, the start of whose frame is taken: a copy of the dots
+/// added last, which are those of a line with the beam `before` and show the same.
+fn copy_row(display: &Display<'_>, canvas: &mut Canvas, before: Beam)
+    requires place { IsDrawnTo display.now.crtc.beam 0 canvas.old.line canvas.old.width }
+    requires start { IsLineStart display.now.crtc.beam }
+    requires again { ShowsAgain display.now before }
+    requires ends { EndsWithLine display.now canvas.old.dots before }
+    ensures dots { canvas.new.dots ≡ canvas.old.dots ++ line_dots display.now }
+    ensures below { canvas.new.line ≤ display.now.crtc.beam.line }
+{
+    graphics_lines_repeat();
+    let crtc = display.crtc();
+    if crtc.is_display() {
+        let width = display.host().character_width() as usize;
+        let count = shown_characters(crtc.fields()) as usize;
+        canvas.repeat(display.beam().line, count * width);
+    }
+}
+
+/// Adds the display dots of the beam's line, the start of whose frame is taken: by a copy, where
+/// the dots added last are those of a whole line that shows the same, whose beam was `before`.
+pub(super) fn add_row(display: &Display<'_>, canvas: &mut Canvas, before: Option<Beam>)
+    requires place { IsDrawnTo display.now.crtc.beam 0 canvas.old.line canvas.old.width }
+    requires start { IsLineStart display.now.crtc.beam }
+    requires before { IfSome before (λ b. b.line < display.now.crtc.beam.line →
+        EndsWithLine display.now canvas.old.dots b) }
+    ensures dots { canvas.new.dots ≡ canvas.old.dots ++ line_dots display.now }
+    ensures below { canvas.new.line ≤ display.now.crtc.beam.line }
+{
+    match before {
+        Some(before) if shows_again(display, before) => copy_row(display, canvas, before),
+        _ => draw_row(display, canvas),
+    }
+}
