@@ -17,7 +17,7 @@ use Rattle.vga_dots.specs.Graphics.{planar_nibble, packed_byte}
 use Rattle.vga_dots.specs.Colour.{dot_colour, colour_number, nibble}
 use Rattle.vga_dots.specs.Row.{dot_in, AreDotsPut, AreCharactersPut}
 use Rattle.vga_dots.specs.Display.{DisplayState}
-use Rattle.vga_dots.specs.Line.{placed, masked, shade, dot_of, source_colour, placed_at, unpanned_colour, IsLineDrawn, IsPartDrawn}
+use Rattle.vga_dots.specs.Line.{placed, masked, shade, dot_of, source_colour, unpanned_colour, IsLineDrawn, IsPartDrawn}
 use Rattle.vga_dots.proofs.RowLemmas.{dot_byte}
 
 -- a choice of numbers is one of colours

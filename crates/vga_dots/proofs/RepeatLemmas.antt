@@ -1,5 +1,5 @@
 -- In graphics a dot's colour tells nothing of the scan line.
-use Rattle.std.proofs.Common.{◌≡◌, ℕ, ◌+◌, sym, ap, ◌∙◌, Bool, true, List, [], ◌∷◌}
+use Rattle.std.proofs.Common.{◌≡◌, ℕ, sym, ap, ◌∙◌, Bool, true, [], ◌∷◌}
 use Rattle.std.specs.Prelude.{not, if◌then◌else◌, bit_and}
 use Rattle.vga_host.specs.Host.{HostState}
 use Rattle.vga_host.specs.Fields.{is_screen_off, is_graphics, is_256_colours}

@@ -1,4 +1,4 @@
-use Rattle.std.proofs.Common.{◌≡◌, ℕ, ◌-◌, ◌*◌, ◌<◌, ◌≤◌, ◌++◌, List, length, take, drop, replicate, sym, ap, ◌∙◌, arith}
+use Rattle.std.proofs.Common.{◌≡◌, ℕ, ◌-◌, ◌*◌, ◌<◌, ◌≤◌, ◌++◌, List, length, take, drop, ap, ◌∙◌, arith}
 use Rattle.std.proofs.lemmas.List.{get_or_read, length-take, length-drop}
 use Rattle.vga_card.specs.Picture.{Dot, lines_from}
 use Rattle.vga_card.specs.Canvas.{CanvasState, dots_from}
@@ -20,7 +20,8 @@ put_again-requires-clause-room c =
     let bytes = take a.used a.buffer.items in
     let n = c.args.count in
     let room = line_shown _ _ a.widths.items a.line c.args.line n c.self.view_is c.requires.lines c.requires.after c.requires.few c.requires.room in
-    omega (arith, bytes_fit a.buffer.cap bytes a.widths.items a.line c.args.line n c.self.invariant.1 room, length-take a.used a.buffer.items, c.self.invariant.0)
+    let fit = bytes_fit a.buffer.cap bytes a.widths.items a.line c.args.line n c.self.invariant.1 room in
+    omega (arith, fit, length-take a.used a.buffer.items, c.self.invariant.0)
 
 pub overflow_add-width : goal.overflow_add-width
 overflow_add-width c =

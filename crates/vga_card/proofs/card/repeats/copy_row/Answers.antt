@@ -1,14 +1,11 @@
-use Rattle.std.proofs.Common.{◌≡◌, ℕ, ◌*◌, ◌≤◌, ◌++◌, refl, sym, ap, subst, ◌∙◌, true, List, length}
+use Rattle.std.proofs.Common.{◌≡◌, ℕ, ◌*◌, ◌++◌, refl, sym, ap, subst, ◌∙◌, true, List}
 use Rattle.std.proofs.lemmas.List.{append-nil}
-use Rattle.vga_host.specs.Host.{HostState}
 use Rattle.vga_host.specs.Fields.{character_width as host_width}
 use Rattle.vga_crtc.specs.declared.beam.Beam.{Beam}
 use Rattle.vga_crtc.specs.Crtc.{CrtcState}
-use Rattle.vga_crtc.specs.Fields.{vertical_display_end}
 use Rattle.vga_crtc.specs.Status.{is_display}
 use Rattle.vga_dots.specs.Line.{shown_characters}
 use Rattle.vga_card.specs.Picture.{Dot}
-use Rattle.vga_card.specs.Line.{line_dots}
 use Rattle.vga_card.specs.Repeat.{last_on_line}
 use Rattle.vga_card.proofs.FrameLemmas.{wide}
 use Rattle.vga_card.proofs.RowLemmas.{hidden_line, is_hidden, is_shown}
