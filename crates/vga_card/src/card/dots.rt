@@ -183,7 +183,8 @@ impl Card {
         );
     }
 
-    /// Takes so many dots, by whole lines and parts of lines where it can.
+    /// Takes so many dots, by whole lines and parts of lines where it can. A line may be a copy of
+    /// the whole line taken just before it.
     pub(super) fn take_dots(&mut self, n: u32)
         ensures { self.new ≡ dots n self.old }
     {

@@ -1,6 +1,6 @@
 //! Rows that are copied from the line before: it serves speed alone, since `draw_row` can draw them
 //! all. In graphics the lines of one row of characters, and the two of a doubled line, have the
-//! same dots.
+//! same dots, since the profile leaves out the row scan as a bit of the address.
 ghost use Rattle.std.specs.Prelude.{◌≡◌, ◌<◌, ◌≤◌, ◌++◌, true, IfSome};
 ghost use Rattle.vga_crtc.specs.Raster.{IsLineStart};
 ghost use Rattle.vga_card.specs.Line.{line_dots};
