@@ -10,6 +10,7 @@ from contextlib import contextmanager
 from pathlib import Path
 from typing import Callable, Iterator, Optional, Sequence
 
+from vga_library.gated import gated_archive
 from vga_library.making import MOVING, Place, make_library
 from vga_library.toolchain import BACKENDS, kit_archive, proved_archive
 from vga_report.trouble import Trouble
@@ -48,20 +49,31 @@ def _parser() -> argparse.ArgumentParser:
         "--archive", type=Path, metavar="FILE", help="an archive that was built already, in the place of both compilers'"
     )
     parser.add_argument(
+        "--gated", action="store_true", help="over the libraries that `rt ci` left, which must have run just before"
+    )
+    parser.add_argument(
         "--only", action="append", default=[], choices=[*ONCE, *EACH], help="this check alone; again and again"
     )
     return parser
 
 
+def _archive(words: argparse.Namespace, backend: str, kept: Path) -> None:
+    """Lays the archive of a compiler into a file, or the one that is given."""
+    if words.gated:
+        gated_archive(backend, kept)
+    else:
+        # The next compiler's archive takes the place of this one.
+        shutil.copyfile(words.archive or proved_archive(backend), kept)
+
+
 @contextmanager
-def _libraries(archive: Optional[Path]) -> Iterator[list[Built]]:
+def _libraries(words: argparse.Namespace) -> Iterator[list[Built]]:
     """The libraries that are tested, in folders that are there as long as this lasts."""
     with tempfile.TemporaryDirectory(prefix="vga-library-tests-") as name:
         built = []
-        for backend in BACKENDS if archive is None else ["given"]:
+        for backend in BACKENDS if words.archive is None else ["given"]:
             folder, kept = Path(name) / backend, Path(name) / f"{backend}.a"
-            # The next compiler's archive takes the place of this one.
-            shutil.copyfile(archive or proved_archive(backend), kept)
+            _archive(words, backend, kept)
             make_library(kept, kit_archive(), Place(str(folder)), MOVING)
             built.append(Built(backend, folder, kept))
         yield built
@@ -70,7 +82,7 @@ def _libraries(archive: Optional[Path]) -> Iterator[list[Built]]:
 def _run(words: argparse.Namespace) -> None:
     """Makes each check that is wanted, and tells what came of it."""
     wanted = words.only or [*ONCE, *EACH]
-    with _libraries(words.archive) as libraries:
+    with _libraries(words) as libraries:
         for name, check in {**ONCE, **EACH}.items():
             for built in libraries if name in EACH else libraries[:1]:
                 if name not in wanted:

@@ -15,7 +15,7 @@ from library_tests.examples import SIXTEEN, bars, colours_script
 from library_tests.header import LAYOUT, names_in
 from library_tests.programs import expect
 from library_tests.suite import judged
-from vga_library import command
+from vga_library import command, gated
 from vga_library.header import HEADER, TOP, Version, calls_of, version_of, without_comments
 from vga_library.making import Place, package_text
 from vga_report.trouble import Trouble
@@ -74,6 +74,19 @@ class Places(unittest.TestCase):
             with self.subTest(words), contextlib.redirect_stderr(said):
                 self.assertEqual(command.main(words), command.TROUBLE)
             self.assertTrue(said.getvalue().startswith("vga-library: "))
+
+
+class Gated(unittest.TestCase):
+    def test_crates_below_stand_lowest_first(self) -> None:
+        below = gated.below("vga_c")
+        self.assertEqual(below[0], "vga_bits")
+        self.assertEqual(len(below), len(set(below)))
+        for place, name in enumerate(below):
+            self.assertLessEqual(set(gated.below(name)), set(below[:place]), name)
+
+    def test_what_the_gate_has_not_left(self) -> None:
+        with mock.patch.object(gated, "TOP", Path("nowhere")), self.assertRaises(Trouble):
+            gated.rlib("vga_bits")
 
 
 class Page(unittest.TestCase):

@@ -1,0 +1,70 @@
+"""The crate's archive right behind the gate, over the libraries that `rt ci` proved and built.
+
+`rt lib` does not take these, and would prove all crates once more. So its call of the compiler is made here, over them; the
+crate itself is proved again. It is right as long as no source changed since `rt ci` ran.
+"""
+
+from __future__ import annotations
+
+import os
+from functools import cache
+from pathlib import Path
+
+from vga_report.trouble import Trouble
+
+from .header import TOP
+from .toolchain import CRATE, run
+
+# What every crate stands on, unnamed.
+ALWAYS = "std"
+
+
+@cache
+def uses() -> dict[str, list[str]]:
+    """What each crate of the repository uses, by `crates.txt`."""
+    lines = [line for line in (TOP / "crates.txt").read_text("ascii").splitlines() if line and not line.startswith("#")]
+    return {line.partition(":")[0].split()[0]: line.partition(":")[2].split() for line in lines}
+
+
+def below(name: str) -> list[str]:
+    """The repository's crates below one, lowest first, each once."""
+    found: dict[str, None] = {}
+    for lower in uses()[name]:
+        if lower in uses():
+            found.update(dict.fromkeys([*below(lower), lower]))
+    return list(found)
+
+
+def rlib(name: str) -> Path:
+    """The library that `rt ci` built of a crate."""
+    path = TOP / "crates" / name / "out" / "rlib" / f"{name}.rlib"
+    if not path.exists():
+        raise Trouble("it is not there: run rt ci first", str(path))
+    return path
+
+
+def _libraries(kit: Path) -> list[str | Path]:
+    """The words that name the libraries of the kit and of the repository."""
+    own = below(CRATE.name)
+    given = [name for name in uses()[CRATE.name] if name not in uses()]
+    words: list[str | Path] = []
+    for name in [ALWAYS, *given]:
+        words += ["--extern", f"{name}={kit / 'rlibs' / name}.rlib"]
+    words += ["-L", f"dependency={kit / 'rlibs'}"]
+    for name in own:
+        if name in uses()[CRATE.name]:
+            words += ["--extern", f"{name}={rlib(name)}"]
+    for name in own:
+        words += ["-L", f"dependency={rlib(name).parent}"]
+    return words
+
+
+def gated_archive(backend: str, made: Path) -> Path:
+    """Builds the archive by one of the two compilers into a file."""
+    kit = Path(run(["rt", "doc"]).strip()).parent
+    words = [kit / "bin" / "rattle", "build", "--crate-name", CRATE.name, "src/lib.rt", *_libraries(kit)]
+    words += ["--antt-project", kit / "rattle" / "logic" / "antt-project.json", "--logic-built", kit / "logic_built"]
+    words += ["--links", f"{CRATE.name}=", "--crate-type", "staticlib", "--jobs", str(min(4, os.cpu_count() or 1))]
+    words += ["--toolchain", kit / "toolchain", "--backend", backend, "-o", made]
+    run(words, CRATE)
+    return made
