@@ -30,6 +30,7 @@ extern "C" {
  * status is no longer what it was; the minor one grows when some are added. */
 #define ZAK_API_MAJOR 1
 #define ZAK_API_MINOR 0
+#define ZAK_API_VERSION (65536u * ZAK_API_MAJOR + ZAK_API_MINOR) /* as zak_version() tells it */
 
 /* What a call answers. 1 to 13 are the refusals E1 to E13 of docs/REPORT.md; 102 and up are the
  * faults of zak_run, 100 more than their numbers F2 to F11 there. */
@@ -100,7 +101,8 @@ zak_status zak_open(zak_card *card, const uint8_t *fonts, size_t fonts_len);
 zak_status zak_close(zak_card *card);
 
 /* Cycles of a byte, and of a word: the low byte at the port or the address, the high one at the
- * next. An address is one of the processor's, 0xA0000 to 0xBFFFF. Refused with E1 and E2. */
+ * next. An address is one of the processor's, 0xA0000 to 0xBFFFF; the registers say which of them
+ * the adapter decodes. Refused with ZAK_NOT_DECODED and ZAK_NOT_IN_PROFILE. */
 zak_status zak_out(zak_card *card, uint16_t port, uint8_t value);
 zak_status zak_out_word(zak_card *card, uint16_t port, uint16_t value);
 zak_status zak_in(zak_card *card, uint16_t port, uint8_t *value);
@@ -110,8 +112,8 @@ zak_status zak_put_word(zak_card *card, uint32_t address, uint16_t value);
 zak_status zak_get(zak_card *card, uint32_t address, uint8_t *value);
 zak_status zak_get_word(zak_card *card, uint32_t address, uint16_t *value);
 
-/* So many dots of the clock, 0 to ZAK_MOST_DOTS; more are refused with E12. Dots may be added up
- * until the next other call: n and then m dots are n + m dots. */
+/* So many dots of the clock, 0 to ZAK_MOST_DOTS; more are refused with ZAK_TOO_FAR. Dots may be
+ * added up until the next other call: n and then m dots are n + m dots. */
 zak_status zak_advance(zak_card *card, uint32_t dots);
 
 typedef struct zak_size { uint32_t width, height; } zak_size; /* dots in a row, and rows */
@@ -140,15 +142,16 @@ typedef struct zak_regs { uint16_t ax, bx, cx, dx; } zak_regs;
 /* Interrupt 10 (hexadecimal), with the registers of the processor, which are afterwards what it
  * answers. block: what the caller's memory has at ES:BP or ES:DX, for functions that read some.
  * table: room for what a function writes there, at most ZAK_MOST_TABLE bytes; *table_len tells how
- * many. Refused with E3 to E11 and E13. ZAK_NO_ROOM: the service is done, *regs and *table_len are
- * written, and the table is not. */
+ * many. Refused with ZAK_NO_MODE to ZAK_BAD_BLOCK, and ZAK_BAD_HEIGHT. ZAK_NO_ROOM: the service is
+ * done, *regs and *table_len are written, and the table is not. */
 zak_status zak_int10(zak_card *card, zak_regs *regs, const uint8_t *block, size_t block_len,
                      uint8_t *table, size_t table_cap, size_t *table_len);
 
 /* The state as the text of the script's step `show` (docs/REPORT.md), with a newline and no 0
  * behind it. ZAK_MOST_TEXT bytes are always enough; with ZAK_NO_ROOM *text_len tells how many it
- * takes. zak_show_cells is refused with E3 and E6. zak_show_plane shows count bytes, 1 to 256, of
- * plane 0 to 3 from an offset on, to the plane's end at most; else it answers ZAK_BAD_ARGUMENT. */
+ * takes. zak_show_cells is refused with ZAK_NO_MODE and ZAK_WRONG_KIND. zak_show_plane shows count
+ * bytes, 1 to 256, of plane 0 to 3 from an offset on, to the plane's end at most; else it answers
+ * ZAK_BAD_ARGUMENT. */
 zak_status zak_show_regs(zak_card *card, uint8_t *text, size_t text_cap, size_t *text_len);
 zak_status zak_show_beam(zak_card *card, uint8_t *text, size_t text_cap, size_t *text_len);
 zak_status zak_show_latches(zak_card *card, uint8_t *text, size_t text_cap, size_t *text_len);

@@ -380,7 +380,7 @@ int main(int argc, char **argv)
     if (!file || fread(fonts, 1, sizeof fonts, file) != sizeof fonts)
         return 2;
     fclose(file);
-    SHOW(zak_version() == 65536u * ZAK_API_MAJOR + ZAK_API_MINOR);
+    SHOW(zak_version() == ZAK_API_VERSION);
     cycles_of_closed();
     calls_of_closed();
     reads_of_closed();
