@@ -25,7 +25,8 @@ BLOCKS = b"VGAS\x02"
 MOST_BYTES = 16_777_216
 MOST_DOTS = 16_777_216
 FRAMES = 200
-MODES = (0x03, 0x07, 0x0D, 0x10, 0x12, 0x13)
+TEXT_MODES = (0x03, 0x07)
+GRAPHICS_MODES = (0x0D, 0x10, 0x12, 0x13)
 
 
 def out(port, value):
@@ -72,6 +73,13 @@ def puts():
     return "run", HEADER + MEMORY + steps, count + 7, "steps"
 
 
+def gets():
+    """As many reads of display memory as a script may have."""
+    count = (MOST_BYTES - len(HEADER) - len(MEMORY)) // len(get(0))
+    steps = b"".join(get(0xA0000 + i * 7 % 65536) for i in range(count))
+    return "run", HEADER + MEMORY + steps, count + 7, "steps"
+
+
 def cycles():
     """Two million cycles of all kinds, a register write, a port read, a write and a read of memory in turn."""
     turn = out(0x3CF, 0xF0) + inp(0x3CC) + put(0xA1234, 0x5A) + get(0xA1234)
@@ -106,10 +114,20 @@ def byte_frames():
     return frames("byte-screen.vga")
 
 
-def mode_sets():
-    """The six modes in turn, each of which clears its memory."""
-    turn = b"".join(service(ax=mode) for mode in MODES)
-    return "run", HEADER + turn * 200, 1_200, "mode sets"
+def mode_sets(modes, turns):
+    """Modes in turn, each of which clears its memory."""
+    turn = b"".join(service(ax=mode) for mode in modes)
+    return "run", HEADER + turn * turns, len(modes) * turns, "mode sets"
+
+
+def text_mode_sets():
+    """The two modes of text in turn."""
+    return mode_sets(TEXT_MODES, 500)
+
+
+def graphics_mode_sets():
+    """The four modes of graphics in turn."""
+    return mode_sets(GRAPHICS_MODES, 250)
 
 
 def scrolls():
@@ -195,8 +213,8 @@ def printing():
 
 
 SCRIPTS = (
-    puts, cycles, dots, text_frames, planar_frames, byte_frames, text_advances, planar_advances, byte_advances,
-    mode_sets, scrolls, planar_scrolls, byte_scrolls, line_feeds, teletype, teletype_scrolling,
+    puts, gets, cycles, dots, text_frames, planar_frames, byte_frames, text_advances, planar_advances, byte_advances,
+    text_mode_sets, graphics_mode_sets, scrolls, planar_scrolls, byte_scrolls, line_feeds, teletype, teletype_scrolling,
     repeated, repeated_frames, assembling, printing)
 
 
