@@ -10,7 +10,7 @@ from contextlib import contextmanager
 from pathlib import Path
 from typing import Callable, Iterator, Optional, Sequence
 
-from vga_library.gated import gated_archive
+from vga_library.gated import gated_archive, gated_proof
 from vga_library.making import MOVING, Place, make_library
 from vga_library.toolchain import BACKENDS, kit_archive, proved_archive
 from vga_report.trouble import Trouble
@@ -57,13 +57,15 @@ def _parser() -> argparse.ArgumentParser:
     return parser
 
 
-def _archive(words: argparse.Namespace, backend: str, kept: Path) -> None:
-    """Lays the archive of a compiler into a file, or the one that is given."""
+def _archive(words: argparse.Namespace, backend: str, folder: Path) -> Path:
+    """Lays the archive of a compiler, or the one that is given, into a file of the folder."""
+    kept = folder / f"{backend}.a"
     if words.gated:
-        gated_archive(backend, kept)
-    else:
-        # The next compiler's archive takes the place of this one.
-        shutil.copyfile(words.archive or proved_archive(backend), kept)
+        # One proof is enough for both compilers.
+        proof = folder / "proof"
+        return gated_archive(backend, proof if proof.exists() else gated_proof(proof), kept)
+    # The next compiler's archive takes the place of this one.
+    return Path(shutil.copyfile(words.archive or proved_archive(backend), kept))
 
 
 @contextmanager
@@ -72,8 +74,7 @@ def _libraries(words: argparse.Namespace) -> Iterator[list[Built]]:
     with tempfile.TemporaryDirectory(prefix="vga-library-tests-") as name:
         built = []
         for backend in BACKENDS if words.archive is None else ["given"]:
-            folder, kept = Path(name) / backend, Path(name) / f"{backend}.a"
-            _archive(words, backend, kept)
+            folder, kept = Path(name) / backend, _archive(words, backend, Path(name))
             make_library(kept, kit_archive(), Place(str(folder)), MOVING)
             built.append(Built(backend, folder, kept))
         yield built

@@ -1,7 +1,8 @@
 """The crate's archive right behind the gate, over the libraries that `rt ci` proved and built.
 
-`rt lib` does not take these, and would prove all crates once more. So its call of the compiler is made here, over them; the
-crate itself is proved again. It is right as long as no source changed since `rt ci` ran.
+`rt lib` does not take these, and would prove all crates once more. So its calls of the compiler are made here, over them: the
+crate itself is proved again, once, and each compiler builds what that proved. It is right as long as no source changed since
+`rt ci` ran.
 """
 
 from __future__ import annotations
@@ -59,12 +60,29 @@ def _libraries(kit: Path) -> list[str | Path]:
     return words
 
 
-def gated_archive(backend: str, made: Path) -> Path:
-    """Builds the archive by one of the two compilers into a file."""
-    kit = Path(run(["rt", "doc"]).strip()).parent
-    words = [kit / "bin" / "rattle", "build", "--crate-name", CRATE.name, "src/lib.rt", *_libraries(kit)]
-    words += ["--antt-project", kit / "rattle" / "logic" / "antt-project.json", "--logic-built", kit / "logic_built"]
-    words += ["--links", f"{CRATE.name}=", "--crate-type", "staticlib", "--jobs", str(min(4, os.cpu_count() or 1))]
-    words += ["--toolchain", kit / "toolchain", "--backend", backend, "-o", made]
-    run(words, CRATE)
+def _kit() -> Path:
+    """The kit's folder."""
+    return Path(run(["rt", "doc"]).strip()).parent
+
+
+def _words(kit: Path) -> list[str | Path]:
+    """What the compiler is told of the crate, whatever it is to do."""
+    words = ["--crate-name", CRATE.name, "src/lib.rt", *_libraries(kit)]
+    words += ["--antt-project", kit / "rattle" / "logic" / "antt-project.json"]
+    return [*words, "--links", f"{CRATE.name}=", "--crate-type", "staticlib"]
+
+
+def gated_proof(made: Path) -> Path:
+    """Proves the crate, and keeps in a folder what the compilers build it from."""
+    kit = _kit()
+    words = [*_words(kit), "--logic-built", kit / "logic_built", "--jobs", str(min(4, os.cpu_count() or 1))]
+    run([kit / "bin" / "rattle", "check", *words, "-o", made], CRATE)
+    return made
+
+
+def gated_archive(backend: str, proof: Path, made: Path) -> Path:
+    """Builds the archive, of which a folder keeps the proof, by one of the two compilers into a file."""
+    kit = _kit()
+    words = [*_words(kit), "--crate-checked", proof, "--toolchain", kit / "toolchain", "--backend", backend]
+    run([kit / "bin" / "rattle", "build", *words, "-o", made], CRATE)
     return made
