@@ -1,4 +1,5 @@
 pub mod PlainLemmas
 pub mod WordLemmas
 pub mod RunLemmas
+pub mod FillLemmas
 pub mod SavedLemmas

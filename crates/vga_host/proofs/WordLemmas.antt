@@ -23,7 +23,7 @@ use Rattle.vga_host.proofs.PlainLemmas.{plain_bit, latched_bit}
 -- ---- one move
 
 -- a plane of two that agree wherever it is written
-plane_is : (d e : Bool) (l : List ℕ) (b c v x : ℕ) → d ≡ e → b ≡ c → (e ≡ true → v ≡ x) →
+pub plane_is : (d e : Bool) (l : List ℕ) (b c v x : ℕ) → d ≡ e → b ≡ c → (e ≡ true → v ≡ x) →
     (if d then slice_set l b v else l) ≡ (if e then slice_set l c x else l)
 plane_is d true l b c v x same at value = λ j. if same j then slice_set l (at j) (value refl j) else l
 plane_is d false l b c v x same at value = λ j. if same j then slice_set l b v else l
@@ -96,7 +96,7 @@ plane_moved h misc x y a b k reach lk plain compare dx dy ea eb picked reached o
 
 -- ---- moves one after another
 
-and_turned : (d e : Bool) → (d && e) ≡ (e && d)
+pub and_turned : (d e : Bool) → (d && e) ≡ (e && d)
 and_turned true true = refl
 and_turned true false = refl
 and_turned false true = refl
@@ -114,7 +114,7 @@ left_true : (d e : Bool) → (d && e) ≡ true → d ≡ true
 left_true true e both = refl
 left_true false e both = absurd (cc)
 
-alone_is : (h : HostState) (k p : ℕ) → plane_alone h k p ≡ true → p ≡ k
+pub alone_is : (h : HostState) (k p : ℕ) → plane_alone h k p ≡ true → p ≡ k
 alone_is h k p both = let one : (p == k) ≡ true = left_true (p == k) (is_in_map_mask h p) both in grind (arith, nat_tests)
 
 -- a byte stays where a plane gets at one offset what it has at another
@@ -128,22 +128,22 @@ byte_stays true l a b =
         ∙ ap (λ x. slice_index x a) (set-get_or l a 0)
     eq_elim false is = let other : a ≢ b = grind (arith, nat_tests) in get_or-set_other l b a (slice_index l a) 0 other
 
-in_four : (a j : ℕ) → a % 4 ≡ 0 → j < 4 → (a + j) / 4 * 4 ≡ a
+pub in_four : (a j : ℕ) → a % 4 ≡ 0 → j < 4 → (a + j) / 4 * 4 ≡ a
 in_four a j even less = omega (arith, even, less)
 
-of_four : (a j : ℕ) → a % 4 ≡ 0 → j < 4 → (a + j) % 4 ≡ j
+pub of_four : (a j : ℕ) → a % 4 ≡ 0 → j < 4 → (a + j) % 4 ≡ j
 of_four a j even less = omega (arith, even, less)
 
-in_two : (a j : ℕ) → a % 2 ≡ 0 → j < 2 → (a + j) / 2 * 2 ≡ a
+pub in_two : (a j : ℕ) → a % 2 ≡ 0 → j < 2 → (a + j) / 2 * 2 ≡ a
 in_two a j even less = omega (arith, even, less)
 
-of_two : (a j : ℕ) → a % 2 ≡ 0 → j < 2 → (a + j) % 2 ≡ j
+pub of_two : (a j : ℕ) → a % 2 ≡ 0 → j < 2 → (a + j) % 2 ≡ j
 of_two a j even less = omega (arith, even, less)
 
 from_zero : (m j : ℕ) → m ≡ j → 0 + m ≡ j
 from_zero m j is = omega (arith, is)
 
-next_place : (f i j : ℕ) → (f + i) % 4 ≡ 0 → j < 4 → (f + (i + j)) % 65536 ≡ (f + i) % 65536 + j
+pub next_place : (f i j : ℕ) → (f + i) % 4 ≡ 0 → j < 4 → (f + (i + j)) % 65536 ≡ (f + i) % 65536 + j
 next_place f i j even less = omega (arith, even, less)
 
 -- in a chain of four, the byte of place j of four moves alone

@@ -1,6 +1,7 @@
 -- Runs of writes: a byte to each of some addresses that follow one another, in ascending order.
 -- From the IBM PS/2 Hardware Interface Technical Reference, Video Subsystems: no write to memory
 -- changes a register or a latch.
+use Rattle.std.specs.Prelude.{List}
 use Rattle.std.specs.Prelude.{ℕ, zero, suc, ◌≡◌, ◌+◌, ◌%◌, ◌==◌}
 use Rattle.std.specs.Prelude.{true, if◌then◌else◌, slice_set}
 use Rattle.vga_bits.specs.Bits.{is_set}
@@ -13,6 +14,10 @@ use Rattle.vga_host.specs.Address.{is_decoded, window_start, window_len, window_
 use Rattle.vga_host.specs.Address.{plane_offset, is_reached}
 use Rattle.vga_host.specs.MemoryWrite.{after_put, IsPlain}
 use Rattle.vga_host.specs.MemoryRead.{read_byte, after_get}
+
+-- the host path over other memory
+abbrev pub with_memory : HostState → Four (List ℕ) → HostState
+with_memory h m = record h { memory = m }
 
 -- a write to any address: one that is not decoded changes nothing
 abbrev pub put_where : HostState → ℕ → ℕ → ℕ → HostState

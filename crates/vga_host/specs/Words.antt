@@ -11,8 +11,8 @@ use Rattle.vga_host.specs.Fields.{is_in_map_mask, is_odd_even_off, is_chain_four
 use Rattle.vga_host.specs.Fields.{is_chain_odd_even, is_odd_even_read, is_read_compare}
 use Rattle.vga_host.specs.Fields.{read_map_pair}
 use Rattle.vga_host.specs.Address.{is_decoded, window_offset}
-use Rattle.vga_host.specs.MemoryWrite.{IsPlain}
-use Rattle.vga_host.specs.Runs.{after_moves}
+use Rattle.vga_host.specs.MemoryWrite.{written_byte, IsPlain}
+use Rattle.vga_host.specs.Runs.{after_moves, after_puts, in_turn}
 
 -- a word of the planes is copied from one offset to another, in the planes told, and the latches
 -- are loaded with it
@@ -76,3 +76,60 @@ pub record MovesWords (per : ℕ) (h : HostState) (misc from to n f t : ℕ) : T
       → (let s : HostState = record h { memory = m; latches = l } in
       after_moves misc from to per i s
       ≡ word_moved s (is_in_map_mask h) ((f + i) % 65536) ((t + i) % 65536))
+
+-- ---- fills
+
+-- planes, those told, get the bytes of a word at an offset
+abbrev pub word_put : HostState → (ℕ → Bool) → ℕ → Four ℕ → HostState
+word_put h reach b w = record h {
+  memory = four (λ p. if reach p
+      then slice_set (of_plane h.memory p) b (of_plane w p) else of_plane h.memory p);
+}
+
+-- the bytes of two in turn: planes 0 and 2 of the one, and 1 and 3 of the other
+abbrev pub alternating : Four ℕ → Four ℕ → Four ℕ
+alternating even odd = record {
+  plane0 = even.plane0;
+  plane1 = odd.plane1;
+  plane2 = even.plane2;
+  plane3 = odd.plane3;
+}
+
+-- the word that two bytes in turn make
+abbrev pub written_in_turn : HostState → ℕ → ℕ → Four ℕ
+written_in_turn h even odd = alternating (four (λ p. written_byte h even p))
+    (four (λ p. written_byte h odd p))
+
+-- n writes are decoded, and have their places in the window one after another, from f on
+pub record ArePutWithin (h : HostState) (misc first n f : ℕ) : Type 0 where
+  pub written : (k : ℕ) → k < n → is_decoded h misc (first + k) ≡ true
+  pub place : (k : ℕ) → k < n → window_offset h (first + k) ≡ (f + k) % 65536
+
+-- no bit of an address picks a plane
+pub record FillsPlanes (h : HostState) : Type 0 where
+  pub chain : is_chain_four h ≡ false
+  pub pairs : is_chain_odd_even h ≡ false
+  pub off : is_odd_even_off h ≡ true
+
+-- the two low bits of an address pick the plane, and writes begin at the first of four places
+pub record FillsFours (h : HostState) (f : ℕ) : Type 0 where
+  pub chain : is_chain_four h ≡ true
+  pub place : f % 4 ≡ 0
+
+-- the lowest bit of an address picks planes, and writes begin at an even place
+pub record FillsPairs (h : HostState) (f : ℕ) : Type 0 where
+  pub chain : is_chain_four h ≡ false
+  pub pairs : is_chain_odd_even h ≡ true
+  pub off : is_odd_even_off h ≡ false
+  pub place : f % 2 ≡ 0
+
+-- n writes of two bytes in turn put a word again and again, by so many writes each, whatever memory
+-- holds
+pub record FillsWords (per : ℕ) (h : HostState) (misc first n f even odd : ℕ) (w : Four ℕ)
+    : Type 0 where
+  pub some : 0 < per
+  pub next : (i : ℕ) → i % per ≡ 0 → (i + per) % per ≡ 0
+  pub filled : (m : Four (List ℕ)) (i : ℕ) → i % per ≡ 0 → i + per ≤ n
+      → (let s : HostState = record h { memory = m } in
+      after_puts misc first (in_turn even odd) per i s
+      ≡ word_put s (is_in_map_mask h) ((f + i) % 65536) w)

@@ -250,7 +250,8 @@ impl Host {
         let aim = self.aim(misc);
         let bytes = self.written_aimed(aim, even, misc);
         let others = self.written_aimed(aim, odd, misc);
-        for i in 0..n {
+        let done = self.fill_words(aim, bytes, others, first, n, even, odd, misc);
+        for i in done..n {
             if i % 2 == 0 {
                 self.put_aimed(aim, bytes, first + i, misc);
             } else {

@@ -2,6 +2,7 @@
 use Rattle.std.proofs.Common.{◌∙◌, ap, ◌+◌}
 use Rattle.vga_host.specs.Runs.{put_bytes}
 use Rattle.vga_host.proofs.RunLemmas.{turn_kept, even_in_turn, odd_in_turn}
+use Rattle.vga_host.proofs.FillLemmas.{fill_leaves}
 use Rattle.vga_host.proofs.host.Host.put_in_turn.Goals as goal
 use Rattle.vga_host.proofs.host.Host.put_in_turn.Goals.{then-i-eq0, else-i-eq0}
 
@@ -17,3 +18,9 @@ loop-i-preserved c =
           c.loop-i.i c.args.odd c.loop-i.self c.if-i-eq0.self _ c.loop-i-test.true (odd_in_turn c.args.even c.args.odd c.loop-i.i w.if-i-eq0.false) (w.self-is
           ∙ w.put_aimed-else-i-eq0.ensures ∙ ap (put_bytes c.loop-i.self c.args.misc (c.args.first + c.loop-i.i)) c.loop-i.invariant.2) c.loop-i.invariant
     ]
+
+pub loop-i-init : goal.loop-i-init
+loop-i-init c =
+    fill_leaves c.aim-aim.result c.written_aimed-bytes.result c.written_aimed-others.result c.args.misc c.args.first c.args.even c.args.odd c.args.n
+    c.fill_words-done.result c.args.self.now _ c.aim-aim.ensures.aim c.written_aimed-bytes.ensures c.written_aimed-others.ensures c.fill_words-done.ensures.few
+    c.fill_words-done.ensures.kept c.fill_words-done.ensures.put

@@ -1,0 +1,259 @@
+-- Fills that put words of the planes: one write where no address bit picks a plane; two where odd and even addresses are apart; four in a chain of four.
+use Rattle.std.proofs.Common.{Bool, true, false, ◌≡◌, ℕ, zero, suc, ◌+◌, ◌-◌, ◌*◌, ◌/◌, ◌%◌, ◌<◌, ◌≤◌, ◌==◌, ◌&&◌, ◌||◌, refl, sym, ap, subst, ◌∙◌, arith, List}
+use Rattle.std.proofs.Common.{if◌then◌else◌}
+use Rattle.std.proofs.lemmas.Bool.Decides.{nat_tests}
+use Rattle.vga_bits.proofs.FourLemmas.{by_plane}
+use Rattle.vga_bits.specs.Four.{Four, four, of_plane}
+use Rattle.vga_host.specs.declared.host.runs.Aim.{Aim}
+use Rattle.vga_host.specs.Host.{HostState}
+use Rattle.vga_host.specs.Address.{is_decoded, window_offset, plane_offset, is_reached}
+use Rattle.vga_host.specs.Fields.{is_in_map_mask, is_chain_four, is_chain_odd_even, is_odd_even_off}
+use Rattle.vga_host.specs.MemoryWrite.{written_bit, combined_bit, written_byte, after_put}
+use Rattle.vga_host.specs.Runs.{put_where, after_puts, in_turn, with_memory, IsAim}
+use Rattle.vga_host.specs.Words.{word_put, alternating, ArePutWithin, FillsPlanes, FillsFours, FillsPairs, FillsWords}
+use Rattle.vga_host.proofs.RunLemmas.{even_in_turn, odd_in_turn, Turns}
+use Rattle.vga_host.proofs.WordLemmas.{plane_is, plane_alone, alone_is, and_turned, in_four, of_four, in_two, of_two, next_place, aim_over}
+
+-- ---- one write
+
+-- a write to a decoded address puts a word, where the planes that it reaches get its bytes
+one_put : (h : HostState) (misc y v b : ℕ) (reach : ℕ → Bool) (w : Four ℕ) → is_decoded h misc y ≡ true → plane_offset h (window_offset h y) ≡ b
+    → ((p : ℕ) → p < 4 → is_reached h (window_offset h y) p ≡ reach p) → ((p : ℕ) → p < 4 → reach p ≡ true → written_byte h v p ≡ of_plane w p)
+    → put_where h misc y v ≡ word_put h reach b w
+one_put h misc y v b reach w dy eb reached own =
+    let m = h.memory in
+    let d = window_offset h y in
+    let o = plane_offset h d in
+    let p0 = plane_is (is_reached h d 0) (reach 0) m.plane0 o b (written_byte h v 0) w.plane0 (reached 0 (omega arith)) eb (own 0 (omega arith)) in
+    let p1 = plane_is (is_reached h d 1) (reach 1) m.plane1 o b (written_byte h v 1) w.plane1 (reached 1 (omega arith)) eb (own 1 (omega arith)) in
+    let p2 = plane_is (is_reached h d 2) (reach 2) m.plane2 o b (written_byte h v 2) w.plane2 (reached 2 (omega arith)) eb (own 2 (omega arith)) in
+    let p3 = plane_is (is_reached h d 3) (reach 3) m.plane3 o b (written_byte h v 3) w.plane3 (reached 3 (omega arith)) eb (own 3 (omega arith)) in
+    let after : Four (List ℕ) → HostState = λ n. record h { memory = n } in
+    (λ j. if dy j then after_put h y v else h) ∙ (λ j. after (record { plane0 = p0 j; plane1 = p1 j; plane2 = p2 j; plane3 = p3 j }))
+
+-- what a write makes does not depend on memory
+written_over : (h : HostState) (m : Four (List ℕ)) (v p : ℕ) → (let s : HostState = record h { memory = m } in written_byte s v p ≡ written_byte h v p)
+unfolding written_bit combined_bit
+written_over h m v p = refl
+
+-- in a chain of four, a write puts its byte in one plane
+put_chained : (s : HostState) (misc y v b j : ℕ) (w : Four ℕ) → j < 4 → is_chain_four s ≡ true → is_decoded s misc y ≡ true
+    → window_offset s y ≡ b + j → b % 4 ≡ 0 → written_byte s v j ≡ of_plane w j → put_where s misc y v ≡ word_put s (plane_alone s j) b w
+put_chained s misc y v b j w less chain dy py eb own =
+    let oy : plane_offset s (window_offset s y) ≡ b =
+    (λ t. if chain t then py t / 4 * 4 else if is_chain_odd_even s then py t / 2 * 2 else py t) ∙ in_four b j eb less in
+    let d : window_offset s y % 4 ≡ j = ap (λ n. n % 4) py ∙ of_four b j eb less in
+    let reached : (p : ℕ) → p < 4 → is_reached s (window_offset s y) p ≡ plane_alone s j p =
+    λ p l. (λ t. is_in_map_mask s p && (if chain t then p == d t else is_odd_even_off s || (p % 2 == window_offset s y % 2)))
+    ∙ and_turned (is_in_map_mask s p) (p == j) in
+    one_put s misc y v b (plane_alone s j) w dy oy reached
+    (λ p l e. let is : p ≡ j = alone_is s j p e in ap (written_byte s v) is ∙ own ∙ ap (of_plane w) (sym is))
+
+-- the planes of odd numbers, or of even ones, that the map mask has
+abbrev pub planes_apart : HostState → ℕ → ℕ → Bool
+planes_apart h k p = (p % 2 == k) && is_in_map_mask h p
+
+apart_is : (d e : Bool) → (d && e) ≡ true → d ≡ true
+apart_is true e both = refl
+apart_is false e both = absurd (cc)
+
+number_is : (a b : ℕ) → (a == b) ≡ true → a ≡ b
+number_is a b is = grind (arith, nat_tests)
+
+-- where odd and even addresses are apart, a write puts its bytes in two planes
+put_paired : (s : HostState) (misc y v b j : ℕ) (w : Four ℕ) → j < 2 → is_chain_four s ≡ false → is_chain_odd_even s ≡ true → is_odd_even_off s ≡ false
+    → is_decoded s misc y ≡ true → window_offset s y ≡ b + j → b % 2 ≡ 0 → ((p : ℕ) → p < 4 → p % 2 ≡ j → written_byte s v p ≡ of_plane w p)
+    → put_where s misc y v ≡ word_put s (planes_apart s j) b w
+put_paired s misc y v b j w less chain pairs off dy py eb own =
+    let oy : plane_offset s (window_offset s y) ≡ b =
+    (λ t. if chain t then py t / 4 * 4 else if pairs t then py t / 2 * 2 else py t) ∙ in_two b j eb less in
+    let d : window_offset s y % 2 ≡ j = ap (λ n. n % 2) py ∙ of_two b j eb less in
+    let reached : (p : ℕ) → p < 4 → is_reached s (window_offset s y) p ≡ planes_apart s j p =
+    λ p l. (λ t. is_in_map_mask s p && (if chain t then p == window_offset s y % 4 else off t || (p % 2 == d t)))
+    ∙ and_turned (is_in_map_mask s p) (p % 2 == j) in
+    let same : (p : ℕ) → planes_apart s j p ≡ true → p % 2 ≡ j = λ p e. number_is (p % 2) j (apart_is (p % 2 == j) (is_in_map_mask s p) e) in
+    one_put s misc y v b (planes_apart s j) w dy oy reached (λ p l e. own p l (same p e))
+
+-- ---- words
+
+-- in a chain of four, four writes of two bytes in turn put a word
+pub four_filled : (h : HostState) (misc first n f even odd i : ℕ) → ArePutWithin h misc first n f → is_chain_four h ≡ true → f % 4 ≡ 0 → i % 4 ≡ 0 → i + 4 ≤ n
+    → after_puts misc first (in_turn even odd) 4 i h
+    ≡ word_put h (is_in_map_mask h) ((f + i) % 65536) (alternating (four (λ p. written_byte h even p)) (four (λ p. written_byte h odd p)))
+four_filled h misc first n f even odd i within chain ef ei room =
+    let b = (f + i) % 65536 in
+    let w = alternating (four (λ p. written_byte h even p)) (four (λ p. written_byte h odd p)) in
+    let turn = in_turn even odd in
+    let bf : b % 4 ≡ 0 = omega (arith, ef, ei) in
+    let s1 : HostState = word_put h (plane_alone h 0) b w in
+    let s2 : HostState = word_put s1 (plane_alone h 1) b w in
+    let s3 : HostState = word_put s2 (plane_alone h 2) b w in
+    let place : (k j : ℕ) → k ≡ i + j → j < 4 → (f + k) % 65536 ≡ b + j =
+    λ k j e l. ap (λ n. (f + n) % 65536) e ∙ next_place f i j (omega (arith, ef, ei)) l in
+    let l0 : i < n = omega (arith, room) in
+    let l1 : i + 1 < n = omega (arith, room) in
+    let l2 : i + 1 + 1 < n = omega (arith, room) in
+    let l3 : i + 1 + 1 + 1 < n = omega (arith, room) in
+    let v0 : turn i ≡ even = sym (even_in_turn even odd i (omega (arith, ei))) in
+    let v1 : turn (i + 1) ≡ odd = sym (odd_in_turn even odd (i + 1) (λ e. omega (arith, ei, e))) in
+    let v2 : turn (i + 1 + 1) ≡ even = sym (even_in_turn even odd (i + 1 + 1) (omega (arith, ei))) in
+    let v3 : turn (i + 1 + 1 + 1) ≡ odd = sym (odd_in_turn even odd (i + 1 + 1 + 1) (λ e. omega (arith, ei, e))) in
+    let e0 = put_chained h misc (first + i) (turn i) b 0 w (omega arith) chain (within.written i l0)
+    (within.place i l0 ∙ place i 0 (omega arith) (omega arith)) bf (ap (λ v. written_byte h v 0) v0) in
+    let e1 = put_chained s1 misc (first + (i + 1)) (turn (i + 1)) b 1 w (omega arith) chain (within.written (i + 1) l1)
+    (within.place (i + 1) l1 ∙ place (i + 1) 1 (omega arith) (omega arith)) bf (ap (λ v. written_byte s1 v 1) v1 ∙ written_over h s1.memory odd 1) in
+    let e2 = put_chained s2 misc (first + (i + 1 + 1)) (turn (i + 1 + 1)) b 2 w (omega arith) chain (within.written (i + 1 + 1) l2)
+    (within.place (i + 1 + 1) l2 ∙ place (i + 1 + 1) 2 (omega arith) (omega arith)) bf (ap (λ v. written_byte s2 v 2) v2 ∙ written_over h s2.memory even 2) in
+    let e3 = put_chained s3 misc (first + (i + 1 + 1 + 1)) (turn (i + 1 + 1 + 1)) b 3 w (omega arith) chain (within.written (i + 1 + 1 + 1) l3)
+    (within.place (i + 1 + 1 + 1) l3 ∙ place (i + 1 + 1 + 1) 3 (omega arith) (omega arith)) bf (ap (λ v. written_byte s3 v 3) v3
+    ∙ written_over h s3.memory odd 3) in
+    ap (after_puts misc first turn 3 (i + 1)) e0 ∙ ap (after_puts misc first turn 2 (i + 1 + 1)) e1 ∙ ap (after_puts misc first turn 1 (i + 1 + 1 + 1)) e2 ∙ e3
+
+even_plane : (h : HostState) (even odd p : ℕ) → p < 4 → p % 2 ≡ 0
+    → written_byte h even p ≡ of_plane (alternating (four (λ p. written_byte h even p)) (four (λ p. written_byte h odd p))) p
+even_plane h even odd p l is =
+    by_plane (λ p. p % 2 ≡ 0 → written_byte h even p ≡ of_plane (alternating (four (λ p. written_byte h even p)) (four (λ p. written_byte h odd p))) p)
+    (λ e. refl) (λ e. absurd (cc)) (λ e. refl) (λ e. absurd (cc)) p l is
+
+odd_plane : (h : HostState) (even odd p : ℕ) → p < 4 → p % 2 ≡ 1
+    → written_byte h odd p ≡ of_plane (alternating (four (λ p. written_byte h even p)) (four (λ p. written_byte h odd p))) p
+odd_plane h even odd p l is =
+    by_plane (λ p. p % 2 ≡ 1 → written_byte h odd p ≡ of_plane (alternating (four (λ p. written_byte h even p)) (four (λ p. written_byte h odd p))) p)
+    (λ e. absurd (cc)) (λ e. refl) (λ e. absurd (cc)) (λ e. refl) p l is
+
+-- where odd and even addresses are apart, two writes of two bytes in turn put a word
+pub two_filled : (h : HostState) (misc first n f even odd i : ℕ) → ArePutWithin h misc first n f → is_chain_four h ≡ false → is_chain_odd_even h ≡ true
+    → is_odd_even_off h ≡ false → f % 2 ≡ 0 → i % 2 ≡ 0 → i + 2 ≤ n
+    → after_puts misc first (in_turn even odd) 2 i h
+    ≡ word_put h (is_in_map_mask h) ((f + i) % 65536) (alternating (four (λ p. written_byte h even p)) (four (λ p. written_byte h odd p)))
+two_filled h misc first n f even odd i within chain pairs off ef ei room =
+    let b = (f + i) % 65536 in
+    let w = alternating (four (λ p. written_byte h even p)) (four (λ p. written_byte h odd p)) in
+    let turn = in_turn even odd in
+    let bf : b % 2 ≡ 0 = omega (arith, ef, ei) in
+    let s1 : HostState = word_put h (planes_apart h 0) b w in
+    let l0 : i < n = omega (arith, room) in
+    let l1 : i + 1 < n = omega (arith, room) in
+    let v0 : turn i ≡ even = sym (even_in_turn even odd i ei) in
+    let v1 : turn (i + 1) ≡ odd = sym (odd_in_turn even odd (i + 1) (λ e. omega (arith, ei, e))) in
+    let place1 : (f + (i + 1)) % 65536 ≡ b + 1 = omega (arith, ef, ei) in
+    let place0 : (f + i) % 65536 ≡ b + 0 = omega arith in
+    let e0 = put_paired h misc (first + i) (turn i) b 0 w (omega arith) chain pairs off (within.written i l0) (within.place i l0 ∙ place0) bf
+    (λ p l e. ap (λ v. written_byte h v p) v0 ∙ even_plane h even odd p l e) in
+    let e1 = put_paired s1 misc (first + (i + 1)) (turn (i + 1)) b 1 w (omega arith) chain pairs off (within.written (i + 1) l1) (within.place (i + 1) l1
+    ∙ place1) bf
+    (λ p l e. ap (λ v. written_byte s1 v p) v1 ∙ written_over h s1.memory odd p ∙ odd_plane h even odd p l e) in
+    ap (after_puts misc first turn 1 (i + 1)) e0 ∙ e1
+
+-- where no bit of an address picks a plane, a write puts a word
+one_filled : (h : HostState) (misc first n f v i : ℕ) → ArePutWithin h misc first n f → is_chain_four h ≡ false → is_chain_odd_even h ≡ false
+    → is_odd_even_off h ≡ true → i < n → put_where h misc (first + i) v ≡ word_put h (is_in_map_mask h) ((f + i) % 65536) (four (λ p. written_byte h v p))
+one_filled h misc first n f v i within chain pairs off less =
+    let d = window_offset h (first + i) in
+    let offset : plane_offset h d ≡ (f + i) % 65536 = (λ s. if chain s then d / 4 * 4 else if pairs s then d / 2 * 2 else d) ∙ within.place i less in
+    let all : (e : Bool) → (e && true) ≡ e = λ e. and_turned e true in
+    let w = four (λ p. written_byte h v p) in
+    one_put h misc (first + i) v ((f + i) % 65536) (is_in_map_mask h) w (within.written i less) offset
+    (λ p l. (λ s. is_in_map_mask h p && (if chain s then p == d % 4 else off s || (p % 2 == d % 2))) ∙ all (is_in_map_mask h p))
+    (λ p l e. by_plane (λ p. written_byte h v p ≡ of_plane w p) refl refl refl refl p l)
+
+-- ---- runs
+
+put_within : (h : HostState) (m : Four (List ℕ)) (misc first n f : ℕ) → ArePutWithin h misc first n f →
+    (let s : HostState = record h { memory = m } in ArePutWithin s misc first n f)
+put_within h m misc first n f is = record { written = is.written; place = is.place }
+
+-- a word of what the writes make over any memory
+word_over : (h : HostState) (m : Four (List ℕ)) (v : ℕ) → (let s : HostState = record h { memory = m } in
+    four (λ p. written_byte s v p) ≡ four (λ p. written_byte h v p))
+word_over h m v = λ j. four (λ p. written_over h m v p j)
+
+pub four_fills : (h : HostState) (misc first n f even odd : ℕ) → ArePutWithin h misc first n f → FillsFours h f →
+    FillsWords 4 h misc first n f even odd (alternating (four (λ p. written_byte h even p)) (four (λ p. written_byte h odd p)))
+four_fills h misc first n f even odd within is = record {
+  some = omega arith;
+  next = λ i e. omega (arith, e);
+  filled = λ m i e room. let s : HostState = record h { memory = m } in
+      four_filled s misc first n f even odd i (put_within h m misc first n f within) is.chain is.place e room
+      ∙ (λ j. word_put s (is_in_map_mask h) ((f + i) % 65536) (alternating (word_over h m even j) (word_over h m odd j)));
+}
+
+pub pair_fills : (h : HostState) (misc first n f even odd : ℕ) → ArePutWithin h misc first n f → FillsPairs h f →
+    FillsWords 2 h misc first n f even odd (alternating (four (λ p. written_byte h even p)) (four (λ p. written_byte h odd p)))
+pair_fills h misc first n f even odd within is = record {
+  some = omega arith;
+  next = λ i e. omega (arith, e);
+  filled = λ m i e room. let s : HostState = record h { memory = m } in
+      two_filled s misc first n f even odd i (put_within h m misc first n f within) is.chain is.pairs is.off is.place e room
+      ∙ (λ j. word_put s (is_in_map_mask h) ((f + i) % 65536) (alternating (word_over h m even j) (word_over h m odd j)));
+}
+
+same_turn : (v i : ℕ) (d : Bool) → (if d then v else v) ≡ v
+same_turn v i true = refl
+same_turn v i false = refl
+
+pub plane_fills : (h : HostState) (misc first n f v : ℕ) → ArePutWithin h misc first n f → FillsPlanes h →
+    FillsWords 1 h misc first n f v v (four (λ p. written_byte h v p))
+plane_fills h misc first n f v within is = record {
+  some = omega arith;
+  next = λ i e. omega (arith, e);
+  filled = λ m i e room. let s : HostState = record h { memory = m } in
+      ap (put_where s misc (first + i)) (same_turn v i (i % 2 == 0))
+      ∙ one_filled s misc first n f v i (put_within h m misc first n f within) is.chain is.pairs is.off (omega (arith, room))
+      ∙ (λ j. word_put s (is_in_map_mask h) ((f + i) % 65536) (word_over h m v j));
+}
+
+-- writes one after another are all of them
+pub puts_add : (misc first : ℕ) (g : ℕ → ℕ) (k r i : ℕ) (h : HostState) → after_puts misc first g (k + r) i h
+    ≡ after_puts misc first g r (i + k) (after_puts misc first g k i h)
+puts_add misc first g zero r i h =
+    let e : zero + r ≡ r = omega arith in
+    let z : i ≡ i + zero = omega arith in
+    ap (λ n. after_puts misc first g n i h) e ∙ ap (λ n. after_puts misc first g r n h) z
+puts_add misc first g (suc k) r i h =
+    let e : suc k + r ≡ suc (k + r) = omega arith in
+    let z : i + 1 + k ≡ i + suc k = omega arith in
+    ap (λ n. after_puts misc first g n i h) e ∙ puts_add misc first g k r (i + 1) (put_where h misc (first + i) (g i))
+    ∙ ap (λ n. after_puts misc first g r n (after_puts misc first g k (i + 1) (put_where h misc (first + i) (g i)))) z
+
+-- what a loop over words keeps
+pub fill_goes_on : (h s r : HostState) (per misc first n f even odd done : ℕ) (w : Four ℕ) → FillsWords per h misc first n f even odd w → per ≤ n - done →
+    done ≤ n
+    → done % per ≡ 0 → with_memory h s.memory ≡ s → after_puts misc first (in_turn even odd) done 0 h ≡ s
+    → r ≡ word_put s (is_in_map_mask h) ((f + done) % 65536) w
+    → (done + per ≤ n) × ((done + per) % per ≡ 0) × (with_memory h r.memory ≡ r) × (after_puts misc first (in_turn even odd) (done + per) 0 h ≡ r)
+fill_goes_on h s r per misc first n f even odd done w words room few whole same put is =
+    let left : done + per ≤ n = omega (arith, room, few) in
+    let after : HostState = word_put s (is_in_map_mask h) ((f + done) % 65536) w in
+    let z : 0 + done ≡ done = omega arith in
+    let turn = in_turn even odd in (
+      left,
+      words.next done whole,
+      subst (λ (x : HostState). with_memory h x.memory ≡ x) (sym is)
+          (ap (λ (x : HostState). with_memory x after.memory) same),
+      puts_add misc first turn done per 0 h ∙ ap (λ (k : ℕ). after_puts misc first turn per k (after_puts misc first turn done 0 h)) z
+          ∙ ap (after_puts misc first turn per done) (put ∙ sym same) ∙ words.filled s.memory done whole left
+          ∙ ap (λ (x : HostState). word_put x (is_in_map_mask h) ((f + done) % 65536) w) same ∙ sym is,
+    )
+
+-- what is left of n writes, behind those that are done, is what all of them leave
+pub puts_rest : (misc first even odd n done : ℕ) (h s : HostState) → done ≤ n → s ≡ after_puts misc first (in_turn even odd) done 0 h →
+    after_puts misc first (in_turn even odd) (n - done) done s ≡ after_puts misc first (in_turn even odd) n 0 h
+puts_rest misc first even odd n done h s few is =
+    let z : done ≡ 0 + done = omega arith in
+    let all : done + (n - done) ≡ n = omega (arith, few) in
+    let turn = in_turn even odd in
+    ap (after_puts misc first turn (n - done) done) is ∙ ap (λ (k : ℕ). after_puts misc first turn (n - done) k (after_puts misc first turn done 0 h)) z
+    ∙ sym (puts_add misc first turn done (n - done) 0 h) ∙ ap (λ (k : ℕ). after_puts misc first turn k 0 h) all
+
+-- what the loop over the writes that are left begins with
+pub fill_leaves : (aim : Aim) (bytes others : Four ℕ) (misc first even odd n done : ℕ) (h s : HostState) → IsAim aim h misc
+    → bytes ≡ four (λ p. written_byte h even p) → others ≡ four (λ p. written_byte h odd p) → done ≤ n → with_memory h s.memory ≡ s
+    → s ≡ after_puts misc first (in_turn even odd) done 0 h → Turns aim bytes others misc first even odd n done s
+    (after_puts misc first (in_turn even odd) n 0 h)
+fill_leaves aim bytes others misc first even odd n done h s is be bo few kept put = (
+  subst (λ (x : HostState). IsAim aim x misc) kept (aim_over aim h misc s.memory h.latches is),
+  be ∙ sym (word_over h s.memory even) ∙ ap (λ (x : HostState). four (λ p. written_byte x even p)) kept,
+  bo ∙ sym (word_over h s.memory odd) ∙ ap (λ (x : HostState). four (λ p. written_byte x odd p)) kept,
+  puts_rest misc first even odd n done h s few put,
+)

@@ -1,0 +1,150 @@
+//! Fills that put whole words of the planes, apart for speed alone: writes of two bytes in turn
+//! that follow one another put a word, where the bits of an address pick planes, and where none
+//! does.
+ghost use Rattle.std.specs.Prelude.{◌≡◌, ◌<◌, ◌≤◌, ◌+◌, ◌-◌, ◌^◌, true};
+ghost use Rattle.vga_bits.specs.Bits.{is_set};
+ghost use Rattle.vga_bits.specs.Four.{four};
+ghost use Rattle.vga_host.specs.MemoryWrite.{written_byte};
+ghost use Rattle.vga_host.specs.Runs.{after_puts, in_turn, with_memory, IsAim};
+ghost use Rattle.vga_host.specs.Words.{alternating, word_put, written_in_turn, ArePutWithin};
+ghost use Rattle.vga_host.specs.Words.{FillsPlanes, FillsFours, FillsPairs, FillsWords};
+
+use super::Host;
+use super::runs::Aim;
+use vga_planes::{Latch, PlaneSet};
+
+/// The bytes of two in turn: planes 0 and 2 of the one, and 1 and 3 of the other.
+fn alternate(even: Latch, odd: Latch) -> Latch
+    ensures { result ≡ alternating even odd }
+{
+    Latch::new([even.byte(0), odd.byte(1), even.byte(2), odd.byte(3)])
+}
+
+impl Host {
+    /// Whether the memory has all addresses of n writes.
+    fn is_put_within(&self, aim: Aim, first: u32, n: u32, misc: u8) -> bool
+        requires aim { IsAim aim self.now misc }
+        requires small { aim.start + aim.len < 2 ^ 32 }
+        requires few { first + n < 2 ^ 32 }
+        ensures start { result ≡ true → aim.start ≤ first }
+        ensures within { result ≡ true → ArePutWithin self.now misc first n (first - aim.start) }
+    {
+        aim.covers(first, n)
+    }
+
+    /// Whether the two bytes are one, and no bit of an address picks a plane.
+    fn fills_planes(&self, aim: Aim, even: u8, odd: u8, misc: u8) -> bool
+        requires { IsAim aim self.now misc }
+        ensures one { result ≡ true → even ≡ odd }
+        ensures planes { result ≡ true → FillsPlanes self.now }
+    {
+        even == odd && aim.all && !aim.four && !aim.pairs
+    }
+
+    /// Whether the two low bits of an address pick the plane, and a place is the first of four.
+    fn fills_fours(&self, aim: Aim, place: u32, misc: u8) -> bool
+        requires { IsAim aim self.now misc }
+        ensures { result ≡ true → FillsFours self.now place }
+    {
+        aim.four && place % 4 == 0
+    }
+
+    /// Whether the lowest bit of an address picks planes, and a place is even.
+    fn fills_pairs(&self, aim: Aim, place: u32, misc: u8) -> bool
+        requires { IsAim aim self.now misc }
+        ensures { result ≡ true → FillsPairs self.now place }
+    {
+        aim.pairs && !aim.all && !aim.four && place % 2 == 0
+    }
+
+    /// How many writes put a word: 1, 2 or 4, or 0 where they do not.
+    fn puts_of_word(&self, aim: Aim, first: u32, n: u32, even: u8, odd: u8, misc: u8) -> u32
+        requires aim { IsAim aim self.now misc }
+        requires start { aim.start ≤ first }
+        requires within { ArePutWithin self.now misc first n (first - aim.start) }
+        ensures { 0 < result → FillsWords result self.now misc first n (first - aim.start) even odd
+            (written_in_turn self.now even odd) }
+    {
+        let place = first - aim.start;
+        if self.fills_planes(aim, even, odd, misc) {
+            1
+        } else if self.fills_fours(aim, place, misc) {
+            4
+        } else if self.fills_pairs(aim, place, misc) {
+            2
+        } else {
+            0
+        }
+    }
+
+    /// Puts a word at an offset, in the planes of a set.
+    fn put_word(&mut self, at: u16, word: Latch, set: PlaneSet)
+        ensures { self.new ≡ word_put self.old (is_set set) at word }
+    {
+        self.planes.store(at, word, set);
+    }
+
+    /// Puts a word again and again, by `per` writes each, as long as a whole one is left of n
+    /// writes, and tells how many writes that were.
+    fn put_words(
+        &mut self,
+        aim: Aim,
+        per: u32,
+        word: Latch,
+        first: u32,
+        n: u32,
+        even: u8,
+        odd: u8,
+        misc: u8,
+    ) -> u32
+        requires aim { IsAim aim self.old misc }
+        requires start { aim.start ≤ first }
+        requires few { first + n < 2 ^ 32 }
+        requires words { FillsWords per self.old misc first n (first - aim.start) even odd word }
+        ensures few { result ≤ n }
+        ensures kept { with_memory self.old self.new.memory ≡ self.new }
+        ensures put { self.new ≡ after_puts misc first (in_turn even odd) result 0 self.old }
+    {
+        let start = first - aim.start;
+        let mut done = 0;
+        while n - done >= per {
+            let place = ((start + done) % 65_536) as u16;
+            self.put_word(place, word, aim.mask);
+            done += per;
+        }
+        done
+    }
+
+    /// Puts words, where that is what the first of n writes of two bytes in turn do, and tells how
+    /// many writes that were. `bytes` and `others` are what the two bytes make.
+    pub(super) fn fill_words(
+        &mut self,
+        aim: Aim,
+        bytes: Latch,
+        others: Latch,
+        first: u32,
+        n: u32,
+        even: u8,
+        odd: u8,
+        misc: u8,
+    ) -> u32
+        requires aim { IsAim aim self.old misc }
+        requires small { aim.start + aim.len < 2 ^ 32 }
+        requires bytes { bytes ≡ four (λ p. written_byte self.old even p) }
+        requires others { others ≡ four (λ p. written_byte self.old odd p) }
+        requires few { first + n < 2 ^ 32 }
+        ensures few { result ≤ n }
+        ensures kept { with_memory self.old self.new.memory ≡ self.new }
+        ensures put { self.new ≡ after_puts misc first (in_turn even odd) result 0 self.old }
+    {
+        if !self.is_put_within(aim, first, n, misc) {
+            return 0;
+        }
+        let per = self.puts_of_word(aim, first, n, even, odd, misc);
+        if per == 0 {
+            return 0;
+        }
+        let word = alternate(bytes, others);
+        self.put_words(aim, per, word, first, n, even, odd, misc)
+    }
+}
