@@ -4,12 +4,13 @@ use Rattle.std.proofs.Common.{if◌then◌else◌}
 use Rattle.std.proofs.lemmas.Bool.Decides.{nat_tests}
 use Rattle.vga_bits.proofs.FourLemmas.{by_plane}
 use Rattle.vga_bits.specs.Four.{Four, four, of_plane}
-use Rattle.vga_host.specs.declared.host.runs.Aim.{Aim}
+use Rattle.vga_host.specs.declared.host.aim.Aim.{Aim}
 use Rattle.vga_host.specs.Host.{HostState}
 use Rattle.vga_host.specs.Address.{is_decoded, window_offset, plane_offset, is_reached}
 use Rattle.vga_host.specs.Fields.{is_in_map_mask, is_chain_four, is_chain_odd_even, is_odd_even_off}
 use Rattle.vga_host.specs.MemoryWrite.{written_bit, combined_bit, written_byte, after_put}
-use Rattle.vga_host.specs.Runs.{put_where, after_puts, in_turn, with_memory, IsAim}
+use Rattle.vga_host.specs.Runs.{put_where, after_puts, in_turn, with_memory}
+use Rattle.vga_host.specs.Aim.{IsAim}
 use Rattle.vga_host.specs.Words.{word_put, alternating, ArePutWithin, FillsPlanes, FillsFours, FillsPairs, FillsWords}
 use Rattle.vga_host.proofs.RunLemmas.{even_in_turn, odd_in_turn, Turns}
 use Rattle.vga_host.proofs.WordLemmas.{plane_is, plane_alone, alone_is, and_turned, in_four, of_four, in_two, of_two, next_place, aim_over}
@@ -247,12 +248,12 @@ puts_rest misc first even odd n done h s few is =
     ∙ sym (puts_add misc first turn done (n - done) 0 h) ∙ ap (λ (k : ℕ). after_puts misc first turn k 0 h) all
 
 -- what the loop over the writes that are left begins with
-pub fill_leaves : (aim : Aim) (bytes others : Four ℕ) (misc first even odd n done : ℕ) (h s : HostState) → IsAim aim h misc
+pub fill_leaves : (aim : Aim) (bytes others : Four ℕ) (misc first even odd n done : ℕ) (h s : HostState) → IsAim aim h
     → bytes ≡ four (λ p. written_byte h even p) → others ≡ four (λ p. written_byte h odd p) → done ≤ n → with_memory h s.memory ≡ s
     → s ≡ after_puts misc first (in_turn even odd) done 0 h → Turns aim bytes others misc first even odd n done s
     (after_puts misc first (in_turn even odd) n 0 h)
 fill_leaves aim bytes others misc first even odd n done h s is be bo few kept put = (
-  subst (λ (x : HostState). IsAim aim x misc) kept (aim_over aim h misc s.memory h.latches is),
+  subst (λ (x : HostState). IsAim aim x) kept (aim_over aim h misc s.memory h.latches is),
   be ∙ sym (word_over h s.memory even) ∙ ap (λ (x : HostState). four (λ p. written_byte x even p)) kept,
   bo ∙ sym (word_over h s.memory odd) ∙ ap (λ (x : HostState). four (λ p. written_byte x odd p)) kept,
   puts_rest misc first even odd n done h s few put,

@@ -5,21 +5,22 @@ use Rattle.std.specs.Prelude.{slice_set}
 use Rattle.vga_bits.specs.Bits.{is_set, byte_of}
 use Rattle.vga_bits.specs.Four.{Four, four, of_plane}
 use Rattle.vga_planes.specs.Planes.{with_bytes, bytes_at}
-use Rattle.vga_host.specs.declared.host.runs.Aim.{Aim}
+use Rattle.vga_host.specs.declared.host.aim.Aim.{Aim}
 use Rattle.vga_host.specs.Host.{HostState}
 use Rattle.vga_host.specs.Address.{is_decoded, window_offset, plane_offset, is_reached}
 use Rattle.vga_host.specs.MemoryWrite.{written_bit, combined_bit, written_byte, after_put}
 use Rattle.vga_host.specs.MemoryRead.{loaded, read_bit, read_byte, after_get}
-use Rattle.vga_host.specs.Runs.{put_where, put_bytes, get_where, byte_where, move_where, after_puts, after_moves, in_turn, IsAim}
-use Rattle.vga_host.specs.Fields.{write_mode}
+use Rattle.vga_host.specs.Runs.{put_where, put_bytes, get_where, byte_where, move_where, after_puts, after_moves, in_turn}
+use Rattle.vga_host.specs.Aim.{IsAim}
+use Rattle.vga_host.specs.Fields.{write_mode, is_memory_enabled}
 
 -- ---- what the registers say stays
 
-aim_where : (d : Bool) (aim : Aim) (h : HostState) (misc a v : ℕ) → IsAim aim h misc → IsAim aim (if d then after_put h a v else h) misc
+aim_where : (d : Bool) (aim : Aim) (h : HostState) (misc a v : ℕ) → IsAim aim h → IsAim aim (if d then after_put h a v else h)
 aim_where true aim h misc a v is = record {
-  enabled = is.enabled;
   start = is.start;
   len = is.len;
+  small = is.small;
   four = is.four;
   pairs = is.pairs;
   all = is.all;
@@ -30,7 +31,7 @@ aim_where true aim h misc a v is = record {
 aim_where false aim h misc a v is = is
 
 -- a write changes nothing that the registers say
-pub aim_stays : (aim : Aim) (h : HostState) (misc a v : ℕ) → IsAim aim h misc → IsAim aim (put_where h misc a v) misc
+pub aim_stays : (aim : Aim) (h : HostState) (misc a v : ℕ) → IsAim aim h → IsAim aim (put_where h misc a v)
 aim_stays aim h misc a v is = aim_where (is_decoded h misc a) aim h misc a v is
 
 written_where : (d : Bool) (bytes : Four ℕ) (h : HostState) (a v b : ℕ) → bytes ≡ four (λ p. written_byte h b p) →
@@ -55,7 +56,7 @@ if_true : {A : Type 0} (d : Bool) (x y : A) → IsTrue d → x ≡ (if d then x 
 if_true true x y is = refl
 if_true false x y is = absurd (cc)
 
-module _ (aim : Aim) (h : HostState) (misc a : ℕ) (is : IsAim aim h misc) where
+module _ (aim : Aim) (h : HostState) (misc a : ℕ) (is : IsAim aim h) where
   aimed_planes : (w set : ℕ) (bytes : Four ℕ) → w ≡ (a - aim.start) % 65536
       → (reach : (p : ℕ) → p < 4 → is_set set p ≡ (is_set aim.mask p && (if aim.four then p == w % 4 else aim.all || (p % 2 == w % 2))))
       → with_bytes h.memory (if aim.four then w / 4 * 4 else if aim.pairs then w / 2 * 2 else w) bytes set
@@ -78,11 +79,11 @@ module _ (aim : Aim) (h : HostState) (misc a : ℕ) (is : IsAim aim h misc) wher
         plane3 = if r3 j then slice_set h.memory.plane3 (o j) bytes.plane3 else h.memory.plane3;
       }
 
-  decoded_as : (aim.enabled && (nat_le aim.start a && nat_lt a (aim.start + aim.len))) ≡ is_decoded h misc a
-  decoded_as = λ j. is.enabled j && (nat_le (is.start j) a && nat_lt a (is.start j + is.len j))
+  decoded_as : (is_memory_enabled misc && (nat_le aim.start a && nat_lt a (aim.start + aim.len))) ≡ is_decoded h misc a
+  decoded_as = λ j. is_memory_enabled misc && (nat_le (is.start j) a && nat_lt a (is.start j + is.len j))
 
   -- a write by what the registers say is a write
-  pub put_as : (w set : ℕ) (bytes : Four ℕ) → IsTrue (aim.enabled && (nat_le aim.start a && nat_lt a (aim.start + aim.len))) → w ≡ (a - aim.start) % 65536
+  pub put_as : (w set : ℕ) (bytes : Four ℕ) → IsTrue (is_memory_enabled misc && (nat_le aim.start a && nat_lt a (aim.start + aim.len))) → w ≡ (a - aim.start) % 65536
       → (reach : (p : ℕ) → p < 4 → is_set set p ≡ (is_set aim.mask p && (if aim.four then p == w % 4 else aim.all || (p % 2 == w % 2))))
       → (let after : HostState = record h { memory = with_bytes h.memory (if aim.four then w / 4 * 4 else if aim.pairs then w / 2 * 2 else w) bytes set } in
       after ≡ put_bytes h misc a bytes)
@@ -91,7 +92,7 @@ module _ (aim : Aim) (h : HostState) (misc a : ℕ) (is : IsAim aim h misc) wher
       ∙ if_true (is_decoded h misc a) _ h (sym decoded_as ∙ decoded)
 
   -- a load by what they say is a read
-  pub get_as : (w : ℕ) → IsTrue (aim.enabled && (nat_le aim.start a && nat_lt a (aim.start + aim.len))) → w ≡ (a - aim.start) % 65536
+  pub get_as : (w : ℕ) → IsTrue (is_memory_enabled misc && (nat_le aim.start a && nat_lt a (aim.start + aim.len))) → w ≡ (a - aim.start) % 65536
       → (let after : HostState = record h { latches = bytes_at h.memory (if aim.four then w / 4 * 4 else if aim.pairs then w / 2 * 2 else w) } in after
       ≡ get_where h misc a)
   get_as w decoded place =
@@ -102,7 +103,7 @@ module _ (aim : Aim) (h : HostState) (misc a : ℕ) (is : IsAim aim h misc) wher
       ∙ if_true (is_decoded h misc a) (after_get h a) h (sym decoded_as ∙ decoded)
 
   -- and so is its byte
-  pub byte_as : (w : ℕ) → IsTrue (aim.enabled && (nat_le aim.start a && nat_lt a (aim.start + aim.len))) → w ≡ (a - aim.start) % 65536
+  pub byte_as : (w : ℕ) → IsTrue (is_memory_enabled misc && (nat_le aim.start a && nat_lt a (aim.start + aim.len))) → w ≡ (a - aim.start) % 65536
       → byte_of (λ i. read_bit h w (bytes_at h.memory (if aim.four then w / 4 * 4 else if aim.pairs then w / 2 * 2 else w)) i) ≡ byte_where h misc a
   byte_as w decoded place =
       let at : w ≡ window_offset h a = place ∙ ap (λ s. (a - s) % 65536) is.start in
@@ -112,11 +113,11 @@ module _ (aim : Aim) (h : HostState) (misc a : ℕ) (is : IsAim aim h misc) wher
       ∙ ap (λ x. byte_of (λ i. read_bit h x (loaded h a) i)) at
       ∙ if_true (is_decoded h misc a) (read_byte h a) 0xFF (sym decoded_as ∙ decoded)
 
-aim_loaded : (d : Bool) (aim : Aim) (h : HostState) (misc a : ℕ) → IsAim aim h misc → IsAim aim (if d then after_get h a else h) misc
+aim_loaded : (d : Bool) (aim : Aim) (h : HostState) (misc a : ℕ) → IsAim aim h → IsAim aim (if d then after_get h a else h)
 aim_loaded true aim h misc a is = record {
-  enabled = is.enabled;
   start = is.start;
   len = is.len;
+  small = is.small;
   four = is.four;
   pairs = is.pairs;
   all = is.all;
@@ -127,7 +128,7 @@ aim_loaded true aim h misc a is = record {
 aim_loaded false aim h misc a is = is
 
 -- nor does a read change what the registers say
-pub aim_read : (aim : Aim) (h : HostState) (misc a : ℕ) → IsAim aim h misc → IsAim aim (get_where h misc a) misc
+pub aim_read : (aim : Aim) (h : HostState) (misc a : ℕ) → IsAim aim h → IsAim aim (get_where h misc a)
 aim_read aim h misc a is = aim_loaded (is_decoded h misc a) aim h misc a is
 
 mode_loaded : (d : Bool) (h : HostState) (a : ℕ) → write_mode (if d then after_get h a else h) ≡ write_mode h
@@ -140,18 +141,18 @@ mode_read h misc a = mode_loaded (is_decoded h misc a) h a
 
 -- what a loop of moves keeps
 pub move_kept : (aim : Aim) (misc from to n i : ℕ) (h t r : HostState) → i < n → t ≡ move_where h misc (from + i) (to + i)
-    → (IsAim aim h misc × (after_moves misc from to (n - i) i h ≡ r)) → (IsAim aim t misc × (after_moves misc from to (n - (i + 1)) (i + 1) t ≡ r))
+    → (IsAim aim h × (after_moves misc from to (n - i) i h ≡ r)) → (IsAim aim t × (after_moves misc from to (n - (i + 1)) (i + 1) t ≡ r))
 move_kept aim misc from to n i h t r less now kept =
     let k : n - i ≡ suc (n - (i + 1)) = omega arith in
     let u = get_where h misc (from + i) in (
-      subst (λ x. IsAim aim x misc) (sym now) (aim_stays aim u misc (to + i) (byte_where h misc (from + i)) (aim_read aim h misc (from + i) kept.0)),
+      subst (λ x. IsAim aim x) (sym now) (aim_stays aim u misc (to + i) (byte_where h misc (from + i)) (aim_read aim h misc (from + i) kept.0)),
       ap (after_moves misc from to (n - (i + 1)) (i + 1)) now ∙ sym (ap (λ k. after_moves misc from to k i h) k) ∙ kept.1,
     )
 
 -- what a loop over two bytes in turn keeps
 abbrev pub Turns : Aim → Four ℕ → Four ℕ → ℕ → ℕ → ℕ → ℕ → ℕ → ℕ → HostState → HostState → Type 0
 Turns aim bytes others misc first even odd n i h r =
-    IsAim aim h misc
+    IsAim aim h
     × (bytes ≡ four (λ p. written_byte h even p))
     × (others ≡ four (λ p. written_byte h odd p))
     × (after_puts misc first (in_turn even odd) (n - i) i h ≡ r)
@@ -161,7 +162,7 @@ pub turn_kept : (aim : Aim) (bytes others : Four ℕ) (misc first even odd n i v
     → Turns aim bytes others misc first even odd n i h r → Turns aim bytes others misc first even odd n (i + 1) t r
 turn_kept aim bytes others misc first even odd n i v h t r less which now kept =
     let at : t ≡ put_where h misc (first + i) (in_turn even odd i) = now ∙ ap (put_where h misc (first + i)) which in (
-      subst (λ x. IsAim aim x misc) (sym now) (aim_stays aim h misc (first + i) v kept.0),
+      subst (λ x. IsAim aim x) (sym now) (aim_stays aim h misc (first + i) v kept.0),
       subst (λ x. bytes ≡ four (λ p. written_byte x even p)) (sym now) (written_stays bytes h misc (first + i) v even kept.1),
       subst (λ x. others ≡ four (λ p. written_byte x odd p)) (sym now) (written_stays others h misc (first + i) v odd kept.2),
       next_put misc first (in_turn even odd) i n h t r less at kept.3,

@@ -15,8 +15,9 @@ use Rattle.vga_host.specs.Fields.{write_mode, is_in_map_mask, is_chain_four, is_
 use Rattle.vga_host.specs.Fields.{read_map_pair, read_map_select}
 use Rattle.vga_host.specs.MemoryRead.{compared_bit, read_bit, read_byte, picked_plane, after_get, loaded}
 use Rattle.vga_host.specs.MemoryWrite.{written_bit, written_byte, after_put, IsPlain}
-use Rattle.vga_host.specs.Runs.{put_where, move_where, after_moves, IsAim}
-use Rattle.vga_host.specs.declared.host.runs.Aim.{Aim}
+use Rattle.vga_host.specs.Runs.{put_where, move_where, after_moves}
+use Rattle.vga_host.specs.Aim.{IsAim}
+use Rattle.vga_host.specs.declared.host.aim.Aim.{Aim}
 use Rattle.vga_host.specs.Words.{word_moved, AreWithin, MovesLatches, MovesFours, MovesPairs, MovesWords}
 use Rattle.vga_host.proofs.PlainLemmas.{plain_bit, latched_bit}
 
@@ -353,11 +354,11 @@ moves_add misc from to (suc k) r i h =
 abbrev pub over : HostState → Four (List ℕ) → Four ℕ → HostState
 over h m l = record h { memory = m; latches = l }
 
-pub aim_over : (aim : Aim) (h : HostState) (misc : ℕ) (m : Four (List ℕ)) (l : Four ℕ) → IsAim aim h misc → IsAim aim (over h m l) misc
+pub aim_over : (aim : Aim) (h : HostState) (misc : ℕ) (m : Four (List ℕ)) (l : Four ℕ) → IsAim aim h → IsAim aim (over h m l)
 aim_over aim h misc m l is = record {
-  enabled = is.enabled;
   start = is.start;
   len = is.len;
+  small = is.small;
   four = is.four;
   pairs = is.pairs;
   all = is.all;

@@ -6,7 +6,6 @@ use Rattle.std.specs.Prelude.{ℕ, zero, suc, ◌≡◌, ◌+◌, ◌%◌, ◌==
 use Rattle.std.specs.Prelude.{true, if◌then◌else◌, slice_set}
 use Rattle.vga_bits.specs.Bits.{is_set}
 use Rattle.vga_bits.specs.Four.{Four, four, of_plane}
-use Rattle.vga_host.specs.declared.host.runs.Aim.{Aim}
 use Rattle.vga_host.specs.Host.{HostState}
 use Rattle.vga_host.specs.Fields.{is_memory_enabled, is_in_map_mask, is_odd_even_off, is_chain_four}
 use Rattle.vga_host.specs.Fields.{is_chain_odd_even, write_mode}
@@ -61,16 +60,3 @@ after_moves misc from to (suc n) i h = after_moves misc from to n (i + 1)
 -- two bytes in turn
 abbrev pub in_turn : ℕ → ℕ → ℕ → ℕ
 in_turn even odd w = if w % 2 == 0 then even else odd
-
--- what registers say of every write: the window, which is empty where the memory does not answer,
--- how places are shared out to planes, and the map mask
-pub record IsAim (aim : Aim) (h : HostState) (misc : ℕ) : Type 0 where
-  pub enabled : aim.enabled ≡ is_memory_enabled misc
-  pub start : aim.start ≡ window_start h
-  pub len : aim.len ≡ window_len h
-  pub four : aim.four ≡ is_chain_four h
-  pub pairs : aim.pairs ≡ is_chain_odd_even h
-  pub all : aim.all ≡ is_odd_even_off h
-  pub mask : (p : ℕ) → is_set aim.mask p ≡ is_in_map_mask h p
-  pub plain : aim.plain ≡ true → IsPlain h
-  pub latched : aim.latched ≡ true → write_mode h ≡ 1

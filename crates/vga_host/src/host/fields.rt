@@ -5,8 +5,7 @@ ghost use Rattle.std.specs.Int.{bit_at};
 ghost use Rattle.vga_bits.specs.Bits.{is_set as is_set_of};
 ghost use Rattle.vga_host.specs.Fields.{is_memory_enabled as is_memory_enabled_of};
 ghost use Rattle.vga_host.specs.Fields.{is_eight_dots, character_width, is_screen_off};
-ghost use Rattle.vga_host.specs.Fields.{is_in_map_mask};
-ghost use Rattle.vga_host.specs.Fields.{character_map_a, character_map_b, is_odd_even_off};
+ghost use Rattle.vga_host.specs.Fields.{character_map_a, character_map_b};
 ghost use Rattle.vga_host.specs.Fields.{is_chain_four};
 ghost use Rattle.vga_host.specs.Fields.{set_reset, is_set_reset_enabled, colour_compare};
 ghost use Rattle.vga_host.specs.Fields.{rotate_count};
@@ -14,7 +13,7 @@ ghost use Rattle.vga_host.specs.Fields.{function_select, read_map_select, read_m
 ghost use Rattle.vga_host.specs.Fields.{write_mode};
 ghost use Rattle.vga_host.specs.Fields.{is_read_compare, is_odd_even_read, is_shift_256};
 ghost use Rattle.vga_host.specs.Fields.{is_graphics};
-ghost use Rattle.vga_host.specs.Fields.{is_256_colours, is_chain_odd_even, memory_map, is_compared};
+ghost use Rattle.vga_host.specs.Fields.{is_256_colours, is_compared};
 ghost use Rattle.vga_host.specs.Fields.{bit_mask};
 
 use super::Host;
@@ -22,35 +21,35 @@ use vga_bits::is_set;
 use vga_planes::PlaneSet;
 
 /// The sequencer's registers with fields that are looked at.
-mod sequencer {
-    pub(super) const CLOCKING_MODE: usize = 1;
+pub(super) mod sequencer {
+    pub(crate) const CLOCKING_MODE: usize = 1;
 
-    pub(super) const MAP_MASK: usize = 2;
+    pub(crate) const MAP_MASK: usize = 2;
 
-    pub(super) const CHARACTER_MAP_SELECT: usize = 3;
+    pub(crate) const CHARACTER_MAP_SELECT: usize = 3;
 
-    pub(super) const MEMORY_MODE: usize = 4;
+    pub(crate) const MEMORY_MODE: usize = 4;
 }
 
 /// The graphics controller's registers.
-mod graphics {
-    pub(super) const SET_RESET: usize = 0;
+pub(super) mod graphics {
+    pub(crate) const SET_RESET: usize = 0;
 
-    pub(super) const ENABLE_SET_RESET: usize = 1;
+    pub(crate) const ENABLE_SET_RESET: usize = 1;
 
-    pub(super) const COLOUR_COMPARE: usize = 2;
+    pub(crate) const COLOUR_COMPARE: usize = 2;
 
-    pub(super) const DATA_ROTATE: usize = 3;
+    pub(crate) const DATA_ROTATE: usize = 3;
 
-    pub(super) const READ_MAP_SELECT: usize = 4;
+    pub(crate) const READ_MAP_SELECT: usize = 4;
 
-    pub(super) const GRAPHICS_MODE: usize = 5;
+    pub(crate) const GRAPHICS_MODE: usize = 5;
 
-    pub(super) const MISCELLANEOUS: usize = 6;
+    pub(crate) const MISCELLANEOUS: usize = 6;
 
-    pub(super) const COLOUR_DONT_CARE: usize = 7;
+    pub(crate) const COLOUR_DONT_CARE: usize = 7;
 
-    pub(super) const BIT_MASK: usize = 8;
+    pub(crate) const BIT_MASK: usize = 8;
 }
 
 /// Whether the miscellaneous output register lets the display memory answer the processor.
@@ -83,13 +82,6 @@ impl Host {
         self.seq.bit(sequencer::CLOCKING_MODE, 5)
     }
 
-    /// The planes that the map mask lets be written.
-    pub(super) fn map_mask(&self) -> PlaneSet
-        ensures { (p : ℕ) → is_set_of result p ≡ is_in_map_mask self.now p }
-    {
-        self.seq.read(sequencer::MAP_MASK)
-    }
-
     /// The map, 0 to 7, of the characters whose attribute has bit 3.
     pub fn character_map_a(&self) -> u8
         ensures value { result ≡ character_map_a self.now }
@@ -108,18 +100,11 @@ impl Host {
         low + 4 * self.seq.field(sequencer::CHARACTER_MAP_SELECT, 4, 4)
     }
 
-    /// Whether even and odd addresses are not kept apart on writes.
-    pub(super) fn is_odd_even_off(&self) -> bool
-        ensures { result ≡ is_odd_even_off self.now }
-    {
-        self.seq.bit(sequencer::MEMORY_MODE, 2)
-    }
-
     /// Whether the two low bits of an address pick the plane.
     pub(super) fn is_chain_four(&self) -> bool
         ensures { result ≡ is_chain_four self.now }
     {
-        self.seq.bit(sequencer::MEMORY_MODE, 3)
+        self.aim().four
     }
 
     /// The planes whose set/reset bit is 1.
@@ -211,20 +196,6 @@ impl Host {
         ensures { result ≡ is_256_colours self.now }
     {
         self.is_graphics() && self.is_shift_256()
-    }
-
-    /// Whether the lowest bit of an address picks a plane and not an offset.
-    pub(super) fn is_chain_odd_even(&self) -> bool
-        ensures { result ≡ is_chain_odd_even self.now }
-    {
-        self.gfx.bit(graphics::MISCELLANEOUS, 1)
-    }
-
-    /// Which addresses the display memory has, 0 to 3.
-    pub(super) fn memory_map(&self) -> u8
-        ensures { result ≡ memory_map self.now }
-    {
-        self.gfx.field(graphics::MISCELLANEOUS, 3, 2)
     }
 
     /// The planes that are compared.

@@ -5,12 +5,13 @@ ghost use Rattle.std.specs.Prelude.{◌≡◌, ◌<◌, ◌≤◌, ◌+◌, ◌-
 ghost use Rattle.vga_bits.specs.Bits.{is_set};
 ghost use Rattle.vga_bits.specs.Four.{four};
 ghost use Rattle.vga_host.specs.MemoryWrite.{written_byte};
-ghost use Rattle.vga_host.specs.Runs.{after_puts, in_turn, with_memory, IsAim};
+ghost use Rattle.vga_host.specs.Runs.{after_puts, in_turn, with_memory};
+ghost use Rattle.vga_host.specs.Aim.{IsAim};
 ghost use Rattle.vga_host.specs.Words.{alternating, word_put, written_in_turn, ArePutWithin};
 ghost use Rattle.vga_host.specs.Words.{FillsPlanes, FillsFours, FillsPairs, FillsWords};
 
 use super::Host;
-use super::runs::Aim;
+use super::aim::Aim;
 use vga_planes::{Latch, PlaneSet};
 
 /// The bytes of two in turn: planes 0 and 2 of the one, and 1 and 3 of the other.
@@ -23,18 +24,18 @@ fn alternate(even: Latch, odd: Latch) -> Latch
 impl Host {
     /// Whether the memory has all addresses of n writes.
     fn is_put_within(&self, aim: Aim, first: u32, n: u32, misc: u8) -> bool
-        requires aim { IsAim aim self.now misc }
+        requires aim { IsAim aim self.now }
         requires small { aim.start + aim.len < 2 ^ 32 }
         requires few { first + n < 2 ^ 32 }
         ensures start { result ≡ true → aim.start ≤ first }
         ensures within { result ≡ true → ArePutWithin self.now misc first n (first - aim.start) }
     {
-        aim.covers(first, n)
+        aim.covers(first, n, misc)
     }
 
     /// Whether the two bytes are one, and no bit of an address picks a plane.
-    fn fills_planes(&self, aim: Aim, even: u8, odd: u8, misc: u8) -> bool
-        requires { IsAim aim self.now misc }
+    fn fills_planes(&self, aim: Aim, even: u8, odd: u8) -> bool
+        requires { IsAim aim self.now }
         ensures one { result ≡ true → even ≡ odd }
         ensures planes { result ≡ true → FillsPlanes self.now }
     {
@@ -42,16 +43,16 @@ impl Host {
     }
 
     /// Whether the two low bits of an address pick the plane, and a place is the first of four.
-    fn fills_fours(&self, aim: Aim, place: u32, misc: u8) -> bool
-        requires { IsAim aim self.now misc }
+    fn fills_fours(&self, aim: Aim, place: u32) -> bool
+        requires { IsAim aim self.now }
         ensures { result ≡ true → FillsFours self.now place }
     {
         aim.four && place % 4 == 0
     }
 
     /// Whether the lowest bit of an address picks planes, and a place is even.
-    fn fills_pairs(&self, aim: Aim, place: u32, misc: u8) -> bool
-        requires { IsAim aim self.now misc }
+    fn fills_pairs(&self, aim: Aim, place: u32) -> bool
+        requires { IsAim aim self.now }
         ensures { result ≡ true → FillsPairs self.now place }
     {
         aim.pairs && !aim.all && !aim.four && place % 2 == 0
@@ -59,18 +60,18 @@ impl Host {
 
     /// How many writes put a word: 1, 2 or 4, or 0 where they do not.
     fn puts_of_word(&self, aim: Aim, first: u32, n: u32, even: u8, odd: u8, misc: u8) -> u32
-        requires aim { IsAim aim self.now misc }
+        requires aim { IsAim aim self.now }
         requires start { aim.start ≤ first }
         requires within { ArePutWithin self.now misc first n (first - aim.start) }
         ensures { 0 < result → FillsWords result self.now misc first n (first - aim.start) even odd
             (written_in_turn self.now even odd) }
     {
         let place = first - aim.start;
-        if self.fills_planes(aim, even, odd, misc) {
+        if self.fills_planes(aim, even, odd) {
             1
-        } else if self.fills_fours(aim, place, misc) {
+        } else if self.fills_fours(aim, place) {
             4
-        } else if self.fills_pairs(aim, place, misc) {
+        } else if self.fills_pairs(aim, place) {
             2
         } else {
             0
@@ -97,7 +98,7 @@ impl Host {
         odd: u8,
         misc: u8,
     ) -> u32
-        requires aim { IsAim aim self.old misc }
+        requires aim { IsAim aim self.old }
         requires start { aim.start ≤ first }
         requires few { first + n < 2 ^ 32 }
         requires words { FillsWords per self.old misc first n (first - aim.start) even odd word }
@@ -128,7 +129,7 @@ impl Host {
         odd: u8,
         misc: u8,
     ) -> u32
-        requires aim { IsAim aim self.old misc }
+        requires aim { IsAim aim self.old }
         requires small { aim.start + aim.len < 2 ^ 32 }
         requires bytes { bytes ≡ four (λ p. written_byte self.old even p) }
         requires others { others ≡ four (λ p. written_byte self.old odd p) }

@@ -90,18 +90,6 @@ impl Host {
         }
     }
 
-    /// Whether a write replaces bytes as they are.
-    pub(super) fn is_plain(&self) -> bool
-        ensures { result ≡ true → IsPlain self.now }
-    {
-        // Each of these numbers changes what is written, where it is not 0.
-        let changes = self.write_mode() as u32
-            + self.rotate_count() as u32
-            + self.function_select() as u32
-            + self.set_reset_enabled() as u32;
-        changes == 0 && self.bit_mask() == 0xFF
-    }
-
     /// The bytes that the four planes get where a write reaches them. That a write is plain is told
     /// for speed alone.
     pub(super) fn written_as(&self, is_plain: bool, v: u8) -> Latch
@@ -129,7 +117,7 @@ impl Host {
     fn written(&self, v: u8) -> Latch
         ensures { result ≡ four (λ p. written_byte self.now v p) }
     {
-        self.written_as(self.is_plain(), v)
+        self.written_as(self.aim().plain, v)
     }
 
     /// Writes a byte to an address of display memory; `misc` is the miscellaneous output register.

@@ -4,19 +4,20 @@ ghost use Rattle.std.specs.Prelude.{◌≡◌, ◌<◌, ◌≤◌, ◌+◌, ◌-
 ghost use Rattle.vga_bits.specs.Bits.{is_set as is_set_of};
 ghost use Rattle.vga_planes.specs.Planes.{byte_at};
 ghost use Rattle.vga_host.specs.Fields.{is_in_map_mask};
-ghost use Rattle.vga_host.specs.Runs.{after_moves, IsAim};
+ghost use Rattle.vga_host.specs.Runs.{after_moves};
+ghost use Rattle.vga_host.specs.Aim.{IsAim};
 ghost use Rattle.vga_host.specs.Words.{word_moved, AreWithin, ReadsPairs, WritesPairs};
 ghost use Rattle.vga_host.specs.Words.{MovesLatches, MovesPairs, MovesFours, MovesWords};
 
 use super::Host;
-use super::runs::Aim;
+use super::aim::Aim;
 use vga_bits::is_set;
 use vga_planes::PlaneSet;
 
 impl Host {
     /// Whether the memory has all addresses of n moves.
     fn are_within(&self, aim: Aim, from: u32, to: u32, n: u32, misc: u8) -> bool
-        requires aim { IsAim aim self.now misc }
+        requires aim { IsAim aim self.now }
         requires small { aim.start + aim.len < 2 ^ 32 }
         requires from { from + n < 2 ^ 32 }
         requires to { to + n < 2 ^ 32 }
@@ -24,12 +25,12 @@ impl Host {
         ensures within { result ≡ true → AreWithin self.now misc from to n (from - aim.start)
             (to - aim.start) }
     {
-        aim.covers(from, n) && aim.covers(to, n)
+        aim.covers(from, n, misc) && aim.covers(to, n, misc)
     }
 
     /// Whether moves store the latches, and no bit of an address picks a plane.
-    fn moves_latches(&self, aim: Aim, misc: u8) -> bool
-        requires { IsAim aim self.now misc }
+    fn moves_latches(&self, aim: Aim) -> bool
+        requires { IsAim aim self.now }
         ensures { result ≡ true → MovesLatches self.now }
     {
         aim.latched && aim.all && !aim.four && !aim.pairs
@@ -37,8 +38,8 @@ impl Host {
 
     /// Whether plain moves go from the first of four places to the first of four others, and the
     /// two low bits of an address pick the plane.
-    fn moves_fours(&self, aim: Aim, first: u32, target: u32, misc: u8) -> bool
-        requires { IsAim aim self.now misc }
+    fn moves_fours(&self, aim: Aim, first: u32, target: u32) -> bool
+        requires { IsAim aim self.now }
         ensures { result ≡ true → MovesFours self.now first target }
     {
         aim.plain && aim.four && !self.is_read_compare() && first % 4 == 0 && target % 4 == 0
@@ -52,8 +53,8 @@ impl Host {
     }
 
     /// Whether the map mask has a plane.
-    fn is_in_mask(&self, aim: Aim, plane: u32, misc: u8) -> bool
-        requires aim { IsAim aim self.now misc }
+    fn is_in_mask(&self, aim: Aim, plane: u32) -> bool
+        requires aim { IsAim aim self.now }
         requires plane { plane < 4 }
         ensures { result ≡ is_in_map_mask self.now plane }
     {
@@ -61,33 +62,33 @@ impl Host {
     }
 
     /// Whether the map mask has neither plane 2 nor plane 3.
-    fn masks_upper_planes(&self, aim: Aim, misc: u8) -> bool
-        requires { IsAim aim self.now misc }
+    fn masks_upper_planes(&self, aim: Aim) -> bool
+        requires { IsAim aim self.now }
         ensures { result ≡ true → (is_in_map_mask self.now 2 ≡ false)
             × (is_in_map_mask self.now 3 ≡ false) }
     {
-        !self.is_in_mask(aim, 2, misc) && !self.is_in_mask(aim, 3, misc)
+        !self.is_in_mask(aim, 2) && !self.is_in_mask(aim, 3)
     }
 
     /// Whether plain writes reach planes 0 and 1 alone, by the lowest bit of an address.
-    fn writes_pairs(&self, aim: Aim, misc: u8) -> bool
-        requires { IsAim aim self.now misc }
+    fn writes_pairs(&self, aim: Aim) -> bool
+        requires { IsAim aim self.now }
         ensures { result ≡ true → WritesPairs self.now }
     {
-        aim.plain && aim.pairs && !aim.all && !aim.four && self.masks_upper_planes(aim, misc)
+        aim.plain && aim.pairs && !aim.all && !aim.four && self.masks_upper_planes(aim)
     }
 
     /// Whether plain moves go from an even place to another, of planes 0 and 1 alone.
-    fn moves_pairs(&self, aim: Aim, first: u32, target: u32, misc: u8) -> bool
-        requires { IsAim aim self.now misc }
+    fn moves_pairs(&self, aim: Aim, first: u32, target: u32) -> bool
+        requires { IsAim aim self.now }
         ensures { result ≡ true → MovesPairs self.now first target }
     {
-        self.writes_pairs(aim, misc) && self.reads_pairs() && first % 2 == 0 && target % 2 == 0
+        self.writes_pairs(aim) && self.reads_pairs() && first % 2 == 0 && target % 2 == 0
     }
 
     /// How many moves copy a word: 1, 2 or 4, or 0 where they do not.
     fn moves_of_word(&self, aim: Aim, from: u32, to: u32, n: u32, misc: u8) -> u32
-        requires aim { IsAim aim self.now misc }
+        requires aim { IsAim aim self.now }
         requires starts { (aim.start ≤ from) × (aim.start ≤ to) }
         requires within { AreWithin self.now misc from to n (from - aim.start) (to - aim.start) }
         ensures { 0 < result → MovesWords result self.now misc from to n (from - aim.start)
@@ -95,11 +96,11 @@ impl Host {
     {
         let first = from - aim.start;
         let target = to - aim.start;
-        if self.moves_latches(aim, misc) {
+        if self.moves_latches(aim) {
             1
-        } else if self.moves_fours(aim, first, target, misc) {
+        } else if self.moves_fours(aim, first, target) {
             4
-        } else if self.moves_pairs(aim, first, target, misc) {
+        } else if self.moves_pairs(aim, first, target) {
             2
         } else {
             0
@@ -120,14 +121,14 @@ impl Host {
     /// Copies words, of `per` moves each, as long as a whole one is left of n moves, and tells how
     /// many moves that were.
     fn copy_words(&mut self, aim: Aim, per: u32, from: u32, to: u32, n: u32, misc: u8) -> u32
-        requires aim { IsAim aim self.old misc }
+        requires aim { IsAim aim self.old }
         requires starts { (aim.start ≤ from) × (aim.start ≤ to) }
         requires from { from + n < 2 ^ 32 }
         requires to { to + n < 2 ^ 32 }
         requires words { MovesWords per self.old misc from to n (from - aim.start)
             (to - aim.start) }
         ensures few { result ≤ n }
-        ensures aim { IsAim aim self.new misc }
+        ensures aim { IsAim aim self.new }
         ensures moved { self.new ≡ after_moves misc from to result 0 self.old }
     {
         let first = from - aim.start;
@@ -144,12 +145,12 @@ impl Host {
 
     /// Moves words, where that is what the first of n moves do, and tells how many moves that were.
     pub(super) fn move_words(&mut self, aim: Aim, from: u32, to: u32, n: u32, misc: u8) -> u32
-        requires aim { IsAim aim self.old misc }
+        requires aim { IsAim aim self.old }
         requires small { aim.start + aim.len < 2 ^ 32 }
         requires from { from + n < 2 ^ 32 }
         requires to { to + n < 2 ^ 32 }
         ensures few { result ≤ n }
-        ensures aim { IsAim aim self.new misc }
+        ensures aim { IsAim aim self.new }
         ensures moved { self.new ≡ after_moves misc from to result 0 self.old }
     {
         if !self.are_within(aim, from, to, n, misc) {

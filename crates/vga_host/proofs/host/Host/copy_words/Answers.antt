@@ -1,7 +1,7 @@
 use Rattle.std.proofs.Common.{◌+◌, ◌-◌, ◌%◌, ◌∙◌, ap, sym, subst, refl, arith, ℕ, Bool}
 use Rattle.std.proofs.Math.Nat.{zero-mod}
 use Rattle.vga_host.specs.Host.{HostState}
-use Rattle.vga_host.specs.Runs.{IsAim}
+use Rattle.vga_host.specs.Aim.{IsAim}
 use Rattle.vga_host.specs.Words.{word_moved}
 use Rattle.vga_host.proofs.WordLemmas.{aim_over, words_go_on}
 use Rattle.vga_host.proofs.host.Host.copy_words.Goals as goal
@@ -31,7 +31,7 @@ returns-clause-few c = c.loop-done.invariant.0
 
 pub returns-clause-aim : goal.returns-clause-aim
 returns-clause-aim c =
-    subst (λ (s : HostState). IsAim c.args.aim s c.args.misc) c.loop-done.invariant.2
+    subst (λ (s : HostState). IsAim c.args.aim s) c.loop-done.invariant.2
     (aim_over c.args.aim c.args.self.now c.args.misc c.loop-done.self.memory c.loop-done.self.latches c.requires.aim)
 
 pub returns-clause-moved : goal.returns-clause-moved

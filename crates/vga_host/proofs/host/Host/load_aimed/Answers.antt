@@ -2,7 +2,8 @@
 use Rattle.std.proofs.Common.{◌≡◌, ◌∙◌, ap, sym, subst}
 use Rattle.vga_planes.specs.Planes.{bytes_at}
 use Rattle.vga_host.specs.Host.{HostState}
-use Rattle.vga_host.specs.Runs.{get_where, IsAim}
+use Rattle.vga_host.specs.Runs.{get_where}
+use Rattle.vga_host.specs.Aim.{IsAim}
 use Rattle.vga_host.proofs.RunLemmas.{get_as}
 use Rattle.vga_host.proofs.host.Host.load_aimed.Goals as goal
 
@@ -17,7 +18,7 @@ returns-in-Some c =
       gfx_index = c.self.inside.gfx_index;
     } in
     let same : h ≡ c.args.self.now = c.self.view_is in
-    let is : IsAim c.args.aim h c.args.misc = subst (λ x. IsAim c.args.aim x c.args.misc) (sym same) c.requires.aim in
+    let is : IsAim c.args.aim h = subst (λ x. IsAim c.args.aim x) (sym same) c.requires.aim in
     let d = c.in-Some.ensures in
     ap (λ l. let after : HostState = record h { latches = l } in after) (c.load-self-inside.ensures ∙ ap (λ o. bytes_at h.memory o) c.offset.ensures)
     ∙ get_as c.args.aim h c.args.misc c.args.address is c.in-Some.place d.0 d.1

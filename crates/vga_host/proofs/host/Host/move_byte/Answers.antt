@@ -2,17 +2,18 @@
 use Rattle.std.proofs.Common.{◌∙◌, ap, sym, subst}
 use Rattle.vga_bits.specs.Four.{four}
 use Rattle.vga_host.specs.MemoryWrite.{written_byte}
-use Rattle.vga_host.specs.Runs.{put_where, put_bytes, byte_where, IsAim}
+use Rattle.vga_host.specs.Runs.{put_where, put_bytes, byte_where}
+use Rattle.vga_host.specs.Aim.{IsAim}
 use Rattle.vga_host.proofs.RunLemmas.{aim_read}
 use Rattle.vga_host.proofs.host.Host.move_byte.Goals as goal
 
 pub written_aimed-bytes-requires : goal.written_aimed-bytes-requires
 written_aimed-bytes-requires c =
-    subst (λ x. IsAim c.args.aim x c.args.misc) (sym c.load_aimed.ensures) (aim_read c.args.aim c.args.self.now c.args.misc c.args.from c.requires.aim)
+    subst (λ x. IsAim c.args.aim x) (sym c.load_aimed.ensures) (aim_read c.args.aim c.args.self.now c.args.misc c.args.from c.requires.aim)
 
 pub put_aimed-requires-clause-aim : goal.put_aimed-requires-clause-aim
 put_aimed-requires-clause-aim c =
-    subst (λ x. IsAim c.args.aim x c.args.misc) (sym c.load_aimed.ensures) (aim_read c.args.aim c.args.self.now c.args.misc c.args.from c.requires.aim)
+    subst (λ x. IsAim c.args.aim x) (sym c.load_aimed.ensures) (aim_read c.args.aim c.args.self.now c.args.misc c.args.from c.requires.aim)
 
 pub returns : goal.returns
 returns c =

@@ -1,7 +1,8 @@
 -- A load keeps what the registers say; whatever is read, the latches are stored.
 use Rattle.std.proofs.Common.{◌∙◌, ap, sym, subst}
 use Rattle.vga_host.specs.Fields.{write_mode}
-use Rattle.vga_host.specs.Runs.{put_where, put_bytes, byte_where, IsAim}
+use Rattle.vga_host.specs.Runs.{put_where, put_bytes, byte_where}
+use Rattle.vga_host.specs.Aim.{IsAim}
 use Rattle.vga_host.proofs.RunLemmas.{aim_read, mode_read}
 use Rattle.vga_host.proofs.host.Host.move_latches.Goals as goal
 
@@ -10,7 +11,7 @@ latched-bytes-requires c = ap write_mode c.load_aimed.ensures ∙ mode_read c.ar
 
 pub put_aimed-requires-clause-aim : goal.put_aimed-requires-clause-aim
 put_aimed-requires-clause-aim c =
-    subst (λ x. IsAim c.args.aim x c.args.misc) (sym c.load_aimed.ensures) (aim_read c.args.aim c.args.self.now c.args.misc c.args.from c.requires.aim)
+    subst (λ x. IsAim c.args.aim x) (sym c.load_aimed.ensures) (aim_read c.args.aim c.args.self.now c.args.misc c.args.from c.requires.aim)
 
 pub returns : goal.returns
 returns c =

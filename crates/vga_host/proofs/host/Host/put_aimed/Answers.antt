@@ -3,7 +3,8 @@ use Rattle.vga_bits.specs.Bits.{is_set}
 use Rattle.vga_planes.specs.Planes.{with_bytes}
 use Rattle.vga_bits.proofs.FourLemmas.{by_plane}
 use Rattle.vga_host.specs.Host.{HostState}
-use Rattle.vga_host.specs.Runs.{put_bytes, IsAim}
+use Rattle.vga_host.specs.Runs.{put_bytes}
+use Rattle.vga_host.specs.Aim.{IsAim}
 use Rattle.vga_host.proofs.RunLemmas.{put_as}
 use Rattle.vga_host.proofs.host.Host.put_aimed.Goals as goal
 
@@ -18,7 +19,7 @@ returns-in-Some c =
       gfx_index = c.self.inside.gfx_index;
     } in
     let same : h ≡ c.args.self.now = c.self.view_is in
-    let is : IsAim c.args.aim h c.args.misc = subst (λ x. IsAim c.args.aim x c.args.misc) (sym same) c.requires.aim in
+    let is : IsAim c.args.aim h = subst (λ x. IsAim c.args.aim x) (sym same) c.requires.aim in
     let d = c.in-Some.ensures in
     let w = c.in-Some.place in
     let set = c.reached.result in

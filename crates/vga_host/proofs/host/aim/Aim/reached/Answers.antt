@@ -2,7 +2,7 @@
 use Rattle.std.proofs.Common.{ap, ◌∙◌, ◌&&◌}
 use Rattle.vga_bits.specs.Bits.{is_set}
 use Rattle.vga_bits.proofs.BitLemmas.{is_set_and}
-use Rattle.vga_host.proofs.host.runs.Aim.reached.Goals as goal
+use Rattle.vga_host.proofs.host.aim.Aim.reached.Goals as goal
 
 pub returns-clause-plane0 : goal.returns-clause-plane0
 returns-clause-plane0 c = is_set_and c.args.self.mask c.addressed.result 0 ∙ ap (λ b. is_set c.args.self.mask 0 && b) c.addressed.ensures.plane0

@@ -1,0 +1,176 @@
+//! What the registers say of every cycle of memory, which is kept beside them: it stands apart for
+//! speed alone.
+ghost use Rattle.std.specs.Prelude.{◌≡◌, ◌<◌, ◌+◌, ◌-◌, ◌*◌, ◌/◌, ◌%◌, ◌^◌, ◌==◌, ◌&&◌, ◌||◌};
+ghost use Rattle.std.specs.Prelude.{nat_le, nat_lt, if◌then◌else◌, IsTrue, true};
+ghost use Rattle.std.specs.Option.{SomeIff};
+ghost use Rattle.vga_bits.specs.Bits.{is_set};
+ghost use Rattle.vga_host.specs.Aim.{IsAim, IsAimOf};
+ghost use Rattle.vga_host.specs.Fields.{is_memory_enabled as is_memory_enabled_of};
+ghost use Rattle.vga_host.specs.Host.{HostState};
+ghost use Rattle.vga_host.specs.MemoryWrite.{IsPlain};
+
+use super::Host;
+use super::fields::{graphics, is_memory_enabled, sequencer};
+use vga_bits::RegFile;
+use vga_planes::PlaneSet;
+
+/// What the registers say of every cycle of memory.
+#[derive(Clone, Copy)]
+pub(crate) struct Aim {
+    /// The window's first address, and how many it has.
+    pub start: u32,
+    pub len: u32,
+    /// Whether the two low bits of an address pick the plane.
+    pub four: bool,
+    /// Whether the lowest bit of an address picks a plane and not an offset.
+    pub pairs: bool,
+    /// Whether even and odd addresses are not kept apart on writes.
+    pub all: bool,
+    /// The planes that the map mask lets be written.
+    pub mask: PlaneSet,
+    /// Whether a write replaces bytes as they are.
+    pub plain: bool,
+    /// Whether a write stores the latches.
+    pub latched: bool,
+}
+
+impl Aim {
+    /// The place of an address in the window, where the memory has it; `misc` is the miscellaneous
+    /// output register.
+    pub(super) fn place(self, address: u32, misc: u8) -> Option<u16>
+        requires { self.start + self.len < 2 ^ 32 }
+        ensures { SomeIff result (IsTrue (is_memory_enabled_of misc && (nat_le self.start address
+            && nat_lt address (self.start + self.len)))) ((address - self.start) % 65536) }
+    {
+        let offset = address.wrapping_sub(self.start);
+        if is_memory_enabled(misc) && offset < self.len {
+            Some((offset % 65536) as u16)
+        } else {
+            None
+        }
+    }
+
+    /// Whether the memory has n addresses from the first on.
+    pub(super) fn covers(self, first: u32, n: u32, misc: u8) -> bool
+        requires small { self.start + self.len < 2 ^ 32 }
+        requires few { first + n < 2 ^ 32 }
+        ensures { result ≡ (is_memory_enabled_of misc && (nat_le self.start first
+            && nat_le (first + n) (self.start + self.len))) }
+    {
+        is_memory_enabled(misc) && self.start <= first && first + n <= self.start + self.len
+    }
+
+    /// The offset in each plane of a place in the window.
+    pub(super) fn offset(self, place: u16) -> u16
+        ensures { result ≡ (if self.four then place / 4 * 4 else if self.pairs then place / 2 * 2
+            else place) }
+    {
+        if self.four {
+            place / 4 * 4
+        } else if self.pairs {
+            place / 2 * 2
+        } else {
+            place
+        }
+    }
+
+    /// The planes that the address bits let a write at a place in the window through to.
+    fn addressed(self, place: u16) -> PlaneSet
+        ensures plane0 { is_set result 0 ≡ (if self.four then 0 == place % 4 else self.all
+            || (0 == place % 2)) }
+        ensures plane1 { is_set result 1 ≡ (if self.four then 1 == place % 4 else self.all
+            || (1 == place % 2)) }
+        ensures plane2 { is_set result 2 ≡ (if self.four then 2 == place % 4 else self.all
+            || (0 == place % 2)) }
+        ensures plane3 { is_set result 3 ≡ (if self.four then 3 == place % 4 else self.all
+            || (1 == place % 2)) }
+    {
+        if self.four {
+            match place % 4 {
+                0 => 0x01,
+                1 => 0x02,
+                2 => 0x04,
+                _ => 0x08,
+            }
+        } else if self.all {
+            0x0F
+        } else if place % 2 == 0 {
+            0x05
+        } else {
+            0x0A
+        }
+    }
+
+    /// The planes that a write at a place in the window reaches.
+    pub(super) fn reached(self, place: u16) -> PlaneSet
+        ensures plane0 { is_set result 0 ≡ (is_set self.mask 0
+            && (if self.four then 0 == place % 4 else self.all || (0 == place % 2))) }
+        ensures plane1 { is_set result 1 ≡ (is_set self.mask 1
+            && (if self.four then 1 == place % 4 else self.all || (1 == place % 2))) }
+        ensures plane2 { is_set result 2 ≡ (is_set self.mask 2
+            && (if self.four then 2 == place % 4 else self.all || (0 == place % 2))) }
+        ensures plane3 { is_set result 3 ≡ (is_set self.mask 3
+            && (if self.four then 3 == place % 4 else self.all || (1 == place % 2))) }
+    {
+        self.mask & self.addressed(place)
+    }
+}
+
+/// The window's first address, and how many it has, by the number of the memory map.
+fn window(map: u8) -> (u32, u32)
+    ensures start { result.0 ≡ (if nat_lt map 2 then 0xA0000 else if map == 2 then 0xB0000
+        else 0xB8000) }
+    ensures len { result.1 ≡ (if map == 0 then 0x20000 else if map == 1 then 0x10000
+        else 0x8000) }
+    ensures small { result.0 + result.1 < 2 ^ 32 }
+{
+    match map {
+        0 => (0xA0000, 0x20000),
+        1 => (0xA0000, 0x10000),
+        2 => (0xB0000, 0x8000),
+        _ => (0xB8000, 0x8000),
+    }
+}
+
+/// Whether a write replaces bytes as they are, by the graphics controller's registers.
+fn is_plain(gfx: &RegFile<9>) -> bool
+    ensures { result ≡ true → (h : HostState) → h.gfx ≡ gfx.now.values → IsPlain h }
+{
+    // Each of these numbers changes what is written, where it is not 0.
+    let mode = gfx.field(graphics::GRAPHICS_MODE, 1, 0);
+    let rotate = gfx.field(graphics::DATA_ROTATE, 2, 0);
+    let function = gfx.field(graphics::DATA_ROTATE, 4, 3);
+    let own = gfx.read(graphics::ENABLE_SET_RESET);
+    let mask = gfx.read(graphics::BIT_MASK);
+    let changes = mode as u32 + rotate as u32 + function as u32 + own as u32;
+    changes == 0 && mask == 0xFF
+}
+
+/// What the registers of both groups say of every cycle.
+pub(super) fn aim_of(seq: &RegFile<5>, gfx: &RegFile<9>) -> Aim
+    ensures { IsAimOf result seq.now.values gfx.now.values }
+{
+    let map = gfx.field(graphics::MISCELLANEOUS, 3, 2);
+    let (start, len) = window(map);
+    let mode = gfx.field(graphics::GRAPHICS_MODE, 1, 0);
+    Aim {
+        start,
+        len,
+        four: seq.bit(sequencer::MEMORY_MODE, 3),
+        pairs: gfx.bit(graphics::MISCELLANEOUS, 1),
+        all: seq.bit(sequencer::MEMORY_MODE, 2),
+        mask: seq.read(sequencer::MAP_MASK),
+        plain: is_plain(gfx),
+        latched: mode == 1,
+    }
+}
+
+impl Host {
+    /// What the registers say of every cycle.
+    pub(super) fn aim(&self) -> Aim
+        ensures aim { IsAim result self.now }
+        ensures small { result.start + result.len < 2 ^ 32 }
+    {
+        self.aim
+    }
+}
