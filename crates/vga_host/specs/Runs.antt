@@ -2,16 +2,13 @@
 -- From the IBM PS/2 Hardware Interface Technical Reference, Video Subsystems: no write to memory
 -- changes a register or a latch.
 use Rattle.std.specs.Prelude.{List}
-use Rattle.std.specs.Prelude.{ℕ, zero, suc, ◌≡◌, ◌+◌, ◌%◌, ◌==◌}
-use Rattle.std.specs.Prelude.{true, if◌then◌else◌, slice_set}
-use Rattle.vga_bits.specs.Bits.{is_set}
+use Rattle.std.specs.Prelude.{ℕ, zero, suc, ◌+◌, ◌%◌, ◌==◌}
+use Rattle.std.specs.Prelude.{if◌then◌else◌, slice_set}
 use Rattle.vga_bits.specs.Four.{Four, four, of_plane}
 use Rattle.vga_host.specs.Host.{HostState}
-use Rattle.vga_host.specs.Fields.{is_memory_enabled, is_in_map_mask, is_odd_even_off, is_chain_four}
-use Rattle.vga_host.specs.Fields.{is_chain_odd_even, write_mode}
-use Rattle.vga_host.specs.Address.{is_decoded, window_start, window_len, window_offset}
+use Rattle.vga_host.specs.Address.{is_decoded, window_offset}
 use Rattle.vga_host.specs.Address.{plane_offset, is_reached}
-use Rattle.vga_host.specs.MemoryWrite.{after_put, IsPlain}
+use Rattle.vga_host.specs.MemoryWrite.{after_put}
 use Rattle.vga_host.specs.MemoryRead.{read_byte, after_get}
 
 -- the host path over other memory
