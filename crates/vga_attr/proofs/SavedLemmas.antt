@@ -1,6 +1,5 @@
 -- An attribute controller is read back from its bytes.
-use Rattle.std.proofs.Common.{◌≡◌, ℕ, ◌<◌, ap, ◌∙◌, sym, arith, List, [], ◌∷◌, ◌++◌, length, take, drop, length-append}
-use Rattle.std.specs.Prelude.{slice_index}
+use Rattle.std.proofs.Common.{◌≡◌, ◌<◌, arith, [], ◌∷◌, length, take, drop, length-append}
 use Rattle.std.proofs.lemmas.List.{take_at, drop_at}
 use Rattle.vga_bits.specs.Saved.{flag_byte}
 use Rattle.vga_bits.proofs.SavedLemmas.{flag_back, flag_small}

@@ -4,6 +4,7 @@ ghost use Rattle.std.specs.Prelude.{◌≡◌, ◌<◌, ◌↔◌, IsTrue, OnOk,
 mod fields;
 mod saved;
 
+use fields::numbers_of;
 use std::marker::Model;
 use vga_bits::{Refusal, RegFile};
 
@@ -28,6 +29,8 @@ const PALETTE_REGISTERS: u8 = 16;
 #[derive(Drop)]
 pub struct Attr {
     registers: RegFile<21>,
+    /// The numbers that the 16 values of a dot's four bits give, kept for speed alone.
+    numbers: [u8; 16],
     index: u8,
     is_data: bool,
 }
@@ -35,6 +38,7 @@ pub struct Attr {
 impl Model for Attr {
     ghost use Rattle.std.specs.Prelude.{◌≡◌, ◌<◌};
     ghost use Rattle.vga_attr.specs.Attr.{AttrState};
+    ghost use Rattle.vga_attr.specs.Colour.{AreNumbers};
     ghost use Rattle.vga_attr.specs.declared.attr.TheConstants.{MASKS};
 
     ghost Value = { AttrState };
@@ -45,7 +49,8 @@ impl Model for Attr {
       is_data = a.is_data;
     } };
 
-    ghost invariant = { λ a. (a.registers.masks ≡ MASKS) × (a.index < 64) };
+    ghost invariant = { λ a. (a.registers.masks ≡ MASKS) × (a.index < 64)
+        × AreNumbers a.numbers a.registers.values };
 }
 
 impl Attr {
@@ -59,8 +64,10 @@ impl Attr {
     pub fn new() -> Attr
         ensures { result ≡ power_on_attr }
     {
+        let registers = RegFile::new(MASKS);
         Attr {
-            registers: RegFile::new(MASKS),
+            numbers: numbers_of(&registers),
+            registers,
             index: 0,
             is_data: false,
         }
@@ -97,6 +104,7 @@ impl Attr {
         }
         if i >= PALETTE_REGISTERS || !self.is_palette_shown() {
             self.registers.write(i as usize, v);
+            self.numbers = numbers_of(&self.registers);
         }
         Ok(())
     }

@@ -3,6 +3,7 @@ ghost use Rattle.std.specs.Prelude.{◌≡◌, ◌+◌, ◌≤◌, ◌↔◌, le
 ghost use Rattle.vga_bits.specs.Saved.{IsPut};
 ghost use Rattle.vga_attr.specs.Saved.{saved_attr, IsSavedAttr, attr_from};
 
+use super::fields::numbers_of;
 use super::{Attr, INDEX_MASK, MASKS};
 use vga_bits::{are_kept, flag_byte, put_bytes};
 
@@ -42,6 +43,7 @@ impl Attr {
     {
         let (registers, rest) = bytes.split_at(MASKS.len());
         self.registers.restore(registers);
+        self.numbers = numbers_of(&self.registers);
         self.index = rest[0];
         self.is_data = rest[1] == 1;
     }

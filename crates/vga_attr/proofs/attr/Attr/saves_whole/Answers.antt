@@ -1,4 +1,4 @@
-use Rattle.std.proofs.Common.{◌<◌, ap, arith}
+use Rattle.std.proofs.Common.{ap, arith}
 use Rattle.vga_attr.specs.Attr.{AttrState}
 use Rattle.vga_attr.proofs.SavedLemmas.{attr_is_saved}
 use Rattle.vga_attr.proofs.attr.Attr.saves_whole.Goals as goal
