@@ -9,7 +9,8 @@ ghost use Rattle.vga_dots.specs.Line.{masked as colour_masked, shades_of, dot_of
 ghost use Rattle.vga_dots.specs.Display.{ShowsText, ShowsPlanes};
 
 use crate::display::Display;
-use crate::row::{Shades, put_glyph, put_pixels, put_planes};
+use crate::quads::{Quads, put_glyph};
+use crate::row::{Shades, put_pixels, put_planes};
 use crate::text::{Cell, GLYPHS, cell_at};
 use crate::text_line::TextLine;
 use vga_attr::Attr;
@@ -48,14 +49,6 @@ fn shades(attr: &Attr, dac: &Dac) -> Shades
         masked(dac, numbers[14]),
         masked(dac, numbers[15]),
     ]
-}
-
-/// The colour of four bits, looked up.
-fn shade_in(table: &Shades, n: u8) -> [u8; 3]
-    requires { n < 16 }
-    ensures { result ≡ slice_index_or table.now n [] }
-{
-    table[n as usize]
 }
 
 /// The dots of a line of a glyph, of which bit 8 is the leftmost.
@@ -105,6 +98,7 @@ pub(crate) trait Characters<const CW: usize> {
         requires draws { draws self.now display.now }
         requires room { 3 * (at + CW) ≤ length row.old }
         requires width { CW < 10 }
+        requires eight { 8 ≤ CW }
         ensures { AreDotsPut CW at (λ i. source_colour display.now (dot_of counter i)) row.old
             row.new };
 }
@@ -112,7 +106,7 @@ pub(crate) trait Characters<const CW: usize> {
 /// Characters of text, with what is looked up once for a line.
 #[derive(Drop)]
 pub(crate) struct TextCharacters {
-    table: Shades,
+    quads: Quads,
     line: TextLine,
 }
 
@@ -125,7 +119,7 @@ impl TextCharacters {
         ensures { DrawsText result display.now }
     {
         TextCharacters {
-            table: shades(display.attr(), display.dac()),
+            quads: Quads::of(&shades(display.attr(), display.dac())),
             line: TextLine::at_beam(display),
         }
     }
@@ -139,8 +133,8 @@ impl<const CW: usize> Characters<CW> for TextCharacters {
     #[inline(always)]
     fn put(&self, display: &Display<'_>, counter: u16, row: &mut [u8], at: usize) {
         let cell = cell_at(display.host(), display.fetch_address(counter));
-        let fore = shade_in(&self.table, cell.attribute % 16);
-        let back = shade_in(&self.table, self.line.background(cell));
+        let fore = self.quads.at(cell.attribute % 16);
+        let back = self.quads.at(self.line.background(cell));
         let lit = lit_dots(display, &self.line, counter, cell);
         put_glyph::<CW>(row, at, lit, fore, back);
     }

@@ -7,6 +7,7 @@ pub mod display;
 mod graphics;
 pub mod laws;
 pub mod line;
+mod quads;
 mod row;
 mod source_dot;
 mod text;

@@ -43,6 +43,7 @@ fn draw_each<const CW: usize, C: Characters<CW>>(
     requires first { first ≤ 300 }
     requires count { count ≤ 257 }
     requires width { CW < 10 }
+    requires eight { 8 ≤ CW }
     requires room { 3 * (count * CW) ≤ length row.old }
     ensures { AreCharactersPut CW count (λ x. unpanned_colour display.now (first + x)) row.old
         row.new }
@@ -66,6 +67,7 @@ fn draw_characters<const CW: usize>(
     requires first { first ≤ 300 }
     requires count { count ≤ 257 }
     requires width { CW < 10 }
+    requires eight { 8 ≤ CW }
     requires room { 3 * (count * CW) ≤ length row.old }
     ensures { AreCharactersPut CW count (λ x. unpanned_colour display.now (first + x)) row.old
         row.new }

@@ -1,10 +1,7 @@
 //! Dots in a row of bytes: red, green and blue of each in turn.
 ghost use Rattle.std.specs.Prelude.{◌≡◌, ◌+◌, ◌-◌, ◌*◌, ◌/◌, ◌<◌, ◌≤◌, if◌then◌else◌, length, []};
 ghost use Rattle.std.specs.Prelude.{nat_lt, slice_index_or};
-ghost use Rattle.vga_bits.specs.Bits.{is_set as is_set_of};
 ghost use Rattle.vga_dots.specs.Row.{nibble_of, dot_in, IsDotPut, AreDotsPut, AreCharactersPut};
-
-use vga_bits::is_set;
 
 /// The colours of the 16 numbers that four bits have.
 pub(crate) type Shades = [[u8; 3]; 16];
@@ -19,7 +16,7 @@ const LOWEST_BITS: u32 = 0x0101_0101;
 const TOGETHER: u32 = 0x0102_0408;
 
 /// Writes the three bytes of a dot.
-fn put_dot(row: &mut [u8], at: usize, colour: [u8; 3])
+pub(crate) fn put_dot(row: &mut [u8], at: usize, colour: [u8; 3])
     requires { 3 * at + 3 ≤ length row.old }
     ensures { IsDotPut row.old row.new at colour }
 {
@@ -35,29 +32,6 @@ pub(crate) fn copy_dots(row: &mut [u8], dots: &[u8], first: usize, count: usize)
     ensures { AreDotsPut count 0 (λ i. dot_in dots.now (first + i)) row.old row.new }
 {
     row[..3 * count].copy_from_slice(&dots[3 * first..3 * (first + count)]);
-}
-
-/// Whether dot `i` of a line of a glyph is lit, of which bit 8 of `lit` is the leftmost dot. Eight
-/// dots are looked up in a byte, since a processor tests more bytes at once than words.
-fn is_dot_lit(lit: u16, i: usize) -> bool
-    requires dots { lit < 512 }
-    requires dot { i < 9 }
-    ensures { result ≡ is_set_of lit (8 - i) }
-{
-    if i < 8 {
-        is_set((lit >> 1) as u8, 7 - i as u32)
-    } else {
-        lit % 2 == 1
-    }
-}
-
-/// The colour of dot `i` of a line of a glyph, of which bit 8 of `lit` is the leftmost dot.
-fn glyph_dot(lit: u16, i: usize, fore: [u8; 3], back: [u8; 3]) -> [u8; 3]
-    requires dots { lit < 512 }
-    requires dot { i < 9 }
-    ensures { result ≡ (if is_set_of lit (8 - i) then fore else back) }
-{
-    if is_dot_lit(lit, i) { fore } else { back }
 }
 
 /// Writes the dots of a character in one colour.
@@ -79,41 +53,6 @@ pub(crate) fn fill<const CW: usize>(row: &mut [u8], count: usize, colour: [u8; 3
 {
     for x in 0..count {
         put_blank::<CW>(row, x * CW, colour);
-    }
-}
-
-/// Writes the dots of a line of a glyph one by one, as `put_glyph` does.
-fn put_lit<const CW: usize>(row: &mut [u8], at: usize, lit: u16, fore: [u8; 3], back: [u8; 3])
-    requires dots { lit < 512 }
-    requires room { 3 * (at + CW) ≤ length row.old }
-    requires width { CW < 10 }
-    ensures { AreDotsPut CW at (λ i. if is_set_of lit (8 - i) then fore else back) row.old row.new }
-{
-    for i in 0..CW {
-        put_dot(row, at + i, glyph_dot(lit, i, fore, back));
-    }
-}
-
-/// Writes the dots of a line of a glyph: in the one colour where `lit` has a bit, and in the other
-/// elsewhere.
-/// Most of a page of text is blank, so that is not looked up dot by dot.
-#[inline(always)]
-pub(crate) fn put_glyph<const CW: usize>(
-    row: &mut [u8],
-    at: usize,
-    lit: u16,
-    fore: [u8; 3],
-    back: [u8; 3],
-)
-    requires dots { lit < 512 }
-    requires room { 3 * (at + CW) ≤ length row.old }
-    requires width { CW < 10 }
-    ensures { AreDotsPut CW at (λ i. if is_set_of lit (8 - i) then fore else back) row.old row.new }
-{
-    if lit == 0 {
-        put_blank::<CW>(row, at, back);
-    } else {
-        put_lit::<CW>(row, at, lit, fore, back);
     }
 }
 

@@ -3,6 +3,9 @@ use Rattle.std.proofs.lemmas.Nat.{mul-le}
 use Rattle.vga_dots.proofs.LineLemmas.{from_first, line_panned, narrow, eight_wide}
 use Rattle.vga_dots.proofs.line.draw_panned.Goals as goal
 
+pub draw_characters-requires-clause-eight : goal.draw_characters-requires-clause-eight
+draw_characters-requires-clause-eight g c = eight_wide c.args.display.now.host g.row.CW c.requires.width
+
 pub draw_characters-requires-clause-width : goal.draw_characters-requires-clause-width
 draw_characters-requires-clause-width g c = narrow c.args.display.now.host g.row.CW c.requires.width
 

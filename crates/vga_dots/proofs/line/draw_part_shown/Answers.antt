@@ -5,6 +5,9 @@ use Rattle.vga_crtc.specs.Raster.{dot_number}
 use Rattle.vga_dots.proofs.LineLemmas.{part_panned, eight_wide}
 use Rattle.vga_dots.proofs.line.draw_part_shown.Goals as goal
 
+pub draw_characters-requires-clause-eight : goal.draw_characters-requires-clause-eight
+draw_characters-requires-clause-eight g c = eight_wide c.args.display.now.host g.row.CW c.requires.width
+
 pub returns : goal.returns
 returns g c =
     let cw = g.row.CW in
