@@ -172,7 +172,7 @@ module _ (d : DisplayState) (counter : ℕ) where
       ∙ ap (λ v. colour_by i false true v (is_graphics d.host)) shows.few
       ∙ ap (λ v. colour_by i false true false v) shows.graphics)
 
-  text_shown : (i : ℕ) → ShowsText d → text_colour i ≡ source_colour d (dot_of counter i)
+  pub text_shown : (i : ℕ) → ShowsText d → text_colour i ≡ source_colour d (dot_of counter i)
   unfolding source_colour
   text_shown i shows = sym (ap (λ v. colour_by i v (is_palette_shown d.attr) (is_256_colours d.host) (is_graphics d.host)) shows.memory.on
       ∙ ap (λ v. colour_by i false v (is_256_colours d.host) (is_graphics d.host)) shows.memory.shown

@@ -1,5 +1,5 @@
 //! The characters of a line, each in the way of what is shown: what is fetched is fetched once.
-ghost use Rattle.std.specs.Prelude.{◌≡◌, ℕ, ◌+◌, ◌-◌, ◌*◌, ◌<◌, ◌≤◌, [], length, slice_index_or};
+ghost use Rattle.std.specs.Prelude.{◌≡◌, true, ℕ, ◌+◌, ◌-◌, ◌*◌, ◌<◌, ◌≤◌, [], length, slice_index_or};
 ghost use Rattle.vga_bits.specs.Bits.{is_set};
 ghost use Rattle.vga_attr.specs.Fields.{is_line_graphics};
 ghost use Rattle.vga_dots.specs.Text.{is_glyph_dot as is_dot_of_glyph, is_foreground};
@@ -7,6 +7,7 @@ ghost use Rattle.vga_dots.specs.TextLine.{text_line, HasGlyphs};
 ghost use Rattle.vga_dots.specs.Row.{AreDotsPut};
 ghost use Rattle.vga_dots.specs.Line.{masked as colour_masked, shades_of, dot_of, source_colour};
 ghost use Rattle.vga_dots.specs.Display.{ShowsText, ShowsPlanes};
+ghost use Rattle.vga_dots.specs.Alike.{HasCell};
 
 use crate::display::Display;
 use crate::quads::{Quads, put_glyph};
@@ -122,6 +123,16 @@ impl TextCharacters {
             quads: Quads::of(&shades(display.attr(), display.dac())),
             line: TextLine::at_beam(display),
         }
+    }
+
+    /// Whether a counter has a cell, and no cursor.
+    #[inline(always)]
+    pub(crate) fn has_cell(&self, display: &Display<'_>, counter: u16, cell: Cell) -> bool
+        requires { DrawsText self.now display.now }
+        ensures { result ≡ true → HasCell display.now counter cell }
+    {
+        let fetched = cell_at(display.host(), display.fetch_address(counter));
+        fetched.is_same(cell) && !self.line.has_cursor_at(counter)
     }
 }
 

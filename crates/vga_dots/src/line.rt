@@ -2,11 +2,12 @@
 ghost use Rattle.std.specs.Prelude.{◌≡◌, ◌+◌, ◌*◌, ◌<◌, ◌≤◌, length};
 ghost use Rattle.vga_host.specs.Fields.{character_width};
 ghost use Rattle.vga_dots.specs.SourceDot.{panned as panned_dots};
-ghost use Rattle.vga_dots.specs.Display.{ShowsMemory};
+ghost use Rattle.vga_dots.specs.Display.{ShowsMemory, ShowsText};
 ghost use Rattle.vga_dots.specs.Row.{AreCharactersPut};
 ghost use Rattle.vga_dots.specs.Line.{shown_characters as characters_shown, unpanned_colour};
 ghost use Rattle.vga_dots.specs.Line.{IsLineDrawn, IsPartDrawn};
 
+use crate::alike::{repeat_last, unlike};
 use crate::character::{Characters, PackedCharacters, PlanarCharacters, TextCharacters, masked};
 use crate::colour::BLACK;
 use crate::display::Display;
@@ -55,6 +56,27 @@ fn draw_each<const CW: usize, C: Characters<CW>>(
     }
 }
 
+/// Draws some characters of the beam's line, which shows text, from `first` on, as if it were not
+/// panned.
+fn draw_text<const CW: usize>(display: &Display<'_>, first: usize, count: usize, row: &mut [u8])
+    requires text { ShowsText display.now }
+    requires first { first ≤ 300 }
+    requires count { count ≤ 257 }
+    requires width { CW < 10 }
+    requires eight { 8 ≤ CW }
+    requires room { 3 * (count * CW) ≤ length row.old }
+    ensures { AreCharactersPut CW count (λ x. unpanned_colour display.now (first + x)) row.old
+        row.new }
+{
+    if count == 0 {
+        return;
+    }
+    let characters = TextCharacters::at_beam(display);
+    let drawn = unlike(display, &characters, first, count);
+    draw_each::<CW, TextCharacters>(display, &characters, first, drawn, row);
+    repeat_last::<CW>(row, drawn, count);
+}
+
 /// Draws some characters of the beam's line, which shows memory, from `first` on, as if it were not
 /// panned.
 fn draw_characters<const CW: usize>(
@@ -83,13 +105,7 @@ fn draw_characters<const CW: usize>(
             row,
         );
     } else {
-        draw_each::<CW, TextCharacters>(
-            display,
-            &TextCharacters::at_beam(display),
-            first,
-            count,
-            row,
-        );
+        draw_text::<CW>(display, first, count, row);
     }
 }
 

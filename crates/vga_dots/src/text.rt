@@ -1,5 +1,5 @@
 //! Text: the four bits of a dot of a character with its attribute.
-ghost use Rattle.std.specs.Prelude.{◌≡◌, ◌<◌, if◌then◌else◌};
+ghost use Rattle.std.specs.Prelude.{◌≡◌, ◌<◌, if◌then◌else◌, true};
 ghost use Rattle.vga_bits.specs.Bits.{field};
 ghost use Rattle.vga_dots.specs.Text.{cell_at as cell_of_place, map_start as start_of_map};
 ghost use Rattle.vga_dots.specs.Text.{character_map as map_of_cell, glyph_row as row_of_glyph};
@@ -36,6 +36,15 @@ pub(crate) const UNDERLINE_BITS: u8 = 0x77;
 pub struct Cell {
     pub character: u8,
     pub attribute: u8,
+}
+
+impl Cell {
+    /// Whether two cells are the same.
+    pub(crate) fn is_same(self, other: Cell) -> bool
+        ensures { result ≡ true → self ≡ other }
+    {
+        self.character == other.character && self.attribute == other.attribute
+    }
 }
 
 /// The character and the attribute at a place.

@@ -1,0 +1,76 @@
+//! The end of a line of text that looks alike, as most lines have one: this file serves speed
+//! alone, for each of its characters could be drawn by itself.
+ghost use Rattle.std.specs.Prelude.{◌≡◌, ℕ, List, ◌+◌, ◌-◌, ◌*◌, ◌<◌, ◌≤◌, length};
+ghost use Rattle.vga_dots.specs.SourceDot.{counter_of};
+ghost use Rattle.vga_dots.specs.Character.{DrawsText};
+ghost use Rattle.vga_dots.specs.Display.{ShowsText};
+ghost use Rattle.vga_dots.specs.Line.{unpanned_colour};
+ghost use Rattle.vga_dots.specs.Row.{dot_in, AreDotsPut, AreCharactersPut};
+ghost use Rattle.vga_dots.specs.Alike.{HasCell, AreAlike};
+
+use crate::character::TextCharacters;
+use crate::display::Display;
+use crate::row::copy_dots;
+use crate::text::cell_at;
+
+/// How many bytes the dots of a character have at most.
+const CHARACTER_BYTES: usize = 27;
+
+/// How many characters of a line of text are to be drawn: each behind them looks as the last of
+/// these does.
+pub(crate) fn unlike(
+    display: &Display<'_>,
+    characters: &TextCharacters,
+    first: usize,
+    count: usize,
+) -> usize
+    requires draws { DrawsText characters.now display.now }
+    requires first { first ≤ 300 }
+    requires some { 0 < count }
+    requires count { count ≤ 257 }
+    ensures some { 0 < result }
+    ensures few { result ≤ count }
+    ensures alike { AreAlike result count (λ x. unpanned_colour display.now (first + x)) }
+{
+    let base = display.beam().base;
+    let end = base.wrapping_add((first + count - 1) as u16);
+    let last = cell_at(display.host(), display.fetch_address(end));
+    let mut unlike = count;
+    while 0 < unlike
+        && characters.has_cell(
+            display,
+            base.wrapping_add((first + unlike - 1) as u16),
+            last,
+        )
+    {
+        unlike -= 1;
+    }
+    (unlike + 1).min(count)
+}
+
+/// Writes the dots of a character as others are.
+fn put_again<const CW: usize>(row: &mut [u8], at: usize, dots: &[u8; 27])
+    requires room { 3 * (at + CW) ≤ length row.old }
+    requires width { CW < 10 }
+    ensures { AreDotsPut CW at (λ i. dot_in dots.now i) row.old row.new }
+{
+    row[3 * at..3 * (at + CW)].copy_from_slice(&dots[..3 * CW]);
+}
+
+/// Gives the characters behind the first ones, up to so many in all, the dots of the last of these:
+/// of any picture in which they are alike, they are drawn then.
+pub(crate) fn repeat_last<const CW: usize>(row: &mut [u8], drawn: usize, count: usize)
+    requires some { 0 < drawn }
+    requires more { drawn ≤ count }
+    requires count { count ≤ 257 }
+    requires width { CW < 10 }
+    requires room { 3 * (count * CW) ≤ length row.old }
+    ensures { (f : ℕ → ℕ → List ℕ) (old : List ℕ) → AreCharactersPut CW drawn f old row.old
+        → AreAlike drawn count f → AreCharactersPut CW count f old row.new }
+{
+    let mut dots = [0; CHARACTER_BYTES];
+    copy_dots(&mut dots, row, (drawn - 1) * CW, CW);
+    for x in drawn..count {
+        put_again::<CW>(row, x * CW, &dots);
+    }
+}
