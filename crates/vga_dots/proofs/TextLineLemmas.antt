@@ -1,6 +1,10 @@
 -- What is looked up once for a line is what each of its characters asks for.
-use Rattle.std.proofs.Common.{◌≡◌, ℕ, ◌+◌, ◌*◌, ◌%◌, refl, sym, ap, ◌∙◌, arith, Bool, true, false}
+use Rattle.std.proofs.Common.{◌≡◌, ℕ, ◌+◌, ◌-◌, ◌*◌, ◌/◌, ◌%◌, ◌^◌, ◌<◌, refl, sym, ap, ◌∙◌, arith, Bool, true, false}
 use Rattle.std.specs.Prelude.{◌==◌, ◌&&◌, not, nat_lt, nat_le, bit_and, if◌then◌else◌}
+use Rattle.std.specs.Int.{bit_at}
+use Rattle.std.proofs.lemmas.Bool.{ne_eqb}
+use Rattle.std.proofs.lemmas.Bool.Decides.{nat_tests}
+use Rattle.std.proofs.lemmas.Nat.{and_le_r, and_mask}
 use Rattle.vga_bits.specs.Bits.{is_set, field}
 use Rattle.vga_planes.specs.Planes.{byte_at}
 use Rattle.vga_host.specs.Host.{HostState}
@@ -27,6 +31,46 @@ together : (v w x y z : Bool) → (v && (w && x && y && z)) ≡ (v && w && x && 
 together true w x y z = refl
 together false w x y z = refl
 
+-- a fact beside one that is always so, or never
+and_true : (x : Bool) → x ≡ (x && true)
+and_true true = refl
+and_true false = refl
+
+and_false : (x : Bool) → false ≡ (x && false)
+and_false true = refl
+and_false false = refl
+
+-- ---- each number of a line by what it stands for
+
+-- a counter is the cursor's, or 65536, which it is not
+counter_is : (shown : Bool) (n place : ℕ) → n < 65536 → (n == (if shown then place else 65536)) ≡ (n == place && shown)
+counter_is true n place below = and_true (n == place)
+counter_is false n place below = ne_eqb n 65536 (λ e. absurd (omega (arith, e, below))) ∙ and_false (n == place)
+
+-- the attributes from the one on that has bit 7 alone are those that have it
+blinks : (away : Bool) (n : ℕ) → n < 256 → nat_le (if away then 128 else 256) n ≡ (away && is_set n 7)
+blinks true n below = grind (arith, nat_tests)
+blinks false n below = grind (arith, nat_tests)
+
+-- bits 0x77 are 1, or 0xFF, which they are not
+underlining : (here : Bool) (n : ℕ) → (bit_and n 0x77 == (if here then 1 else 0xFF)) ≡ (here && bit_and n 0x77 == 1)
+underlining true n = refl
+underlining false n = ne_eqb (bit_and n 0x77) 0xFF (λ e. let most = and_le_r n 0x77 in absurd (omega (arith, e, most)))
+
+-- the block of C0 to DF is the sixth of 32 characters, and none is the eighth
+drawing : (on : Bool) (n : ℕ) → n < 256 → (n / 32 == (if on then 6 else 8)) ≡ (on && nat_le 0xC0 n && nat_le n 0xDF)
+drawing true n below = grind (arith, nat_tests)
+drawing false n below = ne_eqb (n / 32) 8 (λ e. absurd (omega (arith, e, below)))
+
+lowest : (on : Bool) (row : ℕ) → is_set (if on then row % 2 else 0) 0 ≡ (on && is_set row 0)
+lowest true row = let e : bit_at (row % 2) 0 ≡ bit_at row 0 = omega arith in ap (λ b. b == 1) e
+lowest false row = refl
+
+-- three or four bits of an attribute, from bit 4 on
+masked_background : (blink : Bool) (n : ℕ) → bit_and (n / 16) (if blink then 7 else 15) ≡ (if blink then field n 6 4 else field n 7 4)
+masked_background true n = and_mask (n / 16) 3
+masked_background false n = and_mask (n / 16) 4
+
 -- the row is at the map's place in either order of the sum
 row_in : (which : Bool) (a b scan character : ℕ) → (if which then map_start a + scan else map_start b + scan) + 32 * character
     ≡ map_start (if which then a else b) + 32 * character + scan
@@ -34,56 +78,60 @@ row_in true a b scan character = omega arith
 row_in false a b scan character = omega arith
 
 module _ (h : HostState) (c : CrtcState) (a : AttrState) where
-  cursor : (n : ℕ) → (n == (text_line h c a).cursor && (text_line h c a).has_cursor) ≡ is_cursor_at c n
+  cursor : (n : ℕ) → n < 65536 → (n == (text_line h c a).cursor) ≡ is_cursor_at c n
   unfolding text_line is_cursor_at
-  cursor n = together (n == cursor_location c.registers) (not (is_cursor_off c.registers)) (nat_le (cursor_start c.registers) c.beam.scan)
-      (nat_le c.beam.scan (cursor_end c.registers)) (nat_lt (c.beam.frame % 16) 8)
+  cursor n below = counter_is _ n (cursor_location c.registers) below ∙ together (n == cursor_location c.registers) (not (is_cursor_off c.registers))
+      (nat_le (cursor_start c.registers) c.beam.scan) (nat_le c.beam.scan (cursor_end c.registers)) (nat_lt (c.beam.frame % 16) 8)
 
-  blinked : (cell : Cell) → ((text_line h c a).is_blinked_away && is_set cell.attribute 7) ≡ is_blinked_away c a cell
+  blinked : (cell : Cell) → cell.attribute < 256 → nat_le (text_line h c a).least_blinked cell.attribute ≡ is_blinked_away c a cell
   unfolding text_line is_blinked_away
-  blinked cell = last_two (is_blink a) (nat_le 16 c.beam.frame) (is_set cell.attribute 7)
+  blinked cell below = blinks (is_blink a && nat_le 16 c.beam.frame) cell.attribute below
+      ∙ last_two (is_blink a) (nat_le 16 c.beam.frame) (is_set cell.attribute 7)
 
-  underline : (cell : Cell) → ((text_line h c a).is_underline && bit_and cell.attribute 0x77 == 1) ≡ is_underlined c a cell
+  underline : (cell : Cell) → (bit_and cell.attribute 0x77 == (text_line h c a).underlined) ≡ is_underlined c a cell
   unfolding text_line is_underlined
-  underline cell = last_two (is_monochrome a) (c.beam.scan == underline_location c.registers) (bit_and cell.attribute 0x77 == 1)
+  underline cell = underlining (is_monochrome a && c.beam.scan == underline_location c.registers) cell.attribute
+      ∙ last_two (is_monochrome a) (c.beam.scan == underline_location c.registers) (bit_and cell.attribute 0x77 == 1)
 
   row : (cell : Cell) → byte_at h.memory 2 ((if is_set cell.attribute 3 then (text_line h c a).map_a else (text_line h c a).map_b) + 32 * cell.character)
       ≡ glyph_row h cell c.beam.scan
   unfolding text_line glyph_row
   row cell = ap (byte_at h.memory 2) (row_in (is_set cell.attribute 3) (character_map_a h) (character_map_b h) c.beam.scan cell.character)
 
-  blinking : (cell : Cell) → (if (text_line h c a).is_blink then field cell.attribute 6 4 else field cell.attribute 7 4) ≡ background a cell
+  blinking : (cell : Cell) → bit_and (cell.attribute / 16) (text_line h c a).background_mask ≡ background a cell
   unfolding text_line
-  blinking cell = refl
+  blinking cell = masked_background (is_blink a) cell.attribute
 
-  graphics : (text_line h c a).is_line_graphics ≡ is_line_graphics a
+  graphics : (text_line h c a).nine_dot_block ≡ (if is_line_graphics a then 6 else 8)
   unfolding text_line
   graphics = refl
 
 -- what the settings of the beam's line say of a cell, from what a function answered
 module _ (h : HostState) (c : CrtcState) (a : AttrState) (line : TextLine) (is : line ≡ text_line h c a) (cell : Cell) where
-  pub cursor_at : (n : ℕ) (v : Bool) → v ≡ (n == line.cursor && line.has_cursor) → is_cursor_at c n ≡ v
-  cursor_at n v e = sym (e ∙ ap (λ (x : TextLine). n == x.cursor && x.has_cursor) is ∙ cursor h c a n)
+  pub cursor_at : (n : ℕ) (v : Bool) → n < 65536 → v ≡ (n == line.cursor) → is_cursor_at c n ≡ v
+  cursor_at n v below e = sym (e ∙ ap (λ (x : TextLine). n == x.cursor) is ∙ cursor h c a n below)
 
-  pub blinked_away : (v : Bool) → v ≡ (line.is_blinked_away && is_set cell.attribute 7) → is_blinked_away c a cell ≡ v
-  blinked_away v e = sym (e ∙ ap (λ (x : TextLine). x.is_blinked_away && is_set cell.attribute 7) is ∙ blinked h c a cell)
+  pub blinked_away : (v : Bool) → cell.attribute < 256 → v ≡ nat_le line.least_blinked cell.attribute → is_blinked_away c a cell ≡ v
+  blinked_away v below e = sym (e ∙ ap (λ (x : TextLine). nat_le x.least_blinked cell.attribute) is ∙ blinked h c a cell below)
 
-  pub underlined : (v : Bool) → v ≡ (line.is_underline && bit_and cell.attribute 0x77 == 1) → is_underlined c a cell ≡ v
-  underlined v e = sym (e ∙ ap (λ (x : TextLine). x.is_underline && bit_and cell.attribute 0x77 == 1) is ∙ underline h c a cell)
+  pub underlined : (v : Bool) → v ≡ (bit_and cell.attribute 0x77 == line.underlined) → is_underlined c a cell ≡ v
+  underlined v e = sym (e ∙ ap (λ (x : TextLine). bit_and cell.attribute 0x77 == x.underlined) is ∙ underline h c a cell)
 
   pub row_of_glyph : (place : ℕ) → place ≡ (if is_set cell.attribute 3 then line.map_a else line.map_b) + 32 * cell.character →
       byte_at h.memory 2 place ≡ glyph_row h cell c.beam.scan
   row_of_glyph place e = ap (byte_at h.memory 2) (e ∙ ap (λ (x : TextLine). (if is_set cell.attribute 3 then x.map_a else x.map_b) + 32 * cell.character) is)
       ∙ row h c a cell
 
-  pub background_of : (v : ℕ) → v ≡ (if line.is_blink then field cell.attribute 6 4 else field cell.attribute 7 4) → v ≡ background a cell
-  background_of v e = e ∙ ap (λ (x : TextLine). if x.is_blink then field cell.attribute 6 4 else field cell.attribute 7 4) is ∙ blinking h c a cell
+  pub background_of : (v : ℕ) → v ≡ bit_and (cell.attribute / 16) line.background_mask → v ≡ background a cell
+  background_of v e = e ∙ ap (λ (x : TextLine). bit_and (cell.attribute / 16) x.background_mask) is ∙ blinking h c a cell
 
-  pub line_graphics : line.is_line_graphics ≡ is_line_graphics a
-  line_graphics = ap (λ (x : TextLine). x.is_line_graphics) is ∙ graphics h c a
+  pub line_graphics : line.nine_dot_block ≡ (if is_line_graphics a then 6 else 8)
+  line_graphics = ap (λ (x : TextLine). x.nine_dot_block) is ∙ graphics h c a
 
 -- the ninth dot of a row
-pub ninth_dot : (a : AttrState) (is : Bool) (character row : ℕ) → is ≡ is_line_graphics a →
-    (is && nat_le 0xC0 character && nat_le character 0xDF && is_set row 0) ≡ is_glyph_dot a character row 8
+pub ninth_dot : (a : AttrState) (block character row v : ℕ) → character < 256 → block ≡ (if is_line_graphics a then 6 else 8) →
+    v ≡ (if character / 32 == block then row % 2 else 0) → is_set v 0 ≡ is_glyph_dot a character row 8
 unfolding is_glyph_dot
-ninth_dot a is character row e = ap (λ v. v && nat_le 0xC0 character && nat_le character 0xDF && is_set row 0) e
+ninth_dot a block character row v below is e = ap (λ n. is_set n 0) (e ∙ ap (λ n. if character / 32 == n then row % 2 else 0) is)
+    ∙ lowest (character / 32 == (if is_line_graphics a then 6 else 8)) row
+    ∙ ap (λ b. b && is_set row 0) (drawing (is_line_graphics a) character below)

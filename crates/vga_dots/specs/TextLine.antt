@@ -3,6 +3,7 @@
 -- Register", "Attribute Mode Control Register", "Underline Location Register" and "Character Map
 -- Select Register".
 use Rattle.std.specs.Prelude.{◌≤◌, ◌+◌, ◌%◌, ◌==◌, ◌&&◌, not, nat_lt, nat_le}
+use Rattle.std.specs.Prelude.{if◌then◌else◌}
 use Rattle.vga_host.specs.Host.{HostState}
 use Rattle.vga_host.specs.Fields.{character_map_a, character_map_b}
 use Rattle.vga_crtc.specs.Crtc.{CrtcState}
@@ -13,20 +14,21 @@ use Rattle.vga_attr.specs.Fields.{is_monochrome, is_line_graphics, is_blink}
 use Rattle.vga_dots.specs.declared.text_line.TextLine.{TextLine}
 use Rattle.vga_dots.specs.Text.{map_start}
 
--- what the registers and the beam's line and frame tell of every character: where the cursor is and
--- whether this line has it, whether blinking characters are away, whether this is the line under
--- underlined ones, where the glyphs' rows begin, and two bits of mode control
+-- what the registers and the beam's line and frame tell of every character: where this line has the
+-- cursor, which characters are blinked away, which are underlined here, where the glyphs' rows
+-- begin, which characters have a ninth dot, and which bits the background has; 65536 is no counter,
+-- 0x100 no attribute, 0xFF no bits 0x77 of one, and 8 no block of 32 characters
 unfoldable pub text_line : HostState → CrtcState → AttrState → TextLine
 text_line h c a = record {
-  cursor = cursor_location c.registers;
-  has_cursor = not (is_cursor_off c.registers) && nat_le (cursor_start c.registers) c.beam.scan
-      && nat_le c.beam.scan (cursor_end c.registers) && nat_lt (c.beam.frame % 16) 8;
-  is_blinked_away = is_blink a && nat_le 16 c.beam.frame;
-  is_underline = is_monochrome a && c.beam.scan == underline_location c.registers;
+  cursor = if not (is_cursor_off c.registers) && nat_le (cursor_start c.registers) c.beam.scan
+      && nat_le c.beam.scan (cursor_end c.registers) && nat_lt (c.beam.frame % 16) 8
+      then cursor_location c.registers else 65536;
+  least_blinked = if is_blink a && nat_le 16 c.beam.frame then 0x80 else 0x100;
+  underlined = if is_monochrome a && c.beam.scan == underline_location c.registers then 1 else 0xFF;
   map_a = map_start (character_map_a h) + c.beam.scan;
   map_b = map_start (character_map_b h) + c.beam.scan;
-  is_line_graphics = is_line_graphics a;
-  is_blink = is_blink a;
+  nine_dot_block = if is_line_graphics a then 6 else 8;
+  background_mask = if is_blink a then 0x07 else 0x0F;
 }
 
 -- the rows of all glyphs of a line are in their plane, in either map

@@ -1,5 +1,6 @@
 //! The characters of a line, each in the way of what is shown: what is fetched is fetched once.
 ghost use Rattle.std.specs.Prelude.{◌≡◌, true, ℕ, ◌+◌, ◌-◌, ◌*◌, ◌<◌, ◌≤◌, [], length, slice_index_or};
+ghost use Rattle.std.specs.Prelude.{if◌then◌else◌};
 ghost use Rattle.vga_bits.specs.Bits.{is_set};
 ghost use Rattle.vga_attr.specs.Fields.{is_line_graphics};
 ghost use Rattle.vga_dots.specs.Text.{is_glyph_dot as is_dot_of_glyph, is_foreground};
@@ -55,16 +56,12 @@ fn shades(attr: &Attr, dac: &Dac) -> Shades
 /// The dots of a line of a glyph, of which bit 8 is the leftmost.
 #[inline(always)]
 fn glyph_dots(attr: &Attr, line: &TextLine, character: u8, row: u8) -> u16
-    requires line { line.now.is_line_graphics ≡ is_line_graphics attr.now }
+    requires line { line.now.nine_dot_block ≡ (if is_line_graphics attr.now then 6 else 8) }
     ensures dots { (i : ℕ) → i < 9 → is_set result (8 - i)
         ≡ is_dot_of_glyph attr.now character row i }
     ensures nine { result < 512 }
 {
-    if line.has_ninth_dot(character, row) {
-        2 * row as u16 + 1
-    } else {
-        2 * row as u16
-    }
+    2 * row as u16 + line.ninth_dot(character, row) as u16
 }
 
 /// The dots of a counter's cell that have its foreground, of which bit 8 is the leftmost.

@@ -1,35 +1,60 @@
 //! What is looked up once for a line of text.
-ghost use Rattle.std.specs.Prelude.{◌≡◌, ◌+◌, ◌*◌, ◌%◌, ◌<◌, ◌==◌, ◌&&◌, not, nat_le, nat_lt};
+ghost use Rattle.std.specs.Prelude.{◌≡◌, ◌+◌, ◌*◌, ◌/◌, ◌%◌, ◌<◌, ◌==◌, ◌&&◌, not, nat_le, nat_lt};
 ghost use Rattle.std.specs.Prelude.{bit_and, if◌then◌else◌};
-ghost use Rattle.vga_bits.specs.Bits.{is_set as is_set_of, field};
-ghost use Rattle.vga_crtc.specs.Fields.{is_cursor_off, cursor_start, cursor_end};
+ghost use Rattle.vga_bits.specs.Bits.{is_set as is_set_of};
+ghost use Rattle.vga_crtc.specs.Fields.{is_cursor_off, cursor_start, cursor_end, cursor_location};
+ghost use Rattle.vga_crtc.specs.Fields.{underline_location};
+ghost use Rattle.vga_attr.specs.Fields.{is_monochrome, is_line_graphics, is_blink};
 ghost use Rattle.vga_dots.specs.TextLine.{text_line, HasGlyphs};
 
 use crate::display::Display;
-use crate::text::{Cell, GLYPH_BYTES, UNDERLINE_BITS, background_bits, map_start};
+use crate::text::{Cell, GLYPH_BYTES, UNDERLINE_BITS, map_start};
+use vga_attr::Attr;
 use vga_bits::is_set;
 use vga_crtc::Crtc;
 
+/// What no counter is.
+const NO_COUNTER: u32 = 0x1_0000;
+
+/// The least attribute that has bit 7, and what no attribute is.
+const BLINKING: u16 = 0x80;
+
+const NO_ATTRIBUTE: u16 = 0x100;
+
+/// What the bits are of an underlined attribute that tell it, and what they never are.
+const UNDERLINED: u8 = 0x01;
+
+const NOT_UNDERLINED: u8 = 0xFF;
+
+/// The line-drawing characters C0 to DF as a block of 32 characters, and what no block is.
+const LINE_DRAWING: u8 = 6;
+
+const NO_BLOCK: u8 = 8;
+
+/// The bits of a background, without and with its intensity.
+const DARK_BACKGROUNDS: u8 = 0x07;
+
+const ALL_BACKGROUNDS: u8 = 0x0F;
+
 /// What the beam's line decides for all characters of text alike. A character is drawn by these,
-/// and the registers are not looked at again.
+/// and the registers are not looked at again. What some lines have and others have not is a number
+/// that nothing is equal to on the others, so that a character asks for it with one comparison.
 #[derive(Clone, Copy)]
 pub struct TextLine {
-    /// The counter of the cursor.
-    pub cursor: u16,
-    /// Whether the cursor is shown on this line.
-    pub has_cursor: bool,
-    /// Whether characters that blink are away.
-    pub is_blinked_away: bool,
-    /// Whether underlined characters have their underline here.
-    pub is_underline: bool,
+    /// The counter of the cursor where this line shows it, and else 65,536, which none is.
+    pub cursor: u32,
+    /// The least attribute whose characters are blinked away, and 256 where none are.
+    pub least_blinked: u16,
+    /// What the bits 77 of an underlined attribute are here: 1, or 255, which they never are.
+    pub underlined: u8,
     /// Where this line of the first glyph of map A stands in its plane.
     pub map_a: u16,
     /// The same of map B.
     pub map_b: u16,
-    /// Whether the ninth dot of the line-drawing characters is their eighth.
-    pub is_line_graphics: bool,
-    /// Whether bit 7 of an attribute blinks.
-    pub is_blink: bool,
+    /// Of which 32 characters the ninth dot is their eighth: the block C0 to DF, or none.
+    pub nine_dot_block: u8,
+    /// Which of the bits 7 to 4 of an attribute are the background's.
+    pub background_mask: u8,
 }
 
 /// Whether the beam's line has the cursor, in the beam's frame.
@@ -47,6 +72,68 @@ fn has_cursor(crtc: &Crtc) -> bool
         && beam.frame % 16 < 8
 }
 
+/// The counter at which the beam's line shows the cursor, or what none is.
+fn shown_cursor(crtc: &Crtc) -> u32
+    ensures { result ≡ (if not (is_cursor_off crtc.now.registers)
+        && nat_le (cursor_start crtc.now.registers) crtc.now.beam.scan
+        && nat_le crtc.now.beam.scan (cursor_end crtc.now.registers)
+        && nat_lt (crtc.now.beam.frame % 16) 8 then cursor_location crtc.now.registers
+        else 65536) }
+{
+    if has_cursor(crtc) {
+        crtc.fields().cursor_location() as u32
+    } else {
+        NO_COUNTER
+    }
+}
+
+/// The least attribute whose characters are blinked away in a frame, or what none is.
+fn least_blinked(attr: &Attr, frame: u8) -> u16
+    ensures { result ≡ (if is_blink attr.now && nat_le 16 frame then 0x80 else 0x100) }
+{
+    if attr.is_blink() && 16 <= frame {
+        BLINKING
+    } else {
+        NO_ATTRIBUTE
+    }
+}
+
+/// What the bits of an attribute are that is underlined at the beam's line.
+fn underlined(display: &Display<'_>) -> u8
+    ensures { result ≡ (if is_monochrome display.now.attr
+        && display.now.crtc.beam.scan == underline_location display.now.crtc.registers then 1
+        else 0xFF) }
+{
+    let crtc = display.crtc();
+    if display.attr().is_monochrome() && crtc.beam().scan == crtc.fields().underline_location() {
+        UNDERLINED
+    } else {
+        NOT_UNDERLINED
+    }
+}
+
+/// The block of characters that have a ninth dot.
+fn nine_dot_block(attr: &Attr) -> u8
+    ensures { result ≡ (if is_line_graphics attr.now then 6 else 8) }
+{
+    if attr.is_line_graphics() {
+        LINE_DRAWING
+    } else {
+        NO_BLOCK
+    }
+}
+
+/// The bits of a background, of which the highest is left out where it blinks.
+fn background_mask(attr: &Attr) -> u8
+    ensures { result ≡ (if is_blink attr.now then 0x07 else 0x0F) }
+{
+    if attr.is_blink() {
+        DARK_BACKGROUNDS
+    } else {
+        ALL_BACKGROUNDS
+    }
+}
+
 impl TextLine {
     /// What the beam's line decides.
     #[tactic(auto, unfolding(crate::specs::TextLine::text_line))]
@@ -59,39 +146,42 @@ impl TextLine {
         let attr = display.attr();
         let beam = crtc.beam();
         TextLine {
-            cursor: crtc.fields().cursor_location(),
-            has_cursor: has_cursor(crtc),
-            is_blinked_away: attr.is_blink() && 16 <= beam.frame,
-            is_underline: attr.is_monochrome() && beam.scan == crtc.fields().underline_location(),
+            cursor: shown_cursor(crtc),
+            least_blinked: least_blinked(attr, beam.frame),
+            underlined: underlined(display),
             map_a: map_start(host.character_map_a()) + beam.scan as u16,
             map_b: map_start(host.character_map_b()) + beam.scan as u16,
-            is_line_graphics: attr.is_line_graphics(),
-            is_blink: attr.is_blink(),
+            nine_dot_block: nine_dot_block(attr),
+            background_mask: background_mask(attr),
         }
     }
 
     /// Whether the cursor is shown at a counter.
+    #[inline(always)]
     pub(crate) fn has_cursor_at(&self, counter: u16) -> bool
-        ensures { result ≡ (counter == self.now.cursor && self.now.has_cursor) }
+        ensures { result ≡ (counter == self.now.cursor) }
     {
-        counter == self.cursor && self.has_cursor
+        counter as u32 == self.cursor
     }
 
     /// Whether a cell is blinked away.
+    #[inline(always)]
     pub(crate) fn blinks_away(&self, cell: Cell) -> bool
-        ensures { result ≡ (self.now.is_blinked_away && is_set_of cell.attribute 7) }
+        ensures { result ≡ nat_le self.now.least_blinked cell.attribute }
     {
-        self.is_blinked_away && is_set(cell.attribute, 7)
+        self.least_blinked <= cell.attribute as u16
     }
 
     /// Whether a cell has its underline here.
+    #[inline(always)]
     pub(crate) fn underlines(&self, cell: Cell) -> bool
-        ensures { result ≡ (self.now.is_underline && bit_and cell.attribute 0x77 == 1) }
+        ensures { result ≡ (bit_and cell.attribute 0x77 == self.now.underlined) }
     {
-        self.is_underline && cell.attribute & UNDERLINE_BITS == 1
+        cell.attribute & UNDERLINE_BITS == self.underlined
     }
 
     /// Where the row of a cell's glyph stands in its plane.
+    #[inline(always)]
     pub(crate) fn glyph_place(&self, cell: Cell) -> u16
         requires { HasGlyphs self.now }
         ensures { result ≡ (if is_set_of cell.attribute 3 then self.now.map_a else self.now.map_b)
@@ -105,20 +195,26 @@ impl TextLine {
         map + GLYPH_BYTES * cell.character as u16
     }
 
-    /// Whether a row of a character's glyph has a ninth dot.
-    pub(crate) fn has_ninth_dot(&self, character: u8, row: u8) -> bool
-        ensures { result ≡ (self.now.is_line_graphics && nat_le 0xC0 character
-            && nat_le character 0xDF && is_set_of row 0) }
+    /// The ninth dot of a row of a character's glyph, 1 where it is lit.
+    #[inline(always)]
+    pub(crate) fn ninth_dot(&self, character: u8, row: u8) -> u8
+        ensures value { result ≡ (if character / 32 == self.now.nine_dot_block then row % 2
+            else 0) }
+        ensures small { result < 2 }
     {
-        self.is_line_graphics && 0xC0 <= character && character <= 0xDF && is_set(row, 0)
+        if character / 32 == self.nine_dot_block {
+            row % 2
+        } else {
+            0
+        }
     }
 
     /// The four bits of a cell's background.
+    #[inline(always)]
     pub(crate) fn background(&self, cell: Cell) -> u8
-        ensures value { result ≡ (if self.now.is_blink then field cell.attribute 6 4
-            else field cell.attribute 7 4) }
+        ensures value { result ≡ bit_and (cell.attribute / 16) self.now.background_mask }
         ensures small { result < 16 }
     {
-        background_bits(cell, self.is_blink)
+        (cell.attribute >> 4) & self.background_mask
     }
 }
