@@ -1,10 +1,11 @@
 -- What is looked up once for a line is what each of its characters asks for.
-use Rattle.std.proofs.Common.{◌≡◌, ℕ, ◌+◌, ◌-◌, ◌*◌, ◌/◌, ◌%◌, ◌^◌, ◌<◌, refl, sym, ap, ◌∙◌, arith, Bool, true, false}
+use Rattle.std.proofs.Common.{◌≡◌, ℕ, ◌+◌, ◌*◌, ◌/◌, ◌%◌, ◌<◌, refl, sym, ap, ◌∙◌, arith, Bool, true, false}
 use Rattle.std.specs.Prelude.{◌==◌, ◌&&◌, not, nat_lt, nat_le, bit_and, if◌then◌else◌}
 use Rattle.std.specs.Int.{bit_at}
 use Rattle.std.proofs.lemmas.Bool.{ne_eqb}
 use Rattle.std.proofs.lemmas.Bool.Decides.{nat_tests}
 use Rattle.std.proofs.lemmas.Nat.{and_le_r, and_mask}
+use Rattle.std.proofs.lemmas.Nat.Bits.{and_high_mask}
 use Rattle.vga_bits.specs.Bits.{is_set, field}
 use Rattle.vga_planes.specs.Planes.{byte_at}
 use Rattle.vga_host.specs.Host.{HostState}
@@ -47,10 +48,10 @@ counter_is : (shown : Bool) (n place : ℕ) → n < 65536 → (n == (if shown th
 counter_is true n place below = and_true (n == place)
 counter_is false n place below = ne_eqb n 65536 (λ e. absurd (omega (arith, e, below))) ∙ and_false (n == place)
 
--- the attributes from the one on that has bit 7 alone are those that have it
-blinks : (away : Bool) (n : ℕ) → n < 256 → nat_le (if away then 128 else 256) n ≡ (away && is_set n 7)
-blinks true n below = grind (arith, nat_tests)
-blinks false n below = grind (arith, nat_tests)
+-- a mask of bit 7 leaves something of those that have it, and a mask of no bit nothing
+blinks : (away : Bool) (n : ℕ) → n < 256 → not (bit_and n (if away then 128 else 0) == 0) ≡ (away && is_set n 7)
+blinks true n below = let e = and_high_mask 8 7 (omega arith) n below in grind (arith, nat_tests, e)
+blinks false n below = let e : bit_and n 0 ≡ 0 = omega (arith, and_le_r n 0) in ap (λ m. not (m == 0)) e
 
 -- bits 0x77 are 1, or 0xFF, which they are not
 underlining : (here : Bool) (n : ℕ) → (bit_and n 0x77 == (if here then 1 else 0xFF)) ≡ (here && bit_and n 0x77 == 1)
@@ -83,7 +84,7 @@ module _ (h : HostState) (c : CrtcState) (a : AttrState) where
   cursor n below = counter_is _ n (cursor_location c.registers) below ∙ together (n == cursor_location c.registers) (not (is_cursor_off c.registers))
       (nat_le (cursor_start c.registers) c.beam.scan) (nat_le c.beam.scan (cursor_end c.registers)) (nat_lt (c.beam.frame % 16) 8)
 
-  blinked : (cell : Cell) → cell.attribute < 256 → nat_le (text_line h c a).least_blinked cell.attribute ≡ is_blinked_away c a cell
+  blinked : (cell : Cell) → cell.attribute < 256 → not (bit_and cell.attribute (text_line h c a).blinked_away == 0) ≡ is_blinked_away c a cell
   unfolding text_line is_blinked_away
   blinked cell below = blinks (is_blink a && nat_le 16 c.beam.frame) cell.attribute below
       ∙ last_two (is_blink a) (nat_le 16 c.beam.frame) (is_set cell.attribute 7)
@@ -111,8 +112,8 @@ module _ (h : HostState) (c : CrtcState) (a : AttrState) (line : TextLine) (is :
   pub cursor_at : (n : ℕ) (v : Bool) → n < 65536 → v ≡ (n == line.cursor) → is_cursor_at c n ≡ v
   cursor_at n v below e = sym (e ∙ ap (λ (x : TextLine). n == x.cursor) is ∙ cursor h c a n below)
 
-  pub blinked_away : (v : Bool) → cell.attribute < 256 → v ≡ nat_le line.least_blinked cell.attribute → is_blinked_away c a cell ≡ v
-  blinked_away v below e = sym (e ∙ ap (λ (x : TextLine). nat_le x.least_blinked cell.attribute) is ∙ blinked h c a cell below)
+  pub blinked_away : (v : Bool) → cell.attribute < 256 → v ≡ not (bit_and cell.attribute line.blinked_away == 0) → is_blinked_away c a cell ≡ v
+  blinked_away v below e = sym (e ∙ ap (λ (x : TextLine). not (bit_and cell.attribute x.blinked_away == 0)) is ∙ blinked h c a cell below)
 
   pub underlined : (v : Bool) → v ≡ (bit_and cell.attribute 0x77 == line.underlined) → is_underlined c a cell ≡ v
   underlined v e = sym (e ∙ ap (λ (x : TextLine). bit_and cell.attribute 0x77 == x.underlined) is ∙ underline h c a cell)

@@ -15,15 +15,15 @@ use Rattle.vga_dots.specs.declared.text_line.TextLine.{TextLine}
 use Rattle.vga_dots.specs.Text.{map_start}
 
 -- what the registers and the beam's line and frame tell of every character: where this line has the
--- cursor, which characters are blinked away, which are underlined here, where the glyphs' rows
--- begin, which characters have a ninth dot, and which bits the background has; 65536 is no counter,
--- 0x100 no attribute, 0xFF no bits 0x77 of one, and 8 no block of 32 characters
+-- cursor, which bit of an attribute blinks away, what its bits 0x77 are where it is underlined here,
+-- where the glyphs' rows begin, which 32 characters have a ninth dot, and which bits the background
+-- has; 65536 is no counter, 0xFF is no bits 0x77, and 8 is no block of 32 characters
 unfoldable pub text_line : HostState → CrtcState → AttrState → TextLine
 text_line h c a = record {
   cursor = if not (is_cursor_off c.registers) && nat_le (cursor_start c.registers) c.beam.scan
       && nat_le c.beam.scan (cursor_end c.registers) && nat_lt (c.beam.frame % 16) 8
       then cursor_location c.registers else 65536;
-  least_blinked = if is_blink a && nat_le 16 c.beam.frame then 0x80 else 0x100;
+  blinked_away = if is_blink a && nat_le 16 c.beam.frame then 0x80 else 0;
   underlined = if is_monochrome a && c.beam.scan == underline_location c.registers then 1 else 0xFF;
   map_a = map_start (character_map_a h) + c.beam.scan;
   map_b = map_start (character_map_b h) + c.beam.scan;

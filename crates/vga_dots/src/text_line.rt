@@ -16,10 +16,8 @@ use vga_crtc::Crtc;
 /// What no counter is.
 const NO_COUNTER: u32 = 0x1_0000;
 
-/// The least attribute that has bit 7, and what no attribute is.
-const BLINKING: u16 = 0x80;
-
-const NO_ATTRIBUTE: u16 = 0x100;
+/// The bit of an attribute whose characters blink.
+const BLINKING: u8 = 0x80;
 
 /// What the bits are of an underlined attribute that tell it, and what they never are.
 const UNDERLINED: u8 = 0x01;
@@ -37,14 +35,15 @@ const DARK_BACKGROUNDS: u8 = 0x07;
 const ALL_BACKGROUNDS: u8 = 0x0F;
 
 /// What the beam's line decides for all characters of text alike. A character is drawn by these,
-/// and the registers are not looked at again. What some lines have and others have not is a number
-/// that nothing is equal to on the others, so that a character asks for it with one comparison.
+/// and the registers are not looked at again. What only some lines have is a number that nothing is
+/// equal to on the others, or a mask of no bits there, so that a character asks for it with one
+/// comparison.
 #[derive(Clone, Copy)]
 pub struct TextLine {
     /// The counter of the cursor where this line shows it, and else 65,536, which none is.
     pub cursor: u32,
-    /// The least attribute whose characters are blinked away, and 256 where none are.
-    pub least_blinked: u16,
+    /// The bit of an attribute whose characters are blinked away, and 0 where none are.
+    pub blinked_away: u8,
     /// What the bits 77 of an underlined attribute are here: 1, or 255, which they never are.
     pub underlined: u8,
     /// Where this line of the first glyph of map A stands in its plane.
@@ -87,14 +86,14 @@ fn shown_cursor(crtc: &Crtc) -> u32
     }
 }
 
-/// The least attribute whose characters are blinked away in a frame, or what none is.
-fn least_blinked(attr: &Attr, frame: u8) -> u16
-    ensures { result ≡ (if is_blink attr.now && nat_le 16 frame then 0x80 else 0x100) }
+/// The bit of an attribute whose characters are blinked away in a frame, or 0.
+fn blinked_away(attr: &Attr, frame: u8) -> u8
+    ensures { result ≡ (if is_blink attr.now && nat_le 16 frame then 0x80 else 0) }
 {
     if attr.is_blink() && 16 <= frame {
         BLINKING
     } else {
-        NO_ATTRIBUTE
+        0
     }
 }
 
@@ -135,7 +134,9 @@ fn background_mask(attr: &Attr) -> u8
 }
 
 impl TextLine {
-    /// What the beam's line decides.
+    /// What the beam's line decides. It stands apart from the loop that draws, since a compiler that
+    /// sees what the numbers are made of asks the loop's characters for that again.
+    #[inline(never)]
     #[tactic(auto, unfolding(crate::specs::TextLine::text_line))]
     pub(crate) fn at_beam(display: &Display<'_>) -> TextLine
         ensures value { result ≡ text_line display.now.host display.now.crtc display.now.attr }
@@ -147,7 +148,7 @@ impl TextLine {
         let beam = crtc.beam();
         TextLine {
             cursor: shown_cursor(crtc),
-            least_blinked: least_blinked(attr, beam.frame),
+            blinked_away: blinked_away(attr, beam.frame),
             underlined: underlined(display),
             map_a: map_start(host.character_map_a()) + beam.scan as u16,
             map_b: map_start(host.character_map_b()) + beam.scan as u16,
@@ -167,9 +168,9 @@ impl TextLine {
     /// Whether a cell is blinked away.
     #[inline(always)]
     pub(crate) fn blinks_away(&self, cell: Cell) -> bool
-        ensures { result ≡ nat_le self.now.least_blinked cell.attribute }
+        ensures { result ≡ not (bit_and cell.attribute self.now.blinked_away == 0) }
     {
-        self.least_blinked <= cell.attribute as u16
+        cell.attribute & self.blinked_away != 0
     }
 
     /// Whether a cell has its underline here.
