@@ -134,8 +134,8 @@ fn background_mask(attr: &Attr) -> u8
 }
 
 impl TextLine {
-    /// What the beam's line decides. It stands apart from the loop that draws, since a compiler that
-    /// sees what the numbers are made of asks the loop's characters for that again.
+    /// What the beam's line decides. It stands apart from the loop that draws: a compiler that sees
+    /// what the numbers are made of asks for that again at each character.
     #[inline(never)]
     #[tactic(auto, unfolding(crate::specs::TextLine::text_line))]
     pub(crate) fn at_beam(display: &Display<'_>) -> TextLine

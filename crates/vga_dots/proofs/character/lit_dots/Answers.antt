@@ -11,7 +11,10 @@ use Rattle.vga_dots.proofs.character.lit_dots.Goals as goal
 pub glyph_dots-requires : goal.glyph_dots-requires
 glyph_dots-requires c =
     let d = c.args.display.now in
-    record { line = line_graphics d.host d.crtc d.attr c.args.line.now c.requires.line c.args.cell ∙ ap (λ (x : AttrState). if is_line_graphics x then 6 else 8) (sym c.attr.ensures) }
+    record {
+      line = line_graphics d.host d.crtc d.attr c.args.line.now c.requires.line c.args.cell
+          ∙ ap (λ (x : AttrState). if is_line_graphics x then 6 else 8) (sym c.attr.ensures);
+    }
 
 pub returns-then-has_cursor_at-clause-dots : goal.returns-then-has_cursor_at-clause-dots
 returns-then-has_cursor_at-clause-dots c = λ i l.
@@ -20,7 +23,8 @@ returns-then-has_cursor_at-clause-dots c = λ i l.
     let a = c.args.display.now.attr in
     let n = c.args.counter in
     let cell = c.args.cell in
-    all_dots _ i l (by_cursor h r a cell n i (cursor_at h r a c.args.line.now c.requires.line cell n _ (omega arith) c.has_cursor_at.ensures ∙ c.if-has_cursor_at.true))
+    all_dots _ i l (by_cursor h r a cell n i
+    (cursor_at h r a c.args.line.now c.requires.line cell n _ (omega arith) c.has_cursor_at.ensures ∙ c.if-has_cursor_at.true))
 
 pub returns-then-blinks_away-clause-dots : goal.returns-then-blinks_away-clause-dots
 returns-then-blinks_away-clause-dots c = λ i l.
