@@ -1,9 +1,6 @@
 -- Four dots as words: the masks, the bytes that are chosen by them, and the dots in a row.
-use Rattle.std.proofs.Common.{◌≡◌, ℕ, zero, suc, ◌+◌, ◌-◌, ◌*◌, ◌/◌, ◌%◌, ◌^◌, ◌<◌, ◌≤◌, inl, inr, ⊎_elim, refl, sym, ap, ◌∙◌, arith, Bool, true, false, List, [], ◌∷◌, length, subst}
-use Rattle.std.proofs.Common.{bit_and, bit_xor, ◌==◌, if◌then◌else◌, slice_index, slice_set, min}
-use Rattle.std.specs.Prelude.{slice_index_or}
-use Rattle.std.proofs.lemmas.List.{get_or-set_other, length-set}
-use Rattle.std.proofs.lemmas.Grind.{get_or-set_at}
+use Rattle.std.proofs.Common.{◌≡◌, ℕ, zero, suc, ◌+◌, ◌-◌, ◌*◌, ◌/◌, ◌%◌, ◌^◌, ◌<◌, ◌≤◌, inl, inr, ⊎_elim, refl, sym, ap, ◌∙◌, arith, Bool, true, false, List, [], ◌∷◌}
+use Rattle.std.proofs.Common.{bit_and, bit_xor, ◌==◌, if◌then◌else◌, slice_index, min}
 use Rattle.std.specs.Int.{bit_at}
 use Rattle.std.proofs.lemmas.Bool.{cases_lt, agree_below_at, eqb-true}
 use Rattle.std.proofs.lemmas.Bool.Decides.{nat_tests}
@@ -14,10 +11,9 @@ use Rattle.vga_bits.proofs.BitLemmas.{byte_from_bits, byte_bits, bit_at_shr, bit
 use Rattle.vga_bits.proofs.WordLemmas.{byte_below, word_bit_byte, word_bit_lt, word_bit_and, word_bit_xor}
 use Rattle.vga_dots.proofs.RowLemmas.{dots_alike}
 use Rattle.vga_dots.specs.declared.quads.Quad.{Quad}
-use Rattle.vga_dots.specs.declared.quads.Quads.{Quads}
 use Rattle.vga_dots.specs.declared.quads.TheConstants.{LOW_MASKS, HIGH_MASKS}
 use Rattle.vga_dots.specs.Row.{IsDotPut, AreDotsPut}
-use Rattle.vga_dots.specs.Quads.{IsQuad, quad_at, AreBytesPut}
+use Rattle.vga_dots.specs.Quads.{IsQuad, AreBytesPut}
 
 -- ---- what a mask chooses
 
@@ -187,32 +183,6 @@ quad_made c x y z ex ey ez lx ly lz =
       low = λ p l. low_bytes c _ x y z p ex ey ez lx ly lz (omega (arith, rest)) l;
       high = λ p l. high_bytes c _ x y z p ex ey ez lx ly lz (omega (arith, above)) l;
     }
-
--- the numbers so far have their quads
-pub record QuadsSoFar (n : ℕ) (quads : Quads) (table : List (List ℕ)) : Type 0 where
-  pub lows : length quads.lows ≡ 16
-  pub highs : length quads.highs ≡ 16
-  pub done : (m : ℕ) → m < n → IsQuad (quad_at quads m) (slice_index_or table m [])
-
-is_quad_by : (quad : Quad) (low high : ℕ) (c : List ℕ) → low ≡ quad.low → high ≡ quad.high → IsQuad quad c → IsQuad (record { low = low; high = high }) c
-is_quad_by quad low high c e g is = record { low = λ p l. ap (byte_in p) e ∙ is.low p l; high = λ p l. ap (byte_in p) g ∙ is.high p l }
-
-pub quads_more : (n : ℕ) (quads : Quads) (table : List (List ℕ)) (quad : Quad) → n < 16 → QuadsSoFar n quads table → IsQuad quad (slice_index_or table n [])
-    → QuadsSoFar (n + 1) (record { lows = slice_set quads.lows n quad.low; highs = slice_set quads.highs n quad.high }) table
-quads_more n quads table quad within before is = record {
-  lows = length-set quads.lows n quad.low ∙ before.lows;
-  highs = length-set quads.highs n quad.high ∙ before.highs;
-  done = λ m l. ⊎_elim
-      (λ (below : m < n).
-      is_quad_by (quad_at quads m) _ _ (slice_index_or table m []) (get_or-set_other quads.lows n m quad.low 0 (λ e. absurd (omega arith)))
-      (get_or-set_other quads.highs n m quad.high 0 (λ e. absurd (omega arith))) (before.done m below))
-      (λ (above : n ≤ m).
-      let z : m ≡ n = omega arith in
-      is_quad_by quad _ _ (slice_index_or table m []) (get_or-set_at quads.lows n m quad.low 0 z (omega (arith, before.lows)))
-      (get_or-set_at quads.highs n m quad.high 0 z (omega (arith, before.highs)))
-      (subst (λ k. IsQuad quad (slice_index_or table k [])) (sym z) is))
-      (cases_lt m n);
-}
 
 -- ---- a line of a glyph
 

@@ -1,21 +1,12 @@
 -- Four dots of one colour as words, and bytes that are put into a row: what serves speed alone.
-use Rattle.std.specs.Prelude.{◌≡◌, ℕ, ◌+◌, ◌%◌, ◌<◌, ◌≤◌, ◌⊎◌, List, [], slice_index, slice_index_or}
+use Rattle.std.specs.Prelude.{◌≡◌, ℕ, ◌+◌, ◌%◌, ◌<◌, ◌≤◌, ◌⊎◌, List, slice_index}
 use Rattle.vga_bits.specs.Words.{byte_in}
 use Rattle.vga_dots.specs.declared.quads.Quad.{Quad}
-use Rattle.vga_dots.specs.declared.quads.Quads.{Quads}
 
 -- the twelve bytes are those of the colour, over and over
 pub record IsQuad (quad : Quad) (colour : List ℕ) : Type 0 where
   pub low : (p : ℕ) → p < 8 → byte_in p quad.low ≡ slice_index colour (p % 3)
   pub high : (p : ℕ) → p < 4 → byte_in p quad.high ≡ slice_index colour ((8 + p) % 3)
-
--- the quad of a number
-abbrev pub quad_at : Quads → ℕ → Quad
-quad_at quads n = record { low = slice_index quads.lows n; high = slice_index quads.highs n }
-
--- each of the 16 numbers has the quad of its colour
-abbrev pub AreQuads : Quads → List (List ℕ) → Type 0
-AreQuads quads table = (n : ℕ) → n < 16 → IsQuad (quad_at quads n) (slice_index_or table n [])
 
 -- n bytes from `from` on are f 0, f 1, .., and the others stay
 pub record AreBytesPut (n from : ℕ) (f : ℕ → ℕ) (old new : List ℕ) : Type 0 where

@@ -1,17 +1,22 @@
 //! The characters of a line, each in the way of what is shown: what is fetched is fetched once.
-ghost use Rattle.std.specs.Prelude.{◌≡◌, true, ℕ, ◌+◌, ◌-◌, ◌*◌, ◌<◌, ◌≤◌, [], length, slice_index_or};
+ghost use Rattle.std.specs.Prelude.{◌≡◌, true, ℕ, ◌+◌, ◌-◌, ◌*◌, ◌<◌, ◌≤◌, length};
 ghost use Rattle.std.specs.Prelude.{if◌then◌else◌};
 ghost use Rattle.vga_bits.specs.Bits.{is_set};
 ghost use Rattle.vga_attr.specs.Fields.{is_line_graphics};
 ghost use Rattle.vga_dots.specs.Text.{is_glyph_dot as is_dot_of_glyph, is_foreground};
+ghost use Rattle.vga_dots.specs.Text.{cell_at as cell_at_place};
 ghost use Rattle.vga_dots.specs.TextLine.{text_line, HasGlyphs};
 ghost use Rattle.vga_dots.specs.Row.{AreDotsPut};
-ghost use Rattle.vga_dots.specs.Line.{masked as colour_masked, shades_of, dot_of, source_colour};
+ghost use Rattle.vga_dots.specs.Line.{masked as colour_masked, shade, shades_of, dot_of};
+ghost use Rattle.vga_dots.specs.Line.{source_colour};
+ghost use Rattle.vga_dots.specs.Quads.{IsQuad};
+ghost use Rattle.vga_dots.specs.SourceDot.{fetch_address};
+ghost use Rattle.vga_dots.specs.Character.{HasColours};
 ghost use Rattle.vga_dots.specs.Display.{ShowsText, ShowsPlanes};
 ghost use Rattle.vga_dots.specs.Alike.{HasCell};
 
 use crate::display::Display;
-use crate::quads::{Quads, put_glyph};
+use crate::quads::{Quad, put_glyph};
 use crate::row::{Shades, put_pixels, put_planes};
 use crate::text::{Cell, GLYPHS, cell_at};
 use crate::text_line::TextLine;
@@ -53,6 +58,14 @@ fn shades(attr: &Attr, dac: &Dac) -> Shades
     ]
 }
 
+/// Four dots of the colour of four bits.
+#[tactic(auto, unfolding(crate::specs::Line::shade))]
+fn quad_of(display: &Display<'_>, n: u8) -> Quad
+    ensures { IsQuad result (shade display.now.attr display.now.dac n) }
+{
+    Quad::of(masked(display.dac(), display.attr().colour_index(n)))
+}
+
 /// The dots of a line of a glyph, of which bit 8 is the leftmost.
 #[inline(always)]
 fn glyph_dots(attr: &Attr, line: &TextLine, character: u8, row: u8) -> u16
@@ -85,7 +98,15 @@ fn lit_dots(display: &Display<'_>, line: &TextLine, counter: u16, cell: Cell) ->
     }
 }
 
-/// A way to draw the characters of a line, which are `CW` dots wide.
+/// The two colours of the cells of an attribute, four dots of each.
+#[derive(Clone, Copy)]
+pub(crate) struct CellColours {
+    pub attribute: u8,
+    pub fore: Quad,
+    pub back: Quad,
+}
+
+/// A way to draw the characters of a line of graphics, which are `CW` dots wide.
 pub(crate) trait Characters<const CW: usize> {
     ghost use Rattle.vga_dots.specs.Display.{DisplayState};
 
@@ -96,7 +117,6 @@ pub(crate) trait Characters<const CW: usize> {
         requires draws { draws self.now display.now }
         requires room { 3 * (at + CW) ≤ length row.old }
         requires width { CW < 10 }
-        requires eight { 8 ≤ CW }
         ensures { AreDotsPut CW at (λ i. source_colour display.now (dot_of counter i)) row.old
             row.new };
 }
@@ -104,7 +124,6 @@ pub(crate) trait Characters<const CW: usize> {
 /// Characters of text, with what is looked up once for a line.
 #[derive(Drop)]
 pub(crate) struct TextCharacters {
-    quads: Quads,
     line: TextLine,
 }
 
@@ -117,7 +136,6 @@ impl TextCharacters {
         ensures { DrawsText result display.now }
     {
         TextCharacters {
-            quads: Quads::of(&shades(display.attr(), display.dac())),
             line: TextLine::at_beam(display),
         }
     }
@@ -131,20 +149,44 @@ impl TextCharacters {
         let fetched = cell_at(display.host(), display.fetch_address(counter));
         fetched.is_same(cell) && !self.line.has_cursor_at(counter)
     }
-}
 
-impl<const CW: usize> Characters<CW> for TextCharacters {
-    ghost use Rattle.vga_dots.specs.Character.{DrawsText};
+    /// The colours of an attribute.
+    pub(crate) fn colours(&self, display: &Display<'_>, attribute: u8) -> CellColours
+        requires { DrawsText self.now display.now }
+        ensures colours { HasColours result display.now }
+        ensures attribute { result.attribute ≡ attribute }
+    {
+        CellColours {
+            attribute,
+            fore: quad_of(display, attribute % 16),
+            back: quad_of(display, self.line.background(attribute)),
+        }
+    }
 
-    ghost draws = { DrawsText };
-
+    /// Writes the dots of a counter's character, which has a cell with these colours.
     #[inline(always)]
-    fn put(&self, display: &Display<'_>, counter: u16, row: &mut [u8], at: usize) {
-        let cell = cell_at(display.host(), display.fetch_address(counter));
-        let fore = self.quads.at(cell.attribute % 16);
-        let back = self.quads.at(self.line.background(cell));
+    pub(crate) fn put<const CW: usize>(
+        &self,
+        display: &Display<'_>,
+        counter: u16,
+        cell: Cell,
+        colours: CellColours,
+        row: &mut [u8],
+        at: usize,
+    )
+        requires draws { DrawsText self.now display.now }
+        requires cell { cell ≡ cell_at_place display.now.host
+            (fetch_address display.now.crtc.registers counter) }
+        requires colours { HasColours colours display.now }
+        requires attribute { colours.attribute ≡ cell.attribute }
+        requires room { 3 * (at + CW) ≤ length row.old }
+        requires width { CW < 10 }
+        requires eight { 8 ≤ CW }
+        ensures { AreDotsPut CW at (λ i. source_colour display.now (dot_of counter i)) row.old
+            row.new }
+    {
         let lit = lit_dots(display, &self.line, counter, cell);
-        put_glyph::<CW>(row, at, lit, fore, back);
+        put_glyph::<CW>(row, at, lit, colours.fore, colours.back);
     }
 }
 

@@ -3,6 +3,7 @@ ghost use Rattle.std.specs.Prelude.{◌≡◌, ◌+◌, ◌*◌, ◌<◌, ◌≤
 ghost use Rattle.vga_host.specs.Fields.{character_width};
 ghost use Rattle.vga_dots.specs.SourceDot.{panned as panned_dots};
 ghost use Rattle.vga_dots.specs.Display.{ShowsMemory, ShowsText};
+ghost use Rattle.vga_dots.specs.Character.{DrawsText};
 ghost use Rattle.vga_dots.specs.Row.{AreCharactersPut};
 ghost use Rattle.vga_dots.specs.Line.{shown_characters as characters_shown, unpanned_colour};
 ghost use Rattle.vga_dots.specs.Line.{IsLineDrawn, IsPartDrawn};
@@ -13,6 +14,7 @@ use crate::colour::BLACK;
 use crate::display::Display;
 use crate::row::{copy_dots, fill};
 use crate::source_dot::panned;
+use crate::text::cell_at;
 use vga_crtc::Registers;
 
 /// How many bytes the most characters of a line, and one more, have: 257 of nine dots.
@@ -20,6 +22,9 @@ const UNPANNED_BYTES: usize = 6_939;
 
 /// The most dots of a part of a line.
 pub const MOST_PART: usize = 128;
+
+/// The attribute of most text: grey on black.
+const USUAL_ATTRIBUTE: u8 = 0x07;
 
 /// How many bytes the characters have in which the dots of a part lie: 145 dots.
 const PART_BYTES: usize = 435;
@@ -44,7 +49,6 @@ fn draw_each<const CW: usize, C: Characters<CW>>(
     requires first { first ≤ 300 }
     requires count { count ≤ 257 }
     requires width { CW < 10 }
-    requires eight { 8 ≤ CW }
     requires room { 3 * (count * CW) ≤ length row.old }
     ensures { AreCharactersPut CW count (λ x. unpanned_colour display.now (first + x)) row.old
         row.new }
@@ -53,6 +57,36 @@ fn draw_each<const CW: usize, C: Characters<CW>>(
     for x in 0..count {
         let counter = base.wrapping_add((first + x) as u16);
         characters.put(display, counter, row, x * CW);
+    }
+}
+
+/// Draws some characters of text one by one, from `first` on, as if the line were not panned. Most
+/// of them have the attribute of the one before, so colours are looked up where that is another.
+fn draw_cells<const CW: usize>(
+    display: &Display<'_>,
+    characters: &TextCharacters,
+    first: usize,
+    count: usize,
+    row: &mut [u8],
+)
+    requires draws { DrawsText characters.now display.now }
+    requires first { first ≤ 300 }
+    requires count { count ≤ 257 }
+    requires width { CW < 10 }
+    requires eight { 8 ≤ CW }
+    requires room { 3 * (count * CW) ≤ length row.old }
+    ensures { AreCharactersPut CW count (λ x. unpanned_colour display.now (first + x)) row.old
+        row.new }
+{
+    let base = display.beam().base;
+    let mut colours = characters.colours(display, USUAL_ATTRIBUTE);
+    for x in 0..count {
+        let counter = base.wrapping_add((first + x) as u16);
+        let cell = cell_at(display.host(), display.fetch_address(counter));
+        if cell.attribute != colours.attribute {
+            colours = characters.colours(display, cell.attribute);
+        }
+        characters.put::<CW>(display, counter, cell, colours, row, x * CW);
     }
 }
 
@@ -73,7 +107,7 @@ fn draw_text<const CW: usize>(display: &Display<'_>, first: usize, count: usize,
     }
     let characters = TextCharacters::at_beam(display);
     let drawn = unlike(display, &characters, first, count);
-    draw_each::<CW, TextCharacters>(display, &characters, first, drawn, row);
+    draw_cells::<CW>(display, &characters, first, drawn, row);
     repeat_last::<CW>(row, drawn, count);
 }
 

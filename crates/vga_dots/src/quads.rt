@@ -5,9 +5,9 @@ ghost use Rattle.std.specs.Prelude.{if◌then◌else◌};
 ghost use Rattle.vga_bits.specs.Bits.{is_set as is_set_of};
 ghost use Rattle.vga_bits.specs.Words.{byte_in};
 ghost use Rattle.vga_dots.specs.Row.{AreDotsPut};
-ghost use Rattle.vga_dots.specs.Quads.{IsQuad, AreQuads, quad_at, AreBytesPut};
+ghost use Rattle.vga_dots.specs.Quads.{IsQuad, AreBytesPut};
 
-use crate::row::{Shades, put_dot};
+use crate::row::put_dot;
 
 /// For each set of four dots, of which bit 3 is the leftmost, a word with all bits 1 in the bytes
 /// of its dots, and 0 in the others: the first eight of the twelve bytes.
@@ -61,51 +61,13 @@ pub(crate) struct Quad {
 
 impl Quad {
     /// Four dots of a colour.
-    fn of(colour: [u8; 3]) -> Quad
+    pub(crate) fn of(colour: [u8; 3]) -> Quad
         ensures { IsQuad result colour }
     {
         let dot = colour[0] as u64 + 0x100 * colour[1] as u64 + 0x1_0000 * colour[2] as u64;
         Quad {
             low: dot + 0x100_0000 * dot + 0x1_0000_0000_0000 * (dot % 0x1_0000),
             high: (dot / 0x1_0000 + 0x100 * dot) as u32,
-        }
-    }
-}
-
-/// The quads of the colours of the 16 numbers that four bits have.
-#[derive(Drop)]
-pub(crate) struct Quads {
-    /// The first eight bytes of each.
-    lows: [u64; 16],
-    /// The last four.
-    highs: [u32; 16],
-}
-
-impl Quads {
-    /// Those of a table of colours.
-    pub(crate) fn of(table: &Shades) -> Quads
-        ensures { AreQuads result table.now }
-    {
-        let mut quads = Quads {
-            lows: [0; 16],
-            highs: [0; 16],
-        };
-        for n in 0..16 {
-            let quad = Quad::of(table[n]);
-            quads.lows[n] = quad.low;
-            quads.highs[n] = quad.high;
-        }
-        quads
-    }
-
-    /// That of a number.
-    pub(crate) fn at(&self, n: u8) -> Quad
-        requires { n < 16 }
-        ensures { result ≡ quad_at self.now n }
-    {
-        Quad {
-            low: self.lows[n as usize],
-            high: self.highs[n as usize],
         }
     }
 }

@@ -210,12 +210,12 @@ impl TextLine {
         }
     }
 
-    /// The four bits of a cell's background.
+    /// The four bits of an attribute's background.
     #[inline(always)]
-    pub(crate) fn background(&self, cell: Cell) -> u8
-        ensures value { result ≡ bit_and (cell.attribute / 16) self.now.background_mask }
+    pub(crate) fn background(&self, attribute: u8) -> u8
+        ensures value { result ≡ bit_and (attribute / 16) self.now.background_mask }
         ensures small { result < 16 }
     {
-        (cell.attribute >> 4) & self.background_mask
+        (attribute >> 4) & self.background_mask
     }
 }

@@ -1,0 +1,16 @@
+use Rattle.std.proofs.Common.{subst}
+use Rattle.vga_dots.specs.Line.{shade}
+use Rattle.vga_dots.specs.Quads.{IsQuad}
+use Rattle.vga_dots.proofs.CharacterLemmas.{low}
+use Rattle.vga_dots.proofs.TextLineLemmas.{background_of}
+use Rattle.vga_dots.proofs.character.TextCharacters.colours.Goals as goal
+
+pub returns-clause-colours : goal.returns-clause-colours
+returns-clause-colours c =
+    let d = c.args.display.now in
+    record {
+      fore = subst (λ n. IsQuad c.quad_of.result (shade d.attr d.dac n)) (low c.args.attribute) c.quad_of.ensures;
+      back = λ character. subst (λ n. IsQuad c.quad_of-2.result (shade d.attr d.dac n))
+          (background_of d.host d.crtc d.attr c.args.self.now.line c.requires.line (record { character = character; attribute = c.args.attribute }) _
+          c.background.ensures.value) c.quad_of-2.ensures;
+    }

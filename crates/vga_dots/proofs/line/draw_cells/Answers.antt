@@ -1,0 +1,29 @@
+use Rattle.std.proofs.Common.{◌+◌, ◌*◌, ◌%◌, ap, ◌∙◌, sym, subst}
+use Rattle.vga_host.specs.Host.{HostState}
+use Rattle.vga_crtc.specs.declared.beam.Beam.{Beam}
+use Rattle.vga_dots.specs.declared.character.CellColours.{CellColours}
+use Rattle.vga_dots.specs.Text.{cell_at}
+use Rattle.vga_dots.specs.Row.{AreDotsPut}
+use Rattle.vga_dots.specs.Line.{dot_of, source_colour, unpanned_colour}
+use Rattle.vga_dots.specs.Character.{HasColours}
+use Rattle.vga_dots.proofs.RowLemmas.{characters_more}
+use Rattle.vga_dots.proofs.line.draw_cells.Goals as goal
+use Rattle.vga_dots.proofs.line.draw_cells.Goals.{then-cell-colours, else-cell-colours}
+
+pub put-requires-clause-cell : goal.put-requires-clause-cell
+put-requires-clause-cell g c = c.cell_at-cell.ensures ∙ ap (λ (x : HostState). cell_at x c.fetch_address.result) c.host.ensures
+    ∙ ap (cell_at c.args.display.now.host) c.fetch_address.ensures
+
+pub loop-x-preserved : goal.loop-x-preserved
+loop-x-preserved g c =
+    let d = c.args.display.now in
+    let x = c.loop-x.x in
+    let first = c.args.first in (
+      characters_more g.row.CW x (λ x. unpanned_colour d (first + x)) c.args.row.now c.loop-x.row c.put.new.row c.loop-x.invariant.0
+          (subst (λ (b : Beam). AreDotsPut g.row.CW (x * g.row.CW) (λ i. source_colour d (dot_of ((b.base + (first + x)) % 65536) i)) c.loop-x.row c.put.new.row)
+          c.beam-base.ensures.value c.put.ensures),
+      elim c.if-cell-colours.branch [
+        | then-cell-colours w ↦ subst (λ (colours : CellColours). HasColours colours d) (sym w.colours-is) w.colours-colours-then-cell-colours.ensures.colours
+        | else-cell-colours w ↦ subst (λ (colours : CellColours). HasColours colours d) (sym w.colours-is) c.loop-x.invariant.1
+      ],
+    )
