@@ -253,7 +253,7 @@ pub fill_leaves : (aim : Aim) (bytes others : Four ℕ) (misc first even odd n d
     → s ≡ after_puts misc first (in_turn even odd) done 0 h → Turns aim bytes others misc first even odd n done s
     (after_puts misc first (in_turn even odd) n 0 h)
 fill_leaves aim bytes others misc first even odd n done h s is be bo few kept put = (
-  subst (λ (x : HostState). IsAim aim x) kept (aim_over aim h misc s.memory h.latches is),
+  subst (IsAim aim) kept (aim_over aim h s.memory h.latches is),
   be ∙ sym (word_over h s.memory even) ∙ ap (λ (x : HostState). four (λ p. written_byte x even p)) kept,
   bo ∙ sym (word_over h s.memory odd) ∙ ap (λ (x : HostState). four (λ p. written_byte x odd p)) kept,
   puts_rest misc first even odd n done h s few put,

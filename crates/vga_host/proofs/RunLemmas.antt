@@ -145,7 +145,7 @@ pub move_kept : (aim : Aim) (misc from to n i : ℕ) (h t r : HostState) → i <
 move_kept aim misc from to n i h t r less now kept =
     let k : n - i ≡ suc (n - (i + 1)) = omega arith in
     let u = get_where h misc (from + i) in (
-      subst (λ x. IsAim aim x) (sym now) (aim_stays aim u misc (to + i) (byte_where h misc (from + i)) (aim_read aim h misc (from + i) kept.0)),
+      subst (IsAim aim) (sym now) (aim_stays aim u misc (to + i) (byte_where h misc (from + i)) (aim_read aim h misc (from + i) kept.0)),
       ap (after_moves misc from to (n - (i + 1)) (i + 1)) now ∙ sym (ap (λ k. after_moves misc from to k i h) k) ∙ kept.1,
     )
 
@@ -162,7 +162,7 @@ pub turn_kept : (aim : Aim) (bytes others : Four ℕ) (misc first even odd n i v
     → Turns aim bytes others misc first even odd n i h r → Turns aim bytes others misc first even odd n (i + 1) t r
 turn_kept aim bytes others misc first even odd n i v h t r less which now kept =
     let at : t ≡ put_where h misc (first + i) (in_turn even odd i) = now ∙ ap (put_where h misc (first + i)) which in (
-      subst (λ x. IsAim aim x) (sym now) (aim_stays aim h misc (first + i) v kept.0),
+      subst (IsAim aim) (sym now) (aim_stays aim h misc (first + i) v kept.0),
       subst (λ x. bytes ≡ four (λ p. written_byte x even p)) (sym now) (written_stays bytes h misc (first + i) v even kept.1),
       subst (λ x. others ≡ four (λ p. written_byte x odd p)) (sym now) (written_stays others h misc (first + i) v odd kept.2),
       next_put misc first (in_turn even odd) i n h t r less at kept.3,

@@ -354,8 +354,8 @@ moves_add misc from to (suc k) r i h =
 abbrev pub over : HostState → Four (List ℕ) → Four ℕ → HostState
 over h m l = record h { memory = m; latches = l }
 
-pub aim_over : (aim : Aim) (h : HostState) (misc : ℕ) (m : Four (List ℕ)) (l : Four ℕ) → IsAim aim h → IsAim aim (over h m l)
-aim_over aim h misc m l is = record {
+pub aim_over : (aim : Aim) (h : HostState) (m : Four (List ℕ)) (l : Four ℕ) → IsAim aim h → IsAim aim (over h m l)
+aim_over aim h m l is = record {
   start = is.start;
   len = is.len;
   small = is.small;

@@ -114,7 +114,7 @@ impl Host {
     }
 
     /// The bytes that the four planes get where a write reaches them.
-    fn written(&self, v: u8) -> Latch
+    pub(super) fn written(&self, v: u8) -> Latch
         ensures { result ≡ four (λ p. written_byte self.now v p) }
     {
         self.written_as(self.aim().plain, v)

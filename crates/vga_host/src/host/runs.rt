@@ -1,10 +1,8 @@
 //! Runs of cycles of display memory, apart for speed alone: what the registers say of a cycle is
-//! made out once for a run, since no cycle of memory changes a register.
+//! looked up once for a run, since no cycle of memory changes a register.
 ghost use Rattle.std.specs.Prelude.{◌≡◌, ◌<◌, ◌+◌, ◌-◌, ◌/◌, ◌%◌, ◌^◌, ◌==◌};
 ghost use Rattle.std.specs.Prelude.{if◌then◌else◌};
-ghost use Rattle.vga_bits.specs.Four.{four};
 ghost use Rattle.vga_host.specs.Fields.{write_mode};
-ghost use Rattle.vga_host.specs.MemoryWrite.{written_byte};
 ghost use Rattle.vga_host.specs.Runs.{put_bytes, get_where, byte_where, move_where, after_puts};
 ghost use Rattle.vga_host.specs.Runs.{after_moves, in_turn};
 ghost use Rattle.vga_host.specs.Aim.{IsAim};
@@ -17,15 +15,6 @@ use vga_planes::Latch;
 const REFUSED: u8 = 0xFF;
 
 impl Host {
-    /// The bytes that the four planes get where a write reaches them, by what the registers say of
-    /// every cycle.
-    fn written_aimed(&self, aim: Aim, v: u8) -> Latch
-        requires { IsAim aim self.now }
-        ensures { result ≡ four (λ p. written_byte self.now v p) }
-    {
-        self.written_as(aim.plain, v)
-    }
-
     /// Writes these four bytes to the planes that an address reaches where it is decoded, by what
     /// the registers say of every write.
     fn put_aimed(&mut self, aim: Aim, bytes: Latch, address: u32, misc: u8)
@@ -87,7 +76,7 @@ impl Host {
     {
         let byte = self.byte_aimed(aim, from, misc);
         self.load_aimed(aim, from, misc);
-        let bytes = self.written_aimed(aim, byte);
+        let bytes = self.written(byte);
         self.put_aimed(aim, bytes, to, misc);
     }
 
@@ -125,8 +114,8 @@ impl Host {
         ensures { self.new ≡ after_puts misc first (in_turn even odd) n 0 self.old }
     {
         let aim = self.aim();
-        let bytes = self.written_aimed(aim, even);
-        let others = self.written_aimed(aim, odd);
+        let bytes = self.written(even);
+        let others = self.written(odd);
         let done = self.fill_words(aim, bytes, others, first, n, even, odd, misc);
         for i in done..n {
             if i % 2 == 0 {

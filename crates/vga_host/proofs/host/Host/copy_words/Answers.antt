@@ -31,8 +31,8 @@ returns-clause-few c = c.loop-done.invariant.0
 
 pub returns-clause-aim : goal.returns-clause-aim
 returns-clause-aim c =
-    subst (λ (s : HostState). IsAim c.args.aim s) c.loop-done.invariant.2
-    (aim_over c.args.aim c.args.self.now c.args.misc c.loop-done.self.memory c.loop-done.self.latches c.requires.aim)
+    subst (IsAim c.args.aim) c.loop-done.invariant.2
+    (aim_over c.args.aim c.args.self.now c.loop-done.self.memory c.loop-done.self.latches c.requires.aim)
 
 pub returns-clause-moved : goal.returns-clause-moved
 returns-clause-moved c = sym c.loop-done.invariant.3

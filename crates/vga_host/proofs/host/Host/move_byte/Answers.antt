@@ -7,18 +7,14 @@ use Rattle.vga_host.specs.Aim.{IsAim}
 use Rattle.vga_host.proofs.RunLemmas.{aim_read}
 use Rattle.vga_host.proofs.host.Host.move_byte.Goals as goal
 
-pub written_aimed-bytes-requires : goal.written_aimed-bytes-requires
-written_aimed-bytes-requires c =
-    subst (λ x. IsAim c.args.aim x) (sym c.load_aimed.ensures) (aim_read c.args.aim c.args.self.now c.args.misc c.args.from c.requires.aim)
-
 pub put_aimed-requires-clause-aim : goal.put_aimed-requires-clause-aim
 put_aimed-requires-clause-aim c =
-    subst (λ x. IsAim c.args.aim x) (sym c.load_aimed.ensures) (aim_read c.args.aim c.args.self.now c.args.misc c.args.from c.requires.aim)
+    subst (IsAim c.args.aim) (sym c.load_aimed.ensures) (aim_read c.args.aim c.args.self.now c.args.misc c.args.from c.requires.aim)
 
 pub returns : goal.returns
 returns c =
     let h = c.load_aimed.new.self in
     let v = byte_where c.args.self.now c.args.misc c.args.from in
     c.put_aimed.ensures
-    ∙ ap (put_bytes h c.args.misc c.args.to) (c.written_aimed-bytes.ensures ∙ ap (λ b. four (λ p. written_byte h b p)) c.byte_aimed-byte.ensures)
+    ∙ ap (put_bytes h c.args.misc c.args.to) (c.written-bytes.ensures ∙ ap (λ b. four (λ p. written_byte h b p)) c.byte_aimed-byte.ensures)
     ∙ ap (λ x. put_where x c.args.misc c.args.to v) c.load_aimed.ensures

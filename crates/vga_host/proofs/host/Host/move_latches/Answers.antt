@@ -11,7 +11,7 @@ latched-bytes-requires c = ap write_mode c.load_aimed.ensures ∙ mode_read c.ar
 
 pub put_aimed-requires-clause-aim : goal.put_aimed-requires-clause-aim
 put_aimed-requires-clause-aim c =
-    subst (λ x. IsAim c.args.aim x) (sym c.load_aimed.ensures) (aim_read c.args.aim c.args.self.now c.args.misc c.args.from c.requires.aim)
+    subst (IsAim c.args.aim) (sym c.load_aimed.ensures) (aim_read c.args.aim c.args.self.now c.args.misc c.args.from c.requires.aim)
 
 pub returns : goal.returns
 returns c =
