@@ -1,6 +1,5 @@
 use Rattle.std.proofs.Common.{◌+◌, ◌-◌, ◌%◌, ◌∙◌, ap, sym, subst, refl, arith, ℕ, Bool}
 use Rattle.std.proofs.Math.Nat.{zero-mod}
-use Rattle.vga_host.specs.Host.{HostState}
 use Rattle.vga_host.specs.Aim.{IsAim}
 use Rattle.vga_host.specs.Words.{word_moved}
 use Rattle.vga_host.proofs.WordLemmas.{aim_over, words_go_on}
