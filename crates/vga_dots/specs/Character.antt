@@ -4,15 +4,18 @@ use Rattle.vga_bits.specs.Bits.{field}
 use Rattle.vga_dots.specs.declared.character.TextCharacters.{TextCharacters}
 use Rattle.vga_dots.specs.declared.character.CellColours.{CellColours}
 use Rattle.vga_dots.specs.declared.character.PlanarCharacters.{PlanarCharacters}
+use Rattle.vga_dots.specs.declared.character.PackedCharacters.{PackedCharacters}
+use Rattle.vga_dots.specs.Addressing.{addressing_of}
 use Rattle.vga_dots.specs.TextLine.{text_line, HasGlyphs}
 use Rattle.vga_dots.specs.Text.{background}
 use Rattle.vga_dots.specs.Line.{shade, shades_of}
 use Rattle.vga_dots.specs.Quads.{IsQuad}
-use Rattle.vga_dots.specs.Display.{DisplayState, ShowsText, ShowsPlanes}
+use Rattle.vga_dots.specs.Display.{DisplayState, ShowsText, ShowsPlanes, ShowsBytes}
 
 -- text is shown, and its colours and the settings of the beam's line are these
 pub record DrawsText (text : TextCharacters) (display : DisplayState) : Type 0 where
   pub shows : ShowsText display
+  pub addressing : text.addressing ≡ addressing_of display.crtc.registers
   pub line : text.line ≡ text_line display.host display.crtc display.attr
   pub glyphs : HasGlyphs text.line
 
@@ -25,4 +28,10 @@ pub record HasColours (colours : CellColours) (display : DisplayState) : Type 0 
 -- 16 colours are shown, and they are these
 pub record DrawsPlanes (planar : PlanarCharacters) (display : DisplayState) : Type 0 where
   pub shows : ShowsPlanes display
+  pub addressing : planar.addressing ≡ addressing_of display.crtc.registers
   pub table : planar.table ≡ shades_of display.attr display.dac
+
+-- 256 colours are shown
+pub record DrawsBytes (packed : PackedCharacters) (display : DisplayState) : Type 0 where
+  pub shows : ShowsBytes display
+  pub addressing : packed.addressing ≡ addressing_of display.crtc.registers

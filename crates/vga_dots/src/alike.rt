@@ -11,7 +11,6 @@ ghost use Rattle.vga_dots.specs.Alike.{HasCell, AreAlike};
 use crate::character::TextCharacters;
 use crate::display::Display;
 use crate::row::copy_dots;
-use crate::text::cell_at;
 
 /// How many bytes the dots of a character have at most.
 const CHARACTER_BYTES: usize = 27;
@@ -34,7 +33,7 @@ pub(crate) fn unlike(
 {
     let base = display.beam().base;
     let end = base.wrapping_add((first + count - 1) as u16);
-    let last = cell_at(display.host(), display.fetch_address(end));
+    let last = characters.cell(display, end);
     let mut unlike = count;
     while 0 < unlike
         && characters.has_cell(

@@ -15,6 +15,7 @@ ghost use Rattle.vga_dots.specs.Character.{HasColours};
 ghost use Rattle.vga_dots.specs.Display.{ShowsText, ShowsPlanes};
 ghost use Rattle.vga_dots.specs.Alike.{HasCell};
 
+use crate::addressing::Addressing;
 use crate::display::Display;
 use crate::quads::{Quad, put_glyph};
 use crate::row::{Shades, put_pixels, put_planes};
@@ -124,6 +125,7 @@ pub(crate) trait Characters<const CW: usize> {
 /// Characters of text, with what is looked up once for a line.
 #[derive(Drop)]
 pub(crate) struct TextCharacters {
+    addressing: Addressing,
     line: TextLine,
 }
 
@@ -136,8 +138,19 @@ impl TextCharacters {
         ensures { DrawsText result display.now }
     {
         TextCharacters {
+            addressing: Addressing::new(display.crtc().fields()),
             line: TextLine::at_beam(display),
         }
+    }
+
+    /// The cell of a counter.
+    #[inline(always)]
+    pub(crate) fn cell(&self, display: &Display<'_>, counter: u16) -> Cell
+        requires { DrawsText self.now display.now }
+        ensures { result ≡ cell_at_place display.now.host
+            (fetch_address display.now.crtc.registers counter) }
+    {
+        cell_at(display.host(), self.addressing.address(counter))
     }
 
     /// Whether a counter has a cell, and no cursor.
@@ -146,8 +159,7 @@ impl TextCharacters {
         requires { DrawsText self.now display.now }
         ensures { result ≡ true → HasCell display.now counter cell }
     {
-        let fetched = cell_at(display.host(), display.fetch_address(counter));
-        fetched.is_same(cell) && !self.line.has_cursor_at(counter)
+        self.cell(display, counter).is_same(cell) && !self.line.has_cursor_at(counter)
     }
 
     /// The colours of an attribute.
@@ -193,6 +205,7 @@ impl TextCharacters {
 /// Characters in 16 colours, with the colours looked up once.
 #[derive(Drop)]
 pub(crate) struct PlanarCharacters {
+    addressing: Addressing,
     table: Shades,
 }
 
@@ -205,6 +218,7 @@ impl PlanarCharacters {
         ensures { DrawsPlanes result display.now }
     {
         PlanarCharacters {
+            addressing: Addressing::new(display.crtc().fields()),
             table: shades(display.attr(), display.dac()),
         }
     }
@@ -217,23 +231,40 @@ impl<const CW: usize> Characters<CW> for PlanarCharacters {
 
     #[inline(always)]
     fn put(&self, display: &Display<'_>, counter: u16, row: &mut [u8], at: usize) {
-        let address = display.fetch_address(counter);
+        let address = self.addressing.address(counter);
         put_planes::<CW>(row, at, display.planes().word(address), &self.table);
     }
 }
 
 /// Characters in 256 colours.
 #[derive(Drop)]
-pub(crate) struct PackedCharacters;
+pub(crate) struct PackedCharacters {
+    addressing: Addressing,
+}
 
-impl<const CW: usize> Characters<CW> for PackedCharacters {
+impl PackedCharacters {
+    ghost use Rattle.vga_dots.specs.Character.{DrawsBytes};
     ghost use Rattle.vga_dots.specs.Display.{ShowsBytes};
 
-    ghost draws = { λ _ d. ShowsBytes d };
+    /// Those of any line.
+    pub(crate) fn new(display: &Display<'_>) -> PackedCharacters
+        requires { ShowsBytes display.now }
+        ensures { DrawsBytes result display.now }
+    {
+        PackedCharacters {
+            addressing: Addressing::new(display.crtc().fields()),
+        }
+    }
+}
+
+impl<const CW: usize> Characters<CW> for PackedCharacters {
+    ghost use Rattle.vga_dots.specs.Character.{DrawsBytes};
+
+    ghost draws = { DrawsBytes };
 
     #[inline(always)]
     fn put(&self, display: &Display<'_>, counter: u16, row: &mut [u8], at: usize) {
-        let address = display.fetch_address(counter);
+        let address = self.addressing.address(counter);
         let fetched = display.planes().load(address);
         let dac = display.dac();
         let pixels = [

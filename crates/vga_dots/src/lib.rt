@@ -1,6 +1,7 @@
 //! Dots: from the registers, the planes and the beam to the colour of a dot.
 #![tactic(auto)]
 
+mod addressing;
 mod alike;
 mod character;
 pub mod colour;

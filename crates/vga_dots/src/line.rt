@@ -14,7 +14,6 @@ use crate::colour::BLACK;
 use crate::display::Display;
 use crate::row::{copy_dots, fill};
 use crate::source_dot::panned;
-use crate::text::cell_at;
 use vga_crtc::Registers;
 
 /// How many bytes the most characters of a line, and one more, have: 257 of nine dots.
@@ -82,7 +81,7 @@ fn draw_cells<const CW: usize>(
     let mut colours = characters.colours(display, USUAL_ATTRIBUTE);
     for x in 0..count {
         let counter = base.wrapping_add((first + x) as u16);
-        let cell = cell_at(display.host(), display.fetch_address(counter));
+        let cell = characters.cell(display, counter);
         if cell.attribute != colours.attribute {
             colours = characters.colours(display, cell.attribute);
         }
@@ -129,7 +128,13 @@ fn draw_characters<const CW: usize>(
         row.new }
 {
     if display.host().is_256_colours() {
-        draw_each::<CW, PackedCharacters>(display, &PackedCharacters, first, count, row);
+        draw_each::<CW, PackedCharacters>(
+            display,
+            &PackedCharacters::new(display),
+            first,
+            count,
+            row,
+        );
     } else if display.host().is_graphics() {
         draw_each::<CW, PlanarCharacters>(
             display,

@@ -10,5 +10,5 @@ returns-clause-alike c = λ x i behind before.
     let n = c.loop-unlike.unlike in
     let last : c.min.result - 1 ≡ n = omega (arith, c.min.ensures, behind, before) in
     ap (λ k. unpanned_colour d (c.args.first + k) i) last
-    ∙ one_look d i _ _ c.cell_at-last.result c.requires.draws.shows (is.1 n (omega arith) (omega (arith, c.min.ensures, behind, before)))
+    ∙ one_look d i _ _ c.cell-last.result c.requires.draws.shows (is.1 n (omega arith) (omega (arith, c.min.ensures, behind, before)))
     (is.1 x (omega (arith, c.min.ensures, behind, before)) before)

@@ -1,18 +1,12 @@
-use Rattle.std.proofs.Common.{◌+◌, ◌*◌, ◌%◌, ap, ◌∙◌, sym, subst}
-use Rattle.vga_host.specs.Host.{HostState}
+use Rattle.std.proofs.Common.{◌+◌, ◌*◌, ◌%◌, sym, subst}
 use Rattle.vga_crtc.specs.declared.beam.Beam.{Beam}
 use Rattle.vga_dots.specs.declared.character.CellColours.{CellColours}
-use Rattle.vga_dots.specs.Text.{cell_at}
 use Rattle.vga_dots.specs.Row.{AreDotsPut}
 use Rattle.vga_dots.specs.Line.{dot_of, source_colour, unpanned_colour}
 use Rattle.vga_dots.specs.Character.{HasColours}
 use Rattle.vga_dots.proofs.RowLemmas.{characters_more}
 use Rattle.vga_dots.proofs.line.draw_cells.Goals as goal
 use Rattle.vga_dots.proofs.line.draw_cells.Goals.{then-cell-colours, else-cell-colours}
-
-pub put-requires-clause-cell : goal.put-requires-clause-cell
-put-requires-clause-cell g c = c.cell_at-cell.ensures ∙ ap (λ (x : HostState). cell_at x c.fetch_address.result) c.host.ensures
-    ∙ ap (cell_at c.args.display.now.host) c.fetch_address.ensures
 
 pub loop-x-preserved : goal.loop-x-preserved
 loop-x-preserved g c =

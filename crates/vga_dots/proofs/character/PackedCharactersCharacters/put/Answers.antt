@@ -5,9 +5,15 @@ use Rattle.vga_planes.specs.Planes.{byte_at, bytes_at}
 use Rattle.vga_dac.specs.Dac.{DacState}
 use Rattle.vga_dots.specs.SourceDot.{fetch_address}
 use Rattle.vga_dots.specs.Line.{masked, dot_of, source_colour}
+use Rattle.vga_dots.specs.declared.addressing.Addressing.{Addressing}
+use Rattle.vga_dots.proofs.AddressingLemmas.{bit_small}
 use Rattle.vga_dots.proofs.RowLemmas.{dots_alike}
 use Rattle.vga_dots.proofs.CharacterLemmas.{packed_dot}
 use Rattle.vga_dots.proofs.character.PackedCharactersCharacters.put.Goals as goal
+
+pub address-address-requires : goal.address-address-requires
+address-address-requires g c =
+    rw (ap (λ (a : Addressing). a.bit) c.requires.draws.addressing) (bit_small c.args.display.now.crtc.registers)
 
 pub returns : goal.returns
 returns g c =
@@ -17,8 +23,8 @@ returns g c =
     let address = fetch_address d.crtc.registers n in
     let fetched : (p v : ℕ) → v ≡ of_plane c.load-fetched.result p → of_plane (bytes_at memory address) p ≡ byte_at memory p address →
     v ≡ byte_at memory p address =
-    λ p v e same. e ∙ ap (λ l. of_plane l p) c.load-fetched.ensures ∙ ap (λ m. of_plane (bytes_at m c.fetch_address-address.result) p) c.planes.ensures
-    ∙ ap (λ o. of_plane (bytes_at memory o) p) c.fetch_address-address.ensures ∙ same in
+    λ p v e same. e ∙ ap (λ l. of_plane l p) c.load-fetched.ensures ∙ ap (λ m. of_plane (bytes_at m c.address-address.result) p) c.planes.ensures
+    ∙ ap (λ o. of_plane (bytes_at memory o) p) (c.address-address.ensures d.crtc.registers c.requires.draws.addressing) ∙ same in
     let colour : (q : List ℕ) (v w : ℕ) → q ≡ masked c.dac-dac.result.now v → v ≡ w → q ≡ masked d.dac w =
     λ q v w e same. e ∙ ap (λ (x : DacState). masked x v) c.dac-dac.ensures ∙ ap (masked d.dac) same in
     let e0 = colour _ _ _ c.masked.ensures (fetched 0 _ c.byte.ensures refl) in
@@ -27,4 +33,4 @@ returns g c =
     let e3 = colour _ _ _ c.masked-4.ensures (fetched 3 _ c.byte-4.ensures refl) in
     let e4 = colour _ _ 0 c.masked-5.ensures refl in
     dots_alike g.row.CW c.args.at _ (λ i. source_colour d (dot_of n i)) c.args.row.now c.put_pixels.new.row c.put_pixels.ensures
-    (λ i l. packed_dot d n _ _ _ _ _ i (omega (arith, l, c.requires.width)) c.requires.draws e0 e1 e2 e3 e4)
+    (λ i l. packed_dot d n _ _ _ _ _ i (omega (arith, l, c.requires.width)) c.requires.draws.shows e0 e1 e2 e3 e4)

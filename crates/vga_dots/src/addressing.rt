@@ -1,0 +1,54 @@
+//! Where characters are fetched, apart for speed alone: what the registers say of every address is
+//! looked up once for a line.
+ghost use Rattle.std.specs.Prelude.{◌≡◌, ◌<◌, ℕ, List};
+ghost use Rattle.vga_dots.specs.SourceDot.{fetch_address};
+ghost use Rattle.vga_dots.specs.Addressing.{addressing_of};
+
+use vga_crtc::Registers;
+
+/// A bit that no counter has.
+const NO_BIT: u32 = 16;
+
+/// What the registers say of every fetch address.
+#[derive(Clone, Copy)]
+pub(crate) struct Addressing {
+    /// By how many places in each plane a counter's are apart.
+    step: u16,
+    /// Which bit of a counter is added.
+    bit: u32,
+}
+
+impl Addressing {
+    /// That of some registers.
+    #[tactic(auto, unfolding(crate::specs::Addressing::addressing_of))]
+    pub(crate) fn new(registers: &Registers) -> Addressing
+        ensures { result ≡ addressing_of registers.now }
+    {
+        if registers.is_double_word() {
+            Addressing {
+                step: 4,
+                bit: NO_BIT,
+            }
+        } else if registers.is_byte_mode() {
+            Addressing {
+                step: 1,
+                bit: NO_BIT,
+            }
+        } else if registers.is_address_wrap() {
+            Addressing { step: 2, bit: 15 }
+        } else {
+            Addressing { step: 2, bit: 13 }
+        }
+    }
+
+    /// The place in each plane that a counter addresses.
+    #[inline(always)]
+    pub(crate) fn address(self, counter: u16) -> u16
+        requires { self.bit < 32 }
+        ensures { (registers : List ℕ) → self ≡ addressing_of registers
+            → result ≡ fetch_address registers counter }
+    {
+        let low = (counter as u32 >> self.bit) % 2;
+        counter.wrapping_mul(self.step).wrapping_add(low as u16)
+    }
+}
