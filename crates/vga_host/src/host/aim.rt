@@ -1,7 +1,7 @@
 //! What the registers say of every cycle of memory, which is kept beside them: it stands apart for
 //! speed alone.
 ghost use Rattle.std.specs.Prelude.{◌≡◌, ◌<◌, ◌+◌, ◌-◌, ◌*◌, ◌/◌, ◌%◌, ◌^◌, ◌==◌, ◌&&◌, ◌||◌};
-ghost use Rattle.std.specs.Prelude.{nat_le, nat_lt, if◌then◌else◌, IsTrue, true};
+ghost use Rattle.std.specs.Prelude.{nat_le, nat_lt, if◌then◌else◌, IsTrue, true, ℕ, List, replicate};
 ghost use Rattle.std.specs.Option.{SomeIff};
 ghost use Rattle.vga_bits.specs.Bits.{is_set};
 ghost use Rattle.vga_host.specs.Aim.{IsAim, IsAimOf};
@@ -146,22 +146,58 @@ fn is_plain(gfx: &RegFile<9>) -> bool
     changes == 0 && mask == 0xFF
 }
 
-/// What the registers of both groups say of every cycle.
-pub(super) fn aim_of(seq: &RegFile<5>, gfx: &RegFile<9>) -> Aim
-    ensures { IsAimOf result seq.now.values gfx.now.values }
-{
-    let map = gfx.field(graphics::MISCELLANEOUS, 3, 2);
-    let (start, len) = window(map);
-    let mode = gfx.field(graphics::GRAPHICS_MODE, 1, 0);
-    Aim {
-        start,
-        len,
-        four: seq.bit(sequencer::MEMORY_MODE, 3),
-        pairs: gfx.bit(graphics::MISCELLANEOUS, 1),
-        all: seq.bit(sequencer::MEMORY_MODE, 2),
-        mask: seq.read(sequencer::MAP_MASK),
-        plain: is_plain(gfx),
-        latched: mode == 1,
+impl Aim {
+    /// What registers say that are all 0.
+    pub(super) fn of_zeros() -> Aim
+        ensures { IsAimOf result (replicate 5 0) (replicate 9 0) }
+    {
+        Aim {
+            start: 0xA0000,
+            len: 0x20000,
+            four: false,
+            pairs: false,
+            all: false,
+            mask: 0,
+            plain: false,
+            latched: false,
+        }
+    }
+
+    /// The same with what the sequencer's registers say now.
+    pub(super) fn with_sequencer(self, seq: &RegFile<5>) -> Aim
+        ensures { (before gfx : List ℕ) → IsAimOf self before gfx
+            → IsAimOf result seq.now.values gfx }
+    {
+        Aim {
+            start: self.start,
+            len: self.len,
+            four: seq.bit(sequencer::MEMORY_MODE, 3),
+            pairs: self.pairs,
+            all: seq.bit(sequencer::MEMORY_MODE, 2),
+            mask: seq.read(sequencer::MAP_MASK),
+            plain: self.plain,
+            latched: self.latched,
+        }
+    }
+
+    /// The same with what the graphics controller's registers say now.
+    pub(super) fn with_graphics(self, gfx: &RegFile<9>) -> Aim
+        ensures { (seq before : List ℕ) → IsAimOf self seq before
+            → IsAimOf result seq gfx.now.values }
+    {
+        let map = gfx.field(graphics::MISCELLANEOUS, 3, 2);
+        let (start, len) = window(map);
+        let mode = gfx.field(graphics::GRAPHICS_MODE, 1, 0);
+        Aim {
+            start,
+            len,
+            four: self.four,
+            pairs: gfx.bit(graphics::MISCELLANEOUS, 1),
+            all: self.all,
+            mask: self.mask,
+            plain: is_plain(gfx),
+            latched: mode == 1,
+        }
     }
 }
 

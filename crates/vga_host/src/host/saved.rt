@@ -4,7 +4,6 @@ ghost use Rattle.vga_bits.specs.Saved.{IsPut};
 ghost use Rattle.vga_host.specs.Saved.{saved_latches, latches_from, saved_host, IsSavedHost};
 ghost use Rattle.vga_host.specs.Saved.{host_from};
 
-use super::aim::aim_of;
 use super::ports::{GRAPHICS_INDEX_MASK, SEQUENCER_INDEX_MASK};
 use super::{GFX_MASKS, Host, SEQ_MASKS};
 use vga_bits::{are_kept, put_bytes};
@@ -75,7 +74,7 @@ impl Host {
         self.latch = latch_from(latch);
         self.seq.restore(seq);
         self.gfx.restore(gfx);
-        self.aim = aim_of(&self.seq, &self.gfx);
+        self.aim = self.aim.with_sequencer(&self.seq).with_graphics(&self.gfx);
         self.seq_index = indexes[0];
         self.gfx_index = indexes[1];
         self.planes.restore(memory);

@@ -2,20 +2,20 @@
 use Rattle.std.proofs.Common.{◌≡◌, ◌∙◌, ◌==◌, ap, sym, refl, ℕ, arith, true, if◌then◌else◌, nat_lt}
 use Rattle.std.proofs.lemmas.Bool.Decides.{nat_tests}
 use Rattle.vga_bits.specs.Bits.{is_set}
-use Rattle.vga_host.proofs.host.aim.aim_of.Goals as goal
+use Rattle.vga_host.proofs.host.aim.Aim.with_graphics.Goals as goal
 
 number_is : (a b : ℕ) → (a == b) ≡ true → a ≡ b
 number_is a b is = grind (arith, nat_tests)
 
 pub returns : goal.returns
-returns c = λ memory latches i j. record {
+returns c = λ seq before is memory latches i j. let was = is memory latches i j in record {
   start = c.window-start.ensures.start ∙ ap (λ m. if nat_lt m 2 then 0xA0000 else if m == 2 then 0xB0000 else 0xB8000) c.field-map.ensures;
   len = c.window-start.ensures.len ∙ ap (λ m. if m == 0 then 0x20000 else if m == 1 then 0x10000 else 0x8000) c.field-map.ensures;
   small = c.window-start.ensures.small;
-  four = c.bit.ensures;
-  pairs = c.bit-2.ensures;
-  all = c.bit-3.ensures;
-  mask = λ p. ap (λ r. is_set r p) c.read.ensures;
+  four = was.four;
+  pairs = c.bit.ensures;
+  all = was.all;
+  mask = was.mask;
   plain = λ e. c.is_plain.ensures e _ refl;
   latched = λ e. sym c.field-mode.ensures ∙ number_is c.field-mode.result 1 e;
 }
