@@ -14,6 +14,9 @@ use super::aim::Aim;
 use vga_bits::is_set;
 use vga_planes::PlaneSet;
 
+/// The map mask that has all planes.
+const ALL_PLANES: PlaneSet = 0b1111;
+
 impl Host {
     /// Whether the memory has all addresses of n moves.
     fn are_within(&self, aim: Aim, from: u32, to: u32, n: u32, misc: u8) -> bool
@@ -120,8 +123,19 @@ impl Host {
 
     /// Copies words, of `per` moves each, as long as a whole one is left of n moves, and tells how
     /// many moves that were.
-    fn copy_words(&mut self, aim: Aim, per: u32, from: u32, to: u32, n: u32, misc: u8) -> u32
+    #[inline(always)]
+    fn copy_words(
+        &mut self,
+        aim: Aim,
+        per: u32,
+        set: PlaneSet,
+        from: u32,
+        to: u32,
+        n: u32,
+        misc: u8,
+    ) -> u32
         requires aim { IsAim aim self.old }
+        requires set { set ≡ aim.mask }
         requires starts { (aim.start ≤ from) × (aim.start ≤ to) }
         requires from { from + n < 2 ^ 32 }
         requires to { to + n < 2 ^ 32 }
@@ -137,13 +151,14 @@ impl Host {
         while n - done >= per {
             let place = ((first + done) % 65_536) as u16;
             let other = ((target + done) % 65_536) as u16;
-            self.move_word(place, other, aim.mask);
+            self.move_word(place, other, set);
             done += per;
         }
         done
     }
 
     /// Moves words, where that is what the first of n moves do, and tells how many moves that were.
+    #[inline(never)]
     pub(super) fn move_words(&mut self, aim: Aim, from: u32, to: u32, n: u32, misc: u8) -> u32
         requires aim { IsAim aim self.old }
         requires small { aim.start + aim.len < 2 ^ 32 }
@@ -160,6 +175,11 @@ impl Host {
         if per == 0 {
             return 0;
         }
-        self.copy_words(aim, per, from, to, n, misc)
+        // In all planes the word that was there is not looked at, which takes a loop of its own.
+        if per == 1 && aim.mask == ALL_PLANES {
+            self.copy_words(aim, 1, ALL_PLANES, from, to, n, misc)
+        } else {
+            self.copy_words(aim, per, aim.mask, from, to, n, misc)
+        }
     }
 }
