@@ -1,5 +1,5 @@
 -- Values of six bits stay such, and a DAC is read back from its bytes.
-use Rattle.std.proofs.Common.{◌≡◌, ℕ, zero, suc, ◌<◌, ◌≤◌, ap, ◌∙◌, sym, refl, arith, inl, inr, List, [], ◌∷◌, ◌++◌, length, take, drop, length-append}
+use Rattle.std.proofs.Common.{◌≡◌, ℕ, ◌<◌, ap, ◌∙◌, refl, arith, inl, inr, List, ◌++◌, length, take, drop, length-append}
 use Rattle.std.specs.Prelude.{slice_index, slice_set, bit_and}
 use Rattle.std.proofs.lemmas.Bool.{cases_lt, cases_eq}
 use Rattle.std.proofs.lemmas.List.{take_at, drop_at, get_or_past, get_or-set_same, get_or-set_other, set_past}
@@ -9,7 +9,7 @@ use Rattle.vga_bits.proofs.ByteLemmas.{zeros_at}
 use Rattle.vga_dac.specs.declared.component.Component.{Component}
 use Rattle.vga_dac.specs.declared.component.Component.TheVariants.{Red, Green, Blue}
 use Rattle.vga_dac.specs.Dac.{DacState, IsDac}
-use Rattle.vga_dac.specs.Saved.{component_number, component_numbered, saved_counters, saved_dac, AreSmall, AreCounters, IsSavedDac, past_reds, past_greens, past_blues, dac_from}
+use Rattle.vga_dac.specs.Saved.{component_number, component_numbered, saved_counters, saved_dac, AreSmall, IsSavedDac, past_reds, past_greens, past_blues, dac_from}
 
 -- ---- values of six bits
 

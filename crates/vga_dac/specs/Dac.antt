@@ -2,8 +2,8 @@
 -- From the IBM PS/2 Hardware Interface Technical Reference, Video Subsystems, "Video
 -- Digital-to-Analog Converter".
 -- That there is one index and one counter for both directions is this adapter's choice.
-use Rattle.std.specs.Prelude.{ℕ, ◌≡◌, ◌+◌, ◌%◌, List, [], ◌∷◌, length, slice_index, slice_set}
-use Rattle.std.specs.Prelude.{bit_and}
+use Rattle.std.specs.Prelude.{ℕ, ◌≡◌, ◌+◌, ◌%◌, ◌<◌, List, [], ◌∷◌, length, slice_index, slice_set}
+use Rattle.std.specs.Prelude.{bit_and, slice_index_or}
 use Rattle.vga_bits.specs.Bytes.{zeros}
 use Rattle.vga_dac.specs.declared.component.Component.{Component}
 use Rattle.vga_dac.specs.declared.component.Component.TheVariants.{Red, Green, Blue}
@@ -40,6 +40,12 @@ pub record IsDac (d : DacState) : Type 0 where
 -- red, green and blue of entry i
 abbrev pub entry_of : DacState → ℕ → List ℕ
 entry_of d i = slice_index d.reds i ∷ slice_index d.greens i ∷ slice_index d.blues i ∷ []
+
+-- the first n entries have these components, and a byte 0 more each: how they are kept for speed
+-- alone
+pub record AreEntries (n : ℕ) (entries : List (List ℕ)) (reds greens blues : List ℕ) : Type 0 where
+  pub each : (i : ℕ) → i < n → slice_index_or entries i []
+      ≡ slice_index reds i ∷ slice_index greens i ∷ slice_index blues i ∷ 0 ∷ []
 
 -- an index is written, for writing or for reading: red is next
 abbrev pub after_index : DacState → ℕ → DacState

@@ -21,6 +21,8 @@ pub struct Dac {
     reds: [u8; 256],
     greens: [u8; 256],
     blues: [u8; 256],
+    /// The three components of each entry and a byte 0 more, kept for speed alone.
+    entries: [[u8; 4]; 256],
     index: u8,
     component: Component,
     waiting_red: u8,
@@ -31,7 +33,7 @@ pub struct Dac {
 impl Model for Dac {
     ghost use Rattle.std.specs.Prelude.{◌<◌};
     ghost use Rattle.vga_dac.specs.Saved.{AreSmall};
-    ghost use Rattle.vga_dac.specs.Dac.{DacState};
+    ghost use Rattle.vga_dac.specs.Dac.{DacState, AreEntries};
 
     ghost Value = { DacState };
 
@@ -47,10 +49,12 @@ impl Model for Dac {
     } };
 
     ghost invariant = { λ d. AreSmall d.reds × AreSmall d.greens × AreSmall d.blues
-        × (d.waiting_red < 64) × (d.waiting_green < 64) };
+        × (d.waiting_red < 64) × (d.waiting_green < 64)
+        × AreEntries 256 d.entries d.reds d.greens d.blues };
 }
 
 ghost use Rattle.vga_bits.specs.Bytes.{zeros as zeros_of};
+ghost use Rattle.vga_dac.specs.Dac.{AreEntries};
 
 /// So many values 0.
 #[tactic(auto, unfolding(vga_bits::specs::Bytes::zeros))]
@@ -60,7 +64,19 @@ fn zeros<const N: usize>() -> [u8; N]
     [0; N]
 }
 
+/// The entries that have these components.
+fn entries_of(reds: &[u8; 256], greens: &[u8; 256], blues: &[u8; 256]) -> [[u8; 4]; 256]
+    ensures { AreEntries 256 result reds.now greens.now blues.now }
+{
+    let mut entries = [[0; 4]; ENTRIES];
+    for i in 0..ENTRIES {
+        entries[i] = [reds[i], greens[i], blues[i], 0];
+    }
+    entries
+}
+
 impl Dac {
+    ghost use Rattle.std.specs.Prelude.{[], ◌∷◌, ◌++◌};
     ghost use Rattle.vga_dac.specs.Dac.{power_on_dac, after_index, after_write, read_value};
     ghost use Rattle.vga_dac.specs.Dac.{after_read, entry_of};
     ghost use Rattle.vga_dac.specs.Dac.{IsDac};
@@ -70,10 +86,14 @@ impl Dac {
     pub fn new() -> Dac
         ensures { result ≡ power_on_dac }
     {
+        let reds = zeros::<ENTRIES>();
+        let greens = zeros::<ENTRIES>();
+        let blues = zeros::<ENTRIES>();
         Dac {
-            reds: zeros::<ENTRIES>(),
-            greens: zeros::<ENTRIES>(),
-            blues: zeros::<ENTRIES>(),
+            entries: entries_of(&reds, &greens, &blues),
+            reds,
+            greens,
+            blues,
             index: 0,
             component: Component::Red,
             waiting_red: 0,
@@ -123,7 +143,7 @@ impl Dac {
 
     /// Writes the next component, of which six bits are kept. Red and green wait; blue stores all
     /// three in the entry of the index.
-    #[tactic(auto, using(crate::proofs::SavedLemmas::small_set, crate::proofs::SavedLemmas::small_and))]
+    #[tactic(auto, using(crate::proofs::SavedLemmas::small_set, crate::proofs::SavedLemmas::small_and, crate::proofs::EntryLemmas::entries_set))]
     pub fn write_component(&mut self, v: u8)
         ensures { self.new ≡ after_write self.old v }
     {
@@ -136,6 +156,7 @@ impl Dac {
                 self.reds[at] = self.waiting_red;
                 self.greens[at] = self.waiting_green;
                 self.blues[at] = value;
+                self.entries[at] = [self.waiting_red, self.waiting_green, value, 0];
             }
         }
         self.go_on();
@@ -176,6 +197,14 @@ impl Dac {
     {
         let at = i as usize;
         [self.reds[at], self.greens[at], self.blues[at]]
+    }
+
+    /// Red, green and blue of entry `i`, and a byte 0 more: four bytes are moved at once, three are
+    /// not.
+    pub fn padded_entry(&self, i: u8) -> [u8; 4]
+        ensures { result ≡ entry_of self.now i ++ 0 ∷ [] }
+    {
+        self.entries[i as usize]
     }
 
     /// The component that the next byte is.

@@ -1,6 +1,6 @@
 -- The dots of a character, by what is shown.
 use Rattle.std.proofs.Common.{◌≡◌, ℕ, zero, suc, ◌+◌, ◌-◌, ◌*◌, ◌/◌, ◌%◌, ◌<◌, ◌≤◌, ⊎_elim, refl, sym, ap, ◌∙◌, arith, Bool, true, false, List, [], ◌∷◌}
-use Rattle.std.specs.Prelude.{◌^◌, ◌==◌, ◌&&◌, not, nat_lt, nat_le, slice_index_or, if◌then◌else◌}
+use Rattle.std.specs.Prelude.{◌^◌, ◌==◌, ◌&&◌, not, nat_lt, nat_le, slice_index, slice_index_or, if◌then◌else◌}
 use Rattle.std.specs.Int.{bit_at}
 use Rattle.std.proofs.lemmas.Bool.{cases_lt, lt-ltb}
 use Rattle.std.proofs.lemmas.Nat.Bits.{bit_at-lt, bit_at-zero, bit_at_ones, bit_at_cat_low, bit_at_cat_high}
@@ -20,11 +20,12 @@ use Rattle.vga_dots.specs.declared.text.Cell.{Cell}
 use Rattle.vga_dots.specs.SourceDot.{fetch_address}
 use Rattle.vga_dots.specs.Text.{text_nibble, cell_at, background, is_foreground, is_underlined, is_blinked_away, is_cursor_at, is_glyph_dot, glyph_row}
 use Rattle.vga_dots.specs.Graphics.{plane_bits, planar_nibble, packed_byte}
-use Rattle.vga_dots.specs.Row.{nibble_of}
+use Rattle.vga_dots.specs.Row.{nibble_of, padded_colour}
 use Rattle.vga_dots.specs.Display.{DisplayState, ShowsText, ShowsPlanes, ShowsBytes}
-use Rattle.vga_dots.specs.Line.{masked, shade, shades_of, dot_of, source_colour}
+use Rattle.vga_dots.specs.Line.{masked, shade, padded_shade, shades_of, dot_of, source_colour}
+use Rattle.vga_dots.proofs.RowLemmas.{padded_byte}
 
-pub shades_at : (a : AttrState) (d : DacState) (n : ℕ) → n < 16 → slice_index_or (shades_of a d) n [] ≡ shade a d n
+pub shades_at : (a : AttrState) (d : DacState) (n : ℕ) → n < 16 → slice_index_or (shades_of a d) n [] ≡ padded_shade a d n
 unfolding shades_of
 shades_at a d zero l = refl
 shades_at a d (suc zero) l = refl
@@ -182,26 +183,29 @@ module _ (d : DisplayState) (counter : ℕ) where
   -- ---- 256 colours
 
   -- each of the five colours of a character is at its dots
-  pub packed_dot : (p0 p1 p2 p3 p4 : List ℕ) (i : ℕ) → i < 9 → ShowsBytes d
-      → p0 ≡ masked d.dac (byte_at d.host.memory 0 place) → p1 ≡ masked d.dac (byte_at d.host.memory 1 place) →
-      p2 ≡ masked d.dac (byte_at d.host.memory 2 place) → p3 ≡ masked d.dac (byte_at d.host.memory 3 place) → p4 ≡ masked d.dac 0
-      → slice_index_or (p0 ∷ p1 ∷ p2 ∷ p3 ∷ p4 ∷ []) (i / 2) [] ≡ source_colour d (dot_of counter i)
+  pub packed_dot : (p0 p1 p2 p3 p4 : List ℕ) (i j : ℕ) → i < 9 → j < 3 → ShowsBytes d
+      → p0 ≡ padded_colour (masked d.dac (byte_at d.host.memory 0 place)) → p1 ≡ padded_colour (masked d.dac (byte_at d.host.memory 1 place)) →
+      p2 ≡ padded_colour (masked d.dac (byte_at d.host.memory 2 place)) → p3 ≡ padded_colour (masked d.dac (byte_at d.host.memory 3 place)) → p4 ≡ padded_colour (masked d.dac 0)
+      → slice_index (slice_index_or (p0 ∷ p1 ∷ p2 ∷ p3 ∷ p4 ∷ []) (i / 2) []) j ≡ slice_index (source_colour d (dot_of counter i)) j
   unfolding packed_byte
-  packed_dot p0 p1 p2 p3 p4 i within shows e0 e1 e2 e3 e4 =
-      by_nine (λ n. slice_index_or (p0 ∷ p1 ∷ p2 ∷ p3 ∷ p4 ∷ []) (n / 2) [] ≡ packed_colour n) e0 e0 e1 e1 e2 e2 e3 e3 e4 i within ∙ packed_shown i shows
+  packed_dot p0 p1 p2 p3 p4 i j within below shows e0 e1 e2 e3 e4 =
+      ap (λ c. slice_index c j)
+      (by_nine (λ n. slice_index_or (p0 ∷ p1 ∷ p2 ∷ p3 ∷ p4 ∷ []) (n / 2) [] ≡ padded_colour (packed_colour n)) e0 e0 e1 e1 e2 e2 e3 e3 e4 i within)
+      ∙ padded_byte (packed_colour i) j below ∙ ap (λ c. slice_index c j) (packed_shown i shows)
 
   -- ---- 16 colours
 
   -- the bits of a word are those of the planes, looked up in the table
-  pub planar_dot : (table : List (List ℕ)) (word i : ℕ) → table ≡ shades_of d.attr d.dac → ShowsPlanes d
+  pub planar_dot : (table : List (List ℕ)) (word i j : ℕ) → j < 3 → table ≡ shades_of d.attr d.dac → ShowsPlanes d
       → bytes_of word ≡ bytes_at d.host.memory place
-      → slice_index_or table (if nat_lt i 8 then nibble_of word (7 - i) else 0) [] ≡ source_colour d (dot_of counter i)
+      → slice_index (slice_index_or table (if nat_lt i 8 then nibble_of word (7 - i) else 0) []) j ≡ slice_index (source_colour d (dot_of counter i)) j
   unfolding planar_nibble
-  planar_dot table word i is shows e =
+  planar_dot table word i j within is shows e =
       let n = planar_nibble d.host d.crtc (dot_of counter i) in
-      ap (λ t. slice_index_or t (if nat_lt i 8 then nibble_of word (7 - i) else 0) []) is
+      ap (λ c. slice_index c j) (ap (λ t. slice_index_or t (if nat_lt i 8 then nibble_of word (7 - i) else 0) []) is
       ∙ ap (λ m. slice_index_or (shades_of d.attr d.dac) (if nat_lt i 8 then m else 0) []) (bits_are d.host place (7 - i) word (omega arith) e)
-      ∙ shades_at d.attr d.dac n (small_if (nat_lt i 8) _ (bits_small d.host place (7 - i))) ∙ planar_shown i shows
+      ∙ shades_at d.attr d.dac n (small_if (nat_lt i 8) _ (bits_small d.host place (7 - i))))
+      ∙ padded_byte (shade d.attr d.dac n) j within ∙ ap (λ c. slice_index c j) (planar_shown i shows)
 
   -- ---- text
 

@@ -1,8 +1,9 @@
 -- A bit of each plane of a word, brought together.
-use Rattle.std.proofs.Common.{◌≡◌, ℕ, zero, suc, ◌+◌, ◌*◌, ◌/◌, ◌%◌, ◌^◌, ◌<◌, arith, sym, ap, ◌∙◌, bit_and, min}
+use Rattle.std.proofs.Common.{◌≡◌, ℕ, zero, suc, ◌+◌, ◌*◌, ◌/◌, ◌%◌, ◌^◌, ◌<◌, arith, refl, sym, ap, ap₂, ◌∙◌, bit_and, min}
 use Rattle.std.specs.Int.{bit_at}
 use Rattle.std.proofs.lemmas.Bool.Decides.{nat_tests}
-use Rattle.std.proofs.lemmas.Nat.{and_le_r}
+use Rattle.std.specs.Int.Bits.{and_zero_r}
+use Rattle.std.proofs.lemmas.Nat.{and_le_r, and_block, div-add-mod', mod_below, pow_pos}
 use Rattle.std.proofs.lemmas.Nat.Bits.{bit_at-zero, bit_at-suc}
 use Rattle.vga_bits.specs.Bits.{byte_of}
 use Rattle.vga_bits.specs.Words.{byte_in, word_bit}
@@ -41,7 +42,7 @@ masked_byte x p plane =
 
 -- four bits that stand apart, brought together by a product
 together : (m n0 n1 n2 n3 : ℕ) → m < 4294967296 → n0 < 2 → n1 < 2 → n2 < 2 → n3 < 2 → byte_in 0 m ≡ n0 → byte_in 1 m ≡ n1 → byte_in 2 m ≡ n2 → byte_in 3 m ≡ n3
-    → m * 16909320 % 4294967296 / 16777216 ≡ n0 + 2 * n1 + 4 * n2 + 8 * n3
+    → m * 270549120 % 4294967296 / 268435456 ≡ n0 + 2 * n1 + 4 * n2 + 8 * n3
 together m n0 n1 n2 n3 fits s0 s1 s2 s3 e0 e1 e2 e3 =
     let is : m ≡ n0 + 256 * n1 + 65536 * n2 + 16777216 * n3 = omega arith in
     omega arith
@@ -51,10 +52,42 @@ shifted : (w k p : ℕ) → word_bit (w / 2 ^ k) p 0 ≡ word_bit w p k
 unfolding word_bit
 shifted w k p = let place : k + (8 * p + 0) ≡ 8 * p + k = omega arith in bit_at_shr w k (8 * p + 0) ∙ ap (bit_at w) place
 
-pub gathered : (w k : ℕ) → bit_and (w / 2 ^ k) 16843009 * 16909320 % 4294967296 / 16777216 ≡ nibble_of w k
-gathered w k =
+-- a fact of 0 to 7 is one of each number below 8
+by_eight : (P : ℕ → Type 0) → P 0 → P 1 → P 2 → P 3 → P 4 → P 5 → P 6 → P 7 → (k : ℕ) → k < 8 → P k
+by_eight P p0 p1 p2 p3 p4 p5 p6 p7 zero l = p0
+by_eight P p0 p1 p2 p3 p4 p5 p6 p7 (suc zero) l = p1
+by_eight P p0 p1 p2 p3 p4 p5 p6 p7 (suc (suc zero)) l = p2
+by_eight P p0 p1 p2 p3 p4 p5 p6 p7 (suc (suc (suc zero))) l = p3
+by_eight P p0 p1 p2 p3 p4 p5 p6 p7 (suc (suc (suc (suc zero)))) l = p4
+by_eight P p0 p1 p2 p3 p4 p5 p6 p7 (suc (suc (suc (suc (suc zero))))) l = p5
+by_eight P p0 p1 p2 p3 p4 p5 p6 p7 (suc (suc (suc (suc (suc (suc zero)))))) l = p6
+by_eight P p0 p1 p2 p3 p4 p5 p6 p7 (suc (suc (suc (suc (suc (suc (suc zero))))))) l = p7
+by_eight P p0 p1 p2 p3 p4 p5 p6 p7 (suc (suc (suc (suc (suc (suc (suc (suc k)))))))) l = absurd (omega arith)
+
+-- a mask that is shifted, and not beyond the word
+mask_shifted : (k : ℕ) → k < 8 → 16843009 * 2 ^ k % 4294967296 ≡ 16843009 * 2 ^ k
+mask_shifted = by_eight (λ k. 16843009 * 2 ^ k % 4294967296 ≡ 16843009 * 2 ^ k) refl refl refl refl refl refl refl refl
+
+-- bits that stand higher, by a factor that is as much smaller
+shifted_back : (m k : ℕ) → k < 8 → m * 2 ^ k * (270549120 / 2 ^ k) ≡ m * 270549120
+shifted_back m = by_eight (λ k. m * 2 ^ k * (270549120 / 2 ^ k) ≡ m * 270549120)
+    (omega arith) (omega arith) (omega arith) (omega arith) (omega arith) (omega arith) (omega arith) (omega arith)
+
+-- bits where they stand are those of the shifted word, shifted back
+mask_block : (w k : ℕ) → bit_and w (16843009 * 2 ^ k) ≡ bit_and (w / 2 ^ k) 16843009 * 2 ^ k
+mask_block w k =
+    let parts : w ≡ w / 2 ^ k * 2 ^ k + w % 2 ^ k = sym (div-add-mod' w (2 ^ k)) in
+    let low : 16843009 * 2 ^ k ≡ 16843009 * 2 ^ k + 0 = omega arith in
+    let none : bit_and (w / 2 ^ k) 16843009 * 2 ^ k + 0 ≡ bit_and (w / 2 ^ k) 16843009 * 2 ^ k = omega arith in
+    ap₂ bit_and parts low ∙ and_block k (w / 2 ^ k) 16843009 (w % 2 ^ k) 0 (mod_below w (2 ^ k) (pow_pos k)) (pow_pos k)
+    ∙ ap (λ r. bit_and (w / 2 ^ k) 16843009 * 2 ^ k + r) (and_zero_r (w % 2 ^ k)) ∙ none
+
+pub gathered : (w k : ℕ) → k < 8 → bit_and w (16843009 * 2 ^ k % 4294967296) * (270549120 / 2 ^ k) % 4294967296 / 268435456 ≡ nibble_of w k
+gathered w k within =
     let x = w / 2 ^ k in
     let byte : (p : ℕ) → p < 4 → byte_in p (bit_and x 16843009) ≡ word_bit w p k = λ p plane. masked_byte x p plane ∙ shifted w k p in
     let few = and_le_r x 16843009 in
-    together (bit_and x 16843009) _ _ _ _ (omega arith) (word_bit_lt w 0 k) (word_bit_lt w 1 k) (word_bit_lt w 2 k) (word_bit_lt w 3 k)
+    ap (λ q. q * (270549120 / 2 ^ k) % 4294967296 / 268435456) (ap (bit_and w) (mask_shifted k within) ∙ mask_block w k)
+    ∙ ap (λ q. q % 4294967296 / 268435456) (shifted_back (bit_and x 16843009) k within)
+    ∙ together (bit_and x 16843009) _ _ _ _ (omega arith) (word_bit_lt w 0 k) (word_bit_lt w 1 k) (word_bit_lt w 2 k) (word_bit_lt w 3 k)
     (byte 0 (omega arith)) (byte 1 (omega arith)) (byte 2 (omega arith)) (byte 3 (omega arith))

@@ -6,7 +6,7 @@ ghost use Rattle.vga_attr.specs.Fields.{is_line_graphics};
 ghost use Rattle.vga_dots.specs.Text.{is_glyph_dot as is_dot_of_glyph, is_foreground};
 ghost use Rattle.vga_dots.specs.Text.{cell_at as cell_at_place};
 ghost use Rattle.vga_dots.specs.TextLine.{text_line, HasGlyphs};
-ghost use Rattle.vga_dots.specs.Row.{AreDotsPut};
+ghost use Rattle.vga_dots.specs.Row.{AreDotsPut, padded_colour as padded_colour_of};
 ghost use Rattle.vga_dots.specs.Line.{masked as colour_masked, shade, shades_of, dot_of};
 ghost use Rattle.vga_dots.specs.Line.{source_colour};
 ghost use Rattle.vga_dots.specs.Quads.{IsQuad};
@@ -34,28 +34,35 @@ pub(crate) fn masked(dac: &Dac, n: u8) -> [u8; 3]
     dac.entry(n & dac.mask())
 }
 
-/// The colours of the 16 numbers that four bits have.
+/// The colour of a number, with a byte more.
+fn padded_colour(dac: &Dac, n: u8) -> [u8; 4]
+    ensures { result ≡ padded_colour_of (colour_masked dac.now n) }
+{
+    dac.padded_entry(n & dac.mask())
+}
+
+/// The colours of the 16 numbers that four bits have, each with a byte more.
 fn shades(attr: &Attr, dac: &Dac) -> Shades
     ensures { result ≡ shades_of attr.now dac.now }
 {
     let numbers = attr.table();
     [
-        masked(dac, numbers[0]),
-        masked(dac, numbers[1]),
-        masked(dac, numbers[2]),
-        masked(dac, numbers[3]),
-        masked(dac, numbers[4]),
-        masked(dac, numbers[5]),
-        masked(dac, numbers[6]),
-        masked(dac, numbers[7]),
-        masked(dac, numbers[8]),
-        masked(dac, numbers[9]),
-        masked(dac, numbers[10]),
-        masked(dac, numbers[11]),
-        masked(dac, numbers[12]),
-        masked(dac, numbers[13]),
-        masked(dac, numbers[14]),
-        masked(dac, numbers[15]),
+        padded_colour(dac, numbers[0]),
+        padded_colour(dac, numbers[1]),
+        padded_colour(dac, numbers[2]),
+        padded_colour(dac, numbers[3]),
+        padded_colour(dac, numbers[4]),
+        padded_colour(dac, numbers[5]),
+        padded_colour(dac, numbers[6]),
+        padded_colour(dac, numbers[7]),
+        padded_colour(dac, numbers[8]),
+        padded_colour(dac, numbers[9]),
+        padded_colour(dac, numbers[10]),
+        padded_colour(dac, numbers[11]),
+        padded_colour(dac, numbers[12]),
+        padded_colour(dac, numbers[13]),
+        padded_colour(dac, numbers[14]),
+        padded_colour(dac, numbers[15]),
     ]
 }
 
@@ -213,6 +220,7 @@ impl PlanarCharacters {
     ghost use Rattle.vga_dots.specs.Character.{DrawsPlanes};
 
     /// Those of any line.
+    #[inline(always)]
     pub(crate) fn new(display: &Display<'_>) -> PlanarCharacters
         requires { ShowsPlanes display.now }
         ensures { DrawsPlanes result display.now }
@@ -268,11 +276,11 @@ impl<const CW: usize> Characters<CW> for PackedCharacters {
         let fetched = display.planes().load(address);
         let dac = display.dac();
         let pixels = [
-            masked(dac, fetched.byte(0)),
-            masked(dac, fetched.byte(1)),
-            masked(dac, fetched.byte(2)),
-            masked(dac, fetched.byte(3)),
-            masked(dac, 0),
+            padded_colour(dac, fetched.byte(0)),
+            padded_colour(dac, fetched.byte(1)),
+            padded_colour(dac, fetched.byte(2)),
+            padded_colour(dac, fetched.byte(3)),
+            padded_colour(dac, 0),
         ];
         put_pixels::<CW>(row, at, &pixels);
     }

@@ -28,6 +28,12 @@ const USUAL_ATTRIBUTE: u8 = 0x07;
 /// How many bytes the characters have in which the dots of a part lie: 145 dots.
 const PART_BYTES: usize = 435;
 
+/// The most dots of a small part.
+const SMALL_PART: usize = 32;
+
+/// How many bytes the characters have in which the dots of a small part lie: 49 dots.
+const SMALL_PART_BYTES: usize = 147;
+
 /// How many characters of a line are displayed, 1 to 256.
 pub fn shown_characters(registers: &Registers) -> u16
     ensures value { result ≡ characters_shown registers.now }
@@ -200,10 +206,17 @@ pub fn draw_line<const CW: usize>(display: &Display<'_>, row: &mut [u8])
 }
 
 /// Draws so many dots of the beam's line, which shows memory, from the beam's dot on: the
-/// characters in which they lie are drawn beside the row, from their first dots to their last.
-fn draw_part_shown<const CW: usize>(display: &Display<'_>, count: usize, row: &mut [u8])
+/// characters in which they lie are drawn beside the row, from their first dots to their last, and
+/// have at most `N` bytes.
+fn draw_part_shown<const CW: usize, const N: usize>(
+    display: &Display<'_>,
+    count: usize,
+    row: &mut [u8],
+)
     requires memory { ShowsMemory display.now }
     requires count { count ≤ 128 }
+    requires beside { 3 * (count + 17) ≤ N }
+    requires few { N ≤ 435 }
     requires width { CW ≡ character_width display.now.host }
     requires room { 3 * count ≤ length row.old }
     ensures { IsPartDrawn CW count display.now row.old row.new }
@@ -213,7 +226,7 @@ fn draw_part_shown<const CW: usize>(display: &Display<'_>, count: usize, row: &m
     let first = beam.character as usize + start / CW;
     let skipped = start % CW;
     let characters = (skipped + count + CW - 1) / CW;
-    let mut unpanned = [0; PART_BYTES];
+    let mut unpanned = [0; N];
     draw_characters::<CW>(display, first, characters, &mut unpanned);
     copy_dots(row, &unpanned, skipped, count);
 }
@@ -231,7 +244,9 @@ pub fn draw_part<const CW: usize>(display: &Display<'_>, count: usize, row: &mut
         fill::<1>(row, count, BLACK);
     } else if !display.attr().is_palette_shown() {
         fill::<1>(row, count, masked(display.dac(), display.attr().overscan()));
+    } else if count <= SMALL_PART {
+        draw_part_shown::<CW, SMALL_PART_BYTES>(display, count, row);
     } else {
-        draw_part_shown::<CW>(display, count, row);
+        draw_part_shown::<CW, PART_BYTES>(display, count, row);
     }
 }

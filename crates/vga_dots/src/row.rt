@@ -1,19 +1,22 @@
 //! Dots in a row of bytes: red, green and blue of each in turn.
 ghost use Rattle.std.specs.Prelude.{◌≡◌, ◌+◌, ◌-◌, ◌*◌, ◌/◌, ◌<◌, ◌≤◌, if◌then◌else◌, length, []};
 ghost use Rattle.std.specs.Prelude.{nat_lt, slice_index_or};
-ghost use Rattle.vga_dots.specs.Row.{nibble_of, dot_in, IsDotPut, AreDotsPut, AreCharactersPut};
+ghost use Rattle.vga_dots.specs.Row.{nibble_of, dot_in, IsDotPut, IsNextPut, AreDotsPut};
+ghost use Rattle.vga_dots.specs.Row.{AreCharactersPut};
 
-/// The colours of the 16 numbers that four bits have.
-pub(crate) type Shades = [[u8; 3]; 16];
+/// The colours of the 16 numbers that four bits have, each with a byte more: four bytes are moved
+/// at once, three are not.
+pub(crate) type Shades = [[u8; 4]; 16];
 
-/// The four colours of a character in 256 colours, and that of its ninth dot.
-pub(crate) type Pixels = [[u8; 3]; 5];
+/// The four colours of a character in 256 colours, and that of its ninth dot, each with a byte
+/// more.
+pub(crate) type Pixels = [[u8; 4]; 5];
 
 /// The lowest bit of each plane of a word.
 const LOWEST_BITS: u32 = 0x0101_0101;
 
-/// What brings the lowest bits of the four planes together in the highest byte.
-const TOGETHER: u32 = 0x0102_0408;
+/// What brings the lowest bits of the four planes together in the highest four bits.
+const TOGETHER: u32 = 0x1020_4080;
 
 /// Writes the three bytes of a dot.
 pub(crate) fn put_dot(row: &mut [u8], at: usize, colour: [u8; 3])
@@ -57,14 +60,14 @@ pub(crate) fn fill<const CW: usize>(row: &mut [u8], count: usize, colour: [u8; 3
 }
 
 /// Bit `place`, 0 to 7, of each plane of a word as one number, the first plane lowest: the four
-/// bits stand apart, and a product brings them together in its highest byte.
+/// bits stand apart, and a product brings them together in its highest bits.
 fn nibble(word: u32, place: u32) -> u8
     requires { place < 8 }
     ensures value { result ≡ nibble_of word place }
     ensures small { result < 16 }
 {
-    let bits = (word >> place) & LOWEST_BITS;
-    (bits.wrapping_mul(TOGETHER) >> 24) as u8
+    let bits = word & (LOWEST_BITS << place);
+    (bits.wrapping_mul(TOGETHER >> place) >> 28) as u8
 }
 
 /// Dot `i`, 0 to 8, of eight dots and a ninth, whose bits stand in the planes of a word.
@@ -76,6 +79,21 @@ fn plane_dot(word: u32, i: usize) -> u8
     if i < 8 { nibble(word, 7 - i as u32) } else { 0 }
 }
 
+/// Writes dot `i` of a character, and with it a byte of the dot after it, where there is one.
+#[inline(always)]
+fn put_next<const CW: usize>(row: &mut [u8], at: usize, i: usize, colour: [u8; 4])
+    requires dot { i < CW }
+    requires room { 3 * (at + CW) ≤ length row.old }
+    ensures { IsNextPut CW at i colour row.old row.new }
+{
+    let from = 3 * (at + i);
+    if i + 1 < CW {
+        row[from..from + 4].copy_from_slice(&colour);
+    } else {
+        put_dot(row, at + i, [colour[0], colour[1], colour[2]]);
+    }
+}
+
 /// Writes the dots of a character in 16 colours, whose bits stand in the planes of a word.
 pub(crate) fn put_planes<const CW: usize>(row: &mut [u8], at: usize, word: u32, table: &Shades)
     requires room { 3 * (at + CW) ≤ length row.old }
@@ -84,7 +102,7 @@ pub(crate) fn put_planes<const CW: usize>(row: &mut [u8], at: usize, word: u32, 
         then nibble_of word (7 - i) else 0) []) row.old row.new }
 {
     for i in 0..CW {
-        put_dot(row, at + i, table[plane_dot(word, i) as usize]);
+        put_next::<CW>(row, at, i, table[plane_dot(word, i) as usize]);
     }
 }
 
@@ -95,6 +113,6 @@ pub(crate) fn put_pixels<const CW: usize>(row: &mut [u8], at: usize, pixels: &Pi
     ensures { AreDotsPut CW at (λ i. slice_index_or pixels.now (i / 2) []) row.old row.new }
 {
     for i in 0..CW {
-        put_dot(row, at + i, pixels[i / 2]);
+        put_next::<CW>(row, at, i, pixels[i / 2]);
     }
 }

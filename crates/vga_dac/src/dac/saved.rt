@@ -5,7 +5,7 @@ ghost use Rattle.vga_dac.specs.Saved.{component_number as number_of, component_n
 ghost use Rattle.vga_dac.specs.Saved.{saved_dac, AreSmall, AreCounters};
 ghost use Rattle.vga_dac.specs.Saved.{IsSavedDac, dac_from};
 
-use super::{COMPONENT_MASK, Dac, ENTRIES};
+use super::{COMPONENT_MASK, Dac, ENTRIES, entries_of};
 use crate::component::Component;
 use vga_bits::put_bytes;
 
@@ -104,6 +104,7 @@ impl Dac {
         self.reds.copy_from_slice(reds);
         self.greens.copy_from_slice(greens);
         self.blues.copy_from_slice(blues);
+        self.entries = entries_of(&self.reds, &self.greens, &self.blues);
         self.index = rest[0];
         self.component = component_of_number(rest[1]);
         self.waiting_red = rest[2];

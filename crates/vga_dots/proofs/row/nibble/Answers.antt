@@ -4,7 +4,7 @@ use Rattle.vga_dots.proofs.WordLemmas.{gathered}
 use Rattle.vga_dots.proofs.row.nibble.Goals as goal
 
 pub returns-clause-value : goal.returns-clause-value
-returns-clause-value c = gathered c.args.word c.args.place
+returns-clause-value c = gathered c.args.word c.args.place c.requires
 
 pub returns-clause-small : goal.returns-clause-small
 returns-clause-small c =
@@ -12,4 +12,4 @@ returns-clause-small c =
     let b1 = word_bit_lt c.args.word 1 c.args.place in
     let b2 = word_bit_lt c.args.word 2 c.args.place in
     let b3 = word_bit_lt c.args.word 3 c.args.place in
-    subst (λ n. n < 16) (sym (gathered c.args.word c.args.place)) (omega arith)
+    subst (λ n. n < 16) (sym (gathered c.args.word c.args.place c.requires)) (omega arith)

@@ -1,11 +1,14 @@
 use Rattle.std.proofs.Common.{◌-◌, ap, [], if◌then◌else◌}
 use Rattle.std.specs.Prelude.{nat_lt, slice_index_or}
 use Rattle.vga_dots.specs.Row.{nibble_of}
-use Rattle.vga_dots.proofs.RowLemmas.{dots_more}
+use Rattle.vga_dots.proofs.RowLemmas.{first_more, all_put}
 use Rattle.vga_dots.proofs.row.put_planes.Goals as goal
 
 pub loop-i-preserved : goal.loop-i-preserved
 loop-i-preserved g c =
-    dots_more c.loop-i.i c.args.at (λ i. slice_index_or c.args.table.now (if nat_lt i 8 then nibble_of c.args.word (7 - i) else 0) []) c.args.row.now
-    c.loop-i.row c.put_dot.new.row _ c.loop-i.invariant c.put_dot.ensures
+    first_more g.row.CW c.loop-i.i c.args.at (λ i. slice_index_or c.args.table.now (if nat_lt i 8 then nibble_of c.args.word (7 - i) else 0) []) c.args.row.now
+    c.loop-i.row c.put_next.new.row _ c.loop-i.invariant c.put_next.ensures
     (ap (λ n. slice_index_or c.args.table.now n []) c.plane_dot.ensures.value)
+
+pub returns : goal.returns
+returns g c = all_put g.row.CW c.loop-i.i c.args.at _ c.args.row.now c.loop-i.row c.loop-i-test.false c.loop-i.invariant

@@ -1,4 +1,4 @@
-use Rattle.std.proofs.Common.{◌<◌, ap, arith, subst, List, ℕ}
+use Rattle.std.proofs.Common.{◌<◌, subst}
 use Rattle.vga_dac.specs.Dac.{DacState}
 use Rattle.vga_dac.specs.Saved.{AreSmall}
 use Rattle.vga_dac.proofs.SavedLemmas.{dac_is_saved}

@@ -6,7 +6,7 @@ use Rattle.vga_dots.specs.SourceDot.{fetch_address}
 use Rattle.vga_dots.specs.Line.{dot_of, source_colour}
 use Rattle.vga_dots.specs.declared.addressing.Addressing.{Addressing}
 use Rattle.vga_dots.proofs.AddressingLemmas.{bit_small}
-use Rattle.vga_dots.proofs.RowLemmas.{dots_alike}
+use Rattle.vga_dots.proofs.RowLemmas.{bytes_alike}
 use Rattle.vga_dots.proofs.CharacterLemmas.{planar_dot}
 use Rattle.vga_dots.proofs.character.PlanarCharactersCharacters.put.Goals as goal
 
@@ -21,5 +21,5 @@ returns g c =
     let draws = c.requires.draws in
     let fetched : bytes_of c.word.result ≡ bytes_at d.host.memory (fetch_address d.crtc.registers n) =
     c.word.ensures ∙ ap (λ m. bytes_at m c.address-address.result) c.planes.ensures ∙ ap (bytes_at d.host.memory) (c.address-address.ensures d.crtc.registers c.requires.draws.addressing) in
-    dots_alike g.row.CW c.args.at _ (λ i. source_colour d (dot_of n i)) c.args.row.now c.put_planes.new.row c.put_planes.ensures
-    (λ i l. planar_dot d n c.args.self.now.table _ i draws.table draws.shows fetched)
+    bytes_alike g.row.CW c.args.at _ (λ i. source_colour d (dot_of n i)) c.args.row.now c.put_planes.new.row c.put_planes.ensures
+    (λ i j l lj. planar_dot d n c.args.self.now.table _ i j lj draws.table draws.shows fetched)
