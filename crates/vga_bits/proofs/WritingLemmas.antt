@@ -47,6 +47,19 @@ written_front_nothing old mid new failed all rest w a = (
 pub took_some : (was now : Bool) (n len : ℕ) → now ≡ (was || ((n == 0) && nat_lt 0 len)) → was ≡ false → (n ≡ 0 → ⊥) → now ≡ false
 took_some was now n len e sound some = grind (arith, nat_tests)
 
+-- where the bytes stay, nothing is written
+pub kept_is_nothing : (old new : Option (List ℕ)) → Keeps old new → Appends old new []
+kept_is_nothing None new k = tt
+kept_is_nothing (Some x) None k = absurd k
+kept_is_nothing (Some x) (Some y) k = k ∙ sym (append-nil x)
+
+-- of some bytes none is written
+pub front_is_none : (old new : Option (List ℕ)) (all : List ℕ) → Keeps old new → AppendsFront old new all
+front_is_none old new all k = ([], all, refl, kept_is_nothing old new k)
+
+pub front_is_nothing : (old new : Option (List ℕ)) (all : List ℕ) → Appends old new [] → AppendsFront old new all
+front_is_nothing old new all a = ([], all, refl, a)
+
 -- ---- one text after another
 
 -- a front of the first text is a front of both
@@ -63,11 +76,11 @@ writes_after old mid new failed (Err e) first second a (is, bad, (front, back, p
   (first ++ front, back, ap (λ (l : List ℕ). first ++ l) parts ∙ simp append_assoc, Appends-trans old mid new first front a more),
 )
 
--- where the bytes stay, nothing is written
-pub kept_is_nothing : (old new : Option (List ℕ)) → Keeps old new → Appends old new []
-kept_is_nothing None new k = tt
-kept_is_nothing (Some x) None k = absurd k
-kept_is_nothing (Some x) (Some y) k = k ∙ sym (append-nil x)
+-- a first call takes so many of the bytes, and others write the rest
+pub writes_rest : {U : Type 0} (old mid new : Option (List ℕ)) (failed : Bool) (result : Result U Fault) (all rest : List ℕ) (n : ℕ)
+    → Appends old mid (take n all) → rest ≡ drop n all → Writes mid new failed result rest → Writes old new failed result all
+writes_rest old mid new failed result all rest n a e w = subst (Writes old new failed result) (take-append-drop n all)
+    (writes_after old mid new failed result (take n all) (drop n all) a (subst (Writes mid new failed result) e w))
 
 -- behind some bytes a call writes nothing more
 pub writes_more : {U : Type 0} (old mid new : Option (List ℕ)) (failed : Bool) (result : Result U Fault) (bytes : List ℕ) → Appends old mid bytes →

@@ -113,10 +113,12 @@ impl<T: Write> Write for Tracked<T> {
     }
 }
 
-/// Writes all the bytes, by as many calls as the writer needs. It fails, with `WriteFault`, only
-/// where the writer does, which then has a front of the bytes.
+/// Writes what a call has left of some bytes, by as many calls as the writer needs. It fails as
+/// `write_whole` does.
 #[tactic(auto, using(crate::proofs::WritingLemmas::written_none, crate::proofs::WritingLemmas::written_more, crate::proofs::WritingLemmas::written_all, crate::proofs::WritingLemmas::written_front, crate::proofs::WritingLemmas::written_front_nothing))]
-pub fn write_whole<W: Write>(out: &mut Tracked<W>, bytes: &[u8]) -> Result<(), Fault>
+#[cold]
+#[inline(never)]
+fn write_rest<W: Write>(out: &mut Tracked<W>, bytes: &[u8]) -> Result<(), Fault>
     requires { has_failed out.old ≡ false }
     ensures { Writes (W.contents (inner_of out.old)) (W.contents (inner_of out.new))
         (has_failed out.new) result bytes.now }
@@ -130,6 +132,26 @@ pub fn write_whole<W: Write>(out: &mut Tracked<W>, bytes: &[u8]) -> Result<(), F
         }
     }
     Ok(())
+}
+
+/// Writes all the bytes, by as many calls as the writer needs. It fails, with `WriteFault`, only
+/// where the writer does, which then has a front of the bytes.
+#[tactic(auto, using(crate::proofs::WritingLemmas::front_is_none, crate::proofs::WritingLemmas::front_is_nothing))]
+#[inline(always)]
+pub fn write_whole<W: Write>(out: &mut Tracked<W>, bytes: &[u8]) -> Result<(), Fault>
+    requires { has_failed out.old ≡ false }
+    ensures { Writes (W.contents (inner_of out.old)) (W.contents (inner_of out.new))
+        (has_failed out.new) result bytes.now }
+{
+    if bytes.is_empty() {
+        return Ok(());
+    }
+    match out.write(bytes) {
+        Ok(0) => Err(Fault::WriteFault),
+        Ok(n) if n < bytes.len() => write_rest(out, bytes.split_at(n).1),
+        Ok(_) => Ok(()), // Most writers take all at once.
+        Err(_) => Err(Fault::WriteFault),
+    }
 }
 
 /// Flushes the writer. It fails, with `WriteFault`, only where the writer does.

@@ -1,9 +1,6 @@
-use Rattle.vga_bits.proofs.WritingLemmas.{written_more, took_some}
+use Rattle.vga_bits.proofs.WritingLemmas.{writes_rest}
 use Rattle.vga_bits.proofs.tracked.write_whole.Goals as goal
 
--- the piece that was taken joins what is written
-pub loop-rest-preserved : goal.loop-rest-preserved
-loop-rest-preserved g c =
-    let e = c.in-Ok.ensures in
-    let sound = took_some _ _ _ _ e.failed c.loop-rest.invariant.sound c.in-Ok.n-test.1 in
-    rw c.split_at.ensures.back (written_more _ _ _ _ _ _ _ c.in-Ok.n c.loop-rest.invariant e.bytes sound)
+-- what the first call leaves is written by others
+pub returns-in-Ok : goal.returns-in-Ok
+returns-in-Ok g c = writes_rest _ _ _ _ _ _ _ c.in-Ok.n c.in-Ok.ensures.bytes c.split_at.ensures.back c.write_rest.ensures

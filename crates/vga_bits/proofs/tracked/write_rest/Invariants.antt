@@ -1,7 +1,7 @@
 use Rattle.std.proofs.Common.{length}
 use Rattle.vga_bits.specs.Tracked.{inner_of, has_failed}
 use Rattle.vga_bits.proofs.WritingLemmas.{Written}
-use Rattle.vga_bits.proofs.tracked.write_whole.Given as goal
+use Rattle.vga_bits.proofs.tracked.write_rest.Given as goal
 
 -- a front of the bytes is written
 abbrev pub invariant-loop-rest : goal.invariant-loop-rest
