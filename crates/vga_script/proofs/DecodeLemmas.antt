@@ -11,7 +11,7 @@ use Rattle.vga_script.specs.Item.{Item, Listing, listing, expanded, step_limit, 
 use Rattle.vga_script.specs.declared.version.Version.{Version}
 use Rattle.vga_script.specs.DumpRange.{IsShownInRange, kind_dac, kind_plane}
 use Rattle.vga_script.specs.Spelling.{StartsWithStep, header, opcode_out, opcode_out_word, opcode_in, opcode_in_word, opcode_put, opcode_put_word, opcode_get}
-use Rattle.vga_script.specs.Spelling.{opcode_get_word, opcode_int, opcode_advance, opcode_show, item_spelling, StartsWithItem, SpellsItems, Spells}
+use Rattle.vga_script.specs.Spelling.{opcode_get_word, opcode_int, opcode_advance, opcode_frame, opcode_show, item_spelling, StartsWithItem, SpellsItems, Spells}
 use Rattle.vga_script.specs.Decoding.{shown_len, fields_len, StartsOutOfRange, StartsWithBadStep, StartsWithCutStep, SpellsUpTo, IsItemFault, HasItemFault}
 use Rattle.vga_script.specs.Decoding.{IsSpellingFault}
 use Rattle.vga_script.proofs.ItemLemmas.{length-expanded-push}
@@ -72,6 +72,11 @@ cut_plane fields short = (opcode_show, kind_plane ∷ fields, 6, refl, refl, ome
 -- a first byte that is no opcode
 pub no_opcode : (bytes fields : List ℕ) (opcode : ℕ) → bytes ≡ opcode ∷ fields → fields_len opcode fields ≡ None → StartsWithBadStep bytes
 no_opcode bytes fields opcode e is = inl (opcode, fields, e, is)
+
+-- the same, where it is the opcode of no plain step and of none of the others
+pub no_plain_opcode : (fields : List ℕ) (opcode : ℕ) → (opcode ≢ opcode_int → opcode ≢ opcode_frame → opcode ≢ opcode_show → fields_len opcode fields ≡ None) →
+    opcode ≢ opcode_int → opcode ≢ opcode_frame → opcode ≢ opcode_show → StartsWithBadStep (opcode ∷ fields)
+no_plain_opcode fields opcode h int frame shown = no_opcode (opcode ∷ fields) fields opcode refl (h int frame shown)
 
 -- and a byte that is no kind
 pub no_kind : (fields rest : List ℕ) (kind : ℕ) → fields ≡ kind ∷ rest → shown_len (kind ∷ rest) ≡ None → StartsWithBadStep (opcode_show ∷ fields)

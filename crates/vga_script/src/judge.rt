@@ -8,7 +8,7 @@ ghost use Rattle.vga_script.specs.Spelling.{script_limit, header, Spells, Spells
 use super::items::item_within;
 use super::opcode;
 use super::script::{SCRIPT_LIMIT, STEP_LIMIT};
-use super::step_bytes::step_at;
+use super::step_bytes::behind_step;
 use super::version::Version;
 use vga_bits::Fault;
 
@@ -25,7 +25,7 @@ fn pass_items(bytes: &[u8], spelled: &[u8], version: Version) -> Result<(), Faul
     while !rest.is_empty() {
         let offset = bytes.len() - rest.len();
         // Most items are steps, which are passed over here for speed.
-        if let Ok((_, others)) = step_at(rest) {
+        if let Some(others) = behind_step(rest) {
             if taken == STEP_LIMIT {
                 return Err(Fault::TooMany(offset));
             }

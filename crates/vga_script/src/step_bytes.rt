@@ -1,11 +1,13 @@
 //! A step in bytes, read and written: an opcode, and fields.
-ghost use Rattle.std.specs.Prelude.{◌≡◌, ◌<◌, ◌++◌, ◌∷◌, length, IfOk, IfErr, IsOkUnless, OnOk};
-ghost use Rattle.std.specs.Prelude.{Err};
+ghost use Rattle.std.specs.Prelude.{◌≡◌, ◌≢◌, ◌<◌, ◌++◌, ◌∷◌, length, IfOk, IfErr, IsOkUnless};
+ghost use Rattle.std.specs.Prelude.{OnOk, IfSome, Err};
 ghost use Rattle.byteorder.specs.Endian.{little_bytes};
 ghost use Rattle.vga_script.specs.Decoding.{StartsOutOfRange, StartsWithBadStep, StartsWithCutStep};
 ghost use Rattle.vga_script.specs.DumpRange.{kind_dac, kind_plane, shown_spelling};
-ghost use Rattle.vga_script.specs.Spelling.{StartsWithStep, opcode_int, opcode_show, spelling};
+ghost use Rattle.vga_script.specs.Spelling.{StartsWithStep, opcode_frame, opcode_int, opcode_show};
+ghost use Rattle.vga_script.specs.Spelling.{spelling};
 ghost use Rattle.vga_script.specs.Step.{IsInRange};
+ghost use Rattle.vga_script.specs.declared.step.Step.{Step};
 
 use super::block::Block;
 use super::dump_range::Shown;
@@ -47,7 +49,7 @@ macro_rules! read_field {
     };
 }
 
-/// The step of an opcode, whose fields are read in turn.
+/// The plain step of an opcode, whose fields are read in turn.
 macro_rules! read_steps {
     (
         $opcode:ident, $bytes:ident,
@@ -59,9 +61,6 @@ macro_rules! read_steps {
                 $(let ($field, rest) = read_field!($kind, rest);)*
                 Ok((Step::$step { $($field),* }, rest))
             })*
-            opcode::INT => int_at($bytes),
-            opcode::FRAME => Ok((Step::Frame, $bytes)),
-            opcode::SHOW => shown_at($bytes),
             _ => Err(NoStep::Bad),
         }
     };
@@ -187,15 +186,40 @@ fn shown_at(fields: &[u8]) -> Result<(Step<'_>, &[u8]), NoStep>
     Ok((Step::Show { shown }, rest))
 }
 
+/// The plain step of an opcode and of its fields, and what follows them.
+#[tactic(auto, using(crate::proofs::DecodeLemmas::no_plain_opcode, crate::proofs::DecodeLemmas::cut_out, crate::proofs::DecodeLemmas::cut_out_word, crate::proofs::DecodeLemmas::cut_in, crate::proofs::DecodeLemmas::cut_in_word, crate::proofs::DecodeLemmas::cut_put, crate::proofs::DecodeLemmas::cut_put_word, crate::proofs::DecodeLemmas::cut_get, crate::proofs::DecodeLemmas::cut_get_word, crate::proofs::DecodeLemmas::cut_advance))]
+#[inline(always)]
+fn plain_with(opcode: u8, fields: &[u8]) -> Result<(Step<'_>, &[u8]), NoStep>
+    ensures found { IfOk result (λ x. StartsWithStep (opcode ∷ fields.now) x.0 x.1.now) }
+    ensures bad { result ≡ Err NoStep.Bad → opcode ≢ opcode_int → opcode ≢ opcode_frame
+        → opcode ≢ opcode_show → StartsWithBadStep (opcode ∷ fields.now) }
+    ensures cut { result ≡ Err NoStep.Cut → StartsWithCutStep (opcode ∷ fields.now) }
+{
+    plain_steps!(read_steps, opcode, fields)
+}
+
+/// The plain step at the front of some bytes, and what follows it.
+#[inline(always)]
+fn plain_at(bytes: &[u8]) -> Result<(Step<'_>, &[u8]), NoStep>
+    ensures found { IfOk result (λ x. StartsWithStep bytes.now x.0 x.1.now) }
+{
+    let (opcode, fields) = u8_at(bytes)?;
+    plain_with(opcode, fields)
+}
+
 /// The step of an opcode and of its fields, and what follows them.
-#[tactic(auto, using(crate::proofs::DecodeLemmas::no_opcode, crate::proofs::DecodeLemmas::cut_out, crate::proofs::DecodeLemmas::cut_out_word, crate::proofs::DecodeLemmas::cut_in, crate::proofs::DecodeLemmas::cut_in_word, crate::proofs::DecodeLemmas::cut_put, crate::proofs::DecodeLemmas::cut_put_word, crate::proofs::DecodeLemmas::cut_get, crate::proofs::DecodeLemmas::cut_get_word, crate::proofs::DecodeLemmas::cut_advance))]
 #[inline(always)]
 fn step_with(opcode: u8, fields: &[u8]) -> Result<(Step<'_>, &[u8]), NoStep>
     ensures found { IfOk result (λ x. StartsWithStep (opcode ∷ fields.now) x.0 x.1.now) }
     ensures bad { result ≡ Err NoStep.Bad → StartsWithBadStep (opcode ∷ fields.now) }
     ensures cut { result ≡ Err NoStep.Cut → StartsWithCutStep (opcode ∷ fields.now) }
 {
-    plain_steps!(read_steps, opcode, fields)
+    match opcode {
+        opcode::INT => int_at(fields),
+        opcode::FRAME => Ok((Step::Frame, fields)),
+        opcode::SHOW => shown_at(fields),
+        _ => plain_with(opcode, fields),
+    }
 }
 
 /// The step at the front of some bytes, and what follows it.
@@ -208,6 +232,22 @@ pub(crate) fn step_at(bytes: &[u8]) -> Result<(Step<'_>, &[u8]), NoStep>
 {
     let (opcode, fields) = u8_at(bytes)?;
     step_with(opcode, fields)
+}
+
+/// What follows the step at the front of some bytes, if one stands there. Most are plain, and of
+/// those nothing but the length is looked at.
+#[inline(always)]
+pub(crate) fn behind_step(bytes: &[u8]) -> Option<&[u8]>
+    requires { 0 < length bytes.now }
+    ensures { IfSome result (λ others. (step : Step) × StartsWithStep bytes.now step others.now) }
+{
+    if let Ok((_, others)) = plain_at(bytes) {
+        return Some(others);
+    }
+    match step_at(bytes) {
+        Ok((_, others)) => Some(others),
+        Err(_) => None,
+    }
 }
 
 /// Puts a call of the BIOS, but for its block, at the end: the opcode, the registers, and the

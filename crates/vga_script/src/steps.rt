@@ -72,6 +72,7 @@ impl<'a> Steps<'a> {
 
     /// Takes the first of the steps that are left, if there is one.
     #[tactic(auto, using(crate::proofs::PlaceLemmas::step_taken))]
+    #[inline(always)]
     pub fn next(&mut self) -> Option<Step<'a>>
         ensures taken { TakesFirst self.old self.new result }
         ensures range { IfSome result (λ step. IsInRange step) }

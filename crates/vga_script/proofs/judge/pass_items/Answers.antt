@@ -15,14 +15,14 @@ returns-in_err-others-clause-fault c =
 -- with the next step there are too many
 pub returns-then-taken-eq-STEP_LIMIT-clause-fault : goal.returns-then-taken-eq-STEP_LIMIT-clause-fault
 returns-then-taken-eq-STEP_LIMIT-clause-fault c =
-    many_steps c.args.bytes.now c.loop-rest.rest.now c.in-Ok.others.now c.args.version c.loop-rest.taken _ c.in-Ok.field-0-0 c.loop-rest.invariant refl
-    c.in-Ok.ensures.found c.if-taken-eq-STEP_LIMIT.true
+    many_steps c.args.bytes.now c.loop-rest.rest.now c.in-Some.others.now c.args.version c.loop-rest.taken _ c.in-Some.ensures.0 c.loop-rest.invariant refl
+    c.in-Some.ensures.1 c.if-taken-eq-STEP_LIMIT.true
 
 -- one more step is passed over
-pub loop-rest-preserved-in-Ok : goal.loop-rest-preserved-in-Ok
-loop-rest-preserved-in-Ok c =
-    passed_step c.args.bytes.now c.loop-rest.rest.now c.in-Ok.others.now c.args.version c.loop-rest.taken c.in-Ok.field-0-0 c.loop-rest.invariant
-    c.in-Ok.ensures.found c.if-taken-eq-STEP_LIMIT.false
+pub loop-rest-preserved-in-Some : goal.loop-rest-preserved-in-Some
+loop-rest-preserved-in-Some c =
+    passed_step c.args.bytes.now c.loop-rest.rest.now c.in-Some.others.now c.args.version c.loop-rest.taken c.in-Some.ensures.0 c.loop-rest.invariant
+    c.in-Some.ensures.1 c.if-taken-eq-STEP_LIMIT.false
 
 -- or one more item
 pub loop-rest-preserved : goal.loop-rest-preserved
