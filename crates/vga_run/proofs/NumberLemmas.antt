@@ -1,10 +1,11 @@
 -- Numbers of steps that are counted up in decimal.
-use Rattle.std.proofs.Common.{◌≡◌, ℕ, ◌+◌, ◌-◌, ◌/◌, ◌%◌, ◌^◌, ◌<◌, ◌≤◌, List, [], ◌∷◌, ◌++◌, length, take, drop, refl, sym, ◌∙◌, ap, inl, inr, arith}
+use Rattle.std.proofs.Common.{◌≡◌, ℕ, ◌+◌, ◌-◌, ◌/◌, ◌%◌, ◌^◌, ◌<◌, ◌≤◌, List, [], ◌∷◌, ◌++◌, length, take, drop, get_or, refl, sym, ◌∙◌, ap, inl, inr, arith}
 use Rattle.std.proofs.Common.{length-append, take-append-drop}
 use Rattle.std.specs.Prelude.{decimal, codes, slice_set}
 use Rattle.std.proofs.lemmas.Bool.{cases_lt}
 use Rattle.std.proofs.lemmas.Fmt.{decimal_step, decimal_digit, decimal_nonempty, length-decimal-le}
-use Rattle.std.proofs.lemmas.List.{take-append-le, take_all, take_more_set, set-append_left, length-set, length-take}
+use Rattle.std.proofs.lemmas.List.{take-append-le, take_all, take_more_set, set-append_left, set-append_right, length-set, length-take, length-drop, get_or_append_left}
+use Rattle.std.proofs.lemmas.List.{get_or-append-add}
 use Rattle.vga_run.specs.Report.{HasNumber, number_text}
 
 -- what stands before the last of some bytes
@@ -51,6 +52,35 @@ front_is_within text front n h = omega (arith, h.whole, ap length h.is, length-t
 pub number_first : (text : List ℕ) (front n : ℕ) → text ≡ number_text n → front ≡ length text → HasNumber text front n
 number_first text front n e f = record { is = take_all front text (omega (arith, f)) ∙ e; whole = f ∙ ap length e }
 
+-- the last digit of a number
+last_digit : (n : ℕ) → n < 2 ^ 64 → get_or (decimal n) (length (decimal n) - 1) 0 ≡ 48 + n % 10
+last_digit n small = elim (cases_lt n 10) [ inl few ↦ one_digit few | inr many ↦ more_digits many ]
+  where
+    one_digit : n < 10 → get_or (decimal n) (length (decimal n) - 1) 0 ≡ 48 + n % 10
+    one_digit few = ap (λ (l : List ℕ). get_or l (length l - 1) 0) (decimal_digit n few) ∙ omega arith
+
+    more_digits : 10 ≤ n → get_or (decimal n) (length (decimal n) - 1) 0 ≡ 48 + n % 10
+    more_digits many =
+        let front = decimal (n / 10) in
+        let last = (48 + n % 10) ∷ [] in
+        let at : length (front ++ last) - 1 ≡ length front + 0 = omega (arith, length-append front last) in
+        ap (λ (l : List ℕ). get_or l (length l - 1) 0) (decimal_step n many small)
+        ∙ ap (λ (i : ℕ). get_or (front ++ last) i 0) at ∙ get_or-append-add front last 0 0
+
+-- it stands before the blank
+pub digit_in_line : (text : List ℕ) (front n : ℕ) → HasNumber text front n → n < 2 ^ 64 → get_or text (front - 2) 0 ≡ 48 + n % 10
+unfolding number_text
+digit_in_line text front n h small =
+    let digits = decimal n in
+    let some = decimal_nonempty n small in
+    let len : front ≡ length digits + 1 = h.whole ∙ length-append digits (codes " ") in
+    let at : front - 2 ≡ length digits - 1 = omega arith in
+    let parts : text ≡ (digits ++ codes " ") ++ drop front text =
+    sym (take-append-drop front text) ∙ ap (λ (l : List ℕ). l ++ drop front text) h.is in
+    ap (λ (i : ℕ). get_or text i 0) at ∙ ap (λ (l : List ℕ). get_or l (length digits - 1) 0) parts
+    ∙ get_or_append_left (digits ++ codes " ") (drop front text) 0 (length digits - 1) (omega (arith, length-append digits (codes " ")))
+    ∙ get_or_append_left digits (codes " ") 0 (length digits - 1) (omega arith) ∙ last_digit n small
+
 -- a line keeps its number, whatever is put behind it
 pub number_behind : (text mid new rest : List ℕ) (front n : ℕ) → HasNumber text front n → mid ≡ take front text → new ≡ mid ++ rest → HasNumber new front n
 number_behind text mid new rest front n h e f =
@@ -89,3 +119,121 @@ number_counted text new front n h small low e =
           ∙ take_all front (number_text (n + 1)) (omega (arith, front_len));
       whole = front_len;
     }
+
+-- the same by the byte of the last digit
+pub digit_counted : (text new : List ℕ) (front n digit : ℕ) → HasNumber text front n → n + 1 < 2 ^ 64 → digit ≡ get_or text (front - 2) 0 → digit < 57
+    → new ≡ slice_set text (front - 2) (digit + 1) → HasNumber new front (n + 1)
+digit_counted text new front n digit h small is low e =
+    let value : digit ≡ 48 + n % 10 = is ∙ digit_in_line text front n h (omega arith) in
+    number_counted text new front n h small (omega (arith, value)) (e ∙ ap (λ (v : ℕ). slice_set text (front - 2) v) (omega (arith, value)))
+
+-- ---- the digit before the last
+
+-- the digits of the next number, of which the last is written over
+last_counted : (n : ℕ) → n + 1 < 2 ^ 64 → n % 10 < 9 → slice_set (decimal n) (length (decimal n) - 1) (49 + n % 10) ≡ decimal (n + 1)
+last_counted n small low =
+    let digits = decimal n in
+    let v = 49 + n % 10 in
+    let i = length digits - 1 in
+    let some = decimal_nonempty n (omega arith) in
+    sym (take_all (i + 1) (slice_set digits i v) (omega (arith, length-set digits i v))) ∙ take_more_set digits i v (omega arith)
+    ∙ sym (decimal_counted n small low)
+
+-- a number of two digits or more
+two_digits : (n : ℕ) → 2 ≤ length (decimal n) → 10 ≤ n
+two_digits n long = elim (cases_lt n 10) [
+  | inl few ↦ let l = ap length (decimal_digit n few) in absurd (omega arith)
+  | inr many ↦ many
+]
+
+-- two bytes in the place of a digit and the 9 behind it
+nine_counted : (digits more rest : List ℕ) (v : ℕ) → 0 < length digits → slice_set digits (length digits - 1) v ≡ more →
+    slice_set (slice_set (((digits ++ 57 ∷ []) ++ codes " ") ++ rest) (length digits - 1) v) (length digits) 48 ≡ ((more ++ 48 ∷ []) ++ codes " ") ++ rest
+nine_counted digits more rest v some e =
+    let i = length digits - 1 in
+    let whole = (digits ++ 57 ∷ []) ++ codes " " in
+    let long : length (digits ++ 57 ∷ []) ≡ length digits + 1 = length-append digits (57 ∷ []) in
+    let same : length more ≡ length digits = ap length (sym e) ∙ length-set digits i v in
+    let first : slice_set (whole ++ rest) i v ≡ ((more ++ 57 ∷ []) ++ codes " ") ++ rest =
+    set-append_left whole rest i v (omega (arith, length-append (digits ++ 57 ∷ []) (codes " "), long))
+    ∙ ap (λ (l : List ℕ). l ++ rest) (set-append_left (digits ++ 57 ∷ []) (codes " ") i v (omega (arith, long)))
+    ∙ ap (λ (l : List ℕ). (l ++ codes " ") ++ rest) (set-append_left digits (57 ∷ []) i v (omega arith))
+    ∙ ap (λ (l : List ℕ). ((l ++ 57 ∷ []) ++ codes " ") ++ rest) e in
+    let j = length digits in
+    let longer : length (more ++ 57 ∷ []) ≡ length digits + 1 = length-append more (57 ∷ []) ∙ omega (arith, same) in
+    let zero : j - j ≡ 0 = omega arith in
+    ap (λ (l : List ℕ). slice_set l j 48) first
+    ∙ set-append_left ((more ++ 57 ∷ []) ++ codes " ") rest j 48 (omega (arith, length-append (more ++ 57 ∷ []) (codes " "), longer))
+    ∙ ap (λ (l : List ℕ). l ++ rest) (set-append_left (more ++ 57 ∷ []) (codes " ") j 48 (omega (arith, longer)))
+    ∙ ap (λ (l : List ℕ). (l ++ codes " ") ++ rest) (set-append_right more (57 ∷ []) j j 48 same (omega arith))
+    ∙ ap (λ (k : ℕ). ((more ++ slice_set (57 ∷ []) k 48) ++ codes " ") ++ rest) zero
+
+-- behind a digit below 9 a last 9 becomes 0, and the digit one more
+pub tens_counted : (text mid new : List ℕ) (front n digit : ℕ) → HasNumber text front n → n + 1 < 2 ^ 64 → 3 ≤ front → 57 ≤ get_or text (front - 2) 0 →
+    digit ≡ get_or text (front - 3) 0 → digit < 57
+    → mid ≡ slice_set text (front - 3) (digit + 1) → new ≡ slice_set mid (front - 2) 48 → HasNumber new front (n + 1)
+unfolding number_text
+tens_counted text mid new front n digit h small long nine is low e_mid e_new =
+    let q = n / 10 in
+    let digits = decimal q in
+    let rest = drop front text in
+    let ends : n % 10 ≡ 9 = omega (arith, digit_in_line text front n h (omega arith)) in
+    let many = two_digits n (omega (arith, h.whole, length-append (decimal n) (codes " "))) in
+    let last : decimal n ≡ digits ++ 57 ∷ [] = decimal_step n many (omega arith) ∙ ap (λ (v : ℕ). digits ++ v ∷ []) (omega (arith, ends)) in
+    let some = decimal_nonempty q (omega arith) in
+    let len : front ≡ length digits + 2 =
+    omega (arith, h.whole, length-append (decimal n) (codes " "), ap length last, length-append digits (57 ∷ [])) in
+    let parts : text ≡ ((digits ++ 57 ∷ []) ++ codes " ") ++ rest =
+    sym (take-append-drop front text) ∙ ap (λ (l : List ℕ). l ++ rest) (h.is ∙ ap (λ (l : List ℕ). l ++ codes " ") last) in
+    let at : front - 3 ≡ length digits - 1 = omega (arith, len) in
+    let behind : front - 2 ≡ length digits = omega (arith, len) in
+    let value : digit ≡ 48 + q % 10 =
+    is ∙ ap (λ (i : ℕ). get_or text i 0) at ∙ ap (λ (l : List ℕ). get_or l (length digits - 1) 0) parts
+    ∙ get_or_append_left ((digits ++ 57 ∷ []) ++ codes " ") rest 0 (length digits - 1)
+    (omega (arith, length-append (digits ++ 57 ∷ []) (codes " "), length-append digits (57 ∷ [])))
+    ∙ get_or_append_left (digits ++ 57 ∷ []) (codes " ") 0 (length digits - 1) (omega (arith, length-append digits (57 ∷ [])))
+    ∙ get_or_append_left digits (57 ∷ []) 0 (length digits - 1) (omega arith) ∙ last_digit q (omega arith) in
+    let counted : slice_set digits (length digits - 1) (49 + q % 10) ≡ decimal (q + 1) = last_counted q (omega arith) (omega (arith, value)) in
+    let next : decimal (n + 1) ≡ decimal (q + 1) ++ 48 ∷ [] =
+    decimal_step (n + 1) (omega arith) small ∙ ap (λ (m : ℕ). decimal m ++ (48 + (n + 1) % 10) ∷ []) (omega (arith, ends))
+    ∙ ap (λ (v : ℕ). decimal (q + 1) ++ v ∷ []) (omega (arith, ends)) in
+    let whole : new ≡ number_text (n + 1) ++ rest =
+    e_new ∙ ap (λ (i : ℕ). slice_set mid i 48) behind ∙ ap (λ (l : List ℕ). slice_set l (length digits) 48) e_mid
+    ∙ ap (λ (i : ℕ). slice_set (slice_set text i (digit + 1)) (length digits) 48) at
+    ∙ ap (λ (v : ℕ). slice_set (slice_set text (length digits - 1) v) (length digits) 48) (omega (arith, value))
+    ∙ ap (λ (l : List ℕ). slice_set (slice_set l (length digits - 1) (49 + q % 10)) (length digits) 48) parts
+    ∙ nine_counted digits (decimal (q + 1)) rest (49 + q % 10) some counted
+    ∙ ap (λ (l : List ℕ). (l ++ codes " ") ++ rest) (sym next) in
+    let same : length (decimal (q + 1)) ≡ length digits = ap length (sym counted) ∙ length-set digits (length digits - 1) (49 + q % 10) in
+    let front_len : front ≡ length (number_text (n + 1)) =
+    omega (arith, len, length-append (decimal (n + 1)) (codes " "), ap length next, length-append (decimal (q + 1)) (48 ∷ []), same) in
+    record {
+      is = ap (take front) whole ∙ take-append-le front (number_text (n + 1)) rest (omega (arith, front_len))
+          ∙ take_all front (number_text (n + 1)) (omega (arith, front_len));
+      whole = front_len;
+    }
+
+-- three bytes in the place of the last three of a line
+last_three : (tail : List ℕ) (i j k a b c : ℕ) → length tail ≡ 3 → i ≡ 0 → j ≡ 1 → k ≡ 2 → slice_set (slice_set (slice_set tail i a) j b) k c ≡ a ∷ b ∷ c ∷ []
+last_three [] i j k a b c len ei ej ek = absurd (omega arith)
+last_three (x ∷ []) i j k a b c len ei ej ek = absurd (omega arith)
+last_three (x ∷ y ∷ []) i j k a b c len ei ej ek = absurd (omega arith)
+last_three (x ∷ y ∷ z ∷ []) i j k a b c len ei ej ek = rw (ei, ej, ek) refl
+last_three (x ∷ y ∷ z ∷ w ∷ tail) i j k a b c len ei ej ek = absurd (omega arith)
+
+pub three_put : (text one two three : List ℕ) (front a b c : ℕ) → length text ≡ front + 3 → one ≡ slice_set text front a → two ≡ slice_set one (front + 1) b →
+    three ≡ slice_set two (front + 2) c → three ≡ take front text ++ (a ∷ b ∷ c ∷ [])
+three_put text one two three front a b c len e_one e_two e_three =
+    let head = take front text in
+    let tail = drop front text in
+    let head_len : length head ≡ front = length-take front text ∙ omega (arith, len) in
+    let tail_len : length tail ≡ 3 = length-drop front text ∙ omega (arith, len) in
+    let first : one ≡ head ++ slice_set tail (front - front) a =
+    e_one ∙ ap (λ (l : List ℕ). slice_set l front a) (sym (take-append-drop front text)) ∙ set-append_right head tail front front a head_len (omega arith) in
+    let second : two ≡ head ++ slice_set (slice_set tail (front - front) a) (front + 1 - front) b =
+    e_two ∙ ap (λ (l : List ℕ). slice_set l (front + 1) b) first
+    ∙ set-append_right head (slice_set tail (front - front) a) front (front + 1) b head_len (omega arith) in
+    e_three ∙ ap (λ (l : List ℕ). slice_set l (front + 2) c) second
+    ∙ set-append_right head (slice_set (slice_set tail (front - front) a) (front + 1 - front) b) front (front + 2) c head_len (omega arith)
+    ∙ ap (λ (l : List ℕ). head ++ l)
+    (last_three tail (front - front) (front + 1 - front) (front + 2 - front) a b c tail_len (omega arith) (omega arith) (omega arith))

@@ -5,10 +5,10 @@ ghost use Rattle.vga_run.specs.Answer.{Plain};
 ghost use Rattle.vga_run.specs.Report.{line as line_of};
 
 use super::answer::Answer;
-use super::step_line::{Line, numbered, put_answer, put_number};
+use super::step_line::{Line, numbered, put_answer, put_number, write_text};
 use std::io::Write;
 use std::marker::Model;
-use vga_bits::{Fault, Tracked, write_whole};
+use vga_bits::{Fault, Tracked};
 
 /// The line of a step. Its number and a blank stand at its front, and stay there from step to step:
 /// to print a number anew takes longer than many a step.
@@ -54,16 +54,20 @@ impl NumberedLine {
         self.number
     }
 
-    /// Goes on to the next step. Only where the last digit is 9 are the others printed anew.
-    #[tactic(auto, using(crate::proofs::NumberLemmas::front_is_long, crate::proofs::NumberLemmas::front_is_within, crate::proofs::NumberLemmas::number_counted))]
+    /// Goes on to the next step. Only where the last two digits are 99 are all printed anew.
+    #[tactic(auto, using(crate::proofs::NumberLemmas::front_is_long, crate::proofs::NumberLemmas::front_is_within))]
     pub(crate) fn count_up(&mut self)
         requires { self.old + 1 < 2 ^ 64 }
         ensures { self.new ≡ self.old + 1 }
     {
-        let digit = (self.number % 10) as u8;
+        let last = self.line.as_slice()[self.front - 2];
         self.number += 1;
-        if digit < 9 {
-            self.line.set(self.front - 2, b'1' + digit);
+        if last < b'9' {
+            self.line.set(self.front - 2, last + 1);
+        } else if self.front > 2 && self.line.as_slice()[self.front - 3] < b'9' {
+            let tens = self.line.as_slice()[self.front - 3];
+            self.line.set(self.front - 3, tens + 1);
+            self.line.set(self.front - 2, b'0');
         } else {
             put_number(&mut self.line, self.number);
             self.front = self.line.len();
@@ -83,6 +87,6 @@ impl NumberedLine {
         ensures number { self.new ≡ self.old }
     {
         put_answer(&mut self.line, self.front, answer);
-        write_whole(out, self.line.as_slice())
+        write_text(out, self.line.as_slice())
     }
 }

@@ -15,6 +15,24 @@ const LINE_LEN: usize = 52;
 /// The line of a step, or its first piece.
 pub(crate) type Line = TextBuffer<LINE_LEN>;
 
+/// Puts three bytes behind the first `front` bytes of a line, in the place of the others: at once
+/// where those are three, as they mostly are.
+#[tactic(auto, using(crate::proofs::NumberLemmas::three_put))]
+#[inline(always)]
+fn put_three(line: &mut Line, front: usize, bytes: [u8; 3])
+    requires within { front ≤ length line.old }
+    requires short { front ≤ 21 }
+    ensures { line.new ≡ take front line.old ++ bytes }
+{
+    if line.len() == front + 3 {
+        line.set(front, bytes[0]);
+        line.set(front + 1, bytes[1]);
+        line.set(front + 2, bytes[2]);
+    } else {
+        line.replace_end(front, &bytes);
+    }
+}
+
 /// Puts the text of an answer and a newline behind the first `front` bytes of a line, in the place
 /// of the others: at once where it has two digits or letters, as most have.
 #[tactic(auto, using(crate::proofs::ReportLemmas::name_is_short, vga_bits::proofs::HexLemmas::hex_of_byte))]
@@ -25,10 +43,11 @@ pub(crate) fn put_answer(line: &mut Line, front: usize, answer: Answer)
     ensures { line.new ≡ take front line.old ++ (answer_text answer ++ codes "\n") }
 {
     match answer {
-        Answer::Done => line.replace_end(front, b"ok\n"),
-        Answer::Byte(value) => line.replace_end(
+        Answer::Done => put_three(line, front, *b"ok\n"),
+        Answer::Byte(value) => put_three(
+            line,
             front,
-            &[hex_digit(value / 16), hex_digit(value % 16), b'\n'],
+            [hex_digit(value / 16), hex_digit(value % 16), b'\n'],
         ),
         Answer::Word(value) => {
             line.truncate(front);
@@ -61,6 +80,34 @@ pub(crate) fn numbered(n: usize) -> Line
     let mut line = Line::new();
     put_number(&mut line, n);
     line
+}
+
+/// Writes a text of so many bytes. Their number is known when the program is built, so that a
+/// writer copies them with no call.
+#[inline(always)]
+fn write_exact<const LEN: usize, W: Write>(out: &mut Tracked<W>, text: &[u8]) -> Result<(), Fault>
+    requires writer { has_failed out.old ≡ false }
+    requires len { length text.now ≡ LEN }
+    ensures { Writes (W.contents (inner_of out.old)) (W.contents (inner_of out.new))
+        (has_failed out.new) result text.now }
+{
+    write_whole(out, text.split_at(LEN).0)
+}
+
+/// Writes a line. Those of short answers behind numbers of six to eight digits are copied with no
+/// call.
+#[inline(always)]
+pub(crate) fn write_text<W: Write>(out: &mut Tracked<W>, text: &[u8]) -> Result<(), Fault>
+    requires { has_failed out.old ≡ false }
+    ensures { Writes (W.contents (inner_of out.old)) (W.contents (inner_of out.new))
+        (has_failed out.new) result text.now }
+{
+    match text.len() {
+        10 => write_exact::<10, W>(out, text),
+        11 => write_exact::<11, W>(out, text),
+        12 => write_exact::<12, W>(out, text),
+        _ => write_whole(out, text),
+    }
 }
 
 /// Writes the line of step n.
