@@ -92,6 +92,7 @@ fn write_ragged<W: Write>(out: &mut Tracked<W>, n: usize) -> Result<(), Fault>
 }
 
 /// Writes what a frame answers as step n.
+#[inline(never)]
 fn write_drawn<W: Write>(out: &mut Tracked<W>, n: usize, drawn: Drawn<'_>) -> Result<(), Fault>
     requires writer { has_failed out.old ≡ false }
     requires few { IsSmall drawn }
@@ -137,6 +138,7 @@ pub fn write_dump<W: Write>(
 
 /// Writes the number of step n, and the dump of what it shows.
 #[tactic(auto, unfolding(crate::specs::Report::line), using(vga_bits::proofs::WritingLemmas::writes_after, vga_bits::proofs::WritingLemmas::front_of_more))]
+#[inline(never)]
 fn write_shown<W: Write>(
     out: &mut Tracked<W>,
     n: usize,
@@ -155,6 +157,7 @@ fn write_shown<W: Write>(
 
 /// Calls the video BIOS, and writes what it answers as step n.
 #[tactic(auto, unfolding(crate::specs::Step::called, crate::specs::Step::answer_to, crate::specs::Step::after_step))]
+#[inline(never)]
 fn write_service<W: Write>(
     alloc: Global,
     out: &mut Tracked<W>,
@@ -188,6 +191,7 @@ fn write_service<W: Write>(
 
 /// Takes a step, and writes what it answers, in the line of its number.
 #[tactic(auto, using(crate::proofs::ReportLemmas::step_is_written), unfolding(crate::specs::Step::answer_to, crate::specs::Step::after_step))]
+#[inline(always)]
 pub(crate) fn write_step<W: Write>(
     alloc: Global,
     out: &mut Tracked<W>,
