@@ -76,6 +76,7 @@ impl NumberedLine {
 
     /// Writes the line with this answer.
     #[tactic(auto, unfolding(crate::specs::Report::line, crate::specs::Report::number_text), using(std::proofs::lemmas::List::append_assoc, crate::proofs::NumberLemmas::front_is_short, crate::proofs::NumberLemmas::front_is_within, crate::proofs::NumberLemmas::number_behind))]
+    #[inline(always)]
     pub(crate) fn write<W: Write>(
         &mut self,
         out: &mut Tracked<W>,
