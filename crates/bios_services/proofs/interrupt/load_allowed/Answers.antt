@@ -1,0 +1,21 @@
+use Rattle.std.proofs.Common.{arith, rules}
+use Rattle.bios_services.proofs.BoundLemmas.{begins_valid_at, port_small, there_of}
+use Rattle.bios_services.proofs.PlanRuns.{run_bind}
+use Rattle.bios_services.specs.Service.{load_at}
+use Rattle.bios_services.proofs.interrupt.load_allowed.Goals as goal
+
+pub returns-in_default-clause-answer : goal.returns-in_default-clause-answer
+unfolding load_at
+returns-in_default-clause-answer c = search rules
+
+pub returns-in_default-clause-valid : goal.returns-in_default-clause-valid
+unfolding load_at
+returns-in_default-clause-valid c = search rules
+
+pub returns-clause-answer : goal.returns-clause-answer
+unfolding load_at
+returns-clause-answer c = grind (arith, run_bind, begins_valid_at, there_of, port_small)
+
+pub returns-clause-valid : goal.returns-clause-valid
+unfolding load_at
+returns-clause-valid c = search rules

@@ -1,0 +1,12 @@
+use Rattle.std.proofs.Common.{arith, rules}
+use Rattle.std.proofs.lemmas.Grind.{common_steps}
+use Rattle.vga_attr.specs.Saved.{saved_attr}
+use Rattle.vga_attr.proofs.attr.Attr.save.Goals as goal
+
+pub returns-clause-put : goal.returns-clause-put
+unfolding saved_attr
+returns-clause-put c = grind (arith, common_steps)
+
+pub returns-clause-end : goal.returns-clause-end
+unfolding saved_attr
+returns-clause-end c = search rules

@@ -1,0 +1,19 @@
+use Rattle.std.proofs.Common.{rules}
+use Rattle.vga_card.specs.Picture.{runs}
+use Rattle.vga_card.proofs.card.Card.beam.Goals as goal
+
+pub returns-then-is_first_dot-clause-beam : goal.returns-then-is_first_dot-clause-beam
+unfolding runs
+returns-then-is_first_dot-clause-beam c = search rules
+
+pub returns-then-is_first_dot-clause-rows : goal.returns-then-is_first_dot-clause-rows
+unfolding runs
+returns-then-is_first_dot-clause-rows c = search rules
+
+pub returns-else-is_first_dot-clause-beam : goal.returns-else-is_first_dot-clause-beam
+unfolding runs
+returns-else-is_first_dot-clause-beam c = search rules
+
+pub returns-else-is_first_dot-clause-rows : goal.returns-else-is_first_dot-clause-rows
+unfolding runs
+returns-else-is_first_dot-clause-rows c = search rules

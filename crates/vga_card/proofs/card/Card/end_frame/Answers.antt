@@ -1,0 +1,5 @@
+use Rattle.std.proofs.Common.{rules}
+use Rattle.vga_card.proofs.card.Card.end_frame.Goals as goal
+
+pub returns : goal.returns
+returns c = search rules

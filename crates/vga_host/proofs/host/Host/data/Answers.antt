@@ -1,0 +1,11 @@
+use Rattle.std.proofs.Common.{rules}
+use Rattle.vga_host.proofs.host.Host.data.Goals as goal
+
+pub returns-in-0 : goal.returns-in-0
+returns-in-0 c = search rules
+
+pub returns-in-2 : goal.returns-in-2
+returns-in-2 c = search rules
+
+pub returns-in_default : goal.returns-in_default
+returns-in_default c = search rules
