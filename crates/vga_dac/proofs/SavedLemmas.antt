@@ -9,7 +9,8 @@ use Rattle.vga_bits.proofs.ByteLemmas.{zeros_at}
 use Rattle.vga_dac.specs.declared.component.Component.{Component}
 use Rattle.vga_dac.specs.declared.component.Component.TheVariants.{Red, Green, Blue}
 use Rattle.vga_dac.specs.Dac.{DacState, IsDac}
-use Rattle.vga_dac.specs.Saved.{component_number, component_numbered, saved_counters, saved_dac, AreSmall, IsSavedDac, past_reds, past_greens, past_blues, dac_from}
+use Rattle.vga_dac.specs.Saved.{component_number, component_numbered, saved_counters, saved_dac, AreSmall, IsSavedDac, past_reds, past_greens, past_blues}
+use Rattle.vga_dac.specs.Saved.{dac_from}
 
 -- ---- values of six bits
 

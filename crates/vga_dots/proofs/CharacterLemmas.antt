@@ -185,7 +185,8 @@ module _ (d : DisplayState) (counter : ℕ) where
   -- each of the five colours of a character is at its dots
   pub packed_dot : (p0 p1 p2 p3 p4 : List ℕ) (i j : ℕ) → i < 9 → j < 3 → ShowsBytes d
       → p0 ≡ padded_colour (masked d.dac (byte_at d.host.memory 0 place)) → p1 ≡ padded_colour (masked d.dac (byte_at d.host.memory 1 place)) →
-      p2 ≡ padded_colour (masked d.dac (byte_at d.host.memory 2 place)) → p3 ≡ padded_colour (masked d.dac (byte_at d.host.memory 3 place)) → p4 ≡ padded_colour (masked d.dac 0)
+      p2 ≡ padded_colour (masked d.dac (byte_at d.host.memory 2 place)) → p3 ≡ padded_colour (masked d.dac (byte_at d.host.memory 3 place)) →
+      p4 ≡ padded_colour (masked d.dac 0)
       → slice_index (slice_index_or (p0 ∷ p1 ∷ p2 ∷ p3 ∷ p4 ∷ []) (i / 2) []) j ≡ slice_index (source_colour d (dot_of counter i)) j
   unfolding packed_byte
   packed_dot p0 p1 p2 p3 p4 i j within below shows e0 e1 e2 e3 e4 =

@@ -4,7 +4,8 @@ use Rattle.std.proofs.Common.{length-append, take-append-drop}
 use Rattle.std.specs.Prelude.{decimal, codes, slice_set}
 use Rattle.std.proofs.lemmas.Bool.{cases_lt}
 use Rattle.std.proofs.lemmas.Fmt.{decimal_step, decimal_digit, decimal_nonempty, length-decimal-le}
-use Rattle.std.proofs.lemmas.List.{take-append-le, take_all, take_more_set, set-append_left, set-append_right, length-set, length-take, length-drop, get_or_append_left}
+use Rattle.std.proofs.lemmas.List.{take-append-le, take_all, take_more_set, set-append_left, set-append_right, length-set, length-take, length-drop}
+use Rattle.std.proofs.lemmas.List.{get_or_append_left}
 use Rattle.std.proofs.lemmas.List.{get_or-append-add}
 use Rattle.vga_run.specs.Report.{HasNumber, number_text}
 

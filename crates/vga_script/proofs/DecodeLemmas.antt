@@ -11,7 +11,8 @@ use Rattle.vga_script.specs.Item.{Item, Listing, listing, expanded, step_limit, 
 use Rattle.vga_script.specs.declared.version.Version.{Version}
 use Rattle.vga_script.specs.DumpRange.{IsShownInRange, kind_dac, kind_plane}
 use Rattle.vga_script.specs.Spelling.{StartsWithStep, header, opcode_out, opcode_out_word, opcode_in, opcode_in_word, opcode_put, opcode_put_word, opcode_get}
-use Rattle.vga_script.specs.Spelling.{opcode_get_word, opcode_int, opcode_advance, opcode_frame, opcode_show, item_spelling, StartsWithItem, SpellsItems, Spells}
+use Rattle.vga_script.specs.Spelling.{opcode_get_word, opcode_int, opcode_advance, opcode_frame, opcode_show, item_spelling, StartsWithItem, SpellsItems}
+use Rattle.vga_script.specs.Spelling.{Spells}
 use Rattle.vga_script.specs.Decoding.{shown_len, fields_len, StartsOutOfRange, StartsWithBadStep, StartsWithCutStep, SpellsUpTo, IsItemFault, HasItemFault}
 use Rattle.vga_script.specs.Decoding.{IsSpellingFault}
 use Rattle.vga_script.proofs.ItemLemmas.{length-expanded-push}

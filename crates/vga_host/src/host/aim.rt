@@ -1,7 +1,8 @@
 //! What the registers say of every cycle of memory, which is kept beside them: it stands apart for
 //! speed alone.
 ghost use Rattle.std.specs.Prelude.{◌≡◌, ◌<◌, ◌+◌, ◌-◌, ◌*◌, ◌/◌, ◌%◌, ◌^◌, ◌==◌, ◌&&◌, ◌||◌};
-ghost use Rattle.std.specs.Prelude.{nat_le, nat_lt, if◌then◌else◌, IsTrue, true, ℕ, List, replicate};
+ghost use Rattle.std.specs.Prelude.{nat_le, nat_lt, if◌then◌else◌, IsTrue, true, ℕ, List};
+ghost use Rattle.std.specs.Prelude.{replicate};
 ghost use Rattle.std.specs.Option.{SomeIff};
 ghost use Rattle.vga_bits.specs.Bits.{is_set};
 ghost use Rattle.vga_host.specs.Aim.{IsAim, IsAimOf};

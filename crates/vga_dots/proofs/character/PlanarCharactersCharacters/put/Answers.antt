@@ -20,6 +20,7 @@ returns g c =
     let n = c.args.counter in
     let draws = c.requires.draws in
     let fetched : bytes_of c.word.result ≡ bytes_at d.host.memory (fetch_address d.crtc.registers n) =
-    c.word.ensures ∙ ap (λ m. bytes_at m c.address-address.result) c.planes.ensures ∙ ap (bytes_at d.host.memory) (c.address-address.ensures d.crtc.registers c.requires.draws.addressing) in
+    c.word.ensures ∙ ap (λ m. bytes_at m c.address-address.result) c.planes.ensures
+    ∙ ap (bytes_at d.host.memory) (c.address-address.ensures d.crtc.registers c.requires.draws.addressing) in
     bytes_alike g.row.CW c.args.at _ (λ i. source_colour d (dot_of n i)) c.args.row.now c.put_planes.new.row c.put_planes.ensures
     (λ i j l lj. planar_dot d n c.args.self.now.table _ i j lj draws.table draws.shows fetched)

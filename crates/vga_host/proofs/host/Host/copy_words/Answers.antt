@@ -24,7 +24,8 @@ loop-done-preserved c =
     let kept = c.loop-done.invariant in
     words_go_on c.args.self.now s c.move_word.new.self c.args.per c.args.misc c.args.from c.args.to c.args.n f t done c.requires.words (omega arith)
     kept.0 kept.1 kept.2 kept.3 c.move_word.ensures.bytes
-    (c.move_word.ensures.moved ∙ ap (λ (reach : ℕ → Bool). word_moved s reach ((f + done) % 65536) ((t + done) % 65536)) (λ j p. (ap (λ (m : ℕ). is_set m p) c.requires.set ∙ c.requires.aim.mask p) j))
+    (c.move_word.ensures.moved ∙ ap (λ (reach : ℕ → Bool). word_moved s reach ((f + done) % 65536) ((t + done) % 65536)) (λ j p.
+    (ap (λ (m : ℕ). is_set m p) c.requires.set ∙ c.requires.aim.mask p) j))
 
 pub returns-clause-few : goal.returns-clause-few
 returns-clause-few c = c.loop-done.invariant.0
