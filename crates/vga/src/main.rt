@@ -108,6 +108,3 @@ fn status_of_job<R: Env + Files + Print + Eprint + AllocGlobal>(rt: &R) -> u8 {
 fn main(rt: HostRuntime) -> ExitCode {
     ExitCode::from(status_of_job(&rt))
 }
-
-#[cfg(test)]
-mod tests;

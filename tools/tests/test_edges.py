@@ -1,0 +1,172 @@
+"""Files and streams, through the built program: in which order they are opened, and what happens where they fail."""
+
+from __future__ import annotations
+
+import os
+import resource
+import signal
+import socket
+import subprocess
+import threading
+import time
+from pathlib import Path
+from typing import Callable, Optional
+
+from vga_report.program import FONTS, PROGRAM
+
+from .test_words import MOST_SECONDS, PRINTED, REPORT, SCRIPT, TEXT, Program
+
+# The program keeps so many bytes back before it writes them.
+BUFFER_LEN = 262_144
+# Room for a piece of so many bytes in a socket's queue.
+QUEUE_LEN = 2 * BUFFER_LEN
+
+
+class Faults(Program):
+    """The first fault is printed, and nothing else."""
+
+    def assert_fault(self, words: str, line: str) -> None:
+        with self.subTest(words):
+            self.assertEqual(self.ran(*words.split()), (1, b"", f"vga: {line}\n"))
+
+    def test_each_of_a_file(self) -> None:
+        bad = self.folder / "bad"
+        for content, line in [
+            (b"VGAS", "F5 Truncated(4)"),
+            (b"VGAS\x09", "F3 BadVersion"),
+            (b"VGAS\x01\x01\xc2\x03\x63\xff", "F4 BadStep(9)"),
+            (TEXT, "F2 BadMagic"),
+        ]:
+            bad.write_bytes(content)
+            self.assert_fault("run bad --fonts fonts", line)
+            self.assert_fault("dis bad", line)
+        self.assert_fault("run script --fonts short", "F1 FontSize")
+
+    def test_a_text_with_a_mistake_makes_no_file(self) -> None:
+        self.write("bad", "frame\nfram\n")
+        self.assert_fault("asm bad new", "F7 BadLine(2)")
+        self.assertFalse((self.folder / "new").exists())
+        (self.folder / "new").write_bytes(b"old")
+        self.assert_fault("asm bad new", "F7 BadLine(2)")
+        self.assertEqual((self.folder / "new").read_bytes(), b"old")
+
+    def test_what_comes_first(self) -> None:
+        self.write("bad", "frame\nfram\n")
+        for words, line in [
+            ("go bad --fonts none", "F8 ReadFault"),
+            ("run none --fonts short", "F8 ReadFault"),
+            ("run text --fonts short", "F1 FontSize"),
+            ("run text --fonts fonts", "F2 BadMagic"),
+            ("go bad --fonts short", "F7 BadLine(2)"),
+            ("go none --fonts fonts", "F8 ReadFault"),
+        ]:
+            self.assert_fault(words, line)
+
+    def test_files_that_can_not_be_had(self) -> None:
+        for words, line in [
+            ("asm no/such/file new", "F8 ReadFault"),
+            ("dis no/such/file", "F8 ReadFault"),
+            ("asm text no/such/file", "F9 WriteFault"),
+            ("asm text .", "F9 WriteFault"),
+        ]:
+            self.assert_fault(words, line)
+
+    def test_a_file_that_is_opened_and_can_not_be_read(self) -> None:
+        for words in ("asm . new", "dis .", "run . --fonts fonts", "run script --fonts .", "go . --fonts fonts"):
+            self.assert_fault(words, "F8 ReadFault")
+        self.assertFalse((self.folder / "new").exists())
+
+
+class Order(Program):
+    def test_fonts_are_read_before_the_script(self) -> None:
+        for command, name, content in (("run", "script", SCRIPT), ("go", "text", TEXT)):
+            with self.subTest(command):
+                fonts, script = self.folder / f"{command}-fonts", self.folder / f"{command}-{name}"
+                os.mkfifo(fonts)
+                os.mkfifo(script)
+                words: list[str | Path] = [PROGRAM, command, script, "--fonts", fonts]
+                with subprocess.Popen(words, stdout=subprocess.PIPE) as running:
+                    self.addCleanup(running.kill)
+                    give(fonts, FONTS.read_bytes(), lambda: self.assertIsNone(writer(script)))
+                    give(script, content)
+                    self.assertEqual(running.communicate(timeout=MOST_SECONDS)[0], REPORT)
+                self.assertEqual(running.returncode, 0)
+
+
+def writer(pipe: Path) -> Optional[int]:
+    """The end of a pipe that is written, where somebody reads it."""
+    try:
+        return os.open(pipe, os.O_WRONLY | os.O_NONBLOCK)
+    except OSError:
+        return None
+
+
+def give(pipe: Path, content: bytes, meanwhile: Callable[[], None] = lambda: None) -> None:
+    """Waits until somebody reads the pipe, and writes."""
+    until = time.monotonic() + MOST_SECONDS
+    while (end := writer(pipe)) is None:
+        if time.monotonic() > until:
+            raise TimeoutError(f"nobody reads {pipe.name}")
+        time.sleep(0.001)
+    with open(end, "wb") as stream:
+        os.set_blocking(end, True)
+        meanwhile()
+        stream.write(content)
+
+
+class Streams(Program):
+    def test_a_reader_that_gives_a_byte_at_a_time(self) -> None:
+        for words, content, output in [
+            (("dis", "/dev/stdin"), SCRIPT, PRINTED),
+            (("run", "/dev/stdin", "--fonts", "fonts"), SCRIPT, REPORT),
+            (("go", "/dev/stdin", "--fonts", "fonts"), TEXT, REPORT),
+        ]:
+            with self.subTest(words), subprocess.Popen(
+                [PROGRAM, *words], cwd=self.folder, stdin=subprocess.PIPE, stdout=subprocess.PIPE, bufsize=0
+            ) as running:
+                assert running.stdin is not None
+                for at in range(len(content)):
+                    running.stdin.write(content[at : at + 1])
+                    time.sleep(0.001)
+                self.assertEqual(running.communicate(timeout=MOST_SECONDS)[0], output)
+
+    def test_a_file_that_is_full_has_a_front(self) -> None:
+        for words, output, room in [
+            (("dis", "script"), PRINTED, 5),
+            (("run", "script", "--fonts", "fonts"), REPORT, 7),
+            (("go", "text", "--fonts", "fonts"), REPORT, 7),
+        ]:
+            with self.subTest(words), open(self.folder / "full", "wb") as full:
+                done = subprocess.run(
+                    [PROGRAM, *words], cwd=self.folder, stdout=full, stderr=subprocess.PIPE, timeout=MOST_SECONDS,
+                    preexec_fn=lambda room=room: limit_files(room),
+                )
+                self.assertEqual((done.returncode, done.stderr), (1, b"vga: F9 WriteFault\n"))
+                self.assertEqual((self.folder / "full").read_bytes(), output[:room])
+
+    def test_a_report_is_written_in_large_pieces(self) -> None:
+        steps = 100_000
+        (self.folder / "text").write_bytes(b"out 3C2 63\n" * steps)
+        ours, its = socket.socketpair(socket.AF_UNIX, socket.SOCK_SEQPACKET)
+        its.setsockopt(socket.SOL_SOCKET, socket.SO_SNDBUF, QUEUE_LEN)
+        if its.getsockopt(socket.SOL_SOCKET, socket.SO_SNDBUF) < QUEUE_LEN // 2 + BUFFER_LEN // 4:
+            self.skipTest("this system has no room for such a piece")
+        pieces: list[bytes] = []
+        reading = threading.Thread(target=lambda: pieces.extend(iter(lambda: ours.recv(QUEUE_LEN), b"")))
+        with ours:
+            with its:
+                reading.start()
+                words = [PROGRAM, "go", "text", "--fonts", "fonts"]
+                done = subprocess.run(words, cwd=self.folder, stdout=its, timeout=MOST_SECONDS)
+            reading.join(MOST_SECONDS)
+        self.assertEqual(done.returncode, 0)
+        report = b"".join(b"%d ok\n" % number for number in range(1, steps + 1))
+        self.assertTrue(b"".join(pieces) == report)
+        # A call writes all that is kept back but the line for which no room is left.
+        self.assertEqual(len(pieces), -(-len(report) // BUFFER_LEN))
+
+
+def limit_files(room: int) -> None:
+    """Lets the process write so many bytes into a file: a write that goes beyond is cut short, and the next fails."""
+    signal.signal(signal.SIGXFSZ, signal.SIG_IGN)
+    resource.setrlimit(resource.RLIMIT_FSIZE, (room, room))

@@ -1,0 +1,141 @@
+"""The words of the command line, through the built program: the job that they name, help, and what they are refused for."""
+
+from __future__ import annotations
+
+import os
+import subprocess
+from pathlib import Path
+
+from vga_report.program import FONTS, PROGRAM
+
+from .program import Ran
+from .test_cases import Folder
+
+# The text of a script, with a comment; its bytes; its printed text; and its report.
+TEXT = b"OUT 3c2 63 ; colour addresses\n\nput A0000 ff\r\nin 3CC"
+SCRIPT = b"VGAS\x01\x01\xc2\x03\x63\x05\x00\x00\x0a\x00\xff\x03\xcc\x03"
+PRINTED = b"out 3C2 63\nput A0000 FF\nin 3CC\n"
+REPORT = b"1 ok\n2 ok\n3 63\n"
+# Each command's help. It is the interface, so a change of a letter is to be seen.
+HELP = Path(__file__).resolve().parent / "help"
+MOST_SECONDS = 60
+
+REFUSED = (
+    "--version", "", "asm", "asm x", "asm x y z", "asm x y --fonts f", "dis", "dis x y", "dis x --fonts f", "dis -x",
+    "run", "run x", "run --fonts f", "run x --fonts", "run x y --fonts f", "run x --fonts f --fonts g",
+    "run x --fonts f --loud", "run x --fonts f --until", "run x --fonts f --until 1 --until 1", "run x --until 1",
+    "dis x --until 1", "go", "go x", "go x --fonts", "go x y --fonts f", "play x --fonts f", "--fonts f run x",
+)
+NO_NUMBERS = (
+    "", "+5", "-5", "--until=+5", "5x", "x5", "0x5", "5 ", " 5", "1_000", "1,000", "5.0", "4294967296",
+    "18446744073709551621",
+)
+
+
+class Program(Folder):
+    """A folder with a text, its script and the fonts, where the program runs."""
+
+    def setUp(self) -> None:
+        if not os.access(PROGRAM, os.X_OK):
+            self.skipTest("the program isn't built: (cd crates/vga && rt run -- --help) builds it")
+        super().setUp()
+        for name, content in (("text", TEXT), ("script", SCRIPT), ("fonts", FONTS.read_bytes()), ("short", b"123")):
+            (self.folder / name).write_bytes(content)
+
+    def ran(self, *words: str | bytes, given: bytes = b"") -> Ran:
+        done = subprocess.run(
+            [PROGRAM, *words], cwd=self.folder, input=given, capture_output=True, timeout=MOST_SECONDS
+        )
+        return Ran(done.returncode, done.stdout, done.stderr.decode())
+
+
+class Jobs(Program):
+    def test_asm_writes_the_script_and_prints_nothing(self) -> None:
+        self.assertEqual(self.ran("asm", "text", "new"), (0, b"", ""))
+        self.assertEqual((self.folder / "new").read_bytes(), SCRIPT)
+
+    def test_asm_empties_a_file_that_is_there(self) -> None:
+        (self.folder / "new").write_bytes(SCRIPT + b"more")
+        self.assertEqual(self.ran("asm", "text", "new"), (0, b"", ""))
+        self.assertEqual((self.folder / "new").read_bytes(), SCRIPT)
+
+    def test_each_order_of_words(self) -> None:
+        for words, output in [
+            (("dis", "script"), PRINTED),
+            (("dis", "--", "script"), PRINTED),
+            (("run", "script", "--fonts", "fonts"), REPORT),
+            (("run", "--fonts", "fonts", "script"), REPORT),
+            (("run", "--fonts=fonts", "script"), REPORT),
+            (("go", "text", "--fonts", "fonts"), REPORT),
+            (("go", "--fonts", "fonts", "text"), REPORT),
+            (("go", "--fonts=fonts", "text"), REPORT),
+        ]:
+            with self.subTest(words):
+                self.assertEqual(self.ran(*words), (0, output, ""))
+
+    def test_a_run_stops_after_the_number_behind_until(self) -> None:
+        for number, answers in [
+            ("0", b""),
+            ("1", b"1 ok\n"),
+            ("12", REPORT),
+            ("0012", REPORT),
+            ("4294967295", REPORT),
+            ("00000000000000000004294967295", REPORT),
+        ]:
+            state = b"%d misc " % (answers.count(b"\n") + 1)
+            for words in (("run", "script"), ("go", "text")):
+                with self.subTest((*words, number)):
+                    ran = self.ran(*words, "--fonts", "fonts", "--until", number)
+                    self.assertEqual((ran.status, ran.said), (0, ""))
+                    self.assertTrue(ran.report.startswith(answers + state))
+                    self.assertTrue(ran.report.endswith(b" height 0000\n"))
+                    self.assertEqual(self.ran(*words, "--until", number, "--fonts", "fonts"), ran)
+
+
+class Refused(Program):
+    def test_words_that_name_no_job(self) -> None:
+        for words in REFUSED:
+            with self.subTest(words):
+                ran = self.ran(*words.split())
+                self.assertEqual((ran.status, ran.report), (2, b""))
+                self.assertNotEqual(ran.said, "")
+
+    def test_no_word_at_all(self) -> None:
+        done = subprocess.run(["vga"], executable=PROGRAM, capture_output=True, timeout=MOST_SECONDS)
+        self.assertEqual((done.returncode, done.stdout), (2, b""))
+
+    def test_the_number_behind_until_is_digits_alone(self) -> None:
+        for number in NO_NUMBERS:
+            for words in (("run", "script"), ("go", "text")):
+                with self.subTest((*words, number)):
+                    ran = self.ran(*words, "--fonts", "fonts", "--until", number)
+                    self.assertEqual((ran.status, ran.report), (2, b""))
+        ran = self.ran("run", "script", "--fonts", "fonts", "--until=+1")
+        self.assertEqual((ran.status, ran.report), (2, b""))
+        self.assertTrue(ran.said.startswith("error: the number behind '--until'"), ran.said)
+
+    def test_words_that_are_no_text(self) -> None:
+        self.assertEqual(self.ran("dis", b"\xff"), (2, b"", "vga: Missing\n"))
+
+    def test_no_file_is_opened(self) -> None:
+        # Whoever opens a pipe that nobody writes waits, and the test then fails by its time.
+        for name in ("script", "fonts"):
+            (self.folder / name).unlink()
+            os.mkfifo(self.folder / name)
+        self.assertEqual(self.ran("run", "script", "--fonts", "fonts", "--until", "+1").status, 2)
+        self.assertEqual(self.ran("asm", "script", "new", "more").status, 2)
+        self.assertEqual(self.ran("run", "script", "--fonts", "fonts", "--help").status, 0)
+        self.assertFalse((self.folder / "new").exists())
+
+
+class Help(Program):
+    def test_each_command_teaches_by_an_example(self) -> None:
+        for name in ("vga", "asm", "dis", "run", "go"):
+            text = (HELP / f"{name}.txt").read_bytes()
+            for flag in ("--help", "-h"):
+                with self.subTest((name, flag)):
+                    words = [] if name == "vga" else [name]
+                    self.assertEqual(self.ran(*words, flag), (0, text, ""))
+
+    def test_help_is_given_beside_other_words(self) -> None:
+        self.assertEqual(self.ran("run", "x", "-h"), (0, (HELP / "run.txt").read_bytes(), ""))
