@@ -1,8 +1,7 @@
 -- An adapter that counts the cycles that are issued on it.
-use Rattle.std.specs.Prelude.{ℕ, ◌+◌, ◌%◌, ◌^◌, Result}
-use Rattle.vga_bits.specs.declared.refusal.Refusal.{Refusal}
+use Rattle.std.specs.Prelude.{ℕ, ◌+◌, ◌%◌, ◌^◌}
 use Rattle.vga_card.specs.Card.{CardState}
-use Rattle.vga_card.specs.Bus.{Meaning, Place, card_write, card_read}
+use Rattle.vga_card.specs.Bus.{Meaning, card_write, card_read}
 
 -- the adapter, and how many cycles it has had, modulo 2 to the power of 32
 pub record Counted : Type 0 where

@@ -56,9 +56,10 @@ fn text_of(alloc: Global, card: &Card) -> Result<Vec<u8>, Fault> {
 /// Whether a writer with room for so many bytes, that then refuses so, answers so and has these.
 fn takes(alloc: Global, card: &Card, taken: &[u8], full: Full, answer: Result<(), Fault>) -> bool {
     let mut out = Sink::new(alloc, taken.len(), full);
-    write_cells(&mut out, card) == answer
-        && out.failed() == answer.is_err()
-        && out.into_inner().taken() == taken
+    let answered = write_cells(&mut out, card);
+    let failed = out.failed();
+    let sink = out.into_inner();
+    answered == answer && failed == answer.is_err() && sink.taken() == taken
 }
 
 /// Whether each writer that has too little room for the cells, and then refuses so, fails and has a
@@ -73,24 +74,40 @@ fn are_fronts_taken(alloc: Global, card: &Card, text: &[u8], full: Full) -> bool
     true
 }
 
+/// Checks how the dump of cells is refused.
+fn check_refusals(alloc: Global, card: &Card, checks: &mut Checks) -> Result<(), Fault> {
+    let is_modeless = is_refused(alloc, card, 0, Refusal::NoMode)?;
+    checks.note("no mode", is_modeless);
+    let is_graphics = is_refused(alloc, card, 0x13, Refusal::WrongKind)?;
+    checks.note("graphics", is_graphics);
+    Ok(())
+}
+
+/// Checks writers that take the cells, whose text this is, or a front of them.
+fn check_writers(alloc: Global, card: &Card, text: &[u8], checks: &mut Checks) {
+    for full in FULL {
+        checks.note("whole cells", takes(alloc, card, text, full, Ok(())));
+        checks.note(
+            "a front of the cells",
+            are_fronts_taken(alloc, card, text, full),
+        );
+    }
+}
+
+/// Checks how the dump of cells is written.
+fn check_text(alloc: Global, card: &Card, checks: &mut Checks) -> Result<(), Fault> {
+    let text = text_of(alloc, card)?;
+    let text = text.as_slice();
+    checks.note("25 lines of 408 bytes", text.len() == TEXT_LEN);
+    check_writers(alloc, card, text, checks);
+    Ok(())
+}
+
 /// Checks how the dump of cells is refused and written.
 pub fn check_cells(alloc: Global) -> Result<Checks> {
     let mut checks = Checks::new();
     let card = Card::new(alloc)?;
-    checks.note("no mode", is_refused(alloc, &card, 0, Refusal::NoMode)?);
-    checks.note(
-        "graphics",
-        is_refused(alloc, &card, 0x13, Refusal::WrongKind)?,
-    );
-    let text = text_of(alloc, &card)?;
-    let text = text.as_slice();
-    checks.note("25 lines of 408 bytes", text.len() == TEXT_LEN);
-    for full in FULL {
-        checks.note("whole cells", takes(alloc, &card, text, full, Ok(())));
-        checks.note(
-            "a front of the cells",
-            are_fronts_taken(alloc, &card, text, full),
-        );
-    }
+    check_refusals(alloc, &card, &mut checks)?;
+    check_text(alloc, &card, &mut checks)?;
     Ok(checks)
 }

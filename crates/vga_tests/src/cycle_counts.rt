@@ -2,12 +2,12 @@
 
 use crate::checks::Checks;
 use crate::counted_card::CountedCard;
-use crate::screens::FONTS_LEN;
+use crate::screens::blank_fonts;
 use anyhow::Result;
 use bios_modes::{Bda, Fonts};
 use bios_services::{Regs, int10};
 use std::alloc::Global;
-use vga_bits::Bytes;
+use vga_bits::Fault;
 use vga_card::Card;
 
 /// A call: AX, BX, CX and DX, the length of its block, and how many cycles it has.
@@ -171,7 +171,7 @@ fn check_calls(
     what: &'static str,
     calls: &[CountedCall],
     checks: &mut Checks,
-) -> Result<()> {
+) -> Result<(), Fault> {
     let mut card = CountedCard::new(Card::new(alloc)?);
     let mut bda = Bda::new();
     for (words, len, wanted) in calls {
@@ -181,27 +181,23 @@ fn check_calls(
     Ok(())
 }
 
+/// Checks the calls of text, and of the palette and the DAC.
+fn check_text_and_colours(alloc: Global, fonts: &Fonts, checks: &mut Checks) -> Result<(), Fault> {
+    check_calls(alloc, fonts, "cycles in text", &TEXT_CALLS, checks)?;
+    check_calls(alloc, fonts, "cycles of colours", &COLOUR_CALLS, checks)
+}
+
+/// Checks the calls of 16 and of 256 colours.
+fn check_graphics(alloc: Global, fonts: &Fonts, checks: &mut Checks) -> Result<(), Fault> {
+    check_calls(alloc, fonts, "cycles in 16 colours", &PLANAR_CALLS, checks)?;
+    check_calls(alloc, fonts, "cycles in 256 colours", &PACKED_CALLS, checks)
+}
+
 /// Checks that services have as many cycles as their page tells.
 pub fn check_cycle_counts(alloc: Global) -> Result<Checks> {
     let mut checks = Checks::new();
-    let glyphs = Bytes::zeros(alloc, FONTS_LEN)?;
-    let fonts = Fonts::from_bytes(alloc, glyphs.as_slice())?;
-    let checked = &mut checks;
-    check_calls(alloc, &fonts, "cycles in text", &TEXT_CALLS, checked)?;
-    check_calls(alloc, &fonts, "cycles of colours", &COLOUR_CALLS, checked)?;
-    check_calls(
-        alloc,
-        &fonts,
-        "cycles in 16 colours",
-        &PLANAR_CALLS,
-        checked,
-    )?;
-    check_calls(
-        alloc,
-        &fonts,
-        "cycles in 256 colours",
-        &PACKED_CALLS,
-        checked,
-    )?;
+    let fonts = blank_fonts(alloc)?;
+    check_text_and_colours(alloc, &fonts, &mut checks)?;
+    check_graphics(alloc, &fonts, &mut checks)?;
     Ok(checks)
 }

@@ -240,6 +240,16 @@ impl Pair {
         self.set_crtc(0x07, self.plain.crtc[0x07] | overflow)
     }
 
+    /// Makes the frame tall where the setting is one of those that are.
+    fn make_tall_in(&mut self, setting: u32) -> Result<(), Refusal> {
+        for (tall, overflow) in TALL {
+            if tall == setting {
+                self.make_tall(overflow)?;
+            }
+        }
+        Ok(())
+    }
+
     fn change_colour(&mut self, random: &mut Pcg32, i: u8) -> Result<(), Refusal> {
         let red = next_byte(random) & 0x3F;
         let green = next_byte(random) & 0x3F;
@@ -247,29 +257,56 @@ impl Pair {
         self.set_colour(i, [red, green, blue])
     }
 
-    /// Gives all registers and colours anew.
-    fn change_all(&mut self, random: &mut Pcg32, dots: DotSource) -> Result<(), Refusal> {
-        self.set_misc((next_byte(random) & 0xEF) | 0x02)?;
+    /// Gives the registers of the sequencer anew.
+    fn change_sequencer(&mut self, random: &mut Pcg32) -> Result<(), Refusal> {
         for i in 0..5u8 {
             self.set_sequencer(i, sequencer_value(random, i))?;
         }
+        Ok(())
+    }
+
+    /// Gives the registers of the CRT controller anew.
+    fn change_crtc(&mut self, random: &mut Pcg32) -> Result<(), Refusal> {
         self.set_crtc(0x11, 0x00)?;
         for i in 0..25u8 {
             self.set_crtc(i, crtc_value(random, i))?;
         }
-        self.place_cursor(random)?;
+        self.place_cursor(random)
+    }
+
+    /// Gives the registers of the graphics controller anew.
+    fn change_graphics(&mut self, random: &mut Pcg32, dots: DotSource) -> Result<(), Refusal> {
         for i in 0..9u8 {
             self.set_graphics(i, graphics_value(random, i, dots))?;
         }
+        Ok(())
+    }
+
+    /// Gives the registers of the attribute controller anew.
+    fn change_attributes(&mut self, random: &mut Pcg32) -> Result<(), Refusal> {
         for i in 0..21u8 {
             self.set_attribute(i, false, attribute_value(random, i))?;
         }
         let is_palette_shown = !is_one_in(random, 16);
-        self.set_attribute(0x13, is_palette_shown, attribute_value(random, 0x13))?;
+        self.set_attribute(0x13, is_palette_shown, attribute_value(random, 0x13))
+    }
+
+    /// Gives the colours and their mask anew.
+    fn change_colours(&mut self, random: &mut Pcg32) -> Result<(), Refusal> {
         for i in 0..=0xFFu8 {
             self.change_colour(random, i)?;
         }
         self.set_dac_mask(next_byte(random) | next_byte(random))
+    }
+
+    /// Gives all registers and colours anew.
+    fn change_all(&mut self, random: &mut Pcg32, dots: DotSource) -> Result<(), Refusal> {
+        self.set_misc((next_byte(random) & 0xEF) | 0x02)?;
+        self.change_sequencer(random)?;
+        self.change_crtc(random)?;
+        self.change_graphics(random, dots)?;
+        self.change_attributes(random)?;
+        self.change_colours(random)
     }
 
     /// Gives one register, colour or byte of memory another value.
@@ -387,9 +424,7 @@ impl Pair {
         self.fill_memory(random)?;
         for setting in 0..SETTINGS {
             self.change_all(random, dots)?;
-            if let Some((_, overflow)) = TALL.iter().find(|tall| tall.0 == setting) {
-                self.make_tall(*overflow)?;
-            }
+            self.make_tall_in(setting)?;
             for _ in 0..FRAMES {
                 let difference = self.compared_frame(random)?;
                 if difference.is_some() {

@@ -80,23 +80,30 @@ fn are_fronts_taken(alloc: Global, dump: Dump, card: &Card, text: &[u8], full: F
     true
 }
 
+/// Checks writers that take a dump, whose text this is, or a front of it.
+fn check_writers(alloc: Global, dump: Dump, card: &Card, text: &[u8], checks: &mut Checks) {
+    for full in FULL {
+        checks.note("a whole dump", takes(alloc, dump, card, text, full, Ok(())));
+        checks.note(
+            "a front of a dump",
+            are_fronts_taken(alloc, dump, card, text, full),
+        );
+    }
+}
+
+/// Checks how a dump is written.
+fn check_dump(alloc: Global, dump: Dump, card: &Card, checks: &mut Checks) -> Result<(), Fault> {
+    let text = text_of(alloc, dump, card)?;
+    check_writers(alloc, dump, card, text.as_slice(), checks);
+    Ok(())
+}
+
 /// Checks how the dumps are written.
 pub fn check_dumps(alloc: Global) -> Result<Checks> {
     let mut checks = Checks::new();
     let card = Card::new(alloc)?;
     for dump in DUMPS {
-        let text = text_of(alloc, dump, &card)?;
-        let text = text.as_slice();
-        for full in FULL {
-            checks.note(
-                "a whole dump",
-                takes(alloc, dump, &card, text, full, Ok(())),
-            );
-            checks.note(
-                "a front of a dump",
-                are_fronts_taken(alloc, dump, &card, text, full),
-            );
-        }
+        check_dump(alloc, dump, &card, &mut checks)?;
     }
     Ok(checks)
 }

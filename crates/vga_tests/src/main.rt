@@ -82,8 +82,8 @@ fn compare_models<R: Print + AllocGlobal>(rt: &R, tally: &mut Tally) -> Result<(
     Ok(())
 }
 
-/// Checks the crates, a group for each part, and prints how each ended.
-fn check_crates<R: Print + AllocGlobal>(rt: &R, tally: &mut Tally) -> Result<()> {
+/// Checks what the other crates build on, and prints how each group ended.
+fn check_bases<R: Print + AllocGlobal>(rt: &R, tally: &mut Tally) -> Result<()> {
     let alloc = rt.alloc();
     tell(
         rt,
@@ -94,11 +94,23 @@ fn check_crates<R: Print + AllocGlobal>(rt: &R, tally: &mut Tally) -> Result<()>
     tell(rt, tally, "names", check_names(alloc)?)?;
     tell(rt, tally, "readers and writers", check_tracking(alloc)?)?;
     tell(rt, tally, "texts of scripts", check_script_texts(alloc)?)?;
-    tell(rt, tally, "bytes of scripts", check_script_bytes(alloc)?)?;
+    tell(rt, tally, "bytes of scripts", check_script_bytes(alloc)?)
+}
+
+/// Checks what is written, and prints how each group ended.
+fn check_written<R: Print + AllocGlobal>(rt: &R, tally: &mut Tally) -> Result<()> {
+    let alloc = rt.alloc();
     tell(rt, tally, "dumps", check_dumps(alloc)?)?;
     tell(rt, tally, "cells", check_cells(alloc)?)?;
     tell(rt, tally, "pictures", check_pictures(alloc))?;
-    tell(rt, tally, "runs", check_runs(alloc)?)?;
+    tell(rt, tally, "runs", check_runs(alloc)?)
+}
+
+/// Checks the crates, a group for each part, and prints how each ended.
+fn check_crates<R: Print + AllocGlobal>(rt: &R, tally: &mut Tally) -> Result<()> {
+    let alloc = rt.alloc();
+    check_bases(rt, tally)?;
+    check_written(rt, tally)?;
     tell(rt, tally, "screens", check_screens(alloc)?)?;
     tell(rt, tally, "cycles of services", check_cycle_counts(alloc)?)?;
     tell(rt, tally, "memory", check_memory(alloc))

@@ -2,8 +2,7 @@
 //! asked for it says so, and each other answers as in its example.
 
 use crate::checks::Checks;
-use crate::screens::{FONTS_LEN, is_scrolled, screen_behind_calls};
-use bios_modes::Fonts;
+use crate::screens::{FONTS_LEN, blank_fonts, is_scrolled, screen_behind_calls};
 use std::alloc::Global;
 use std::fmt;
 use vga_bits::{Bytes, Fault, Tracked};
@@ -115,8 +114,7 @@ impl fmt::Display for Ending {
 
 /// Whether a font file of zero bytes has glyphs without a dot.
 fn are_fonts_read(alloc: Global) -> Result<bool, Fault> {
-    let file = Bytes::zeros(alloc, FONTS_LEN)?;
-    let fonts = Fonts::from_bytes(alloc, file.as_slice())?;
+    let fonts = blank_fonts(alloc)?;
     Ok(fonts.f16().byte(255, 15) == 0)
 }
 
@@ -154,26 +152,35 @@ fn table_script(alloc: Global) -> Result<Vec<u8>, Fault> {
     encode(alloc, &script)
 }
 
-/// How a run of that script ends, into a writer that has room for its report.
-fn ending_of_run(alloc: Global) -> Result<Ending, Fault> {
-    let script = table_script(alloc)?;
-    let fonts = Bytes::zeros(alloc, FONTS_LEN)?;
-    let Ok(room) = Vec::with_capacity(alloc, TABLE_REPORT.len()) else {
-        return Err(Fault::OutOfMemory);
-    };
-    let mut reader = Tracked::new(script.as_slice());
-    let mut out = Tracked::new(room);
-    let answer = run(alloc, &mut reader, fonts.as_slice(), &mut out, None);
-    let report = out.into_inner();
-    let report = report.as_slice();
-    Ok(match answer {
+/// How a run of that script ends with this answer and report.
+fn ending_with(answer: Result<(), Fault>, report: &[u8]) -> Ending {
+    match answer {
         Ok(()) if report == TABLE_REPORT.as_slice() => Ending::AsInExample,
         Err(Fault::OutOfMemory) if report.is_empty() => Ending::OutOfMemory,
         Err(Fault::OutOfMemory) if report == &TABLE_REPORT[..LINES_BEFORE_TABLE] => {
             Ending::OutOfMemoryInStep
         }
         _ => Ending::Otherwise,
-    })
+    }
+}
+
+/// How a run of these bytes ends, into a writer that has this room.
+fn ending_in(alloc: Global, script: &[u8], fonts: &[u8], room: Vec<u8>) -> Ending {
+    let mut reader = Tracked::new(script);
+    let mut out = Tracked::new(room);
+    let answer = run(alloc, &mut reader, fonts, &mut out, None);
+    let report = out.into_inner();
+    ending_with(answer, report.as_slice())
+}
+
+/// How a run of that script ends, into a writer that has room for its report.
+fn ending_of_run(alloc: Global) -> Result<Ending, Fault> {
+    let script = table_script(alloc)?;
+    let fonts = Bytes::zeros(alloc, FONTS_LEN)?;
+    match Vec::with_capacity(alloc, TABLE_REPORT.len()) {
+        Ok(room) => Ok(ending_in(alloc, script.as_slice(), fonts.as_slice(), room)),
+        Err(_) => Err(Fault::OutOfMemory),
+    }
 }
 
 /// Whether the screen of the example is read.

@@ -2,7 +2,7 @@
 
 use crate::checks::Checks;
 use anyhow::Result;
-use std::alloc::Global;
+use std::alloc::{AllocError, Global};
 use vga_bits::{Fault, Refusal};
 
 const REFUSALS: [(Refusal, &str); 13] = [
@@ -38,22 +38,40 @@ const FAULTS: [(Fault, &str); 11] = [
     (Fault::TooMany(5), "F11 TooMany(5)"),
 ];
 
-/// Checks that refusals and faults have their numbers, names and places, and are printed so.
+/// Whether a refusal is printed so.
+fn is_refusal_printed(alloc: Global, refusal: Refusal, name: &str) -> Result<bool, AllocError> {
+    let printed = format!(in alloc; "{refusal}")?;
+    Ok(printed.as_str() == name)
+}
+
+/// Whether a fault is printed so.
+fn is_fault_printed(alloc: Global, fault: Fault, name: &str) -> Result<bool, AllocError> {
+    let printed = format!(in alloc; "{fault}")?;
+    Ok(printed.as_str() == name)
+}
+
+/// Checks that refusals have their numbers and names, and are printed so.
+fn check_refusals(alloc: Global, checks: &mut Checks) -> Result<(), AllocError> {
+    for (refusal, name) in REFUSALS {
+        let is_printed = is_refusal_printed(alloc, refusal, name)?;
+        checks.note("a refusal", refusal.name() == name && is_printed);
+    }
+    Ok(())
+}
+
+/// Checks that faults have their numbers, names and places, and are printed so.
+fn check_faults(alloc: Global, checks: &mut Checks) -> Result<(), AllocError> {
+    for (fault, name) in FAULTS {
+        let is_printed = is_fault_printed(alloc, fault, name)?;
+        checks.note("a fault", fault.name().as_str() == name && is_printed);
+    }
+    Ok(())
+}
+
+/// Checks the names of refusals and faults.
 pub fn check_names(alloc: Global) -> Result<Checks> {
     let mut checks = Checks::new();
-    for (refusal, name) in REFUSALS {
-        let printed = format!(in alloc; "{refusal}")?;
-        checks.note(
-            "a refusal",
-            refusal.name() == name && printed.as_str() == name,
-        );
-    }
-    for (fault, name) in FAULTS {
-        let printed = format!(in alloc; "{fault}")?;
-        checks.note(
-            "a fault",
-            fault.name().as_str() == name && printed.as_str() == name,
-        );
-    }
+    check_refusals(alloc, &mut checks)?;
+    check_faults(alloc, &mut checks)?;
     Ok(checks)
 }

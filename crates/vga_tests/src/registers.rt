@@ -3,7 +3,7 @@
 use crate::checks::Checks;
 use anyhow::Result;
 use std::alloc::Global;
-use vga_bits::{Bytes, RegFile, TextBuffer, hex_digit};
+use vga_bits::{Bytes, Fault, RegFile, TextBuffer, hex_digit};
 
 /// Checks a register file of which each register keeps the bits of its mask.
 fn check_masks(checks: &mut Checks) {
@@ -21,26 +21,35 @@ fn check_masks(checks: &mut Checks) {
     checks.note("the widest field", registers.field(1, 7, 0) == 0x3D);
 }
 
-/// Checks bytes that are copied, cleared and set.
-fn check_bytes(alloc: Global, checks: &mut Checks) -> Result<()> {
+/// Whether a byte of a copy is set.
+fn is_copy_set(alloc: Global) -> Result<bool, Fault> {
     let mut copy = Bytes::copy(alloc, b"VGA")?;
     copy.set(1, b'C');
-    checks.note(
-        "a copy with another byte",
-        copy.as_slice() == b"VCA".as_slice(),
-    );
-    checks.note(
-        "zeros",
-        Bytes::zeros(alloc, 3)?.as_slice() == [0, 0, 0].as_slice(),
-    );
-    checks.note("no bytes", Bytes::zeros(alloc, 0)?.as_slice().is_empty());
-    let kept = Bytes::from_vec(alloc, vec![in alloc; 7; 2]?)?;
-    checks.note(
-        "the bytes of a vector",
-        kept.as_slice() == [7, 7].as_slice(),
-    );
-    let none = Bytes::from_vec(alloc, Vec::new(alloc))?;
-    checks.note("those of an empty one", none.as_slice().is_empty());
+    Ok(copy.as_slice() == b"VCA".as_slice())
+}
+
+/// Whether there are as many zeros as are asked for.
+fn are_zeros(alloc: Global, zeros: &[u8]) -> Result<bool, Fault> {
+    let bytes = Bytes::zeros(alloc, zeros.len())?;
+    Ok(bytes.as_slice() == zeros)
+}
+
+/// Whether the bytes of a vector are kept.
+fn are_bytes_kept(alloc: Global, items: Vec<u8>, wanted: &[u8]) -> Result<bool, Fault> {
+    let kept = Bytes::from_vec(alloc, items)?;
+    Ok(kept.as_slice() == wanted)
+}
+
+/// Checks bytes that are copied, cleared and set.
+fn check_bytes(alloc: Global, checks: &mut Checks) -> Result<()> {
+    checks.note("a copy with another byte", is_copy_set(alloc)?);
+    checks.note("zeros", are_zeros(alloc, &[0, 0, 0])?);
+    checks.note("no bytes", are_zeros(alloc, &[])?);
+    let sevens = vec![in alloc; 7; 2]?;
+    let is_kept = are_bytes_kept(alloc, sevens, &[7, 7])?;
+    checks.note("the bytes of a vector", is_kept);
+    let is_empty = are_bytes_kept(alloc, Vec::new(alloc), &[])?;
+    checks.note("those of an empty one", is_empty);
     Ok(())
 }
 
@@ -73,14 +82,20 @@ fn check_text(checks: &mut Checks) {
     );
 }
 
+/// Checks the digits.
+fn check_digits(checks: &mut Checks) {
+    let digits = *b"0123456789ABCDEF";
+    for n in 0..16u8 {
+        checks.note("a digit", hex_digit(n) == digits[n as usize]);
+    }
+}
+
 /// Checks registers, bytes and texts.
 pub fn check_registers(alloc: Global) -> Result<Checks> {
     let mut checks = Checks::new();
     check_masks(&mut checks);
     check_bytes(alloc, &mut checks)?;
     check_text(&mut checks);
-    for (n, digit) in b"0123456789ABCDEF".iter().enumerate() {
-        checks.note("a digit", hex_digit((n % 16) as u8) == *digit);
-    }
+    check_digits(&mut checks);
     Ok(checks)
 }

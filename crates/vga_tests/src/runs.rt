@@ -5,7 +5,7 @@ use crate::checks::Checks;
 use crate::sink::{FULL, Full, Sink};
 use crate::source::{Endless, Source};
 use anyhow::Result;
-use std::alloc::Global;
+use std::alloc::{AllocError, Global};
 use std::io::ErrorKind;
 use vga_bits::{Fault, Tracked};
 use vga_run::{run, run_bytes, run_script};
@@ -52,8 +52,9 @@ fn is_bytes_run(
     report: &[u8],
 ) -> bool {
     let mut out = Tracked::new(Vec::new(alloc));
-    run_bytes(alloc, bytes, fonts, &mut out, None) == answer
-        && out.into_inner().as_slice() == report
+    let answered = run_bytes(alloc, bytes, fonts, &mut out, None);
+    let written = out.into_inner();
+    answered == answer && written.as_slice() == report
 }
 
 /// Whether steps at hand answer so over these fonts, and what is then written.
@@ -71,7 +72,7 @@ fn is_script_run(
 
 /// Checks scripts at hand: their reports, and that the size of the fonts is judged before the
 /// bytes.
-fn check_at_hand(alloc: Global, fonts: &[u8], checks: &mut Checks) -> Result<()> {
+fn check_at_hand(alloc: Global, fonts: &[u8], checks: &mut Checks) -> Result<(), Fault> {
     let font_size = Err(Fault::FontSize);
     let bad_magic = Err(Fault::BadMagic);
     checks.note(
@@ -102,11 +103,9 @@ fn is_font_size_first(alloc: Global, fonts: &[u8]) -> bool {
     let mut reader = Tracked::new(Source::of(b"VGAX", 4, ErrorKind::Other));
     let mut out = Sink::new(alloc, 100, Full::Fails);
     let answer = run(alloc, &mut reader, fonts, &mut out, None);
-    answer == Err(Fault::FontSize)
-        && !reader.failed()
-        && reader.into_inner().calls() == 0
-        && !out.failed()
-        && out.into_inner().calls() == 0
+    let is_read = reader.failed() || reader.into_inner().calls() > 0;
+    let is_written = out.failed() || out.into_inner().calls() > 0;
+    answer == Err(Fault::FontSize) && !is_read && !is_written
 }
 
 /// Whether a reader that fails so behind these bytes, so many a call, leaves the writer.
@@ -169,8 +168,8 @@ fn takes(
         && sink.flushes() == flushes
 }
 
-/// Checks readers that fail, and that have no end.
-fn check_readers(alloc: Global, fonts: &[u8], checks: &mut Checks) -> Result<()> {
+/// Checks fonts of other sizes.
+fn check_font_sizes(alloc: Global, checks: &mut Checks) -> Result<(), AllocError> {
     for len in [0, FONTS_LEN - 1, FONTS_LEN + 1] {
         let other = vec![in alloc; 0; len]?;
         checks.note(
@@ -178,6 +177,11 @@ fn check_readers(alloc: Global, fonts: &[u8], checks: &mut Checks) -> Result<()>
             is_font_size_first(alloc, other.as_slice()),
         );
     }
+    Ok(())
+}
+
+/// Checks readers that fail, and that have no end.
+fn check_readers(alloc: Global, fonts: &[u8], checks: &mut Checks) {
     for (piece, kind) in READERS {
         checks.note(
             "a reader that fails",
@@ -185,7 +189,6 @@ fn check_readers(alloc: Global, fonts: &[u8], checks: &mut Checks) -> Result<()>
         );
     }
     checks.note("a reader with no end", is_endless_too_long(alloc, fonts));
-    Ok(())
 }
 
 /// Whether each writer that has too little room for the report, and then refuses so, fails and has
@@ -222,7 +225,8 @@ pub fn check_runs(alloc: Global) -> Result<Checks> {
     let mut checks = Checks::new();
     let fonts = vec![in alloc; 0; FONTS_LEN]?;
     check_at_hand(alloc, fonts.as_slice(), &mut checks)?;
-    check_readers(alloc, fonts.as_slice(), &mut checks)?;
+    check_font_sizes(alloc, &mut checks)?;
+    check_readers(alloc, fonts.as_slice(), &mut checks);
     check_writers(alloc, fonts.as_slice(), &mut checks);
     Ok(checks)
 }

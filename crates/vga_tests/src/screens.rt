@@ -94,14 +94,34 @@ fn serve(alloc: Global, card: &mut Card, bda: &mut Bda, fonts: &Fonts, calls: &[
     accepted
 }
 
+/// Fonts whose glyphs have no dot.
+pub fn blank_fonts(alloc: Global) -> Result<Fonts, Fault> {
+    let glyphs = Bytes::zeros(alloc, FONTS_LEN)?;
+    Fonts::from_bytes(alloc, glyphs.as_slice())
+}
+
+/// Whether a screen is shown.
+fn is_shown(alloc: Global, card: &Card, bda: &Bda) -> Result<bool, Fault> {
+    Ok(Screen::read(alloc, card, bda)?.is_some())
+}
+
+/// Does the calls, and tells whether all were accepted, and no screen was shown before them.
+fn serve_first(
+    alloc: Global,
+    card: &mut Card,
+    bda: &mut Bda,
+    calls: &[Regs],
+) -> Result<bool, Fault> {
+    let fonts = blank_fonts(alloc)?;
+    let was_shown = is_shown(alloc, card, bda)?;
+    Ok(!was_shown && serve(alloc, card, bda, &fonts, calls))
+}
+
 /// The screen that is shown behind the calls, where one is. There must be none before them.
 fn screen_behind(alloc: Global, calls: &[Regs]) -> Result<Option<Screen>, Fault> {
     let mut card = Card::new(alloc)?;
     let mut bda = Bda::new();
-    let glyphs = Bytes::zeros(alloc, FONTS_LEN)?;
-    let fonts = Fonts::from_bytes(alloc, glyphs.as_slice())?;
-    let is_shown = Screen::read(alloc, &card, &bda)?.is_some();
-    if is_shown || !serve(alloc, &mut card, &mut bda, &fonts, calls) {
+    if !serve_first(alloc, &mut card, &mut bda, calls)? {
         return Ok(None);
     }
     Screen::read(alloc, &card, &bda)
@@ -152,23 +172,41 @@ fn check_small_cells(screen: &Screen, checks: &mut Checks) {
     checks.note("a cursor in row 49", screen.cursor(3) == Some((49, 79)));
 }
 
+/// Checks the screen of cells behind its calls.
+fn check_cell_calls(alloc: Global, checks: &mut Checks) -> Result<(), Fault> {
+    let cells = screen_behind_calls(alloc)?;
+    checks.note("a screen of cells behind calls", cells.is_some());
+    if let Some(screen) = &cells {
+        check_parts(screen, checks);
+    }
+    Ok(())
+}
+
+/// Checks the screen of small cells behind its calls.
+fn check_small_cell_calls(alloc: Global, checks: &mut Checks) -> Result<(), Fault> {
+    let cells = screen_behind(alloc, &SMALL_CELL_CALLS)?;
+    checks.note("a screen of small cells behind calls", cells.is_some());
+    if let Some(screen) = &cells {
+        check_small_cells(screen, checks);
+    }
+    Ok(())
+}
+
+/// Checks the screen of pixels behind its calls.
+fn check_pixel_calls(alloc: Global, checks: &mut Checks) -> Result<(), Fault> {
+    let pixels = screen_behind(alloc, &PIXEL_CALLS)?;
+    checks.note("a screen of pixels behind calls", pixels.is_some());
+    if let Some(screen) = &pixels {
+        check_pixels(screen, checks);
+    }
+    Ok(())
+}
+
 /// Checks screens that are read behind calls.
 pub fn check_screens(alloc: Global) -> Result<Checks> {
     let mut checks = Checks::new();
-    let cells = screen_behind_calls(alloc)?;
-    checks.note("a screen of cells behind calls", cells.is_some());
-    if let Some(screen) = cells {
-        check_parts(&screen, &mut checks);
-    }
-    let small = screen_behind(alloc, &SMALL_CELL_CALLS)?;
-    checks.note("a screen of small cells behind calls", small.is_some());
-    if let Some(screen) = small {
-        check_small_cells(&screen, &mut checks);
-    }
-    let pixels = screen_behind(alloc, &PIXEL_CALLS)?;
-    checks.note("a screen of pixels behind calls", pixels.is_some());
-    if let Some(screen) = pixels {
-        check_pixels(&screen, &mut checks);
-    }
+    check_cell_calls(alloc, &mut checks)?;
+    check_small_cell_calls(alloc, &mut checks)?;
+    check_pixel_calls(alloc, &mut checks)?;
     Ok(checks)
 }

@@ -113,6 +113,16 @@ fn is_bad_line(alloc: Global, line: &[u8]) -> Result<bool, AllocError> {
     )
 }
 
+/// Texts of which each line is bad.
+const BAD_TEXTS: [&[u8]; 6] = [
+    MISCOUNTED_WORDS,
+    BAD_DIGITS,
+    BAD_REGISTERS,
+    BAD_LOOKS,
+    BAD_PLANES,
+    BAD_NAMES,
+];
+
 /// Checks lines of which each is bad.
 fn check_bad_lines(alloc: Global, lines: &[u8], checks: &mut Checks) -> Result<()> {
     for line in lines.split(|byte| *byte == b'\n') {
@@ -153,25 +163,30 @@ fn is_longest_text_read(alloc: Global) -> Result<bool, AllocError> {
     Ok(longest.is_none() && longer == too_long && text_fault(alloc, bad.as_slice()) == too_long)
 }
 
-/// Checks texts of scripts.
-pub fn check_script_texts(alloc: Global) -> Result<Checks> {
-    let mut checks = Checks::new();
+/// Checks texts that are good.
+fn check_good_texts(alloc: Global, checks: &mut Checks) -> Result<(), Fault> {
     checks.note("every step", is_every_step_spelled(alloc, EVERY_STEP)?);
     checks.note(
         "every printed step",
         is_every_step_spelled(alloc, EVERY_STEP_PRINTED)?,
     );
     checks.note("numbers in full", are_numbers_in_full(alloc)?);
-    for lines in [
-        MISCOUNTED_WORDS,
-        BAD_DIGITS,
-        BAD_REGISTERS,
-        BAD_LOOKS,
-        BAD_PLANES,
-        BAD_NAMES,
-    ] {
-        check_bad_lines(alloc, lines, &mut checks)?;
+    Ok(())
+}
+
+/// Checks texts of which each line is bad.
+fn check_bad_texts(alloc: Global, checks: &mut Checks) -> Result<()> {
+    for lines in BAD_TEXTS {
+        check_bad_lines(alloc, lines, checks)?;
     }
+    Ok(())
+}
+
+/// Checks texts of scripts.
+pub fn check_script_texts(alloc: Global) -> Result<Checks> {
+    let mut checks = Checks::new();
+    check_good_texts(alloc, &mut checks)?;
+    check_bad_texts(alloc, &mut checks)?;
     checks.note("the longest block", is_longest_block_read(alloc)?);
     checks.note("the longest text", is_longest_text_read(alloc)?);
     Ok(checks)

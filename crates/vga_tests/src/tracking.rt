@@ -4,12 +4,31 @@ use crate::checks::Checks;
 use crate::scripted::{Answer, Scripted};
 use anyhow::Result;
 use std::alloc::Global;
+use std::io;
 use std::io::{ErrorKind, Read, Write};
 use vga_bits::{Fault, Tracked, flush, read_front, write_whole};
 
 const BROKEN: ErrorKind = ErrorKind::BrokenPipe;
 
 const FULL: ErrorKind = ErrorKind::StorageFull;
+
+/// The kind of a call's error, where it fails.
+fn kind_of<T: Drop>(answer: io::Result<T>) -> Option<ErrorKind> {
+    match answer {
+        Ok(_) => None,
+        Err(error) => Some(error.kind()),
+    }
+}
+
+/// How many bytes a read gives, where it does not fail.
+fn read_len(reader: &mut Tracked<Scripted>, buffer: &mut [u8]) -> Option<usize> {
+    reader.read(buffer).ok()
+}
+
+/// How many bytes a write takes, where it does not fail.
+fn written_len(writer: &mut Tracked<Scripted>, bytes: &[u8]) -> Option<usize> {
+    writer.write(bytes).ok()
+}
 
 /// Checks that each read is passed on and counted.
 fn check_reads(alloc: Global, checks: &mut Checks) {
@@ -21,13 +40,13 @@ fn check_reads(alloc: Global, checks: &mut Checks) {
     ];
     let mut reader = Scripted::of(alloc, &answers);
     let mut buffer = *b"....";
-    let some = reader.read(&mut buffer).ok() == Some(3) && buffer == *b"***.";
+    let some = read_len(&mut reader, &mut buffer) == Some(3) && buffer == *b"***.";
     checks.note("a read of some bytes", some);
-    let end = reader.read(&mut buffer).ok() == Some(0) && !reader.failed();
+    let end = read_len(&mut reader, &mut buffer) == Some(0) && !reader.failed();
     checks.note("a read at the end", end && reader.taken() == 3);
-    let kind = reader.read(&mut buffer).err().map(|e| e.kind());
+    let kind = kind_of(reader.read(&mut buffer));
     checks.note("a read that fails", kind == Some(BROKEN) && reader.failed());
-    let again = reader.read(&mut buffer).ok() == Some(2) && reader.failed();
+    let again = read_len(&mut reader, &mut buffer) == Some(2) && reader.failed();
     checks.note("a read behind a failure", again && reader.taken() == 5);
     checks.note("one call for each read", reader.into_inner().has_taken(b""));
 }
@@ -41,13 +60,13 @@ fn check_writes(alloc: Global, checks: &mut Checks) {
         Answer::Error(FULL),
     ];
     let mut writer = Scripted::of(alloc, &answers);
-    let none = writer.write(b"").ok() == Some(0);
+    let none = written_len(&mut writer, b"") == Some(0);
     checks.note("a write of nothing", none && !writer.failed());
-    let some = writer.write(b"abc").ok() == Some(2);
+    let some = written_len(&mut writer, b"abc") == Some(2);
     checks.note("a write of some bytes", some && !writer.failed());
-    let refused = writer.write(b"c").ok() == Some(0);
+    let refused = written_len(&mut writer, b"c") == Some(0);
     checks.note("a write that takes nothing", refused && writer.failed());
-    let kind = writer.write(b"c").err().map(|e| e.kind());
+    let kind = kind_of(writer.write(b"c"));
     checks.note("a write that fails", kind == Some(FULL));
     checks.note(
         "one call for each write",
@@ -61,7 +80,7 @@ fn check_flushes(alloc: Global, checks: &mut Checks) {
     let mut writer = Scripted::of(alloc, &answers);
     let flushed = writer.flush().is_ok() && !writer.failed();
     checks.note("a flush", flushed);
-    let kind = writer.flush().err().map(|e| e.kind());
+    let kind = kind_of(writer.flush());
     checks.note("a flush that fails", kind == Some(FULL) && writer.failed());
     checks.note(
         "one call for each flush",
