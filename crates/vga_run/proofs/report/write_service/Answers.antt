@@ -1,6 +1,6 @@
-use Rattle.std.proofs.Common.{◌≡◌}
+use Rattle.std.proofs.Common.{◌≡◌, rules}
 use Rattle.bios_services.specs.declared.reply.ServiceError.TheVariants.{Refused}
-use Rattle.vga_run.specs.Step.{called}
+use Rattle.vga_run.specs.Step.{called, answer_to, after_step}
 use Rattle.vga_run.proofs.ReportLemmas.{reply_is_written, refusal_is_written}
 use Rattle.vga_run.proofs.report.write_service.Goals as goal
 
@@ -19,3 +19,11 @@ returns-in-Err-Refused-clause-text g c =
     let why : error ≡ Refused c.in-Err-Refused.refusal = rw c.in-Err-Refused.is at c.in-Err-Refused.field-0-is in
     refusal_is_written _ _ _ _ c.args.machine.now c.args.n r.ax r.bx r.cx r.dx c.args.block.now _ _ error c.in-Err-Refused.refusal why
     (rw c.in-Err-Refused.is at c.int10-outcome.ensures.answer) c.write_line.ensures
+
+pub returns-in-Err-OutOfMemory-clause-text : goal.returns-in-Err-OutOfMemory-clause-text
+unfolding called answer_to after_step
+returns-in-Err-OutOfMemory-clause-text c = search rules
+
+pub returns-in-Err-OutOfMemory-clause-after : goal.returns-in-Err-OutOfMemory-clause-after
+unfolding called answer_to after_step
+returns-in-Err-OutOfMemory-clause-after c = search rules

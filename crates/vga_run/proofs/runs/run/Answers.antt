@@ -1,8 +1,8 @@
-use Rattle.std.proofs.Common.{sym, subst, ◌∙◌}
+use Rattle.std.proofs.Common.{sym, subst, ◌∙◌, arith, rules}
 use Rattle.std.proofs.lemmas.Result.{err_from_is_err_and}
 use Rattle.vga_bits.specs.Tracked.{inner_of}
 use Rattle.vga_script.specs.Input.{IsInput}
-use Rattle.vga_run.proofs.AnswerLemmas.{input_answers, runs_good_scripts}
+use Rattle.vga_run.proofs.AnswerLemmas.{font_answers, input_answers, input_stops, runs_good_scripts, unread_answers}
 use Rattle.vga_run.proofs.DotRuns.{run_of_dots, unread_dots}
 use Rattle.vga_run.proofs.ScreenLemmas.{run_of_screens, unread_screens}
 use Rattle.vga_run.proofs.runs.run.Goals as goal
@@ -57,3 +57,15 @@ returns-in_err-bytes-clause-dots g c =
     let before = g.W.Write.contents (inner_of c.args.out.now) in
     let p = err_from_is_err_and c.from_residual-in_err-bytes.result c.from_residual-in_err-bytes.ensures.1 in
     rw (p.1, p.2) (unread_dots c.args.until c.args.fonts.now input before before _ c.in_err-bytes.ensures.fault)
+
+pub returns-in_err-fonts-clause-unread : goal.returns-in_err-fonts-clause-unread
+returns-in_err-fonts-clause-unread c = search rules
+
+pub returns-in_err-bytes-clause-answer : goal.returns-in_err-bytes-clause-answer
+returns-in_err-bytes-clause-answer c = grind (arith, input_answers, input_stops, font_answers, unread_answers)
+
+pub returns-in_err-bytes-clause-unread : goal.returns-in_err-bytes-clause-unread
+returns-in_err-bytes-clause-unread c = search rules
+
+pub returns-clause-stopped : goal.returns-clause-stopped
+returns-clause-stopped c = grind (arith, input_answers, input_stops, font_answers, unread_answers)
