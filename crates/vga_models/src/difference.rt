@@ -5,7 +5,7 @@ use bios_services::Regs;
 use vga_card::Drawn;
 
 /// In what the adapter first differs from the plain screen.
-#[derive(Clone, Copy, Debug, PartialEq, Eq)]
+#[derive(Clone, Copy, Debug)]
 pub enum Difference {
     /// The answer to a service, registers, table or refusal.
     Answer(Regs),
@@ -32,13 +32,12 @@ fn differing_byte(bytes: &[u8], wanted: &[u8]) -> Option<usize> {
     if bytes == wanted {
         return None;
     }
-    let both = bytes.iter().zip(wanted.iter());
-    for (i, (byte, other)) in both.enumerate() {
-        if *byte != *other {
+    for i in 0..bytes.len() {
+        if bytes.get(i) != wanted.get(i) {
             return Some(i);
         }
     }
-    Some(bytes.len().min(wanted.len()))
+    Some(bytes.len())
 }
 
 /// In what a picture differs from one of a width, a height and these bytes.

@@ -41,24 +41,40 @@ impl PlainDrawing {
         self.picture.as_slice()
     }
 
-    /// Takes a dot: its colour joins the picture, and behind the last one the screen has the next
-    /// frame's number.
-    fn take_dot(&mut self, screen: &mut PlainScreen<'_>) -> Result<(), AllocError> {
+    /// At the first dot of a frame its picture begins, of the page that is then active.
+    fn begin_at_first_dot(&mut self, active: u8) {
         if self.dot == 0 {
-            self.page = screen.page;
+            self.page = active;
             self.picture.clear();
         }
+    }
+
+    /// Goes on to the next dot, behind the last one to the first of the next frame.
+    fn go_on(&mut self, screen: &mut PlainScreen<'_>) {
+        self.dot = self.dot.saturating_add(1);
+        if self.dot >= screen.mode.frame_dots() {
+            self.dot = 0;
+            screen.end_frame();
+        }
+    }
+
+    /// The colour of the dot that is taken next joins the picture, if there it has one.
+    fn draw_dot(&mut self, screen: &PlainScreen<'_>) -> Result<(), AllocError> {
         let line_dots = screen.mode.line_dots.max(1) as u32;
         let x = self.dot % line_dots;
         let y = self.dot / line_dots;
         if let Some(colour) = screen.dot_colour(self.page, x, y) {
             self.picture.extend_from_slice(&colour)?;
         }
-        self.dot = self.dot.saturating_add(1);
-        if self.dot >= screen.mode.frame_dots() {
-            self.dot = 0;
-            screen.end_frame();
-        }
+        Ok(())
+    }
+
+    /// Takes a dot: its colour joins the picture, and behind the last one the screen has the next
+    /// frame's number.
+    fn take_dot(&mut self, screen: &mut PlainScreen<'_>) -> Result<(), AllocError> {
+        self.begin_at_first_dot(screen.page);
+        self.draw_dot(screen)?;
+        self.go_on(screen);
         Ok(())
     }
 

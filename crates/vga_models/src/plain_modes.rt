@@ -4,7 +4,7 @@
 ghost use Rattle.std.specs.Prelude.{◌<◌, ◌≤◌};
 
 /// What stands at the places of a screen.
-#[derive(Clone, Copy, Debug, PartialEq, Eq)]
+#[derive(Clone, Copy, PartialEq, Eq)]
 pub enum Kind {
     Text,
     SixteenColours,
@@ -55,7 +55,7 @@ const SIXTEEN_BRIGHT: [u8; 16] = [
 
 const IN_ORDER: [u8; 16] = [0, 1, 2, 3, 4, 5, 6, 7, 8, 9, 10, 11, 12, 13, 14, 15];
 
-const MODE_3: PlainMode = PlainMode {
+pub const MODE_3: PlainMode = PlainMode {
     number: 0x03,
     kind: Kind::Text,
     columns: 80,

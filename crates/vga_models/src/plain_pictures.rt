@@ -3,7 +3,7 @@ ghost use Rattle.std.specs.Prelude.{◌≡◌, ◌<◌};
 
 use crate::plain_modes::Kind;
 use crate::plain_refusals::{high, low};
-use crate::plain_screen::{Line, Place, PlainScreen};
+use crate::plain_screen::{Line, Place, PlainScreen, Strip};
 use std::alloc::AllocError;
 
 /// The size of a picture in dots, and red, green and blue of each dot, row after row.
@@ -46,23 +46,29 @@ impl PlainScreen<'_> {
     fn is_foreground(&self, cell: ScannedCell, dots: u8, i: u8) -> bool
         requires { i < 9 }
     {
-        let first = high(self.cursor_type);
-        let last = low(self.cursor_type) & 0x1F;
-        let is_underlined = self.mode.number == 7
-            && cell.line == self.mode.height.saturating_sub(1)
-            && cell.attribute & 0x77 == 0x01;
         let is_gone = self.blinks && cell.attribute >= 0x80 && self.frame >= 16;
-        let is_cursor = cell.is_cursor
-            && first & 0x20 == 0
-            && first & 0x1F <= cell.line
-            && cell.line <= last
-            && self.frame & 8 == 0;
         let is_glyph = if i < 8 {
             (dots >> (7 - i)) & 1 == 1
         } else {
             cell.character >= 0xC0 && cell.character <= 0xDF && dots & 1 == 1
         };
-        is_cursor || (!is_gone && (is_underlined || is_glyph))
+        self.is_cursor_line(cell) || (!is_gone && (self.is_underlined(cell) || is_glyph))
+    }
+
+    /// Whether the cursor is shown on a scan line of a cell.
+    fn is_cursor_line(&self, cell: ScannedCell) -> bool {
+        let first = high(self.cursor_type);
+        let last = low(self.cursor_type) & 0x1F;
+        let is_within = first & 0x1F <= cell.line && cell.line <= last;
+        let is_shown = first & 0x20 == 0 && self.frame & 8 == 0;
+        cell.is_cursor && is_within && is_shown
+    }
+
+    /// Whether a scan line of a cell is an underline.
+    fn is_underlined(&self, cell: ScannedCell) -> bool {
+        self.mode.number == 7
+            && cell.line == self.mode.height.saturating_sub(1)
+            && cell.attribute & 0x77 == 0x01
     }
 
     /// The dots of a scan line of a character of text.
@@ -168,13 +174,24 @@ impl PlainScreen<'_> {
             return Ok(bytes);
         };
         for strip in page {
-            for pixels in strip {
-                for _ in 0..self.mode.lines {
-                    self.draw_pixels(colours, pixels, &mut bytes)?;
-                }
-            }
+            self.draw_strip(colours, strip, &mut bytes)?;
         }
         Ok(bytes)
+    }
+
+    /// Draws the lines of a row of characters, each as often as it is shown.
+    fn draw_strip(
+        &self,
+        colours: &[[u8; 3]; 256],
+        strip: &Strip,
+        bytes: &mut Vec<u8>,
+    ) -> Result<(), AllocError> {
+        for pixels in strip {
+            for _ in 0..self.mode.lines {
+                self.draw_pixels(colours, pixels, bytes)?;
+            }
+        }
+        Ok(())
     }
 
     /// Width and height of a picture, in dots.
@@ -246,10 +263,10 @@ impl PlainScreen<'_> {
     /// Red, green and blue of dot `x` of line `y` where a page is shown; none beside the picture.
     pub fn dot_colour(&self, page: u8, x: u32, y: u32) -> Option<[u8; 3]> {
         let colour = if self.is_text() {
-            self.text_dot(page, x, y)?
+            self.text_dot(page, x, y)
         } else {
-            self.pixel_dot(page, x, y)?
+            self.pixel_dot(page, x, y)
         };
-        Some(self.colour_of(colour))
+        Some(self.colour_of(colour?))
     }
 }

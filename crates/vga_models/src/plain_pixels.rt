@@ -27,6 +27,18 @@ fn inked(kind: Kind, old: u8, is_set: bool, colour: u8) -> u8 {
     }
 }
 
+/// Gives the pixels `from..to` of a line those of another line, or blanks.
+fn set_pixels(shown: &mut Line, from: usize, to: usize, source: Option<&Line>, blank: u8) {
+    for i in from..to {
+        if let Some(pixel) = shown.get_mut(i) {
+            *pixel = source
+                .and_then(|line| line.get(i))
+                .copied()
+                .unwrap_or(blank);
+        }
+    }
+}
+
 impl PlainScreen<'_> {
     /// A line of a row of characters of a page.
     fn line_mut(&mut self, page: u8, row: u8, line: u8) -> Option<&mut Line> {
@@ -36,10 +48,15 @@ impl PlainScreen<'_> {
             .get_mut(line as usize)
     }
 
+    /// A row of characters of a page.
+    fn strip(&self, page: u8, row: u8) -> Option<&Strip> {
+        self.pages.get(page as usize)?.get(row as usize)
+    }
+
     /// A pixel of a line of a row of characters.
     fn pixel_in(&self, page: u8, row: u8, line: u8, place: usize) -> Option<u8> {
-        let strip = self.pages.get(page as usize)?.get(row as usize)?;
-        strip.get(line as usize)?.get(place).copied()
+        let pixels = self.strip(page, row)?.get(line as usize)?;
+        pixels.get(place).copied()
     }
 
     /// The pixel at column `x` of line `y` of a page: none in text.
@@ -151,14 +168,7 @@ impl PlainScreen<'_> {
         for line in 0..self.mode.height {
             let pixels = source.and_then(|strip| strip.get(line as usize));
             if let Some(shown) = self.line_mut(page, row, line) {
-                for (i, pixel) in shown.iter_mut().enumerate() {
-                    if from <= i && i < to {
-                        *pixel = pixels
-                            .and_then(|line| line.get(i))
-                            .copied()
-                            .unwrap_or(blank);
-                    }
-                }
+                set_pixels(shown, from, to, pixels, blank);
             }
         }
     }

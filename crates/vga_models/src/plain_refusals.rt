@@ -140,24 +140,22 @@ impl PlainScreen<'_> {
         }
     }
 
+    /// Whether the glyphs of the block are to be loaded for characters of a height that there is
+    /// not.
+    fn is_bad_height(&self, regs: Regs) -> bool {
+        loads_block(regs) && with_height(self.mode, high(regs.bx)).is_none()
+    }
+
     /// The refusal of a call of a function that is there.
     fn function_refusal(&self, regs: Regs, block: &[u8]) -> Option<Refusal> {
-        let ah = high(regs.ax);
-        let is_bad_mode = ah == 0x00 && plain_mode(low(regs.ax) & 0x7F).is_none();
-        let takes_block = matches!(
-            (ah, low(regs.ax)),
-            (0x10, 0x02 | 0x12) | (0x11, 0x10) | (0x13, _)
-        );
-        let is_bad_block = takes_block && block.len() != wanted_length(regs);
-        let is_bad_height = loads_block(regs) && with_height(self.mode, high(regs.bx)).is_none();
-        refused_where(is_bad_mode, Refusal::BadMode)
+        refused_where(is_bad_mode(regs), Refusal::BadMode)
             .or(refused_where(self.is_wrong_kind(regs), Refusal::WrongKind))
             .or(refused_where(self.is_bad_page(regs), Refusal::BadPage))
             .or(refused_where(self.is_place_outside(regs), Refusal::Outside))
             .or(refused_where(self.is_count_past(regs), Refusal::CountPast))
             .or(refused_where(is_bad_register(regs), Refusal::BadRegister))
-            .or(refused_where(is_bad_block, Refusal::BadBlock))
-            .or(refused_where(is_bad_height, Refusal::BadHeight))
+            .or(refused_where(is_bad_block(regs, block), Refusal::BadBlock))
+            .or(refused_where(self.is_bad_height(regs), Refusal::BadHeight))
     }
 
     /// The first refusal of a call, where it is refused.
@@ -168,6 +166,20 @@ impl PlainScreen<'_> {
             Some(Refusal::BadFunction)
         }
     }
+}
+
+/// Whether a mode is to be set that is not there.
+fn is_bad_mode(regs: Regs) -> bool {
+    high(regs.ax) == 0x00 && plain_mode(low(regs.ax) & 0x7F).is_none()
+}
+
+/// Whether the block has not the length that the call wants, where it takes one.
+fn is_bad_block(regs: Regs, block: &[u8]) -> bool {
+    let takes_block = matches!(
+        (high(regs.ax), low(regs.ax)),
+        (0x10, 0x02 | 0x12) | (0x11, 0x10) | (0x13, _)
+    );
+    takes_block && block.len() != wanted_length(regs)
 }
 
 /// Whether the registers name no palette register or entry of the DAC, or a blinking that is

@@ -11,7 +11,7 @@ use std::alloc::{AllocError, Global};
 const CELLS: usize = 16_384;
 
 /// A cell of text: its character and its attribute.
-#[derive(Clone, Copy, PartialEq, Eq)]
+#[derive(Clone, Copy)]
 pub struct Cell {
     pub character: u8,
     pub attribute: u8,
@@ -33,7 +33,7 @@ pub type Strip = Vec<Line>;
 pub type Page = Vec<Strip>;
 
 /// A row and a column of characters.
-#[derive(Clone, Copy, PartialEq, Eq)]
+#[derive(Clone, Copy)]
 pub struct Place {
     pub row: u8,
     pub column: u8,
@@ -50,7 +50,7 @@ pub struct Window {
 }
 
 /// Where a row of a window takes its places from.
-#[derive(Clone, Copy, PartialEq, Eq)]
+#[derive(Clone, Copy)]
 pub enum Way {
     Up,
     Down,
@@ -113,11 +113,13 @@ fn blank_page(alloc: Global, mode: PlainMode) -> Result<Page, AllocError> {
 
 /// The pages of graphics as a mode set leaves them, none of text.
 fn blank_pages(alloc: Global, mode: PlainMode) -> Result<Vec<Page>, AllocError> {
+    let count = if mode.kind == Kind::Text {
+        0
+    } else {
+        mode.pages
+    };
     let mut pages = Vec::new(alloc);
-    if mode.kind == Kind::Text {
-        return Ok(pages);
-    }
-    for _ in 0..mode.pages {
+    for _ in 0..count {
         pages.push(blank_page(alloc, mode)?)?;
     }
     Ok(pages)

@@ -123,11 +123,12 @@ impl PlainScreen<'_> {
         let has_colours = low(regs.ax) & 2 == 2;
         let mut at = place_of(regs.dx);
         for character in block.chunks_exact(if has_colours { 2 } else { 1 }) {
-            at = match character {
-                [code, colour] => self.typed(page, at, *code, *colour, false)?,
-                [code] => self.typed(page, at, *code, low(regs.bx), false)?,
-                _ => at,
+            let (code, colour) = match character {
+                [code, colour] => (*code, *colour),
+                [code] => (*code, low(regs.bx)),
+                _ => continue,
             };
+            at = self.typed(page, at, code, colour, false)?;
         }
         if low(regs.ax) & 1 == 1 {
             self.set_place(page, at);
@@ -181,13 +182,13 @@ impl PlainScreen<'_> {
     }
 
     /// Entries of the DAC from one on: red, green and blue of each.
-    fn set_entries(&mut self, first: usize, block: &[u8])
-        requires { first < 65536 }
-    {
-        for (i, colour) in block.chunks_exact(3).enumerate() {
+    fn set_entries(&mut self, first: usize, block: &[u8]) {
+        let mut i = first;
+        for colour in block.chunks_exact(3) {
             if let [red, green, blue] = colour {
-                self.set_entry(first + i, [*red, *green, *blue]);
+                self.set_entry(i, [*red, *green, *blue]);
             }
+            i = i.saturating_add(1);
         }
     }
 
@@ -206,14 +207,18 @@ impl PlainScreen<'_> {
                 table.extend_from_slice(&self.palette)?;
                 table.push(self.overscan)?;
             }
-            (0x10, 0x17) => {
-                for i in 0..regs.cx as usize {
-                    table.extend_from_slice(&self.entry(regs.bx as usize + i))?;
-                }
-            }
+            (0x10, 0x17) => self.push_entries(regs, &mut table)?,
             _ => (),
         }
         Ok(table)
+    }
+
+    /// Appends red, green and blue of CX entries of the DAC, from that in BX on.
+    fn push_entries(&self, regs: Regs, table: &mut Vec<u8>) -> Result<(), AllocError> {
+        for i in 0..regs.cx as usize {
+            table.extend_from_slice(&self.entry(regs.bx as usize + i))?;
+        }
+        Ok(())
     }
 
     /// The registers that a service answers.

@@ -48,6 +48,19 @@ impl PlainScreen<'_> {
         Ok(last)
     }
 
+    /// The place behind one, which is the first of the row below behind the last of a row.
+    fn place_behind(&mut self, page: u8, at: Place) -> Result<Place, AllocError> {
+        let Place { row, column } = at;
+        if column < self.whole().last.column {
+            return Ok(Place {
+                row,
+                column: column + 1,
+            });
+        }
+        let row = self.row_below(page, at)?;
+        Ok(Place { row, column: 0 })
+    }
+
     /// Types a character at a place of a page, and answers the place behind it.
     pub fn typed(
         &mut self,
@@ -64,24 +77,14 @@ impl PlainScreen<'_> {
                 row,
                 column: column.saturating_sub(1),
             }),
-            0x0A => Ok(Place {
-                row: self.row_below(page, at)?,
-                column,
-            }),
+            0x0A => {
+                let row = self.row_below(page, at)?;
+                Ok(Place { row, column })
+            }
             0x0D => Ok(Place { row, column: 0 }),
             _ => {
                 self.show(page, at, character, colour, keeps);
-                if column < self.whole().last.column {
-                    Ok(Place {
-                        row,
-                        column: column + 1,
-                    })
-                } else {
-                    Ok(Place {
-                        row: self.row_below(page, at)?,
-                        column: 0,
-                    })
-                }
+                self.place_behind(page, at)
             }
         }
     }
