@@ -28,6 +28,13 @@ struct Count {
     times: u32,
 }
 
+impl Count {
+    /// Whether it counts a way in a mode, with characters of a height.
+    fn is_of(self, mode: u8, height: u8, ending: Ending) -> bool {
+        self.mode == mode && self.height == height && self.ending == ending
+    }
+}
+
 /// How often each way was met and has to be, and mode and height of each frame that was drawn.
 #[derive(Drop)]
 pub struct CallCounts {
@@ -209,19 +216,27 @@ impl CallCounts {
         if refusal.is_some() {
             self.refused = self.refused.saturating_add(1);
         }
+        if !self.counts_again(mode, ending) {
+            self.counts.push(Count {
+                mode: mode.number,
+                height: mode.height,
+                ending,
+                times: 1,
+            })?;
+        }
+        Ok(())
+    }
+
+    /// Counts a way that was met before in the mode with characters of this height; false where it
+    /// was not.
+    fn counts_again(&mut self, mode: PlainMode, ending: Ending) -> bool {
         for count in self.counts.iter_mut() {
-            if count.mode == mode.number && count.height == mode.height && count.ending == ending {
+            if count.is_of(mode.number, mode.height, ending) {
                 count.times = count.times.saturating_add(1);
-                return Ok(());
+                return true;
             }
         }
-        self.counts.push(Count {
-            mode: mode.number,
-            height: mode.height,
-            ending,
-            times: 1,
-        })?;
-        Ok(())
+        false
     }
 
     /// Counts a frame that is drawn in a mode.
@@ -243,34 +258,53 @@ impl CallCounts {
 
     /// Whether a way was seldom met in a mode, with characters of this height.
     fn is_seldom_at(&self, mode: u8, height: u8, ending: Ending) -> bool {
-        let counted = self.counts.iter().find(|count| {
-            count.mode == mode && count.height == height && count.ending == ending
-        });
-        match counted {
-            Some(count) => count.times < self.often,
-            None => true,
+        for count in self.counts.iter() {
+            if count.is_of(mode, height, ending) {
+                return count.times < self.often;
+            }
         }
+        true
     }
 
     /// A function that was seldom accepted in a mode, or seldom refused in a way that it has there.
     fn seldom_in(&self, mode: PlainMode) -> Option<(u8, u8)> {
+        self.seldom_accepted_in(mode.number)
+            .or(self.seldom_refused_in(mode.number))
+            .or(self.seldom_bad_page_in(mode))
+            .or(self.seldom_pixel_in(mode))
+    }
+
+    /// A function that was seldom accepted in a mode.
+    fn seldom_accepted_in(&self, mode: u8) -> Option<(u8, u8)> {
         for (function, part) in ACCEPTED {
-            if self.is_seldom(mode.number, accepted(function, part)) {
+            if self.is_seldom(mode, accepted(function, part)) {
                 return Some((function, part));
             }
         }
+        None
+    }
+
+    /// A function that was seldom refused in a way that it has in each mode.
+    fn seldom_refused_in(&self, mode: u8) -> Option<(u8, u8)> {
         for (function, part, refusal) in REFUSED {
-            if self.is_seldom(mode.number, refused(function, part, refusal)) {
+            if self.is_seldom(mode, refused(function, part, refusal)) {
                 return Some((function, part));
             }
+        }
+        None
+    }
+
+    /// A function that was seldom refused for its page in a mode of several pages.
+    fn seldom_bad_page_in(&self, mode: PlainMode) -> Option<(u8, u8)> {
+        if mode.pages <= 1 {
+            return None;
         }
         for function in PAGED {
-            let bad_page = refused(function, 0, Refusal::BadPage);
-            if mode.pages > 1 && self.is_seldom(mode.number, bad_page) {
+            if self.is_seldom(mode.number, refused(function, 0, Refusal::BadPage)) {
                 return Some((function, 0));
             }
         }
-        self.seldom_pixel_in(mode)
+        None
     }
 
     /// The same of functions for pixels, which text refuses.
@@ -316,11 +350,22 @@ impl CallCounts {
 
     /// The same of text with characters of a height.
     fn seldom_at(&self, mode: u8, height: u8) -> Option<(u8, u8)> {
+        self.seldom_accepted_at(mode, height)
+            .or(self.seldom_refused_at(mode, height))
+    }
+
+    /// A function that was seldom accepted in text with characters of a height.
+    fn seldom_accepted_at(&self, mode: u8, height: u8) -> Option<(u8, u8)> {
         for (function, part) in ACCEPTED_AT_HEIGHT {
             if self.is_seldom_at(mode, height, accepted(function, part)) {
                 return Some((function, part));
             }
         }
+        None
+    }
+
+    /// A function that was seldom refused in a way that it has in text with characters of a height.
+    fn seldom_refused_at(&self, mode: u8, height: u8) -> Option<(u8, u8)> {
         for (function, part, refusal) in REFUSED_AT_HEIGHT {
             if self.is_seldom_at(mode, height, refused(function, part, refusal)) {
                 return Some((function, part));
@@ -368,16 +413,20 @@ impl CallCounts {
     /// mode.
     pub fn seldom(&self) -> Option<(u8, u8)> {
         for mode in MODES {
-            let seldom = self
-                .seldom_mode_set_in(mode)
-                .or(self.seldom_in(mode))
-                .or(self.seldom_glyphs_in(mode))
-                .or(self.seldom_at_heights(mode));
+            let seldom = self.seldom_of_all_in(mode);
             if seldom.is_some() {
                 return seldom;
             }
         }
         None
+    }
+
+    /// The first function, with its part, that was not met often in each way that it has in a mode.
+    fn seldom_of_all_in(&self, mode: PlainMode) -> Option<(u8, u8)> {
+        self.seldom_mode_set_in(mode)
+            .or(self.seldom_in(mode))
+            .or(self.seldom_glyphs_in(mode))
+            .or(self.seldom_at_heights(mode))
     }
 
     /// Whether few frames were drawn in a mode with characters of this height.
