@@ -62,6 +62,19 @@ struct CutFrames<'a> {
     within: CallCounts,
 }
 
+impl<'a> CutFrames<'a> {
+    /// An adapter at power-on, over the bytes of a font file, and a plain screen of whose frames no
+    /// dot is taken.
+    fn new(alloc: Global, font: &'a [u8]) -> Result<CutFrames<'a>> {
+        let pair = Pair::new(alloc, font)?;
+        Ok(CutFrames {
+            pair,
+            drawing: PlainDrawing::new(alloc),
+            within: CallCounts::new(alloc, 1),
+        })
+    }
+}
+
 impl CutFrames<'_> {
     /// Advances both.
     fn advance_difference(&mut self, dots: u32) -> Result<Option<Difference>> {
@@ -100,6 +113,21 @@ impl CutFrames<'_> {
         self.advance_difference(left)
     }
 
+    /// Whether a call has to wait for the first dot of a frame: one that sets a mode or loads
+    /// glyphs.
+    fn waits(&self, call: &RandomCall, refusal: Option<Refusal>) -> bool {
+        let cuts_anew = matches!(high(call.regs.ax), 0x00 | 0x11);
+        refusal.is_none() && cuts_anew && !self.drawing.is_at_first_dot()
+    }
+
+    /// Counts a call behind the first dot of a frame.
+    fn note(&mut self, call: &RandomCall, refusal: Option<Refusal>) -> Result<()> {
+        if !self.drawing.is_at_first_dot() {
+            self.within.note(self.pair.plain.mode, call.regs, refusal)?;
+        }
+        Ok(())
+    }
+
     /// Does a service on both. One that sets a mode or loads glyphs is done at the first dot of a
     /// frame.
     fn service_difference(
@@ -108,32 +136,39 @@ impl CutFrames<'_> {
         call: &RandomCall,
     ) -> Result<Option<Difference>> {
         let refusal = self.pair.plain.refusal(call.regs, call.block.as_slice());
-        let waits = refusal.is_none() && matches!(high(call.regs.ax), 0x00 | 0x11);
-        if waits && !self.drawing.is_at_first_dot() {
+        if self.waits(call, refusal) {
             let difference = self.end_difference(random)?;
             if difference.is_some() {
                 return Ok(difference);
             }
         }
-        if !self.drawing.is_at_first_dot() {
-            self.within.note(self.pair.plain.mode, call.regs, refusal)?;
-        }
+        self.note(call, refusal)?;
         self.pair.service_difference(call)
+    }
+
+    /// The next advance.
+    fn next_advance_difference(&mut self, random: &mut Pcg32) -> Result<Option<Difference>> {
+        let mode = self.pair.plain.mode;
+        let dots = next_dots(random, mode, self.drawing.dots_left(mode));
+        self.advance_difference(dots)
+    }
+
+    /// The next service.
+    fn next_service_difference(&mut self, random: &mut Pcg32) -> Result<Option<Difference>> {
+        let plain = &self.pair.plain;
+        let call = next_call(self.pair.alloc, random, plain.mode, plain.page)?;
+        self.service_difference(random, &call)
     }
 
     /// The next service, often behind an advance.
     fn next_difference(&mut self, random: &mut Pcg32) -> Result<Option<Difference>> {
         if is_one_in(random, SERVICES_TO_ADVANCE) {
-            let left = self.drawing.dots_left(self.pair.plain.mode);
-            let dots = next_dots(random, self.pair.plain.mode, left);
-            let difference = self.advance_difference(dots)?;
+            let difference = self.next_advance_difference(random)?;
             if difference.is_some() {
                 return Ok(difference);
             }
         }
-        let plain = &self.pair.plain;
-        let call = next_call(self.pair.alloc, random, plain.mode, plain.page)?;
-        self.service_difference(random, &call)
+        self.next_service_difference(random)
     }
 
     /// Some services and advances. The screen that is then shown is read, and the frame taken to
@@ -145,11 +180,9 @@ impl CutFrames<'_> {
                 return Ok(difference);
             }
         }
-        if is_read || self.pair.plain.is_text() {
-            let difference = self.pair.read_difference()?;
-            if difference.is_some() {
-                return Ok(difference);
-            }
+        let difference = self.pair.read_difference(is_read)?;
+        if difference.is_some() {
+            return Ok(difference);
         }
         self.frame_difference()
     }
@@ -159,17 +192,32 @@ impl CutFrames<'_> {
 impl CutFrames<'_> {
     /// A script, which begins anew behind each frame that ends in another mode.
     fn script(&mut self, random: &mut Pcg32, beginning: Beginning) -> Result<Option<Difference>> {
-        let mut difference = self.pair.begin(beginning)?;
+        let difference = self.pair.begin(beginning)?;
+        if difference.is_some() {
+            return Ok(difference);
+        }
         for frame in 0..FRAMES {
+            let is_read = frame % FRAMES_TO_READ == 0;
+            let difference = self.frame_of_script(random, beginning, is_read)?;
             if difference.is_some() {
                 return Ok(difference);
             }
-            difference = self.next_frame(random, frame % FRAMES_TO_READ == 0)?;
-            if difference.is_none() && self.pair.plain.mode.number != beginning.mode {
-                difference = self.pair.begin(beginning)?;
-            }
         }
-        Ok(difference)
+        Ok(None)
+    }
+
+    /// A frame of a script, and the script's beginning where it ends in another mode.
+    fn frame_of_script(
+        &mut self,
+        random: &mut Pcg32,
+        beginning: Beginning,
+        is_read: bool,
+    ) -> Result<Option<Difference>> {
+        let difference = self.next_frame(random, is_read)?;
+        if difference.is_some() {
+            return Ok(difference);
+        }
+        self.pair.begin_anew(beginning)
     }
 
     /// A script of each beginning, up to the first difference.
@@ -195,6 +243,12 @@ impl CutFrames<'_> {
         Ok(self.seldom())
     }
 
+    /// How the scripts end.
+    fn outcome(&mut self, random: &mut Pcg32) -> Result<ScreensOutcome> {
+        let difference = self.scripts(random)?;
+        Ok(self.pair.outcome(difference))
+    }
+
     /// What was not met within a frame, or of which few frames were drawn.
     fn seldom(&self) -> Option<Difference> {
         let call = self.within.seldom_within_frames();
@@ -208,11 +262,6 @@ impl CutFrames<'_> {
 pub fn compare_cut_frames(alloc: Global) -> Result<ScreensOutcome> {
     let mut random = Pcg32::new(0x5EED, 6);
     let font = make_font(alloc)?;
-    let mut frames = CutFrames {
-        pair: Pair::new(alloc, font.as_slice())?,
-        drawing: PlainDrawing::new(alloc),
-        within: CallCounts::new(alloc, 1),
-    };
-    let difference = frames.scripts(&mut random)?;
-    Ok(frames.pair.outcome(difference))
+    let mut frames = CutFrames::new(alloc, font.as_slice())?;
+    frames.outcome(&mut random)
 }

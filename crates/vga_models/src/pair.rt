@@ -4,16 +4,32 @@ ghost use Rattle.std.specs.Prelude.{◌≡◌, ◌<◌};
 use crate::beginning::Beginning;
 use crate::call_counts::{CallCounts, OFTEN};
 use crate::difference::Difference;
-use crate::plain_modes::MODES;
+use crate::plain_modes::MODE_3;
 use crate::plain_screen::{Place, PlainScreen};
+use crate::plain_services::PlainReply;
 use crate::random_calls::RandomCall;
 use crate::screens_outcome::ScreensOutcome;
 use anyhow::Result;
 use bios_modes::{Bda, Fonts};
 use bios_screen::Screen;
-use bios_services::{Regs, ServiceError, int10};
+use bios_services::{Regs, Reply, ServiceError, int10};
 use std::alloc::Global;
+use vga_bits::Refusal;
 use vga_card::Card;
+
+/// Whether a service is answered or refused as is wanted.
+fn is_as_wanted(
+    answer: &Result<Reply, ServiceError>,
+    wanted: &Result<PlainReply, Refusal>,
+) -> bool {
+    match (answer, wanted) {
+        (Ok(reply), Ok(plain)) => {
+            reply.regs == plain.regs && reply.table.as_slice() == plain.table.as_slice()
+        }
+        (Err(error), Err(refusal)) => *error == ServiceError::Refused(*refusal),
+        (Ok(_), Err(_)) | (Err(_), Ok(_)) => false,
+    }
+}
 
 /// An adapter and a plain screen, which are given the same services.
 #[derive(Drop)]
@@ -32,12 +48,15 @@ impl<'a> Pair<'a> {
     /// An adapter at power-on, over the bytes of a font file, and a plain screen that its first
     /// mode set replaces.
     pub fn new(alloc: Global, font: &'a [u8]) -> Result<Pair<'a>> {
+        let fonts = Fonts::from_bytes(alloc, font)?;
+        let plain = PlainScreen::fresh(alloc, font, MODE_3, 0)?;
+        let card = Card::new(alloc)?;
         Ok(Pair {
             alloc,
-            card: Card::new(alloc)?,
+            card,
             bda: Bda::new(),
-            fonts: Fonts::from_bytes(alloc, font)?,
-            plain: PlainScreen::fresh(alloc, font, MODES[0], 0)?,
+            fonts,
+            plain,
             counts: CallCounts::new(alloc, OFTEN),
             services: 0,
             frames: 0,
@@ -67,17 +86,13 @@ impl Pair<'_> {
     pub fn service_difference(&mut self, call: &RandomCall) -> Result<Option<Difference>> {
         let regs = call.regs;
         let block = call.block.as_slice();
-        let mode = self.plain.mode;
-        let wanted = self.plain.call(regs, block)?;
-        let refusal = match &wanted {
-            Ok(_) => None,
-            Err(refusal) => Some(*refusal),
-        };
-        self.counts.note(mode, regs, refusal)?;
+        let refusal = self.plain.refusal(regs, block);
+        self.counts.note(self.plain.mode, regs, refusal)?;
         self.services = self.services.saturating_add(1);
         if !self.bda.valid() {
             return Ok(Some(Difference::Unshown));
         }
+        let wanted = self.plain.call(regs, block)?;
         let answer = int10(
             self.alloc,
             &mut self.card,
@@ -86,14 +101,7 @@ impl Pair<'_> {
             regs,
             block,
         );
-        let is_alike = match (answer, wanted) {
-            (Ok(reply), Ok(plain)) => {
-                reply.regs == plain.regs && reply.table.as_slice() == plain.table.as_slice()
-            }
-            (Err(error), Err(refusal)) => error == ServiceError::Refused(refusal),
-            (Ok(_), Err(_)) | (Err(_), Ok(_)) => false,
-        };
-        Ok(if is_alike {
+        Ok(if is_as_wanted(&answer, &wanted) {
             None
         } else {
             Some(Difference::Answer(regs))
@@ -120,35 +128,73 @@ impl Pair<'_> {
             _ => Ok(difference),
         }
     }
+
+    /// Begins a script anew, where the mode is now another than at its beginning.
+    pub fn begin_anew(&mut self, beginning: Beginning) -> Result<Option<Difference>> {
+        if self.plain.mode.number == beginning.mode {
+            return Ok(None);
+        }
+        self.begin(beginning)
+    }
 }
 
 /// Screens that are read.
 impl Pair<'_> {
+    /// Reads the screen that the adapter shows, one of pixels only where it is to be read.
+    pub fn read_difference(&self, is_read: bool) -> Result<Option<Difference>> {
+        if is_read || self.plain.is_text() {
+            self.shown_difference()
+        } else {
+            Ok(None)
+        }
+    }
+
     /// Reads the screen that the adapter shows.
-    pub fn read_difference(&self) -> Result<Option<Difference>> {
+    fn shown_difference(&self) -> Result<Option<Difference>> {
         let Some(screen) = Screen::read(self.alloc, &self.card, &self.bda)? else {
             return Ok(Some(Difference::Unshown));
         };
+        Ok(self.screen_difference(&screen))
+    }
+
+    /// All pages, and one past them.
+    fn screen_difference(&self, screen: &Screen) -> Option<Difference> {
         for page in 0..9u8 {
-            let spot = if self.plain.is_text() {
-                self.cell_difference(&screen, page)
-            } else {
-                self.pixel_difference(&screen, page)
-            };
-            let difference = spot.or(self.cursor_difference(&screen, page));
+            let difference = self.page_difference(screen, page);
             if difference.is_some() {
-                return Ok(difference);
+                return difference;
             }
         }
-        Ok(None)
+        None
+    }
+
+    /// The cells or pixels of a page, and its cursor.
+    fn page_difference(&self, screen: &Screen, page: u8) -> Option<Difference> {
+        let spot = if self.plain.is_text() {
+            self.cell_difference(screen, page)
+        } else {
+            self.pixel_difference(screen, page)
+        };
+        spot.or(self.cursor_difference(screen, page))
+    }
+
+    /// Whether both have the same cell at a place of a page, or neither has one.
+    fn is_cell_alike(&self, screen: &Screen, page: u8, at: Place) -> bool {
+        match (
+            screen.cell(page, at.row, at.column),
+            self.plain.cell(page, at),
+        ) {
+            (Some((character, attribute)), Some(cell)) => {
+                character == cell.character && attribute == cell.attribute
+            }
+            (shown, wanted) => shown.is_none() && wanted.is_none(),
+        }
     }
 
     /// The cells of a row of a page, and one past them.
     fn row_difference(&self, screen: &Screen, page: u8, row: u8) -> Option<Difference> {
         for column in 0..81u8 {
-            let wanted = self.plain.cell(page, Place { row, column });
-            let wanted = wanted.map(|cell| (cell.character, cell.attribute));
-            if screen.cell(page, row, column) != wanted {
+            if !self.is_cell_alike(screen, page, Place { row, column }) {
                 return Some(Difference::Spot(page, column as u16, row as u16));
             }
         }

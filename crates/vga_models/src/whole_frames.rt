@@ -30,11 +30,19 @@ struct WholeFrames<'a> {
     pair: Pair<'a>,
 }
 
+impl<'a> WholeFrames<'a> {
+    /// An adapter at power-on, over the bytes of a font file, and a plain screen.
+    fn new(alloc: Global, font: &'a [u8]) -> Result<WholeFrames<'a>> {
+        let pair = Pair::new(alloc, font)?;
+        Ok(WholeFrames { pair })
+    }
+}
+
 impl WholeFrames<'_> {
     /// Draws a whole frame on both.
     fn frame_difference(&mut self) -> Result<Option<Difference>> {
-        let wanted = self.pair.plain.draw()?;
         self.pair.note_frame()?;
+        let wanted = self.pair.plain.draw()?;
         Ok(picture_difference(
             self.pair.card.frame(),
             (wanted.width, wanted.height),
@@ -42,12 +50,17 @@ impl WholeFrames<'_> {
         ))
     }
 
+    /// The next service.
+    fn next_difference(&mut self, random: &mut Pcg32) -> Result<Option<Difference>> {
+        let plain = &self.pair.plain;
+        let call = next_call(self.pair.alloc, random, plain.mode, plain.page)?;
+        self.pair.service_difference(&call)
+    }
+
     /// Some services, and a whole frame behind them.
     fn next_frame(&mut self, random: &mut Pcg32) -> Result<Option<Difference>> {
         for _ in 0..SERVICES {
-            let plain = &self.pair.plain;
-            let call = next_call(self.pair.alloc, random, plain.mode, plain.page)?;
-            let difference = self.pair.service_difference(&call)?;
+            let difference = self.next_difference(random)?;
             if difference.is_some() {
                 return Ok(difference);
             }
@@ -57,21 +70,37 @@ impl WholeFrames<'_> {
 
     /// A script, which begins anew behind each frame that ends in another mode.
     fn script(&mut self, random: &mut Pcg32, beginning: Beginning) -> Result<Option<Difference>> {
-        let mut difference = self.pair.begin(beginning)?;
+        let difference = self.pair.begin(beginning)?;
+        if difference.is_some() {
+            return Ok(difference);
+        }
         for frame in 0..FRAMES {
+            let is_read = frame % FRAMES_TO_READ == 0;
+            let difference = self.frame_of_script(random, beginning, is_read)?;
             if difference.is_some() {
                 return Ok(difference);
             }
-            difference = self.next_frame(random)?;
-            let is_read = self.pair.plain.is_text() || frame % FRAMES_TO_READ == 0;
-            if difference.is_none() && is_read {
-                difference = self.pair.read_difference()?;
-            }
-            if difference.is_none() && self.pair.plain.mode.number != beginning.mode {
-                difference = self.pair.begin(beginning)?;
-            }
         }
-        Ok(difference)
+        Ok(None)
+    }
+
+    /// A frame of a script, behind which the screen is read, and the script's beginning where it
+    /// ends in another mode.
+    fn frame_of_script(
+        &mut self,
+        random: &mut Pcg32,
+        beginning: Beginning,
+        is_read: bool,
+    ) -> Result<Option<Difference>> {
+        let difference = self.next_frame(random)?;
+        if difference.is_some() {
+            return Ok(difference);
+        }
+        let difference = self.pair.read_difference(is_read)?;
+        if difference.is_some() {
+            return Ok(difference);
+        }
+        self.pair.begin_anew(beginning)
     }
 
     /// A script of each beginning, up to the first difference.
@@ -97,6 +126,12 @@ impl WholeFrames<'_> {
         Ok(self.seldom())
     }
 
+    /// How the scripts end.
+    fn outcome(&mut self, random: &mut Pcg32) -> Result<ScreensOutcome> {
+        let difference = self.scripts(random)?;
+        Ok(self.pair.outcome(difference))
+    }
+
     /// What was not met often.
     fn seldom(&self) -> Option<Difference> {
         let call = self.pair.counts.seldom();
@@ -110,9 +145,6 @@ impl WholeFrames<'_> {
 pub fn compare_whole_frames(alloc: Global) -> Result<ScreensOutcome> {
     let mut random = Pcg32::new(0x5EED, 4);
     let font = make_font(alloc)?;
-    let mut frames = WholeFrames {
-        pair: Pair::new(alloc, font.as_slice())?,
-    };
-    let difference = frames.scripts(&mut random)?;
-    Ok(frames.pair.outcome(difference))
+    let mut frames = WholeFrames::new(alloc, font.as_slice())?;
+    frames.outcome(&mut random)
 }
