@@ -379,13 +379,9 @@ impl CallCounts {
         if mode.kind != Kind::Text {
             return None;
         }
-        for height in HEIGHTS {
-            let seldom = self.seldom_at(mode.number, height);
-            if seldom.is_some() {
-                return seldom;
-            }
-        }
-        None
+        HEIGHTS
+            .iter()
+            .find_map(|height| self.seldom_at(mode.number, *height))
     }
 
     /// A mode set, where it was seldom accepted in a mode.
@@ -400,25 +396,13 @@ impl CallCounts {
     /// The first function, with its part, that was not met often in each way that it has in each
     /// mode, of calls that set no mode and load no glyphs of text.
     pub fn seldom_within_frames(&self) -> Option<(u8, u8)> {
-        for mode in MODES {
-            let seldom = self.seldom_in(mode);
-            if seldom.is_some() {
-                return seldom;
-            }
-        }
-        None
+        MODES.iter().find_map(|mode| self.seldom_in(*mode))
     }
 
     /// The first function, with its part, that was not met often in each way that it has in each
     /// mode.
     pub fn seldom(&self) -> Option<(u8, u8)> {
-        for mode in MODES {
-            let seldom = self.seldom_of_all_in(mode);
-            if seldom.is_some() {
-                return seldom;
-            }
-        }
-        None
+        MODES.iter().find_map(|mode| self.seldom_of_all_in(*mode))
     }
 
     /// The first function, with its part, that was not met often in each way that it has in a mode.

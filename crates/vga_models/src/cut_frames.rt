@@ -3,14 +3,15 @@
 //! services between any two dots. Modes are set and glyphs loaded at the first dot of a frame.
 ghost use Rattle.std.specs.Prelude.{◌≡◌, ◌<◌};
 
-use crate::beginning::{BEGINNINGS, Beginning};
+use crate::beginning::Beginning;
 use crate::call_counts::CallCounts;
 use crate::difference::{Difference, picture_difference};
+use crate::frame_scripts::{FrameScripts, ScriptCounts};
 use crate::pair::Pair;
 use crate::plain_drawing::PlainDrawing;
 use crate::plain_modes::PlainMode;
 use crate::plain_refusals::high;
-use crate::random_calls::{RandomCall, next_call};
+use crate::random_calls::RandomCall;
 use crate::random_font::make_font;
 use crate::random_numbers::{is_one_in, next_below};
 use crate::screens_outcome::ScreensOutcome;
@@ -19,13 +20,12 @@ use rand_pcg::Pcg32;
 use std::alloc::Global;
 use vga_bits::Refusal;
 
-/// How many scripts have each beginning, how many frames each has that are ended by a frame, and
-/// how many services each of these.
-const SCRIPTS: u32 = 2;
-
-const FRAMES: u32 = 10;
-
-const SERVICES: u32 = 112;
+/// Of the frames those alone are counted that are ended by a frame.
+const COUNTS: ScriptCounts = ScriptCounts {
+    scripts: 2,
+    frames: 10,
+    services: 112,
+};
 
 /// Before one of so many services there is an advance.
 const SERVICES_TO_ADVANCE: u32 = 4;
@@ -152,109 +152,44 @@ impl CutFrames<'_> {
         let dots = next_dots(random, mode, self.drawing.dots_left(mode));
         self.advance_difference(dots)
     }
+}
 
-    /// The next service.
-    fn next_service_difference(&mut self, random: &mut Pcg32) -> Result<Option<Difference>> {
-        let plain = &self.pair.plain;
-        let call = next_call(self.pair.alloc, random, plain.mode, plain.page)?;
-        self.service_difference(random, &call)
+impl FrameScripts for CutFrames<'_> {
+    fn counts(&self) -> ScriptCounts {
+        COUNTS
     }
 
-    /// The next service, often behind an advance.
-    fn next_difference(&mut self, random: &mut Pcg32) -> Result<Option<Difference>> {
+    fn begin(&mut self, beginning: Beginning) -> Result<Option<Difference>> {
+        self.pair.begin(beginning)
+    }
+
+    fn begin_anew(&mut self, beginning: Beginning) -> Result<Option<Difference>> {
+        self.pair.begin_anew(beginning)
+    }
+
+    /// Before a service there is often an advance.
+    fn next_service(&mut self, random: &mut Pcg32) -> Result<Option<Difference>> {
         if is_one_in(random, SERVICES_TO_ADVANCE) {
             let difference = self.next_advance_difference(random)?;
             if difference.is_some() {
                 return Ok(difference);
             }
         }
-        self.next_service_difference(random)
+        let call = self.pair.next_call(random)?;
+        self.service_difference(random, &call)
     }
 
-    /// Some services and advances. The screen that is then shown is read, and the frame taken to
-    /// its end.
-    fn next_frame(&mut self, random: &mut Pcg32, is_read: bool) -> Result<Option<Difference>> {
-        for _ in 0..SERVICES {
-            let difference = self.next_difference(random)?;
-            if difference.is_some() {
-                return Ok(difference);
-            }
-        }
-        let difference = self.pair.read_difference(is_read)?;
+    fn end_frame(&mut self, number: u32) -> Result<Option<Difference>> {
+        let difference = self.pair.read_difference(number % FRAMES_TO_READ == 0)?;
         if difference.is_some() {
             return Ok(difference);
         }
         self.frame_difference()
     }
-}
 
-/// Scripts.
-impl CutFrames<'_> {
-    /// A script, which begins anew behind each frame that ends in another mode.
-    fn script(&mut self, random: &mut Pcg32, beginning: Beginning) -> Result<Option<Difference>> {
-        let difference = self.pair.begin(beginning)?;
-        if difference.is_some() {
-            return Ok(difference);
-        }
-        for frame in 0..FRAMES {
-            let is_read = frame % FRAMES_TO_READ == 0;
-            let difference = self.frame_of_script(random, beginning, is_read)?;
-            if difference.is_some() {
-                return Ok(difference);
-            }
-        }
-        Ok(None)
-    }
-
-    /// A frame of a script, and the script's beginning where it ends in another mode.
-    fn frame_of_script(
-        &mut self,
-        random: &mut Pcg32,
-        beginning: Beginning,
-        is_read: bool,
-    ) -> Result<Option<Difference>> {
-        let difference = self.next_frame(random, is_read)?;
-        if difference.is_some() {
-            return Ok(difference);
-        }
-        self.pair.begin_anew(beginning)
-    }
-
-    /// A script of each beginning, up to the first difference.
-    fn round(&mut self, random: &mut Pcg32) -> Result<Option<Difference>> {
-        for beginning in BEGINNINGS {
-            let difference = self.script(random, beginning)?;
-            if difference.is_some() {
-                return Ok(difference);
-            }
-        }
-        Ok(None)
-    }
-
-    /// So many scripts of each beginning, up to the first difference, and whether all was met that
-    /// is to be.
-    fn scripts(&mut self, random: &mut Pcg32) -> Result<Option<Difference>> {
-        for _ in 0..SCRIPTS {
-            let difference = self.round(random)?;
-            if difference.is_some() {
-                return Ok(difference);
-            }
-        }
-        Ok(self.seldom())
-    }
-
-    /// How the scripts end.
-    fn outcome(&mut self, random: &mut Pcg32) -> Result<ScreensOutcome> {
-        let difference = self.scripts(random)?;
-        Ok(self.pair.outcome(difference))
-    }
-
-    /// What was not met within a frame, or of which few frames were drawn.
     fn seldom(&self) -> Option<Difference> {
         let call = self.within.seldom_within_frames();
-        let frame = self.pair.counts.seldom_drawn();
-        call.map(|(function, part)| Difference::Seldom(function, part))
-            .or(frame.map(|(mode, height)| Difference::SeldomDrawn(mode, height)))
+        Difference::of_seldom(call, self.pair.counts.seldom_drawn())
     }
 }
 
@@ -263,5 +198,6 @@ pub fn compare_cut_frames(alloc: Global) -> Result<ScreensOutcome> {
     let mut random = Pcg32::new(0x5EED, 6);
     let font = make_font(alloc)?;
     let mut frames = CutFrames::new(alloc, font.as_slice())?;
-    frames.outcome(&mut random)
+    let difference = frames.scripts(&mut random)?;
+    Ok(frames.pair.outcome(difference))
 }

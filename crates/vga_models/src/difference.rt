@@ -27,6 +27,14 @@ pub enum Difference {
     SeldomDrawn(u8, u8),
 }
 
+impl Difference {
+    /// A call that was seldom met, or else a frame of which few were drawn, where there is one.
+    pub fn of_seldom(call: Option<(u8, u8)>, frame: Option<(u8, u8)>) -> Option<Difference> {
+        call.map(|(function, part)| Difference::Seldom(function, part))
+            .or(frame.map(|(mode, height)| Difference::SeldomDrawn(mode, height)))
+    }
+}
+
 /// The first byte that differs.
 fn differing_byte(bytes: &[u8], wanted: &[u8]) -> Option<usize> {
     if bytes == wanted {

@@ -7,6 +7,7 @@ mod beginning;
 mod call_counts;
 mod cut_frames;
 mod difference;
+mod frame_scripts;
 mod pair;
 mod plain_cells;
 mod plain_drawing;

@@ -7,12 +7,13 @@ use crate::difference::Difference;
 use crate::plain_modes::MODE_3;
 use crate::plain_screen::{Place, PlainScreen};
 use crate::plain_services::PlainReply;
-use crate::random_calls::RandomCall;
+use crate::random_calls::{RandomCall, next_call};
 use crate::screens_outcome::ScreensOutcome;
 use anyhow::Result;
 use bios_modes::{Bda, Fonts};
 use bios_screen::Screen;
 use bios_services::{Regs, Reply, ServiceError, int10};
+use rand_pcg::Pcg32;
 use std::alloc::Global;
 use vga_bits::Refusal;
 use vga_card::Card;
@@ -80,6 +81,12 @@ impl Pair<'_> {
         self.frames = self.frames.saturating_add(1);
         self.counts.note_frame(self.plain.mode)?;
         Ok(())
+    }
+
+    /// The next service.
+    pub fn next_call(&self, random: &mut Pcg32) -> Result<RandomCall> {
+        let call = next_call(self.alloc, random, self.plain.mode, self.plain.page)?;
+        Ok(call)
     }
 
     /// Does a service on both.
