@@ -3,10 +3,11 @@ pub mod ReportLemmas
 pub mod TakenLemmas
 pub mod AnswerLemmas
 pub mod ScreenLemmas
+pub mod KnownReports
 pub mod ServedLemmas
 pub mod StepLemmas
 pub mod DotLemmas
-pub mod DotRuns
+pub mod WholeFrames
 pub mod DotExamples
 pub mod SavedLemmas
 pub mod SettledLemmas

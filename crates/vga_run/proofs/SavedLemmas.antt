@@ -1,12 +1,8 @@
 -- A machine is read back from its bytes.
-use Rattle.std.proofs.Common.{◌≡◌, ℕ, ◌+◌, ◌*◌, ◌/◌, ◌%◌, ◌<◌, ◌≤◌, refl, sym, ap, ◌∙◌, subst, arith, List, [], ◌∷◌, ◌++◌, length, take, drop, length-append}
-use Rattle.std.specs.Prelude.{slice_index}
+use Rattle.std.proofs.Common.{◌≡◌, ℕ, ◌+◌, ◌*◌, ◌/◌, ◌%◌, ◌≤◌, refl, sym, ap, ◌∙◌, subst, arith, List, ◌++◌, length, take, drop, length-append}
 use Rattle.std.proofs.lemmas.List.{take_at, drop_at}
-use Rattle.vga_bits.specs.Saved.{word_bytes, word_at}
-use Rattle.vga_card.specs.Card.{CardState}
 use Rattle.vga_card.specs.Saved.{saved_card, IsSavedCard, card_from}
 use Rattle.vga_card.specs.Settled.{settled}
-use Rattle.bios_modes.specs.Bda.{BiosData}
 use Rattle.bios_modes.specs.Saved.{saved_bda, IsSavedBda, bda_from}
 use Rattle.vga_run.specs.declared.machine.Machine.{Machine}
 use Rattle.vga_run.specs.Saved.{saved_mark, long_bytes, long_at, saved_parts, saved_machine, past_header, past_bda, IsSavedMachine, machine_from}

@@ -1,17 +1,12 @@
 -- Why the report of services and whole frames is the plain screen's.
 use Rattle.std.proofs.Common.{◌≡◌, ◌≢◌, ◌∙◌, inl, inr, ℕ, zero, suc, ◌+◌, ◌^◌, ◌<◌, ◌==◌, Bool, true, false, List, [], ◌∷◌, ◌++◌, take, drop, Option, Some}
-use Rattle.std.proofs.Common.{None, IfSome, Result, Ok, Err, if◌then◌else◌, arith, refl, sym, ap, subst}
+use Rattle.std.proofs.Common.{None, Result, Err, if◌then◌else◌, arith, refl, sym, ap, subst}
 use Rattle.std.specs.Prelude.{slice_index}
 use Rattle.std.specs.List.{AllByRecursion}
-use Rattle.std.specs.Io.KnownBytes.{Appends}
 use Rattle.std.proofs.lemmas.Bool.Decides.{nat_tests}
 use Rattle.std.proofs.lemmas.List.{get_or-drop}
-use Rattle.vga_bits.specs.Tracked.{AppendsFront}
-use Rattle.vga_bits.specs.declared.fault.Fault.{Fault}
-use Rattle.vga_bits.specs.declared.fault.Fault.TheVariants.{FontSize, WriteFault}
 use Rattle.vga_bits.specs.declared.refusal.Refusal.{Refusal}
 use Rattle.vga_bits.specs.declared.refusal.Refusal.TheVariants.{BadFunction, BadMode}
-use Rattle.vga_script.specs.Input.{IsReadingFault}
 use Rattle.vga_crtc.specs.Raster.{IsFrameStart}
 use Rattle.vga_card.specs.Bounds.{IsCard}
 use Rattle.vga_card.specs.Bus.{card_meaning}
@@ -47,15 +42,13 @@ use Rattle.bios_screen.specs.Picture.{picture_width, picture_height}
 use Rattle.vga_script.specs.declared.step.Step.{Step}
 use Rattle.vga_script.specs.declared.step.Step.TheVariants.{Int, Frame}
 use Rattle.vga_script.specs.Step.{IsInRange, AreInRange}
-use Rattle.vga_script.specs.Spelled.{SpellsExpanded}
 use Rattle.vga_run.specs.declared.machine.Machine.{Machine}
 use Rattle.vga_run.specs.Machine.{power_on_machine}
 use Rattle.vga_run.specs.Answer.{Served, of_service, of_shape}
 use Rattle.vga_run.specs.Step.{answer_to, after_step, called}
-use Rattle.vga_run.specs.Report.{line, report_from, report_of, steps_until}
-use Rattle.vga_run.specs.Run.{RunAnswers, ReportsSteps, RunsScript}
+use Rattle.vga_run.specs.Report.{line, report_from, report_of}
 use Rattle.vga_run.specs.ScreenReport.{Clears, StaysOnScreens, registers_of, IsOfScreens, AreOfScreens, set_on, called_on, reply_on, screen_after}
-use Rattle.vga_run.specs.ScreenReport.{screen_report_from, set_report, first_report, screen_report, ReportsScreens, RunsScreens}
+use Rattle.vga_run.specs.ScreenReport.{screen_report_from, set_report, first_report, screen_report}
 
 -- the laws of the crates below
 pub record Laws : Type 0 where
@@ -313,70 +306,3 @@ reports_screens law fonts [] glyphs range all = absurd all
 reports_screens law fonts (Int ax bx cx dx block ∷ steps) glyphs ((ha, hb, hc, hd, is_block), range) (clears, all) =
     first_reports law (call_of (registers_of ax bx cx dx)) fonts ax bx cx dx block steps refl clears (omega arith) glyphs range all
 reports_screens law fonts (step ∷ steps) glyphs range all = absurd all
-
--- ---- runs
-
--- the law that this is
-abbrev pub ReportsAlike : Type 0
-ReportsAlike = (fonts : FontSet) (steps : List Step) → AreFonts fonts → AreInRange steps → AreOfScreens steps →
-    report_of fonts steps ≡ screen_report fonts steps
-
--- the law that no bytes mean two lists of steps
-abbrev pub OneList : Type 0
-OneList = (bytes : List ℕ) (first second : List Step) → SpellsExpanded bytes first → SpellsExpanded bytes second → first ≡ second
-
--- what the run of steps of screens writes is the plain screen's report
-pub steps_of_screens : ReportsAlike → (until : Option ℕ) (fonts : FontSet) (steps : List Step) (before after : Option (List ℕ)) (result : Result Unit Fault) →
-    AreFonts fonts → AreInRange steps
-    → until ≡ None → AreOfScreens steps → ReportsSteps until fonts steps before after result → ReportsScreens fonts steps before after result
-steps_of_screens law until fonts steps before after (Ok u) glyphs range whole of w =
-    subst (Appends before after) (ap (λ (n : Option ℕ). report_of fonts (steps_until n steps)) whole ∙ law fonts steps glyphs range of) w
-steps_of_screens law until fonts steps before after (Err WriteFault) glyphs range whole of w =
-    subst (AppendsFront before after) (ap (λ (n : Option ℕ). report_of fonts (steps_until n steps)) whole ∙ law fonts steps glyphs range of) w
-steps_of_screens law until fonts steps before after (Err _) glyphs range whole of w = tt
-
-pub script_of_screens : ReportsAlike → (until : Option ℕ) (file : List ℕ) (steps : List Step) (before after : Option (List ℕ)) (result : Result Unit Fault) →
-    AreBytes file → AreInRange steps
-    → RunsScript until file steps before after result → until ≡ None → AreOfScreens steps → ReportsScreens (fonts_of file) steps before after result
-script_of_screens law until file steps before after (Err FontSize) bytes range w whole of = tt
-script_of_screens law until file steps before after (Ok u) bytes range w whole of =
-    steps_of_screens law until (fonts_of file) steps before after (Ok u) (glyph_bytes file bytes) range whole of w.1
-script_of_screens law until file steps before after (Err WriteFault) bytes range w whole of =
-    steps_of_screens law until (fonts_of file) steps before after (Err WriteFault) (glyph_bytes file bytes) range whole of w.1
-script_of_screens law until file steps before after (Err _) bytes range w whole of = tt
-
--- the steps of an input are those that its bytes mean
-pub input_script : OneList → (input : Option (List ℕ)) (bytes read : List ℕ) (steps found : List Step) → input ≡ Some bytes → IfSome input (λ all. all ≡ read) →
-    SpellsExpanded bytes steps → SpellsExpanded read found → found ≡ steps
-input_script law input bytes read steps found e is spelled others =
-    let same : bytes ≡ read = subst (λ (i : Option (List ℕ)). IfSome i (λ all. all ≡ read)) e is in
-    law read found steps others (subst (λ (l : List ℕ). SpellsExpanded l steps) same spelled)
-
--- the law that their fields fit
-abbrev pub StepsFit : Type 0
-StepsFit = (bytes : List ℕ) (steps : List Step) → SpellsExpanded bytes steps → AreInRange steps
-
-pub run_of_screens : ReportsAlike → OneList → StepsFit → (until : Option ℕ) (file : List ℕ) (input before after : Option (List ℕ))
-    (result : Result Unit Fault) → AreBytes file
-    → RunAnswers until file input before after result → RunsScreens until file input before after result
-run_of_screens law one fit until file input before after (Ok u) glyphs (size, (found, (read, is, others), w)) =
-    λ bytes steps whole e spelled of.
-    let same = input_script one input bytes read steps found e is.0 spelled others in
-    steps_of_screens law until (fonts_of file) steps before after (Ok u) (glyph_bytes file glyphs) (fit bytes steps spelled) whole of
-    (subst (λ (l : List Step). Appends before after (report_of (fonts_of file) (steps_until until l))) same w)
-run_of_screens law one fit until file input before after (Err WriteFault) glyphs (size, (found, (read, is, others), w)) =
-    λ bytes steps whole e spelled of.
-    let same = input_script one input bytes read steps found e is.0 spelled others in
-    steps_of_screens law until (fonts_of file) steps before after (Err WriteFault) (glyph_bytes file glyphs) (fit bytes steps spelled) whole of
-    (subst (λ (l : List Step). AppendsFront before after (report_of (fonts_of file) (steps_until until l))) same w)
-run_of_screens law one fit until file input before after (Err _) glyphs h = λ bytes steps whole e spelled of. tt
-
--- an unread input has no such report
-pub unread_screens : (until : Option ℕ) (file : List ℕ) (input before after : Option (List ℕ)) (f : Fault) → IsReadingFault input f →
-    RunsScreens until file input before after (Err f)
-unread_screens until file input before after f (inl is) =
-    subst (λ (x : Fault). RunsScreens until file input before after (Err x)) (sym is) (λ bytes steps whole e spelled of. tt)
-unread_screens until file input before after f (inr (inl (is, long))) =
-    subst (λ (x : Fault). RunsScreens until file input before after (Err x)) (sym is) (λ bytes steps whole e spelled of. tt)
-unread_screens until file input before after f (inr (inr is)) =
-    subst (λ (x : Fault). RunsScreens until file input before after (Err x)) (sym is) (λ bytes steps whole e spelled of. tt)

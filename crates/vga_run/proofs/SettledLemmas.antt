@@ -1,5 +1,5 @@
 -- No step tells a machine that was saved and restored from the one that it was.
-use Rattle.std.proofs.Common.{◌≡◌, ◌∙◌, ℕ, zero, suc, ◌+◌, ◌<◌, Bool, true, false, nat_le, if◌then◌else◌, Option, Some, None, Result, Ok, Err, refl}
+use Rattle.std.proofs.Common.{◌≡◌, ◌∙◌, ℕ, zero, suc, ◌+◌, Bool, true, false, nat_le, if◌then◌else◌, Option, Some, None, Result, Ok, Err, refl}
 use Rattle.std.proofs.Common.{sym, ap, ap₂, arith}
 use Rattle.std.proofs.Common.{List, [], ◌∷◌, ◌++◌}
 use Rattle.vga_bits.specs.declared.refusal.Refusal.{Refusal}
@@ -7,7 +7,7 @@ use Rattle.vga_bits.specs.declared.refusal.Refusal.TheVariants.{TooFar}
 use Rattle.vga_card.specs.Card.{CardState}
 use Rattle.vga_card.specs.Picture.{Dot, rows}
 use Rattle.vga_card.specs.Cycles.{Written, Answered}
-use Rattle.vga_card.specs.Dots.{dots, most_dots, fresh}
+use Rattle.vga_card.specs.Dots.{dots, most_dots}
 use Rattle.vga_card.specs.Settled.{settled, settled_after}
 use Rattle.vga_card.proofs.DotLemmas.{dots_none}
 use Rattle.vga_card.proofs.SettledLemmas.{cannot_be_told}

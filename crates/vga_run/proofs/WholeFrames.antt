@@ -1,82 +1,21 @@
 -- Why runs of services, dots and frames write the plain screen's report, and that whole frames are such.
-use Rattle.std.proofs.Common.{◌≡◌, inl, inr, ℕ, ◌*◌, ◌<◌, ◌==◌, Bool, true, false, List, [], ◌∷◌, length, Option, Some, None, Result, Ok, Err, if◌then◌else◌}
-use Rattle.std.proofs.Common.{arith, refl, sym, ap, subst, ◌∙◌}
+use Rattle.std.proofs.Common.{◌≡◌, inl, inr, ℕ, ◌*◌, ◌<◌, ◌==◌, Bool, true, false, List, [], ◌∷◌, length, Option, Some, None, if◌then◌else◌}
+use Rattle.std.proofs.Common.{arith, refl}
 use Rattle.std.specs.List.{AllByRecursion}
-use Rattle.std.specs.Io.KnownBytes.{Appends}
-use Rattle.vga_bits.specs.Tracked.{AppendsFront}
-use Rattle.vga_bits.specs.declared.fault.Fault.{Fault}
-use Rattle.vga_bits.specs.declared.fault.Fault.TheVariants.{FontSize, WriteFault}
-use Rattle.bios_modes.specs.Bounds.{AreBytes, AreFonts}
-use Rattle.bios_modes.specs.Fonts.{FontSet, fonts_of}
+use Rattle.bios_modes.specs.Fonts.{FontSet}
 use Rattle.bios_services.specs.declared.call.Call.{Call}
 use Rattle.bios_services.specs.declared.call.Call.TheVariants.{SetMode, ReadTable, LoadGlyphs, InMode}
 use Rattle.bios_services.specs.Calls.{call_of}
 use Rattle.vga_script.specs.declared.step.Step.{Step}
 use Rattle.vga_script.specs.declared.step.Step.TheVariants.{Int, Frame}
-use Rattle.vga_script.specs.Input.{IsReadingFault}
-use Rattle.vga_script.specs.Step.{AreInRange}
-use Rattle.vga_run.specs.Report.{report_of, steps_until}
-use Rattle.vga_run.specs.Run.{RunAnswers, ReportsSteps, RunsScript}
 use Rattle.vga_run.specs.ScreenReport.{Clears, StaysOnScreens, registers_of, IsOfScreens, AreOfScreens}
-use Rattle.vga_run.proofs.ScreenLemmas.{OneList, StepsFit, glyph_bytes, input_script}
 use Rattle.bios_screen.specs.Drawing.{Drawing, dots_a_frame, take_frame, columns_in}
 use Rattle.bios_screen.specs.Whole.{IsFrameTaken}
-use Rattle.vga_run.specs.DotReport.{drawing_after, power_on_drawing, dot_report, StaysAt, AllOfDots, AreOfDots, ReportsDots, RunsDots}
+use Rattle.vga_run.specs.DotReport.{drawing_after, power_on_drawing, StaysAt, AllOfDots, AreOfDots}
 use Rattle.bios_modes.specs.Kinds.{is_text_kind, is_packed_kind, kind_in}
 use Rattle.bios_modes.specs.Modes.{colour_text, monochrome_text, planes_320_by_200, planes_640_by_350, planes_640_by_480, bytes_320_by_200}
 use Rattle.bios_modes.specs.declared.modes.ModeRow.{ModeRow}
 use Rattle.bios_screen.specs.Picture.{lines_in}
-
--- ---- runs
-
--- the law of the reports
-abbrev pub ReportsAlike : Type 0
-ReportsAlike = (fonts : FontSet) (steps : List Step) → AreFonts fonts → AreInRange steps → AreOfDots fonts steps →
-    report_of fonts steps ≡ dot_report fonts steps
-
-steps_of_dots : ReportsAlike → (until : Option ℕ) (fonts : FontSet) (steps : List Step) (before after : Option (List ℕ)) (result : Result Unit Fault) →
-    AreFonts fonts → AreInRange steps
-    → until ≡ None → AreOfDots fonts steps → ReportsSteps until fonts steps before after result → ReportsDots fonts steps before after result
-steps_of_dots law until fonts steps before after (Ok u) glyphs range whole of w =
-    subst (Appends before after) (ap (λ (n : Option ℕ). report_of fonts (steps_until n steps)) whole ∙ law fonts steps glyphs range of) w
-steps_of_dots law until fonts steps before after (Err WriteFault) glyphs range whole of w =
-    subst (AppendsFront before after) (ap (λ (n : Option ℕ). report_of fonts (steps_until n steps)) whole ∙ law fonts steps glyphs range of) w
-steps_of_dots law until fonts steps before after (Err _) glyphs range whole of w = tt
-
-pub script_of_dots : ReportsAlike → (until : Option ℕ) (file : List ℕ) (steps : List Step) (before after : Option (List ℕ)) (result : Result Unit Fault) →
-    AreBytes file → AreInRange steps
-    → RunsScript until file steps before after result → until ≡ None → AreOfDots (fonts_of file) steps → ReportsDots (fonts_of file) steps before after result
-script_of_dots law until file steps before after (Err FontSize) bytes range w whole of = tt
-script_of_dots law until file steps before after (Ok u) bytes range w whole of = steps_of_dots law until (fonts_of file) steps before after (Ok u)
-    (glyph_bytes file bytes) range whole of w.1
-script_of_dots law until file steps before after (Err WriteFault) bytes range w whole of =
-    steps_of_dots law until (fonts_of file) steps before after (Err WriteFault) (glyph_bytes file bytes) range whole of w.1
-script_of_dots law until file steps before after (Err _) bytes range w whole of = tt
-
-pub run_of_dots : ReportsAlike → OneList → StepsFit → (until : Option ℕ) (file : List ℕ) (input before after : Option (List ℕ)) (result : Result Unit Fault) →
-    AreBytes file
-    → RunAnswers until file input before after result → RunsDots until file input before after result
-run_of_dots law one fit until file input before after (Ok u) glyphs (size, (found, (read, is, others), w)) =
-    λ bytes steps whole e spelled of.
-    let same = input_script one input bytes read steps found e is.0 spelled others in
-    steps_of_dots law until (fonts_of file) steps before after (Ok u) (glyph_bytes file glyphs) (fit bytes steps spelled) whole of
-    (subst (λ (l : List Step). Appends before after (report_of (fonts_of file) (steps_until until l))) same w)
-run_of_dots law one fit until file input before after (Err WriteFault) glyphs (size, (found, (read, is, others), w)) =
-    λ bytes steps whole e spelled of.
-    let same = input_script one input bytes read steps found e is.0 spelled others in
-    steps_of_dots law until (fonts_of file) steps before after (Err WriteFault) (glyph_bytes file glyphs) (fit bytes steps spelled) whole of
-    (subst (λ (l : List Step). AppendsFront before after (report_of (fonts_of file) (steps_until until l))) same w)
-run_of_dots law one fit until file input before after (Err _) glyphs h = λ bytes steps whole e spelled of. tt
-
--- an unread input has no such report
-pub unread_dots : (until : Option ℕ) (file : List ℕ) (input before after : Option (List ℕ)) (f : Fault) → IsReadingFault input f →
-    RunsDots until file input before after (Err f)
-unread_dots until file input before after f (inl is) =
-    subst (λ (x : Fault). RunsDots until file input before after (Err x)) (sym is) (λ bytes steps whole e spelled of. tt)
-unread_dots until file input before after f (inr (inl (is, long))) =
-    subst (λ (x : Fault). RunsDots until file input before after (Err x)) (sym is) (λ bytes steps whole e spelled of. tt)
-unread_dots until file input before after f (inr (inr is)) =
-    subst (λ (x : Fault). RunsDots until file input before after (Err x)) (sym is) (λ bytes steps whole e spelled of. tt)
 
 -- ---- whole frames
 

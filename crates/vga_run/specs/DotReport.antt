@@ -1,15 +1,12 @@
 -- Services, dots and frames in words of the plain screen alone, with no register, address or cycle.
 -- From the IBM PS/2 and PC BIOS Interface Technical Reference, "Interrupt 10H - Video".
 use Rattle.std.specs.Prelude.{ℕ, ◌≡◌, ◌+◌, ◌⊎◌, nat_le, if◌then◌else◌, List, [], ◌∷◌, ◌++◌, length}
-use Rattle.std.specs.Prelude.{Option, Some, None, Result, Ok, Err}
-use Rattle.std.specs.Io.KnownBytes.{Appends}
-use Rattle.vga_bits.specs.Tracked.{AppendsFront}
+use Rattle.std.specs.Prelude.{Option, Some, None, Result}
 use Rattle.vga_bits.specs.declared.fault.Fault.{Fault}
-use Rattle.vga_bits.specs.declared.fault.Fault.TheVariants.{WriteFault}
 use Rattle.vga_bits.specs.declared.refusal.Refusal.TheVariants.{TooFar}
 use Rattle.vga_card.specs.Dots.{most_dots}
 use Rattle.bios_modes.specs.Modes.{mode_row, colour_text}
-use Rattle.bios_modes.specs.Fonts.{FontSet, fonts_of}
+use Rattle.bios_modes.specs.Fonts.{FontSet}
 use Rattle.bios_services.specs.declared.call.Call.{Call}
 use Rattle.bios_services.specs.declared.call.Call.TheVariants.{SetMode, LoadGlyphs}
 use Rattle.bios_services.specs.Calls.{call_of}
@@ -18,10 +15,10 @@ use Rattle.bios_screen.specs.Fresh.{fresh_text}
 use Rattle.bios_screen.specs.Picture.{picture_width, picture_height}
 use Rattle.vga_script.specs.declared.step.Step.{Step}
 use Rattle.vga_script.specs.declared.step.Step.TheVariants.{Int, Advance, Frame}
-use Rattle.vga_script.specs.Spelled.{SpellsExpanded}
 use Rattle.vga_run.specs.declared.answer.Answer.TheVariants.{Done, Refused}
 use Rattle.vga_run.specs.Answer.{Reply, Plain, Picture, Ragged, of_service}
 use Rattle.vga_run.specs.ScreenReport.{Clears, registers_of, called_on}
+use Rattle.vga_run.specs.KnownReport.{ReportsAs, RunsAs}
 use Rattle.vga_run.specs.Report.{line}
 
 -- what a step answers: a call as on the screen as it stands, and a frame the picture whose last dot
@@ -92,19 +89,13 @@ AreOfDots fonts steps = ⊥
 
 -- ---- a run
 
--- What the run of such steps answers over some fonts, over a writer that holds what is before and
--- after: it has written the plain screen's report, or a front of it where the writer fails.
+-- What the run of such steps answers over some fonts: the plain screen's report, dot by dot.
 abbrev pub ReportsDots : FontSet → List Step → Option (List ℕ) → Option (List ℕ) →
     Result Unit Fault → Type 0
-ReportsDots fonts steps before after (Ok u) = Appends before after (dot_report fonts steps)
-ReportsDots fonts steps before after (Err WriteFault) =
-    AppendsFront before after (dot_report fonts steps)
-ReportsDots fonts steps before after (Err _) = Unit {0}
+ReportsDots fonts steps before after result = ReportsAs (dot_report fonts steps) before after result
 
 -- What a run over a font file answers that is not stopped: that, where its input spells such steps.
 abbrev pub RunsDots : Option ℕ → List ℕ → Option (List ℕ) → Option (List ℕ) → Option (List ℕ) →
     Result Unit Fault → Type 0
 RunsDots until file input before after result =
-    (bytes : List ℕ) (steps : List Step) → until ≡ None → input ≡ Some bytes →
-    SpellsExpanded bytes steps → AreOfDots (fonts_of file) steps →
-    ReportsDots (fonts_of file) steps before after result
+    RunsAs AreOfDots dot_report until file input before after result

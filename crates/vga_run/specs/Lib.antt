@@ -3,6 +3,7 @@ pub mod Machine
 pub mod Step
 pub mod Report
 pub mod Run
+pub mod KnownReport
 pub mod ScreenReport
 pub mod DotReport
 pub mod Saved

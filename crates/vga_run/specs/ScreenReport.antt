@@ -4,15 +4,12 @@
 use Rattle.std.specs.Prelude.{ℕ, ◌≡◌, ◌≢◌, ◌+◌, ◌⊎◌, false, List, [], ◌∷◌, ◌++◌, length, Option}
 use Rattle.std.specs.Prelude.{None, Some, Result, Ok, Err}
 use Rattle.std.specs.List.{AllByRecursion}
-use Rattle.std.specs.Io.KnownBytes.{Appends}
-use Rattle.vga_bits.specs.Tracked.{AppendsFront}
 use Rattle.vga_bits.specs.declared.fault.Fault.{Fault}
-use Rattle.vga_bits.specs.declared.fault.Fault.TheVariants.{WriteFault}
 use Rattle.vga_bits.specs.declared.refusal.Refusal.{Refusal}
 use Rattle.vga_bits.specs.declared.refusal.Refusal.TheVariants.{BadFunction, BadMode}
 use Rattle.bios_modes.specs.declared.modes.ModeRow.{ModeRow}
 use Rattle.bios_modes.specs.Modes.{mode_row}
-use Rattle.bios_modes.specs.Fonts.{FontSet, fonts_of}
+use Rattle.bios_modes.specs.Fonts.{FontSet}
 use Rattle.bios_services.specs.declared.regs.Regs.{Regs}
 use Rattle.bios_services.specs.declared.reply.Reply.{Reply as ServiceReply}
 use Rattle.bios_services.specs.declared.reply.Table.TheVariants.{Empty}
@@ -31,7 +28,7 @@ use Rattle.bios_screen.specs.Picture.{dot_at, picture_width, picture_height, nex
 use Rattle.bios_screen.specs.Raster.{picture_bytes}
 use Rattle.vga_script.specs.declared.step.Step.{Step}
 use Rattle.vga_script.specs.declared.step.Step.TheVariants.{Int, Frame}
-use Rattle.vga_script.specs.Spelled.{SpellsExpanded}
+use Rattle.vga_run.specs.KnownReport.{ReportsAs, RunsAs}
 use Rattle.vga_run.specs.Answer.{Reply, Served, Picture, Ragged, of_service}
 use Rattle.vga_run.specs.Report.{line}
 
@@ -134,20 +131,15 @@ screen_report fonts steps = []
 
 -- ---- a run
 
--- What the run of steps of screens answers over some fonts, over a writer that holds what is before
--- and after: it has written the plain screen's report, or a front of it where the writer fails.
+-- What the run of steps of screens answers over some fonts: the plain screen's report.
 abbrev pub ReportsScreens : FontSet → List Step → Option (List ℕ) → Option (List ℕ) →
     Result Unit Fault → Type 0
-ReportsScreens fonts steps before after (Ok u) = Appends before after (screen_report fonts steps)
-ReportsScreens fonts steps before after (Err WriteFault) =
-    AppendsFront before after (screen_report fonts steps)
-ReportsScreens fonts steps before after (Err _) = Unit {0}
+ReportsScreens fonts steps before after result =
+    ReportsAs (screen_report fonts steps) before after result
 
 -- What a run over a font file answers that is not stopped: that, where its input spells steps of
 -- screens.
 abbrev pub RunsScreens : Option ℕ → List ℕ → Option (List ℕ) → Option (List ℕ) → Option (List ℕ) →
     Result Unit Fault → Type 0
 RunsScreens until file input before after result =
-    (bytes : List ℕ) (steps : List Step) → until ≡ None → input ≡ Some bytes →
-    SpellsExpanded bytes steps → AreOfScreens steps →
-    ReportsScreens (fonts_of file) steps before after result
+    RunsAs (λ (fonts : FontSet). AreOfScreens) screen_report until file input before after result

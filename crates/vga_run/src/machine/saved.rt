@@ -1,5 +1,6 @@
 //! A machine as bytes: a header, the BIOS data, and the adapter.
-ghost use Rattle.std.specs.Prelude.{◌≡◌, ◌+◌, ◌<◌, ◌≤◌, ◌↔◌, ◌++◌, IsTrue, IsOk, OnOk, IfErr, length};
+ghost use Rattle.std.specs.Prelude.{◌≡◌, ◌+◌, ◌<◌, ◌≤◌, ◌↔◌, ◌++◌, length};
+ghost use Rattle.std.specs.Prelude.{IsTrue, IsOk, OnOk, IfErr};
 ghost use Rattle.vga_bits.specs.Saved.{IsPut};
 ghost use Rattle.vga_card.specs.Bounds.{IsCard};
 ghost use Rattle.bios_modes.specs.Valid.{IsValid};

@@ -1,10 +1,12 @@
 use Rattle.std.proofs.Common.{subst}
 use Rattle.vga_bits.specs.Tracked.{inner_of}
+use Rattle.bios_modes.specs.Fonts.{FontSet}
 use Rattle.vga_script.specs.Step.{AreInRange}
 use Rattle.vga_script.specs.Item.{expanded}
+use Rattle.vga_run.specs.DotReport.{AreOfDots, dot_report}
+use Rattle.vga_run.specs.ScreenReport.{AreOfScreens, screen_report}
 use Rattle.vga_run.proofs.AnswerLemmas.{steps_answers}
-use Rattle.vga_run.proofs.DotRuns.{script_of_dots}
-use Rattle.vga_run.proofs.ScreenLemmas.{script_of_screens}
+use Rattle.vga_run.proofs.KnownReports.{script_known}
 use Rattle.vga_run.proofs.runs.run_script.Goals as goal
 
 -- the report of services and frames is the plain screen's
@@ -16,7 +18,8 @@ returns-clause-screens g c =
     let steps = expanded c.args.script.now.items in
     let range = subst AreInRange c.steps-steps.ensures.steps c.steps-steps.ensures.range in
     let answer = rw c.steps-steps.ensures.steps at over.ensures.answer in
-    script_of_screens c.reports_are_screens.ensures c.args.until c.args.fonts.now steps before after over.result c.bytes_fit.ensures range
+    script_known (λ (fonts : FontSet). AreOfScreens) screen_report c.reports_are_screens.ensures c.args.until c.args.fonts.now steps before after over.result
+    c.bytes_fit.ensures range
     (steps_answers c.args.until c.args.fonts.now c.in_ok-fonts.fonts steps before after over.result c.in_ok-fonts.ensures.ok answer)
 
 -- so it is dot by dot
@@ -28,5 +31,6 @@ returns-clause-dots g c =
     let steps = expanded c.args.script.now.items in
     let range = subst AreInRange c.steps-steps.ensures.steps c.steps-steps.ensures.range in
     let answer = rw c.steps-steps.ensures.steps at over.ensures.answer in
-    script_of_dots c.reports_are_dots.ensures c.args.until c.args.fonts.now steps before after over.result c.bytes_fit.ensures range
+    script_known AreOfDots dot_report c.reports_are_dots.ensures c.args.until c.args.fonts.now steps before after over.result
+    c.bytes_fit.ensures range
     (steps_answers c.args.until c.args.fonts.now c.in_ok-fonts.fonts steps before after over.result c.in_ok-fonts.ensures.ok answer)

@@ -1,4 +1,4 @@
-use Rattle.std.proofs.Common.{◌≡◌, ◌≤◌, ◌+◌, ◌*◌, ℕ, List, length, subst, arith}
+use Rattle.std.proofs.Common.{ℕ, List, subst, arith}
 use Rattle.vga_bits.specs.Saved.{IsPut}
 use Rattle.vga_bits.proofs.SavedLemmas.{put_after, put_whole}
 use Rattle.vga_run.proofs.SavedLemmas.{machine_len, machine_bytes, bda_fits, card_fits, whole_put}

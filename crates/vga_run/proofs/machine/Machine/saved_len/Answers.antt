@@ -1,4 +1,4 @@
-use Rattle.std.proofs.Common.{◌≡◌, ◌+◌, length, arith}
+use Rattle.std.proofs.Common.{arith}
 use Rattle.vga_run.proofs.SavedLemmas.{machine_len}
 use Rattle.vga_run.proofs.machine.Machine.saved_len.Goals as goal
 
