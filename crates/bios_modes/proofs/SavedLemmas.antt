@@ -1,5 +1,5 @@
 -- BIOS data are read back from their bytes.
-use Rattle.std.proofs.Common.{◌≡◌, ℕ, ◌<◌, ap, ◌∙◌, sym, refl, subst, arith, List, [], ◌∷◌, ◌++◌, length, take, drop, length-append}
+use Rattle.std.proofs.Common.{◌≡◌, ℕ, ap, ◌∙◌, sym, refl, subst, arith, List, ◌++◌, length, drop, length-append}
 use Rattle.std.specs.Prelude.{slice_index}
 use Rattle.std.specs.List.{flat_map}
 use Rattle.std.proofs.lemmas.List.{drop_at}
@@ -8,7 +8,7 @@ use Rattle.vga_bits.proofs.SavedLemmas.{word_is_back, words_are_back, length-wor
 use Rattle.bios_modes.specs.Bda.{BiosData}
 use Rattle.bios_modes.specs.Bounds.{IsBda}
 use Rattle.bios_modes.specs.Valid.{IsValid}
-use Rattle.bios_modes.specs.Saved.{saved_front, saved_back, saved_bda, past_front, past_places, bda_from, IsSavedBda}
+use Rattle.bios_modes.specs.Saved.{saved_back, saved_bda, past_front, past_places, bda_from, IsSavedBda}
 
 module _ (d : BiosData) (is : IsBda d) where
   front_past : past_front (saved_bda d) ≡ flat_map word_bytes d.cursor_places ++ saved_back d

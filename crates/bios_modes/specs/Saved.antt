@@ -1,6 +1,6 @@
 -- The BIOS data as bytes, in the order of their offsets: a byte is a byte, and a word two, the low one
 -- first.
-use Rattle.std.specs.Prelude.{ℕ, ◌≡◌, List, [], ◌∷◌, ◌++◌, length, take, drop, slice_index}
+use Rattle.std.specs.Prelude.{ℕ, ◌≡◌, List, [], ◌∷◌, ◌++◌, length, drop, slice_index}
 use Rattle.std.specs.List.{flat_map}
 use Rattle.vga_bits.specs.Saved.{word_bytes, word_at, words_in}
 use Rattle.bios_modes.specs.Bda.{BiosData}

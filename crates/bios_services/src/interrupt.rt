@@ -300,10 +300,10 @@ fn table_in_mode<B: Bus>(
 ///
 /// Registers that a service does not answer stay as they are handed in. A service is refused by
 /// name, and then has no cycle and leaves the BIOS data: `NoMode` before a mode is set,
-/// `BadFunction`, `BadMode`,
-/// `WrongKind`, `BadPage`, `Outside`, `CountPast`, `BadRegister`, `BadBlock` or `BadHeight`; of
-/// several the first is answered. Within a service a cycle that the bus refuses does nothing, or
-/// gives FF (hexadecimal). The BIOS data must be valid, and are so afterwards.
+/// `BadFunction`, `BadMode`, `WrongKind`, `BadPage`, `Outside`, `CountPast`, `BadRegister`,
+/// `BadBlock` or `BadHeight`; of several the first is answered. Within a service a cycle that the
+/// bus refuses does nothing, or gives FF (hexadecimal). The BIOS data must be valid, and are so
+/// afterwards.
 ///
 /// Function 10 with AL = 17 alone, which answers CX entries of the DAC as a table, takes memory,
 /// before its first cycle; where CX is 0 it takes none. Where memory is refused, the answer is

@@ -1,11 +1,11 @@
 -- Where some dots of a line lead from any dot of it.
-use Rattle.std.proofs.Common.{◌≡◌, ℕ, zero, suc, ◌+◌, ◌-◌, ◌*◌, ◌/◌, ◌%◌, ◌<◌, ◌≤◌, ◌⊎◌, ⊎_elim, inl, inr, refl, sym, ap, ◌∙◌, arith, List, Bool, true, false}
-use Rattle.std.specs.Prelude.{nat_lt, if◌then◌else◌}
+use Rattle.std.proofs.Common.{◌≡◌, ℕ, zero, suc, ◌+◌, ◌-◌, ◌*◌, ◌/◌, ◌%◌, ◌<◌, ◌≤◌, ⊎_elim, inl, inr, sym, ap, ◌∙◌, arith, List}
+use Rattle.std.specs.Prelude.{if◌then◌else◌}
 use Rattle.std.proofs.lemmas.Bool.{cases_lt, lt-ltb, le-ltb}
-use Rattle.std.proofs.lemmas.Nat.{div-add-mod', div_below, mod_below, div-mul-add, mod-mul-add, mul-le}
+use Rattle.std.proofs.lemmas.Nat.{div-add-mod', div_below, mod_below, div-mul-add, mod-mul-add}
 use Rattle.vga_crtc.specs.declared.beam.Beam.{Beam}
 use Rattle.vga_crtc.specs.Crtc.{CrtcState}
-use Rattle.vga_crtc.specs.Beam.{characters, started, next_line, moved, dot, dots, after_dots}
+use Rattle.vga_crtc.specs.Beam.{characters, started, next_line, moved, dots, after_dots}
 use Rattle.vga_crtc.specs.Raster.{in_line, line_dots, dots_in_line, dot_number, IsInLine, moved_in_line}
 use Rattle.vga_crtc.proofs.Moves.{moved_in, moved_out, next_character, not_started, started_again, started_place}
 use Rattle.vga_crtc.proofs.Dots.{dots_none, dots_more, dots_started}

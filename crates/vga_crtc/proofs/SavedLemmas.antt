@@ -1,6 +1,5 @@
 -- A CRT controller is read back from its bytes.
-use Rattle.std.proofs.Common.{◌≡◌, ℕ, ◌<◌, ap, ◌∙◌, sym, refl, subst, arith, List, [], ◌∷◌, ◌++◌, length, take, drop, length-append}
-use Rattle.std.specs.Prelude.{slice_index}
+use Rattle.std.proofs.Common.{◌≡◌, ◌<◌, ap, sym, subst, arith, ◌∷◌, length, take, drop, length-append}
 use Rattle.std.proofs.lemmas.List.{take_at, drop_at}
 use Rattle.vga_bits.proofs.SavedLemmas.{flag_back, flag_small, word_is_back}
 use Rattle.vga_crtc.specs.declared.beam.Beam.{Beam}

@@ -1,6 +1,6 @@
 -- Four dots as words: the masks, the bytes that are chosen by them, and the dots in a row.
-use Rattle.std.proofs.Common.{◌≡◌, ℕ, zero, suc, ◌+◌, ◌-◌, ◌*◌, ◌/◌, ◌%◌, ◌^◌, ◌<◌, ◌≤◌, inl, inr, ⊎_elim, refl, sym, ap, ◌∙◌, arith, Bool, true, false, List, [], ◌∷◌}
-use Rattle.std.proofs.Common.{bit_and, bit_xor, ◌==◌, if◌then◌else◌, slice_index, min}
+use Rattle.std.proofs.Common.{◌≡◌, ℕ, zero, suc, ◌+◌, ◌-◌, ◌*◌, ◌/◌, ◌%◌, ◌^◌, ◌<◌, ◌≤◌, inl, inr, ⊎_elim, refl, sym, ap, ◌∙◌, arith}
+use Rattle.std.proofs.Common.{Bool, true, false, List, [], ◌∷◌, bit_and, bit_xor, ◌==◌, if◌then◌else◌, slice_index, min}
 use Rattle.std.specs.Int.{bit_at}
 use Rattle.std.proofs.lemmas.Bool.{cases_lt, agree_below_at, eqb-true}
 use Rattle.std.proofs.lemmas.Bool.Decides.{nat_tests}
@@ -27,7 +27,8 @@ one_chosen x y m small few e = grind (arith, nat_tests)
 none_chosen : (x y m : ℕ) → x < 2 → y < 2 → m ≡ 0 → (y + min m ((x + y) % 2)) % 2 ≡ y
 none_chosen x y m small few e = grind (arith, nat_tests)
 
-bit_chosen : (m f b p i : ℕ) → word_bit (bit_xor b (bit_and m (bit_xor f b))) p i ≡ (word_bit b p i + min (word_bit m p i) ((word_bit f p i + word_bit b p i) % 2)) % 2
+bit_chosen : (m f b p i : ℕ) → word_bit (bit_xor b (bit_and m (bit_xor f b))) p i
+    ≡ (word_bit b p i + min (word_bit m p i) ((word_bit f p i + word_bit b p i) % 2)) % 2
 bit_chosen m f b p i =
     word_bit_xor b (bit_and m (bit_xor f b)) p i
     ∙ ap (λ n. (word_bit b p i + n) % 2) (word_bit_and m (bit_xor f b) p i ∙ ap (min (word_bit m p i)) (word_bit_xor f b p i))

@@ -83,7 +83,8 @@ module _ (aim : Aim) (h : HostState) (misc a : ℕ) (is : IsAim aim h) where
   decoded_as = λ j. is_memory_enabled misc && (nat_le (is.start j) a && nat_lt a (is.start j + is.len j))
 
   -- a write by what the registers say is a write
-  pub put_as : (w set : ℕ) (bytes : Four ℕ) → IsTrue (is_memory_enabled misc && (nat_le aim.start a && nat_lt a (aim.start + aim.len))) → w ≡ (a - aim.start) % 65536
+  pub put_as : (w set : ℕ) (bytes : Four ℕ) → IsTrue (is_memory_enabled misc && (nat_le aim.start a && nat_lt a (aim.start + aim.len)))
+      → w ≡ (a - aim.start) % 65536
       → (reach : (p : ℕ) → p < 4 → is_set set p ≡ (is_set aim.mask p && (if aim.four then p == w % 4 else aim.all || (p % 2 == w % 2))))
       → (let after : HostState = record h { memory = with_bytes h.memory (if aim.four then w / 4 * 4 else if aim.pairs then w / 2 * 2 else w) bytes set } in
       after ≡ put_bytes h misc a bytes)

@@ -1,9 +1,11 @@
 -- Planes are written into a slice byte by byte, and read back.
-use Rattle.std.proofs.Common.{◌≡◌, ℕ, ◌+◌, ◌<◌, ◌≤◌, ap, ◌∙◌, sym, refl, arith, inl, inr, List, [], ◌∷◌, ◌++◌, length, map, take, drop, append_assoc, length-append}
+use Rattle.std.proofs.Common.{◌≡◌, ℕ, ◌+◌, ◌<◌, ap, ◌∙◌, sym, arith, inl, inr, List, [], ◌∷◌, ◌++◌, length, map, take, drop}
+use Rattle.std.proofs.Common.{append_assoc, length-append}
 use Rattle.std.specs.Prelude.{slice_index, slice_set}
 use Rattle.std.proofs.lemmas.Bool.{cases_eq}
-use Rattle.std.proofs.lemmas.List.{take_at, drop_at, take_more, take_more_set, take_all, ext_get_or, get_or-map, length-map, length-set, get_or-set_same, get_or-set_other}
-use Rattle.vga_bits.specs.Four.{Four, of_plane}
+use Rattle.std.proofs.lemmas.List.{take_at, drop_at, take_more, take_more_set, take_all, ext_get_or, get_or-map, length-map}
+use Rattle.std.proofs.lemmas.List.{get_or-set_same, get_or-set_other}
+use Rattle.vga_bits.specs.Four.{Four}
 use Rattle.vga_bits.specs.Saved.{IsPut}
 use Rattle.vga_bits.specs.Words.{byte_in, bytes_of}
 use Rattle.vga_planes.specs.Planes.{IsMemory}
@@ -59,8 +61,8 @@ one_joined words planes n w within before here = λ k below. elim (cases_eq k n)
   | inr other ↦ ap bytes_of (get_or-set_other words n k w 0 other) ∙ before k (omega arith)
 ]
 
-plane_joined : (words plane : List ℕ) (p : ℕ) → length plane ≡ length words → ((k : ℕ) → k < length words → byte_in p (slice_index words k) ≡ slice_index plane k)
-    → map (byte_in p) words ≡ plane
+plane_joined : (words plane : List ℕ) (p : ℕ) → length plane ≡ length words
+    → ((k : ℕ) → k < length words → byte_in p (slice_index words k) ≡ slice_index plane k) → map (byte_in p) words ≡ plane
 plane_joined words plane p size each =
     ext_get_or 0 (map (byte_in p) words) plane (length-map words (byte_in p) ∙ sym size)
     (λ i within. let inside : i < length words = omega (arith, within, length-map words (byte_in p)) in

@@ -1,6 +1,5 @@
 -- A frame draws its picture, whatever the mode shows.
-use Rattle.std.proofs.Common.{◌≡◌, ℕ, ◌+◌, ◌*◌, ◌/◌, ◌%◌, ◌<◌, ◌≤◌, ◌↔◌, ⊎_elim, refl, sym, ap, subst, ◌∙◌, arith, Bool, true, false, List, [], ◌∷◌, ◌++◌}
-use Rattle.std.proofs.Common.{replicate, Some}
+use Rattle.std.proofs.Common.{◌≡◌, ℕ, ◌+◌, ◌*◌, ◌/◌, ◌%◌, ◌<◌, ◌≤◌, ⊎_elim, refl, sym, ap, subst, ◌∙◌, arith, Bool, true, false, List, [], ◌∷◌, ◌++◌}
 use Rattle.std.specs.Prelude.{nat_lt, nat_le, if◌then◌else◌, ◌&&◌}
 use Rattle.std.proofs.lemmas.Bool.{cases_lt}
 use Rattle.std.proofs.lemmas.Bool.Decides.{nat_tests}
@@ -8,19 +7,19 @@ use Rattle.std.proofs.lemmas.Nat.{div-add-mod', div_below, mod_below, row_fits, 
 use Rattle.vga_crtc.specs.declared.beam.Beam.{Beam}
 use Rattle.vga_crtc.specs.Crtc.{CrtcState}
 use Rattle.vga_crtc.specs.Fields.{horizontal_display_end, vertical_display_end}
-use Rattle.vga_crtc.specs.Beam.{characters, lines, first_counter, is_first_dot, started, after_start, after_dots, dots as beam_dots}
+use Rattle.vga_crtc.specs.Beam.{characters, lines, first_counter, started, after_start, after_dots, dots as beam_dots}
 use Rattle.vga_crtc.specs.Status.{is_display}
-use Rattle.vga_crtc.specs.Raster.{dots_in_frame, IsSamePlace, IsFrameStart, IsRegular, regular_beam, line_dots as dots_of_line, beam_at}
+use Rattle.vga_crtc.specs.Raster.{dots_in_frame, IsFrameStart, IsRegular, regular_beam, beam_at}
 use Rattle.vga_crtc.proofs.Counts.{frame_left as dots_left}
 use Rattle.vga_crtc.proofs.Dots.{dots_none}
 use Rattle.vga_crtc.proofs.Ends.{same_frame_count, frame_ends as frames_end}
 use Rattle.vga_crtc.proofs.Frames.{at_dot, started_goes_on}
 use Rattle.vga_crtc.proofs.Moves.{first_dot_starts, started_place}
 use Rattle.vga_dots.specs.Colour.{dot_colour}
-use Rattle.vga_card.specs.Picture.{Dot, lines_of, lines_from, bytes_of, shape}
+use Rattle.vga_card.specs.Picture.{Dot, lines_of, bytes_of}
 use Rattle.vga_card.specs.Card.{CardState}
 use Rattle.vga_card.specs.Dots.{character_width, fresh, display_dot, dots}
-use Rattle.vga_card.specs.Frames.{frame_count, frame, collect, display_dot_at, EndsFirst, DrawsPlaces}
+use Rattle.vga_card.specs.Frames.{frame_count, frame, collect, display_dot_at}
 use Rattle.vga_card.proofs.FrameLemmas.{dots_keep, frame_ends_first, dots_are_places, regular_shape}
 use Rattle.bios_screen.specs.Raster.{Raster, IsRaster, raster_of, HasRaster, Colours, width, line_dots, all_dots, colour_at, Draws, IsAtDot, picture_dot}
 use Rattle.bios_screen.specs.Raster.{PlacesDrawn, GoesOn, FrameEnded, IsPictureOf, picture_bytes, FrameDrawn}

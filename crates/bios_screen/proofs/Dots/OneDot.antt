@@ -6,10 +6,9 @@ use Rattle.std.proofs.lemmas.Bool.{cases_lt}
 use Rattle.std.proofs.lemmas.Bool.Decides.{nat_tests}
 use Rattle.std.proofs.lemmas.List.{append-nil, map-append}
 use Rattle.std.proofs.lemmas.Nat.{mul-le}
-use Rattle.vga_crtc.specs.declared.beam.Beam.{Beam}
 use Rattle.vga_crtc.specs.Crtc.{first_dot}
-use Rattle.vga_crtc.specs.Beam.{lines, first_counter, is_first_dot, started, after_dot, dots as beam_dots}
-use Rattle.vga_crtc.specs.Raster.{IsFrameStart, IsRegular, line_dots as line_of_dots, beam_at}
+use Rattle.vga_crtc.specs.Beam.{first_counter, is_first_dot, started, after_dot, dots as beam_dots}
+use Rattle.vga_crtc.specs.Raster.{IsFrameStart, beam_at}
 use Rattle.vga_card.specs.Picture.{Dot, line_of, lines_of, lines_from, bytes_of}
 use Rattle.vga_card.specs.Bounds.{IsCard}
 use Rattle.vga_card.specs.Card.{CardState}

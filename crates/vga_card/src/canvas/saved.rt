@@ -1,5 +1,5 @@
-//! The dots drawn as bytes: for each of 1,024 lines a word that counts them, and red, green and blue
-//! of each dot in turn.
+//! The dots drawn as bytes: for each of 1,024 lines a word that counts them, and red, green and
+//! blue of each dot in turn.
 ghost use Rattle.std.specs.Prelude.{◌≡◌, ℕ, ◌+◌, ◌*◌, ◌<◌, ◌≤◌, ◌↔◌, IsTrue, length, slice_index};
 ghost use Rattle.std.specs.Prelude.{[], take, IfSome, IfNone, vec_capacity, false};
 ghost use Rattle.std.specs.List.{flat_map};

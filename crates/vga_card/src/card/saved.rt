@@ -78,9 +78,9 @@ impl Card {
     }
 
     /// Puts the bytes of the adapter into a slice from place `at` on, where there is room for them,
-    /// and gives the place behind them: the miscellaneous output register, CRT controller, attribute
-    /// controller, DAC, host path, and the dots that are drawn of the frame under way, of which
-    /// there is none at its first dot.
+    /// and gives the place behind them: the miscellaneous output register, CRT controller,
+    /// attribute controller, DAC, host path, and the dots that are drawn of the frame under way, of
+    /// which there is none at its first dot.
     #[tactic(auto, unfolding(crate::specs::Saved::saved_card))]
     pub fn save(&self, out: &mut [u8], at: usize) -> usize
         requires { at + (265046 + 3 * length (fresh self.now)) ≤ length out.old }

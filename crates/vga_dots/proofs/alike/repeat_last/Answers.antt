@@ -11,5 +11,5 @@ loop-x-preserved g c = λ f old before same.
     let cw = g.row.CW in
     let x = c.loop-x.x in
     characters_more cw x f old c.loop-x.row c.put_again.new.row (c.loop-x.invariant f old before same)
-    (again cw (c.args.drawn - 1) c.args.drawn x f old c.args.row.now _ c.copy_dots.new.row c.loop-x.row c.put_again.new.row (omega (arith, c.requires.some)) before
-    c.copy_dots.ensures c.put_again.ensures (λ i. same x i (omega arith) c.loop-x-test.true))
+    (again cw (c.args.drawn - 1) c.args.drawn x f old c.args.row.now _ c.copy_dots.new.row c.loop-x.row c.put_again.new.row
+    (omega (arith, c.requires.some)) before c.copy_dots.ensures c.put_again.ensures (λ i. same x i (omega arith) c.loop-x-test.true))

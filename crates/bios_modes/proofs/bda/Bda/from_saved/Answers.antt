@@ -1,6 +1,5 @@
-use Rattle.std.proofs.Common.{◌≡◌, ◌∙◌, ap, List, ℕ, drop, slice_index}
+use Rattle.std.proofs.Common.{◌∙◌, ap, List, ℕ, drop, slice_index}
 use Rattle.vga_bits.specs.Saved.{word_at, words_in}
-use Rattle.bios_modes.specs.Bda.{BiosData}
 use Rattle.bios_modes.specs.Saved.{bda_from}
 use Rattle.bios_modes.proofs.bda.Bda.from_saved.Goals as goal
 

@@ -1,4 +1,4 @@
-use Rattle.std.proofs.Common.{◌≡◌, ◌<◌, ◌≤◌, ◌∙◌, ℕ, length, take, ap, sym, refl, arith}
+use Rattle.std.proofs.Common.{◌≡◌, ◌∙◌, ℕ, ap, sym, refl, arith}
 use Rattle.std.proofs.lemmas.List.{length-set, take_all}
 use Rattle.vga_bits.specs.Saved.{words_in}
 use Rattle.vga_bits.proofs.SavedLemmas.{words_taken}

@@ -22,8 +22,8 @@ returns g c =
     let fore = shade d.attr d.dac (field cell.attribute 3 0) in
     let back = shade d.attr d.dac (background d.attr cell) in
     let is_fore = subst (λ a. IsQuad colours.fore (shade d.attr d.dac (field a 3 0))) c.requires.attribute c.requires.colours.fore in
-    let is_back = subst (λ (a : ℕ). let x : Cell = record { character = cell.character; attribute = a } in IsQuad colours.back (shade d.attr d.dac (background d.attr x)))
-    c.requires.attribute (c.requires.colours.back cell.character) in
+    let is_back = subst (λ (a : ℕ). let x : Cell = record { character = cell.character; attribute = a } in
+    IsQuad colours.back (shade d.attr d.dac (background d.attr x))) c.requires.attribute (c.requires.colours.back cell.character) in
     dots_alike g.row.CW c.args.at (λ i. if is_set lit (8 - i) then fore else back) (λ i. source_colour d (dot_of n i)) c.args.row.now c.put_glyph.new.row
     (c.put_glyph.ensures fore back is_fore is_back)
     (λ i l. text_dot d n fore back (is_set lit (8 - i)) i c.requires.draws.shows

@@ -1,4 +1,4 @@
-use Rattle.std.proofs.Common.{◌≡◌, ◌+◌, ◌<◌, length, arith}
+use Rattle.std.proofs.Common.{arith}
 use Rattle.vga_bits.specs.Four.{of_plane}
 use Rattle.vga_planes.proofs.SavedLemmas.{one_more}
 use Rattle.vga_planes.proofs.planes.Planes.save_plane.Goals as goal

@@ -1,4 +1,4 @@
-use Rattle.std.proofs.Common.{◌≡◌, ◌<◌, ◌≤◌, ◌∙◌, ℕ, List, length, arith, subst}
+use Rattle.std.proofs.Common.{◌≡◌, ◌∙◌, ℕ, List, length, arith, subst}
 use Rattle.vga_bits.specs.Four.{Four}
 use Rattle.vga_planes.proofs.SavedLemmas.{AreJoined, none_joined, one_joined, all_joined}
 use Rattle.vga_planes.proofs.planes.saved.join_planes.Goals as goal

@@ -1,7 +1,6 @@
 -- Each is a field of a register, whatever memory, latches and indexes are.
 use Rattle.std.proofs.Common.{◌≡◌, ◌∙◌, ◌==◌, ap, sym, refl, ℕ, arith, true, if◌then◌else◌, nat_lt}
 use Rattle.std.proofs.lemmas.Bool.Decides.{nat_tests}
-use Rattle.vga_bits.specs.Bits.{is_set}
 use Rattle.vga_host.proofs.host.aim.Aim.with_graphics.Goals as goal
 
 number_is : (a b : ℕ) → (a == b) ≡ true → a ≡ b
