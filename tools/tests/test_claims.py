@@ -1,0 +1,101 @@
+"""What the pages say of the sources themselves: how many wrong bodies are tried, and what a model shares."""
+
+from __future__ import annotations
+
+import re
+import unittest
+from pathlib import Path
+from typing import NamedTuple
+
+ROOT = Path(__file__).resolve().parents[2]
+PROOFS = ROOT / "docs" / "PROOFS.md"
+# A number of wrong bodies in a page's words.
+COUNTED = re.compile(r"([\d,]+) wrong bodies|[Ww]rong bodies, ([\d,]+) of them")
+# The definitions of the plain screen, of its dots and of its report.
+SCREENS = [f"bios_screen/specs/{name}.antt" for name in (
+    "Screen", "Step", "Colours", "Loaded", "Called", "Fresh", "Picture", "Drawing")] + [
+    f"vga_run/specs/{name}.antt" for name in ("ScreenReport", "DotReport")]
+# What such a file has from the definitions of services. Their plans are compared with, and not shared.
+SHARED = re.compile(r"(?m)^use Rattle\.bios_services\.specs\.(?!declared|Service\b|Plan\b)\w+\.\{([^}]*)\}")
+# What the model has from the adapter: the four registers, and the names of refusals.
+NAMES = {"bios_services::Regs", "vga_bits::Refusal"}
+
+
+class Edit(NamedTuple):
+    """One place of a wrong body: a file of its crate, the text that stands there once, and what it becomes."""
+
+    file: str
+    old: str
+    new: str
+
+
+def edits_of(text: str) -> list[Edit]:
+    """The places that the lines of an edit turn, in order."""
+    edits: list[Edit] = []
+    file, old = "", ""
+    for line in text.splitlines():
+        word, _, rest = line.partition(": ")
+        if word == "file":
+            file = rest
+        elif word == "old":
+            old = rest
+        elif word in ("new", "new:"):
+            edits.append(Edit(file, old, rest))
+        else:
+            raise ValueError(f"no line of an edit: {line}")
+    return edits
+
+
+def wrong_bodies() -> list[Path]:
+    """The edits of all crates that the prover must refuse."""
+    return sorted((ROOT / "crates").glob("*/must-fail/*.edit"))
+
+
+class WrongBodies(unittest.TestCase):
+    """Each edit turns code, and they are as many as the pages say."""
+
+    def test_each_turns_code_that_stands_once(self) -> None:
+        for path in wrong_bodies():
+            with self.subTest(path.relative_to(ROOT)):
+                crate = path.parents[1]
+                texts: dict[str, str] = {}
+                edits = edits_of(path.read_text())
+                self.assertTrue(edits)
+                for edit in edits:
+                    self.assertRegex(edit.file, r"^src/[\w/]+\.rt$")
+                    text = texts.get(edit.file) or (crate / edit.file).read_text()
+                    self.assertEqual(text.count(edit.old), 1, edit.old)
+                    self.assertNotRegex(edit.old, r"\b(ensures|requires|ghost)\b")
+                    self.assertNotEqual(edit.old, edit.new)
+                    texts[edit.file] = text.replace(edit.old, edit.new)
+
+    def test_pages_count_them(self) -> None:
+        pages = [*ROOT.glob("*.md"), *(ROOT / "docs").glob("*.md"), ROOT / "tools" / "README.md"]
+        told = {page.name: COUNTED.findall(page.read_text()) for page in pages}
+        self.assertEqual(len(told["PROOFS.md"]), 2)
+        for name, counts in told.items():
+            for count in counts:
+                self.assertEqual(int("".join(count).replace(",", "")), len(wrong_bodies()), name)
+
+
+class Model(unittest.TestCase):
+    """The slow model of the plain screen has definitions of its own, and the page names what laws share."""
+
+    def test_it_shares_no_definition(self) -> None:
+        lines = [line for line in (ROOT / "crates.txt").read_text().splitlines() if ":" in line]
+        crates = "|".join(line.partition(":")[0].split()[0] for line in lines if not line.startswith("#"))
+        paths = sorted((ROOT / "crates" / "vga_models" / "src").glob("plain_*.rt"))
+        self.assertGreater(len(paths), 10)
+        for path in paths:
+            text = path.read_text()
+            with self.subTest(path.name):
+                self.assertLessEqual(set(re.findall(rf"\b(?:{crates})::[\w{{*]+", text)), NAMES)
+                self.assertLessEqual(set(re.findall(r"\bRattle\.(\w+)", text)), {"std"})
+
+    def test_words_that_screens_share_with_plans_are_named(self) -> None:
+        texts = [(ROOT / "crates" / name).read_text() for name in SCREENS]
+        found = [names for text in texts for names in SHARED.findall(text)]
+        words = {word.strip() for names in found for word in names.split(",")} - {"◌or◌"}
+        self.assertIn("call_of", words)
+        self.assertIn("window_among", words)
+        self.assertEqual(sorted(word for word in words if f"`{word}`" not in PROOFS.read_text()), [])
