@@ -5,3 +5,4 @@ pub mod RowLemmas
 pub mod RunLemmas
 pub mod SavedLemmas
 pub mod ScreenLemmas
+pub mod CardsMove
