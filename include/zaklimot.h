@@ -62,7 +62,7 @@ enum {
     ZAK_STATE_MAGIC = 30,    /* of zak_restore: the bytes are no saved state */
     ZAK_STATE_VERSION = 31,  /* one of another version of the format */
     ZAK_STATE_LENGTH = 32,   /* one that is cut off or goes on */
-    ZAK_STATE_PART = 33,     /* one that no adapter can have */
+    ZAK_STATE_PART = 33,     /* one with a part out of its bounds */
     ZAK_BAD_MAGIC = 102,
     ZAK_BAD_VERSION = 103,
     ZAK_BAD_STEP = 104,
@@ -232,8 +232,8 @@ zak_status zak_screen_cursor(zak_card *card, uint8_t page, zak_place *place);
  * BIOS data and the adapter, with the dots drawn of the frame under way, three bytes each; so at
  * the first dot of a frame it has ZAK_FIRST_STATE bytes (docs/STATE.md). The fonts are not among
  * them. zak_save: *len tells how many bytes the state has, as zak_save_size does, also with
- * ZAK_NO_ROOM. zak_restore takes the bytes of any state that an adapter can have; others it refuses
- * with one of ZAK_STATE_.., and leaves the card. */
+ * ZAK_NO_ROOM. zak_restore takes the bytes of a state, each part of it within its bounds; others it
+ * refuses with one of ZAK_STATE_.., and leaves the card. */
 zak_status zak_save_size(zak_card *card, size_t *len);
 zak_status zak_save(zak_card *card, uint8_t *bytes, size_t bytes_cap, size_t *len);
 zak_status zak_restore(zak_card *card, const uint8_t *bytes, size_t bytes_len);
