@@ -1,14 +1,12 @@
-//! What every part of the adapter shares: bits and registers under write masks, the two ports of a
-//! group of registers, bytes that are seen as a list, text and its digits, the names of refusals
-//! and faults, readers and writers that remember a failure, the bytes of saved states, and how many
-//! comparisons passed and failed.
+//! What every part of the adapter shares: bits and registers under write masks, bytes that
+//! are seen as a list, text and its digits, the names of refusals and faults, readers and writers
+//! that remember a failure, the bytes of saved states, and how many comparisons passed and failed.
 #![tactic(auto)]
 
 pub mod bits;
 pub mod bytes;
 pub mod fault;
 pub mod limited_reading;
-pub mod paired_port;
 pub mod refusal;
 pub mod reg_file;
 pub mod saved;
@@ -21,7 +19,6 @@ pub use bits::is_set;
 pub use bytes::Bytes;
 pub use fault::{Fault, FaultName};
 pub use limited_reading::read_front;
-pub use paired_port::PairedPort;
 pub use refusal::Refusal;
 pub use reg_file::RegFile;
 pub use saved::{are_kept, flag_byte, high_byte, low_byte, put_byte, put_bytes, put_word, word_at};

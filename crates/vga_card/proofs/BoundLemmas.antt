@@ -25,8 +25,6 @@ use Rattle.vga_host.specs.Bounds.{IsHost}
 use Rattle.vga_crtc.specs.declared.beam.Beam.{Beam}
 use Rattle.vga_crtc.specs.Crtc.{CrtcState}
 use Rattle.vga_crtc.specs.Fields.{horizontal_total, vertical_total, preset_row_scan, maximum_scan_line, line_compare, is_double_scan, overflow}
-use Rattle.vga_bits.specs.declared.paired_port.PairedPort.{PairedPort}
-use Rattle.vga_bits.specs.declared.paired_port.PairedPort.TheVariants.{Index, Data}
 use Rattle.vga_crtc.specs.Ports.{kept_bits, is_write_protected, protected_overflow, after_out as after_crtc}
 use Rattle.vga_crtc.specs.Beam.{characters, lines, IsBeam, is_first_dot, started, next_row, next_line, dot as beam_dot, after_dot}
 use Rattle.vga_crtc.specs.Bounds.{IsCrtc}
@@ -196,10 +194,10 @@ crtc_overflow : (c : CrtcState) (v : ℕ) → IsCrtc c → IsCrtc (record c { re
 crtc_overflow c v z =
     rw (whole_byte (protected_overflow c v) (overflow_small c v)) at (crtc_set c 7 (protected_overflow c v) z)
 
-crtc_out : (c : CrtcState) (port : PairedPort) (v : ℕ) → IsCrtc c → IsCrtc (after_crtc c port v)
+crtc_out : (c : CrtcState) (at_data : Bool) (v : ℕ) → IsCrtc c → IsCrtc (after_crtc c at_data v)
 unfolding after_crtc
-crtc_out c Index v z = record { size = z.size; kept = z.kept; beam = z.beam }
-crtc_out c Data v z =
+crtc_out c false v z = record { size = z.size; kept = z.kept; beam = z.beam }
+crtc_out c true v z =
     if_crtc (not (is_write_protected c)) _ _ (crtc_set c c.index v z) (if_crtc (c.index == 7) _ c (crtc_overflow c v z) z)
 
 -- ---- the beam
@@ -341,8 +339,8 @@ out_within c (Some FeatureControl) v z = z
 out_within c (Some MiscellaneousRead) v z = z
 out_within c (Some GraphicsIndex) v z = with_host c _ (host_gfx_index c.host (bit_and v 0x0F) z.host) z
 out_within c (Some GraphicsData) v z = unless_within _ c _ z (with_host c _ (host_gfx c.host c.host.gfx_index v z.host) z)
-out_within c (Some CrtcIndex) v z = with_crtc c (after_crtc c.crtc Index v) (crtc_out c.crtc Index v z.crtc) z
-out_within c (Some CrtcData) v z = unless_within _ c _ z (with_crtc c (after_crtc c.crtc Data v) (crtc_out c.crtc Data v z.crtc) z)
+out_within c (Some CrtcIndex) v z = with_crtc c (after_crtc c.crtc false v) (crtc_out c.crtc false v z.crtc) z
+out_within c (Some CrtcData) v z = unless_within _ c _ z (with_crtc c (after_crtc c.crtc true v) (crtc_out c.crtc true v z.crtc) z)
 out_within c (Some InputStatus1) v z = z
 
 inp_within : (c : CardState) (reached : Option Port) → IsCard c → IsCard (inp_at c reached).0

@@ -3,10 +3,8 @@ use Rattle.std.proofs.Common.{◌≡◌, ◌∙◌, ℕ, ◌+◌, ◌/◌, ◌%�
 use Rattle.std.specs.Prelude.{◌==◌}
 use Rattle.vga_bits.specs.declared.refusal.Refusal.{Refusal}
 use Rattle.vga_host.specs.Address.{is_decoded}
-use Rattle.vga_bits.specs.declared.paired_port.PairedPort.TheVariants.{Index, Data}
 use Rattle.vga_crtc.proofs.Ports.{out_beam}
-use Rattle.vga_host.specs.declared.group.Group.TheVariants.{Sequencer, Graphics}
-use Rattle.vga_host.specs.Ports.{is_refused_out, is_refused_inp}
+use Rattle.vga_host.specs.Ports.{is_refused_out, is_refused_inp, sequencer_data, graphics_data}
 use Rattle.vga_crtc.specs.Ports.{is_refused_out as is_refused_crtc, is_refused_inp as is_refused_crtc_inp}
 use Rattle.vga_attr.specs.Attr.{is_refused_write, is_refused_read}
 use Rattle.vga_card.specs.declared.port.Port.{Port}
@@ -56,7 +54,7 @@ out_at_still c (Some AttributeRegister) v = still refl refl
 out_at_still c (Some MiscellaneousWrite) v = still refl refl
 out_at_still c (Some SubsystemEnable) v = still refl refl
 out_at_still c (Some SequencerIndex) v = still refl refl
-out_at_still c (Some SequencerData) v = unless_still (is_refused_out c.host Sequencer Data v) c _ (still refl refl)
+out_at_still c (Some SequencerData) v = unless_still (is_refused_out c.host sequencer_data v) c _ (still refl refl)
 out_at_still c (Some DacMask) v = still refl refl
 out_at_still c (Some DacReadIndex) v = still refl refl
 out_at_still c (Some DacWriteIndex) v = still refl refl
@@ -64,9 +62,9 @@ out_at_still c (Some DacData) v = still refl refl
 out_at_still c (Some FeatureControl) v = still refl refl
 out_at_still c (Some MiscellaneousRead) v = still refl refl
 out_at_still c (Some GraphicsIndex) v = still refl refl
-out_at_still c (Some GraphicsData) v = unless_still (is_refused_out c.host Graphics Data v) c _ (still refl refl)
-out_at_still c (Some CrtcIndex) v = still refl (out_beam c.crtc Index v)
-out_at_still c (Some CrtcData) v = unless_still (is_refused_crtc c.crtc Data v) c _ (still refl (out_beam c.crtc Data v))
+out_at_still c (Some GraphicsData) v = unless_still (is_refused_out c.host graphics_data v) c _ (still refl refl)
+out_at_still c (Some CrtcIndex) v = still refl (out_beam c.crtc false v)
+out_at_still c (Some CrtcData) v = unless_still (is_refused_crtc c.crtc true v) c _ (still refl (out_beam c.crtc true v))
 out_at_still c (Some InputStatus1) v = still refl refl
 
 inp_at_still : (c : CardState) (reached : Option Port) → IsStill c (inp_at c reached).0
@@ -77,7 +75,7 @@ inp_at_still c (Some AttributeRegister) = answered_still (is_refused_read c.attr
 inp_at_still c (Some MiscellaneousWrite) = still refl refl
 inp_at_still c (Some SubsystemEnable) = still refl refl
 inp_at_still c (Some SequencerIndex) = still refl refl
-inp_at_still c (Some SequencerData) = answered_still (is_refused_inp c.host Sequencer Data) c c _ (still refl refl)
+inp_at_still c (Some SequencerData) = answered_still (is_refused_inp c.host sequencer_data) c c _ (still refl refl)
 inp_at_still c (Some DacMask) = still refl refl
 inp_at_still c (Some DacReadIndex) = still refl refl
 inp_at_still c (Some DacWriteIndex) = still refl refl
@@ -85,9 +83,9 @@ inp_at_still c (Some DacData) = still refl refl
 inp_at_still c (Some FeatureControl) = still refl refl
 inp_at_still c (Some MiscellaneousRead) = still refl refl
 inp_at_still c (Some GraphicsIndex) = still refl refl
-inp_at_still c (Some GraphicsData) = answered_still (is_refused_inp c.host Graphics Data) c c _ (still refl refl)
+inp_at_still c (Some GraphicsData) = answered_still (is_refused_inp c.host graphics_data) c c _ (still refl refl)
 inp_at_still c (Some CrtcIndex) = still refl refl
-inp_at_still c (Some CrtcData) = answered_still (is_refused_crtc_inp c.crtc Data) c c _ (still refl refl)
+inp_at_still c (Some CrtcData) = answered_still (is_refused_crtc_inp c.crtc true) c c _ (still refl refl)
 inp_at_still c (Some InputStatus1) = still refl refl
 
 pub out_still : (c : CardState) (port v : ℕ) → IsStill c (out_cycle c port v).0

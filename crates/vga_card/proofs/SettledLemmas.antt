@@ -5,11 +5,8 @@ use Rattle.std.proofs.Common.{◌++◌}
 use Rattle.std.specs.Prelude.{◌==◌}
 use Rattle.vga_bits.specs.declared.refusal.Refusal.{Refusal}
 use Rattle.vga_bits.specs.declared.refusal.Refusal.TheVariants.{NotDecoded}
-use Rattle.vga_bits.specs.declared.paired_port.PairedPort.{PairedPort}
-use Rattle.vga_bits.specs.declared.paired_port.PairedPort.TheVariants.{Index, Data}
 use Rattle.vga_host.specs.Address.{is_decoded}
-use Rattle.vga_host.specs.declared.group.Group.TheVariants.{Sequencer, Graphics}
-use Rattle.vga_host.specs.Ports.{is_refused_out, is_refused_inp}
+use Rattle.vga_host.specs.Ports.{is_refused_out, is_refused_inp, sequencer_data, graphics_data}
 use Rattle.vga_crtc.specs.declared.beam.Beam.{Beam}
 use Rattle.vga_crtc.specs.Beam.{is_first_dot, after_start, after_dot}
 use Rattle.vga_crtc.specs.Ports.{is_refused_out as is_refused_crtc, after_out as after_crtc, is_refused_inp as is_refused_crtc_inp}
@@ -51,10 +48,10 @@ answered_where_settled true old new v = refl
 answered_where_settled false old new v = refl
 
 -- a write to the CRT controller moves no beam
-crtc_settled : (c : CardState) (port : PairedPort) (v : ℕ) → record (settled c) { crtc = after_crtc c.crtc port v }
-    ≡ settled (record c { crtc = after_crtc c.crtc port v })
-crtc_settled c port v =
-    ap (λ (b : Beam). record c { crtc = after_crtc c.crtc port v; drawn = fresh_dots b c.drawn }) (sym (out_beam c.crtc port v))
+crtc_settled : (c : CardState) (at_data : Bool) (v : ℕ) → record (settled c) { crtc = after_crtc c.crtc at_data v }
+    ≡ settled (record c { crtc = after_crtc c.crtc at_data v })
+crtc_settled c at_data v =
+    ap (λ (b : Beam). record c { crtc = after_crtc c.crtc at_data v; drawn = fresh_dots b c.drawn }) (sym (out_beam c.crtc at_data v))
 
 out_at_settled : (c : CardState) (reached : Option Port) (v : ℕ) → out_at (settled c) reached v ≡ settled_after (out_at c reached v)
 unfolding out_at
@@ -64,7 +61,7 @@ out_at_settled c (Some AttributeRegister) v = refl
 out_at_settled c (Some MiscellaneousWrite) v = refl
 out_at_settled c (Some SubsystemEnable) v = refl
 out_at_settled c (Some SequencerIndex) v = refl
-out_at_settled c (Some SequencerData) v = unless_settled (is_refused_out c.host Sequencer Data v) c _
+out_at_settled c (Some SequencerData) v = unless_settled (is_refused_out c.host sequencer_data v) c _
 out_at_settled c (Some DacMask) v = refl
 out_at_settled c (Some DacReadIndex) v = refl
 out_at_settled c (Some DacWriteIndex) v = refl
@@ -72,11 +69,11 @@ out_at_settled c (Some DacData) v = refl
 out_at_settled c (Some FeatureControl) v = refl
 out_at_settled c (Some MiscellaneousRead) v = refl
 out_at_settled c (Some GraphicsIndex) v = refl
-out_at_settled c (Some GraphicsData) v = unless_settled (is_refused_out c.host Graphics Data v) c _
-out_at_settled c (Some CrtcIndex) v = ap (λ (s : CardState). (s, Ok tt)) (crtc_settled c Index v)
+out_at_settled c (Some GraphicsData) v = unless_settled (is_refused_out c.host graphics_data v) c _
+out_at_settled c (Some CrtcIndex) v = ap (λ (s : CardState). (s, Ok tt)) (crtc_settled c false v)
 out_at_settled c (Some CrtcData) v =
-    ap (λ (s : CardState). written_unless (is_refused_crtc c.crtc Data v) (settled c) s) (crtc_settled c Data v)
-    ∙ unless_settled (is_refused_crtc c.crtc Data v) c _
+    ap (λ (s : CardState). written_unless (is_refused_crtc c.crtc true v) (settled c) s) (crtc_settled c true v)
+    ∙ unless_settled (is_refused_crtc c.crtc true v) c _
 out_at_settled c (Some InputStatus1) v = refl
 
 inp_at_settled : (c : CardState) (reached : Option Port) → inp_at (settled c) reached ≡ settled_after (inp_at c reached)
@@ -87,7 +84,7 @@ inp_at_settled c (Some AttributeRegister) = answered_settled (is_refused_read c.
 inp_at_settled c (Some MiscellaneousWrite) = refl
 inp_at_settled c (Some SubsystemEnable) = refl
 inp_at_settled c (Some SequencerIndex) = refl
-inp_at_settled c (Some SequencerData) = answered_settled (is_refused_inp c.host Sequencer Data) c c _
+inp_at_settled c (Some SequencerData) = answered_settled (is_refused_inp c.host sequencer_data) c c _
 inp_at_settled c (Some DacMask) = refl
 inp_at_settled c (Some DacReadIndex) = refl
 inp_at_settled c (Some DacWriteIndex) = refl
@@ -95,9 +92,9 @@ inp_at_settled c (Some DacData) = refl
 inp_at_settled c (Some FeatureControl) = refl
 inp_at_settled c (Some MiscellaneousRead) = refl
 inp_at_settled c (Some GraphicsIndex) = refl
-inp_at_settled c (Some GraphicsData) = answered_settled (is_refused_inp c.host Graphics Data) c c _
+inp_at_settled c (Some GraphicsData) = answered_settled (is_refused_inp c.host graphics_data) c c _
 inp_at_settled c (Some CrtcIndex) = refl
-inp_at_settled c (Some CrtcData) = answered_settled (is_refused_crtc_inp c.crtc Data) c c _
+inp_at_settled c (Some CrtcData) = answered_settled (is_refused_crtc_inp c.crtc true) c c _
 inp_at_settled c (Some InputStatus1) = refl
 
 out_settled : (c : CardState) (port v : ℕ) → out_cycle (settled c) port v ≡ settled_after (out_cycle c port v)

@@ -1,8 +1,6 @@
 -- No write to the index or to a register moves the beam.
 use Rattle.std.proofs.Common.{◌≡◌, ℕ, Bool, true, false, refl}
 use Rattle.std.specs.Prelude.{not, ◌==◌, if◌then◌else◌}
-use Rattle.vga_bits.specs.declared.paired_port.PairedPort.{PairedPort}
-use Rattle.vga_bits.specs.declared.paired_port.PairedPort.TheVariants.{Index, Data}
 use Rattle.vga_crtc.specs.Crtc.{CrtcState}
 use Rattle.vga_crtc.specs.Ports.{after_out, is_write_protected}
 
@@ -13,7 +11,7 @@ chosen_beam false is_overflow c x y e f = e
 chosen_beam true true c x y e f = f
 chosen_beam true false c x y e f = refl
 
-pub out_beam : (c : CrtcState) (port : PairedPort) (v : ℕ) → (after_out c port v).beam ≡ c.beam
+pub out_beam : (c : CrtcState) (at_data : Bool) (v : ℕ) → (after_out c at_data v).beam ≡ c.beam
 unfolding after_out
-out_beam c Index v = refl
-out_beam c Data v = chosen_beam (is_write_protected c) (c.index == 7) c _ _ refl refl
+out_beam c false v = refl
+out_beam c true v = chosen_beam (is_write_protected c) (c.index == 7) c _ _ refl refl

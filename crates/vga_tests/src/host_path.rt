@@ -8,8 +8,8 @@ use rand_core::Rng;
 use rand_pcg::Pcg32;
 use std::alloc::Global;
 use std::fmt;
-use vga_bits::{Fault, PairedPort, Refusal};
-use vga_host::{Group, Host};
+use vga_bits::{Fault, Refusal};
+use vga_host::{GRAPHICS_DATA, GRAPHICS_INDEX, Host, SEQUENCER_DATA, SEQUENCER_INDEX};
 use vga_planes::Planes;
 
 /// How many settings of the registers are compared, and how many cycles on each.
@@ -86,14 +86,14 @@ impl Paths {
     fn set_registers(&mut self, random: &mut Pcg32) -> Result<(), Refusal> {
         for i in 0..5u8 {
             let v = next_byte(random) & SEQ_MASKS[i as usize];
-            self.host.out(Group::Sequencer, PairedPort::Index, i)?;
-            self.host.out(Group::Sequencer, PairedPort::Data, v)?;
+            self.host.out(SEQUENCER_INDEX, i)?;
+            self.host.out(SEQUENCER_DATA, v)?;
             self.plain.seq[i as usize] = v;
         }
         for i in 0..9u8 {
             let v = next_byte(random) & GFX_MASKS[i as usize];
-            self.host.out(Group::Graphics, PairedPort::Index, i)?;
-            self.host.out(Group::Graphics, PairedPort::Data, v)?;
+            self.host.out(GRAPHICS_INDEX, i)?;
+            self.host.out(GRAPHICS_DATA, v)?;
             self.plain.gfx[i as usize] = v;
         }
         Ok(())

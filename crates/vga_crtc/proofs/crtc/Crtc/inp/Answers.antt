@@ -1,11 +1,11 @@
 use Rattle.std.proofs.Common.{rules}
 use Rattle.vga_crtc.proofs.crtc.Crtc.inp.Goals as goal
 
-pub returns-in-Index-clause-refused : goal.returns-in-Index-clause-refused
-returns-in-Index-clause-refused c = search rules
+pub returns-then-not-at_data-clause-refused : goal.returns-then-not-at_data-clause-refused
+returns-then-not-at_data-clause-refused c = search rules
 
-pub returns-in-Index-clause-ok : goal.returns-in-Index-clause-ok
-returns-in-Index-clause-ok c = search rules
+pub returns-then-not-at_data-clause-ok : goal.returns-then-not-at_data-clause-ok
+returns-then-not-at_data-clause-ok c = search rules
 
 pub returns-then-i-ge-COUNT-clause-refused : goal.returns-then-i-ge-COUNT-clause-refused
 returns-then-i-ge-COUNT-clause-refused c = search rules

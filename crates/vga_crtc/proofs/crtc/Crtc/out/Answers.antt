@@ -2,13 +2,13 @@ use Rattle.std.proofs.Common.{rules}
 use Rattle.vga_crtc.specs.Ports.{after_out}
 use Rattle.vga_crtc.proofs.crtc.Crtc.out.Goals as goal
 
-pub returns-in-Index-clause-refused : goal.returns-in-Index-clause-refused
+pub returns-then-not-at_data-clause-refused : goal.returns-then-not-at_data-clause-refused
 unfolding after_out
-returns-in-Index-clause-refused c = search rules
+returns-then-not-at_data-clause-refused c = search rules
 
-pub returns-in-Index-clause-ok : goal.returns-in-Index-clause-ok
+pub returns-then-not-at_data-clause-ok : goal.returns-then-not-at_data-clause-ok
 unfolding after_out
-returns-in-Index-clause-ok c = search rules
+returns-then-not-at_data-clause-ok c = search rules
 
 pub returns-then-i-ge-COUNT-clause-refused : goal.returns-then-i-ge-COUNT-clause-refused
 unfolding after_out

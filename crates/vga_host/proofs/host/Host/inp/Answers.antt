@@ -7,26 +7,26 @@ returns-then-refuses_inp-clause-refused c = search rules
 pub returns-then-refuses_inp-clause-ok : goal.returns-then-refuses_inp-clause-ok
 returns-then-refuses_inp-clause-ok c = search rules
 
-pub returns-in-Sequencer-Index-clause-refused : goal.returns-in-Sequencer-Index-clause-refused
-returns-in-Sequencer-Index-clause-refused c = search rules
+pub returns-in-964-clause-refused : goal.returns-in-964-clause-refused
+returns-in-964-clause-refused c = search rules
 
-pub returns-in-Sequencer-Index-clause-ok : goal.returns-in-Sequencer-Index-clause-ok
-returns-in-Sequencer-Index-clause-ok c = search rules
+pub returns-in-964-clause-ok : goal.returns-in-964-clause-ok
+returns-in-964-clause-ok c = search rules
 
-pub returns-in-Sequencer-Data-clause-refused : goal.returns-in-Sequencer-Data-clause-refused
-returns-in-Sequencer-Data-clause-refused c = search rules
+pub returns-in-965-clause-refused : goal.returns-in-965-clause-refused
+returns-in-965-clause-refused c = search rules
 
-pub returns-in-Sequencer-Data-clause-ok : goal.returns-in-Sequencer-Data-clause-ok
-returns-in-Sequencer-Data-clause-ok c = search rules
+pub returns-in-965-clause-ok : goal.returns-in-965-clause-ok
+returns-in-965-clause-ok c = search rules
 
-pub returns-in-Graphics-Index-clause-refused : goal.returns-in-Graphics-Index-clause-refused
-returns-in-Graphics-Index-clause-refused c = search rules
+pub returns-in-974-clause-refused : goal.returns-in-974-clause-refused
+returns-in-974-clause-refused c = search rules
 
-pub returns-in-Graphics-Index-clause-ok : goal.returns-in-Graphics-Index-clause-ok
-returns-in-Graphics-Index-clause-ok c = search rules
+pub returns-in-974-clause-ok : goal.returns-in-974-clause-ok
+returns-in-974-clause-ok c = search rules
 
-pub returns-in-Graphics-Data-clause-refused : goal.returns-in-Graphics-Data-clause-refused
-returns-in-Graphics-Data-clause-refused c = search rules
+pub returns-in_default-clause-refused : goal.returns-in_default-clause-refused
+returns-in_default-clause-refused c = search rules
 
-pub returns-in-Graphics-Data-clause-ok : goal.returns-in-Graphics-Data-clause-ok
-returns-in-Graphics-Data-clause-ok c = search rules
+pub returns-in_default-clause-ok : goal.returns-in_default-clause-ok
+returns-in_default-clause-ok c = search rules
