@@ -131,7 +131,13 @@ fn draw_at<const CW: usize>(display: &Display<'_>, bytes: &mut [u8], at: usize)
     ensures drawn { IsLineDrawn CW (shown_characters display.now.crtc.registers) display.now
         (drop at bytes.old) (drop at bytes.new) }
 {
-    draw_line::<CW>(display, &mut bytes[at..]);
+    draw_line::<CW>(
+        display.host(),
+        display.crtc(),
+        display.attr(),
+        display.dac(),
+        &mut bytes[at..],
+    );
 }
 
 /// Puts the displayed dots of the beam's line, three bytes each, behind the first `used` bytes of a

@@ -15,6 +15,10 @@ pub record DisplayState : Type 0 where
   pub attr : AttrState
   pub dac : DacState
 
+-- these four parts together
+abbrev pub display_of : HostState → CrtcState → AttrState → DacState → DisplayState
+display_of host crtc attr dac = record { host = host; crtc = crtc; attr = attr; dac = dac }
+
 -- memory is shown: the screen is on, and the palette is the screen's
 pub record ShowsMemory (display : DisplayState) : Type 0 where
   pub on : is_screen_off display.host ≡ false

@@ -1,6 +1,7 @@
 //! What a picture is drawn from.
 ghost use Rattle.std.specs.Prelude.{◌≡◌};
 ghost use Rattle.vga_crtc.specs.Beam.{IsBeam};
+ghost use Rattle.vga_dots.specs.Display.{display_of};
 ghost use Rattle.vga_dots.specs.SourceDot.{fetch_address as fetch_address_of};
 
 use crate::source_dot::fetch_address;
@@ -38,12 +39,7 @@ impl<'a> Model for Display<'a> {
 impl<'a> Display<'a> {
     /// The parts together.
     pub fn new(host: &'a Host, crtc: &'a Crtc, attr: &'a Attr, dac: &'a Dac) -> Display<'a>
-        ensures { result ≡ record {
-          host = host.now;
-          crtc = crtc.now;
-          attr = attr.now;
-          dac = dac.now;
-        } }
+        ensures { result ≡ display_of host.now crtc.now attr.now dac.now }
     {
         Display {
             host,

@@ -2,7 +2,7 @@
 ghost use Rattle.std.specs.Prelude.{◌≡◌, ◌+◌, ◌*◌, ◌<◌, ◌≤◌, length};
 ghost use Rattle.vga_host.specs.Fields.{character_width};
 ghost use Rattle.vga_dots.specs.SourceDot.{panned as panned_dots};
-ghost use Rattle.vga_dots.specs.Display.{ShowsMemory, ShowsText};
+ghost use Rattle.vga_dots.specs.Display.{display_of, ShowsMemory, ShowsText};
 ghost use Rattle.vga_dots.specs.Character.{DrawsText};
 ghost use Rattle.vga_dots.specs.Row.{AreCharactersPut};
 ghost use Rattle.vga_dots.specs.Line.{shown_characters as characters_shown, unpanned_colour};
@@ -14,7 +14,10 @@ use crate::colour::BLACK;
 use crate::display::Display;
 use crate::row::{copy_dots, fill};
 use crate::source_dot::panned;
-use vga_crtc::Registers;
+use vga_attr::Attr;
+use vga_crtc::{Crtc, Registers};
+use vga_dac::Dac;
+use vga_host::Host;
 
 /// How many bytes the most characters of a line, and one more, have: 257 of nine dots.
 const UNPANNED_BYTES: usize = 6_939;
@@ -186,10 +189,8 @@ fn draw_shown<const CW: usize>(display: &Display<'_>, count: usize, row: &mut [u
     }
 }
 
-/// Writes red, green and blue of each displayed dot of the beam's line, from its first dot on: as
-/// `dot_colour` has them with the beam there. No other byte of the row changes. A character is `CW`
-/// dots wide. Where a frame begins, its start is to be taken first (`Crtc::take_start`).
-pub fn draw_line<const CW: usize>(display: &Display<'_>, row: &mut [u8])
+/// Writes red, green and blue of each displayed dot of the beam's line of a display.
+fn draw_line_of<const CW: usize>(display: &Display<'_>, row: &mut [u8])
     requires width { CW ≡ character_width display.now.host }
     requires room { 3 * (characters_shown display.now.crtc.registers * CW) ≤ length row.old }
     ensures { IsLineDrawn CW (characters_shown display.now.crtc.registers) display.now row.old
@@ -203,6 +204,18 @@ pub fn draw_line<const CW: usize>(display: &Display<'_>, row: &mut [u8])
     } else {
         draw_shown::<CW>(display, count, row);
     }
+}
+
+/// Writes red, green and blue of each displayed dot of the beam's line, from its first dot on: as
+/// `dot_colour` has them with the beam there. No other byte of the row changes. A character is `CW`
+/// dots wide. Where a frame begins, its start is to be taken first (`Crtc::take_start`).
+pub fn draw_line<const CW: usize>(host: &Host, crtc: &Crtc, attr: &Attr, dac: &Dac, row: &mut [u8])
+    requires width { CW ≡ character_width host.now }
+    requires room { 3 * (characters_shown crtc.now.registers * CW) ≤ length row.old }
+    ensures { IsLineDrawn CW (characters_shown crtc.now.registers)
+        (display_of host.now crtc.now attr.now dac.now) row.old row.new }
+{
+    draw_line_of::<CW>(&Display::new(host, crtc, attr, dac), row);
 }
 
 /// Draws so many dots of the beam's line, which shows memory, from the beam's dot on: the

@@ -54,7 +54,7 @@ fn draw_dot(host: &Host, crtc: &mut Crtc, attr: &Attr, dac: &Dac, canvas: &mut C
     start_is_taken_once();
     crtc.take_start();
     if crtc.is_display() {
-        let colour = dot_colour(&Display::new(host, crtc, attr, dac));
+        let colour = dot_colour(host, crtc, attr, dac);
         canvas.add(crtc.beam().line, colour);
     }
     crtc.step_dot(width);
