@@ -1,5 +1,5 @@
--- The BIOS data as bytes, in the order of their offsets: a byte is a byte, and a word two, the low one
--- first.
+-- The BIOS data as bytes, in the order of their offsets: a byte is a byte, and a word two, the low
+-- one first.
 use Rattle.std.specs.Prelude.{ℕ, ◌≡◌, List, [], ◌∷◌, ◌++◌, length, drop, slice_index}
 use Rattle.std.specs.List.{flat_map}
 use Rattle.vga_bits.specs.Saved.{word_bytes, word_at, words_in}
@@ -10,8 +10,8 @@ use Rattle.bios_modes.specs.Valid.{IsValid}
 abbrev pub saved_front : BiosData → List ℕ
 saved_front d = (d.mode ∷ []) ++ (word_bytes d.columns ++ (word_bytes d.size ++ word_bytes d.start))
 
--- the bytes behind them: the cursor's type, the page, the CRT controller's address, the last row and
--- the height
+-- the bytes behind them: the cursor's type, the page, the CRT controller's address, the last row
+-- and the height
 abbrev pub saved_back : BiosData → List ℕ
 saved_back d = word_bytes d.cursor_type ++ ((d.page ∷ []) ++ (word_bytes d.crtc_address
     ++ ((d.last_row ∷ []) ++ word_bytes d.height)))
@@ -42,7 +42,7 @@ bda_from bytes = record {
   height = word_at (past_places bytes) 6;
 }
 
--- bytes that BIOS data can have: those of valid ones
+-- bytes of valid BIOS data
 pub record IsSavedBda (bytes : List ℕ) : Type 0 where
   pub size : length bytes ≡ 31
   pub valid : IsValid (bda_from bytes)

@@ -9,8 +9,8 @@ use Rattle.vga_attr.specs.Attr.{AttrState, attr_masks}
 unfoldable pub saved_attr : AttrState → List ℕ
 saved_attr a = a.registers ++ (a.index ∷ flag_byte a.is_data ∷ [])
 
--- bytes that an attribute controller can have: 21 registers with the bits that each keeps, an index
--- of six bits, and a flag
+-- bytes within the bounds of an attribute controller: 21 registers with the bits that each keeps,
+-- an index of six bits, and a flag
 pub record IsSavedAttr (bytes : List ℕ) : Type 0 where
   pub size : length bytes ≡ 23
   pub kept : AreKept attr_masks (take 21 bytes)

@@ -3,8 +3,13 @@ use Rattle.std.proofs.Common.{◌≡◌, ℕ, zero, suc, ◌+◌, ◌*◌, ◌/�
 use Rattle.std.proofs.Common.{length, take, drop, append_assoc, length-append}
 use Rattle.std.specs.Prelude.{slice_index, slice_set}
 use Rattle.std.specs.List.{flat_map}
-use Rattle.std.proofs.lemmas.List.{append-nil, get_or-drop, take_all, take_more, take_more_set, flat_map_more}
+use Rattle.std.proofs.lemmas.List.{append-nil, drop-drop, get_or-drop, take_all, take_more, take_more_set, flat_map_more}
 use Rattle.vga_bits.specs.Saved.{word_bytes, word_at, words_in, flag_byte, IsPut}
+
+-- what stays from a place on stays from a later one on
+stays_later : (xs ys : List ℕ) (at n end : ℕ) → end ≡ at + n → drop at xs ≡ drop at ys → drop end xs ≡ drop end ys
+stays_later xs ys at n end later same =
+    ap (λ (k : ℕ). drop k xs) later ∙ sym (drop-drop n at xs) ∙ ap (drop n) same ∙ drop-drop n at ys ∙ ap (λ (k : ℕ). drop k ys) (sym later)
 
 -- what was put after something else
 pub put_after : {old mid new : List ℕ} {at next end : ℕ} {xs ys : List ℕ} → IsPut old mid at next xs → IsPut mid new next end ys
@@ -12,6 +17,7 @@ pub put_after : {old mid new : List ℕ} {at next end : ℕ} {xs ys : List ℕ} 
 put_after {old} {mid} {new} {at} {next} {end} {xs} {ys} a b = record {
   end = omega (arith, a.end, b.end, length-append xs ys);
   front = b.front ∙ ap (λ (l : List ℕ). l ++ ys) a.front ∙ append_assoc (take at old) xs ys;
+  back = b.back ∙ stays_later mid old next (length ys) end b.end a.back;
 }
 
 -- a slice that was put from its first byte to its last
@@ -80,7 +86,7 @@ words_taken ws bytes n w within before value =
 
 -- nothing was put
 pub put_none : (old : List ℕ) (at : ℕ) → IsPut old old at at []
-put_none old at = record { end = omega arith; front = sym (append-nil (take at old)) }
+put_none old at = record { end = omega arith; front = sym (append-nil (take at old)); back = refl }
 
 -- one word more of a list was put
 pub put_word_more : {old mid new : List ℕ} {at next end : ℕ} (ws : List ℕ) (k w : ℕ) → k < length ws → w ≡ slice_index ws k
@@ -91,4 +97,8 @@ put_word_more {old} {mid} {new} {at} {next} {end} ws k w within value before las
     let e : flat_map word_bytes (take k ws) ++ word_bytes w ≡ flat_map word_bytes (take (k + 1) ws) =
     flat_map_more word_bytes [] (take k ws) w ∙ ap (λ (x : ℕ). flat_map word_bytes (take k ws ++ x ∷ [])) value
     ∙ ap (flat_map word_bytes) (sym (take_more ws k 0 within)) in
-    record { end = joined.end ∙ ap (λ (l : List ℕ). at + length l) e; front = joined.front ∙ ap (λ (l : List ℕ). take at old ++ l) e }
+    record {
+      end = joined.end ∙ ap (λ (l : List ℕ). at + length l) e;
+      front = joined.front ∙ ap (λ (l : List ℕ). take at old ++ l) e;
+      back = joined.back;
+    }

@@ -1,5 +1,6 @@
 -- The bytes of saved states: written one after the other, and read by their places.
-use Rattle.std.specs.Prelude.{ℕ, zero, suc, ◌≡◌, ◌+◌, ◌*◌, ◌/◌, ◌%◌, ◌==◌, Bool, true, false, List, [], ◌∷◌}
+use Rattle.std.specs.Prelude.{ℕ, zero, suc, ◌≡◌, ◌+◌, ◌*◌, ◌/◌, ◌%◌, ◌==◌, Bool, true, false, List}
+use Rattle.std.specs.Prelude.{[], ◌∷◌}
 use Rattle.std.specs.Prelude.{◌++◌, length, take, drop, slice_index}
 
 -- the two bytes of a word, of which the low one comes first
@@ -25,7 +26,9 @@ flag_byte false = 0
 abbrev pub flag_at : List ℕ → ℕ → Bool
 flag_at bytes at = slice_index bytes at == 1
 
--- some bytes were put into a slice, from place `at` on to before `next`; those before `at` stay
+-- some bytes were put into a slice, from place `at` on to before `next`; those before `at` stay,
+-- and those from `next` on
 pub record IsPut (old new : List ℕ) (at next : ℕ) (bytes : List ℕ) : Type 0 where
   pub end : next ≡ at + length bytes
   pub front : take next new ≡ take at old ++ bytes
+  pub back : drop next new ≡ drop next old

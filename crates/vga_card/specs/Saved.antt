@@ -19,7 +19,8 @@ use Rattle.vga_card.specs.Lines.{line_widths}
 
 -- ---- the dots drawn
 
--- the bytes of the dots drawn: for each line a word that counts them, and red, green and blue of each
+-- the bytes of the dots drawn: for each line a word that counts them, and red, green and blue of
+-- each
 unfoldable pub saved_dots : List Dot → List ℕ
 saved_dots dots = flat_map word_bytes (line_widths dots) ++ bytes_of dots
 
@@ -46,8 +47,8 @@ most_on b v =
 pub record AreFew (b : Beam) (widths : List ℕ) : Type 0 where
   pub most : (v : ℕ) → slice_index widths v ≤ most_on b v
 
--- bytes that dots drawn can have where the beam is at b: no line has more dots than it can, each dot
--- has three bytes, and at the first dot of a frame there is none
+-- bytes within the bounds of dots drawn where the beam is at b: no line has more dots than it can,
+-- each dot has three bytes, and at the first dot of a frame there is none
 pub record AreSavedDots (b : Beam) (bytes : List ℕ) : Type 0 where
   pub few : AreFew b (widths_in bytes)
   pub counted : length (past_widths bytes) ≡ 3 * length (lines_from 0 (widths_in bytes))
@@ -80,7 +81,7 @@ past_host bytes = drop 262164 (past_dac bytes)
 abbrev pub saved_beam_in : List ℕ → Beam
 saved_beam_in bytes = (crtc_from (take 37 (past_misc bytes))).beam
 
--- bytes that an adapter can have: each part's are those that it can have, and the miscellaneous
+-- bytes within the bounds of an adapter: each part's are within its own, and the miscellaneous
 -- output register holds bits that it keeps
 pub record IsSavedCard (bytes : List ℕ) : Type 0 where
   pub size : 265046 ≤ length bytes

@@ -1,5 +1,5 @@
--- The adapter without the dots that no step can see any more: those of the frame that ended, while the
--- beam is at the first dot of the next. So it is where it was saved and restored.
+-- The adapter without the dots that no step can see any more: those of the frame that ended, while
+-- the beam is at the first dot of the next. So it is where it was saved and restored.
 use Rattle.std.specs.Prelude.{ℕ, ◌≡◌, ◌<◌, false}
 use Rattle.vga_crtc.specs.Beam.{is_first_dot}
 use Rattle.vga_card.specs.Card.{CardState}

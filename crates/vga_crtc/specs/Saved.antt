@@ -1,6 +1,6 @@
 -- The CRT controller as bytes: the registers in their order, the index, and the beam: the number of
--- the frame, line and character, which are words, the dot, the counter of the line's first character,
--- which is a word, the scan line, and the two flags.
+-- the frame, line and character, which are words, the dot, the counter of the line's first
+-- character, which is a word, the scan line, and the two flags.
 use Rattle.std.specs.Prelude.{ℕ, ◌≡◌, ◌<◌, List, [], ◌∷◌, ◌++◌, length, take, drop, slice_index}
 use Rattle.vga_bits.specs.RegFile.{AreKept}
 use Rattle.vga_bits.specs.Saved.{word_bytes, word_at, flag_byte, flag_at}
@@ -28,7 +28,7 @@ beam_from bytes = record {
   split = flag_at bytes 10;
 }
 
--- bytes that a beam can have: it is within its bounds, and the flags are 0 or 1
+-- bytes of a beam: it is within its bounds, and the flags are 0 or 1
 pub record IsSavedBeam (bytes : List ℕ) : Type 0 where
   pub within : IsBeam (beam_from bytes)
   pub half : slice_index bytes 9 < 2
@@ -45,8 +45,8 @@ past_registers bytes = drop 25 bytes
 abbrev pub past_index : List ℕ → List ℕ
 past_index bytes = drop 1 (past_registers bytes)
 
--- bytes that a CRT controller can have: 25 registers with the bits that each keeps, an index of five
--- bits, and a beam
+-- bytes within the bounds of a CRT controller: 25 registers with the bits that each keeps, an index
+-- of five bits, and a beam
 pub record IsSavedCrtc (bytes : List ℕ) : Type 0 where
   pub size : length bytes ≡ 37
   pub kept : AreKept kept_bits (take 25 bytes)

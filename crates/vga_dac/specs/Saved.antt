@@ -1,5 +1,5 @@
--- The DAC as bytes: the reds, the greens and the blues of its entries, the index, the component that
--- the next byte is, the red and the green that wait, and the mask.
+-- The DAC as bytes: the reds, the greens and the blues of its entries, the index, the component
+-- that the next byte is, the red and the green that wait, and the mask.
 use Rattle.std.specs.Prelude.{ℕ, zero, suc, ◌≡◌, ◌<◌, List, [], ◌∷◌, ◌++◌, length, take, drop}
 use Rattle.std.specs.Prelude.{slice_index}
 use Rattle.vga_dac.specs.declared.component.Component.{Component}
@@ -47,7 +47,7 @@ past_greens bytes = drop 256 (past_reds bytes)
 abbrev pub past_blues : List ℕ → List ℕ
 past_blues bytes = drop 256 (past_greens bytes)
 
--- bytes that a DAC can have: values of six bits, and a component
+-- bytes within the bounds of a DAC: values of six bits, and a component
 pub record IsSavedDac (bytes : List ℕ) : Type 0 where
   pub size : length bytes ≡ 773
   pub reds : AreSmall (take 256 bytes)

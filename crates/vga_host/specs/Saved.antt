@@ -38,8 +38,8 @@ past_gfx bytes = drop 9 (past_seq bytes)
 abbrev pub past_indexes : List ℕ → List ℕ
 past_indexes bytes = drop 2 (past_gfx bytes)
 
--- bytes that a host path can have: registers with the bits that each keeps, and indexes of three
--- and of four bits; latches and memory may be any
+-- bytes within the bounds of a host path: registers with the bits that each keeps, and indexes of
+-- three and of four bits; latches and memory may be any
 pub record IsSavedHost (bytes : List ℕ) : Type 0 where
   pub size : length bytes ≡ 262164
   pub seq : AreKept seq_masks (take 5 (past_latches bytes))

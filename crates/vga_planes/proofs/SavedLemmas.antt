@@ -22,11 +22,13 @@ one_more out old plane at i v front room within value =
     ∙ append_assoc (take at old) (take i plane) (slice_index plane i ∷ [])
     ∙ ap (λ (l : List ℕ). take at old ++ l) (sym (take_more plane i 0 within))
 
--- all bytes of a list
-pub all_put : (out old plane : List ℕ) (at n : ℕ) → length plane ≡ n → take (at + n) out ≡ take at old ++ take n plane → IsPut old out at (at + n) plane
-all_put out old plane at n size front = record {
+-- all bytes of a list, and none behind them
+pub all_put : (out old plane : List ℕ) (at n : ℕ) → length plane ≡ n → take (at + n) out ≡ take at old ++ take n plane
+    → drop (at + n) out ≡ drop (at + n) old → IsPut old out at (at + n) plane
+all_put out old plane at n size front back = record {
   end = omega (arith, size);
   front = front ∙ ap (λ (l : List ℕ). take at old ++ l) (take_all n plane (omega (arith, size)));
+  back = back;
 }
 
 -- the first n words have the bytes of their places

@@ -1,6 +1,7 @@
--- A machine as bytes: a header, the BIOS data, and the adapter. The fonts are not among them: they are
--- those of who opens a machine.
-use Rattle.std.specs.Prelude.{ℕ, ◌≡◌, ◌+◌, ◌*◌, ◌/◌, ◌%◌, ◌≤◌, List, [], ◌∷◌, ◌++◌, length, take, drop}
+-- A machine as bytes: a header, the BIOS data, and the adapter. The fonts are not among them: they
+-- are those of who opens a machine.
+use Rattle.std.specs.Prelude.{ℕ, ◌≡◌, ◌+◌, ◌*◌, ◌/◌, ◌%◌, ◌≤◌, List, [], ◌∷◌, ◌++◌, length, take}
+use Rattle.std.specs.Prelude.{drop}
 use Rattle.std.specs.Prelude.{slice_index}
 use Rattle.vga_bits.specs.Saved.{word_bytes, word_at}
 use Rattle.vga_bits.specs.declared.state_fault.StateFault.{StateFault}
@@ -59,14 +60,14 @@ pub record HasParts (bytes : List ℕ) : Type 0 where
   pub bda : IsSavedBda (take 31 (past_header bytes))
   pub card : IsSavedCard (past_bda bytes)
 
--- bytes that a machine can have
+-- bytes within the bounds of a machine
 pub record IsSavedMachine (bytes : List ℕ) : Type 0 where
   pub magic : HasMagic bytes
   pub version : HasVersion bytes
   pub len : HasLength bytes
   pub parts : HasParts bytes
 
--- why bytes are none that a machine can have: the first of the reasons
+-- why bytes are not those of a saved machine: the first of the reasons
 abbrev pub IsStateFault : StateFault → List ℕ → Type 0
 IsStateFault BadMagic bytes = ¬ HasMagic bytes
 IsStateFault BadVersion bytes = HasMagic bytes × (¬ HasVersion bytes)

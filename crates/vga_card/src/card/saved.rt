@@ -98,7 +98,7 @@ impl Card {
         }
     }
 
-    /// Whether some bytes are those of an adapter: each part's are those that it can have, and the
+    /// Whether some bytes are those of an adapter: each part's are within its bounds, and the
     /// dots are drawn up to the beam.
     pub fn is_saved(bytes: &[u8]) -> bool
         ensures { IsTrue result ↔ IsSavedCard bytes.now }

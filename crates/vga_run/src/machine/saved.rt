@@ -128,8 +128,8 @@ impl Machine {
     ///
     /// # Errors
     ///
-    /// Bytes that no machine can have are refused, and then nothing changes. Of several faults the
-    /// first in this order is answered:
+    /// Other bytes than a saved machine's are refused, and then nothing changes. Of several faults
+    /// the first in this order is answered:
     ///
     /// - `BadMagic`: they do not begin with `ZAKS`.
     /// - `BadVersion`: they are of another version than 1.

@@ -1,12 +1,23 @@
 use Rattle.std.proofs.Common.{arith}
 use Rattle.std.proofs.lemmas.Grind.{common_steps}
+use Rattle.vga_bits.proofs.SavedLemmas.{put_after}
 use Rattle.vga_card.specs.Saved.{saved_card}
 use Rattle.vga_card.proofs.card.Card.save.Goals as goal
 
 pub returns-then-is_first_dot : goal.returns-then-is_first_dot
 unfolding saved_card
-returns-then-is_first_dot c = grind (arith, common_steps)
+returns-then-is_first_dot c = record {
+  end = grind (arith, common_steps);
+  front = grind (arith, common_steps);
+  back = (put_after c.put_byte-at.ensures.put (put_after c.save-at.ensures.put (put_after c.save-at-2.ensures.put
+      (put_after c.save-at-3.ensures.put (put_after c.save-at-4.ensures.put (c.put_no_dots.ensures.put)))))).back;
+}
 
 pub returns-else-is_first_dot : goal.returns-else-is_first_dot
 unfolding saved_card
-returns-else-is_first_dot c = grind (arith, common_steps)
+returns-else-is_first_dot c = record {
+  end = grind (arith, common_steps);
+  front = grind (arith, common_steps);
+  back = (put_after c.put_byte-at.ensures.put (put_after c.save-at.ensures.put (put_after c.save-at-2.ensures.put
+      (put_after c.save-at-3.ensures.put (put_after c.save-at-4.ensures.put (c.save.ensures.put)))))).back;
+}
