@@ -3,6 +3,7 @@ use Rattle.std.proofs.Common.{◌≡◌, inl, inr, ℕ, zero, suc, ◌+◌, ◌<
 use Rattle.std.proofs.Common.{arith, refl, sym, ap, ◌∙◌, subst, append_assoc, append-nil, add-one, drop-cons, take-append-drop, codes}
 use Rattle.std.proofs.Math.Seq.{take-suc}
 use Rattle.std.proofs.lemmas.List.{take_all, length-take-le}
+use Rattle.std.specs.Prelude.{OnOk}
 use Rattle.std.specs.Io.KnownBytes.{Appends}
 use Rattle.std.proofs.KnownBytes.{Appends-nil, Appends-trans}
 use Rattle.vga_bits.specs.Tracked.{AppendsFront, Writes}
@@ -18,7 +19,7 @@ use Rattle.vga_script.specs.Step.{IsInRange, AreInRange}
 use Rattle.vga_run.specs.declared.machine.Machine.{Machine}
 use Rattle.bios_modes.specs.Valid.{IsValid}
 use Rattle.vga_run.specs.Step.{TakesMemory, answer_to, after_step, after_steps, called}
-use Rattle.vga_run.specs.Run.{WritesStep, StopsIn, WritesReport}
+use Rattle.vga_run.specs.Run.{WritesStep, StopsIn, WritesReport, IsTakenOrNot, IsOnTheWay}
 use Rattle.vga_show.specs.Ppm.{ppm}
 use Rattle.vga_bits.proofs.WritingLemmas.{writes_after, writes_more, front_of_more}
 use Rattle.vga_card.specs.Card.{CardState}
@@ -209,6 +210,26 @@ pub reported_none : (old : Option (List ℕ)) (failed : Bool) (start : Machine) 
     Reported old old failed start start first steps 0
 reported_none old failed start first steps e v = record { state = refl; appended = Appends-nil old; sound = e; valid = v }
 
+-- where one more step leads
+state_more : (start machine next : Machine) (steps : List Step) (i : ℕ) (d step : Step) → machine ≡ after_steps start (take i steps) → i < length steps
+    → step ≡ get_or steps i d → next ≡ after_step machine step → next ≡ after_steps start (take (i + 1) steps)
+state_more start machine next steps i d step state within is en =
+    en ∙ ap (λ (m : Machine). after_step m step) state ∙ sym (state_joined start (take i steps) (step ∷ []))
+    ∙ ap (after_steps start) (sym (items_to steps i d step within is))
+
+-- whether it is taken or not, some of the first steps are
+pub way_more : (start machine next : Machine) (steps : List Step) (i : ℕ) (d step : Step) → machine ≡ after_steps start (take i steps) → i < length steps
+    → step ≡ get_or steps i d → IsTakenOrNot machine step next → IsOnTheWay start steps next
+way_more start machine next steps i d step state within is (inl same) = (i, same ∙ state)
+way_more start machine next steps i d step state within is (inr en) = (i + 1, state_more start machine next steps i d step state within is en)
+
+-- where all steps are taken, and then others
+pub others_after : (result : Result Unit Fault) (machine next new : Machine) (steps others : List Step) → next ≡ after_steps machine steps
+    → OnOk result (new ≡ after_steps next others) → OnOk result (new ≡ after_steps machine (steps ++ others))
+others_after (Ok u) machine next new steps others state after =
+    after ∙ ap (λ (m : Machine). after_steps m others) state ∙ sym (state_joined machine steps others)
+others_after (Err e) machine next new steps others state after = tt
+
 -- one more step
 pub reported_more : (old mid new : Option (List ℕ)) (was failed : Bool) (start machine next : Machine) (first : ℕ) (steps : List Step) (i n : ℕ) (d step : Step)
     → Reported old mid was start machine first steps i → n ≡ first + i → i < length steps → step ≡ get_or steps i d → next ≡ after_step machine step
@@ -217,8 +238,7 @@ reported_more old mid new was failed start machine next first steps i n d step h
     let here = line (first + i) (answer_to machine step) in
     let more = subst (λ k. Appends mid new (line k (answer_to machine step))) number a in
     record {
-      state = en ∙ ap (λ (m : Machine). after_step m step) h.state ∙ sym (state_joined start (take i steps) (step ∷ []))
-          ∙ ap (after_steps start) (sym (items_to steps i d step within is));
+      state = state_more start machine next steps i d step h.state within is en;
       appended = subst (Appends old new) (lines_to start machine first steps i d step within is h.state)
           (Appends-trans old mid new (report_from start first (take i steps)) here h.appended more);
       sound = e;

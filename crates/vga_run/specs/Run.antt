@@ -1,5 +1,6 @@
 -- What a run answers.
 use Rattle.std.specs.Prelude.{ℕ, ⊤, ◌⊎◌, ◌≡◌, ◌≢◌, ◌≤◌, Bool, true, false, List, ◌∷◌, ◌++◌, length}
+use Rattle.std.specs.Prelude.{take}
 use Rattle.std.specs.Prelude.{Option, Some, IsOkUnless, Result, Ok, Err}
 use Rattle.std.specs.Io.KnownBytes.{Appends}
 use Rattle.vga_bits.specs.Tracked.{AppendsFront}
@@ -13,7 +14,7 @@ use Rattle.vga_script.specs.Spelled.{SpellsExpanded}
 use Rattle.vga_script.specs.Input.{InputHasFault, InputMeans, IsTooLong}
 use Rattle.vga_run.specs.declared.machine.Machine.{Machine}
 use Rattle.vga_run.specs.Machine.{power_on_machine}
-use Rattle.vga_run.specs.Step.{TakesMemory, answer_to, after_steps}
+use Rattle.vga_run.specs.Step.{TakesMemory, answer_to, after_step, after_steps}
 use Rattle.vga_run.specs.Report.{line, report_from, report_of, steps_until}
 
 -- What taking step n on this machine answers, over a writer that holds what is before and after,
@@ -43,6 +44,14 @@ WritesReport before after failed (Ok u) m n steps = Appends before after (report
 WritesReport before after failed (Err e) m n steps =
     ((e ≡ WriteFault) × (failed ≡ true) × AppendsFront before after (report_from m n steps))
     ⊎ ((e ≡ OutOfMemory) × (failed ≡ false) × StopsIn m n steps before after)
+
+-- a machine that has taken this step, or has not
+abbrev pub IsTakenOrNot : Machine → Step → Machine → Type 0
+IsTakenOrNot old step new = (new ≡ old) ⊎ (new ≡ after_step old step)
+
+-- a machine that has taken some of the first of these steps, none of them in part
+abbrev pub IsOnTheWay : Machine → List Step → Machine → Type 0
+IsOnTheWay old steps new = (n : ℕ) × (new ≡ after_steps old (take n steps))
 
 -- where memory runs out in the run of some steps from power-on, or in that of the script that an
 -- input spells

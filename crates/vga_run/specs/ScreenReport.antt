@@ -1,5 +1,5 @@
--- The report of services and whole frames in words of the plain screen alone, with no register,
--- address or cycle.
+-- The report of services and whole frames in words of the plain screen alone: with no cycle, and no
+-- register or address but for the mode table's values.
 -- From the IBM PS/2 and PC BIOS Interface Technical Reference, "Interrupt 10H - Video".
 use Rattle.std.specs.Prelude.{ℕ, ◌≡◌, ◌≢◌, ◌+◌, ◌⊎◌, false, List, [], ◌∷◌, ◌++◌, length, Option}
 use Rattle.std.specs.Prelude.{None, Some, Result, Ok, Err}

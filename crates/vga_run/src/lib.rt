@@ -10,7 +10,6 @@ mod runs;
 mod screens;
 mod served;
 mod step_line;
-mod steps_report;
 
 pub use answer::Answer;
 pub use laws::{refused_steps_change_nothing, restored_machines_report_the_same};

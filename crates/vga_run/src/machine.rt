@@ -3,6 +3,7 @@ ghost use Rattle.std.specs.Prelude.{◌≡◌, IfOk, IsOkUnless};
 ghost use Rattle.vga_run.specs.Machine.{power_on_machine};
 ghost use Rattle.vga_run.specs.Step.{dump_refusal as dump_refusal_of};
 
+mod report;
 mod saved;
 
 use bios_modes::{Bda, Fonts};

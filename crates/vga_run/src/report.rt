@@ -6,7 +6,7 @@ ghost use Rattle.vga_card.specs.Frames.{IsSmall};
 ghost use Rattle.vga_card.specs.Picture.{widest, highest};
 ghost use Rattle.vga_run.specs.Answer.{Dump, Picture, Ragged, of_drawn};
 ghost use Rattle.vga_run.specs.Step.{after_step, after_steps, dump_text};
-ghost use Rattle.vga_run.specs.Run.{WritesStep, WritesReport};
+ghost use Rattle.vga_run.specs.Run.{IsTakenOrNot, WritesStep, WritesReport};
 ghost use Rattle.vga_script.specs.Step.{IsInRange, AreInRange};
 ghost use Rattle.vga_script.specs.declared.step.Step.TheVariants.{Int};
 ghost use Rattle.vga_script.specs.DumpRange.{IsShownInRange};
@@ -172,6 +172,8 @@ fn write_service<W: Write>(
         (has_failed out.new) result machine.old n (Int regs.ax regs.bx regs.cx regs.dx block.now) }
     ensures after { OnOk result (machine.new ≡ after_step machine.old
         (Int regs.ax regs.bx regs.cx regs.dx block.now)) }
+    ensures either { IsTakenOrNot machine.old
+        (Int regs.ax regs.bx regs.cx regs.dx block.now) machine.new }
     ensures valid { IsValid machine.new.bda }
 {
     let outcome = int10(
@@ -206,6 +208,7 @@ pub(crate) fn write_step<W: Write>(
         (has_failed out.new) result machine.old line.old step.now }
     ensures number { line.new ≡ line.old }
     ensures after { OnOk result (machine.new ≡ after_step machine.old step.now) }
+    ensures either { IsTakenOrNot machine.old step.now machine.new }
     ensures valid { IsValid machine.new.bda }
 {
     let answer = match step {
@@ -283,8 +286,10 @@ pub(crate) fn write_last_dumps<W: Write>(
     requires writer { has_failed out.old ≡ false }
     requires numbers { first + length last_dumps < 2 ^ 64 }
     requires valid { IsValid machine.old.bda }
-    ensures { WritesReport (W.contents (inner_of out.old)) (W.contents (inner_of out.new))
+    ensures text { WritesReport (W.contents (inner_of out.old)) (W.contents (inner_of out.new))
         (has_failed out.new) result machine.old first last_dumps }
+    ensures after { OnOk result (machine.new ≡ after_steps machine.old last_dumps) }
+    ensures valid { IsValid machine.new.bda }
 {
     let last_dumps = [
         Step::Show {

@@ -15,7 +15,6 @@ ghost use Rattle.vga_run.specs.ScreenReport.{AreOfScreens, ReportsScreens, RunsS
 
 use super::machine::Machine;
 use super::screens::{bytes_fit, reports_are_dots, reports_are_screens};
-use super::steps_report::write_report;
 use bios_modes::Fonts;
 use std::alloc::Global;
 use std::io::{Read, Write};
@@ -167,7 +166,7 @@ fn run_steps_over<W: Write>(
         (W.contents (inner_of out.old)) (W.contents (inner_of out.new)) }
 {
     let mut machine = Machine::power_on(alloc, fonts)?;
-    write_report(alloc, out, &mut machine, steps, until)
+    machine.report(alloc, steps, out, until)
 }
 
 /// Runs a script that was decoded or assembled, as `run` does. So its faults are `FontSize`,

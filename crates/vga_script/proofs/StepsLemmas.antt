@@ -1,5 +1,6 @@
 -- The steps of a script in its bytes.
-use Rattle.std.proofs.Common.{◌≡◌, ◌≢◌, ℕ, ◌≤◌, get_or, List, [], length, drop, refl, sym, ap, ◌∙◌, subst, arith, inl}
+use Rattle.std.proofs.Common.{◌≡◌, ◌≢◌, ℕ, zero, suc, ◌+◌, ◌-◌, ◌≤◌, get_or, List, [], ◌∷◌, length, drop, refl, sym, ap, ◌∙◌, subst, arith, inl}
+use Rattle.std.proofs.lemmas.List.{drop-drop}
 use Rattle.vga_script.specs.declared.step.Step.{Step}
 use Rattle.vga_script.specs.declared.version.Version.{Version}
 use Rattle.vga_script.specs.declared.version.Version.TheVariants.{One, Two}
@@ -96,3 +97,20 @@ one_meaning bytes first second (a, h, e) (b, k, f) = e ∙ ap (λ (s : Listing).
 
 pub meaning_fits : (bytes : List ℕ) (steps : List Step) → SpellsExpanded bytes steps → AreInRange steps
 meaning_fits bytes steps (script, h, e) = subst AreInRange (sym e) (steps_in_range bytes script h)
+
+-- ---- steps that are passed over
+
+-- behind the first i and one more, those are left that the one leaves
+pub one_passed : (all left : List Step) (i : ℕ) (step : Step) → drop i all ≡ step ∷ left → left ≡ drop (i + 1) all
+one_passed all left i step e = sym (ap (drop 1) e) ∙ drop-drop 1 i all
+
+-- where none is behind the first i, none is behind more
+none_behind : (n : ℕ) (left : List Step) → left ≡ [] → drop n left ≡ []
+none_behind zero left e = e
+none_behind (suc n) [] e = refl
+none_behind (suc n) (step ∷ left) e = absurd (cc)
+
+pub all_passed : (all : List Step) (i n : ℕ) → i ≤ n → drop i all ≡ [] → drop n all ≡ []
+all_passed all i n within e =
+    let split : i + (n - i) ≡ n = omega arith in
+    ap (λ (k : ℕ). drop k all) (sym split) ∙ sym (drop-drop (n - i) i all) ∙ none_behind (n - i) (drop i all) e

@@ -1,5 +1,5 @@
 //! The steps that a script means where they stand in its bytes, one after the other.
-ghost use Rattle.std.specs.Prelude.{◌≡◌, ◌≤◌, length, IfErr, IfOk, IfSome};
+ghost use Rattle.std.specs.Prelude.{◌≡◌, ◌≤◌, length, drop, IfErr, IfOk, IfSome};
 ghost use Rattle.vga_script.specs.Decoding.{IsFault};
 ghost use Rattle.vga_script.specs.Front.{listing_of};
 ghost use Rattle.vga_script.specs.Item.{expanded, step_limit};
@@ -101,6 +101,17 @@ impl<'a> Steps<'a> {
                 Some(step)
             }
             Err(_) => None, // A step stands there.
+        }
+    }
+
+    /// Passes over the first `count` steps, or over all where there are fewer.
+    pub fn pass_over(&mut self, count: usize)
+        ensures { self.new ≡ drop count self.old }
+    {
+        'steps: for _ in 0..count {
+            let Some(_) = self.next() else {
+                return;
+            };
         }
     }
 }

@@ -2,19 +2,23 @@
 use Rattle.std.proofs.Common.{◌≡◌, ◌+◌, ◌∙◌, length, take}
 use Rattle.std.proofs.lemmas.Result.{err_from_is_err_and}
 use Rattle.vga_run.specs.Report.{last_dumps}
-use Rattle.vga_run.proofs.ReportLemmas.{writes_others, err_of_more}
-use Rattle.vga_run.proofs.steps_report.write_until.Goals as goal
+use Rattle.vga_run.proofs.ReportLemmas.{writes_others, err_of_more, others_after}
+use Rattle.vga_run.proofs.machine.report.write_until.Goals as goal
 
-pub returns-in_err-write_first : goal.returns-in_err-write_first
-returns-in_err-write_first g c =
+pub returns-in_err-write_first-clause-text : goal.returns-in_err-write_first-clause-text
+returns-in_err-write_first-clause-text g c =
     let w = rw c.of-line.ensures at c.in_err-write_first.ensures.text in
     let p = err_from_is_err_and c.from_residual.result c.from_residual.ensures.1 in
     rw (p.1, p.2) (err_of_more _ _ _ _ c.args.machine.now 1 (take c.args.most c.args.steps) last_dumps w)
 
-pub returns : goal.returns
-returns g c =
+pub returns-clause-text : goal.returns-clause-text
+returns-clause-text g c =
     let w = rw c.of-line.ensures at c.in_ok-write_first.ensures.text in
     let number : c.number.result ≡ 1 + length (take c.args.most c.args.steps) = c.number.ensures
     ∙ (rw c.of-line.ensures at c.in_ok-write_first.ensures.number) in
     writes_others _ _ _ _ _ c.args.machine.now _ 1 _ (take c.args.most c.args.steps) last_dumps c.in_ok-write_first.ensures.after number w.0
-    c.write_last_dumps.ensures
+    c.write_last_dumps.ensures.text
+
+pub returns-clause-after : goal.returns-clause-after
+returns-clause-after g c =
+    others_after _ c.args.machine.now _ _ (take c.args.most c.args.steps) last_dumps c.in_ok-write_first.ensures.after c.write_last_dumps.ensures.after

@@ -1,8 +1,8 @@
 use Rattle.std.proofs.Common.{◌∙◌, take, refl, sym, arith}
 use Rattle.std.proofs.lemmas.Result.{err_from_is_err_and}
-use Rattle.vga_run.proofs.ReportLemmas.{reported_none, reported_more, reported_err, reported_all}
+use Rattle.vga_run.proofs.ReportLemmas.{reported_none, reported_more, reported_err, reported_all, way_more}
 use Rattle.vga_run.proofs.TakenLemmas.{taken, none_taken, first_few}
-use Rattle.vga_run.proofs.steps_report.write_first.Goals as goal
+use Rattle.vga_run.proofs.machine.report.write_first.Goals as goal
 
 -- no step is taken
 pub steps-init : goal.steps-init
@@ -33,6 +33,12 @@ returns-in_err-write_step-clause-text g c =
     let t = taken c.args.steps c.next.new.self c.steps.counter c.args.most c.in-Some.step c.steps-test.true (sym i.others ∙ c.in-Some.ensures.taken) in
     let p = err_from_is_err_and c.from_residual.result c.from_residual.ensures.1 in
     rw (p.1, p.2) (reported_err _ _ _ _ _ _ _ _ c.args.line.now _ _ _ _ _ i.reported i.number t.within t.is c.in_err-write_step.ensures.text)
+
+pub returns-in_err-write_step-clause-way : goal.returns-in_err-write_step-clause-way
+returns-in_err-write_step-clause-way g c =
+    let i = c.steps.invariant in
+    let t = taken c.args.steps c.next.new.self c.steps.counter c.args.most c.in-Some.step c.steps-test.true (sym i.others ∙ c.in-Some.ensures.taken) in
+    way_more _ _ _ (take c.args.most c.args.steps) c.steps.counter _ _ i.reported.state t.within t.is c.in_err-write_step.ensures.either
 
 -- one more line
 pub steps-preserved : goal.steps-preserved
@@ -67,6 +73,9 @@ returns-in_default-clause-after g c =
     let none = none_taken c.args.steps c.steps.counter c.args.most (sym i.others ∙ c.in_default.ensures.taken.0) in
     let all = reported_all _ _ _ _ _ c.args.line.now _ _ i.reported none in all.1
 
+pub returns-in_default-clause-way : goal.returns-in_default-clause-way
+returns-in_default-clause-way g c = (c.steps.counter, c.steps.invariant.reported.state)
+
 pub returns-in_default-clause-valid : goal.returns-in_default-clause-valid
 returns-in_default-clause-valid g c = c.steps.invariant.reported.valid
 
@@ -89,6 +98,9 @@ returns-clause-after g c =
     let i = c.steps.invariant in
     let few = first_few c.args.steps c.args.most in
     let all = reported_all _ _ _ _ _ c.args.line.now _ _ i.reported (omega arith) in all.1
+
+pub returns-clause-way : goal.returns-clause-way
+returns-clause-way g c = (c.steps.counter, c.steps.invariant.reported.state)
 
 pub returns-clause-valid : goal.returns-clause-valid
 returns-clause-valid g c = c.steps.invariant.reported.valid

@@ -1,7 +1,7 @@
 use Rattle.std.proofs.Common.{◌≡◌, ◌+◌, ◌≤◌, length, take, drop}
 use Rattle.vga_bits.specs.Tracked.{inner_of, has_failed}
 use Rattle.vga_run.proofs.ReportLemmas.{Reported}
-use Rattle.vga_run.proofs.steps_report.write_first.Given as goal
+use Rattle.vga_run.proofs.machine.report.write_first.Given as goal
 
 -- the lines of the steps so far are written, the others are left, and the next has the next number
 abbrev pub invariant-steps : goal.invariant-steps

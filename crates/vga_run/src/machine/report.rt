@@ -1,0 +1,159 @@
+//! The report of steps that a machine takes.
+ghost use Rattle.std.specs.Prelude.{◌≡◌, ◌≢◌, ◌+◌, ◌<◌, ◌≤◌, ◌^◌, length, take, false, OnOk, Ok};
+ghost use Rattle.std.specs.Prelude.{Some, Err};
+ghost use Rattle.vga_bits.specs.declared.fault.Fault.TheVariants.{OutOfMemory};
+ghost use Rattle.vga_bits.specs.Tracked.{inner_of, has_failed};
+ghost use Rattle.bios_modes.specs.Valid.{IsValid};
+ghost use Rattle.vga_run.specs.Report.{steps_until};
+ghost use Rattle.vga_run.specs.Run.{IsOnTheWay, WritesReport};
+ghost use Rattle.vga_run.specs.Step.{after_steps};
+ghost use Rattle.vga_script.specs.Spelling.{script_limit};
+
+use super::Machine;
+use crate::numbered_line::NumberedLine;
+use crate::report::{write_last_dumps, write_step};
+use std::alloc::Global;
+use std::io::Write;
+use vga_bits::{Fault, Tracked, flush};
+use vga_script::Steps;
+
+/// Takes so many of the first steps, all if there are fewer, and writes a line for each.
+fn write_first<W: Write>(
+    alloc: Global,
+    out: &mut Tracked<W>,
+    line: &mut NumberedLine,
+    machine: &mut Machine,
+    steps: Steps<'_>,
+    most: usize,
+) -> Result<(), Fault>
+    requires writer { has_failed out.old ≡ false }
+    requires numbers { line.old + length steps < 2 ^ 64 }
+    requires valid { IsValid machine.old.bda }
+    ensures text { WritesReport (W.contents (inner_of out.old)) (W.contents (inner_of out.new))
+        (has_failed out.new) result machine.old line.old (take most steps.entry) }
+    ensures number { OnOk result (line.new ≡ line.old + length (take most steps.entry)) }
+    ensures after { OnOk result (machine.new ≡ after_steps machine.old (take most steps.entry)) }
+    ensures way { IsOnTheWay machine.old (take most steps.entry) machine.new }
+    ensures valid { IsValid machine.new.bda }
+{
+    let mut left = steps;
+    'steps: for _ in 0..most {
+        let Some(step) = left.next() else {
+            return Ok(());
+        };
+        write_step(alloc, out, line, machine, &step)?;
+        line.count_up();
+    }
+    Ok(())
+}
+
+/// Takes so many of the first steps, all if there are fewer, and then the last dumps.
+fn write_until<W: Write>(
+    alloc: Global,
+    out: &mut Tracked<W>,
+    machine: &mut Machine,
+    steps: Steps<'_>,
+    most: u32,
+) -> Result<(), Fault>
+    requires writer { has_failed out.old ≡ false }
+    requires few { length steps ≤ script_limit }
+    requires valid { IsValid machine.old.bda }
+    ensures text { WritesReport (W.contents (inner_of out.old)) (W.contents (inner_of out.new))
+        (has_failed out.new) result machine.old 1 (steps_until (Some most) steps.entry) }
+    ensures after { OnOk result
+        (machine.new ≡ after_steps machine.old (steps_until (Some most) steps.entry)) }
+    ensures valid { IsValid machine.new.bda }
+{
+    let mut line = NumberedLine::of(1);
+    write_first(alloc, out, &mut line, machine, steps, most as usize)?;
+    write_last_dumps(alloc, out, machine, line.number())
+}
+
+/// Takes the steps on this machine, all of them or so many of the first with the last dumps.
+fn write_steps<W: Write>(
+    alloc: Global,
+    out: &mut Tracked<W>,
+    machine: &mut Machine,
+    steps: Steps<'_>,
+    until: Option<u32>,
+) -> Result<(), Fault>
+    requires writer { has_failed out.old ≡ false }
+    requires few { length steps ≤ script_limit }
+    requires valid { IsValid machine.old.bda }
+    ensures text { WritesReport (W.contents (inner_of out.old)) (W.contents (inner_of out.new))
+        (has_failed out.new) result machine.old 1 (steps_until until steps.entry) }
+    ensures after { OnOk result
+        (machine.new ≡ after_steps machine.old (steps_until until steps.entry)) }
+    ensures valid { IsValid machine.new.bda }
+{
+    match until {
+        Some(most) => write_until(alloc, out, machine, steps, most),
+        None => {
+            let mut line = NumberedLine::of(1);
+            write_first(alloc, out, &mut line, machine, steps, usize::MAX)
+        }
+    }
+}
+
+impl Machine {
+    /// Takes the steps of a script, all of them or so many of the first with the last dumps, writes
+    /// what each answers, of which the first has the number 1, and flushes the writer.
+    ///
+    /// # Errors
+    ///
+    /// - `WriteFault`: the writer failed, and has a front of the report.
+    /// - `OutOfMemory`: a step that takes memory got none. The answers of the steps before it are
+    ///   written, whole.
+    #[tactic(auto, using(crate::proofs::ReportLemmas::report_is_flushed))]
+    pub fn report<W: Write>(
+        &mut self,
+        alloc: Global,
+        steps: Steps<'_>,
+        out: &mut Tracked<W>,
+        until: Option<u32>,
+    ) -> Result<(), Fault>
+        requires writer { has_failed out.old ≡ false }
+        requires few { length steps ≤ script_limit }
+        requires valid { IsValid self.old.bda }
+        ensures text { WritesReport (W.contents (inner_of out.old)) (W.contents (inner_of out.new))
+            (has_failed out.new) result self.old 1 (steps_until until steps.entry) }
+        ensures after { OnOk result
+            (self.new ≡ after_steps self.old (steps_until until steps.entry)) }
+        ensures valid { IsValid self.new.bda }
+    {
+        write_steps(alloc, out, self, steps, until)?;
+        flush(out)
+    }
+
+    /// Takes so many of the first steps, all if there are fewer, and writes what each answers, of
+    /// which the first has the number `number`; that is counted on to the step behind them. Other
+    /// steps may go on from there.
+    ///
+    /// # Errors
+    ///
+    /// As those of `report`. The machine has then taken some of the first steps, and none in part;
+    /// `number` stays.
+    pub fn take_steps<W: Write>(
+        &mut self,
+        alloc: Global,
+        steps: Steps<'_>,
+        most: usize,
+        number: &mut usize,
+        out: &mut Tracked<W>,
+    ) -> Result<(), Fault>
+        requires writer { has_failed out.old ≡ false }
+        requires numbers { number.old + length steps < 2 ^ 64 }
+        requires valid { IsValid self.old.bda }
+        ensures text { WritesReport (W.contents (inner_of out.old)) (W.contents (inner_of out.new))
+            (has_failed out.new) result self.old number.old (take most steps.entry) }
+        ensures number { OnOk result (number.new ≡ number.old + length (take most steps.entry)) }
+        ensures after { OnOk result (self.new ≡ after_steps self.old (take most steps.entry)) }
+        ensures way { IsOnTheWay self.old (take most steps.entry) self.new }
+        ensures valid { IsValid self.new.bda }
+    {
+        let mut line = NumberedLine::of(*number);
+        write_first(alloc, out, &mut line, self, steps, most)?;
+        *number = line.number();
+        Ok(())
+    }
+}
