@@ -29,11 +29,11 @@ extern "C" {
 /* The interface that this header describes. The major number changes when a call, a struct or a
  * status is no longer what it was; the minor one grows when some are added. */
 #define ZAK_API_MAJOR 1
-#define ZAK_API_MINOR 0
+#define ZAK_API_MINOR 1
 #define ZAK_API_VERSION (65536u * ZAK_API_MAJOR + ZAK_API_MINOR) /* as zak_version() tells it */
 
 /* What a call answers. 1 to 13 are the refusals E1 to E13 of docs/REPORT.md; 102 and up are the
- * faults of zak_run, 100 more than their numbers F2 to F11 there. */
+ * faults of scripts, 100 more than their numbers F2 to F11 there. */
 typedef uint32_t zak_status;
 enum {
     ZAK_OK = 0,
@@ -68,6 +68,7 @@ enum {
     ZAK_BAD_STEP = 104,
     ZAK_TRUNCATED = 105,
     ZAK_TOO_LONG = 106,
+    ZAK_BAD_LINE = 107,      /* of zak_assemble */
     ZAK_TOO_MANY = 111
 };
 
@@ -94,9 +95,9 @@ typedef struct zak_card {
 uint32_t zak_version(void);
 
 /* A machine at power-on, with the glyphs of a font file: fonts/zaklimot.fnt. It takes 7.4 MB by
- * malloc, which zak_close frees. Of the other calls only zak_show_.., zak_screen_.., zak_run and
- * zak_int10 with AX = 1017 (hexadecimal) take memory, which they free before they return. Answers
- * ZAK_OPEN_ALREADY, ZAK_FONT_SIZE, ZAK_OUT_OF_MEMORY. */
+ * malloc, which zak_close frees. Of the other calls only zak_show_.., zak_screen_.., zak_run,
+ * zak_run_on, zak_assemble, zak_print and zak_int10 with AX = 1017 (hexadecimal) take memory, which
+ * they free before they return. Answers ZAK_OPEN_ALREADY, ZAK_FONT_SIZE, ZAK_OUT_OF_MEMORY. */
 zak_status zak_open(zak_card *card, const uint8_t *fonts, size_t fonts_len);
 zak_status zak_close(zak_card *card);
 
@@ -245,6 +246,29 @@ zak_status zak_restore(zak_card *card, const uint8_t *bytes, size_t bytes_len);
  * Where a run fails, no report is written. */
 zak_status zak_run(const uint8_t *script, size_t script_len, const uint8_t *fonts, size_t fonts_len,
                    uint8_t *report, size_t report_cap, size_t *report_len, size_t *place);
+
+/* Steps of a script on an open card: at most `most` of them, after the first `first`, which are
+ * passed over. The steps of a `repeat` count each time that they are taken. The report has a line
+ * for each step that was taken, numbered first + 1, first + 2, and so on; *taken tells how many,
+ * fewer than `most` only where the script ends. So a script can be taken in slices, with other
+ * calls between them.
+ * ZAK_NO_ROOM: the steps are taken all the same; *report_len and *taken are written, the report is
+ * not. The faults of zak_run leave the card as it was. ZAK_OUT_OF_MEMORY: some of the first steps
+ * may have been taken, none in part; restore a saved state. ZAK_BAD_CARD as with zak_int10. */
+zak_status zak_run_on(zak_card *card, const uint8_t *script, size_t script_len, uint32_t first,
+                      uint32_t most, uint8_t *report, size_t report_cap, size_t *report_len,
+                      size_t *taken, size_t *place);
+
+/* The bytes of the script that a text spells. ZAK_NO_ROOM: *script_len tells how many they are.
+ * ZAK_BAD_LINE: *line is the number of the first bad line, from 1. ZAK_TOO_LONG: the text or the
+ * script has more than 16,777,216 bytes. */
+zak_status zak_assemble(const uint8_t *text, size_t text_len, uint8_t *script, size_t script_cap,
+                        size_t *script_len, size_t *line);
+
+/* The text that spells the script of some bytes: one line a step, every value in full. ZAK_NO_ROOM:
+ * *text_len tells how many bytes it has. The faults of zak_run, with *place. */
+zak_status zak_print(const uint8_t *script, size_t script_len, uint8_t *text, size_t text_cap,
+                     size_t *text_len, size_t *place);
 
 #ifdef __cplusplus
 }

@@ -7,7 +7,7 @@ use Rattle.vga_script.specs.declared.dump_range.Shown.{Shown}
 use Rattle.vga_script.specs.declared.dump_range.Shown.TheVariants.{Plane}
 use Rattle.vga_run.specs.declared.machine.Machine.{Machine}
 use Rattle.vga_run.specs.Step.{dump_refusal, dump_text}
-use Rattle.vga_c.specs.declared.handle.Handle.{Handle}
+use Rattle.vga_c.specs.Handle.{HandleState, machine_of}
 use Rattle.vga_c.specs.Buffers.{IsCopied}
 use Rattle.vga_c.specs.Cards.{Keeps, LeavesClosed, Spares}
 use Rattle.vga_c.specs.Status.{bad_argument, bad_card, out_of_memory, refusal_status}
@@ -38,14 +38,14 @@ Dumps m what before after status =
 
 -- a call that may read a card and tell the caller what it finds: an open card stays as it is, and
 -- so does one that is not open, of which nothing is told
-abbrev pub LooksAt : Handle → Handle → Told → Told → ℕ → Type 0
+abbrev pub LooksAt : HandleState → HandleState → Told → Told → ℕ → Type 0
 LooksAt old new before after status = Keeps old new
     × (LeavesClosed old new status × Spares old before after)
 
 -- such a call, and its dump of an open card
-abbrev pub Shows : Shown → Handle → Handle → Told → Told → ℕ → Type 0
+abbrev pub Shows : Shown → HandleState → HandleState → Told → Told → ℕ → Type 0
 Shows what old new before after status = LooksAt old new before after status
-    × (old.is_open ≡ true → Dumps old.sealed.machine what before after status)
+    × (old.is_open ≡ true → Dumps (machine_of old) what before after status)
 
 -- some bytes of a plane, 1 to 256, none past its end
 abbrev pub is_plane_part : ℕ → ℕ → ℕ → Bool
@@ -53,7 +53,7 @@ is_plane_part plane offset count = nat_lt plane 4 && (nat_lt 0 count && (nat_le 
     && nat_le (offset + count) 0x1_0000))
 
 -- such a call, and its dump of some bytes of a plane; others are refused
-abbrev pub ShowsPart : ℕ → ℕ → ℕ → Handle → Handle → Told → Told → ℕ → Type 0
+abbrev pub ShowsPart : ℕ → ℕ → ℕ → HandleState → HandleState → Told → Told → ℕ → Type 0
 ShowsPart plane offset count old new before after status = LooksAt old new before after status
     × ((is_plane_part plane offset count ≡ true →
     Shows (Plane plane offset count) old new before after status)

@@ -9,14 +9,14 @@ use Rattle.vga_run.specs.declared.machine.Machine.{Machine}
 use Rattle.vga_run.specs.Answer.{Reply, Picture, Ragged}
 use Rattle.vga_run.specs.Step.{after_step, answer_to}
 use Rattle.vga_c.specs.declared.frames.Size.{Size}
-use Rattle.vga_c.specs.declared.handle.Handle.{Handle}
+use Rattle.vga_c.specs.Handle.{HandleState, machine_of}
 use Rattle.vga_c.specs.Buffers.{IsCopied, room_status, with_front}
 use Rattle.vga_c.specs.Cards.{Holds}
 use Rattle.vga_c.specs.Status.{no_room, ragged}
 
 -- an open card comes to the end of the frame under way
-abbrev pub EndsFrame : Handle → Handle → Type 0
-EndsFrame old new = old.is_open ≡ true → Holds new (after_step old.sealed.machine Frame)
+abbrev pub EndsFrame : HandleState → HandleState → Type 0
+EndsFrame old new = old.is_open ≡ true → Holds new (after_step (machine_of old) Frame)
 
 -- how large a picture is
 abbrev pub size_of : ℕ → ℕ → Size
@@ -35,9 +35,9 @@ HasBytes Ragged size_old size old new status =
 HasBytes reply size_old size old new status = ⊥
 
 -- that is so of the frame of an open card
-abbrev pub DrawsBytes : Handle → Size → Size → List ℕ → List ℕ → ℕ → Type 0
+abbrev pub DrawsBytes : HandleState → Size → Size → List ℕ → List ℕ → ℕ → Type 0
 DrawsBytes card size_old size old new status = card.is_open ≡ true →
-    HasBytes (answer_to card.sealed.machine Frame) size_old size old new status
+    HasBytes (answer_to (machine_of card) Frame) size_old size old new status
 
 -- ---- a word a dot
 
@@ -82,9 +82,9 @@ HasWords Ragged pitch size_old size old new status =
 HasWords reply pitch size_old size old new status = ⊥
 
 -- that is so of the frame of an open card
-abbrev pub DrawsWords : Handle → ℕ → Size → Size → List ℕ → List ℕ → ℕ → Type 0
+abbrev pub DrawsWords : HandleState → ℕ → Size → Size → List ℕ → List ℕ → ℕ → Type 0
 DrawsWords card pitch size_old size old new status = card.is_open ≡ true →
-    HasWords (answer_to card.sealed.machine Frame) pitch size_old size old new status
+    HasWords (answer_to (machine_of card) Frame) pitch size_old size old new status
 
 -- ---- line by line
 
@@ -93,11 +93,11 @@ abbrev pub frame_dots : Machine → List Dot
 frame_dots m = (frame m.card).drawn
 
 -- the caller has how many of the frame of an open card each line has
-abbrev pub CountsLines : Handle → List ℕ → Type 0
+abbrev pub CountsLines : HandleState → List ℕ → Type 0
 CountsLines card widths = card.is_open ≡ true →
-    widths ≡ line_widths (frame_dots card.sealed.machine)
+    widths ≡ line_widths (frame_dots (machine_of card))
 
 -- and their colours, of which it is told how many bytes they are; or there was no room for them
-abbrev pub CopiesDots : Handle → List ℕ → List ℕ → ℕ → ℕ → Type 0
+abbrev pub CopiesDots : HandleState → List ℕ → List ℕ → ℕ → ℕ → Type 0
 CopiesDots card old new len status = card.is_open ≡ true →
-    IsCopied (bytes_of (frame_dots card.sealed.machine)) old new len status
+    IsCopied (bytes_of (frame_dots (machine_of card))) old new len status

@@ -1,4 +1,5 @@
 pub mod Sealed
+pub mod Handle
 pub mod Status
 pub mod Cards
 pub mod Buffers
@@ -9,5 +10,8 @@ pub mod Dumps
 pub mod State
 pub mod Screens
 pub mod Saved
+pub mod Outcome
 pub mod Runs
+pub mod Texts
+pub mod Steps
 pub mod Version

@@ -2,33 +2,33 @@
 use Rattle.std.specs.Prelude.{◌≡◌, ◌≢◌, ◌⊎◌, ℕ, true, false, List, length}
 use Rattle.bios_modes.specs.Fonts.{file_len, fonts_of}
 use Rattle.vga_run.specs.Machine.{power_on_machine}
-use Rattle.vga_c.specs.declared.handle.Handle.{Handle}
+use Rattle.vga_c.specs.Handle.{HandleState}
 use Rattle.vga_c.specs.Cards.{Holds}
 use Rattle.vga_c.specs.Status.{open_already, font_size, out_of_memory}
 
 -- the card stays as it is, and the call says why
-abbrev pub IsLeft : ℕ → Handle → Handle → ℕ → Type 0
+abbrev pub IsLeft : ℕ → HandleState → HandleState → ℕ → Type 0
 IsLeft why old new status = (new ≡ old) × (status ≡ why)
 
 -- the card has a machine at power-on with the fonts of a font file; or there was no memory for it
-abbrev pub IsOpened : List ℕ → Handle → Handle → ℕ → Type 0
+abbrev pub IsOpened : List ℕ → HandleState → HandleState → ℕ → Type 0
 IsOpened file old new status = (Holds new (power_on_machine (fonts_of file)) × (status ≡ 0))
     ⊎ IsLeft out_of_memory old new status
 
 -- a card that is not open is opened, if the font file has its size
-abbrev pub Opens : List ℕ → Handle → Handle → ℕ → Type 0
+abbrev pub Opens : List ℕ → HandleState → HandleState → ℕ → Type 0
 Opens file old new status = old.is_open ≡ false → length file ≡ file_len →
     IsOpened file old new status
 
 -- and left otherwise
-abbrev pub RefusesFile : List ℕ → Handle → Handle → ℕ → Type 0
+abbrev pub RefusesFile : List ℕ → HandleState → HandleState → ℕ → Type 0
 RefusesFile file old new status = old.is_open ≡ false → length file ≢ file_len →
     IsLeft font_size old new status
 
 -- a card that is open stays as it is
-abbrev pub LeavesOpen : Handle → Handle → ℕ → Type 0
+abbrev pub LeavesOpen : HandleState → HandleState → ℕ → Type 0
 LeavesOpen old new status = old.is_open ≡ true → IsLeft open_already old new status
 
 -- an open card is closed
-abbrev pub Closes : Handle → Handle → ℕ → Type 0
+abbrev pub Closes : HandleState → HandleState → ℕ → Type 0
 Closes old new status = old.is_open ≡ true → (new.is_open ≡ false) × (status ≡ 0)

@@ -5,7 +5,7 @@ use Rattle.vga_bits.specs.declared.state_fault.StateFault.TheVariants.{BadMagic,
 use Rattle.vga_bits.specs.declared.state_fault.StateFault.TheVariants.{BadLength, BadPart}
 use Rattle.vga_run.specs.declared.machine.Machine.{Machine}
 use Rattle.vga_run.specs.Saved.{IsSavedMachine, IsStateFault, machine_from, saved_machine}
-use Rattle.vga_c.specs.declared.handle.Handle.{Handle}
+use Rattle.vga_c.specs.Handle.{HandleState, machine_of}
 use Rattle.vga_c.specs.Buffers.{IsCopied}
 
 -- how many bytes the state of a machine has
@@ -13,9 +13,9 @@ abbrev pub saved_size : Machine → ℕ
 saved_size m = length (saved_machine m)
 
 -- the caller's buffer begins with the state of an open card, if it has room
-abbrev pub Saves : Handle → List ℕ → List ℕ → ℕ → ℕ → Type 0
+abbrev pub Saves : HandleState → List ℕ → List ℕ → ℕ → ℕ → Type 0
 Saves card old new len status = card.is_open ≡ true →
-    IsCopied (saved_machine card.sealed.machine) old new len status
+    IsCopied (saved_machine (machine_of card)) old new len status
 
 -- the number of why bytes are no state
 abbrev pub state_status : StateFault → ℕ
@@ -31,6 +31,6 @@ IsRestored old new bytes status =
     ⊎ ((why : StateFault) × IsStateFault why bytes × (new ≡ old) × (status ≡ state_status why))
 
 -- that is so of the machine of an open card, which stays open
-abbrev pub Restores : Handle → Handle → List ℕ → ℕ → Type 0
+abbrev pub Restores : HandleState → HandleState → List ℕ → ℕ → Type 0
 Restores old new bytes status = old.is_open ≡ true → (new.is_open ≡ true)
-    × IsRestored old.sealed.machine new.sealed.machine bytes status
+    × IsRestored (machine_of old) (machine_of new) bytes status

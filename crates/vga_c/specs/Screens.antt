@@ -7,7 +7,7 @@ use Rattle.bios_screen.specs.Screen.{Screen}
 use Rattle.bios_screen.specs.Parts.{cell_at, pixel_at, cursor_at}
 use Rattle.bios_screen.specs.Shown.{shown}
 use Rattle.vga_run.specs.declared.machine.Machine.{Machine}
-use Rattle.vga_c.specs.declared.handle.Handle.{Handle}
+use Rattle.vga_c.specs.Handle.{HandleState, machine_of}
 use Rattle.vga_c.specs.declared.screens.ScreenLayout.{ScreenLayout}
 use Rattle.vga_c.specs.declared.screens.Cell.{Cell}
 use Rattle.vga_c.specs.declared.screens.Place.{Place}
@@ -71,9 +71,9 @@ HasOfScreen m ask before after status = ((after ≡ before) × (status ≡ out_o
     ⊎ IsAsked (shown m.card m.bda) ask before after status
 
 -- that is so of an open card
-abbrev pub Asks : {A : Type 0} → (Screen → Option A) → Handle → A → A → ℕ → Type 0
+abbrev pub Asks : {A : Type 0} → (Screen → Option A) → HandleState → A → A → ℕ → Type 0
 Asks ask card before after status = card.is_open ≡ true →
-    HasOfScreen card.sealed.machine ask before after status
+    HasOfScreen (machine_of card) ask before after status
 
 -- what is asked of a screen: its layout, a cell, a pixel, the cursor's place on a page
 abbrev pub ask_layout : Screen → Option ScreenLayout

@@ -12,7 +12,7 @@ use Rattle.vga_run.specs.declared.machine.Machine.{Machine}
 use Rattle.vga_run.specs.declared.answer.Answer.TheVariants.{Refused}
 use Rattle.vga_run.specs.Answer.{Reply, Plain, Served, of_service}
 use Rattle.vga_run.specs.Step.{TakesMemory, after_step, answer_to}
-use Rattle.vga_c.specs.declared.handle.Handle.{Handle}
+use Rattle.vga_c.specs.Handle.{HandleState, machine_of}
 use Rattle.vga_c.specs.declared.services.CallRegisters.{CallRegisters}
 use Rattle.vga_c.specs.Buffers.{IsCopied}
 use Rattle.vga_c.specs.Status.{bad_card, out_of_memory, refusal_status}
@@ -57,18 +57,18 @@ IsCalled old new step before after status =
     ⊎ ((new ≡ after_step old step) × HasAnswer (answer_to old step) before after status)
 
 -- that is so of an open card with valid BIOS data, which stay valid
-abbrev pub Calls : Handle → Handle → List ℕ → Told → Told → ℕ → Type 0
-Calls old new block before after status = old.is_open ≡ true → IsValid old.sealed.machine.bda →
-    (new.is_open ≡ true) × (IsValid new.sealed.machine.bda
-    × IsCalled old.sealed.machine new.sealed.machine (call_step before.registers block) before after
+abbrev pub Calls : HandleState → HandleState → List ℕ → Told → Told → ℕ → Type 0
+Calls old new block before after status = old.is_open ≡ true → IsValid (machine_of old).bda →
+    (new.is_open ≡ true) × (IsValid (machine_of new).bda
+    × IsCalled (machine_of old) (machine_of new) (call_step before.registers block) before after
     status)
 
 -- a machine with other data stays as it is, and so does all that is the caller's
-abbrev pub IsLeftBad : Machine → Machine → Told → Told → ℕ → Type 0
+abbrev pub IsLeftBad : {A : Type 0} → Machine → Machine → A → A → ℕ → Type 0
 IsLeftBad old new before after status = (IsValid old.bda → ⊥) →
     (new ≡ old) × ((after ≡ before) × (status ≡ bad_card))
 
 -- that is so of the machine of an open card
-abbrev pub LeavesBad : Handle → Handle → Told → Told → ℕ → Type 0
+abbrev pub LeavesBad : {A : Type 0} → HandleState → HandleState → A → A → ℕ → Type 0
 LeavesBad old new before after status = old.is_open ≡ true →
-    (new.is_open ≡ true) × IsLeftBad old.sealed.machine new.sealed.machine before after status
+    (new.is_open ≡ true) × IsLeftBad (machine_of old) (machine_of new) before after status

@@ -8,7 +8,7 @@ use Rattle.vga_dac.specs.declared.component.Component.TheVariants.{Red, Green, B
 use Rattle.vga_card.specs.Dots.{fresh}
 use Rattle.vga_card.specs.Picture.{rows}
 use Rattle.vga_run.specs.declared.machine.Machine.{Machine}
-use Rattle.vga_c.specs.declared.handle.Handle.{Handle}
+use Rattle.vga_c.specs.Handle.{HandleState, machine_of}
 use Rattle.vga_c.specs.declared.state.Registers.{Registers}
 use Rattle.vga_c.specs.declared.state.Colour.{Colour}
 use Rattle.vga_c.specs.declared.state.Beam.{Beam}
@@ -107,6 +107,6 @@ IsPlaneRead memory plane offset old new status =
     × (is_in_plane plane offset (length old) ≡ false → (new ≡ old) × (status ≡ bad_argument))
 
 -- that is so of an open card's memory
-abbrev pub TellsPlane : ℕ → ℕ → Handle → List ℕ → List ℕ → ℕ → Type 0
+abbrev pub TellsPlane : ℕ → ℕ → HandleState → List ℕ → List ℕ → ℕ → Type 0
 TellsPlane plane offset card old new status = card.is_open ≡ true →
-    IsPlaneRead card.sealed.machine.card.host.memory plane offset old new status
+    IsPlaneRead (machine_of card).card.host.memory plane offset old new status

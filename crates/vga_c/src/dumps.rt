@@ -158,7 +158,7 @@ pub extern "C" fn zak_show_plane(
     ensures { ShowsPart plane offset count card.old card.new (told text.old len.old)
         (told text.new len.new) result }
 {
-    if !card.is_open {
+    if !card.is_open() {
         return NO_CARD;
     }
     if !is_plane_part(plane, offset, count) {

@@ -1,18 +1,43 @@
 //! A card in the memory of a C program.
 ghost use Rattle.std.specs.Prelude.{◌≡◌, true, false};
+ghost use Rattle.vga_c.specs.Handle.{machine_of};
 
 use crate::parts::Parts;
 use crate::sealed::Sealed;
 use std::alloc::Global;
+use std::marker::Model;
 use vga_run::machine::Machine;
 
 /// A card, open or not. All bytes 0 are one that is not open.
+///
+/// Contracts see whether it is open, and the machine that it then has.
 #[repr(C)]
 #[derive(Drop)]
 pub struct Handle {
-    pub(crate) is_open: bool,
+    is_open: bool,
     sealed: Sealed,
-    ghost open: { is_open ≡ sealed.full },
+}
+
+impl Model for Handle {
+    ghost use Rattle.std.specs.Prelude.{◌≡◌};
+    ghost use Rattle.vga_c.specs.Handle.{HandleState};
+
+    ghost Value = { HandleState };
+
+    ghost view = { λ h. record { is_open = h.is_open; kept = h.sealed } };
+
+    ghost inverse = { λ d. record { is_open = d.is_open; sealed = d.kept } };
+
+    ghost invariant = { λ h. h.is_open ≡ h.sealed.full };
+}
+
+impl Handle {
+    /// Whether the card is open.
+    pub(crate) fn is_open(&self) -> bool
+        ensures { result ≡ self.now.is_open }
+    {
+        self.is_open
+    }
 }
 
 // A card may move to another thread, which then calls it alone.
@@ -22,7 +47,7 @@ unsafe impl Send for Handle {}
 /// card is not open. While the call runs the handle is empty.
 macro_rules! on_open_card {
     ($alloc:ident, $card:ident, $machine:ident => $call:expr) => {{
-        if !$card.is_open {
+        if !$card.is_open() {
             return crate::status::NO_CARD;
         }
         let mut held = crate::handle::take($alloc, $card);
@@ -38,7 +63,7 @@ pub(crate) use on_open_card;
 /// The machine of an open card, whose handle is empty from then on.
 pub(crate) fn take(alloc: Global, card: &mut Handle) -> Box<Machine>
     requires { card.old.is_open ≡ true }
-    ensures machine { result.value ≡ card.old.sealed.machine }
+    ensures machine { result.value ≡ machine_of card.old }
     ensures closed { card.new.is_open ≡ false }
 {
     let empty = Handle {
@@ -52,7 +77,7 @@ pub(crate) fn take(alloc: Global, card: &mut Handle) -> Box<Machine>
 /// Gives a machine to a handle, which is open from then on.
 pub(crate) fn give(card: &mut Handle, machine: Box<Machine>)
     ensures open { card.new.is_open ≡ true }
-    ensures machine { card.new.sealed.machine ≡ machine.value }
+    ensures machine { machine_of card.new ≡ machine.value }
 {
     *card = Handle {
         is_open: true,

@@ -1,9 +1,10 @@
 //! The adapter and its video BIOS as a library that C programs link.
 //!
-//! A card lives in a struct of the caller's from `zak_open` to `zak_close`. Each call on it is a
-//! step of a script: the card is afterwards what it is after that step, and the call answers a
-//! number, 0 or that of the refusal. Others read the state, and leave it. A call on a card that is
-//! not open changes nothing, and says so.
+//! A card lives in a struct of the caller's from `zak_open` to `zak_close`. Cycles, dots, frames
+//! and interrupt 10 are steps of a script: the card is afterwards what it is after that step, and
+//! the call answers a number, 0 or that of the refusal. `zak_run_on` takes any steps of a script.
+//! Other calls read the state and leave it, or save and restore it. A call on a card that is not
+//! open changes nothing, and says so.
 #![tactic(auto)]
 
 mod buffer;
@@ -12,6 +13,7 @@ mod dumps;
 mod frames;
 mod handle;
 mod opening;
+mod outcome;
 mod parts;
 mod runs;
 mod saved;
@@ -20,4 +22,6 @@ mod sealed;
 mod services;
 mod state;
 mod status;
+mod steps;
+mod texts;
 mod version;

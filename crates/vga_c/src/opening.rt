@@ -29,7 +29,7 @@ pub extern "C" fn zak_open(alloc: Global, card: &mut Handle, fonts: &[u8]) -> u3
     ensures file { RefusesFile fonts.now card.old card.new result }
     ensures open { LeavesOpen card.old card.new result }
 {
-    if card.is_open {
+    if card.is_open() {
         return OPEN_ALREADY;
     }
     match power_on(alloc, fonts) {
@@ -53,7 +53,7 @@ pub extern "C" fn zak_close(alloc: Global, card: &mut Handle) -> u32
     ensures open { Closes card.old card.new result }
     ensures closed { LeavesClosed card.old card.new result }
 {
-    if !card.is_open {
+    if !card.is_open() {
         return NO_CARD;
     }
     let _machine = take(alloc, card);

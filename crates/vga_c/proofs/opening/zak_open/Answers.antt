@@ -1,14 +1,14 @@
 use Rattle.std.proofs.Common.{rules}
 use Rattle.vga_c.proofs.opening.zak_open.Goals as goal
 
-pub returns-then-card-clause-opened : goal.returns-then-card-clause-opened
-returns-then-card-clause-opened c = search rules
+pub returns-then-is_open-clause-opened : goal.returns-then-is_open-clause-opened
+returns-then-is_open-clause-opened c = search rules
 
-pub returns-then-card-clause-file : goal.returns-then-card-clause-file
-returns-then-card-clause-file c = search rules
+pub returns-then-is_open-clause-file : goal.returns-then-is_open-clause-file
+returns-then-is_open-clause-file c = search rules
 
-pub returns-then-card-clause-open : goal.returns-then-card-clause-open
-returns-then-card-clause-open c = search rules
+pub returns-then-is_open-clause-open : goal.returns-then-is_open-clause-open
+returns-then-is_open-clause-open c = search rules
 
 pub returns-in-Ok-new-clause-opened : goal.returns-in-Ok-new-clause-opened
 returns-in-Ok-new-clause-opened c = search rules

@@ -1,17 +1,17 @@
 use Rattle.std.proofs.Common.{rules}
 use Rattle.vga_c.proofs.saved.zak_save_size.Goals as goal
 
-pub returns-then-not-card-clause-card : goal.returns-then-not-card-clause-card
-returns-then-not-card-clause-card c = search rules
+pub returns-then-not-is_open-clause-card : goal.returns-then-not-is_open-clause-card
+returns-then-not-is_open-clause-card c = search rules
 
-pub returns-then-not-card-clause-len : goal.returns-then-not-card-clause-len
-returns-then-not-card-clause-len c = search rules
+pub returns-then-not-is_open-clause-len : goal.returns-then-not-is_open-clause-len
+returns-then-not-is_open-clause-len c = search rules
 
-pub returns-then-not-card-clause-closed : goal.returns-then-not-card-clause-closed
-returns-then-not-card-clause-closed c = search rules
+pub returns-then-not-is_open-clause-closed : goal.returns-then-not-is_open-clause-closed
+returns-then-not-is_open-clause-closed c = search rules
 
-pub returns-then-not-card-clause-spared : goal.returns-then-not-card-clause-spared
-returns-then-not-card-clause-spared c = search rules
+pub returns-then-not-is_open-clause-spared : goal.returns-then-not-is_open-clause-spared
+returns-then-not-is_open-clause-spared c = search rules
 
 pub returns-clause-card : goal.returns-clause-card
 returns-clause-card c = search rules

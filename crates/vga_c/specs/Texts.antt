@@ -1,0 +1,47 @@
+-- The text of a script as bytes, and its bytes as text.
+use Rattle.std.specs.Prelude.{◌≡◌, ◌⊎◌, ◌≤◌, ℕ, List, Result, Ok, Err, length}
+use Rattle.vga_bits.specs.declared.fault.Fault.{Fault}
+use Rattle.vga_bits.specs.declared.fault.Fault.TheVariants.{OutOfMemory}
+use Rattle.vga_script.specs.Decoding.{IsFault}
+use Rattle.vga_script.specs.Item.{Listing}
+use Rattle.vga_script.specs.Printing.{printed}
+use Rattle.vga_script.specs.Script.{IsTextFault}
+use Rattle.vga_script.specs.Spelling.{script_limit, encoding, Spells}
+use Rattle.vga_script.specs.Text.{SpellsText}
+use Rattle.vga_c.specs.Outcome.{Told, Gives}
+
+-- the text spells a script, and these are its bytes
+abbrev pub IsAssembled : List ℕ → List ℕ → Type 0
+IsAssembled text bytes = (length text ≤ script_limit)
+    × ((script : Listing) × SpellsText text script × (bytes ≡ encoding script))
+
+-- the first fault of a text; or there was no memory
+abbrev pub IsFaultOfText : List ℕ → Fault → Type 0
+IsFaultOfText text why = (why ≡ OutOfMemory) ⊎ IsTextFault text why
+
+-- the bytes of a text's script, or the first fault
+abbrev pub IsOutcomeOfText : List ℕ → Result (List ℕ) Fault → Type 0
+IsOutcomeOfText text (Ok bytes) = IsAssembled text bytes
+IsOutcomeOfText text (Err why) = IsFaultOfText text why
+
+-- the caller has that
+abbrev pub Assembles : List ℕ → Told → Told → ℕ → Type 0
+Assembles text = Gives (IsOutcomeOfText text)
+
+-- the bytes spell a script, and this is its printed text
+abbrev pub IsPrinted : List ℕ → List ℕ → Type 0
+IsPrinted bytes text = (length bytes ≤ script_limit)
+    × ((script : Listing) × Spells bytes script × (text ≡ printed script))
+
+-- the first fault of some bytes; or there was no memory
+abbrev pub IsFaultOfBytes : List ℕ → Fault → Type 0
+IsFaultOfBytes bytes why = (why ≡ OutOfMemory) ⊎ IsFault bytes why
+
+-- the printed text of the script that bytes spell, or the first fault
+abbrev pub IsOutcomeOfBytes : List ℕ → Result (List ℕ) Fault → Type 0
+IsOutcomeOfBytes bytes (Ok text) = IsPrinted bytes text
+IsOutcomeOfBytes bytes (Err why) = IsFaultOfBytes bytes why
+
+-- the caller has that
+abbrev pub Prints : List ℕ → Told → Told → ℕ → Type 0
+Prints bytes = Gives (IsOutcomeOfBytes bytes)

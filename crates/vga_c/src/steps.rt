@@ -1,0 +1,136 @@
+//! Steps of a script on an open card.
+ghost use Rattle.std.specs.Prelude.{◌≡◌, ◌+◌, ◌<◌, ◌≤◌, ◌^◌, ℕ, length, take};
+ghost use Rattle.bios_modes.specs.Valid.{IsValid};
+ghost use Rattle.vga_c.specs.Cards.{LeavesClosed, Spares};
+ghost use Rattle.vga_c.specs.Services.{IsLeftBad, LeavesBad};
+ghost use Rattle.vga_c.specs.Steps.{AreTakenOrCutOff, IsRunOn, RunsOn, told};
+
+use crate::buffer::copy_front;
+use crate::handle::{Handle, on_open_card};
+use crate::outcome::tell_fault;
+use crate::status::{BAD_CARD, OUT_OF_MEMORY};
+use std::alloc::Global;
+use vga_bits::Tracked;
+use vga_run::machine::Machine;
+use vga_script::Steps;
+
+/// Takes so many steps on a machine, of which the first has this number, and gives the caller their
+/// report.
+fn take_steps(
+    alloc: Global,
+    machine: &mut Machine,
+    steps: Steps<'_>,
+    number: usize,
+    most: usize,
+    out: &mut [u8],
+    len: &mut usize,
+    taken: &mut usize,
+) -> u32
+    requires valid { IsValid machine.old.bda }
+    requires numbers { number + length steps < 2 ^ 64 }
+    ensures taken { (place : ℕ) → AreTakenOrCutOff (take most steps.entry) number machine.old
+        machine.new (told out.old len.old taken.old place) (told out.new len.new taken.new place)
+        result }
+    ensures valid { IsValid machine.new.bda }
+{
+    let mut report = Tracked::new(Vec::new(alloc));
+    let mut next = number;
+    match machine.take_steps(alloc, steps, most, &mut next, &mut report) {
+        Ok(()) => {
+            *taken = next - number;
+            copy_front(out, len, report.into_inner().as_slice())
+        }
+        Err(_) => OUT_OF_MEMORY, // The report is written into memory.
+    }
+}
+
+/// Takes steps of a script on a machine whose data are valid.
+fn run_valid(
+    alloc: Global,
+    machine: &mut Machine,
+    script: &[u8],
+    first: u32,
+    most: u32,
+    out: &mut [u8],
+    len: &mut usize,
+    taken: &mut usize,
+    place: &mut usize,
+) -> u32
+    requires { IsValid machine.old.bda }
+    ensures run { IsRunOn script.now first most machine.old machine.new
+        (told out.old len.old taken.old place.old) (told out.new len.new taken.new place.new)
+        result }
+    ensures valid { IsValid machine.new.bda }
+{
+    match Steps::of(script) {
+        Ok(all) => {
+            let mut steps = all;
+            steps.pass_over(first as usize);
+            let number = first as usize + 1;
+            take_steps(
+                alloc,
+                machine,
+                steps,
+                number,
+                most as usize,
+                out,
+                len,
+                taken,
+            )
+        }
+        Err(fault) => tell_fault(fault, place),
+    }
+}
+
+/// Takes steps of a script on a machine, if its data are valid.
+fn run(
+    alloc: Global,
+    machine: &mut Machine,
+    script: &[u8],
+    first: u32,
+    most: u32,
+    out: &mut [u8],
+    len: &mut usize,
+    taken: &mut usize,
+    place: &mut usize,
+) -> u32
+    ensures run { IsValid machine.old.bda → IsRunOn script.now first most machine.old machine.new
+        (told out.old len.old taken.old place.old) (told out.new len.new taken.new place.new)
+        result }
+    ensures valid { IsValid machine.old.bda → IsValid machine.new.bda }
+    ensures bad { IsLeftBad machine.old machine.new (told out.old len.old taken.old place.old)
+        (told out.new len.new taken.new place.new) result }
+{
+    if !machine.bda.valid() {
+        return BAD_CARD;
+    }
+    run_valid(alloc, machine, script, first, most, out, len, taken, place)
+}
+
+/// Takes so many steps of a script, or all that there are, behind the first ones, which are passed
+/// over, and writes their report. The report's numbers go on from those passed over.
+#[unsafe(no_mangle)]
+pub extern "C" fn zak_run_on(
+    alloc: Global,
+    card: &mut Handle,
+    script: &[u8],
+    first: u32,
+    most: u32,
+    out: &mut [u8],
+    len: &mut usize,
+    taken: &mut usize,
+    place: &mut usize,
+) -> u32
+    ensures run { RunsOn script.now first most card.old card.new
+        (told out.old len.old taken.old place.old) (told out.new len.new taken.new place.new)
+        result }
+    ensures bad { LeavesBad card.old card.new (told out.old len.old taken.old place.old)
+        (told out.new len.new taken.new place.new) result }
+    ensures closed { LeavesClosed card.old card.new result }
+    ensures spared { Spares card.old (told out.old len.old taken.old place.old)
+        (told out.new len.new taken.new place.new) }
+{
+    on_open_card!(alloc, card, machine => {
+        run(alloc, machine, script, first, most, out, len, taken, place)
+    })
+}

@@ -1,0 +1,67 @@
+//! The text of a script as bytes, and its bytes as text.
+ghost use Rattle.std.specs.Prelude.{◌≡◌, IfErr, IfOk};
+ghost use Rattle.vga_c.specs.Outcome.{told};
+ghost use Rattle.vga_c.specs.Texts.{Assembles, IsAssembled, IsFaultOfBytes, IsFaultOfText};
+ghost use Rattle.vga_c.specs.Texts.{IsPrinted, Prints};
+
+use crate::buffer::copy_front;
+use crate::outcome::tell_fault;
+use std::alloc::Global;
+use vga_bits::Fault;
+use vga_script::{assemble, decode, encode, print};
+
+/// The bytes of the script that a text spells, or its first fault.
+fn bytes_of_text(alloc: Global, text: &[u8]) -> Result<Vec<u8>, Fault>
+    ensures ok { IfOk result (λ bytes. IsAssembled text.now bytes.items) }
+    ensures err { IfErr result (IsFaultOfText text.now) }
+{
+    let script = assemble(alloc, text)?;
+    encode(alloc, &script)
+}
+
+/// Writes the bytes of the script that a text spells. With no room, `len` tells how many they are;
+/// at a bad line, `line` tells which.
+#[unsafe(no_mangle)]
+pub extern "C" fn zak_assemble(
+    alloc: Global,
+    text: &[u8],
+    out: &mut [u8],
+    len: &mut usize,
+    line: &mut usize,
+) -> u32
+    ensures { Assembles text.now (told out.old len.old line.old) (told out.new len.new line.new)
+        result }
+{
+    match bytes_of_text(alloc, text) {
+        Ok(bytes) => copy_front(out, len, bytes.as_slice()),
+        Err(fault) => tell_fault(fault, line),
+    }
+}
+
+/// The printed text of the script that some bytes spell, or their first fault.
+fn text_of_bytes(alloc: Global, bytes: &[u8]) -> Result<Vec<u8>, Fault>
+    ensures ok { IfOk result (λ text. IsPrinted bytes.now text.items) }
+    ensures err { IfErr result (IsFaultOfBytes bytes.now) }
+{
+    let script = decode(alloc, bytes)?;
+    print(alloc, &script)
+}
+
+/// Writes the printed text of the script that some bytes spell. With no room, `len` tells how many
+/// bytes it has; at a bad step, `place` tells where.
+#[unsafe(no_mangle)]
+pub extern "C" fn zak_print(
+    alloc: Global,
+    script: &[u8],
+    out: &mut [u8],
+    len: &mut usize,
+    place: &mut usize,
+) -> u32
+    ensures { Prints script.now (told out.old len.old place.old) (told out.new len.new place.new)
+        result }
+{
+    match text_of_bytes(alloc, script) {
+        Ok(text) => copy_front(out, len, text.as_slice()),
+        Err(fault) => tell_fault(fault, place),
+    }
+}
