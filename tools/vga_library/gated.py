@@ -1,8 +1,8 @@
 """The crate's archive right behind the gate, over the libraries that `rt ci` proved and built.
 
 `rt lib` does not take these, and would prove all crates once more. So its calls of the compiler are made here, over them: the
-crate itself is proved again, once, and each compiler builds what that proved. It is right as long as no source changed since
-`rt ci` ran.
+crate itself is proved again, once, and kept in a folder, so that each compiler builds what that proved. It is right as long as no
+source changed since `rt ci` ran.
 """
 
 from __future__ import annotations
@@ -10,11 +10,13 @@ from __future__ import annotations
 import os
 from functools import cache
 from pathlib import Path
+from typing import NamedTuple, Optional
 
 from vga_report.trouble import Trouble
 
 from .header import TOP
-from .toolchain import CRATE, run
+from .running import Hearer, run
+from .toolchain import CRATE, kit_folder
 
 # What every crate stands on, unnamed.
 ALWAYS = "std"
@@ -60,29 +62,46 @@ def _libraries(kit: Path) -> list[str | Path]:
     return words
 
 
-def _kit() -> Path:
-    """The kit's folder."""
-    return Path(run(["rt", "doc"]).strip()).parent
-
-
-def _words(kit: Path) -> list[str | Path]:
+def crate_words(kit: Path) -> list[str | Path]:
     """What the compiler is told of the crate, whatever it is to do."""
     words = ["--crate-name", CRATE.name, "src/lib.rt", *_libraries(kit)]
     words += ["--antt-project", kit / "rattle" / "logic" / "antt-project.json"]
     return [*words, "--links", f"{CRATE.name}=", "--crate-type", "staticlib"]
 
 
-def gated_proof(made: Path) -> Path:
-    """Proves the crate, and keeps in a folder what the compilers build it from."""
-    kit = _kit()
-    words = [*_words(kit), "--logic-built", kit / "logic_built", "--jobs", str(min(4, os.cpu_count() or 1))]
-    run([kit / "bin" / "rattle", "check", *words, "-o", made], CRATE)
-    return made
+def proving_words(kit: Path, incremental: str | Path) -> list[str | Path]:
+    """What it is told besides where it proves the crate, over what it has kept of that in a folder."""
+    jobs = min(4, os.cpu_count() or 1)
+    return [*crate_words(kit), "--logic-built", kit / "logic_built", "--jobs", str(jobs), "--incremental", incremental]
 
 
-def gated_archive(backend: str, proof: Path, made: Path) -> Path:
+class GatedProof(NamedTuple):
+    """A folder that keeps the crate's proof: what the compilers build from, and what makes a second check quick."""
+
+    folder: Path
+
+    @property
+    def checked(self) -> Path:
+        return self.folder / "checked"
+
+    @property
+    def incremental(self) -> Path:
+        return self.folder / "incremental"
+
+
+def gated_proof(folder: Path, heard: Optional[Hearer] = None) -> GatedProof:
+    """Proves the crate into a folder, unless that has its proof. The compiler refuses one of other sources."""
+    kit, proof = kit_folder(), GatedProof(folder.absolute())
+    if not proof.checked.exists():
+        folder.mkdir(parents=True, exist_ok=True)
+        words = proving_words(kit, proof.incremental)
+        run([kit / "bin" / "rattle", "check", *words, "-o", proof.checked], CRATE, heard)
+    return proof
+
+
+def gated_archive(backend: str, proof: GatedProof, made: Path) -> Path:
     """Builds the archive, of which a folder keeps the proof, by one of the two compilers into a file."""
-    kit = _kit()
-    words = [*_words(kit), "--crate-checked", proof, "--toolchain", kit / "toolchain", "--backend", backend]
+    kit = kit_folder()
+    words = [*crate_words(kit), "--crate-checked", proof.checked, "--toolchain", kit / "toolchain", "--backend", backend]
     run([kit / "bin" / "rattle", "build", *words, "-o", made], CRATE)
     return made

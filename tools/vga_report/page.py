@@ -94,11 +94,12 @@ class Page:
         cells = [f'<td class="number">{difference.number}</td>', *(f"<td>{text}</td>" for text in (*texts, dots))]
         self._add(cells, "differs")
 
-    def text(self, title: str, said: str) -> str:
-        """The whole page."""
+    def text(self, title: str, said: str, link: Optional[str] = None) -> str:
+        """The whole page, with a link to the one that runs the script, where there is one."""
         frames = json.dumps([frame._asdict() for frame in self._frames]).replace("<", "\\u003c")
         captions = (f"<figcaption>{escape(caption)}</figcaption>" for caption in self._captions)
         figures = "".join(f"<figure><canvas></canvas>{caption}</figure>" for caption in captions)
+        runs = "" if link is None else f' <a href="{escape(link)}">Run it step by step</a>'
         heads = "".join(f"<th>{escape(column)}</th>" for column in self._columns)
         return f"""<!DOCTYPE html>
 <html lang="en">
@@ -111,7 +112,7 @@ class Page:
 </head>
 <body>
 <h1>{escape(title)}</h1>
-<p>{escape(said)}</p>
+<p>{escape(said)}{runs}</p>
 <section id="viewer" hidden>
 <div class="controls">
 <input id="frame" type="range" min="0" value="0" aria-label="frame">

@@ -1,0 +1,21 @@
+// The check that the page makes of its examples, without a browser: own.mjs MODULE PAGE
+import { readFileSync } from "node:fs";
+import { Adapter } from "../../page/adapter.js";
+import { bytesOfBase64 } from "../../page/bytes.js";
+import { Session } from "../../page/session.js";
+
+const [module, page] = process.argv.slice(2);
+const found = readFileSync(page, "utf-8").match(/<script type="application\/json" id="zaklimot-data">([^]*?)<\/script>/);
+const data = JSON.parse(found[1]), fonts = bytesOfBase64(data.fonts), wrong = [];
+const adapter = await Adapter.opened(new Uint8Array(readFileSync(module)));
+let expected = 0;
+for (const { name, text } of data.examples) {
+  const session = new Session(adapter, fonts, text);
+  while (session.runFor(1000));
+  const differs = session.compared();
+  if (differs) wrong.push(`${name}: ${differs}`);
+  if (session.wrong) wrong.push(`${name}: ${session.wrong} answers are not as expected`);
+  expected += session.expected;
+  session.close();
+}
+process.stdout.write(JSON.stringify({ examples: data.examples.length, expected, wrong }));
