@@ -51,10 +51,11 @@ def check_built(module: bytes, page: bytes) -> tuple[str, Optional[bytes]]:
     own = module_in(page)
     wanted = make_page(own, read_sources())
     if page != wanted:
-        raise Wrong(f"{NAME} is not the page that its sources make: {_first_difference(page, wanted)}; {ANEW}")
+        where = _first_difference(page, wanted)
+        raise Wrong(f"{NAME} is not the page that its sources make: {where}; {ANEW}")
     if own == module:
         return f"{NAME} is the page that its sources make, {len(page):,} bytes", None
     if kit_of(own) == kit_of(module):
         raise Wrong(f"the module in {NAME} is not the one that the crate makes: {ANEW}")
-    told = f"{NAME} is the page that its sources make around a module of another kit, {kit_of(own)}: the suite judges that"
-    return told, own
+    kit = kit_of(own)
+    return f"{NAME} is the page that its sources make around a module of another kit, {kit}: the suite judges it", own

@@ -34,17 +34,23 @@ def _parser() -> argparse.ArgumentParser:
         prog="vga-page-tests", description="Tests the page that runs scripts in a browser, and its module.",
         epilog="Exit status: 0 all is right; 1 something is wrong; 2 the tests can't be made.",
     )
-    parser.add_argument("--module", metavar="FILE", help="a module that was made already; else it is made, twice")
     parser.add_argument(
-        "--gated", action="store_true", help="over the libraries that `rt ci` left, which must have run just before"
+        "--module", metavar="FILE", help="a module that was made already; else it is made, twice"
     )
     parser.add_argument(
-        "--proof", type=Path, metavar="FOLDER", help="with --gated: keeps the crate's proof there, or takes it from there"
+        "--gated", action="store_true",
+        help="over the libraries that `rt ci` left, which must have run just before",
     )
     parser.add_argument(
-        "--browser", action="store_true", help="the page as built in Chromium alone: it wants the package chromium"
+        "--proof", type=Path, metavar="FOLDER",
+        help="with --gated: keeps the crate's proof there, or takes it from there",
     )
-    parser.add_argument("--only", action="append", default=[], choices=CHECKS, help="this check alone; again and again")
+    parser.add_argument(
+        "--browser", action="store_true", help="the page as built in Chromium, alone; it wants the package chromium"
+    )
+    parser.add_argument(
+        "--only", action="append", default=[], choices=CHECKS, help="this check alone; again and again"
+    )
     return parser
 
 
@@ -61,7 +67,8 @@ def _modules(words: argparse.Namespace, progress: Progress) -> list[bytes]:
 def check_modules(modules: list[bytes]) -> str:
     """The module has what the page relies on, and is the same bytes each time."""
     if len(set(modules)) != 1:
-        raise Wrong(f"two modules of the same crate differ: {', '.join(f'{len(one):,} bytes' for one in modules)}")
+        lengths = ", ".join(f"{len(one):,} bytes" for one in modules)
+        raise Wrong(f"two modules of the same crate differ: {lengths}")
     return check_module(modules[0]) + (", the same twice" if len(modules) > 1 else "")
 
 

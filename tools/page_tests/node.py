@@ -28,14 +28,15 @@ def _answer(words: Sequence[str]) -> str:
 
 
 def node_words() -> list[str]:
-    """The words that start node, with 64-bit memories. A Trouble says what is lacking, and which package brings it."""
+    """The words that start node, with 64-bit memories; a Trouble names the package where it is lacking."""
     path = shutil.which(NAME)
     if path is None:
         raise Trouble(f"it is not in the path: install the package {PACKAGE}", NAME)
     version = _answer([path, "--version"])
     found = re.match(r"v([0-9]+)\.", version)
     if found is None or int(found[1]) < LEAST:
-        raise Trouble(f"it is {version or 'of no version'}, and the tests need {LEAST} or newer: the package {PACKAGE}", NAME)
+        reason = f"it is {version or 'of no version'}, and the tests need {LEAST} or newer: the package {PACKAGE}"
+        raise Trouble(reason, NAME)
     for words in ([path], [path, FLAG]):
         if _answer([*words, "-p", TRIED]) == "true":
             return words

@@ -1,4 +1,4 @@
-"""What the page's own scripts do: their tests in node, the page's own check of its examples, and the page in a browser."""
+"""What the page's own scripts do: their tests, the page's check of its examples, and the page in a browser."""
 
 from __future__ import annotations
 
@@ -74,11 +74,12 @@ def check_scripts(module: bytes) -> str:
 
 
 def check_own(module: bytes) -> str:
-    """The check that the page makes of its examples, over the module that is in it: each answers as by `zak_run`, and as expected."""
+    """The page's check of its examples, over the module in it: each answers as by `zak_run`, and as expected."""
     with _file_of(module, "module.wasm") as path:
         answer = json.loads(run_node([OWN, path, PAGE]))
     if answer["wrong"] or not answer["examples"]:
-        raise Wrong("\n".join(["the page's check of its examples:", *(f"  {line}" for line in answer["wrong"])]))
+        lines = [f"  {line}" for line in answer["wrong"]]
+        raise Wrong("\n".join(["the page's check of its examples:", *lines]))
     return f"{answer['examples']} examples answer as by zak_run, {answer['expected']} answers as expected"
 
 

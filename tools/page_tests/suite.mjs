@@ -1,21 +1,22 @@
-// Runs the suite's scripts through a module, and compares each report with the program's: suite.mjs MODULE CASES.json
+// Runs the suite's scripts through a module, and compares each report with the program's:
+//     suite.mjs MODULE CASES.json
 // What differs is told, and how many cases each way has run.
 import { createHash } from "node:crypto";
 import { readFileSync } from "node:fs";
 import { Adapter } from "../../page/adapter.js";
 import { FAULT_NAMES } from "../../page/faults.js";
 
-const OK = 0, FONT_SIZE = 22, NO_ROOM = 25, BAD_LINE = 107;
+const OK = 0, FONT_SIZE = 22, BAD_LINE = 107;
 const WITH_PLACE = [104, 105, 107, 111];
-const MOST = 0xFFFFFFFF;
+const ALL = 0xFFFFFFFF;
 const SLICES = [7, 1];
 // A slice passes over the steps before it, so that short slices of a long script take the square of its length.
 const MOST_PASSED = 30_000_000;
-// So many bytes more than the report that is expected: a longer one is told by its bytes.
+// The room for a report is so much larger than the one that is expected, that a longer one is seen as such.
 const MARGIN = 4096;
 
-const digest = bytes => createHash("sha256").update(bytes).digest("hex");
 const file = name => new Uint8Array(readFileSync(name));
+const sumOf = bytes => ({ length: bytes.length, sha256: createHash("sha256").update(bytes).digest("hex") });
 
 /** A fault as the program prints it. */
 function faultLine(status, place) {
@@ -23,61 +24,86 @@ function faultLine(status, place) {
   return new TextEncoder().encode(name + (WITH_PLACE.includes(status) ? `(${place})` : "") + "\n");
 }
 
-/** The bytes of a text, or the line of its fault: { status, bytes, fault }. */
+/** The bytes of a text, or the line of its fault. */
 function assembled(adapter, text) {
   const given = adapter.given("text", text), told = adapter.told.at;
   const { status, bytes } = adapter.written("script", 1024, room =>
     adapter.calls.zak_assemble(given.at, given.length, room.at, room.length, told, told + 8n));
-  return { status, bytes, fault: status ? faultLine(status, status === BAD_LINE ? adapter.number(1) : 0) : null };
+  const line = status === BAD_LINE ? adapter.number(1) : 0;
+  return { bytes, fault: status === OK ? null : faultLine(status, line) };
 }
 
-/** The report of a whole run. */
+/** The report of a whole run, or the line of its fault. */
 function byRun(adapter, script, fonts) {
   const { status, report, place } = adapter.run(script, fonts);
-  return status ? faultLine(status, place) : report;
+  return status === OK ? report : faultLine(status, place);
 }
 
-/** The report of a script that is run slice by slice on a card: { steps, report }. */
-function bySlices(adapter, script, fonts, slice, room) {
-  const calls = adapter.calls, told = adapter.told.at, card = BigInt(calls.page_take(16n));
-  adapter.bytes.fill(0, Number(card), Number(card) + 16);
-  const font = adapter.given("fonts", fonts), hash = createHash("sha256"), opened = calls.zak_open(card, font.at, font.length);
-  let steps = 0, length = 0, taken = slice, status = opened;
-  const given = adapter.given("steps", script), report = adapter.room("answers", room);
-  while (status === OK && taken === slice) {
-    status = calls.zak_run_on(card, given.at, given.length, steps, slice, report.at, report.length, told, told + 8n, told + 16n);
-    if (status !== OK) break;
-    taken = adapter.number(1);
-    const part = adapter.bytes.subarray(report.place, report.place + adapter.number(0));
-    hash.update(part);
-    steps += taken;
-    length += part.length;
+/** A card of the module, whose steps are taken slice by slice. */
+class SlicedCard {
+  constructor(adapter, script, fonts) {
+    const { calls } = adapter, font = adapter.given("fonts", fonts);
+    this.adapter = adapter;
+    this.at = BigInt(calls.page_take(16n));
+    adapter.bytes.fill(0, Number(this.at), Number(this.at) + 16);
+    this.opened = calls.zak_open(this.at, font.at, font.length);
+    this.given = adapter.given("steps", script);
   }
-  const fault = status === OK ? null : faultLine(status, opened === OK ? adapter.number(2) : 0);
-  if (opened === OK) calls.zak_close(card);
-  calls.page_give(card);
-  return { steps, length: fault ? fault.length : length, sha256: fault ? digest(fault) : hash.digest("hex") };
+
+  close() {
+    if (this.opened === OK) this.adapter.calls.zak_close(this.at);
+    this.adapter.calls.page_give(this.at);
+  }
+
+  /** Takes so many steps after the first ones: { status, place, taken, report }. */
+  take(first, most, size) {
+    const { adapter, given } = this, report = adapter.room("answers", size), told = adapter.told.at;
+    const status = adapter.calls.zak_run_on(this.at, given.at, given.length, first, most,
+      report.at, report.length, told, told + 8n, told + 16n);
+    const length = status === OK ? adapter.number(0) : 0;
+    const bytes = adapter.bytes.subarray(report.place, report.place + length);
+    return { status, place: adapter.number(2), taken: adapter.number(1), report: bytes };
+  }
+}
+
+/** The length and the sum of the report of a script that is run slice by slice, and how many steps it has. */
+function bySlices(adapter, script, fonts, slice, size) {
+  const card = new SlicedCard(adapter, script, fonts), hash = createHash("sha256");
+  try {
+    if (card.opened !== OK) return { steps: 0, ...sumOf(faultLine(card.opened, 0)) };
+    let steps = 0, length = 0, taken = slice;
+    while (taken === slice) {
+      const told = card.take(steps, slice, size);
+      if (told.status !== OK) return { steps, ...sumOf(faultLine(told.status, told.place)) };
+      hash.update(told.report);
+      ({ taken } = told);
+      steps += taken;
+      length += told.report.length;
+    }
+    return { steps, length, sha256: hash.digest("hex") };
+  } finally {
+    card.close();
+  }
 }
 
 /** The suite in a module: what differs, and how many cases each way has run. */
 class Suite {
   constructor(module) {
-    this.module = module;
-    this.ways = {};
-    this.wrong = [];
+    Object.assign(this, { module, ways: {}, wrong: [] });
   }
 
   async open() {
     this.adapter = await Adapter.opened(this.module);
   }
 
-  /** Holds an answer to the one that is expected. */
+  /** Holds what a way answers to what is expected: its length and its sum. */
   async hold(one, way, wanted, answer) {
     this.ways[way] = (this.ways[way] ?? 0) + 1;
     try {
       const { length, sha256 } = answer();
       if (sha256 === wanted.sha256 && length === wanted.length) return;
-      this.wrong.push({ name: one.name, way, reason: `${length} bytes of ${sha256}, not ${wanted.length} of ${wanted.sha256}` });
+      const reason = `${length} bytes with the sum ${sha256}, not ${wanted.length} with ${wanted.sha256}`;
+      this.wrong.push({ name: one.name, way, reason });
     } catch (error) {
       this.wrong.push({ name: one.name, way, reason: String(error) });
       // A module in which a call has trapped answers nothing more.
@@ -85,25 +111,32 @@ class Suite {
     }
   }
 
+  /** Runs a case in each way. */
   async run(one) {
     const given = file(one.script), fonts = file(one.fonts);
-    let script = given, fault = null;
-    const summed = bytes => ({ length: bytes.length, sha256: digest(bytes) });
-    if (!one.isBytes) {
-      const made = assembled(this.adapter, given);
-      ({ bytes: script, fault } = made);
-      const wanted = one.assembled ? summed(file(one.assembled)) : one;
-      await this.hold(one, "assembled text", wanted, () => summed(fault ?? script));
-      if (!fault) await this.hold(one, "printed bytes", summed(file(one.printed)), () => summed(this.adapter.printed(script).text));
-    }
-    // Of a text a bad line comes before a font file of another length, and of bytes that comes first.
-    await this.hold(one, one.isBytes ? "bytes" : "text", one, () => summed(fault ?? byRun(this.adapter, script, fonts)));
-    if (one.assembled) await this.hold(one, "bytes", one, () => summed(byRun(this.adapter, file(one.assembled), fonts)));
+    const { bytes: script, fault } = one.isBytes ? { bytes: given, fault: null } : assembled(this.adapter, given);
+    if (!one.isBytes) await this.runText(one, script, fault, fonts);
     if (fault) return;
-    let steps = MOST;
+    await this.hold(one, "bytes", one, () => sumOf(byRun(this.adapter, script, fonts)));
+    await this.runSlices(one, script, fonts);
+  }
+
+  /** The text's bytes, these printed, and the report: each as the program has it. */
+  async runText(one, script, fault, fonts) {
+    const wanted = one.assembled ? sumOf(file(one.assembled)) : one;
+    await this.hold(one, "text to bytes", wanted, () => sumOf(fault ?? script));
+    if (fault) return;
+    const printed = sumOf(file(one.printed));
+    await this.hold(one, "bytes to text", printed, () => sumOf(this.adapter.printed(script).text));
+    await this.hold(one, "text", one, () => sumOf(byRun(this.adapter, script, fonts)));
+  }
+
+  /** The steps all at once, and where the script is short enough in slices of few. */
+  async runSlices(one, script, fonts) {
+    let steps = ALL;
     await this.hold(one, "steps, all at once", one, () => {
-      const answer = bySlices(this.adapter, script, fonts, MOST, one.length + MARGIN);
-      steps = answer.steps;
+      const answer = bySlices(this.adapter, script, fonts, ALL, one.length + MARGIN);
+      ({ steps } = answer);
       return answer;
     });
     for (const slice of SLICES) {

@@ -25,14 +25,16 @@ DRIVER = Path(__file__).resolve().parent / "suite.mjs"
 LIMITS = Limits(60, 256 * MEBIBYTE)
 # What the program says before a fault.
 SAID = "vga: "
+# The way that each case without a bad line is run in.
+STEPS = "steps, all at once"
 # So many cases are told that differ.
 MOST_TOLD = 20
 
 
 def _native(case: Case, folder: Path) -> dict[str, Any]:
-    """A case as the module is to run it: its files, and the digest of the report that the program writes."""
-    stem = folder / case.name.replace("/", "-")
-    script, report, messages = stem.with_suffix(".script"), stem.with_suffix(".report"), stem.with_suffix(".said")
+    """A case as the module is to run it: its files, and the sum of the report that the program writes."""
+    folder.mkdir()
+    script, report, messages = (folder / name for name in ("script", "report", "said"))
     script.write_bytes(case.script() if case.is_bytes else case.stopped_script())
     words = [str(PROGRAM), "run" if case.is_bytes else "go", str(script), "--fonts", str(case.fonts)]
     outcome = run_command(words, report, messages, LIMITS, Event())
@@ -45,13 +47,13 @@ def _native(case: Case, folder: Path) -> dict[str, Any]:
         "length": report.stat().st_size, "sha256": hashlib.sha256(report.read_bytes()).hexdigest(),
         **({} if case.is_bytes else _assembled(script)),
     }
-    messages.unlink(missing_ok=True)
+    # Of long reports with pictures the sum is enough.
     report.unlink()
     return told
 
 
 def _assembled(text: Path) -> dict[str, str]:
-    """The file of the bytes that the program assembles of a text, and that of the text which it prints of these; none of a bad one."""
+    """The files of a text's bytes, and of the text that the program prints of these; none where it has a fault."""
     made, printed = text.with_suffix(".bin"), text.with_suffix(".dis")
     if subprocess.run([PROGRAM, "asm", text, made], capture_output=True).returncode:
         return {}
@@ -66,7 +68,7 @@ def check_suite(module: bytes, folder: Path) -> str:
         raise Trouble("the program isn't built: (cd crates/vga && rt run -- --help) builds it", str(PROGRAM))
     cases = read_cases(str(SUITE))
     with ThreadPoolExecutor(os.cpu_count() or 1) as pool:
-        told = list(pool.map(lambda case: _native(case, folder), cases))
+        told = list(pool.map(_native, cases, (folder / str(number) for number in range(len(cases)))))
     listed, file = folder / "cases.json", folder / "module.wasm"
     listed.write_text(json.dumps(told), "utf-8")
     file.write_bytes(module)
@@ -80,6 +82,6 @@ def judged(answer: dict[str, Any], count: int) -> str:
         lines = [f"  {one['name']}, by {one['way']}: {one['reason']}" for one in wrong[:MOST_TOLD]]
         raise Wrong("\n".join([f"{len(wrong)} reports differ from the program's", *lines]))
     ways: dict[str, int] = answer["ways"]
-    if not ways.get("bytes") or not ways.get("steps, all at once") or min(ways.values()) == 0 or ways["bytes"] > count:
+    if not (ways.get("bytes") and ways.get(STEPS)) or min(ways.values()) == 0 or ways["bytes"] > count:
         raise Wrong(f"too few cases were run: {ways}")
     return "; ".join(f"by {way} {number}" for way, number in ways.items()) + f"; of {count} cases"

@@ -1,8 +1,8 @@
 """The crate's archive right behind the gate, over the libraries that `rt ci` proved and built.
 
-`rt lib` does not take these, and would prove all crates once more. So its calls of the compiler are made here, over them: the
-crate itself is proved again, once, and kept in a folder, so that each compiler builds what that proved. It is right as long as no
-source changed since `rt ci` ran.
+`rt lib` does not take these, and would prove all crates once more. So its calls of the compiler are made
+here, over them: the crate itself is proved again, once, and kept in a folder, so that each compiler builds
+what that proved. It is right as long as no source changed since `rt ci` ran.
 """
 
 from __future__ import annotations
@@ -72,11 +72,12 @@ def crate_words(kit: Path) -> list[str | Path]:
 def proving_words(kit: Path, incremental: str | Path) -> list[str | Path]:
     """What it is told besides where it proves the crate, over what it has kept of that in a folder."""
     jobs = min(4, os.cpu_count() or 1)
-    return [*crate_words(kit), "--logic-built", kit / "logic_built", "--jobs", str(jobs), "--incremental", incremental]
+    words = [*crate_words(kit), "--logic-built", kit / "logic_built", "--jobs", str(jobs)]
+    return [*words, "--incremental", incremental]
 
 
 class GatedProof(NamedTuple):
-    """A folder that keeps the crate's proof: what the compilers build from, and what makes a second check quick."""
+    """A folder with the crate's proof: what the compilers build from, and what makes a second check quick."""
 
     folder: Path
 
@@ -90,7 +91,7 @@ class GatedProof(NamedTuple):
 
 
 def gated_proof(folder: Path, heard: Optional[Hearer] = None) -> GatedProof:
-    """Proves the crate into a folder, unless that has its proof. The compiler refuses one of other sources."""
+    """Proves the crate into a folder, unless its proof is there. The compiler refuses one of other sources."""
     kit, proof = kit_folder(), GatedProof(folder.absolute())
     if not proof.checked.exists():
         folder.mkdir(parents=True, exist_ok=True)
@@ -102,6 +103,6 @@ def gated_proof(folder: Path, heard: Optional[Hearer] = None) -> GatedProof:
 def gated_archive(backend: str, proof: GatedProof, made: Path) -> Path:
     """Builds the archive, of which a folder keeps the proof, by one of the two compilers into a file."""
     kit = kit_folder()
-    words = [*crate_words(kit), "--crate-checked", proof.checked, "--toolchain", kit / "toolchain", "--backend", backend]
-    run([kit / "bin" / "rattle", "build", *words, "-o", made], CRATE)
+    words = [*crate_words(kit), "--crate-checked", proof.checked, "--toolchain", kit / "toolchain"]
+    run([kit / "bin" / "rattle", "build", *words, "--backend", backend, "-o", made], CRATE)
     return made

@@ -14,11 +14,13 @@ from typing import Callable, Mapping, Optional, Sequence
 from vga_report.trouble import Trouble
 
 # The package of Debian for each program that may be lacking.
-PACKAGES = {"ld": "binutils", "objcopy": "binutils", "ar": "binutils", "nm": "binutils", "cc": "gcc", "node": "nodejs"}
+PACKAGES = {
+    "ld": "binutils", "objcopy": "binutils", "ar": "binutils", "nm": "binutils", "cc": "gcc", "node": "nodejs",
+}
 # So much of what a program says at last is told, and so much of each of its streams is kept.
 MOST_SAID, MOST_KEPT = 2000, 1 << 24
 CHUNK = 1 << 16
-# Seconds between two looks at the time while a program says nothing, and for a group to end when it is asked to.
+# Seconds between two looks at the time while a program says nothing, and for a group to end that is asked to.
 PAUSE, ENDING = 0.5, 5
 # What is told the last whole line that a program has said, again and again while it works.
 Hearer = Callable[[str], None]
@@ -100,7 +102,7 @@ def run(
     seconds: Optional[float] = None,
     environment: Optional[Mapping[str, str]] = None,
 ) -> str:
-    """Runs a program to its end, and answers what it writes. Where it ends badly, that and the words are told."""
+    """Runs a program to its end, and answers what it writes. Where it ends badly, a Trouble tells what it said."""
     name = str(words[0])
     if shutil.which(name) is None:
         package = PACKAGES.get(name)
@@ -108,8 +110,8 @@ def run(
     output, errors = _Stream(), _Stream()
     pipe, environ = subprocess.PIPE, None if environment is None else {**os.environ, **environment}
     with subprocess.Popen(
-        [str(word) for word in words], cwd=folder, env=environ, stdin=subprocess.DEVNULL, stdout=pipe, stderr=pipe,
-        start_new_session=True,
+        [str(word) for word in words], cwd=folder, env=environ, stdin=subprocess.DEVNULL, stdout=pipe,
+        stderr=pipe, start_new_session=True,
     ) as process:
         try:
             _listen(process, output, errors, _heard_until(name, seconds, heard))

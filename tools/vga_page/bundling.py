@@ -1,8 +1,8 @@
 """Joins the page's JavaScript modules into one script.
 
-Each module is an ES module, so that tests can import it as it stands. The joined script has all of them in one scope: a module
-stands after those that it imports, without its import lines and without the word `export`. So names at the top level of all
-modules differ, and an import renames nothing.
+Each module is an ES module, so that tests can import it as it stands. The joined script has all of them in
+one scope: a module stands after those that it imports, without its import lines and without the word
+`export`. So names at the top level of all modules differ, and an import renames nothing.
 """
 
 from __future__ import annotations
@@ -27,7 +27,10 @@ ENDING = re.compile(r"</script|<!--", re.I)
 
 
 class Module(NamedTuple):
-    """A module: its text without import lines and `export`, what it imports by modules, and the names at its top level."""
+    """A module: its text without import lines and `export`, what it imports, and its top-level names.
+
+    What it imports are names by the module that exports them; a top-level name has the number of its line.
+    """
 
     name: str
     text: str
@@ -46,7 +49,8 @@ def _import_of(line: str, name: str, number: int) -> tuple[str, tuple[str, ...]]
 def _names_of(line: str, name: str, number: int) -> list[str]:
     """The names that a line at the top level declares."""
     if TAKEN_APART.match(line):
-        raise Trouble("a name at the top level is declared by itself, and not taken out of a value", name, number)
+        reason = "a name at the top level is declared by itself, and not taken out of a value"
+        raise Trouble(reason, name, number)
     several = SEVERAL.match(line)
     if several is not None:
         return [part.partition("=")[0].strip() for part in several[1].split(",")]
@@ -62,7 +66,8 @@ def read_module(name: str, text: str) -> Module:
     exported: set[str] = set()
     for number, line in enumerate(text.split("\n"), 1):
         if ENDING.search(line):
-            raise Trouble("a page would take this for the end of a script: write <\\/script or <\\!--", name, number)
+            reason = "a page would take this for the end of a script: write <\\/script or <\\!--"
+            raise Trouble(reason, name, number)
         if DYNAMIC.search(line):
             raise Trouble("a module is imported by a line at the top alone", name, number)
         if re.match(r"import\b", line):
@@ -90,7 +95,8 @@ def ordered(modules: Mapping[str, Module]) -> list[Module]:
         if name in done:
             return
         if name in under_way:
-            raise Trouble(f"it is imported in a circle: {' imports '.join([*under_way[under_way.index(name):], name])}", name)
+            circle = [*under_way[under_way.index(name):], name]
+            raise Trouble(f"it is imported in a circle: {' imports '.join(circle)}", name)
         if name not in modules:
             raise Trouble(f"there is no such module, and {importer} imports it", name)
         under_way.append(name)

@@ -22,10 +22,11 @@ DONE, TROUBLE, INTERRUPTED = 0, 2, 130
 def _add_proof(parser: argparse.ArgumentParser) -> None:
     parser.add_argument(
         "--gated", action="store_true",
-        help="over the libraries that `rt ci` left, which must have run just before; else `rt check` proves what is lacking",
+        help="over the libraries that `rt ci` left, which must have run just before; else `rt check` proves all",
     )
     parser.add_argument(
-        "--proof", type=Path, metavar="FOLDER", help="with --gated: keeps the crate's proof there, or takes it from there"
+        "--proof", type=Path, metavar="FOLDER",
+        help="with --gated: keeps the crate's proof there, or takes it from there",
     )
 
 
@@ -36,10 +37,13 @@ def _parser() -> argparse.ArgumentParser:
     )
     commands = parser.add_subparsers(required=True, metavar="COMMAND")
     command = commands.add_parser(
-        "make", help="makes the page", description=f"Makes the page: one file of at most {MOST_BYTES:,} bytes."
+        "make", help="makes the page",
+        description=f"Makes the page: one file of at most {MOST_BYTES:,} bytes.",
     )
-    command.add_argument("file", metavar="FILE", help="the page; the one of the repository is page/zaklimot.html")
-    command.add_argument("--module", metavar="FILE", help="a module that was made already; else it is made")
+    command.add_argument("file", metavar="FILE", help="the page; that of the repository is page/zaklimot.html")
+    command.add_argument(
+        "--module", metavar="FILE", help="a module that was made already; else it is made"
+    )
     _add_proof(command)
     command.set_defaults(job=_make)
     command = commands.add_parser(

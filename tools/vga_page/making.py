@@ -1,4 +1,4 @@
-"""Makes the module: what is proved of the crate, its LLVM module, that one for wasm64, and the linked module."""
+"""Makes the module: the crate's proof, its LLVM module, that one for wasm64, and the linked module."""
 
 from __future__ import annotations
 
@@ -20,9 +20,12 @@ HEAP = Path(__file__).resolve().parent / "heap.c"
 KEPT = Path("out") / "incremental"
 # As Rattle calls clang for this target.
 TARGET = (
-    f"--target={WASM}", f"-mcpu={CPU}", "-mllvm", "-expand-div-rem-bits=64", "-mllvm", "-expand-fp-convert-bits=64",
-    "-ffunction-sections", "-fdata-sections", "-mllvm", "-trap-unreachable", "-mllvm", "-no-x86-call-frame-opt",
-    "-mllvm", "-disable-machine-licm", "-mllvm", "-disable-postra-machine-licm", "-mllvm", "-sink-common-insts=false",
+    f"--target={WASM}", f"-mcpu={CPU}",
+    "-mllvm", "-expand-div-rem-bits=64", "-mllvm", "-expand-fp-convert-bits=64",
+    "-ffunction-sections", "-fdata-sections",
+    "-mllvm", "-trap-unreachable", "-mllvm", "-no-x86-call-frame-opt",
+    "-mllvm", "-disable-machine-licm", "-mllvm", "-disable-postra-machine-licm",
+    "-mllvm", "-sink-common-insts=false",
     "--no-default-config", "-no-canonical-prefixes", "-fno-crash-diagnostics", "-Werror",
 )
 C = ("-O2", "-std=c17", "-ffreestanding", "-nostdinc", "-Wall", "-Wextra")
@@ -72,15 +75,17 @@ class Maker:
         for name in ("ld.lld", "llvm-ar"):
             (folder / "bin" / name).symlink_to(self._tools / name)
         clang = folder / "bin" / "clang"
-        clang.write_text(KEEPER.format(kept=shlex.quote(str(kept)), clang=shlex.quote(str(self._tools / "clang"))), "utf-8")
+        kept_at, real = shlex.quote(str(kept)), shlex.quote(str(self._tools / "clang"))
+        clang.write_text(KEEPER.format(kept=kept_at, clang=real), "utf-8")
         clang.chmod(0o755)
         return folder
 
     def _llvm_text(self, building: Sequence[str | Path], folder: Path) -> str:
         """The text of the LLVM module that Rattle makes of the proved crate for x86-64."""
         kept, text = folder / "module.bc", folder / "native.ll"
-        words = [*building, "--toolchain", self._keeping_toolchain(folder / "toolchain", kept), "--backend", "llvm"]
-        self._rattle("lowering", "build", *words, "-o", folder / "native.a")
+        toolchain = self._keeping_toolchain(folder / "toolchain", kept)
+        words = [*building, "--toolchain", toolchain, "--backend", "llvm", "-o", folder / "native.a"]
+        self._rattle("lowering", "build", *words)
         as_text = ["-S", "-emit-llvm", "-O0", "-Xclang", "-disable-llvm-passes", "-x", "ir"]
         self._run("writing LLVM's text", [self._tools / "clang", *as_text, kept, "-o", text])
         return text.read_text("utf-8")
@@ -106,7 +111,9 @@ class Maker:
         return module
 
 
-def made_modules(phase: Phase, is_gated: bool = False, proof: Optional[Path] = None, times: int = 1) -> list[bytes]:
+def made_modules(
+    phase: Phase, is_gated: bool = False, proof: Optional[Path] = None, times: int = 1
+) -> list[bytes]:
     """Proves the crate once, and makes its module so many times from that, each time the same one.
 
     Gated, the crates below are those that `rt ci` left; a folder keeps the crate's own proof.

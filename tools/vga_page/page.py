@@ -38,7 +38,8 @@ def read_sources(folder: Path = SOURCES) -> Sources:
     """The sources of a folder."""
     names = sorted(path.name for path in folder.glob("*.js"))
     modules = {name: (folder / name).read_text("utf-8") for name in names}
-    return Sources((folder / "index.html").read_text("utf-8"), (folder / "style.css").read_text("utf-8"), modules)
+    frame, style = ((folder / name).read_text("utf-8") for name in ("index.html", "style.css"))
+    return Sources(frame, style, modules)
 
 
 def about(text: str) -> str:

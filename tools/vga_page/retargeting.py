@@ -1,10 +1,11 @@
 """Turns the LLVM module that Rattle makes of the crate for x86-64 into one for wasm64.
 
-Both targets have pointers of 64 bits and the same layout of structs, and Rattle lowers a crate for both in the same way, except
-for what is done here: the data layout and the triple, the attributes of functions, and a wrapper around each export. The wrapper
-traps where an earlier call has trapped, since memory may be half written then. Rattle's own lowering for wasm64 also tests in each
-function whether the stack is spent. That isn't needed: the linker puts the stack below everything else, from address 0 up, so
-what lies past its end has no address, and an access traps.
+Both targets have pointers of 64 bits and the same layout of structs, and Rattle lowers a crate for both in
+the same way, except for what is done here: the data layout and the triple, the attributes of functions, and
+a wrapper around each export. The wrapper traps where an earlier call has trapped, since memory may be half
+written then. Rattle's own lowering for wasm64 also tests in each function whether the stack is spent. That
+isn't needed: the linker puts the stack below everything else, from address 0 up, so what lies past its end
+has no address, and an access traps.
 """
 
 from __future__ import annotations
@@ -27,8 +28,11 @@ NATIVE = re.compile(r'"probe-stack"="inline-asm" "stack-probe-size"="\d+" "targe
 # LLVM would make calls of these functions out of loops, and the module has none of them.
 QUIET = '"no-builtin-bcmp" "no-builtin-memcmp" "no-builtin-strlen"'
 ATTRIBUTES = f'nounwind {QUIET} "target-cpu"="{CPU}"'
-# All that the module may call: these mean the same on both targets. What else it calls is to be looked at first.
-INTRINSICS = frozenset(("llvm.memset.p0.i64", "llvm.memmove.p0.p0.i64", "llvm.memcpy.p0.p0.i64", "llvm.trap"))
+# All that the module may call: these mean the same on both targets. What else it calls is to be looked at
+# first.
+INTRINSICS = frozenset((
+    "llvm.memset.p0.i64", "llvm.memmove.p0.p0.i64", "llvm.memcpy.p0.p0.i64", "llvm.trap",
+))
 HEAP = frozenset(("rattle_alloc", "rattle_realloc", "rattle_dealloc"))
 DECLARED = re.compile(r'^declare [^\n]*?@"?([^"(\n]+)"?\(', re.M)
 # What a module for x86-64 alone may have, each with the words that tell it.
@@ -69,12 +73,12 @@ attributes #{FIRST_NUMBER - 1} = {{ {ATTRIBUTES} "wasm-export-name"="page_give" 
 
 
 class Export(NamedTuple):
-    """A function that the module shows: its result, its name, its parameters and its attributes' number, as LLVM writes them."""
+    """A function that the module shows: its parts as LLVM writes them, and the number of its attributes."""
 
     result: str
     name: str
     parameters: str
-    attributes: str
+    number: str
 
 
 def _refuse_unknown(text: str) -> None:
@@ -127,7 +131,7 @@ attributes #{number} = {{ {ATTRIBUTES} "wasm-export-name"="{export.name}" }}
 
 
 def retargeted(text: str) -> str:
-    """The module for wasm64, in which each export has a wrapper. It also shows `page_take` and `page_give`."""
+    """The module for wasm64, each export in a wrapper. It also shows `page_take` and `page_give`."""
     _refuse_unknown(text)
     text = _with_target(text)
     exports = [Export(*found) for found in EXPORT.findall(text)]

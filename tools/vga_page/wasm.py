@@ -12,7 +12,8 @@ MAGIC = b"\0asm\1\0\0\0"
 CUSTOM, KIT = 0, b"kit"
 IMPORTS, TABLES, MEMORIES, EXPORTS, ELEMENTS = 2, 4, 5, 7, 9
 FUNCTION = 0
-# What the module exports besides the header's calls: its memory, where the heap begins, and how the page takes memory from it.
+# What the module exports besides the header's calls: its memory, where the heap begins, and how the page
+# takes memory from it.
 OWN = frozenset(("memory", "__heap_base", "page_take", "page_give"))
 # A memory of 64-bit addresses.
 IS_64 = 4
@@ -107,7 +108,10 @@ def _listed(names: Iterable[str]) -> str:
 
 
 def check_module(module: bytes) -> str:
-    """Holds a module to what the page relies on: no imports, no table, and the calls of the header. Answers what was seen."""
+    """Holds a module to what the page relies on, and answers what was seen.
+
+    It has no imports and no table, its memory has 64-bit addresses, and it exports the header's calls.
+    """
     if len(module) > MOST_MODULE:
         raise Trouble(f"it has more than {MOST_MODULE:,} bytes", "the module")
     found = sections(module)
@@ -123,5 +127,6 @@ def check_module(module: bytes) -> str:
     if calls - shown or OWN - names:
         raise Trouble(f"it lacks {_listed((calls - shown) | (OWN - names))}", "the module")
     if names - calls - OWN:
-        raise Trouble(f"it exports what is not in {HEADER.name}: {_listed(names - calls - OWN)}", "the module")
+        more = _listed(names - calls - OWN)
+        raise Trouble(f"it exports what is not in {HEADER.name}: {more}", "the module")
     return f"{len(module):,} bytes, {len(calls)} calls, no imports, no table"

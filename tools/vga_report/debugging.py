@@ -48,7 +48,7 @@ def read_at_most(path: str, most: int) -> bytes:
 
 
 def opened(name: str, script: bytes, fonts: Optional[bytes]) -> dict[str, Optional[str]]:
-    """What the page is told to open: a script, as text or as bytes, and its font file where that is not the project's."""
+    """What the page is told to open: a script, as text or as bytes, and its font file where it has one."""
     in_base64 = None if fonts is None else base64.b64encode(fonts).decode("ascii")
     if is_bytes(script):
         return {"name": name, "bytes": base64.b64encode(script).decode("ascii"), "fonts": in_base64}
@@ -57,7 +57,10 @@ def opened(name: str, script: bytes, fonts: Optional[bytes]) -> dict[str, Option
 
 
 def link_to(path: str | Path, page: str) -> str:
-    """The address by which a page refers to a file or a folder; one on standard output is taken for one in the current folder."""
+    """The address by which a page refers to a file or a folder.
+
+    A page on standard output is taken for one in the current folder.
+    """
     folder = os.curdir if page == STANDARD else os.path.dirname(page) or os.curdir
     try:
         return quote(Path(os.path.relpath(path, folder)).as_posix())
