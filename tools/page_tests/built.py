@@ -57,5 +57,5 @@ def check_built(module: bytes, page: bytes) -> tuple[str, Optional[bytes]]:
         return f"{NAME} is the page that its sources make, {len(page):,} bytes", None
     if kit_of(own) == kit_of(module):
         raise Wrong(f"the module in {NAME} is not the one that the crate makes: {ANEW}")
-    kit = kit_of(own)
-    return f"{NAME} is the page that its sources make around a module of another kit, {kit}: the suite judges it", own
+    told = f"{NAME} is the page that its sources make around a module of another kit, {kit_of(own)}"
+    return f"{told}: the suite judges that module", own

@@ -46,7 +46,7 @@ def _parser() -> argparse.ArgumentParser:
         help="with --gated: keeps the crate's proof there, or takes it from there",
     )
     parser.add_argument(
-        "--browser", action="store_true", help="the page as built in Chromium, alone; it wants the package chromium"
+        "--browser", action="store_true", help="the page as built in Chromium, and nothing else"
     )
     parser.add_argument(
         "--only", action="append", default=[], choices=CHECKS, help="this check alone; again and again"

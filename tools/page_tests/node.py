@@ -35,8 +35,8 @@ def node_words() -> list[str]:
     version = _answer([path, "--version"])
     found = re.match(r"v([0-9]+)\.", version)
     if found is None or int(found[1]) < LEAST:
-        reason = f"it is {version or 'of no version'}, and the tests need {LEAST} or newer: the package {PACKAGE}"
-        raise Trouble(reason, NAME)
+        needed = f"and the tests need {LEAST} or newer: the package {PACKAGE}"
+        raise Trouble(f"it is {version or 'of no version'}, {needed}", NAME)
     for words in ([path], [path, FLAG]):
         if _answer([*words, "-p", TRIED]) == "true":
             return words

@@ -5,8 +5,9 @@ import { bytesOfBase64 } from "../../page/bytes.js";
 import { Session } from "../../page/session.js";
 
 const [module, page] = process.argv.slice(2);
-const found = readFileSync(page, "utf-8").match(/<script type="application\/json" id="zaklimot-data">([^]*?)<\/script>/);
-const data = JSON.parse(found[1]), fonts = bytesOfBase64(data.fonts), wrong = [];
+const DATA = /<script type="application\/json" id="zaklimot-data">([^]*?)<\/script>/;
+const data = JSON.parse(readFileSync(page, "utf-8").match(DATA)[1]);
+const fonts = bytesOfBase64(data.fonts), wrong = [];
 const adapter = await Adapter.opened(new Uint8Array(readFileSync(module)));
 let expected = 0;
 for (const { name, text } of data.examples) {

@@ -1,4 +1,4 @@
-"""What the page's own scripts do: their tests, the page's check of its examples, and the page in a browser."""
+"""What the page's own scripts do: their tests, the check of the examples, and the page in a browser."""
 
 from __future__ import annotations
 
@@ -74,7 +74,7 @@ def check_scripts(module: bytes) -> str:
 
 
 def check_own(module: bytes) -> str:
-    """The page's check of its examples, over the module in it: each answers as by `zak_run`, and as expected."""
+    """The page's check of its examples, over its module: each answers as by `zak_run`, and as expected."""
     with _file_of(module, "module.wasm") as path:
         answer = json.loads(run_node([OWN, path, PAGE]))
     if answer["wrong"] or not answer["examples"]:

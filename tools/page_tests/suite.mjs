@@ -10,7 +10,7 @@ const OK = 0, FONT_SIZE = 22, BAD_LINE = 107;
 const WITH_PLACE = [104, 105, 107, 111];
 const ALL = 0xFFFFFFFF;
 const SLICES = [7, 1];
-// A slice passes over the steps before it, so that short slices of a long script take the square of its length.
+// A slice passes over the steps before it, so short slices of a long script take the square of its length.
 const MOST_PASSED = 30_000_000;
 // The room for a report is so much larger than the one that is expected, that a longer one is seen as such.
 const MARGIN = 4096;
@@ -114,7 +114,8 @@ class Suite {
   /** Runs a case in each way. */
   async run(one) {
     const given = file(one.script), fonts = file(one.fonts);
-    const { bytes: script, fault } = one.isBytes ? { bytes: given, fault: null } : assembled(this.adapter, given);
+    const whole = { bytes: given, fault: null };
+    const { bytes: script, fault } = one.isBytes ? whole : assembled(this.adapter, given);
     if (!one.isBytes) await this.runText(one, script, fault, fonts);
     if (fault) return;
     await this.hold(one, "bytes", one, () => sumOf(byRun(this.adapter, script, fonts)));

@@ -53,7 +53,7 @@ def _native(case: Case, folder: Path) -> dict[str, Any]:
 
 
 def _assembled(text: Path) -> dict[str, str]:
-    """The files of a text's bytes, and of the text that the program prints of these; none where it has a fault."""
+    """The files of a text's bytes, and of the text that the program prints of these; none of a bad text."""
     made, printed = text.with_suffix(".bin"), text.with_suffix(".dis")
     if subprocess.run([PROGRAM, "asm", text, made], capture_output=True).returncode:
         return {}

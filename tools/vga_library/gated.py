@@ -25,7 +25,8 @@ ALWAYS = "std"
 @cache
 def uses() -> dict[str, list[str]]:
     """What each crate of the repository uses, by `crates.txt`."""
-    lines = [line for line in (TOP / "crates.txt").read_text("ascii").splitlines() if line and not line.startswith("#")]
+    listed = (TOP / "crates.txt").read_text("ascii").splitlines()
+    lines = [line for line in listed if line and not line.startswith("#")]
     return {line.partition(":")[0].split()[0]: line.partition(":")[2].split() for line in lines}
 
 
@@ -91,7 +92,7 @@ class GatedProof(NamedTuple):
 
 
 def gated_proof(folder: Path, heard: Optional[Hearer] = None) -> GatedProof:
-    """Proves the crate into a folder, unless its proof is there. The compiler refuses one of other sources."""
+    """Proves the crate into a folder, unless its proof is there. Compilers refuse one of other sources."""
     kit, proof = kit_folder(), GatedProof(folder.absolute())
     if not proof.checked.exists():
         folder.mkdir(parents=True, exist_ok=True)

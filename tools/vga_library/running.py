@@ -15,7 +15,8 @@ from vga_report.trouble import Trouble
 
 # The package of Debian for each program that may be lacking.
 PACKAGES = {
-    "ld": "binutils", "objcopy": "binutils", "ar": "binutils", "nm": "binutils", "cc": "gcc", "node": "nodejs",
+    "ld": "binutils", "objcopy": "binutils", "ar": "binutils", "nm": "binutils",
+    "cc": "gcc", "node": "nodejs",
 }
 # So much of what a program says at last is told, and so much of each of its streams is kept.
 MOST_SAID, MOST_KEPT = 2000, 1 << 24
@@ -102,7 +103,7 @@ def run(
     seconds: Optional[float] = None,
     environment: Optional[Mapping[str, str]] = None,
 ) -> str:
-    """Runs a program to its end, and answers what it writes. Where it ends badly, a Trouble tells what it said."""
+    """Runs a program to its end, and answers what it writes; a Trouble tells what one said that ends badly."""
     name = str(words[0])
     if shutil.which(name) is None:
         package = PACKAGES.get(name)

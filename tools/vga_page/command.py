@@ -22,7 +22,7 @@ DONE, TROUBLE, INTERRUPTED = 0, 2, 130
 def _add_proof(parser: argparse.ArgumentParser) -> None:
     parser.add_argument(
         "--gated", action="store_true",
-        help="over the libraries that `rt ci` left, which must have run just before; else `rt check` proves all",
+        help="over the libraries that `rt ci` left, which must have run just before; else `rt check` proves",
     )
     parser.add_argument(
         "--proof", type=Path, metavar="FOLDER",
@@ -40,7 +40,7 @@ def _parser() -> argparse.ArgumentParser:
         "make", help="makes the page",
         description=f"Makes the page: one file of at most {MOST_BYTES:,} bytes.",
     )
-    command.add_argument("file", metavar="FILE", help="the page; that of the repository is page/zaklimot.html")
+    command.add_argument("file", metavar="FILE", help="the page, page/zaklimot.html in the repository")
     command.add_argument(
         "--module", metavar="FILE", help="a module that was made already; else it is made"
     )
