@@ -19,11 +19,13 @@ from vga_report.trouble import Trouble
 
 from .built import built_page, check_built, module_in
 from .node import node_words
-from .scripts import check_browser, check_own, check_scripts, check_syntax
+from .scripts import (
+    SMALL_MEMORY, Modules, check_browser, check_heap, check_own, check_scripts, check_syntax,
+)
 from .suite import check_suite
 
 RIGHT, WRONG, TROUBLE, INTERRUPTED = 0, 1, 2, 130
-MODULE, PAGE, SUITE, SCRIPTS, OWN = CHECKS = ("module", "page", "suite", "scripts", "own")
+MODULE, PAGE, SUITE, HEAP, SCRIPTS, OWN = CHECKS = ("module", "page", "suite", "heap", "scripts", "own")
 BROWSER = "browser"
 # A line of what was seen: the check, and what it tells.
 Told = Iterator[tuple[str, str]]
@@ -54,17 +56,18 @@ def _parser() -> argparse.ArgumentParser:
     return parser
 
 
-def _modules(words: argparse.Namespace, progress: Progress) -> list[bytes]:
-    """The module that is tested, made twice from what is proved once; or the one that is given."""
+def _made(words: argparse.Namespace, progress: Progress) -> tuple[list[bytes], Optional[bytes]]:
+    """The module that is tested, made twice from what is proved once, and one of fixed memory; or the one given."""
     if words.module is not None:
-        return [read_at_most(words.module, MOST_MODULE)]
+        return [read_at_most(words.module, MOST_MODULE)], None
     try:
-        return made_modules(phases(progress), words.gated, words.proof, times=2)
+        *same, small = made_modules(phases(progress), words.gated, words.proof, [None, None, SMALL_MEMORY])
+        return same, small
     finally:
         progress.clear()
 
 
-def check_modules(modules: list[bytes]) -> str:
+def check_modules(modules: Sequence[bytes]) -> str:
     """The module has what the page relies on, and is the same bytes each time."""
     if len(set(modules)) != 1:
         lengths = ", ".join(f"{len(one):,} bytes" for one in modules)
@@ -72,36 +75,47 @@ def check_modules(modules: list[bytes]) -> str:
     return check_module(modules[0]) + (", the same twice" if len(modules) > 1 else "")
 
 
-def _checks(words: argparse.Namespace, progress: Progress) -> Told:
+def _file(folder: Path, name: str, data: bytes) -> Path:
+    (folder / name).write_bytes(data)
+    return folder / name
+
+
+def _checks(words: argparse.Namespace, progress: Progress, folder: Path) -> Told:
     """Makes each check that is wanted, and tells what came of it."""
     wanted = words.only or CHECKS
-    modules = _modules(words, progress)
-    yield MODULE, check_modules(modules)
-    under_test, page = [modules[0]], None
-    if set(wanted) - {MODULE, SUITE}:
+    same, small = _made(words, progress)
+    yield MODULE, check_modules(same)
+    modules = Modules(_file(folder, "module.wasm", same[0]), small and _file(folder, "small.wasm", small))
+    under_test = [modules.module]
+    if {PAGE, SCRIPTS, OWN} & set(wanted):
         page = built_page()
-    if PAGE in wanted and page is not None:
-        told, other = check_built(modules[0], page)
-        under_test += [] if other is None else [other]
-        yield PAGE, f"{told}; {check_syntax(page)}"
+        # What runs in the page is the module in it, even where that is another kit's.
+        modules = modules._replace(module=_file(folder, "page.wasm", module_in(page)))
+    if PAGE in wanted:
+        told, is_of_this_kit = check_built(same[0], page)
+        under_test += [] if is_of_this_kit else [modules.module]
+        yield PAGE, f"{told}; {check_syntax(page, folder)}"
     if SUITE in wanted:
         for module in under_test:
-            with tempfile.TemporaryDirectory(prefix="vga-page-tests-") as folder:
-                yield SUITE, check_suite(module, Path(folder))
-    if page is not None:
-        for name, check in ((SCRIPTS, check_scripts), (OWN, check_own)):
-            if name in wanted:
-                yield name, check(module_in(page))
+            yield SUITE, check_suite(module, folder / f"cases of {module.name}")
+    for name, check in ((HEAP, check_heap), (SCRIPTS, check_scripts), (OWN, check_own)):
+        if name in wanted:
+            yield name, check(modules)
+
+
+def _in_browser() -> Told:
+    """The check of the page in a browser."""
+    yield BROWSER, check_browser()
 
 
 def _run(words: argparse.Namespace, progress: Progress) -> None:
-    checks = iter([(BROWSER, check_browser())]) if words.browser else _checks(words, progress)
-    while True:
+    """Tells a line for each check."""
+    with tempfile.TemporaryDirectory(prefix="vga-page-tests-") as name:
+        checks = _in_browser() if words.browser else _checks(words, progress, Path(name))
         begun = time.monotonic()
-        told = next(checks, None)
-        if told is None:
-            return
-        print(f"{told[0]}: {told[1]} ({time.monotonic() - begun:.0f} s)", flush=True)
+        for check, told in checks:
+            print(f"{check}: {told} ({time.monotonic() - begun:.0f} s)", flush=True)
+            begun = time.monotonic()
 
 
 def main(given: Optional[Sequence[str]] = None) -> int:

@@ -5,46 +5,46 @@ from __future__ import annotations
 import json
 import re
 import shutil
-import tempfile
-from contextlib import contextmanager
 from pathlib import Path
-from typing import Iterator
+from typing import NamedTuple, Optional
 
 from library_tests.compilers import Wrong
 from vga_report.debugging import PAGE
+from vga_report.processes import MEBIBYTE
 from vga_report.trouble import Trouble
 
 from .node import run_node
 
 TESTS = PAGE.parent / "tests"
 BROWSER = TESTS / "browser.mjs"
-OWN = Path(__file__).resolve().parent / "own.mjs"
+HEAP, OWN = (Path(__file__).resolve().parent / name for name in ("heap.mjs", "own.mjs"))
 # How a file tells that it has tests.
 IS_TEST = 'from "node:test"'
 SCRIPT = re.compile(r'<script type="module">\n(.*?)</script>', re.S)
 # What node tells of its tests.
 COUNT = re.compile(r"^# (pass|fail|skipped|todo|cancelled) ([0-9]+)$", re.M)
 CHROMIUM = ("chromium", "chromium-browser", "google-chrome")
-# Where the tests find the module, and the page as built.
-MODULE, BUILT = "ZAKLIMOT_MODULE", "ZAKLIMOT_PAGE"
+# Where the tests find the module, the page as built, and a module whose memory doesn't grow.
+MODULE, BUILT, SMALL = "ZAKLIMOT_MODULE", "ZAKLIMOT_PAGE", "ZAKLIMOT_SMALL_MODULE"
+# So much memory the small module has: that of one card, and not that of two.
+SMALL_MEMORY = 16 * MEBIBYTE
 
 
-@contextmanager
-def _file_of(data: bytes, name: str) -> Iterator[Path]:
-    """A file with these bytes, as long as this lasts."""
-    with tempfile.TemporaryDirectory(prefix="vga-page-tests-") as folder:
-        path = Path(folder) / name
-        path.write_bytes(data)
-        yield path
+class Modules(NamedTuple):
+    """The files of a module, and of one whose memory is fixed, where there is one."""
+
+    module: Path
+    small: Optional[Path] = None
 
 
-def check_syntax(page: bytes) -> str:
+def check_syntax(page: bytes, folder: Path) -> str:
     """The joined script of the page is one that an engine takes, in which no name is declared twice."""
     found = SCRIPT.findall(page.decode("utf-8"))
     if len(found) != 1:
         raise Wrong(f"the page has {len(found)} scripts, and one is right")
-    with _file_of(found[0].encode("utf-8"), "page.mjs") as path:
-        run_node(["--check", path])
+    script = folder / "page.mjs"
+    script.write_text(found[0], "utf-8")
+    run_node(["--check", script])
     return f"a script of {len(found[0]):,} characters, as node takes it"
 
 
@@ -63,24 +63,33 @@ def counted(said: str) -> str:
     return f"{counts['pass']} tests of the page's scripts pass"
 
 
-def check_scripts(module: bytes) -> str:
+def check_scripts(modules: Modules) -> str:
     """The page's tests in node."""
     files = test_files(TESTS)
     if not files:
         raise Wrong(f"there are no tests in {TESTS}")
-    with _file_of(module, "module.wasm") as path:
-        environment = {MODULE: str(path), BUILT: str(PAGE)}
-        return counted(run_node(["--test", "--test-reporter", "tap", *files], environment))
+    environment = {MODULE: str(modules.module), BUILT: str(PAGE)}
+    if modules.small is not None:
+        environment[SMALL] = str(modules.small)
+    return counted(run_node(["--test", "--test-reporter", "tap", *files], environment))
 
 
-def check_own(module: bytes) -> str:
+def check_own(modules: Modules) -> str:
     """The page's check of its examples, over its module: each answers as by `zak_run`, and as expected."""
-    with _file_of(module, "module.wasm") as path:
-        answer = json.loads(run_node([OWN, path, PAGE]))
+    answer = json.loads(run_node([OWN, modules.module, PAGE]))
     if answer["wrong"] or not answer["examples"]:
         lines = [f"  {line}" for line in answer["wrong"]]
         raise Wrong("\n".join(["the page's check of its examples:", *lines]))
     return f"{answer['examples']} examples answer as by zak_run, {answer['expected']} answers as expected"
+
+
+def check_heap(modules: Modules) -> str:
+    """The module's heap: blocks at random overlap nowhere, and where memory is spent, calls say so and go on."""
+    if modules.small is None:
+        return "left out: --module has none of fixed memory"
+    told = json.loads(run_node([HEAP, modules.module, modules.small]))
+    grown, cards = told["grown"] // MEBIBYTE, told["cards"]
+    return f"{told['rounds']:,} blocks taken or given back in {grown} MiB; {cards} card open where memory is spent"
 
 
 def check_browser() -> str:

@@ -62,17 +62,17 @@ def _assembled(text: Path) -> dict[str, str]:
     return {"assembled": str(made), "printed": str(printed)}
 
 
-def check_suite(module: bytes, folder: Path) -> str:
+def check_suite(module: Path, folder: Path) -> str:
     """Each case answers in each way what the program writes; what was run is told."""
     if not os.access(PROGRAM, os.X_OK):
         raise Trouble("the program isn't built: (cd crates/vga && rt run -- --help) builds it", str(PROGRAM))
     cases = read_cases(str(SUITE))
+    folder.mkdir()
     with ThreadPoolExecutor(os.cpu_count() or 1) as pool:
         told = list(pool.map(_native, cases, (folder / str(number) for number in range(len(cases)))))
-    listed, file = folder / "cases.json", folder / "module.wasm"
+    listed = folder / "cases.json"
     listed.write_text(json.dumps(told), "utf-8")
-    file.write_bytes(module)
-    return judged(json.loads(run_node([DRIVER, file, listed])), len(cases))
+    return judged(json.loads(run_node([DRIVER, module, listed])), len(cases))
 
 
 def judged(answer: dict[str, Any], count: int) -> str:

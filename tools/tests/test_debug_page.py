@@ -310,8 +310,8 @@ class Tests(unittest.TestCase):
         module, other = (with_kit(module_of(Modules.right), kit) for kit in ("one", "other"))
         with mock.patch.object(built, "read_sources", small_sources):
             made = make_page(module, small_sources())
-            self.assertEqual(built.check_built(module, made)[1], None)
-            self.assertEqual(built.check_built(other, made)[1], module)
+            self.assertTrue(built.check_built(module, made)[1])
+            self.assertFalse(built.check_built(other, made)[1])
             wrong = with_kit(module_of(Modules.right, (1, b"\0")), "one")
             for module_under_test, page_under_test in ((wrong, made), (module, make_page(module, small_sources("end();\n")))):
                 with self.assertRaises(Wrong):

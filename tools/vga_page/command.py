@@ -7,9 +7,11 @@ import sys
 from pathlib import Path
 from typing import Optional, Sequence
 
+from vga_report.processes import MEBIBYTE
 from vga_report.progress import Progress
 from vga_report.streams import STANDARD, reading, write_file
 from vga_report.trouble import Trouble
+from vga_report.words import number_to
 
 from .making import made_modules
 from .page import MOST_BYTES, make_page, read_sources
@@ -17,6 +19,7 @@ from .telling import phases
 from .wasm import MOST_MODULE, check_module
 
 DONE, TROUBLE, INTERRUPTED = 0, 2, 130
+MOST_MEBIBYTES = 4096
 
 
 def _add_proof(parser: argparse.ArgumentParser) -> None:
@@ -28,6 +31,11 @@ def _add_proof(parser: argparse.ArgumentParser) -> None:
         "--proof", type=Path, metavar="FOLDER",
         help="with --gated: keeps the crate's proof there, or takes it from there",
     )
+
+
+def _mebibytes(word: str) -> int:
+    """Reads a number of MiB; how many bytes they are."""
+    return number_to(MOST_MEBIBYTES)(word) * MEBIBYTE
 
 
 def _parser() -> argparse.ArgumentParser:
@@ -45,12 +53,15 @@ def _parser() -> argparse.ArgumentParser:
         "--module", metavar="FILE", help="a module that was made already; else it is made"
     )
     _add_proof(command)
-    command.set_defaults(job=_make)
+    command.set_defaults(job=_make, memory=None)
     command = commands.add_parser(
         "module", help="makes the module alone",
         description="Proves the library's crate, and makes a WebAssembly module of 64-bit memory of it.",
     )
     command.add_argument("file", metavar="FILE", help="the module")
+    command.add_argument(
+        "--memory", type=_mebibytes, metavar="MIB", help="fixes its memory, so that tests see it spent; else it grows"
+    )
     _add_proof(command)
     command.set_defaults(job=_module, module=None)
     return parser
@@ -69,7 +80,7 @@ def _made_module(words: argparse.Namespace, progress: Progress) -> bytes:
     if words.module is not None:
         return _given_module(words.module)
     try:
-        return made_modules(phases(progress), words.gated, words.proof)[0]
+        return made_modules(phases(progress), words.gated, words.proof, [words.memory])[0]
     finally:
         progress.clear()
 

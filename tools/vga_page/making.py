@@ -90,7 +90,7 @@ class Maker:
         self._run("writing LLVM's text", [self._tools / "clang", *as_text, kept, "-o", text])
         return text.read_text("utf-8")
 
-    def _linked(self, text: str, folder: Path) -> bytes:
+    def _linked(self, text: str, folder: Path, memory: Optional[int]) -> bytes:
         """The WebAssembly module of an LLVM module for wasm64 and of the heap."""
         source, objects = folder / "wasm.ll", [folder / "wasm.o", folder / "heap.o"]
         archive, module = folder / "wasm.a", folder / "wasm.wasm"
@@ -100,28 +100,29 @@ class Maker:
         self._run("compiling the heap", [*clang, *C, "-c", HEAP, "-o", objects[1]])
         self._run("archiving", [self._tools / "llvm-ar", "rcsD", "--format=gnu", archive, *objects])
         target = ["--target", WASM, "--toolchain", self._kit / "toolchain"]
-        self._run("linking", [self._kit / "bin" / "rattle-link", *target, "-o", module, archive])
+        fixed = [] if memory is None else ["--memory", str(memory)]
+        self._run("linking", [self._kit / "bin" / "rattle-link", *target, *fixed, "-o", module, archive])
         return with_kit(module.read_bytes(), run(["rt", "version"]).strip())
 
-    def module(self, building: Sequence[str | Path]) -> bytes:
-        """The module of the proved crate, held to what the page relies on."""
+    def module(self, building: Sequence[str | Path], memory: Optional[int] = None) -> bytes:
+        """The module of the proved crate, held to what the page relies on.
+
+        Its memory grows, unless so many bytes of it are named: a multiple of 65,536.
+        """
         with tempfile.TemporaryDirectory(dir=self._folder) as name:
-            module = self._linked(retargeted(self._llvm_text(building, Path(name))), Path(name))
+            module = self._linked(retargeted(self._llvm_text(building, Path(name))), Path(name), memory)
         check_module(module)
         return module
 
 
 def made_modules(
-    phase: Phase, is_gated: bool = False, proof: Optional[Path] = None, times: int = 1
+    phase: Phase, is_gated: bool = False, proof: Optional[Path] = None, memories: Sequence[Optional[int]] = (None,)
 ) -> list[bytes]:
-    """Proves the crate once, and makes its module so many times from that, each time the same one.
+    """Proves the crate once, and makes a module of it for each of these sizes of memory; None is one that grows.
 
     Gated, the crates below are those that `rt ci` left; a folder keeps the crate's own proof.
     """
-    modules = []
     with tempfile.TemporaryDirectory(prefix="vga-page-") as name:
         maker = Maker(Path(name), phase)
         building = maker.prove((proof or Path(name) / "proof").absolute() if is_gated else None)
-        for _ in range(times):
-            modules.append(maker.module(building))
-    return modules
+        return [maker.module(building, memory) for memory in memories]
