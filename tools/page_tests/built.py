@@ -45,7 +45,7 @@ def _first_difference(page: bytes, other: bytes) -> str:
 def check_built(module: bytes, page: bytes) -> tuple[str, bool]:
     """Holds the page as built to its sources, and to the module that this kit makes.
 
-    Answers what is told, and whether this kit has made the page's module. One of another kit the suite judges.
+    Answers what is told, and whether this kit has made the page's module. Else the suite judges it.
     """
     own, kept = module_in(page), page_data(page.decode("utf-8"))["module"]
     # Another version of zlib packs the same module into other bytes.

@@ -57,7 +57,7 @@ def _parser() -> argparse.ArgumentParser:
 
 
 def _made(words: argparse.Namespace, progress: Progress) -> tuple[list[bytes], Optional[bytes]]:
-    """The module that is tested, made twice from what is proved once, and one of fixed memory; or the one given."""
+    """The module that is tested, made twice of one proof, and one of fixed memory; or the given one."""
     if words.module is not None:
         return [read_at_most(words.module, MOST_MODULE)], None
     try:

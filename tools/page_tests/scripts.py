@@ -80,16 +80,18 @@ def check_own(modules: Modules) -> str:
     if answer["wrong"] or not answer["examples"]:
         lines = [f"  {line}" for line in answer["wrong"]]
         raise Wrong("\n".join(["the page's check of its examples:", *lines]))
-    return f"{answer['examples']} examples answer as by zak_run, {answer['expected']} answers as expected"
+    examples, expected = answer["examples"], answer["expected"]
+    return f"{examples} examples answer as by zak_run, {expected} answers as expected"
 
 
 def check_heap(modules: Modules) -> str:
-    """The module's heap: blocks at random overlap nowhere, and where memory is spent, calls say so and go on."""
+    """The module's heap: blocks at random don't overlap, and calls say where memory is spent, and go on."""
     if modules.small is None:
         return "left out: --module has none of fixed memory"
     told = json.loads(run_node([HEAP, modules.module, modules.small]))
     grown, cards = told["grown"] // MEBIBYTE, told["cards"]
-    return f"{told['rounds']:,} blocks taken or given back in {grown} MiB; {cards} card open where memory is spent"
+    spent = f"where memory is spent after {cards} card{'s' * (cards != 1)}, calls say so and go on"
+    return f"{told['rounds']:,} times a block is taken or given back, in {grown} MiB; {spent}"
 
 
 def check_browser() -> str:

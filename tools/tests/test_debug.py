@@ -29,8 +29,9 @@ OTHER_FONTS = bytes(9728)
 def small_page() -> str:
     """A page that runs scripts, as far as the tool looks at it."""
     fonts = base64.b64encode(FONTS.read_bytes()).decode("ascii")
-    data = {"module": "AA==", "fonts": fonts, "examples": [], "version": "1", "pages": "../docs/", "open": None}
-    return f"<!DOCTYPE html>\n<title>page</title>\n{data_element(data)}\n<script>\n'zaklimot-data'\n</script>\n"
+    data = {"module": "AA==", "fonts": fonts, "examples": [], "pages": "../docs/", "open": None}
+    element = data_element(data)
+    return f"<!DOCTYPE html>\n<title>page</title>\n{element}\n<script>\n'zaklimot-data'\n</script>\n"
 
 
 class Release(Files):
@@ -97,17 +98,19 @@ class Pages(Release):
         self.assertEqual(self.opened(self.made.read_text("utf-8"))["text"], "frame ; \ufffd\n\0\n")
 
     def test_a_file_that_is_read_is_not_written(self) -> None:
-        for path, name in ((self.script, self.script), (str(self.fonts), str(self.fonts)), (str(self.built), None)):
+        for path in (self.script, str(self.fonts), str(self.built)):
             with self.subTest(path):
                 before = Path(path).read_bytes()
                 status, output, said = self.ran(self.script, "--debug", path)
                 self.assertEqual((status, output), (2, ""))
-                self.assertTrue(said.endswith(", so it isn't written\n") and (name or "zaklimot.html") in said)
+                self.assertTrue(said.startswith(f"vga-report: {path}: it is read as "), said)
+                self.assertTrue(said.endswith(", so it isn't written\n"), said)
                 self.assertEqual(Path(path).read_bytes(), before)
         link = self.folder / "link"
         link.symlink_to(self.script)
         self.assertIn("so it isn't written", self.ran(self.script, "--debug", str(link))[2])
-        self.assertEqual(sorted(path.name for path in self.folder.iterdir()), ["a release", "fonts", "link", "script.vga"])
+        names = sorted(path.name for path in self.folder.iterdir())
+        self.assertEqual(names, ["a release", "fonts", "link", "script.vga"])
 
     def test_what_can_not_be_done(self) -> None:
         def said(*words: str, given: bytes = b"") -> str:
@@ -120,18 +123,22 @@ class Pages(Release):
         self.assertEqual(said("none", *debug), "none: No such file or directory\n")
         self.assertEqual(said("-", *debug, given=bytes(16_777_217)), "-: it has more than 16,777,216 bytes\n")
         for words in (["--only", "1"], ["--until", "1"], ["--try"], ["--vga", "x"]):
-            self.assertTrue(said(self.script, *debug, *words).startswith("--debug runs nothing here: "), words)
+            told = said(self.script, *debug, *words)
+            self.assertTrue(told.startswith("--debug runs nothing here: "), words)
         for words in (["--bless"], ["--show"], ["--pictures", "p"]):
-            self.assertTrue(said(self.script, *debug, *words).startswith("--debug writes a page that runs the script: "))
+            told = said(self.script, *debug, *words)
+            self.assertTrue(told.startswith("--debug writes a page that runs the script: "), words)
         self.assertIn("both want files", said(self.script, *debug, "--html", "-"))
         self.assertIn("want two files", said(self.script, *debug, "--html", str(self.made)))
         self.fonts.write_bytes(bytes(9727))
-        self.assertEqual(said(self.script, *debug), f"{self.fonts}: the font file has 9,727 bytes, and 9,728 are right\n")
+        told = f"{self.fonts}: the font file has 9,727 bytes, and 9,728 are right\n"
+        self.assertEqual(said(self.script, *debug), told)
         self.fonts.write_bytes(OTHER_FONTS)
         self.built.write_text("<!DOCTYPE html>\n")
         self.assertEqual(said(self.script, *debug), "zaklimot.html: it is not the page that runs scripts\n")
         self.built.unlink()
-        self.assertIn("the page is not built: `tools/vga-page make page/zaklimot.html` builds it", said(self.script, *debug))
+        told = "the page is not built: `tools/vga-page make page/zaklimot.html` builds it"
+        self.assertIn(told, said(self.script, *debug))
 
 
 @unittest.skipIf(sys.platform == "win32", "a script is a program on POSIX")
@@ -150,7 +157,8 @@ class WithListing(Release, Fake, Alone):
 
     def test_the_page_of_a_script_with_a_mistake(self) -> None:
         path = self.write("bad.vga", "frame\nmove 1\n")
-        words = ["--vga", str(self.program), "--html", str(self.folder / "page.html"), "--debug", str(self.made)]
+        html = str(self.folder / "page.html")
+        words = ["--vga", str(self.program), "--html", html, "--debug", str(self.made)]
         status, _, said = self.ran(path, *words)
         self.assertEqual(status, 2)
         self.assertIn("F7 BadLine(2)", said)

@@ -1,4 +1,4 @@
-"""The page that runs scripts: how its scripts are joined, what it is given, and what its module is held to."""
+"""The page that runs scripts: how its scripts are joined, what it is given, what its module is held to."""
 
 from __future__ import annotations
 
@@ -6,8 +6,12 @@ import base64
 import contextlib
 import gzip
 import io
-import json
+import os
+import signal
+import subprocess
+import sys
 import tempfile
+import time
 import unittest
 from pathlib import Path
 from unittest import mock
@@ -15,7 +19,7 @@ from unittest import mock
 from library_tests.compilers import Wrong
 from page_tests import built, node, scripts, suite
 from page_tests import command as tests_command
-from vga_library.header import HEADER, calls_of
+from vga_library.header import HEADER, TOP, calls_of
 from vga_library.running import Failed, run
 from vga_page import command, page, wasm
 from vga_page.bundling import joined
@@ -43,7 +47,9 @@ class Bundling(unittest.TestCase):
     def test_a_module_stands_after_those_that_it_imports(self) -> None:
         told = joined({
             "a.js": 'import { c } from "./c.js";\nexport const a = c + 1;\n',
-            "b.js": 'import { a } from "./a.js";\nimport { c } from "./c.js";\n\nexport class B {\n  c = a + c;\n}\n',
+            "b.js": (
+                'import { a } from "./a.js";\nimport { c } from "./c.js";\n\nexport class B {\n  c = a + c;\n}\n'
+            ),
             "c.js": "export const c = 1;\n",
             "main.js": 'import { B } from "./b.js";\nimport { a } from "./a.js";\n\nnew B(a);\n',
         })
@@ -61,10 +67,13 @@ class Bundling(unittest.TestCase):
 
     def test_names_at_the_top_level_differ(self) -> None:
         def with_names(first: str, second: str) -> dict[str, str]:
-            return {"main.js": f'import {{ z }} from "./z.js";\nz();\n{first}\n', "z.js": f"export const z = 1;\n{second}\n"}
+            main = f'import {{ z }} from "./z.js";\nz();\n{first}\n'
+            return {"main.js": main, "z.js": f"export const z = 1;\n{second}\n"}
 
         for first, second in (
-            ("let a = 1;", "const a = 2;"), ("function a() {}", "let b, a;"), ("class a {}", "async function a() {}"),
+            ("let a = 1;", "const a = 2;"),
+            ("function a() {}", "let b, a;"),
+            ("class a {}", "async function a() {}"),
             ("const b = 1, a = 2;", "function* a() {}"), ("const a = [];", "var a;"),
         ):
             with self.subTest((first, second)):
@@ -72,15 +81,19 @@ class Bundling(unittest.TestCase):
                 self.assertEqual(told, "main.js:3: a is a name at the top level of z.js too")
         # Names that are not at the top level may be the same.
         joined(with_names("function b() {\n  const a = 1;\n}", "function d() {\n  const a = 2;\n}"))
-        self.assertEqual(refused(joined, {"main.js": "let a;\nfunction a() {}\n"}), "main.js:2: a is declared in line 1 too")
+        told = refused(joined, {"main.js": "let a;\nfunction a() {}\n"})
+        self.assertEqual(told, "main.js:2: a is declared in line 1 too")
 
     def test_what_is_not_as_a_module_is_to_be(self) -> None:
         for line, reason in (
-            ('import a from "./a.js";', "an import is a line"), ('import * as a from "./a.js";', "an import is a line"),
-            ('import { a as b } from "./a.js";', "an import is a line"), ('import { a } from "a";', "an import is a line"),
+            ('import a from "./a.js";', "an import is a line"),
+            ('import * as a from "./a.js";', "an import is a line"),
+            ('import { a as b } from "./a.js";', "an import is a line"),
+            ('import { a } from "a";', "an import is a line"),
             ("import {", "an import is a line"), ('import "./a.js";', "an import is a line"),
             ("export default 1;", "`export` stands before"), ("export { a };", "`export` stands before"),
-            ("export let a = 1;", "`export` stands before"), ('  await import("./a.js");', "by a line at the top alone"),
+            ("export let a = 1;", "`export` stands before"),
+            ('  await import("./a.js");', "by a line at the top alone"),
             ("const { a } = b;", "is declared by itself"), ("export const [a] = b;", "is declared by itself"),
             ('const a = "</script>";', "the end of a script"), ("// <!-- a", "the end of a script"),
         ):
@@ -122,8 +135,10 @@ class Pages(unittest.TestCase):
     def test_a_frame_that_lacks_a_place(self) -> None:
         for frame in (FRAME.replace(STYLE, ""), FRAME + DATA, FRAME.replace(SCRIPT, "")):
             with self.subTest(frame):
-                self.assertIn("index.html: <!-- zaklimot:", refused(page_text, Sources(frame, "", {"main.js": ""}), {}))
-        self.assertIn("style.css: ", refused(page_text, small_sources(style="a::after { content: '</Style>' }"), {}))
+                told = refused(page_text, Sources(frame, "", {"main.js": ""}), {})
+                self.assertIn("index.html: <!-- zaklimot:", told)
+        told = refused(page_text, small_sources(style="a::after { content: '</Style>' }"), {})
+        self.assertIn("style.css: ", told)
 
     def test_it_is_the_same_each_time(self) -> None:
         pages = {make_page(b"module", small_sources()) for _ in range(2)}
@@ -150,8 +165,12 @@ class Pages(unittest.TestCase):
 
     def test_what_an_example_is_about(self) -> None:
         for text, told in (
-            ("; A screen. Numbers are\n; hexadecimal.\n\nframe\n", "A screen."), ("; A screen\n; of text.\nframe ; a picture\n", "A screen of text."),
-            ("frame\nout 3C2 3 ; memory on\n; more.\n", "memory on"), ("\n; one\n\n; two\n", "one"), ("frame\n", ""), ("", ""),
+            ("; A screen. Numbers are\n; hexadecimal.\n\nframe\n", "A screen."),
+            ("; A screen\n; of text.\nframe ; a picture\n", "A screen of text."),
+            ("frame\nout 3C2 3 ; memory on\n; more.\n", "memory on"),
+            ("\n; one\n\n; two\n", "one"),
+            ("frame\n", ""),
+            ("", ""),
         ):
             with self.subTest(text):
                 self.assertEqual(about(text), told)
@@ -181,7 +200,8 @@ class Retargeting(unittest.TestCase):
     def test_an_export_gets_a_wrapper(self) -> None:
         text = retargeted(NATIVE)
         self.assertIn(f'target triple = "{TRIPLES[1]}"', text)
-        self.assertIn('define internal noundef i32 @"rattle::export zak_open"(ptr noundef %card, ptr noundef %0, i64', text)
+        inner = 'define internal noundef i32 @"rattle::export zak_open"(ptr noundef %card, ptr noundef %0, i64'
+        self.assertIn(inner, text)
         self.assertIn('%answer = call i32 @"rattle::export zak_open"(ptr %card, ptr %0, i64 %length)', text)
         self.assertIn('"wasm-export-name"="zak_open"', text)
         self.assertIn('"wasm-export-name"="page_take"', text)
@@ -191,18 +211,25 @@ class Retargeting(unittest.TestCase):
 
     def test_what_is_not_known_is_refused(self) -> None:
         for line, reason in (
-            ("declare i32 @puts(ptr)", "it calls puts, and"), ("declare double @llvm.sqrt.f64(double)", "it calls llvm.sqrt.f64, and"),
+            ("declare i32 @puts(ptr)", "it calls puts, and"),
+            ("declare double @llvm.sqrt.f64(double)", "it calls llvm.sqrt.f64, and"),
             ('declare void @"a b"()', "it calls a b, and"),
             ('  call void asm sideeffect "nop", ""()', "it has inline assembly, and"),
-            ("  %v = load <4 x i32>, ptr %p", "it has a vector, and"), ("  %p = load ptr addrspace(10), ptr %q", "it has an address space, and"),
-            ("  %r = call i32 %f(i32 1)", "it has a call by a pointer, and"), ('attributes #8 = { "x86" }', "x86 is still named"),
+            ("  %v = load <4 x i32>, ptr %p", "it has a vector, and"),
+            ("  %p = load ptr addrspace(10), ptr %q", "it has an address space, and"),
+            ("  %r = call i32 %f(i32 1)", "it has a call by a pointer, and"),
+            ('attributes #8 = { "x86" }', "x86 is still named"),
         ):
             with self.subTest(line):
                 told = refused(retargeted, f"{NATIVE}{line}\n")
                 self.assertTrue(told.startswith("the module for x86-64") and reason in told, told)
-        for old, new in ((LAYOUTS[0], "e"), (TRIPLES[0], "aarch64"), ("define noundef i32 @zak", "define i32 @zak"), ("%card,", "%card zz,")):
+        for old, new in (
+            (LAYOUTS[0], "e"), (TRIPLES[0], "aarch64"),
+            ("define noundef i32 @zak", "define i32 @zak"), ("%card,", "%card zz,"),
+        ):
             with self.subTest(old):
-                self.assertTrue(refused(retargeted, NATIVE.replace(old, new, 1)).startswith("the module for x86-64: "))
+                told = refused(retargeted, NATIVE.replace(old, new, 1))
+                self.assertTrue(told.startswith("the module for x86-64: "))
 
 
 def leb(value: int) -> bytes:
@@ -223,14 +250,19 @@ class Modules(unittest.TestCase):
 
     def test_one_that_is_right(self) -> None:
         module = module_of(self.right)
-        self.assertEqual(check_module(module), f"{len(module):,} bytes, {len(self.calls)} calls, no imports, no table")
-        self.assertEqual([export.name for export in exports_of(module)], [*self.right, "memory", "__heap_base"])
+        told = f"{len(module):,} bytes, {len(self.calls)} calls, no imports, no table"
+        self.assertEqual(check_module(module), told)
+        names = [export.name for export in exports_of(module)]
+        self.assertEqual(names, [*self.right, "memory", "__heap_base"])
 
     def test_what_is_otherwise(self) -> None:
         for module, reason in (
-            (module_of(self.right, (2, b"\0")), "it has imports"), (module_of(self.right, (4, b"\0")), "it has a table"),
-            (module_of(self.right, (9, b"\0")), "it has elements of a table"), (module_of(self.right, memory=0), "64-bit addresses"),
-            (module_of(self.right[1:]), f"it lacks {self.right[0]}"), (module_of(self.calls), "it lacks page_give, page_take"),
+            (module_of(self.right, (2, b"\0")), "it has imports"),
+            (module_of(self.right, (4, b"\0")), "it has a table"),
+            (module_of(self.right, (9, b"\0")), "it has elements of a table"),
+            (module_of(self.right, memory=0), "64-bit addresses"),
+            (module_of(self.right[1:]), f"it lacks {self.right[0]}"),
+            (module_of(self.calls), "it lacks page_give, page_take"),
             (module_of([*self.right, "zak_more"]), "it exports what is not in zaklimot.h: zak_more"),
             (module_of(self.right)[:-1], "it is cut off"), (b"\x7fELF", "it is no WebAssembly module"),
         ):
@@ -241,13 +273,14 @@ class Modules(unittest.TestCase):
         module = module_of(self.right)
         self.assertEqual(kit_of(module), "")
         self.assertEqual(kit_of(with_kit(module, "kit 1")), "kit 1")
-        self.assertEqual(check_module(with_kit(module, "kit 1")).partition("bytes")[2], check_module(module).partition("bytes")[2])
+        told = [check_module(one).partition("bytes")[2] for one in (with_kit(module, "kit 1"), module)]
+        self.assertEqual(told[0], told[1])
 
 
 class Running(unittest.TestCase):
     def test_what_ends_badly_is_told(self) -> None:
         for words, reason in (
-            (["sh", "-c", "echo why >&2; exit 3"], "sh: it ended with status 3\n  sh -c echo why >&2; exit 3\nwhy\n"),
+            (["sh", "-c", "echo a >&2; exit 3"], "sh: it ended with status 3\n  sh -c echo a >&2; exit 3\na\n"),
             (["no-such-program"], "no-such-program: it is not in the path"),
         ):
             self.assertEqual(refused(run, words), reason)
@@ -257,7 +290,8 @@ class Running(unittest.TestCase):
 
     def test_lines_are_heard_and_output_is_answered(self) -> None:
         heard: list[str] = []
-        self.assertEqual(run(["sh", "-c", "echo one; echo two >&2; echo three"], heard=heard.append), "one\nthree\n")
+        said = run(["sh", "-c", "echo one; echo two >&2; echo three"], heard=heard.append)
+        self.assertEqual(said, "one\nthree\n")
         self.assertTrue(heard[-1] in ("two", "three"))
         self.assertEqual(run(["sh", "-c", 'printf "$ONE"'], environment={"ONE": "1"}), "1")
 
@@ -300,7 +334,61 @@ class Commands(unittest.TestCase):
             self.assertIn(f"{made}: {made.stat().st_size:,} bytes; its module has", output.getvalue())
             self.assertIn("so it isn't written", self.said("make", str(module), "--module", str(module)))
             module.write_bytes(b"no module")
-            self.assertIn("it is no WebAssembly module", self.said("make", str(made), "--module", str(module)))
+            said = self.said("make", str(made), "--module", str(module))
+            self.assertIn("it is no WebAssembly module", said)
+
+
+# A toolchain that takes long: it notes its number and starts a program that would outlive it.
+SLOW_RT = """#!/bin/sh
+if [ "$1" = doc ]; then echo "$PWD/kit/START-HERE.md"; exit; fi
+sleep 600 &
+echo $$ $! > "$STARTED"
+wait
+"""
+
+
+@unittest.skipIf(sys.platform == "win32", "a script is a program on POSIX")
+class Stopping(unittest.TestCase):
+    """What was begun ends with the command, and leaves nothing."""
+
+    def started(self, folder: Path) -> tuple[subprocess.Popen[bytes], list[int]]:
+        """The command with a slow toolchain, and the numbers of the programs that this has started."""
+        for name in ("bin", "tmp"):
+            (folder / name).mkdir()
+        rt = folder / "bin" / "rt"
+        rt.write_text(SLOW_RT)
+        rt.chmod(0o755)
+        path = f"{folder / 'bin'}{os.pathsep}{os.environ['PATH']}"
+        told = folder / "started"
+        environment = {**os.environ, "PATH": path, "TMPDIR": str(folder / "tmp"), "STARTED": str(told)}
+        process = subprocess.Popen(
+            [sys.executable, TOP / "tools" / "vga-page", "module", folder / "module"], env=environment,
+            stdout=subprocess.DEVNULL, stderr=subprocess.DEVNULL,
+        )
+        until = time.monotonic() + 60
+        while not (told.exists() and told.read_text().endswith("\n")) and time.monotonic() < until:
+            time.sleep(0.02)
+        return process, [int(number) for number in told.read_text().split()]
+
+    def assert_ended(self, number: int) -> None:
+        """That a program has ended, or is about to."""
+        status = Path(f"/proc/{number}/stat")
+        until = time.monotonic() + 10
+        while status.exists() and status.read_text().rpartition(")")[2].split()[0] != "Z":
+            self.assertLess(time.monotonic(), until, "a program is left")
+            time.sleep(0.02)
+
+    def test_each_signal_that_ends_it(self) -> None:
+        for number, status in ((signal.SIGINT, 130), (signal.SIGTERM, 143), (signal.SIGHUP, 129)):
+            with self.subTest(number), tempfile.TemporaryDirectory() as name:
+                process, started = self.started(Path(name))
+                self.assertEqual(len(list((Path(name) / "tmp").iterdir())), 1)
+                process.send_signal(number)
+                self.assertEqual(process.wait(30), status)
+                for one in started:
+                    self.assert_ended(one)
+                self.assertEqual(list((Path(name) / "tmp").iterdir()), [])
+                self.assertFalse((Path(name) / "module").exists())
 
 
 class Tests(unittest.TestCase):
@@ -313,7 +401,8 @@ class Tests(unittest.TestCase):
             self.assertTrue(built.check_built(module, made)[1])
             self.assertFalse(built.check_built(other, made)[1])
             wrong = with_kit(module_of(Modules.right, (1, b"\0")), "one")
-            for module_under_test, page_under_test in ((wrong, made), (module, make_page(module, small_sources("end();\n")))):
+            other_page = make_page(module, small_sources("end();\n"))
+            for module_under_test, page_under_test in ((wrong, made), (module, other_page)):
                 with self.assertRaises(Wrong):
                     built.check_built(module_under_test, page_under_test)
 
@@ -325,23 +414,30 @@ class Tests(unittest.TestCase):
 
     def test_reports_that_differ_and_cases_that_were_not_run(self) -> None:
         ways = {"bytes": 2, "text": 1, "steps, all at once": 2}
-        self.assertEqual(suite.judged({"ways": ways, "wrong": []}, 2), "by bytes 2; by text 1; by steps, all at once 2; of 2 cases")
+        told = suite.judged({"ways": ways, "wrong": []}, 2)
+        self.assertEqual(told, "by bytes 2; by text 1; by steps, all at once 2; of 2 cases")
         one = {"name": "n", "way": "bytes", "reason": "r"}
-        for answer in ({"ways": ways, "wrong": [one]}, {"ways": {}, "wrong": []}, {"ways": {**ways, "text": 0}, "wrong": []}):
+        for answer in (
+            {"ways": ways, "wrong": [one]}, {"ways": {}, "wrong": []}, {"ways": {**ways, "text": 0}, "wrong": []},
+        ):
             with self.subTest(answer), self.assertRaises(Wrong):
                 suite.judged(answer, 2)
 
     def test_what_node_tells(self) -> None:
-        self.assertEqual(scripts.counted("# pass 3\n# fail 0\n# skipped 0\n"), "3 tests of the page's scripts pass")
+        told = scripts.counted("# pass 3\n# fail 0\n# skipped 0\n")
+        self.assertEqual(told, "3 tests of the page's scripts pass")
         for said in ("# pass 3\n# fail 1\n", "# pass 3\n# skipped 1\n", "# pass 0\n", ""):
             with self.subTest(said), self.assertRaises(Wrong):
                 scripts.counted(said)
 
     def test_node_that_is_lacking_or_too_old(self) -> None:
         with mock.patch("shutil.which", return_value=None):
-            self.assertEqual(refused(node.node_words), "node: it is not in the path: install the package nodejs")
-        with mock.patch("shutil.which", return_value="node"), mock.patch.object(node, "_answer", return_value="v18.19.0"):
-            self.assertIn("node: it is v18.19.0, and the tests need 20 or newer: the package nodejs", refused(node.node_words))
+            told = refused(node.node_words)
+        self.assertEqual(told, "node: it is not in the path: install the package nodejs")
+        old = mock.patch.object(node, "_answer", return_value="v18.19.0")
+        with mock.patch("shutil.which", return_value="node"), old:
+            told = refused(node.node_words)
+        self.assertEqual(told, "node: it is v18.19.0, and the tests need 20 or newer: the package nodejs")
         said = io.StringIO()
         with mock.patch("shutil.which", return_value=None), contextlib.redirect_stderr(said):
             self.assertEqual(tests_command.main([]), tests_command.TROUBLE)
@@ -349,8 +445,9 @@ class Tests(unittest.TestCase):
 
     def test_the_files_of_tests(self) -> None:
         with tempfile.TemporaryDirectory() as name:
-            for file, text in (("a.mjs", 'import test from "node:test";\n'), ("browser.mjs", 'import test from "node:test";\n'), ("b.mjs", "")):
-                (Path(name) / file).write_text(text)
+            text = 'import test from "node:test";\n'
+            for file, content in (("a.mjs", text), ("browser.mjs", text), ("b.mjs", "")):
+                (Path(name) / file).write_text(content)
             self.assertEqual([path.name for path in scripts.test_files(Path(name))], ["a.mjs"])
 
 

@@ -103,7 +103,7 @@ def run(
     seconds: Optional[float] = None,
     environment: Optional[Mapping[str, str]] = None,
 ) -> str:
-    """Runs a program to its end, and answers what it writes; a Trouble tells what one said that ends badly."""
+    """Runs a program to its end, and answers what it writes. A Trouble tells how one ended badly."""
     name = str(words[0])
     if shutil.which(name) is None:
         package = PACKAGES.get(name)

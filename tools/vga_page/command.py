@@ -60,7 +60,8 @@ def _parser() -> argparse.ArgumentParser:
     )
     command.add_argument("file", metavar="FILE", help="the module")
     command.add_argument(
-        "--memory", type=_mebibytes, metavar="MIB", help="fixes its memory, so that tests see it spent; else it grows"
+        "--memory", type=_mebibytes, metavar="MIB",
+        help="fixes the size of its memory, so that tests see it spent; else it grows",
     )
     _add_proof(command)
     command.set_defaults(job=_module, module=None)

@@ -116,9 +116,12 @@ class Maker:
 
 
 def made_modules(
-    phase: Phase, is_gated: bool = False, proof: Optional[Path] = None, memories: Sequence[Optional[int]] = (None,)
+    phase: Phase,
+    is_gated: bool = False,
+    proof: Optional[Path] = None,
+    memories: Sequence[Optional[int]] = (None,),
 ) -> list[bytes]:
-    """Proves the crate once, and makes a module of it for each of these sizes of memory; None is one that grows.
+    """Proves the crate once, and makes a module of it for each of these sizes of memory; None grows.
 
     Gated, the crates below are those that `rt ci` left; a folder keeps the crate's own proof.
     """
