@@ -8,6 +8,8 @@ import { reasonOfBytes } from "./faults.js";
 import { textOfTrace, traceForm } from "./trace.js";
 
 const MAGIC = [0x56, 0x47, 0x41, 0x53], GZIP = [0x1f, 0x8b];
+// Tab, newline, form feed, carriage return, and the mark that ends old text files.
+const TEXT_CONTROLS = [9, 10, 12, 13, 26];
 // A trace may be longer than a script.
 const MOST_FILE = 1 << 28;
 const startsWith = (bytes, front) => front.every((byte, i) => bytes[i] === byte);
@@ -34,9 +36,11 @@ export async function contentsOf(bytes, adapter) {
   if (bytes.length === FONTS_SIZE && bytes.some(byte => byte === 0 || byte > 126)) return { fonts: bytes };
   const text = new TextDecoder().decode(bytes), form = traceForm(text);
   if (form) return { text: textOfTrace(text) };
+  const begin = bytes.subarray(0, 4096);
+  if (begin.some(byte => byte > 0 && byte < 32 && !TEXT_CONTROLS.includes(byte))) throw new Trouble(noneOf(bytes));
   const trouble = encodingTrouble(bytes);
   if (trouble) throw new Trouble(`This file is not run: ${trouble}.`);
-  if (bytes.subarray(0, 4096).some(byte => byte < 32 && ![9, 10, 12, 13, 26].includes(byte))) throw new Trouble(noneOf(bytes));
+  if (begin.includes(0)) throw new Trouble(noneOf(bytes));
   if (bytes.length > MOST_BYTES) throw new Trouble(`The text has more than ${grouped(MOST_BYTES)} bytes.`);
   return { text };
 }
