@@ -8,7 +8,7 @@ from pathlib import Path
 from typing import Callable, Optional, Sequence
 
 from vga_library.gated import GatedProof, crate_words, gated_proof, proving_words
-from vga_library.running import Hearer, run
+from vga_library.running import Hearer, run, run_both
 from vga_library.toolchain import CRATE, kit_folder
 from vga_report.trouble import Trouble
 
@@ -30,8 +30,8 @@ TARGET = (
 )
 C = ("-O2", "-std=c17", "-ffreestanding", "-nostdinc", "-Wall", "-Wextra")
 PROVED = "logic=proved "
-# A clang that keeps the LLVM module which Rattle hands to it.
-KEEPER = '#!/bin/sh\n/bin/cp module.bc {kept} || exit 1\nexec {clang} "$@"\n'
+# A clang that keeps the LLVM module which Rattle hands to it. Of the object for x86-64 nothing is used.
+KEEPER = "#!/bin/sh\n/bin/cp module.bc {kept} && : > module.o\n"
 # Tells a phase of the work, and answers what hears the programs that do it.
 Phase = Callable[[str], Optional[Hearer]]
 
@@ -46,7 +46,8 @@ class Maker:
         self._tools = self._kit / "toolchain" / "bin"
 
     def _run(self, phase: str, words: Sequence[str | Path], folder: Optional[Path] = None) -> str:
-        return run(words, folder, self._phase(phase))
+        """Runs a program of a phase, and answers all that it says."""
+        return "".join(run_both(words, folder, self._phase(phase)))
 
     def _rattle(self, phase: str, *words: str | Path) -> str:
         return self._run(phase, [self._kit / "bin" / "rattle", *words], CRATE)
@@ -69,14 +70,13 @@ class Maker:
         return building
 
     def _keeping_toolchain(self, folder: Path, kept: Path) -> Path:
-        """A toolchain that is the kit's, except that its clang first keeps the LLVM module in a file."""
+        """A toolchain that is the kit's, except that its clang keeps the LLVM module in a file."""
         (folder / "bin").mkdir(parents=True)
         (folder / "lib").symlink_to(self._kit / "toolchain" / "lib")
         for name in ("ld.lld", "llvm-ar"):
             (folder / "bin" / name).symlink_to(self._tools / name)
         clang = folder / "bin" / "clang"
-        kept_at, real = shlex.quote(str(kept)), shlex.quote(str(self._tools / "clang"))
-        clang.write_text(KEEPER.format(kept=kept_at, clang=real), "utf-8")
+        clang.write_text(KEEPER.format(kept=shlex.quote(str(kept))), "utf-8")
         clang.chmod(0o755)
         return folder
 
