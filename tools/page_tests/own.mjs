@@ -2,15 +2,17 @@
 import { readFileSync } from "node:fs";
 import { Adapter } from "../../page/adapter.js";
 import { bytesOfBase64 } from "../../page/bytes.js";
+import { examplesOf } from "../../page/packed.js";
 import { Session } from "../../page/session.js";
 
 const [module, page] = process.argv.slice(2);
 const DATA = /<script type="application\/json" id="zaklimot-data">([^]*?)<\/script>/;
 const data = JSON.parse(readFileSync(page, "utf-8").match(DATA)[1]);
 const fonts = bytesOfBase64(data.fonts), wrong = [];
+const examples = await examplesOf(data);
 const adapter = await Adapter.opened(new Uint8Array(readFileSync(module)));
 let expected = 0;
-for (const { name, text } of data.examples) {
+for (const { name, text } of examples) {
   const session = new Session(adapter, fonts, text);
   while (session.runFor(1000));
   const differs = session.compared();
@@ -19,4 +21,4 @@ for (const { name, text } of data.examples) {
   expected += session.expected;
   session.close();
 }
-process.stdout.write(JSON.stringify({ examples: data.examples.length, expected, wrong }));
+process.stdout.write(JSON.stringify({ examples: examples.length, expected, wrong }));

@@ -6,6 +6,7 @@ import base64
 import contextlib
 import gzip
 import io
+import json
 import os
 import signal
 import subprocess
@@ -158,7 +159,9 @@ class Pages(unittest.TestCase):
         self.assertEqual(gzip.decompress(base64.b64decode(data["module"])), b"module")
         self.assertEqual(len(base64.b64decode(data["fonts"])), 9728)
         self.assertEqual((data["pages"], data["open"]), ("../docs/", None))
-        names = [one["name"] for one in data["examples"]]
+        given = json.loads(gzip.decompress(base64.b64decode(data["examples"])))
+        self.assertEqual(given, examples())
+        names = [one["name"] for one in given]
         self.assertEqual(names, sorted(names))
         self.assertTrue({"text-by-services", "raster-bands"} <= set(names))
         self.assertEqual([one["name"] for one in examples() if not one["about"]], [])
@@ -402,7 +405,14 @@ class Tests(unittest.TestCase):
             self.assertFalse(built.check_built(other, made)[1])
             wrong = with_kit(module_of(Modules.right, (1, b"\0")), "one")
             other_page = make_page(module, small_sources("end();\n"))
-            for module_under_test, page_under_test in ((wrong, made), (module, other_page)):
+            data = page_data(made.decode("utf-8"))
+            other_data, no_data = (
+                page_text(small_sources(), {**data, "examples": examples}).encode("utf-8")
+                for examples in (base64.b64encode(packed(b"[]")).decode("ascii"), "AAAA")
+            )
+            for module_under_test, page_under_test in (
+                (wrong, made), (module, other_page), (module, other_data), (module, no_data),
+            ):
                 with self.assertRaises(Wrong):
                     built.check_built(module_under_test, page_under_test)
 

@@ -7,7 +7,7 @@ import tempfile
 from pathlib import Path
 from typing import Callable, Optional, Sequence
 
-from vga_library.gated import GatedProof, crate_words, gated_proof, proving_words
+from vga_library.gated import proving_words
 from vga_library.running import Hearer, run, run_both
 from vga_library.toolchain import CRATE, kit_folder
 from vga_report.trouble import Trouble
@@ -53,21 +53,18 @@ class Maker:
         return self._run(phase, [self._kit / "bin" / "rattle", *words], CRATE)
 
     def prove(self, gated: Optional[Path]) -> list[str | Path]:
-        """Proves the crate for both targets; the words by which the compiler takes the proof for x86-64.
+        """Proves the crate; the words by which the compiler finds what is kept of that.
 
         With a folder the crates below are those that `rt ci` left, and the folder keeps the proof.
         """
         if gated is None:
             self._run("proving", ["rt", "check"], CRATE)
-            words = building = proving_words(self._kit, KEPT)
-        else:
-            proof: GatedProof = gated_proof(gated, self._phase("proving"))
-            words = proving_words(self._kit, proof.incremental)
-            building = [*crate_words(self._kit), "--crate-checked", proof.checked]
+        words = proving_words(self._kit, gated or KEPT)
+        # The module is made of what is proved for x86-64. The crate is to be proved for this target too.
         said = self._rattle(f"proving for {WASM}", "check", *words, "--target", WASM)
         if not any(line.startswith(PROVED) and f"target={WASM}" in line for line in said.splitlines()):
             raise Trouble(f"the compiler doesn't say that it is proved for {WASM}", CRATE.name)
-        return building
+        return words
 
     def _keeping_toolchain(self, folder: Path, kept: Path) -> Path:
         """A toolchain that is the kit's, except that its clang keeps the LLVM module in a file."""

@@ -4,6 +4,7 @@ from __future__ import annotations
 
 import base64
 import gzip
+import json
 import re
 from pathlib import Path
 from typing import Any, NamedTuple
@@ -66,9 +67,9 @@ def _in_base64(data: bytes) -> str:
     return base64.b64encode(data).decode("ascii")
 
 
-def packed(module: bytes) -> bytes:
-    """The module in gzip's form, with no time in it."""
-    return gzip.compress(module, LEVEL, mtime=0)
+def packed(data: bytes) -> bytes:
+    """Bytes in gzip's form, with no time in it."""
+    return gzip.compress(data, LEVEL, mtime=0)
 
 
 def data_of(module: bytes) -> dict[str, Any]:
@@ -77,7 +78,7 @@ def data_of(module: bytes) -> dict[str, Any]:
         "version": str(version()),
         "pages": PAGES,
         "open": None,
-        "examples": examples(),
+        "examples": _in_base64(packed(json.dumps(examples()).encode("ascii"))),
         "fonts": _in_base64(FONTS.read_bytes()),
         "module": _in_base64(packed(module)),
     }
