@@ -161,12 +161,32 @@ export class Outline {
     return low < this.lines.length ? low : -1;
   }
 
+  /** The run that has an entry, or null. */
+  runOfEntry(entry) {
+    let low = 0, high = this.runs.length - 1;
+    while (low < high) {
+      const middle = (low + high + 1) >> 1;
+      if (this.runs[middle].from <= entry) low = middle;
+      else high = middle - 1;
+    }
+    const run = this.runs[low];
+    return run && entry >= run.from && entry < run.from + run.size ? run : null;
+  }
+
   /** The first step of an entry that is not before `from`; -1 where none is. */
   stepOfEntry(entry, from = 0) {
-    const run = this.runs.find(one => entry >= one.from && entry < one.from + one.size);
+    const run = this.runOfEntry(entry);
     if (!run) return -1;
     const first = run.first + entry - run.from;
     const turns = Math.max(0, Math.ceil((from - first) / run.size));
     return turns < run.count ? first + turns * run.size : -1;
+  }
+
+  /** The last step of an entry that is before `to`; -1 where none is. */
+  lastStepOfEntry(entry, to) {
+    const run = this.runOfEntry(entry);
+    if (!run) return -1;
+    const first = run.first + entry - run.from, turns = Math.floor((to - 1 - first) / run.size);
+    return turns < 0 ? -1 : first + Math.min(turns, run.count - 1) * run.size;
   }
 }

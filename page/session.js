@@ -30,8 +30,8 @@ export function judgedText(adapter, text) {
 
 /** A run of a text with the fonts that its mode sets load. */
 export class Session {
-  constructor(adapter, fonts, text) {
-    const { script, outline } = judgedText(adapter, text);
+  constructor(adapter, fonts, text, judged = judgedText(adapter, text)) {
+    const { script, outline } = judged;
     Object.assign(this, { adapter, fonts, script, outline, length: outline.length });
     this.pieces = new Pieces(adapter, outline);
     this.runner = new Card(adapter, fonts);
@@ -148,6 +148,11 @@ export class Session {
     return new State(this.card.save());
   }
 
+  /** The registers of any card. */
+  registersOf(card) {
+    return new State(card.save()).registers;
+  }
+
   /**
    * What is to be seen after so many steps, one of which the last is: the states before and after it, and the picture. The
    * card must be before the last step already.
@@ -175,10 +180,20 @@ export class Session {
     return { isWhole: false, ...lines, drawn: state.drawn, isBegun: state.isBegun };
   }
 
-  /** Whether a step is one with a name of these. */
-  isKind(step, ...names) {
-    const kind = this.outline.kinds[this.outline.entryOf(step)];
-    return names.some(name => KIND[name] === kind);
+  /** Whether a step is a `frame`. */
+  isFrame(step) {
+    return this.outline.kinds[this.outline.entryOf(step)] === KIND.frame;
+  }
+
+  /** Whether a step answers otherwise than its line expects. */
+  isWrong(step) {
+    let low = 0, high = this.differing.length - 1;
+    while (low < high) {
+      const middle = (low + high) >> 1;
+      if (this.differing[middle] < step) low = middle + 1;
+      else high = middle;
+    }
+    return this.differing[low] === step;
   }
 
   /** Why the answers are not held to those of zak_run, which takes all steps at once; null where they are. */

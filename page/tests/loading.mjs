@@ -6,7 +6,7 @@ import { fileURLToPath } from "node:url";
 import { Adapter } from "../adapter.js";
 
 export const TOP = fileURLToPath(new URL("../../", import.meta.url));
-export const PAGE = TOP + "page/zaklimot.html";
+export const PAGE = process.env.ZAKLIMOT_PAGE ?? TOP + "page/zaklimot.html";
 
 /** The JSON object that the page as built has in it. */
 export function pageData(page = PAGE) {
