@@ -87,29 +87,36 @@ class Maker:
         self._run("writing LLVM's text", [self._tools / "clang", *as_text, kept, "-o", text])
         return text.read_text("utf-8")
 
-    def _linked(self, text: str, folder: Path, memory: Optional[int]) -> bytes:
-        """The WebAssembly module of an LLVM module for wasm64 and of the heap."""
-        source, objects = folder / "wasm.ll", [folder / "wasm.o", folder / "heap.o"]
-        archive, module = folder / "wasm.a", folder / "wasm.wasm"
+    def _archive(self, text: str, folder: Path) -> Path:
+        """The archive for wasm64 of an LLVM module's text and of the heap."""
+        source, archive = folder / "wasm.ll", folder / "wasm.a"
+        objects = [folder / "wasm.o", folder / "heap.o"]
         source.write_text(text, "utf-8")
         clang = [self._tools / "clang", *TARGET]
         self._run(f"compiling for {WASM}", [*clang, "-O3", "-c", "-x", "ir", source, "-o", objects[0]])
         self._run("compiling the heap", [*clang, *C, "-c", HEAP, "-o", objects[1]])
         self._run("archiving", [self._tools / "llvm-ar", "rcsD", "--format=gnu", archive, *objects])
-        target = ["--target", WASM, "--toolchain", self._kit / "toolchain"]
-        fixed = [] if memory is None else ["--memory", str(memory)]
-        self._run("linking", [self._kit / "bin" / "rattle-link", *target, *fixed, "-o", module, archive])
+        return archive
+
+    def _linked(self, archive: Path, memory: Optional[int]) -> bytes:
+        """The WebAssembly module of an archive."""
+        module = archive.with_name("linked.wasm")
+        words = ["--target", WASM, "--toolchain", self._kit / "toolchain"]
+        words += [] if memory is None else ["--memory", str(memory)]
+        self._run("linking", [self._kit / "bin" / "rattle-link", *words, "-o", module, archive])
         return with_kit(module.read_bytes(), run(["rt", "version"]).strip())
 
-    def module(self, building: Sequence[str | Path], memory: Optional[int] = None) -> bytes:
-        """The module of the proved crate, held to what the page relies on.
+    def modules(self, building: Sequence[str | Path], memories: Sequence[Optional[int]]) -> list[bytes]:
+        """Modules of the proved crate, held to what the page relies on, one for each size of memory.
 
-        Its memory grows, unless so many bytes of it are named: a multiple of 65,536.
+        A size is a number of bytes, a multiple of 65,536; None is a memory that grows.
         """
         with tempfile.TemporaryDirectory(dir=self._folder) as name:
-            module = self._linked(retargeted(self._llvm_text(building, Path(name))), Path(name), memory)
-        check_module(module)
-        return module
+            archive = self._archive(retargeted(self._llvm_text(building, Path(name))), Path(name))
+            modules = [self._linked(archive, memory) for memory in memories]
+        for module in modules:
+            check_module(module)
+        return modules
 
 
 def made_modules(
@@ -117,12 +124,13 @@ def made_modules(
     is_gated: bool = False,
     proof: Optional[Path] = None,
     memories: Sequence[Optional[int]] = (None,),
-) -> list[bytes]:
-    """Proves the crate once, and makes a module of it for each of these sizes of memory; None grows.
+    times: int = 1,
+) -> list[list[bytes]]:
+    """Proves the crate once, and makes its modules so many times, one for each size of memory.
 
     Gated, the crates below are those that `rt ci` left; a folder keeps the crate's own proof.
     """
     with tempfile.TemporaryDirectory(prefix="vga-page-") as name:
         maker = Maker(Path(name), phase)
         building = maker.prove((proof or Path(name) / "proof").absolute() if is_gated else None)
-        return [maker.module(building, memory) for memory in memories]
+        return [maker.modules(building, memories) for _ in range(times)]
