@@ -48,6 +48,9 @@ def _parser() -> argparse.ArgumentParser:
         help="with --gated: keeps the crate's proof there, or takes it from there",
     )
     parser.add_argument(
+        "--ready", action="store_true", help="tests nothing, and tells what this machine lacks"
+    )
+    parser.add_argument(
         "--browser", action="store_true", help="the page as built in Chromium, and nothing else"
     )
     parser.add_argument(
@@ -125,7 +128,8 @@ def main(given: Optional[Sequence[str]] = None) -> int:
         if words.proof is not None and not words.gated:
             raise Trouble("--proof keeps a proof of --gated")
         node_words()
-        _run(words, progress)
+        if not words.ready:
+            _run(words, progress)
         return RIGHT
     except Wrong as wrong:
         status, reason = WRONG, str(wrong)
