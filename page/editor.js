@@ -1,6 +1,6 @@
 // The text, with line numbers, breakpoints and marks at its left, and the answers of its steps at its right.
 import { byId, element, rowsInSight } from "./dom.js";
-import { isRefusal } from "./expecting.js";
+import { isPlainAnswer, isRefusal } from "./expecting.js";
 
 export const ROW = 18;
 const TOP = 6, TAB = 8;
@@ -105,7 +105,7 @@ export class Editor {
     made.title = `step ${step + 1}: ${answer}`;
     made.classList.toggle("later", taken < 0);
     made.classList.toggle("refused", isRefusal(answer));
-    made.classList.toggle("plain", answer === "ok");
+    made.classList.toggle("plain", isPlainAnswer(answer, outline.wordsOf(entry)));
     if (expected !== null) this.judge(made, step, expected);
     return made;
   }
