@@ -220,6 +220,7 @@ export class View {
   typed() {
     byId("examples").value = "";
     byId("about").textContent = "";
+    byId("compared").textContent = "";
     clearTimeout(this.timer);
     this.timer = setTimeout(() => this.guarded(() => this.begin()), this.editor.text.length > MUCH_TEXT ? TYPED_MUCH : TYPED);
   }
@@ -227,6 +228,7 @@ export class View {
   /** Runs the text, and shows what is asked for: so many steps, or as many as before, or all. */
   begin(asked = this.session && this.steps < this.session.length ? this.steps : Infinity) {
     clearTimeout(this.timer);
+    byId("compared").textContent = "";
     Object.assign(this, { search: null, coming: null, isHalted: false, asked, begun: performance.now(), shownAt: performance.now() });
     this.play(false);
     try {
@@ -242,7 +244,6 @@ export class View {
     this.editor.isStale = false;
     document.body.classList.remove("stale");
     this.isCompared = false;
-    byId("compared").textContent = "";
     return this.wake();
   }
 
