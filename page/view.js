@@ -182,6 +182,7 @@ export class View {
     document.title = `${this.name}: Zaklimot`;
     this.pointPanel.change(this.points.filter(point => point.kind !== "line"));
     this.editor.load(text);
+    if (this.editor.isLong) byId("about").textContent = `${name}. ${this.editor.note}`;
     this.begin(asked);
   }
 
