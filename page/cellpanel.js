@@ -6,6 +6,8 @@ import { hex } from "./bytes.js";
 import { widened } from "./png.js";
 
 const GLYPH_WIDTH = 8;
+// The colours of a cell whose own are alike, so that its character can be read.
+const ALIKE = [0xff909090, 0xff303030];
 
 /** The rows of text of a frame: the counter of the first cell of each, and how many scan lines it has. */
 function textRows(registers) {
@@ -35,7 +37,8 @@ function mapStart(map) {
 
 function drawCell(words, width, left, top, lines, { character, attribute }, { state, colours, hasBlink, maps }) {
   const glyph = mapStart(maps[attribute >> 3 & 1]) + 32 * character, glyphs = state.plane(2);
-  const [ink, paper] = [colours[attribute & 15], colours[attribute >> 4 & (hasBlink ? 7 : 15)]];
+  const [own, ground] = [colours[attribute & 15], colours[attribute >> 4 & (hasBlink ? 7 : 15)]];
+  const [ink, paper] = own === ground ? ALIKE : [own, ground];
   for (let y = 0; y < lines; y++) {
     const byte = glyphs[glyph + y], at = (top + y) * width + left;
     for (let x = 0; x < GLYPH_WIDTH; x++) words[at + x] = byte >> 7 - x & 1 ? ink : paper;
@@ -86,7 +89,8 @@ export function cellPanel({ before, after }) {
 
 /** The canvas with a line below it that tells the cell under the pointer. */
 function withReadout(canvas, rows, tops, width) {
-  const hint = `${rows.length} rows of ${rows[0]?.cells.length ?? 0} cells, ${width} dots wide. Yellow: changed by the last step; blue: the cursor.`;
+  const hint = `${rows.length} rows of ${rows[0]?.cells.length ?? 0} cells, ${width} dots wide. Yellow: changed by the last step; blue: the cursor; ` +
+    "grey: both colours are alike.";
   const told = element("output", { className: "told" }, hint);
   canvas.addEventListener("pointermove", event => {
     const box = canvas.getBoundingClientRect(), y = (event.clientY - box.top) * canvas.height / box.height;

@@ -1,14 +1,19 @@
 // The text, with line numbers, breakpoints and marks at its left, and the answers of its steps at its right.
 import { byId, element, rowsInSight } from "./dom.js";
-import { isRefusal } from "./expecting.js";
+import { grouped } from "./bytes.js";
+import { isPlainAnswer, isRefusal } from "./expecting.js";
 
-export const ROW = 18;
-const TOP = 6, TAB = 8;
+const ROW = 18, TOP = 6, TAB = 8;
+// A longer text is shown, and not edited: a browser's own editor takes seconds for each change of it.
+const MOST_EDITED = 300000;
+// Browsers have no elements that are much higher.
+const HIGHEST_TEXT = 8000000, WIDEST_LINE = 400;
 
 /** The editor. `heard` has `changed(text)` and `pointed(line)`, a breakpoint's mark that was clicked. */
 export class Editor {
   constructor(heard) {
     Object.assign(this, { heard, area: byId("text"), gutter: byId("gutter"), told: byId("told"), why: byId("why") });
+    Object.assign(this, { long: byId("long"), rows: byId("longrows"), starts: null, whole: "" });
     Object.assign(this, { mark: 0, bad: null, session: null, steps: 0, points: new Set(), count: 1 });
     this.area.addEventListener("input", () => {
       this.count = this.area.value.split("\n").length;
@@ -16,16 +21,22 @@ export class Editor {
       this.draw();
       heard.changed(this.area.value);
     });
-    this.area.addEventListener("scroll", () => this.draw());
-    new ResizeObserver(() => this.draw()).observe(this.area);
+    for (const box of [this.area, this.long]) {
+      box.addEventListener("scroll", () => this.draw());
+      new ResizeObserver(() => this.draw()).observe(box);
+    }
     this.gutter.addEventListener("click", event => {
       const line = Number(event.target.closest("button")?.dataset.line);
       if (line) heard.pointed(line);
     });
   }
 
+  get isLong() {
+    return this.starts !== null;
+  }
+
   get text() {
-    return this.area.value;
+    return this.isLong ? this.whole : this.area.value;
   }
 
   /** The number of the line with the caret. */
@@ -34,10 +45,44 @@ export class Editor {
   }
 
   load(text) {
-    this.area.value = text;
-    this.count = this.area.value.split("\n").length;
-    this.area.scrollTop = 0;
+    this.starts = text.length > MOST_EDITED ? lineStarts(text) : null;
+    this.whole = this.isLong ? text : "";
+    this.area.value = this.isLong ? "" : text;
+    this.area.hidden = this.isLong;
+    this.long.hidden = !this.isLong;
+    this.count = this.isLong ? this.starts.length : this.area.value.split("\n").length;
+    if (this.isLong) this.rows.style.height = Math.min(HIGHEST_TEXT, TOP + ROW * (this.count + 1)) + "px";
     Object.assign(this, { mark: 0, bad: null });
+    this.scrollTo(0);
+  }
+
+  /** How long a text may be that is edited here. */
+  get note() {
+    return this.isLong ? `This text of ${grouped(this.whole.length)} characters is too long to be edited here; it runs all the same.` : "";
+  }
+
+  get box() {
+    return this.isLong ? this.long : this.area;
+  }
+
+  /** How much a pixel of the scroll bar is, in pixels of lines. */
+  get scale() {
+    const { long } = this, seen = long.clientHeight;
+    return this.isLong ? Math.max(1, (ROW * this.count - seen) / Math.max(1, long.scrollHeight - seen)) : 1;
+  }
+
+  get scrolled() {
+    return this.box.scrollTop * this.scale;
+  }
+
+  scrollTo(top) {
+    this.box.scrollTop = top / this.scale;
+  }
+
+  /** A line as it stands, with its number from 1. */
+  lineText(line) {
+    if (!this.isLong) return this.area.value.split("\n", line)[line - 1] ?? "";
+    return this.whole.slice(this.starts[line - 1], this.starts[line] ? this.starts[line] - 1 : undefined);
   }
 
   /** Shows the answers of a run up to so many steps, and marks the line of the last. */
@@ -52,10 +97,8 @@ export class Editor {
 
   /** Scrolls to a line that is not in sight. */
   reveal(line) {
-    const { area } = this, top = TOP + ROW * (line - 1);
-    if (line && (top < area.scrollTop || top > area.scrollTop + area.clientHeight - 2 * ROW)) {
-      area.scrollTop = top - area.clientHeight / 2;
-    }
+    const top = TOP + ROW * (line - 1), height = this.box.clientHeight, { scrolled } = this;
+    if (line && (top < scrolled || top > scrolled + height - 2 * ROW)) this.scrollTo(top - height / 2);
   }
 
   /** Marks a bad line: { line, at, width, message }; null where there is none. */
@@ -66,18 +109,26 @@ export class Editor {
   }
 
   draw() {
-    const { area } = this, { first, last } = rowsInSight(area.scrollTop, area.clientHeight, ROW, this.count);
+    const { area, box, scrolled } = this, { first, last } = rowsInSight(scrolled, box.clientHeight, ROW, this.count);
     const lines = Array.from({ length: Math.max(0, last - first) }, (_, i) => first + i + 1);
-    const place = (made, line) => {
-      made.style.top = TOP + ROW * (line - 1) - area.scrollTop + "px";
+    const place = (made, line, from = 0) => {
+      made.style.top = TOP + ROW * (line - 1) - scrolled + from + "px";
       return made;
     };
     this.gutter.replaceChildren(...lines.map(line => place(this.number(line), line)));
     this.told.replaceChildren(...lines.map(line => [line, this.answer(line)]).filter(([, made]) => made)
       .map(([line, made]) => place(made, line)));
+    if (this.isLong) this.rows.replaceChildren(...lines.map(line => place(this.longLine(line), line, box.scrollTop)));
     area.classList.toggle("bad", this.bad !== null);
     area.style.backgroundPositionY = TOP + ROW * ((this.bad?.line || this.mark || -9) - 1) + "px";
     this.drawWhy();
+  }
+
+  /** A line of a text that is shown alone. */
+  longLine(line) {
+    const made = element("div", {}, this.lineText(line).slice(0, WIDEST_LINE));
+    made.classList.toggle("here", line === (this.bad?.line ?? this.mark));
+    return made;
   }
 
   number(line) {
@@ -105,7 +156,7 @@ export class Editor {
     made.title = `step ${step + 1}: ${answer}`;
     made.classList.toggle("later", taken < 0);
     made.classList.toggle("refused", isRefusal(answer));
-    made.classList.toggle("plain", answer === "ok");
+    made.classList.toggle("plain", isPlainAnswer(answer, outline.wordsOf(entry)));
     if (expected !== null) this.judge(made, step, expected);
     return made;
   }
@@ -119,15 +170,24 @@ export class Editor {
 
   /** The reason of a bad line, below the word where it stops being a step. */
   drawWhy() {
-    const { why, bad, area } = this;
+    const { why, bad, box } = this;
     why.hidden = !bad?.line;
     if (why.hidden) return;
-    const line = this.area.value.split("\n", bad.line)[bad.line - 1] ?? "";
+    const line = this.lineText(bad.line);
     const columns = text => [...text].reduce((at, letter) => (letter === "\t" ? at + TAB - at % TAB : at + 1), 0);
     const at = columns(line.slice(0, bad.at ?? 0)), width = Math.max(1, Math.min(bad.width ?? 1, 60));
-    why.style.top = TOP + ROW * bad.line - 3 - area.scrollTop + "px";
-    why.style.left = `calc(${Math.min(at, 60)}ch + 6px - ${area.scrollLeft}px)`;
+    why.style.top = TOP + ROW * bad.line - 3 - this.scrolled + "px";
+    why.style.left = `calc(${Math.min(at, 60)}ch + 6px - ${box.scrollLeft}px)`;
     why.firstElementChild.style.width = `${width}ch`;
     why.lastElementChild.textContent = bad.message;
   }
+}
+
+/** Where the lines of a text begin. */
+function lineStarts(text) {
+  let count = 1;
+  for (let at = text.indexOf("\n"); at >= 0; at = text.indexOf("\n", at + 1)) count++;
+  const starts = new Uint32Array(count);
+  for (let line = 1, at = 0; line < count; line++) starts[line] = at = text.indexOf("\n", at) + 1;
+  return starts;
 }

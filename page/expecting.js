@@ -1,6 +1,6 @@
 // Answers that a script expects, held against those that came (tools/README.md, "An expected answer").
 // tools/vga_report/expecting.py has the same rules; page/tests/expecting.mjs holds both to the same verdicts.
-import { READING } from "./grammar.js";
+import { CALL_REGISTERS, READING } from "./grammar.js";
 import { bytesOfCodes } from "./bytes.js";
 import { md5 } from "./md5.js";
 
@@ -38,4 +38,11 @@ export function isAsExpected(answer, picture, expected, name) {
   if (picture) return false;
   const parts = wanted.split(" "), given = told.split(" ");
   return parts.every(part => part.includes("=") && given.includes(part));
+}
+
+/** Whether an answer tells nothing that the step's words don't: it is ok, or registers come back as they were handed in. */
+export function isPlainAnswer(answer, words) {
+  if (answer === "ok") return true;
+  const given = Object.fromEntries(words.toLowerCase().split(" ").filter(word => word.includes("=")).map(word => word.split("=")));
+  return answer.toLowerCase() === CALL_REGISTERS.map(name => `${name}=${(given[name] ?? "").padStart(4, "0")}`).join(" ");
 }

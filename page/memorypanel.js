@@ -2,9 +2,9 @@
 import { counted, hex } from "./bytes.js";
 import { differingBytes } from "./changes.js";
 import { element, selectOf } from "./dom.js";
-import { shownBytes, windowShape } from "./state.js";
+import { rowBytes, shownBytes } from "./state.js";
 
-const PLANE_LENGTH = 65536, HEX_ROWS = 16, HEX_COLUMNS = 16;
+const PLANE_LENGTH = 65536, HEX_ROWS = 16, HEX_COLUMNS = 16, USUAL_PITCH = 80;
 const COLOURS = { on: 0xffffffff, off: 0xff000000, shownOff: 0xff4a2a14, hiddenOn: 0xff8a8a8a, changedOn: 0xff44c3f6, changedOff: 0xff104a6a };
 const ZOOMS = [["fit", "four planes, to fit"], ["1", "one plane, × 1"], ["2", "one plane, × 2"], ["4", "one plane, × 4"]];
 
@@ -18,7 +18,8 @@ export class MemoryPanel {
   made(seen) {
     this.seen = seen;
     const { registers } = seen.after;
-    this.pitch = windowShape(registers).pitch || 80;
+    this.own = rowBytes(registers);
+    this.pitch = this.own || USUAL_PITCH;
     this.shown = shownBytes(registers);
     this.changed = [0, 1, 2, 3].map(plane => new Set(differingBytes(seen.before.plane(plane), seen.after.plane(plane))));
     this.box = element("div", { className: "memory" });
@@ -69,7 +70,8 @@ export class MemoryPanel {
       figure.classList.toggle("picked", plane === this.plane);
       return figure;
     });
-    const hint = `A dot for each bit, ${this.pitch} bytes a row as the offset register says. Blue ground: shown by a frame with these registers; ` +
+    const pitch = this.own ? `${this.own} bytes a row, as the offset register says` : `${USUAL_PITCH} bytes a row, since the offset register is 0`;
+    const hint = `A dot for each bit, ${pitch}. Blue ground: shown by a frame with these registers; ` +
       "yellow: changed by the last step. Click to see the bytes.";
     return element("div", {}, element("p", { className: "hint" }, hint), element("div", { className: this.zoom === "fit" ? "planes" : "planes one" }, ...made));
   }

@@ -35,7 +35,9 @@ export class Screen {
     this.canvas.addEventListener("pointermove", event => this.point(event));
     this.canvas.addEventListener("pointerleave", () => this.point(null));
     this.canvas.addEventListener("click", event => {
-      const found = this.dotAt(event);
+      // A click's place is rounded to a pixel, and the dot that is told was that of the pointer's own place.
+      const isNear = this.pointer && Math.hypot(this.pointer.clientX - event.clientX, this.pointer.clientY - event.clientY) < 2;
+      const found = this.dotAt(isNear ? this.pointer : event);
       if (found) heard.clicked(found.row.line, found.x);
     });
     new ResizeObserver(() => this.shape()).observe(this.stage);
@@ -123,7 +125,7 @@ export class Screen {
     if (isOn) this.drawGlass(found);
     const told = byId("dot");
     if (!found) {
-      told.replaceChildren("Point at a dot; click it to go to the step that draws it.");
+      told.replaceChildren();
       return;
     }
     const swatch = element("span", { className: "swatch" });

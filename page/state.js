@@ -103,6 +103,12 @@ export function fetchAddress(registers, counter) {
   return 2 * counter & 65534 | counter >> (crtc[23] & 32 ? 15 : 13) & 1;
 }
 
+/** How many bytes of a plane lead from a row to the next: 0 where the offset register is. */
+export function rowBytes(registers) {
+  const { crtc } = registers, step = crtc[20] & 64 ? 4 : crtc[23] & 64 ? 1 : 2;
+  return 2 * crtc[19] * step;
+}
+
 /** Of each displayed line of a frame with these registers: its counter, and the scan line of its row. */
 export function* displayedLines(registers) {
   const shape = windowShape(registers);

@@ -23,6 +23,8 @@ import { whyRefused } from "./refusals.js";
 
 const SLICE_TIME = 14, SHOWN_EVERY = 250, TYPED = 250, TYPED_MUCH = 1000, MUCH_TEXT = 500000;
 const MOST_LINK = 200000, MOST_WORDS = 160;
+/** What the page shows first. */
+const FIRST_EXAMPLE = "text-by-services";
 const TABS = ["registers", "memory", "cells", "colours", "BIOS data", "breakpoints"];
 
 /** The page over a module, with the data that it was built with. */
@@ -180,6 +182,7 @@ export class View {
     document.title = `${this.name}: Zaklimot`;
     this.pointPanel.change(this.points.filter(point => point.kind !== "line"));
     this.editor.load(text);
+    if (this.editor.isLong) byId("about").textContent = `${name}. ${this.editor.note}`;
     this.begin(asked);
   }
 
@@ -191,9 +194,9 @@ export class View {
     await this.guarded(async () => {
       if (words.has("fonts")) this.fonts = await unpacked(words.get("fonts"));
       if (words.has("script")) return this.load("your own script", new TextDecoder().decode(await unpacked(words.get("script"))), asked);
-      const example = this.data.examples.find(one => one.name === words.get("example"));
+      const { examples } = this.data, named = name => examples.find(one => one.name === name);
+      const example = named(words.get("example")) ?? (open ? null : named(FIRST_EXAMPLE) ?? examples[0]);
       if (example) return this.load(example.name, example.text, asked);
-      if (!open) return this.load(this.data.examples[0].name, this.data.examples[0].text, asked);
       if (open.fonts) this.fonts = bytesOfBase64(open.fonts);
       return this.load(open.name, open.text ?? printedText(bytesOfBase64(open.bytes), this.adapter), asked);
     });
@@ -218,6 +221,7 @@ export class View {
   typed() {
     byId("examples").value = "";
     byId("about").textContent = "";
+    byId("compared").textContent = "";
     clearTimeout(this.timer);
     this.timer = setTimeout(() => this.guarded(() => this.begin()), this.editor.text.length > MUCH_TEXT ? TYPED_MUCH : TYPED);
   }
@@ -225,6 +229,7 @@ export class View {
   /** Runs the text, and shows what is asked for: so many steps, or as many as before, or all. */
   begin(asked = this.session && this.steps < this.session.length ? this.steps : Infinity) {
     clearTimeout(this.timer);
+    byId("compared").textContent = "";
     Object.assign(this, { search: null, coming: null, isHalted: false, asked, begun: performance.now(), shownAt: performance.now() });
     this.play(false);
     try {
@@ -240,7 +245,6 @@ export class View {
     this.editor.isStale = false;
     document.body.classList.remove("stale");
     this.isCompared = false;
-    byId("compared").textContent = "";
     return this.wake();
   }
 
