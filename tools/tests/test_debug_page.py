@@ -440,6 +440,14 @@ class Tests(unittest.TestCase):
             with self.subTest(said), self.assertRaises(Wrong):
                 scripts.counted(said)
 
+    def test_what_the_page_tells_of_its_examples(self) -> None:
+        told = {"agree": 2, "differ": 0, "expected": 3, "lines": ["a: right", "b: right"]}
+        self.assertEqual(scripts.agreed(told), "2 examples answer as by zak_run, 3 answers as expected")
+        for other in ({"differ": 1}, {"agree": 0}, {"expected": 0}):
+            with self.subTest(other), self.assertRaises(Wrong) as raised:
+                scripts.agreed({**told, **other})
+            self.assertIn("\n  a: right\n", str(raised.exception))
+
     def test_node_that_is_lacking_or_too_old(self) -> None:
         with mock.patch("shutil.which", return_value=None):
             told = refused(node.node_words)
