@@ -164,13 +164,16 @@ class Pages(unittest.TestCase):
         names = [one["name"] for one in given]
         self.assertEqual(names, sorted(names))
         self.assertTrue({"text-by-services", "raster-bands"} <= set(names))
-        self.assertEqual([one["name"] for one in examples() if not one["about"]], [])
+        told = {one["name"]: one["about"] for one in given}
+        self.assertEqual(told["driver-test"], "")
+        self.assertEqual(told["text-by-services"], "A screen of text by the video services alone, in ten steps.")
+        self.assertGreater(sum(map(bool, told.values())), 14)
 
     def test_what_an_example_is_about(self) -> None:
         for text, told in (
             ("; A screen. Numbers are\n; hexadecimal.\n\nframe\n", "A screen."),
             ("; A screen\n; of text.\nframe ; a picture\n", "A screen of text."),
-            ("frame\nout 3C2 3 ; memory on\n; more.\n", "memory on"),
+            ("frame\nout 3C2 3 ; memory on\n; more.\n", ""), ("; A bar: red! More.\n", "A bar: red!"),
             ("\n; one\n\n; two\n", "one"),
             ("frame\n", ""),
             ("", ""),

@@ -6,6 +6,7 @@ import base64
 import gzip
 import json
 import re
+from itertools import takewhile
 from pathlib import Path
 from typing import Any, NamedTuple
 
@@ -24,7 +25,7 @@ MOST_BYTES = 400_000
 # From the page as built, where the documentation's pages lie.
 PAGES = "../docs/"
 LEVEL = 9
-SENTENCE = re.compile(r"(.+?[.:!?])(?: |$)")
+SENTENCE = re.compile(r"(.+?[.!?])(?: |$)")
 
 
 class Sources(NamedTuple):
@@ -44,15 +45,9 @@ def read_sources(folder: Path = SOURCES) -> Sources:
 
 
 def about(text: str) -> str:
-    """What an example's first comment says: its first sentence."""
-    words: list[str] = []
-    for line in text.splitlines():
-        step, mark, comment = line.partition(";")
-        if mark:
-            words.append(comment.strip())
-        if words and (step.strip() or not mark):
-            break
-    whole = " ".join(words)
+    """The first sentence of the comment that an example begins with; nothing where it begins with a step."""
+    lines = takewhile(lambda line: line.startswith(";"), map(str.strip, text.lstrip().splitlines()))
+    whole = " ".join(line[1:].strip() for line in lines)
     found = SENTENCE.match(whole)
     return found[1] if found else whole
 
