@@ -74,7 +74,8 @@ export class Browser {
   /** Waits until an expression in the page is true, or a condition here. */
   async until(condition, patience = PATIENCE) {
     const begun = Date.now();
-    while (!(typeof condition === "string" ? await this.value(condition) : condition())) {
+    // While a page loads, its elements are not there yet.
+    while (!(typeof condition === "string" ? await this.value(condition).catch(() => false) : condition())) {
       if (Date.now() - begun > patience) throw new Error(`this did not come: ${condition}\n${await this.value("document.body.innerText.slice(0, 600)")}`);
       await new Promise(resolve => setTimeout(resolve, 20));
     }
