@@ -64,7 +64,8 @@ def _made(words: argparse.Namespace, progress: Progress) -> tuple[list[bytes], O
     if words.module is not None:
         return [read_at_most(words.module, MOST_MODULE)], None
     try:
-        first, second = made_modules(phases(progress), words.gated, words.proof, [None, SMALL_MEMORY], times=2)
+        memories = [None, SMALL_MEMORY]
+        first, second = made_modules(phases(progress), words.gated, words.proof, memories, times=2)
         return [first[0], second[0]], first[1]
     finally:
         progress.clear()

@@ -101,7 +101,8 @@ class Suite {
     this.ways[way] = (this.ways[way] ?? 0) + 1;
     const told = await this.guarded(one, way, answer);
     if (!told || told.sha256 === wanted.sha256 && told.length === wanted.length) return;
-    const reason = `${told.length} bytes with the sum ${told.sha256}, not ${wanted.length} with ${wanted.sha256}`;
+    const sums = `with the sum ${told.sha256}, not ${wanted.sha256}`;
+    const reason = `${told.length} bytes, not ${wanted.length}, ${sums}`;
     this.wrong.push({ name: one.name, way, reason });
   }
 
