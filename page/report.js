@@ -26,7 +26,10 @@ export class ReportPicture {
   }
 }
 
-/** Reads `count` answers of a report whose first line has the number `first`; takes each with (index, answer, picture). */
+/**
+ * Reads `count` answers of a report whose first line has the number `first`; takes each with (index, answer,
+ * picture).
+ */
 export function readReport(report, first, count, take) {
   let at = 0;
   for (let i = 0; i < count; i++) {
