@@ -45,14 +45,22 @@ export function isAsExpected(answer, picture, expected, name) {
   return parts.every(part => part.includes("=") && given.includes(part));
 }
 
-/**
- * Whether an answer tells nothing that the step's words don't: it is ok, or registers come back as they were
- * handed in.
- */
+/** The registers that a call hands in, as an answer tells them. */
+function handedIn(words) {
+  const pairs = words.toLowerCase().split(" ").filter(word => word.includes("="))
+    .map(word => word.split("="));
+  const given = new Map(pairs);
+  return CALL_REGISTERS.map(name => `${name}=${(given.get(name) ?? "").padStart(4, "0")}`);
+}
+
+/** Whether an answer tells nothing that the step's words don't: ok, or the registers that were handed in. */
 export function isPlainAnswer(answer, words) {
-  if (answer === "ok") return true;
-  const given = Object.fromEntries(words.toLowerCase().split(" ").filter(word => word.includes("="))
-    .map(word => word.split("=")));
-  return answer.toLowerCase() === CALL_REGISTERS.map(
-    name => `${name}=${(given[name] ?? "").padStart(4, "0")}`).join(" ");
+  return answer === "ok" || answer.toLowerCase() === handedIn(words).join(" ");
+}
+
+/** An answer for a narrow column: of a call, the registers alone that have changed. */
+export function shortAnswer(answer, words) {
+  if (!answer.startsWith("ax=")) return answer;
+  const given = handedIn(words), told = answer.split(" ").filter(word => !given.includes(word.toLowerCase()));
+  return told.join(" ") || "unchanged";
 }

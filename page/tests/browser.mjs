@@ -515,6 +515,23 @@ await check("want of memory in the module", async () => {
   }
 });
 
+await check("every control has a name for screen readers", async () => {
+  await browser.look(WIDE);
+  await open(await fragment(SCRIPT));
+  const roles = ["button", "checkbox", "combobox", "textbox", "slider", "listbox", "option", "link", "tab",
+    "tabpanel", "image"];
+  for (let tab = 1; tab <= 6; tab++) {
+    await browser.click(`#tab${tab}`);
+    await settled();
+    const { nodes } = await browser.send("Accessibility.getFullAXTree");
+    const controls = nodes.filter(node => !node.ignored && roles.includes(node.role?.value));
+    assert.ok(controls.length > 40);
+    const nameless = controls.filter(node => !node.name?.value)
+      .map(node => `${node.role.value} ${node.nodeId}`);
+    assert.deepEqual(nameless, []);
+  }
+});
+
 await check("screenshots, wide and narrow, light and dark", async () => {
   const shots = { text: "#example=text-by-services&tab=cells&step=9",
     planar: "#example=planar-screen&step=150&tab=memory",

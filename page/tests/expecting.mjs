@@ -3,7 +3,7 @@ import assert from "node:assert/strict";
 import test from "node:test";
 import { createHash } from "node:crypto";
 import { execFileSync } from "node:child_process";
-import { expectedIn, isAsExpected, isRefusal, toldAnswer } from "../expecting.js";
+import { expectedIn, isAsExpected, isPlainAnswer, isRefusal, shortAnswer, toldAnswer } from "../expecting.js";
 import { md5 } from "../md5.js";
 import { readReport } from "../report.js";
 import { TOP } from "./loading.mjs";
@@ -64,4 +64,18 @@ test("expectations in comments", () => {
 test("a report that is damaged is told", () => {
   assert.throws(() => readReport(Buffer.from("2 ok\n"), 1, 1, () => {}), /no answer of step 1/);
   assert.throws(() => readReport(Buffer.from("1 ok\n2 ok\n"), 1, 1, () => {}), /goes on/);
+});
+
+test("answers of calls in short", () => {
+  for (const [words, answer, short] of [
+    ["int ax=E41", "ax=0E41 bx=0000 cx=0000 dx=0000", "unchanged"],
+    ["INT bx=1", "ax=5003 bx=0001 cx=0000 dx=0000", "ax=5003"],
+    ["int ax=1017 cx=1", "ax=1017 bx=0000 cx=0001 dx=0000 block 010203", "block 010203"],
+    ["frame", "picture 37", "picture 37"],
+    ["int ax=5", "E5 BadMode", "E5 BadMode"],
+  ]) {
+    assert.equal(shortAnswer(answer, words), short);
+    assert.equal(isPlainAnswer(answer, words), short === "unchanged");
+  }
+  assert.equal(isPlainAnswer("ok", "frame"), true);
 });

@@ -2,6 +2,7 @@
 import assert from "node:assert/strict";
 import test from "node:test";
 import { Session } from "../session.js";
+import { statusOne } from "../registerpanel.js";
 import { State, characterWidth, dacEntry, fetchAddress, frameShape, shownBytes,
   windowShape } from "../state.js";
 import { FONTS, examples, loadAdapter, runWhole } from "./loading.mjs";
@@ -132,4 +133,23 @@ test("fetch addresses of words go round at 65,536", () => {
   assert.equal(fetchAddress(registers(0, 0xa3), 0x8001), 3);
   assert.equal(fetchAddress(registers(0, 0x83), 0x2001), 0x4003);
   assert.equal(fetchAddress(registers(64, 0xa3), 0x4001), 4);
+});
+
+test("input status 1 is what would be read", () => {
+  const changed = "outw 3D4 0111\noutw 3D4 0210\noutw 3D4 0007\n";
+  for (const [mode, change] of ["3", "7", "D", "12", "13"].flatMap(one => [[one, ""], [one, changed]])) {
+    const port = mode === "7" ? "3BA" : "3DA", steps = `in ${port}\nadvance 2777\n`;
+    const text = `version 2\nint ax=${mode}\n${mode === "7" ? "" : change}repeat 170\n${steps}end\n`;
+    const session = runWhole(new Session(adapter, FONTS, text)), { outline } = session;
+    let count = 0;
+    for (let step = 1; step < session.length; step++) {
+      if (outline.nameOf(outline.entryOf(step)) !== "in") continue;
+      session.approach(step);
+      assert.equal(statusOne(session.state()).slice(0, 2), session.answers.get(step),
+        `mode ${mode}, step ${step}`);
+      count++;
+    }
+    assert.equal(count, 170);
+    session.close();
+  }
 });
