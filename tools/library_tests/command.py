@@ -10,7 +10,7 @@ from contextlib import contextmanager
 from pathlib import Path
 from typing import Callable, Iterator, Optional, Sequence
 
-from vga_library.gated import gated_archive, gated_proof
+from vga_library.gated import gated_archive
 from vga_library.making import MOVING, Place, make_library
 from vga_library.toolchain import BACKENDS, kit_archive, proved_archive
 from vga_report.trouble import Trouble
@@ -65,7 +65,7 @@ def _archive(words: argparse.Namespace, backend: str, folder: Path) -> Path:
     kept = folder / f"{backend}.a"
     if words.gated:
         # One proof is enough for both compilers.
-        return gated_archive(backend, gated_proof(words.proof or folder / "proof"), kept)
+        return gated_archive(backend, words.proof or folder / "proof", kept)
     # The next compiler's archive takes the place of this one.
     return Path(shutil.copyfile(words.archive or proved_archive(backend), kept))
 

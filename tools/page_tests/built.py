@@ -5,6 +5,8 @@ from __future__ import annotations
 import base64
 import gzip
 import io
+import zlib
+from typing import Any
 
 from library_tests.compilers import Wrong
 from vga_page.page import MOST_BYTES, data_of, page_text, read_sources
@@ -13,6 +15,7 @@ from vga_report.debugging import MOST_PAGE, PAGE, page_data, read_at_most
 from vga_report.trouble import Trouble
 
 NAME = f"page/{PAGE.name}"
+PACKED = ("examples", "module")
 ANEW = f"`tools/vga-page make {NAME}` makes it anew"
 
 
@@ -23,14 +26,26 @@ def built_page() -> bytes:
     return read_at_most(str(PAGE), MOST_PAGE)
 
 
+def _unzipped(text: str) -> bytes:
+    """The bytes of a text that is base64 of gzip."""
+    try:
+        with gzip.GzipFile(fileobj=io.BytesIO(base64.b64decode(text, validate=True))) as stream:
+            data = stream.read(MOST_MODULE + 1)
+    except (EOFError, OSError, ValueError, zlib.error) as error:
+        raise Wrong(f"a part of {NAME} is not packed as it should be: {error}; {ANEW}") from error
+    if len(data) > MOST_MODULE:
+        raise Trouble(f"a part of it unpacks to more than {MOST_MODULE:,} bytes", NAME)
+    return data
+
+
+def _unpacked(data: dict[str, Any]) -> dict[str, Any]:
+    """The data of a page, with what is packed in them as its bytes: another version of zlib packs otherwise."""
+    return {**data, **{name: _unzipped(data[name]) for name in PACKED}}
+
+
 def module_in(page: bytes) -> bytes:
     """The module that a page has in it."""
-    packed = base64.b64decode(page_data(page.decode("utf-8"))["module"], validate=True)
-    with gzip.GzipFile(fileobj=io.BytesIO(packed)) as stream:
-        module = stream.read(MOST_MODULE + 1)
-    if len(module) > MOST_MODULE:
-        raise Trouble(f"its module has more than {MOST_MODULE:,} bytes", NAME)
-    return module
+    return _unzipped(page_data(page.decode("utf-8"))["module"])
 
 
 def _first_difference(page: bytes, other: bytes) -> str:
@@ -47,14 +62,17 @@ def check_built(module: bytes, page: bytes) -> tuple[str, bool]:
 
     Answers what is told, and whether this kit has made the page's module. Else the suite judges it.
     """
-    own, kept = module_in(page), page_data(page.decode("utf-8"))["module"]
-    # Another version of zlib packs the same module into other bytes.
-    wanted = page_text(read_sources(), {**data_of(own), "module": kept}).encode("utf-8")
+    own, data = module_in(page), page_data(page.decode("utf-8"))
     if len(page) > MOST_BYTES:
         raise Wrong(f"{NAME} has {len(page):,} bytes, and {MOST_BYTES:,} are the most")
+    wanted = page_text(read_sources(), data).encode("utf-8")
     if page != wanted:
         where = _first_difference(page, wanted)
         raise Wrong(f"{NAME} is not the page that its sources make: {where}; {ANEW}")
+    parts, wanted_parts = _unpacked(data), _unpacked(data_of(own))
+    others = [name for name in wanted_parts if parts.get(name) != wanted_parts[name]]
+    if others or list(parts) != list(wanted_parts):
+        raise Wrong(f"{NAME} has other data than those of the repository: {', '.join(others or parts)}; {ANEW}")
     told = f"{NAME} is the page that its sources make, {len(page):,} bytes"
     if own == module:
         return told, True

@@ -48,6 +48,9 @@ def _parser() -> argparse.ArgumentParser:
         help="with --gated: keeps the crate's proof there, or takes it from there",
     )
     parser.add_argument(
+        "--ready", action="store_true", help="tests nothing, and tells what this machine lacks"
+    )
+    parser.add_argument(
         "--browser", action="store_true", help="the page as built in Chromium, and nothing else"
     )
     parser.add_argument(
@@ -61,8 +64,8 @@ def _made(words: argparse.Namespace, progress: Progress) -> tuple[list[bytes], O
     if words.module is not None:
         return [read_at_most(words.module, MOST_MODULE)], None
     try:
-        *same, small = made_modules(phases(progress), words.gated, words.proof, [None, None, SMALL_MEMORY])
-        return same, small
+        first, second = made_modules(phases(progress), words.gated, words.proof, [None, SMALL_MEMORY], times=2)
+        return [first[0], second[0]], first[1]
     finally:
         progress.clear()
 
@@ -125,7 +128,8 @@ def main(given: Optional[Sequence[str]] = None) -> int:
         if words.proof is not None and not words.gated:
             raise Trouble("--proof keeps a proof of --gated")
         node_words()
-        _run(words, progress)
+        if not words.ready:
+            _run(words, progress)
         return RIGHT
     except Wrong as wrong:
         status, reason = WRONG, str(wrong)

@@ -2,21 +2,12 @@
 import { readFileSync } from "node:fs";
 import { Adapter } from "../../page/adapter.js";
 import { bytesOfBase64 } from "../../page/bytes.js";
-import { Session } from "../../page/session.js";
+import { checkedExamples } from "../../page/checking.js";
+import { examplesOf } from "../../page/packed.js";
 
 const [module, page] = process.argv.slice(2);
 const DATA = /<script type="application\/json" id="zaklimot-data">([^]*?)<\/script>/;
 const data = JSON.parse(readFileSync(page, "utf-8").match(DATA)[1]);
-const fonts = bytesOfBase64(data.fonts), wrong = [];
 const adapter = await Adapter.opened(new Uint8Array(readFileSync(module)));
-let expected = 0;
-for (const { name, text } of data.examples) {
-  const session = new Session(adapter, fonts, text);
-  while (session.runFor(1000));
-  const differs = session.compared();
-  if (differs) wrong.push(`${name}: ${differs}`);
-  if (session.wrong) wrong.push(`${name}: ${session.wrong} answers are not as expected`);
-  expected += session.expected;
-  session.close();
-}
-process.stdout.write(JSON.stringify({ examples: data.examples.length, expected, wrong }));
+const told = await checkedExamples(adapter, bytesOfBase64(data.fonts), await examplesOf(data));
+process.stdout.write(JSON.stringify(told));

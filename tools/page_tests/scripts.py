@@ -6,7 +6,7 @@ import json
 import re
 import shutil
 from pathlib import Path
-from typing import NamedTuple, Optional
+from typing import Any, NamedTuple, Optional
 
 from library_tests.compilers import Wrong
 from vga_report.debugging import PAGE
@@ -76,12 +76,14 @@ def check_scripts(modules: Modules) -> str:
 
 def check_own(modules: Modules) -> str:
     """The page's check of its examples, over its module: each answers as by `zak_run`, and as expected."""
-    answer = json.loads(run_node([OWN, modules.module, PAGE]))
-    if answer["wrong"] or not answer["examples"]:
-        lines = [f"  {line}" for line in answer["wrong"]]
-        raise Wrong("\n".join(["the page's check of its examples:", *lines]))
-    examples, expected = answer["examples"], answer["expected"]
-    return f"{examples} examples answer as by zak_run, {expected} answers as expected"
+    return agreed(json.loads(run_node([OWN, modules.module, PAGE])))
+
+
+def agreed(told: dict[str, Any]) -> str:
+    """What the page's check of its examples tells, where each of them agrees."""
+    if told["differ"] or not (told["agree"] and told["expected"]):
+        raise Wrong("\n".join(["the page's check of its examples:", *(f"  {line}" for line in told["lines"])]))
+    return f"{told['agree']} examples answer as by zak_run, {told['expected']} answers as expected"
 
 
 def check_heap(modules: Modules) -> str:

@@ -99,15 +99,21 @@ class Suite {
   /** Holds what a way answers to what is expected: its length and its sum. */
   async hold(one, way, wanted, answer) {
     this.ways[way] = (this.ways[way] ?? 0) + 1;
+    const told = await this.guarded(one, way, answer);
+    if (!told || told.sha256 === wanted.sha256 && told.length === wanted.length) return;
+    const reason = `${told.length} bytes with the sum ${told.sha256}, not ${wanted.length} with ${wanted.sha256}`;
+    this.wrong.push({ name: one.name, way, reason });
+  }
+
+  /** What a way answers; nothing where it fails, which is told. */
+  async guarded(one, way, answer) {
     try {
-      const { length, sha256 } = answer();
-      if (sha256 === wanted.sha256 && length === wanted.length) return;
-      const reason = `${length} bytes with the sum ${sha256}, not ${wanted.length} with ${wanted.sha256}`;
-      this.wrong.push({ name: one.name, way, reason });
+      return answer();
     } catch (error) {
       this.wrong.push({ name: one.name, way, reason: String(error) });
       // A module in which a call has trapped answers nothing more.
       await this.open();
+      return null;
     }
   }
 
@@ -115,7 +121,9 @@ class Suite {
   async run(one) {
     const given = file(one.script), fonts = file(one.fonts);
     const whole = { bytes: given, fault: null };
-    const { bytes: script, fault } = one.isBytes ? whole : assembled(this.adapter, given);
+    const made = one.isBytes ? whole : await this.guarded(one, "text", () => assembled(this.adapter, given));
+    if (!made) return;
+    const { bytes: script, fault } = made;
     if (!one.isBytes) await this.runText(one, script, fault, fonts);
     if (fault) return;
     await this.hold(one, "bytes", one, () => sumOf(byRun(this.adapter, script, fonts)));

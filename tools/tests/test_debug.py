@@ -91,6 +91,10 @@ class Pages(Release):
             "fonts": base64.b64encode(OTHER_FONTS).decode("ascii"),
         })
 
+    def test_the_step_at_which_it_opens(self) -> None:
+        status, output, _ = self.ran(self.script, "--debug", str(self.made), "--until", "2")
+        self.assertEqual((status, output.split()[-1]), (0, self.made.as_uri() + "#step=2"))
+
     def test_bytes_of_a_text_that_are_no_text(self) -> None:
         path = self.folder / "s"
         path.write_bytes(b"frame ; \xff\n\0\n")
@@ -122,7 +126,7 @@ class Pages(Release):
         debug = ["--debug", str(self.made)]
         self.assertEqual(said("none", *debug), "none: No such file or directory\n")
         self.assertEqual(said("-", *debug, given=bytes(16_777_217)), "-: it has more than 16,777,216 bytes\n")
-        for words in (["--only", "1"], ["--until", "1"], ["--try"], ["--vga", "x"]):
+        for words in (["--only", "1"], ["--try"], ["--vga", "x"]):
             told = said(self.script, *debug, *words)
             self.assertTrue(told.startswith("--debug runs nothing here: "), words)
         for words in (["--bless"], ["--show"], ["--pictures", "p"]):

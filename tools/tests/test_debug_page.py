@@ -6,6 +6,7 @@ import base64
 import contextlib
 import gzip
 import io
+import json
 import os
 import signal
 import subprocess
@@ -158,16 +159,21 @@ class Pages(unittest.TestCase):
         self.assertEqual(gzip.decompress(base64.b64decode(data["module"])), b"module")
         self.assertEqual(len(base64.b64decode(data["fonts"])), 9728)
         self.assertEqual((data["pages"], data["open"]), ("../docs/", None))
-        names = [one["name"] for one in data["examples"]]
+        given = json.loads(gzip.decompress(base64.b64decode(data["examples"])))
+        self.assertEqual(given, examples())
+        names = [one["name"] for one in given]
         self.assertEqual(names, sorted(names))
         self.assertTrue({"text-by-services", "raster-bands"} <= set(names))
-        self.assertEqual([one["name"] for one in examples() if not one["about"]], [])
+        told = {one["name"]: one["about"] for one in given}
+        self.assertEqual(told["driver-test"], "")
+        self.assertEqual(told["text-by-services"], "A screen of text by the video services alone, in ten steps.")
+        self.assertGreater(sum(map(bool, told.values())), 14)
 
     def test_what_an_example_is_about(self) -> None:
         for text, told in (
             ("; A screen. Numbers are\n; hexadecimal.\n\nframe\n", "A screen."),
             ("; A screen\n; of text.\nframe ; a picture\n", "A screen of text."),
-            ("frame\nout 3C2 3 ; memory on\n; more.\n", "memory on"),
+            ("frame\nout 3C2 3 ; memory on\n; more.\n", ""), ("; A bar: red! More.\n", "A bar: red!"),
             ("\n; one\n\n; two\n", "one"),
             ("frame\n", ""),
             ("", ""),
@@ -402,7 +408,14 @@ class Tests(unittest.TestCase):
             self.assertFalse(built.check_built(other, made)[1])
             wrong = with_kit(module_of(Modules.right, (1, b"\0")), "one")
             other_page = make_page(module, small_sources("end();\n"))
-            for module_under_test, page_under_test in ((wrong, made), (module, other_page)):
+            data = page_data(made.decode("utf-8"))
+            other_data, no_data = (
+                page_text(small_sources(), {**data, "examples": examples}).encode("utf-8")
+                for examples in (base64.b64encode(packed(b"[]")).decode("ascii"), "AAAA")
+            )
+            for module_under_test, page_under_test in (
+                (wrong, made), (module, other_page), (module, other_data), (module, no_data),
+            ):
                 with self.assertRaises(Wrong):
                     built.check_built(module_under_test, page_under_test)
 
@@ -429,6 +442,14 @@ class Tests(unittest.TestCase):
         for said in ("# pass 3\n# fail 1\n", "# pass 3\n# skipped 1\n", "# pass 0\n", ""):
             with self.subTest(said), self.assertRaises(Wrong):
                 scripts.counted(said)
+
+    def test_what_the_page_tells_of_its_examples(self) -> None:
+        told = {"agree": 2, "differ": 0, "expected": 3, "lines": ["a: right", "b: right"]}
+        self.assertEqual(scripts.agreed(told), "2 examples answer as by zak_run, 3 answers as expected")
+        for other in ({"differ": 1}, {"agree": 0}, {"expected": 0}):
+            with self.subTest(other), self.assertRaises(Wrong) as raised:
+                scripts.agreed({**told, **other})
+            self.assertIn("\n  a: right\n", str(raised.exception))
 
     def test_node_that_is_lacking_or_too_old(self) -> None:
         with mock.patch("shutil.which", return_value=None):

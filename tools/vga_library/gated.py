@@ -1,8 +1,8 @@
 """The crate's archive right behind the gate, over the libraries that `rt ci` proved and built.
 
 `rt lib` does not take these, and would prove all crates once more. So its calls of the compiler are made
-here, over them: the crate itself is proved again, once, and kept in a folder, so that each compiler builds
-what that proved. It is right as long as no source changed since `rt ci` ran.
+here, over them: the crate itself is proved again, once, and a folder keeps its proof, so that each compiler
+builds over that. It is right as long as no source below the crate changed since `rt ci` ran.
 """
 
 from __future__ import annotations
@@ -10,12 +10,11 @@ from __future__ import annotations
 import os
 from functools import cache
 from pathlib import Path
-from typing import NamedTuple, Optional
 
 from vga_report.trouble import Trouble
 
 from .header import TOP
-from .running import Hearer, run
+from .running import run
 from .toolchain import CRATE, kit_folder
 
 # What every crate stands on, unnamed.
@@ -70,40 +69,19 @@ def crate_words(kit: Path) -> list[str | Path]:
     return [*words, "--links", f"{CRATE.name}=", "--crate-type", "staticlib"]
 
 
-def proving_words(kit: Path, incremental: str | Path) -> list[str | Path]:
-    """What it is told besides where it proves the crate, over what it has kept of that in a folder."""
+def proving_words(kit: Path, kept: str | Path) -> list[str | Path]:
+    """What the compiler is told where it proves the crate, over what a folder keeps of its proof."""
     jobs = min(4, os.cpu_count() or 1)
     words = [*crate_words(kit), "--logic-built", kit / "logic_built", "--jobs", str(jobs)]
-    return [*words, "--incremental", incremental]
+    return [*words, "--incremental", kept]
 
 
-class GatedProof(NamedTuple):
-    """A folder with the crate's proof: what the compilers build from, and what makes a second check quick."""
+def gated_archive(backend: str, kept: Path, made: Path) -> Path:
+    """Proves the crate, keeps its proof in a folder, and builds the archive by one of the two compilers into a file.
 
-    folder: Path
-
-    @property
-    def checked(self) -> Path:
-        return self.folder / "checked"
-
-    @property
-    def incremental(self) -> Path:
-        return self.folder / "incremental"
-
-
-def gated_proof(folder: Path, heard: Optional[Hearer] = None) -> GatedProof:
-    """Proves the crate into a folder, unless its proof is there. Compilers refuse one of other sources."""
-    kit, proof = kit_folder(), GatedProof(folder.absolute())
-    if not proof.checked.exists():
-        folder.mkdir(parents=True, exist_ok=True)
-        words = proving_words(kit, proof.incremental)
-        run([kit / "bin" / "rattle", "check", *words, "-o", proof.checked], CRATE, heard)
-    return proof
-
-
-def gated_archive(backend: str, proof: GatedProof, made: Path) -> Path:
-    """Builds the archive, of which a folder keeps the proof, by one of the two compilers into a file."""
+    Where the folder has the proof already, it is not made again.
+    """
     kit = kit_folder()
-    words = [*crate_words(kit), "--crate-checked", proof.checked, "--toolchain", kit / "toolchain"]
-    run([kit / "bin" / "rattle", "build", *words, "--backend", backend, "-o", made], CRATE)
+    words = [*proving_words(kit, kept.absolute()), "--toolchain", kit / "toolchain", "--backend", backend]
+    run([kit / "bin" / "rattle", "build", *words, "-o", made], CRATE)
     return made

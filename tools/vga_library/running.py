@@ -96,14 +96,17 @@ def _heard_until(name: str, seconds: Optional[float], heard: Optional[Hearer]) -
     return hear
 
 
-def run(
+def run_both(
     words: Sequence[str | Path],
     folder: Optional[Path] = None,
     heard: Optional[Hearer] = None,
     seconds: Optional[float] = None,
     environment: Optional[Mapping[str, str]] = None,
-) -> str:
-    """Runs a program to its end, and answers what it writes. A Trouble tells how one ended badly."""
+) -> tuple[str, str]:
+    """Runs a program to its end, and answers what it writes on standard output and on standard error.
+
+    A Trouble tells how one ended badly.
+    """
     name = str(words[0])
     if shutil.which(name) is None:
         package = PACKAGES.get(name)
@@ -124,4 +127,15 @@ def run(
         line = " ".join(str(word) for word in words)
         said = output.text() + errors.text()
         raise Failed(f"it ended with status {status}\n  {line}\n{said[-MOST_SAID:]}", name)
-    return output.text()
+    return output.text(), errors.text()
+
+
+def run(
+    words: Sequence[str | Path],
+    folder: Optional[Path] = None,
+    heard: Optional[Hearer] = None,
+    seconds: Optional[float] = None,
+    environment: Optional[Mapping[str, str]] = None,
+) -> str:
+    """Runs a program to its end, and answers what it writes on standard output."""
+    return run_both(words, folder, heard, seconds, environment)[0]

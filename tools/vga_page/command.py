@@ -81,7 +81,7 @@ def _made_module(words: argparse.Namespace, progress: Progress) -> bytes:
     if words.module is not None:
         return _given_module(words.module)
     try:
-        return made_modules(phases(progress), words.gated, words.proof, [words.memory])[0]
+        return made_modules(phases(progress), words.gated, words.proof, [words.memory])[0][0]
     finally:
         progress.clear()
 

@@ -7,8 +7,8 @@ import tempfile
 from pathlib import Path
 from typing import Callable, Optional, Sequence
 
-from vga_library.gated import GatedProof, crate_words, gated_proof, proving_words
-from vga_library.running import Hearer, run
+from vga_library.gated import proving_words
+from vga_library.running import Hearer, run, run_both
 from vga_library.toolchain import CRATE, kit_folder
 from vga_report.trouble import Trouble
 
@@ -30,8 +30,8 @@ TARGET = (
 )
 C = ("-O2", "-std=c17", "-ffreestanding", "-nostdinc", "-Wall", "-Wextra")
 PROVED = "logic=proved "
-# A clang that keeps the LLVM module which Rattle hands to it.
-KEEPER = '#!/bin/sh\n/bin/cp module.bc {kept} || exit 1\nexec {clang} "$@"\n'
+# A clang that keeps the LLVM module which Rattle hands to it. Of the object for x86-64 nothing is used.
+KEEPER = "#!/bin/sh\n/bin/cp module.bc {kept} && : > module.o\n"
 # Tells a phase of the work, and answers what hears the programs that do it.
 Phase = Callable[[str], Optional[Hearer]]
 
@@ -46,37 +46,34 @@ class Maker:
         self._tools = self._kit / "toolchain" / "bin"
 
     def _run(self, phase: str, words: Sequence[str | Path], folder: Optional[Path] = None) -> str:
-        return run(words, folder, self._phase(phase))
+        """Runs a program of a phase, and answers all that it says."""
+        return "".join(run_both(words, folder, self._phase(phase)))
 
     def _rattle(self, phase: str, *words: str | Path) -> str:
         return self._run(phase, [self._kit / "bin" / "rattle", *words], CRATE)
 
     def prove(self, gated: Optional[Path]) -> list[str | Path]:
-        """Proves the crate for both targets; the words by which the compiler takes the proof for x86-64.
+        """Proves the crate; the words by which the compiler finds what is kept of that.
 
         With a folder the crates below are those that `rt ci` left, and the folder keeps the proof.
         """
         if gated is None:
             self._run("proving", ["rt", "check"], CRATE)
-            words = building = proving_words(self._kit, KEPT)
-        else:
-            proof: GatedProof = gated_proof(gated, self._phase("proving"))
-            words = proving_words(self._kit, proof.incremental)
-            building = [*crate_words(self._kit), "--crate-checked", proof.checked]
+        words = proving_words(self._kit, gated or KEPT)
+        # The module is made of what is proved for x86-64. The crate is to be proved for this target too.
         said = self._rattle(f"proving for {WASM}", "check", *words, "--target", WASM)
         if not any(line.startswith(PROVED) and f"target={WASM}" in line for line in said.splitlines()):
             raise Trouble(f"the compiler doesn't say that it is proved for {WASM}", CRATE.name)
-        return building
+        return words
 
     def _keeping_toolchain(self, folder: Path, kept: Path) -> Path:
-        """A toolchain that is the kit's, except that its clang first keeps the LLVM module in a file."""
+        """A toolchain that is the kit's, except that its clang keeps the LLVM module in a file."""
         (folder / "bin").mkdir(parents=True)
         (folder / "lib").symlink_to(self._kit / "toolchain" / "lib")
         for name in ("ld.lld", "llvm-ar"):
             (folder / "bin" / name).symlink_to(self._tools / name)
         clang = folder / "bin" / "clang"
-        kept_at, real = shlex.quote(str(kept)), shlex.quote(str(self._tools / "clang"))
-        clang.write_text(KEEPER.format(kept=kept_at, clang=real), "utf-8")
+        clang.write_text(KEEPER.format(kept=shlex.quote(str(kept))), "utf-8")
         clang.chmod(0o755)
         return folder
 
@@ -90,29 +87,36 @@ class Maker:
         self._run("writing LLVM's text", [self._tools / "clang", *as_text, kept, "-o", text])
         return text.read_text("utf-8")
 
-    def _linked(self, text: str, folder: Path, memory: Optional[int]) -> bytes:
-        """The WebAssembly module of an LLVM module for wasm64 and of the heap."""
-        source, objects = folder / "wasm.ll", [folder / "wasm.o", folder / "heap.o"]
-        archive, module = folder / "wasm.a", folder / "wasm.wasm"
+    def _archive(self, text: str, folder: Path) -> Path:
+        """The archive for wasm64 of an LLVM module's text and of the heap."""
+        source, archive = folder / "wasm.ll", folder / "wasm.a"
+        objects = [folder / "wasm.o", folder / "heap.o"]
         source.write_text(text, "utf-8")
         clang = [self._tools / "clang", *TARGET]
         self._run(f"compiling for {WASM}", [*clang, "-O3", "-c", "-x", "ir", source, "-o", objects[0]])
         self._run("compiling the heap", [*clang, *C, "-c", HEAP, "-o", objects[1]])
         self._run("archiving", [self._tools / "llvm-ar", "rcsD", "--format=gnu", archive, *objects])
-        target = ["--target", WASM, "--toolchain", self._kit / "toolchain"]
-        fixed = [] if memory is None else ["--memory", str(memory)]
-        self._run("linking", [self._kit / "bin" / "rattle-link", *target, *fixed, "-o", module, archive])
+        return archive
+
+    def _linked(self, archive: Path, memory: Optional[int]) -> bytes:
+        """The WebAssembly module of an archive."""
+        module = archive.with_name("linked.wasm")
+        words = ["--target", WASM, "--toolchain", self._kit / "toolchain"]
+        words += [] if memory is None else ["--memory", str(memory)]
+        self._run("linking", [self._kit / "bin" / "rattle-link", *words, "-o", module, archive])
         return with_kit(module.read_bytes(), run(["rt", "version"]).strip())
 
-    def module(self, building: Sequence[str | Path], memory: Optional[int] = None) -> bytes:
-        """The module of the proved crate, held to what the page relies on.
+    def modules(self, building: Sequence[str | Path], memories: Sequence[Optional[int]]) -> list[bytes]:
+        """Modules of the proved crate, held to what the page relies on, one for each size of memory.
 
-        Its memory grows, unless so many bytes of it are named: a multiple of 65,536.
+        A size is a number of bytes, a multiple of 65,536; None is a memory that grows.
         """
         with tempfile.TemporaryDirectory(dir=self._folder) as name:
-            module = self._linked(retargeted(self._llvm_text(building, Path(name))), Path(name), memory)
-        check_module(module)
-        return module
+            archive = self._archive(retargeted(self._llvm_text(building, Path(name))), Path(name))
+            modules = [self._linked(archive, memory) for memory in memories]
+        for module in modules:
+            check_module(module)
+        return modules
 
 
 def made_modules(
@@ -120,12 +124,13 @@ def made_modules(
     is_gated: bool = False,
     proof: Optional[Path] = None,
     memories: Sequence[Optional[int]] = (None,),
-) -> list[bytes]:
-    """Proves the crate once, and makes a module of it for each of these sizes of memory; None grows.
+    times: int = 1,
+) -> list[list[bytes]]:
+    """Proves the crate once, and makes its modules so many times, one for each size of memory.
 
     Gated, the crates below are those that `rt ci` left; a folder keeps the crate's own proof.
     """
     with tempfile.TemporaryDirectory(prefix="vga-page-") as name:
         maker = Maker(Path(name), phase)
         building = maker.prove((proof or Path(name) / "proof").absolute() if is_gated else None)
-        return [maker.module(building, memory) for memory in memories]
+        return [maker.modules(building, memories) for _ in range(times)]

@@ -4,7 +4,9 @@ from __future__ import annotations
 
 import base64
 import gzip
+import json
 import re
+from itertools import takewhile
 from pathlib import Path
 from typing import Any, NamedTuple
 
@@ -23,7 +25,7 @@ MOST_BYTES = 400_000
 # From the page as built, where the documentation's pages lie.
 PAGES = "../docs/"
 LEVEL = 9
-SENTENCE = re.compile(r"(.+?[.:!?])(?: |$)")
+SENTENCE = re.compile(r"(.+?[.!?])(?: |$)")
 
 
 class Sources(NamedTuple):
@@ -43,15 +45,9 @@ def read_sources(folder: Path = SOURCES) -> Sources:
 
 
 def about(text: str) -> str:
-    """What an example's first comment says: its first sentence."""
-    words: list[str] = []
-    for line in text.splitlines():
-        step, mark, comment = line.partition(";")
-        if mark:
-            words.append(comment.strip())
-        if words and (step.strip() or not mark):
-            break
-    whole = " ".join(words)
+    """The first sentence of the comment that an example begins with; nothing where it begins with a step."""
+    lines = takewhile(lambda line: line.startswith(";"), map(str.strip, text.lstrip().splitlines()))
+    whole = " ".join(line[1:].strip() for line in lines)
     found = SENTENCE.match(whole)
     return found[1] if found else whole
 
@@ -66,9 +62,9 @@ def _in_base64(data: bytes) -> str:
     return base64.b64encode(data).decode("ascii")
 
 
-def packed(module: bytes) -> bytes:
-    """The module in gzip's form, with no time in it."""
-    return gzip.compress(module, LEVEL, mtime=0)
+def packed(data: bytes) -> bytes:
+    """Bytes in gzip's form, with no time in it."""
+    return gzip.compress(data, LEVEL, mtime=0)
 
 
 def data_of(module: bytes) -> dict[str, Any]:
@@ -77,7 +73,7 @@ def data_of(module: bytes) -> dict[str, Any]:
         "version": str(version()),
         "pages": PAGES,
         "open": None,
-        "examples": examples(),
+        "examples": _in_base64(packed(json.dumps(examples()).encode("ascii"))),
         "fonts": _in_base64(FONTS.read_bytes()),
         "module": _in_base64(packed(module)),
     }

@@ -79,19 +79,24 @@ def _refuse_words(words: argparse.Namespace) -> None:
         return
     if words.bless or words.pictures or words.show:
         raise Trouble("--debug writes a page that runs the script: without --bless, --pictures and --show")
-    if words.html is None and (words.only is not None or words.until is not None or words.try_ or words.vga):
-        raise Trouble("--debug runs nothing here: without --only, --until, --try and --vga, unless --html is there too")
+    if words.html is None and (words.only is not None or words.try_ or words.vga):
+        raise Trouble("--debug runs nothing here: without --only, --try and --vga, unless --html is there too")
     if words.html and STANDARD in (words.html, words.debug):
         raise Trouble("the page of --html links to that of --debug: both want files")
     if words.html and os.path.realpath(words.html) == os.path.realpath(words.debug):
         raise Trouble("--html and --debug are two pages, and want two files", words.debug)
 
 
+def _fragment(words: argparse.Namespace) -> str:
+    """What an address ends with that opens the page at a step."""
+    return "" if words.until is None else f"#step={words.until}"
+
+
 def _write_debug_page(words: argparse.Namespace, data: bytes) -> None:
     """Writes the page that runs the script, and tells how it is opened."""
     write_file(words.debug, debug_page(name_of(words.script), data, words.fonts, words.debug))
     if words.debug != STANDARD:
-        address = Path(words.debug).absolute().as_uri()
+        address = Path(words.debug).absolute().as_uri() + _fragment(words)
         write(f"{words.debug}: open it in Chromium or Firefox, for instance as {address}\n")
 
 
@@ -128,7 +133,7 @@ def run(words: argparse.Namespace, progress: Progress) -> int:
         if words.bless:
             return _bless(words.script, script, data, blessed)
     if words.html:
-        link = None if words.debug is None else link_to(words.debug, words.html)
+        link = None if words.debug is None else link_to(words.debug, words.html) + _fragment(words)
         write_file(words.html, page.text(script.shown, tally.text(), link).encode("utf-8", "replace"))
     _tell_tally(tally, script, words)
     return DIFFERED if tally.wrong else AGREED
