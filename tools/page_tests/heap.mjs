@@ -4,6 +4,8 @@ import { readFileSync } from "node:fs";
 
 const ROUNDS = 100_000;
 const OK = 0, OUT_OF_MEMORY = 23, FONTS_SIZE = 9728, CARD_SIZE = 16;
+// A script of bytes, version 1, with one step: `frame`.
+const FRAME = [0x56, 0x47, 0x41, 0x53, 1, 0x0B];
 const [module, small] = process.argv.slice(2);
 
 /** The calls of a new instance. */
@@ -51,18 +53,27 @@ function tryBlocks(calls) {
   return calls.memory.buffer.byteLength;
 }
 
+/** What zak_run answers to a script of one frame. */
+function ran(calls, fonts, room) {
+  new Uint8Array(calls.memory.buffer, Number(room), FRAME.length).set(FRAME);
+  const report = room + 64n, told = room + 32n;
+  return calls.zak_run(room, BigInt(FRAME.length), fonts, BigInt(FONTS_SIZE), report, 4032n, told, told + 8n);
+}
+
 /** Opens cards until memory is spent, closes them, and does so again: as many open each time. */
 function tryCards(calls) {
-  const counts = [], fonts = calls.page_take(BigInt(FONTS_SIZE));
+  const counts = [], fonts = calls.page_take(BigInt(FONTS_SIZE)), room = calls.page_take(4096n);
   const block = calls.page_take(BigInt(8 * CARD_SIZE));
   for (let round = 0; round < 3; round++) {
     new Uint8Array(calls.memory.buffer, Number(block), 8 * CARD_SIZE).fill(0);
+    assert(ran(calls, fonts, room) === OK, "a run is refused memory that is there");
     const places = Array.from({ length: 8 }, (_, number) => block + BigInt(CARD_SIZE * number));
     const answers = places.map(card => calls.zak_open(card, fonts, BigInt(FONTS_SIZE)));
     const opened = answers.filter(status => status === OK).length;
     const expected = places.map((_, number) => number < opened ? OK : OUT_OF_MEMORY);
     assert(String(answers) === String(expected), `cards open with ${answers}`);
     assert(opened >= 1 && opened < 8, `${opened} cards fit`);
+    assert(ran(calls, fonts, room) === OUT_OF_MEMORY, "a run has memory where none is left");
     for (const card of places.slice(0, opened)) assert(calls.zak_close(card) === OK, "a card does not close");
     counts.push(opened);
   }

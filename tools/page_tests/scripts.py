@@ -26,7 +26,7 @@ COUNT = re.compile(r"^# (pass|fail|skipped|todo|cancelled) ([0-9]+)$", re.M)
 CHROMIUM = ("chromium", "chromium-browser", "google-chrome")
 # Where the tests find the module, the page as built, and a module whose memory doesn't grow.
 MODULE, BUILT, SMALL = "ZAKLIMOT_MODULE", "ZAKLIMOT_PAGE", "ZAKLIMOT_SMALL_MODULE"
-# So much memory the small module has: that of one card, and not that of two.
+# So much memory the small module has: enough for two cards, and not for three.
 SMALL_MEMORY = 16 * MEBIBYTE
 
 
