@@ -81,7 +81,10 @@ export class Adapter {
     return { status, bytes: status ? new Uint8Array() : this.copied(room, this.number(0)) };
   }
 
-  /** The bytes of the script that a text spells: { bytes, line }; `line` is the number of a bad line, and else 0. */
+  /**
+   * The bytes of the script that a text spells: { bytes, line }; `line` is the number of a bad line, and else
+   * 0.
+   */
   assembled(text) {
     const given = this.given("text", text), told = this.told.at;
     const { status, bytes } = this.written("script", Math.max(1024, text.length), room =>
@@ -103,14 +106,16 @@ export class Adapter {
   run(script, fonts) {
     const given = this.given("script", script), font = this.given("fonts", fonts), told = this.told.at;
     const { status, bytes } = this.written("report", 1 << 20, room =>
-      this.calls.zak_run(given.at, given.length, font.at, font.length, room.at, room.length, told, told + 8n));
+      this.calls.zak_run(given.at, given.length, font.at, font.length, room.at, room.length, told,
+        told + 8n));
     return { status, place: status ? this.number(1) : 0, report: bytes };
   }
 }
 
 function tooLong(length) {
   const most = `${grouped(MOST_BYTES)} bytes are the most`;
-  return length > MOST_BYTES ? `The text has more bytes, and ${most}.` : `The steps of the text have more bytes, and ${most}.`;
+  return length > MOST_BYTES ? `The text has more bytes, and ${most}.`
+    : `The steps of the text have more bytes, and ${most}.`;
 }
 
 /** A card: a machine that is open, with the fonts of its mode sets. */
@@ -124,7 +129,8 @@ export class Card {
     const status = adapter.calls.zak_open(this.at, font.at, font.length);
     if (status) {
       adapter.calls.page_give(this.at);
-      throw new Trouble(status === STATUS_MEMORY ? NO_MEMORY : `The card does not open: the module answers ${status}.`);
+      throw new Trouble(status === STATUS_MEMORY ? NO_MEMORY
+        : `The card does not open: the module answers ${status}.`);
     }
   }
 
@@ -134,13 +140,15 @@ export class Card {
   }
 
   /**
-   * Steps of a script: `most` of them after the first `first`. { taken, report }: the report is a view of the module's
+   * Steps of a script: `most` of them after the first `first`. { taken, report }: the report is a view of
+   * the module's
    * memory, which holds until the next call. `room` is how many bytes the report may have.
    */
   runOn(script, first, most, room) {
     const adapter = this.adapter, given = adapter.given("steps", script), told = adapter.told.at;
     const report = adapter.room("answers", Math.max(room, 4096));
-    const status = adapter.calls.zak_run_on(this.at, given.at, given.length, first, most, report.at, report.length,
+    const status = adapter.calls.zak_run_on(this.at, given.at, given.length, first, most, report.at,
+      report.length,
       told, told + 8n, told + 16n);
     if (status === STATUS_MEMORY) throw new Trouble(NO_MEMORY);
     if (status) throw new Trouble(`The module answers ${status} to steps that it has read before.`);
@@ -162,12 +170,15 @@ export class Card {
     if (status) throw new Trouble(`The card is not restored: the module answers ${status}.`);
   }
 
-  /** To the end of the frame: { widths, rgb }, of each of 1,024 lines how many dots it has, and their colours. */
+  /**
+   * To the end of the frame: { widths, rgb }, of each of 1,024 lines how many dots it has, and their colours.
+   */
   frameLines() {
     const adapter = this.adapter, widths = adapter.room("widths", 4 * HIGHEST);
     const rgb = adapter.room("rgb", 3 * WIDEST * HIGHEST);
     const status = adapter.calls.zak_frame_lines(this.at, widths.at, rgb.at, rgb.length, adapter.told.at);
     if (status) throw new Trouble(`The frame is not drawn: the module answers ${status}.`);
-    return { widths: new Uint32Array(adapter.copied(widths, 4 * HIGHEST).buffer), rgb: adapter.copied(rgb, adapter.number(0)) };
+    return { widths: new Uint32Array(adapter.copied(widths, 4 * HIGHEST).buffer),
+      rgb: adapter.copied(rgb, adapter.number(0)) };
   }
 }

@@ -1,6 +1,7 @@
 // The answers of all steps of a run, in little memory: most of millions of steps answer alike.
 
-// The texts of answers that are kept have so many characters at most; of what comes then, the page keeps the first words.
+// The texts of answers that are kept have so many characters at most; of what comes then, the page keeps
+// the first words.
 const MOST_KEPT = 1 << 26;
 
 /** Answers by the numbers of their steps, from 0. */

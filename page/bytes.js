@@ -23,7 +23,8 @@ export function bytesOfCodes(text) {
 /** The text of bytes, a character each. */
 export function codesOfBytes(bytes) {
   let text = "";
-  for (let at = 0; at < bytes.length; at += 8192) text += String.fromCharCode(...bytes.subarray(at, at + 8192));
+  for (let at = 0; at < bytes.length; at += 8192) text += String.fromCharCode(
+    ...bytes.subarray(at, at + 8192));
   return text;
 }
 

@@ -21,8 +21,9 @@ export function differingColours(before, after) {
 function changedRegisters(before, after) {
   return GROUPS.flatMap(group => {
     const [old, now] = [before, after].map(state => valuesOf(state.registers, group.id));
-    return differingBytes(old, now).map(i =>
-      `${group.id === "misc" ? "" : group.title + " " + hex(i, 1) + ", "}${group.registers[i].name} ${hex(old[i], 2)} → ${hex(now[i], 2)}`);
+    const nameOf = i => (group.id === "misc" ? "" : `${group.title} ${hex(i, 1)}, `) +
+      group.registers[i].name;
+    return differingBytes(old, now).map(i => `${nameOf(i)} ${hex(old[i], 2)} → ${hex(now[i], 2)}`);
   });
 }
 
@@ -31,7 +32,8 @@ function changedPointers(before, after) {
   const told = Object.keys(POINTERS).filter(name => old[name] !== now[name])
     .map(name => `${POINTERS[name]} ${hex(old[name], 2)} → ${hex(now[name], 2)}`);
   if (old.attrIsData !== now.attrIsData) told.push(`3C0 takes ${now.attrIsData ? "data" : "an index"} next`);
-  if (old.dacComponent !== now.dacComponent) told.push(`${["red", "green", "blue"][now.dacComponent]} is next of the DAC`);
+  if (old.dacComponent !== now.dacComponent) told.push(
+    `${["red", "green", "blue"][now.dacComponent]} is next of the DAC`);
   return told;
 }
 
@@ -39,17 +41,23 @@ function changedMemory(before, after) {
   return [0, 1, 2, 3].flatMap(plane => {
     const [old, now] = [before.plane(plane), after.plane(plane)], found = differingBytes(old, now);
     if (!found.length) return [];
-    if (found.length === 1) return [`plane ${plane} ${hex(found[0], 4)}: ${hex(old[found[0]], 2)} → ${hex(now[found[0]], 2)}`];
-    return [`plane ${plane}: ${counted(found.length, "byte")} from ${hex(found[0], 4)} to ${hex(found.at(-1), 4)}`];
+    const [first] = found, last = found.at(-1);
+    if (first === last) return [
+      `plane ${plane} ${hex(first, 4)}: ${hex(old[first], 2)} → ${hex(now[first], 2)}`];
+    return [`plane ${plane}: ${counted(found.length, "byte")} from ${hex(first, 4)} to ${hex(last, 4)}`];
   });
 }
 
-/** What changed between two states, a few words each; of more than `most` the first, and how many more there are. */
+/**
+ * What changed between two states, a few words each; of more than `most` the first, and how many more there
+ * are.
+ */
 export function changesOf(before, after, most = 6) {
   const told = [...changedRegisters(before, after), ...changedPointers(before, after)];
   const colours = differingColours(before, after);
   if (colours.length) {
-    told.push(colours.length === 1 ? `DAC entry ${hex(colours[0], 2)}` : `${colours.length} entries of the DAC`);
+    told.push(colours.length === 1 ? `DAC entry ${hex(colours[0], 2)}`
+      : `${colours.length} entries of the DAC`);
   }
   if (differingBytes(before.latches, after.latches).length) {
     told.push(`latches ${Array.from(after.latches, byte => hex(byte, 2)).join(" ")}`);

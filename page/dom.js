@@ -18,7 +18,8 @@ export function element(name, properties = {}, ...inside) {
 
 /** A link to a place of the documentation. */
 export function pageLink(base, page, anchor, title, properties = {}) {
-  return element("a", { href: `${base}${page}#${anchor}`, target: "_blank", rel: "noopener", ...properties }, title);
+  return element("a", { href: `${base}${page}#${anchor}`, target: "_blank", rel: "noopener",
+    ...properties }, title);
 }
 
 /** An element's id that has letters, digits and hyphens alone. */

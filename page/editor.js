@@ -1,7 +1,7 @@
 // The text, with line numbers, breakpoints and marks at its left, and the answers of its steps at its right.
 import { byId, element, rowsInSight } from "./dom.js";
 import { grouped } from "./bytes.js";
-import { isPlainAnswer, isRefusal } from "./expecting.js";
+import { isPlainAnswer, isRefusal, shortAnswer } from "./expecting.js";
 
 const ROW = 18, TOP = 6, TAB = 8;
 // A longer text is shown, and not edited: a browser's own editor takes seconds for each change of it.
@@ -12,7 +12,8 @@ const HIGHEST_TEXT = 8000000, WIDEST_LINE = 400;
 /** The editor. `heard` has `changed(text)` and `pointed(line)`, a breakpoint's mark that was clicked. */
 export class Editor {
   constructor(heard) {
-    Object.assign(this, { heard, area: byId("text"), gutter: byId("gutter"), told: byId("told"), why: byId("why") });
+    Object.assign(this, { heard, area: byId("text"), gutter: byId("gutter"), told: byId("told"),
+      why: byId("why") });
     Object.assign(this, { long: byId("long"), rows: byId("longrows"), starts: null, whole: "" });
     Object.assign(this, { mark: 0, bad: null, session: null, steps: 0, points: new Set(), count: 1 });
     this.area.addEventListener("input", () => {
@@ -58,7 +59,9 @@ export class Editor {
 
   /** How long a text may be that is edited here. */
   get note() {
-    return this.isLong ? `This text of ${grouped(this.whole.length)} characters is too long to be edited here; it runs all the same.` : "";
+    if (!this.isLong) return "";
+    const size = `${grouped(this.whole.length)} characters`;
+    return `This text of ${size} is too long to be edited here; it runs all the same.`;
   }
 
   get box() {
@@ -109,7 +112,8 @@ export class Editor {
   }
 
   draw() {
-    const { area, box, scrolled } = this, { first, last } = rowsInSight(scrolled, box.clientHeight, ROW, this.count);
+    const { box, scrolled } = this, { first, last } = rowsInSight(scrolled, box.clientHeight, ROW,
+      this.count);
     const lines = Array.from({ length: Math.max(0, last - first) }, (_, i) => first + i + 1);
     const place = (made, line, from = 0) => {
       made.style.top = TOP + ROW * (line - 1) - scrolled + from + "px";
@@ -118,9 +122,12 @@ export class Editor {
     this.gutter.replaceChildren(...lines.map(line => place(this.number(line), line)));
     this.told.replaceChildren(...lines.map(line => [line, this.answer(line)]).filter(([, made]) => made)
       .map(([line, made]) => place(made, line)));
-    if (this.isLong) this.rows.replaceChildren(...lines.map(line => place(this.longLine(line), line, box.scrollTop)));
-    area.classList.toggle("bad", this.bad !== null);
-    area.style.backgroundPositionY = TOP + ROW * ((this.bad?.line || this.mark || -9) - 1) + "px";
+    if (this.isLong) this.rows.replaceChildren(
+      ...lines.map(line => place(this.longLine(line), line, box.scrollTop)));
+    const marked = this.bad?.line ?? this.mark, ribbon = byId("mark");
+    ribbon.hidden = !marked || this.isLong;
+    ribbon.classList.toggle("bad", this.bad !== null);
+    place(ribbon, marked);
     this.drawWhy();
   }
 
@@ -133,7 +140,8 @@ export class Editor {
 
   number(line) {
     const isPoint = this.points.has(line), isBad = this.bad?.line === line;
-    const made = element("button", { type: "button", tabIndex: -1, className: "number", "aria-pressed": String(isPoint) }, String(line));
+    const made = element("button", { type: "button", tabIndex: -1, className: "number",
+      "aria-pressed": String(isPoint) }, String(line));
     made.dataset.line = line;
     made.title = isPoint ? `Line ${line}: remove the breakpoint` : `Line ${line}: set a breakpoint`;
     made.classList.toggle("point", isPoint);
@@ -149,14 +157,16 @@ export class Editor {
     if (!session || this.bad || this.isStale) return null;
     const { outline, answers } = session, entry = outline.entryAtLine(line);
     if (entry < 0 || outline.lineOf(entry) !== line) return null;
-    const taken = outline.lastStepOfEntry(entry, this.steps), step = taken < 0 ? outline.stepOfEntry(entry) : taken;
+    const taken = outline.lastStepOfEntry(entry, this.steps);
+    const step = taken < 0 ? outline.stepOfEntry(entry) : taken;
     if (step < 0 || step >= answers.length) return null;
     const answer = answers.get(step), expected = outline.expectedOf(entry);
-    const made = element("span", { className: "answer" }, answer.split("\n", 1)[0] + (answer.includes("\n") ? " …" : ""));
+    const words = outline.wordsOf(entry), [first, ...more] = shortAnswer(answer, words).split("\n");
+    const made = element("span", { className: "answer" }, first + (more.length ? " …" : ""));
     made.title = `step ${step + 1}: ${answer}`;
     made.classList.toggle("later", taken < 0);
     made.classList.toggle("refused", isRefusal(answer));
-    made.classList.toggle("plain", isPlainAnswer(answer, outline.wordsOf(entry)));
+    made.classList.toggle("plain", isPlainAnswer(answer, words));
     if (expected !== null) this.judge(made, step, expected);
     return made;
   }
@@ -174,7 +184,8 @@ export class Editor {
     why.hidden = !bad?.line;
     if (why.hidden) return;
     const line = this.lineText(bad.line);
-    const columns = text => [...text].reduce((at, letter) => (letter === "\t" ? at + TAB - at % TAB : at + 1), 0);
+    const columns = text => [...text].reduce((at, letter) => (letter === "\t" ? at + TAB - at % TAB
+      : at + 1), 0);
     const at = columns(line.slice(0, bad.at ?? 0)), width = Math.max(1, Math.min(bad.width ?? 1, 60));
     why.style.top = TOP + ROW * bad.line - 3 - this.scrolled + "px";
     why.style.left = `calc(${Math.min(at, 60)}ch + 6px - ${box.scrollLeft}px)`;

@@ -11,14 +11,19 @@ export function isRefusal(answer) {
   return REFUSAL.test(answer);
 }
 
-/** The answer that a comment expects: what stands behind `=`, up to another `;`. Null where it expects none. */
+/**
+ * The answer that a comment expects: what stands behind `=`, up to another `;`. Null where it expects none.
+ */
 export function expectedIn(comment) {
   const text = comment.trim();
   if (!text.startsWith("=")) return null;
   return text.slice(1).split(";", 1)[0].split(/\s+/).filter(word => word).join(" ");
 }
 
-/** An answer on one line. A picture is { size: "720x400", digest() }, a dump of several lines is told by their digest. */
+/**
+ * An answer on one line. A picture is { size: "720x400", digest() }, a dump of several lines is told by their
+ * digest.
+ */
 export function toldAnswer(answer, picture) {
   if (picture) return `picture ${picture.size} ${picture.digest()}`;
   const lines = answer.split("\n");
@@ -40,9 +45,22 @@ export function isAsExpected(answer, picture, expected, name) {
   return parts.every(part => part.includes("=") && given.includes(part));
 }
 
-/** Whether an answer tells nothing that the step's words don't: it is ok, or registers come back as they were handed in. */
+/** The registers that a call hands in, as an answer tells them. */
+function handedIn(words) {
+  const pairs = words.toLowerCase().split(" ").filter(word => word.includes("="))
+    .map(word => word.split("="));
+  const given = new Map(pairs);
+  return CALL_REGISTERS.map(name => `${name}=${(given.get(name) ?? "").padStart(4, "0")}`);
+}
+
+/** Whether an answer tells nothing that the step's words don't: ok, or the registers that were handed in. */
 export function isPlainAnswer(answer, words) {
-  if (answer === "ok") return true;
-  const given = Object.fromEntries(words.toLowerCase().split(" ").filter(word => word.includes("=")).map(word => word.split("=")));
-  return answer.toLowerCase() === CALL_REGISTERS.map(name => `${name}=${(given[name] ?? "").padStart(4, "0")}`).join(" ");
+  return answer === "ok" || answer.toLowerCase() === handedIn(words).join(" ");
+}
+
+/** An answer for a narrow column: of a call, the registers alone that have changed. */
+export function shortAnswer(answer, words) {
+  if (!answer.startsWith("ax=")) return answer;
+  const given = handedIn(words), told = answer.split(" ").filter(word => !given.includes(word.toLowerCase()));
+  return told.join(" ") || "unchanged";
 }

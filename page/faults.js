@@ -2,7 +2,8 @@
 import { MOST_BYTES, MOST_STEPS } from "./grammar.js";
 import { grouped, hex } from "./bytes.js";
 
-const OPCODE_NAMES = ["", "out", "outw", "in", "inw", "put", "putw", "get", "getw", "int", "advance", "frame", "show",
+const OPCODE_NAMES = ["", "out", "outw", "in", "inw", "put", "putw", "get", "getw", "int", "advance",
+  "frame", "show",
   "repeat", "end"];
 const UNKNOWN_FAULT = "refused, and I can't say why";
 
@@ -28,7 +29,8 @@ function badStep(bytes, place) {
     return `at offset ${place} stands a show of kind ${hex(bytes[place + 1], 2)}, and the kinds are 00 to 06`;
   }
   if (opcode !== 12) return UNKNOWN_FAULT;
-  return `at offset ${place} stands a show plane with a plane above 3, no bytes, more than 256, or past the plane's end`;
+  const why = "with a plane above 3, no bytes, more than 256, or past the plane's end";
+  return `at offset ${place} stands a show plane ${why}`;
 }
 
 function truncated(bytes, place) {
@@ -48,6 +50,6 @@ export function reasonOfBytes(bytes, status, place) {
   if (status === 104) return badStep(bytes, place);
   if (status === 105) return truncated(bytes, place);
   if (status === 106) return `the file has more bytes, and ${grouped(MOST_BYTES)} bytes are the most`;
-  if (status === 111) return `with the block or step at ${place} the script means more than ${grouped(MOST_STEPS)} steps`;
-  return UNKNOWN_FAULT;
+  if (status !== 111) return UNKNOWN_FAULT;
+  return `with the block or step at ${place} the script means more than ${grouped(MOST_STEPS)} steps`;
 }

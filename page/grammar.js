@@ -29,7 +29,8 @@ export const SHAPES = {
 };
 export const VERSION_TWO = "version 2";
 /** The lines of version 2: what it begins with, and the ends of a block. */
-export const BLOCK_LINES = { version: [decimalNumber("2", 2, 2)], repeat: [decimalNumber("N", 65535, 1)], end: [] };
+export const BLOCK_LINES = { version: [decimalNumber("2", 2, 2)],
+  repeat: [decimalNumber("N", 65535, 1)], end: [] };
 /** What `show` shows. */
 export const SHOWN = {
   regs: [],

@@ -13,7 +13,8 @@ export const KEYS = [
   ["", "", ["End"], "last"],
   ["P", "show frame after frame, or stop", ["p"], "play"],
   ["G", "type a step or a line to go to", ["g"], "gotonumber"],
-  ["1 to 6", "registers, memory, cells, colours, BIOS data, breakpoints", ["1", "2", "3", "4", "5", "6"], "tab"],
+  ["1 to 6", "registers, memory, cells, colours, BIOS data, breakpoints",
+    ["1", "2", "3", "4", "5", "6"], "tab"],
   ["E, Esc", "into the script, and out of it", ["e"], "text"],
   ["A, X, D, B, Z", "4:3, pixelated, as drawn so far, beam, zoom", ["a"], "aspect"],
   ["", "", ["x"], "sharp"], ["", "", ["d"], "sofar"], ["", "", ["b"], "hairs"], ["", "", ["z"], "zoom"],
@@ -36,9 +37,12 @@ export function keyName(event) {
 
 /** What the help shows. */
 export function keyTables() {
-  const table = (title, rows) => element("table", {}, element("caption", {}, title), element("tbody", {}, ...rows
-    .filter(([keys]) => keys).map(([keys, does]) => element("tr", {}, element("th", { scope: "row" }, keys), element("td", {}, does)))));
-  const hints = ["Click a line's number to set a breakpoint. Click a dot of the picture to go to the step that draws it.",
+  const table = (title, rows) => element("table", {}, element("caption", {}, title),
+    element("tbody", {}, ...rows
+    .filter(([keys]) => keys).map(([keys, does]) => element("tr", {}, element("th", { scope: "row" }, keys),
+      element("td", {}, does)))));
+  const hints =
+    ["Click a line's number to set a breakpoint. Click a dot of the picture to go to the step that draws it.",
     "Drop a script, a font or a trace anywhere."].map(text => element("p", {}, text));
   return [table("Keys", KEYS), table("Keys in the script", IN_THE_SCRIPT), ...hints];
 }

@@ -43,7 +43,8 @@ export class Listing {
     const { session, box } = this;
     if (!session) return;
     const scrolled = box.scrollTop * this.scale;
-    const { first, last } = rowsInSight(scrolled, box.clientHeight, LIST_ROW, Math.min(session.ran, session.answers.length));
+    const { first, last } = rowsInSight(scrolled, box.clientHeight, LIST_ROW,
+      Math.min(session.ran, session.answers.length));
     this.rows.replaceChildren(...Array.from({ length: Math.max(0, last - first) }, (_, i) => {
       const made = this.row(first + i);
       made.style.top = LIST_ROW * (first + i) - scrolled + box.scrollTop + "px";
@@ -52,11 +53,14 @@ export class Listing {
   }
 
   row(step) {
-    const { session } = this, { outline } = session, entry = outline.entryOf(step), answer = session.answers.get(step);
+    const { session } = this, { outline } = session, entry = outline.entryOf(step),
+      answer = session.answers.get(step);
     const lines = answer.split("\n"), words = outline.wordsOf(entry), expected = outline.expectedOf(entry);
-    const made = element("div", { className: "row", role: "option", title: `${words.slice(0, 200)}\n${answer.slice(0, 600)}` },
+    const made = element("div", { className: "row", role: "option",
+      title: `${words.slice(0, 200)}\n${answer.slice(0, 600)}` },
       element("span", {}, String(step + 1)), element("span", {}, String(outline.lineOf(entry))),
-      element("span", {}, words.slice(0, 200)), element("span", {}, lines[0].slice(0, 200) + (lines.length > 1 ? " …" : "")));
+      element("span", {}, words.slice(0, 200)),
+        element("span", {}, lines[0].slice(0, 200) + (lines.length > 1 ? " …" : "")));
     made.dataset.step = step + 1;
     made.setAttribute("aria-selected", String(step + 1 === this.steps));
     made.classList.toggle("here", step + 1 === this.steps);

@@ -1,4 +1,5 @@
-// The page begins: it opens the module that stands in it, and shows a script. `#check` runs all examples instead.
+// The page begins: it opens the module that stands in it, and shows a script. `#check` runs all examples
+// instead.
 import { Adapter } from "./adapter.js";
 import { View } from "./view.js";
 import { byId, element } from "./dom.js";
@@ -6,7 +7,8 @@ import { bytesOfBase64 } from "./bytes.js";
 import { checkedExamples } from "./checking.js";
 import { examplesOf, unzipped } from "./packed.js";
 
-const NO_MEMORY64 = "This browser has no WebAssembly with 64-bit memory, which the adapter is compiled for. " +
+const NO_MEMORY64 =
+  "This browser has no WebAssembly with 64-bit memory, which the adapter is compiled for. " +
   "Chromium from 133 and Firefox from 134 have it; Safari does not, as far as we know.";
 
 /** Shows what the check of all examples tells. */

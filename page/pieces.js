@@ -1,4 +1,5 @@
-// A script in pieces: the module takes some steps of it at a time, and each piece is a script of its own that it has
+// A script in pieces: the module takes some steps of it at a time, and each piece is a script of its own
+// that it has
 // assembled from the script's text. So a step costs as much at the end of a long script as at its beginning.
 import { KIND } from "./outline.js";
 import { MOST_PICTURE } from "./adapter.js";
@@ -10,7 +11,9 @@ const MOST_PIECES = 1 << 25;
 /** The bytes of a report that a slice of steps may have, but for one step that has more. */
 const MOST_REPORT = 1 << 20;
 
-/** About how many milliseconds a step of a kind takes, and how many bytes its line of the report has at most. */
+/**
+ * About how many milliseconds a step of a kind takes, and how many bytes its line of the report has at most.
+ */
 const COSTS = {
   [KIND.int]: { time: 1, report: 2048 },
   [KIND.frame]: { time: 2, report: MOST_PICTURE },
@@ -59,10 +62,14 @@ export class Pieces {
     const kind = this.outline.kinds[entry];
     if (kind !== KIND.advance) return COSTS[kind] ?? USUAL_COST;
     const dots = Number(this.outline.wordsOf(entry).split(" ")[1]);
-    return { time: USUAL_COST.time + Math.min(dots, 1 << 24) / DOTS_A_MILLISECOND, report: USUAL_COST.report };
+    return { time: USUAL_COST.time + Math.min(dots, 1 << 24) / DOTS_A_MILLISECOND,
+      report: USUAL_COST.report };
   }
 
-  /** How many steps from one on take about so many milliseconds, one at least, and the bytes of their report at most. */
+  /**
+   * How many steps from one on take about so many milliseconds, one at least, and the bytes of their report
+   * at most.
+   */
   slice(step, most, milliseconds) {
     const { outline } = this, run = outline.runOf(step);
     let time = 0, room = 0, count = 0, entry = run.from + (step - run.first) % run.size;

@@ -56,7 +56,8 @@ export async function pngOf(picture) {
 
 /** Pictures of one size as a PNG that moves; each has `packed` rows and the seconds that it lasts. */
 export function apngOf(frames) {
-  const [{ width, height }] = frames, parts = [...head(frames[0]), chunk("acTL", long(frames.length), long(0))];
+  const [{ width, height }] = frames, parts = [...head(frames[0]),
+    chunk("acTL", long(frames.length), long(0))];
   let sequence = 0;
   for (const [i, frame] of frames.entries()) {
     if (frame.width !== width || frame.height !== height) {
@@ -64,7 +65,8 @@ export function apngOf(frames) {
     }
     const part = frame.seconds < 1 ? SHORT_PART : LONG_PART;
     const time = Math.min(MOST_FRACTION, Math.round(frame.seconds * part));
-    parts.push(chunk("fcTL", long(sequence++), long(width), long(height), long(0), long(0), short(time), short(part), [0, 0]));
+    parts.push(chunk("fcTL", long(sequence++), long(width), long(height), long(0), long(0), short(time),
+      short(part), [0, 0]));
     parts.push(i ? chunk("fdAT", long(sequence++), frame.packed) : chunk("IDAT", frame.packed));
   }
   return joinedBytes([...parts, chunk("IEND")]);

@@ -39,7 +39,8 @@ function meetsWords(point, words, line) {
 function meetsBeam(point, before, after, dots) {
   const shape = frameShape(before.registers), width = characterWidth(before.registers);
   const placeOf = ({ line, character, dot }) => line * shape.dots + character * width + dot;
-  const from = placeOf(before.beam), to = placeOf(after.beam), isPast = from + dots > to || before.beam.frame !== after.beam.frame;
+  const from = placeOf(before.beam), to = placeOf(after.beam), isPast = from + dots > to ||
+    before.beam.frame !== after.beam.frame;
   if (point.kind === "frame") return isPast;
   const wanted = point.line * shape.dots + point.dot;
   if (!isPast) return wanted >= from && wanted < to;
@@ -55,7 +56,10 @@ function meetsChange(point, before, after) {
 
 /** A search among a session's steps. `take` goes on for some milliseconds, and tells what was found. */
 export class Search {
-  /** From after `from` steps on, forward, or back from the step before; `isInclusive` has the last step looked at too. */
+  /**
+   * From after `from` steps on, forward, or back from the step before; `isInclusive` has the last step looked
+   * at too.
+   */
   constructor(session, points, from, isBack, isInclusive = false) {
     Object.assign(this, { session, points, looked: from });
     this.plain = points.filter(point => ["line", "port", "address"].includes(point.kind));
@@ -66,7 +70,10 @@ export class Search {
     this.turns = isBack ? this.back(isInclusive ? from : from - 1) : this.forward(from);
   }
 
-  /** { steps } found, { ended: true }, { waiting: true } for the run to come so far, or null where time is over. */
+  /**
+   * { steps } found, { ended: true }, { waiting: true } for the run to come so far, or null where time is
+   * over.
+   */
   take(milliseconds) {
     const until = performance.now() + milliseconds;
     while (performance.now() < until) {
@@ -123,7 +130,9 @@ export class Search {
     return undefined;
   }
 
-  /** Goes through steps, and yields after each that meets a breakpoint how many were taken; null now and then. */
+  /**
+   * Goes through steps, and yields after each that meets a breakpoint how many were taken; null now and then.
+   */
   * scan(from, to) {
     const { outline } = this.session;
     for (let step = from; step < to; step++) {
@@ -142,10 +151,12 @@ export class Search {
     const before = this.light();
     session.advance(1);
     const after = this.light();
-    const dots = session.outline.nameOf(entry) === "advance" ? Number(session.outline.wordsOf(entry).split(" ")[1]) : 0;
+    const dots = session.outline.nameOf(entry) === "advance"
+      ? Number(session.outline.wordsOf(entry).split(" ")[1]) : 0;
     const isFrame = session.outline.nameOf(entry) === "frame";
     const isMet = this.changing.some(point => meetsChange(point, before, after)) || this.moving.some(point =>
-      (isFrame ? point.kind === "frame" || meetsFrame(point, before) : meetsBeam(point, before, after, dots)));
+      (isFrame ? point.kind === "frame" || meetsFrame(point, before)
+        : meetsBeam(point, before, after, dots)));
     if (isMet) yield step + 1;
   }
 
@@ -156,6 +167,7 @@ export class Search {
 
 /** Whether a frame from this state to its end passes a place. */
 function meetsFrame(point, before) {
-  const { dots } = frameShape(before.registers), width = characterWidth(before.registers), { line, character, dot } = before.beam;
+  const { dots } = frameShape(before.registers), width = characterWidth(before.registers),
+    { line, character, dot } = before.beam;
   return point.line * dots + point.dot >= line * dots + character * width + dot;
 }

@@ -29,7 +29,8 @@ const stripped = (text, letters) => ends(text, letters).replace(new RegExp(`^[${
 
 /** The words before a line's comment: { at, text }. */
 export function wordsIn(line) {
-  return Array.from(line.split(";", 1)[0].matchAll(/[^ \t\r]+/g), found => ({ at: found.index, text: found[0] }));
+  return Array.from(line.split(";", 1)[0].matchAll(/[^ \t\r]+/g),
+    found => ({ at: found.index, text: found[0] }));
 }
 
 /** Why a line is no step: { at, width, reason }; null where nothing is found. */
@@ -102,11 +103,13 @@ function mistakeInNumbers(form, numbers, words, end) {
 
 function wordTooMany(word, usage) {
   if (startsComment(word.text)) return wrong(word, "comments begin with ;");
-  if (ALL_NAMES.includes(word.text.toLowerCase())) return wrong(word, "a word too many: one step stands on a line");
+  if (ALL_NAMES.includes(word.text.toLowerCase())) return wrong(word,
+    "a word too many: one step stands on a line");
   return wrong(word, `a word too many: ${usage}`);
 }
 
-const mistakeInNumber = (number, word) => (number.digits ? mistakeInDigits(number, word) : mistakeInDecimal(number, word));
+const mistakeInNumber = (number, word) => (number.digits ? mistakeInDigits(number, word)
+  : mistakeInDecimal(number, word));
 
 /** The digits of a hexadecimal number that is written otherwise; null where it is none. */
 function cleaned(text) {
@@ -143,7 +146,8 @@ function mistakePast(number, word, value) {
 
 function mistakeInDecimal(number, word) {
   const text = word.text;
-  if (/^[0-9]+$/.test(text)) return mistakePast(number, word, text.length < 100 ? Number(text) : number.most + 1);
+  if (/^[0-9]+$/.test(text)) return mistakePast(number, word, text.length < 100 ? Number(text)
+    : number.most + 1);
   const parted = stripped(text, ",;:.").replace(/[,_']/g, "");
   if (/^[0-9]+$/.test(parted)) return wrong(word, `${number.name} is decimal digits alone: write ${parted}`);
   const digits = cleaned(text);
@@ -157,10 +161,12 @@ function mistakeInDecimal(number, word) {
 /** The mistake of a look at the state. */
 function mistakeInShow(words, end) {
   const names = Object.keys(SHOWN);
-  if (words.length === 1) return { at: end, width: 1, reason: `what is to be shown is lacking: ${names.join(", ")}` };
+  if (words.length === 1) return { at: end, width: 1,
+    reason: `what is to be shown is lacking: ${names.join(", ")}` };
   const name = words[1].text.toLowerCase();
   if (!names.includes(name)) {
-    const near = nearest(name, names), hint = near ? `did you mean ${near}?` : `there are ${names.join(", ")}`;
+    const near = nearest(name, names), hint = near ? `did you mean ${near}?`
+      : `there are ${names.join(", ")}`;
     return wrong(words[1], `nothing of the state has the name '${shortened(words[1].text)}'; ${hint}`);
   }
   const found = mistakeInNumbers(`show ${name}`, SHOWN[name], words.slice(2), end);
@@ -195,7 +201,8 @@ function mistakeInRegister(word, behind, last) {
   }
   if (place === last) return wrong(word, `${name} stands twice`);
   if (place < last) return wrong(word, "registers stand in the order ax, bx, cx, dx");
-  if (!found[2] && behind.length && (/^[0-9A-Fa-f]/.test(behind[0].text) || FOREIGN_HEX.test(behind[0].text))) {
+  if (!found[2] && behind.length && (/^[0-9A-Fa-f]/.test(behind[0].text) ||
+    FOREIGN_HEX.test(behind[0].text))) {
     return wrong(word, `no blank stands around =: write ${name}=${behind[0].text}`);
   }
   return mistakeInDigits(digitsNumber(name, 4), word, found[2]) ?? place;
@@ -227,16 +234,19 @@ function mistakeInBlock(words) {
     return wrong(digits, `a block is hexadecimal digits alone, two for each byte${hint}`);
   }
   if (more && HEX_DIGITS.test(more.text)) return wrong(more, "no blank stands among the digits of a block");
-  if (more && REGISTER_WORD.test(more.text)) return wrong(more, "the block stands last, behind the registers");
+  if (more && REGISTER_WORD.test(more.text)) return wrong(more,
+    "the block stands last, behind the registers");
   if (more) return wordTooMany(more, CALL_USAGE);
   const count = digits.text.length;
   if (count % 2) return wrong(digits, `a block has two digits for each byte, and these are ${count}`);
-  return count > MOST_BLOCK_DIGITS ? wrong(digits, `a block has at most ${MOST_BLOCK_DIGITS / 2} bytes`) : null;
+  return count > MOST_BLOCK_DIGITS ? wrong(digits, `a block has at most ${MOST_BLOCK_DIGITS / 2} bytes`)
+    : null;
 }
 
 /** Why a good line is bad where it stands in a text, as the end of a block that none has begun. */
 function mistakeAmongLines(lines, number) {
-  const named = lines.map((line, i) => ({ number: i + 1, words: wordsIn(line).map(word => word.text.toLowerCase()) }))
+  const named = lines.map((line, i) => ({ number: i + 1,
+    words: wordsIn(line).map(word => word.text.toLowerCase()) }))
     .filter(line => line.words.length);
   const at = named.findIndex(line => line.number === number), line = named[at];
   if (!line) return null;
@@ -252,7 +262,8 @@ function mistakeAmongLines(lines, number) {
     if (other.words[0] === "end") opened = null;
   }
   if (name === "end" && !opened) return "no block is open here";
-  if (name === "repeat" && opened) return `a block has no other block, and the one of line ${opened.number} is open here`;
+  if (name === "repeat" &&
+    opened) return `a block has no other block, and the one of line ${opened.number} is open here`;
   if (name !== "repeat") return null;
   if (!named.slice(at).some(other => other.words[0] === "end")) return "the block has no end";
   return `with this block the script means more than ${grouped(MOST_STEPS)} steps`;
@@ -264,7 +275,8 @@ export function encodingTrouble(bytes) {
   if (starts(0xff, 0xfe) || starts(0xfe, 0xff) || bytes[1] === 0 || bytes[0] === 0) {
     return "the text is UTF-16, of two bytes a letter: save it as UTF-8 or ASCII";
   }
-  if (starts(0xef, 0xbb, 0xbf)) return "the text begins with a byte order mark: save the text as UTF-8 without it";
+  if (starts(0xef, 0xbb,
+    0xbf)) return "the text begins with a byte order mark: save the text as UTF-8 without it";
   if (starts(0x56, 0x47, 0x41, 0x53)) {
     return "this is a script of bytes: `vga run` runs it, and `vga dis` prints it as text";
   }
@@ -280,5 +292,6 @@ export function reasonOfLine(text, number) {
   const lines = text.split("\n"), line = lines[number - 1] ?? "";
   const found = mistakeIn(line);
   if (found) return found;
-  return { at: 0, width: line.length, reason: mistakeAmongLines(lines, number) ?? "refused, and I can't say why" };
+  return { at: 0, width: line.length, reason: mistakeAmongLines(lines,
+    number) ?? "refused, and I can't say why" };
 }

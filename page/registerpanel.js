@@ -5,7 +5,8 @@ import { hex } from "./bytes.js";
 
 /** A field with its value; one that has no effect is grey. */
 function fieldText(field, value) {
-  const now = fieldValue(field, value), made = element("span", { className: "field" }, `${field.name} ${hex(now, 1)}`);
+  const now = fieldValue(field, value), made = element("span", { className: "field" },
+    `${field.name} ${hex(now, 1)}`);
   made.title = `bits ${field.bits}${field.isStored ? ": kept without effect" : ""}`;
   made.classList.toggle("stored", field.isStored);
   made.classList.toggle("zero", now === 0);
@@ -36,7 +37,8 @@ function registerRow(base, group, i, value, before, isPicked) {
   }
   const made = element("tr", {}, element("th", { scope: "row" }, group.registers.length > 1 ? hex(i, 2) : ""),
     element("td", { className: "value" }, hex(value, 2)), element("td", {}, bitsText(register, value)),
-    element("td", { className: "name" }, pageLink(base, "REGISTERS.md", group.anchor, register.name)), fields);
+    element("td", { className: "name" }, pageLink(base, "REGISTERS.md", group.anchor, register.name)),
+      fields);
   made.classList.toggle("changed", value !== before);
   made.classList.toggle("picked", isPicked);
   if (value !== before) made.title = `${hex(before, 2)} before the last step`;
@@ -45,20 +47,25 @@ function registerRow(base, group, i, value, before, isPicked) {
 
 function groupTable(base, group, now, old) {
   const [values, before] = [now, old].map(registers => valuesOf(registers, group.id));
-  const index = { seq: now.seqIndex, gfx: now.gfxIndex, crtc: now.crtcIndex, attr: now.attrIndex & 31 }[group.id];
+  const index = { seq: now.seqIndex, gfx: now.gfxIndex, crtc: now.crtcIndex,
+    attr: now.attrIndex & 31 }[group.id];
   const port = indexPort(now, group), parts = [];
   if (port) parts.push(`${hex(port, 3)}, index ${hex(group.id === "attr" ? now.attrIndex : index, 2)}`);
   if (group.id === "attr") {
-    parts.push(`next is ${now.attrIsData ? "data" : "an index"}`, `palette ${now.attrIndex & 32 ? "shown" : "hidden"}`);
+    parts.push(`next is ${now.attrIsData ? "data" : "an index"}`,
+      `palette ${now.attrIndex & 32 ? "shown" : "hidden"}`);
   }
-  const caption = element("caption", {}, group.title, element("small", {}, parts.length ? ` ${parts.join(", ")}` : ""));
+  const caption = element("caption", {}, group.title,
+    element("small", {}, parts.length ? ` ${parts.join(", ")}` : ""));
   return element("table", { className: `group ${group.id}` }, caption,
-    element("tbody", {}, ...Array.from(values, (value, i) => registerRow(base, group, i, value, before[i], i === index))));
+    element("tbody", {}, ...Array.from(values, (value, i) => registerRow(base, group, i, value, before[i],
+      i === index))));
 }
 
 /** A table of names and values; each row is [name, value, the value before]. */
 export function plainTable(title, rows) {
-  return element("table", { className: "plain" }, element("caption", {}, title), element("tbody", {}, ...rows.map(([name, now, old]) => {
+  return element("table", { className: "plain" }, element("caption", {}, title),
+    element("tbody", {}, ...rows.map(([name, now, old]) => {
     const made = element("tr", {}, element("th", { scope: "row" }, name), element("td", {}, now));
     made.classList.toggle("changed", now !== old);
     if (now !== old) made.title = `${old} before the last step`;
@@ -83,7 +90,8 @@ function otherRows(state) {
     ["past the line compare", String(beam.split)],
     ["input status 1", statusOne(state)],
     ["next write to 3C0", registers.attrIsData ? "data" : "an index"],
-    ["DAC index, next component", `${hex(registers.dacIndex, 2)}, ${["red", "green", "blue"][registers.dacComponent]}`],
+    ["DAC index, next component",
+      `${hex(registers.dacIndex, 2)}, ${["red", "green", "blue"][registers.dacComponent]}`],
     ["DAC mask", hex(registers.dacMask, 2)],
     ["red and green that wait", `${hex(registers.dacRed, 2)} ${hex(registers.dacGreen, 2)}`],
   ];
@@ -95,7 +103,8 @@ export function statusOne({ registers, beam }) {
   const isShown = beam.character <= crtc[1] && beam.line <= crtc[18] + bit(1, 8) + bit(6, 9);
   const start = crtc[16] + bit(2, 8) + bit(7, 9), count = (crtc[17] - start & 15) || 16;
   const isRetrace = beam.line >= start && beam.line < start + count;
-  return hex((isShown ? 0 : 1) | (isRetrace ? 8 : 0), 2) + (isRetrace ? ": vertical retrace" : isShown ? ": a display dot" : ": no display dot");
+  return hex((isShown ? 0 : 1) | (isRetrace ? 8 : 0), 2) + (isRetrace ? ": vertical retrace" : isShown
+    ? ": a display dot" : ": no display dot");
 }
 
 /** The panel of registers. */

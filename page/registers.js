@@ -1,8 +1,13 @@
-// Names, kept bits and fields of the registers, as docs/REGISTERS.md has them; page/tests/registers.mjs holds them to it.
+// Names, kept bits and fields of the registers, as docs/REGISTERS.md has them; page/tests/registers.mjs
+// holds them to it.
 
-/** A register: its name, the bits that it keeps, and its fields: [bits, name], and true where they have no effect. */
+/**
+ * A register: its name, the bits that it keeps, and its fields: [bits, name], and true where they have no
+ * effect.
+ */
 function register(name, kept, ...fields) {
-  return { name, kept, fields: fields.map(([bits, field, isStored = false]) => ({ bits, name: field, isStored })) };
+  return { name, kept, fields: fields.map(([bits, field, isStored = false]) =>
+    ({ bits, name: field, isStored })) };
 }
 
 const planesOf = name => register(name, 0x0f, ["3-0", "planes"]);
@@ -16,7 +21,8 @@ export const GROUPS = [
   ] },
   { id: "seq", title: "Sequencer", anchor: "sequencer", port: 0x3c4, registers: [
     register("reset", 0x03, ["1-0", "reset", true]),
-    register("clocking mode", 0x3d, ["0", "eight dots"], ["2", "shift load", true], ["3", "dot clock halved", true],
+    register("clocking mode", 0x3d, ["0", "eight dots"], ["2", "shift load", true],
+      ["3", "dot clock halved", true],
       ["4", "shift four", true], ["5", "screen off"]),
     register("map mask", 0x0f, ["3-0", "planes"]),
     register("character map select", 0x3f, ["5,3-2", "map A"], ["4,1-0", "map B"]),
@@ -40,26 +46,33 @@ export const GROUPS = [
     register("overflow", 0xff, ["5,0", "vertical total 9-8"], ["6,1", "vertical display enable end 9-8"],
       ["7,2", "vertical retrace start 9-8"], ["4", "line compare 8"], ["3", "stored", true]),
     register("preset row scan", 0x7f, ["4-0", "first scan line"], ["6-5", "byte panning"]),
-    register("maximum scan line", 0xff, ["4-0", "last scan line"], ["6", "line compare 9"], ["7", "double scan"],
+    register("maximum scan line", 0xff, ["4-0", "last scan line"], ["6", "line compare 9"],
+      ["7", "double scan"],
       ["5", "stored", true]),
     register("cursor start", 0x3f, ["4-0", "first scan line"], ["5", "no cursor"]),
     register("cursor end", 0x7f, ["4-0", "last scan line"], ["6-5", "stored", true]),
-    register("start address high", 0xff, ["7-0", "high byte"]), register("start address low", 0xff, ["7-0", "low byte"]),
-    register("cursor location high", 0xff, ["7-0", "high byte"]), register("cursor location low", 0xff, ["7-0", "low byte"]),
+    register("start address high", 0xff, ["7-0", "high byte"]),
+      register("start address low", 0xff, ["7-0", "low byte"]),
+    register("cursor location high", 0xff, ["7-0", "high byte"]),
+      register("cursor location low", 0xff, ["7-0", "low byte"]),
     register("vertical retrace start", 0xff, ["7-0", "first line"]),
-    register("vertical retrace end", 0xff, ["3-0", "first line past it"], ["7", "protects 0 to 7"], ["6-4", "stored", true]),
+    register("vertical retrace end", 0xff, ["3-0", "first line past it"], ["7", "protects 0 to 7"],
+      ["6-4", "stored", true]),
     register("vertical display enable end", 0xff, ["7-0", "last line"]),
     register("offset", 0xff, ["7-0", "half of a row"]),
     register("underline location", 0x7f, ["4-0", "scan line"], ["5", "count by four"], ["6", "double word"]),
     storedWhole("vertical blanking"), storedWhole("vertical blanking"),
-    register("mode control", 0xef, ["0", "is 1"], ["1", "is 1"], ["2", "is 0"], ["3", "is 0"], ["5", "address wrap"],
+    register("mode control", 0xef, ["0", "is 1"], ["1", "is 1"], ["2", "is 0"], ["3", "is 0"],
+      ["5", "address wrap"],
       ["6", "byte mode"], ["7", "stored", true]),
     register("line compare", 0xff, ["7-0", "line"]),
   ] },
   { id: "attr", title: "Attribute controller", anchor: "attribute-controller", port: 0x3c0, registers: [
-    ...Array.from({ length: 16 }, (_, i) => register(`palette ${i.toString(16).toUpperCase()}`, 0x3f, ["5-0", "colour"])),
+    ...Array.from({ length: 16 }, (_, i) => register(`palette ${i.toString(16).toUpperCase()}`, 0x3f,
+      ["5-0", "colour"])),
     register("mode control", 0xef, ["1", "monochrome"], ["2", "line graphics"], ["3", "blink"],
-      ["5", "no panning below the line compare"], ["7", "bits 5 and 4 by colour select"], ["0", "stored", true], ["6", "stored", true]),
+      ["5", "no panning below the line compare"], ["7", "bits 5 and 4 by colour select"],
+        ["0", "stored", true], ["6", "stored", true]),
     register("overscan", 0xff, ["7-0", "colour"]),
     register("colour plane enable", 0x3f, ["3-0", "planes"], ["5-4", "stored", true]),
     register("horizontal panning", 0x0f, ["3-0", "dots"]),

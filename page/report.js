@@ -26,7 +26,10 @@ export class ReportPicture {
   }
 }
 
-/** Reads `count` answers of a report whose first line has the number `first`; takes each with (index, answer, picture). */
+/**
+ * Reads `count` answers of a report whose first line has the number `first`; takes each with (index, answer,
+ * picture).
+ */
 export function readReport(report, first, count, take) {
   let at = 0;
   for (let i = 0; i < count; i++) {
@@ -38,24 +41,39 @@ export function readReport(report, first, count, take) {
       take(i, "ok", null);
       at += 3;
     } else {
-      at = readAnswer(report, at, (answer, picture) => take(i, answer, picture));
+      at = readAnswer(report, at, i, take);
     }
   }
   if (at !== report.length) throw new Trouble("The report goes on behind its last answer.");
 }
 
+/** The texts of answers of two and of four letters, by their letters: in long runs most answers are such. */
+const SHORT_TEXTS = new Map();
+
+function shortText(report, at, end) {
+  let letters = 0;
+  for (let place = at; place < end; place++) letters = letters << 8 | report[place];
+  const known = SHORT_TEXTS.get(letters);
+  if (known !== undefined) return known;
+  const text = codesOfBytes(report.subarray(at, end));
+  SHORT_TEXTS.set(letters, text);
+  return text;
+}
+
 /** Reads an answer, and tells where the next line begins. */
-function readAnswer(report, at, take) {
-  let end = report.indexOf(LINE_END, at);
-  const answer = codesOfBytes(report.subarray(at, end));
+function readAnswer(report, at, i, take) {
+  let end = at;
+  while (report[end] !== LINE_END && end < report.length) end++;
+  const answer = end - at <= 4 ? shortText(report, at, end) : codesOfBytes(report.subarray(at, end));
   if (answer.startsWith("picture ")) {
     const length = Number(answer.slice(8));
-    take(answer, new ReportPicture(report.subarray(end + 1, end + 1 + length)));
+    take(i, answer, new ReportPicture(report.subarray(end + 1, end + 1 + length)));
     return end + length + 2;
   }
+  const first = end;
   while (end + 1 < report.length && !(report[end + 1] >= ZERO && report[end + 1] <= NINE)) {
     end = report.indexOf(LINE_END, end + 1);
   }
-  take(codesOfBytes(report.subarray(at, end)), null);
+  take(i, end === first ? answer : codesOfBytes(report.subarray(at, end)), null);
   return end + 1;
 }

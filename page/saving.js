@@ -6,7 +6,8 @@ import { element } from "./dom.js";
 import { frameShape } from "./state.js";
 import { readReport } from "./report.js";
 
-// The clocks that bits 3 and 2 of miscellaneous output select, in dots a second; of others, 70 frames a second.
+// The clocks that bits 3 and 2 of miscellaneous output select, in dots a second; of others, 70 frames a
+// second.
 const CLOCKS = { 0: 25175000, 1: 28322000 }, USUAL_FRAME = 1 / 70;
 const MOST_FRAMES = 2000, MOST_PACKED = 1 << 28, MOST_SAVED = 1 << 28;
 
@@ -19,7 +20,8 @@ export function saveFile(name, bytes, kind) {
 
 /** The report of a run, as `vga` writes it. */
 export function reportOf(session) {
-  if (session.reported > MOST_SAVED) throw new Trouble("The report has more than 256 MiB: run the script by `vga go`.");
+  if (session.reported > MOST_SAVED) throw new Trouble(
+    "The report has more than 256 MiB: run the script by `vga go`.");
   return session.adapter.run(session.script, session.fonts).report;
 }
 
@@ -28,7 +30,8 @@ export function wholePicture({ picture }) {
   if (picture.isWhole) return picture;
   const widths = picture.widths.filter(width => width > 0);
   if (!widths.length) throw new Trouble("The frame has no dot.");
-  if (widths.some(width => width !== widths[0])) throw new Trouble("Lines of this frame differ in width, so it has no picture.");
+  if (widths.some(width => width !== widths[0])) throw new Trouble(
+    "Lines of this frame differ in width, so it has no picture.");
   return { width: widths[0], height: widths.length, rgb: picture.rgb };
 }
 
@@ -42,20 +45,26 @@ export function frameSeconds(registers) {
   return clock ? dots * lines * (registers.seq[1] & 8 ? 2 : 1) / clock : USUAL_FRAME;
 }
 
-/** All pictures of a run as a PNG that moves. `told` is called with how many steps are done; it answers false to end. */
+/**
+ * All pictures of a run as a PNG that moves. `told` is called with how many steps are done; it answers false
+ * to end.
+ */
 export async function apngOfRun(session, told) {
   const card = new Card(session.adapter, session.fonts), frames = [];
   let size = 0;
   try {
     for (let step = 0; step < session.length;) {
       const pictures = [], { taken, first, report } = session.pieces.runOn(card, step, session.length, 8);
-      readReport(report, first, taken, (_, answer, picture) => picture && pictures.push({ width: picture.width, height: picture.height, rgb: picture.rgb.slice() }));
+      readReport(report, first, taken, (_, answer, picture) => picture &&
+        pictures.push({ width: picture.width, height: picture.height, rgb: picture.rgb.slice() }));
       for (const picture of pictures) {
         const packed = await packedRows(picture);
         size += packed.length;
-        frames.push({ width: picture.width, height: picture.height, packed, seconds: frameSeconds(session.registersOf(card)) });
+        frames.push({ width: picture.width, height: picture.height, packed,
+          seconds: frameSeconds(session.registersOf(card)) });
       }
-      if (frames.length > MOST_FRAMES || size > MOST_PACKED) throw new Trouble(`There are more pictures than ${MOST_FRAMES}, or than fit.`);
+      if (frames.length > MOST_FRAMES || size > MOST_PACKED) throw new Trouble(
+        `There are more pictures than ${MOST_FRAMES}, or than fit.`);
       step += taken;
       if (await told(step) === false) return null;
     }

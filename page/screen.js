@@ -1,4 +1,5 @@
-// The picture as it is drawn so far: what is not drawn yet is dark, cross-hairs show the beam, and a glass the dots.
+// The picture as it is drawn so far: what is not drawn yet is dark, cross-hairs show the beam, and a glass
+// the dots.
 import { byId, cssColour, element } from "./dom.js";
 import { characterWidth, displayedLines, fetchAddress } from "./state.js";
 import { hex } from "./bytes.js";
@@ -9,7 +10,8 @@ const DARK = 0.32, GLASS_DOTS = 15, GLASS_SCALE = 10;
 function linesOf(picture) {
   if (picture.isWhole) {
     const { width, height } = picture;
-    const rows = Array.from({ length: height }, (_, line) => ({ line, width, drawn: width, from: 3 * line * width }));
+    const rows = Array.from({ length: height },
+      (_, line) => ({ line, width, drawn: width, from: 3 * line * width }));
     return { rows, width, height };
   }
   const rows = [];
@@ -29,14 +31,17 @@ const DIMMED = LIGHT.map(eight => Math.round(eight * DARK));
 /** The picture on its stage. `heard` has `clicked(line, dot)`. */
 export class Screen {
   constructor(heard) {
-    Object.assign(this, { heard, stage: byId("stage"), canvas: byId("picture"), glass: byId("glass"), seen: null });
+    Object.assign(this, { heard, stage: byId("stage"), canvas: byId("picture"), glass: byId("glass"),
+      seen: null });
     this.glass.width = this.glass.height = GLASS_DOTS * GLASS_SCALE;
-    for (const name of ["aspect", "sharp", "sofar", "hairs", "zoom"]) byId(name).addEventListener("change", () => this.draw());
+    for (const name of ["aspect", "sharp", "sofar", "hairs", "zoom"]) byId(name).addEventListener("change",
+      () => this.draw());
     this.canvas.addEventListener("pointermove", event => this.point(event));
     this.canvas.addEventListener("pointerleave", () => this.point(null));
     this.canvas.addEventListener("click", event => {
       // A click's place is rounded to a pixel, and the dot that is told was that of the pointer's own place.
-      const isNear = this.pointer && Math.hypot(this.pointer.clientX - event.clientX, this.pointer.clientY - event.clientY) < 2;
+      const isNear = this.pointer && Math.hypot(this.pointer.clientX - event.clientX,
+        this.pointer.clientY - event.clientY) < 2;
       const found = this.dotAt(isNear ? this.pointer : event);
       if (found) heard.clicked(found.row.line, found.x);
     });
@@ -63,12 +68,14 @@ export class Screen {
   }
 
   image({ rows, width, height }) {
-    const image = new ImageData(width, height), words = new Uint32Array(image.data.buffer), { rgb } = this.seen.picture;
+    const image = new ImageData(width, height), words = new Uint32Array(image.data.buffer),
+      { rgb } = this.seen.picture;
     rows.forEach((row, y) => {
       let from = row.from;
       for (let x = 0; x < row.width; x++, from += 3) {
         const table = this.isSoFar && x >= row.drawn ? DIMMED : LIGHT;
-        words[y * width + x] = 0xff000000 | table[rgb[from + 2]] << 16 | table[rgb[from + 1]] << 8 | table[rgb[from]];
+        words[y * width + x] = 0xff000000 | table[rgb[from + 2]] << 16 | table[
+          rgb[from + 1]] << 8 | table[rgb[from]];
       }
     });
     return image;
@@ -96,11 +103,13 @@ export class Screen {
 
   drawHairs() {
     const { canvas, rows, seen } = this, { line, x } = this.beamPlace();
-    const y = rows.findIndex(row => row.line >= line), isOn = byId("hairs").checked && !seen.picture.isWhole && rows.length > 0;
+    const y = rows.findIndex(row => row.line >= line), isOn = byId("hairs").checked &&
+      !seen.picture.isWhole && rows.length > 0;
     const hairs = [byId("hair-x"), byId("hair-y"), byId("ring")];
     for (const hair of hairs) hair.hidden = !isOn;
     if (!isOn) return;
-    const top = `${100 * ((y < 0 ? rows.length : y) + 0.5) / canvas.height}%`, left = `${100 * (Math.min(x, canvas.width) + 0.5) / canvas.width}%`;
+    const top = `${100 * ((y < 0 ? rows.length : y) + 0.5) / canvas.height}%`,
+      left = `${100 * (Math.min(x, canvas.width) + 0.5) / canvas.width}%`;
     hairs[0].style.left = left;
     hairs[1].style.top = top;
     Object.assign(hairs[2].style, { left, top });
@@ -131,7 +140,8 @@ export class Screen {
     const swatch = element("span", { className: "swatch" });
     swatch.style.background = cssColour(found.colour);
     const isDark = this.isSoFar && found.x >= found.row.drawn ? ", not drawn yet" : "";
-    told.replaceChildren(swatch, ` dot ${found.x} of line ${found.row.line}: ${found.colour.map(six => hex(six, 2)).join(" ")}` +
+    told.replaceChildren(swatch,
+      ` dot ${found.x} of line ${found.row.line}: ${found.colour.map(six => hex(six, 2)).join(" ")}` +
       `${isDark}${this.cellAt(found)}`);
   }
 
@@ -143,9 +153,11 @@ export class Screen {
     for (const { line, base, scan } of displayedLines(registers)) {
       if (scan === 0 && base !== last) [number, last] = [number + 1, base];
       if (line < row.line) continue;
-      const column = Math.floor(x / characterWidth(registers)), at = fetchAddress(registers, (base + column) & 65535);
+      const column = Math.floor(x / characterWidth(registers)),
+        at = fetchAddress(registers, (base + column) & 65535);
       const [character, attribute] = [0, 1].map(plane => hex(after.plane(plane)[at], 2));
-      return ` · cell of row ${Math.max(0, number)}, column ${column}: character ${character}, attribute ${attribute}`;
+      const cell = `cell of row ${Math.max(0, number)}, column ${column}`;
+      return ` · ${cell}: character ${character}, attribute ${attribute}`;
     }
     return "";
   }

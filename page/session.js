@@ -12,9 +12,13 @@ import { encodingTrouble, reasonOfLine } from "./reasons.js";
 import { isAsExpected, isRefusal } from "./expecting.js";
 import { readReport } from "./report.js";
 
-/** The answers of runs of at most so many steps, bytes of report and milliseconds are held to those of zak_run. */
+/**
+ * The answers of runs of at most so many steps, bytes of report and milliseconds are held to those of
+ * zak_run.
+ */
 const MOST_COMPARED = { steps: 100000, report: 1 << 27, time: 3000 };
-// Saved states have so many bytes at most, and stand so far apart as a card goes in so many milliseconds, or further.
+// Saved states have so many bytes at most, and stand so far apart as a card goes in so many milliseconds,
+// or further.
 const MOST_STATES = 1 << 28, APART = 12;
 const MOST_DIFFERING = 100000, SLICE = 8;
 
@@ -87,7 +91,8 @@ export class Session {
       if (picture) this.notePicture(picture);
       if (answer.charCodeAt(0) === 69 && isRefusal(answer)) this.refused++;
       if (!this.outline.hasExpected) return;
-      const step = this.ran + i, entry = this.outline.entryOf(step), expected = this.outline.expectedOf(entry);
+      const step = this.ran + i, entry = this.outline.entryOf(step),
+        expected = this.outline.expectedOf(entry);
       if (expected === null) return;
       this.expected++;
       if (isAsExpected(answer, picture, expected, this.outline.nameOf(entry))) return;
@@ -119,7 +124,10 @@ export class Session {
     return low;
   }
 
-  /** Brings the card nearer to the state after so many steps, for about so many milliseconds; whether it is there. */
+  /**
+   * Brings the card nearer to the state after so many steps, for about so many milliseconds; whether it is
+   * there.
+   */
   approach(steps, milliseconds = Infinity) {
     const from = this.kept[this.keptBefore(steps)];
     if (this.at > steps || this.at < from.at) this.restore(from);
@@ -134,7 +142,10 @@ export class Session {
     this.at = kept.at;
   }
 
-  /** Has the card take some of the next steps, at most so many; what they answered as { taken, first, report }. */
+  /**
+   * Has the card take some of the next steps, at most so many; what they answered as { taken, first, report
+   * }.
+   */
   advance(most) {
     const from = this.at;
     this.at = -1;
@@ -154,7 +165,8 @@ export class Session {
   }
 
   /**
-   * What is to be seen after so many steps, one of which the last is: the states before and after it, and the picture. The
+   * What is to be seen after so many steps, one of which the last is: the states before and after it, and
+   * the picture. The
    * card must be before the last step already.
    */
   seen(steps) {
@@ -163,7 +175,8 @@ export class Session {
     if (steps) {
       const { first, report } = this.advance(1);
       readReport(report, first, 1, (_, answer, found) => {
-        picture = found && { isWhole: true, width: found.width, height: found.height, rgb: found.rgb.slice() };
+        picture = found && { isWhole: true, width: found.width, height: found.height,
+          rgb: found.rgb.slice() };
       });
     }
     const after = this.state();
@@ -199,7 +212,8 @@ export class Session {
   /** Why the answers are not held to those of zak_run, which takes all steps at once; null where they are. */
   get whyNotCompared() {
     if (this.length > MOST_COMPARED.steps) return `more than ${grouped(MOST_COMPARED.steps)} steps`;
-    if (this.reported > MOST_COMPARED.report) return `more than ${MOST_COMPARED.report >> 20} MiB of pictures`;
+    const { report } = MOST_COMPARED;
+    if (this.reported > report) return `more than ${report >> 20} MiB of pictures`;
     if (this.time > MOST_COMPARED.time) return `more than ${MOST_COMPARED.time / 1000} seconds`;
     return null;
   }
@@ -211,7 +225,8 @@ export class Session {
     let differs = "", pictures = 0;
     try {
       readReport(report, 1, this.length, (i, answer, picture) => {
-        const isSame = answer === this.answers.get(i) && (!picture || sumOf(picture.ppm) === this.sums[pictures++]);
+        const isSame = answer === this.answers.get(i) &&
+          (!picture || sumOf(picture.ppm) === this.sums[pictures++]);
         if (!isSame && !differs) differs = `step ${i + 1} answers otherwise`;
       });
     } catch (trouble) {
@@ -226,7 +241,8 @@ export class Session {
     const parts = [counted(this.length, "step")];
     if (this.pictures) parts.push(counted(this.pictures, "picture"));
     if (this.refused) parts.push(`${grouped(this.refused)} refused`);
-    if (this.expected) parts.push(`${grouped(this.expected - this.wrong)} of ${grouped(this.expected)} answers as expected`);
+    if (this.expected) parts.push(
+      `${grouped(this.expected - this.wrong)} of ${grouped(this.expected)} answers as expected`);
     return parts.join(", ");
   }
 }

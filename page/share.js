@@ -37,7 +37,8 @@ export async function contentsOf(bytes, adapter) {
   const text = new TextDecoder().decode(bytes), form = traceForm(text);
   if (form) return { text: textOfTrace(text) };
   const begin = bytes.subarray(0, 4096);
-  if (begin.some(byte => byte > 0 && byte < 32 && !TEXT_CONTROLS.includes(byte))) throw new Trouble(noneOf(bytes));
+  if (begin.some(byte => byte > 0 && byte < 32 && !TEXT_CONTROLS.includes(byte))) throw new Trouble(
+    noneOf(bytes));
   const trouble = encodingTrouble(bytes);
   if (trouble) throw new Trouble(`This file is not run: ${trouble}.`);
   if (begin.includes(0)) throw new Trouble(noneOf(bytes));
@@ -55,13 +56,15 @@ async function gunzipped(bytes) {
 
 /** The text of a script of bytes. */
 export function printedText(bytes, adapter) {
-  const { status, place, text } = adapter.printed(bytes.length > MOST_BYTES ? bytes.subarray(0, MOST_BYTES + 1) : bytes);
+  const { status, place, text } = adapter.printed(bytes.length > MOST_BYTES
+    ? bytes.subarray(0, MOST_BYTES + 1) : bytes);
   if (status) throw new Trouble(`This script of bytes is not run: ${reasonOfBytes(bytes, status, place)}.`);
   return new TextDecoder().decode(text);
 }
 
 function noneOf(bytes) {
   const begins = Array.from(bytes.subarray(0, 8), byte => hex(byte, 2)).join(" ");
-  return `This file of ${grouped(bytes.length)} bytes, which begins with ${begins}, is no script, no trace and no font file: ` +
-    `a script is a text, or begins with 56 47 41 53, and a font file has ${grouped(FONTS_SIZE)} bytes.`;
+  return `This file of ${grouped(bytes.length)} bytes, which begins with ${begins}, ` +
+    `is no script, no trace and no font file: a script is a text, or begins with 56 47 41 53, ` +
+    `and a font file has ${grouped(FONTS_SIZE)} bytes.`;
 }

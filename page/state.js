@@ -1,4 +1,5 @@
-// What a saved state says (docs/STATE.md): the page reads registers, planes and dots there. page/tests/state.mjs holds
+// What a saved state says (docs/STATE.md): the page reads registers, planes and dots there.
+// page/tests/state.mjs holds
 // each of them to the module's own calls.
 import { FIRST_STATE, HIGHEST } from "./adapter.js";
 
@@ -51,7 +52,8 @@ export class State {
   get bda() {
     const { bytes } = this, word = offset => this.view.getUint16(AT.bda + offset, true);
     return { mode: bytes[AT.bda], columns: word(1), size: word(3), start: word(5),
-      places: [0, 1, 2, 3, 4, 5, 6, 7].map(page => word(7 + 2 * page)), type: word(23), page: bytes[AT.bda + 25],
+      places: [0, 1, 2, 3, 4, 5, 6, 7].map(page => word(7 + 2 * page)), type: word(23),
+        page: bytes[AT.bda + 25],
       crtc: word(26), lastRow: bytes[AT.bda + 28], height: word(29) };
   }
 
@@ -62,7 +64,8 @@ export class State {
 
   /** Of each of 1,024 lines, how many dots the frame under way has so far. */
   get drawn() {
-    return Uint16Array.from({ length: HIGHEST }, (_, line) => this.view.getUint16(AT.lengths + 2 * line, true));
+    return Uint16Array.from({ length: HIGHEST },
+      (_, line) => this.view.getUint16(AT.lengths + 2 * line, true));
   }
 
   /** Whether a dot of the frame under way is drawn. */
@@ -85,7 +88,8 @@ export function frameShape(registers) {
 
 /** The dots and the lines that are displayed, line compare, and how lines make rows of characters. */
 export function windowShape(registers) {
-  const { crtc } = registers, bits = (eight, nine) => ((crtc[7] >> eight & 1) << 8) + ((crtc[7] >> nine & 1) << 9);
+  const { crtc } = registers, bits = (eight, nine) => ((crtc[7] >> eight & 1) << 8) +
+    ((crtc[7] >> nine & 1) << 9);
   return {
     characters: Math.min(crtc[1] + 1, crtc[0] + 5),
     lines: Math.min(crtc[18] + bits(1, 6) + 1, frameShape(registers).lines),

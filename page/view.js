@@ -21,19 +21,23 @@ import { isRefusal } from "./expecting.js";
 import { registerPanel } from "./registerpanel.js";
 import { whyRefused } from "./refusals.js";
 
-const SLICE_TIME = 14, SHOWN_EVERY = 250, TYPED = 250, TYPED_MUCH = 1000, MUCH_TEXT = 500000;
+const SLICE_TIME = 14, SHOWN_EVERY = 250, TYPED = 250, TYPED_MUCH = 1000, MUCH_TEXT = 100000;
 const MOST_LINK = 200000, MOST_WORDS = 160;
 /** What the page shows first. */
 const FIRST_EXAMPLE = "text-by-services";
+const SAVED = ["text", "bytes", "report", "png", "apng"];
 const TABS = ["registers", "memory", "cells", "colours", "BIOS data", "breakpoints"];
 
 /** The page over a module, with the data that it was built with. */
 export class View {
   constructor(adapter, module, data) {
-    Object.assign(this, { adapter, module, data, fonts: bytesOfBase64(data.fonts), session: null, seen: null, steps: 0 });
-    Object.assign(this, { name: "script", tab: TABS[0], points: [], coming: null, search: null, isPlaying: false, isHalted: false });
-    this.ownFonts = this.fonts;
-    this.editor = new Editor({ changed: () => this.typed(), pointed: line => this.pointPanel.toggleLine(line) });
+    const fonts = bytesOfBase64(data.fonts);
+    Object.assign(this, { adapter, module, data, fonts, ownFonts: fonts, name: "script", tab: TABS[0],
+      points: [] });
+    Object.assign(this, { session: null, seen: null, steps: 0, coming: null, search: null });
+    Object.assign(this, { isPlaying: false, isHalted: false });
+    this.editor = new Editor({ changed: () => this.typed(),
+      pointed: line => this.pointPanel.toggleLine(line) });
     this.listing = new Listing(steps => this.go(steps));
     this.screen = new Screen({ clicked: (line, dot) => this.toDot(line, dot) });
     this.memoryPanel = new MemoryPanel();
@@ -48,20 +52,40 @@ export class View {
 
   makeControls() {
     const { examples, pages } = this.data;
-    byId("examples").append(new Option("your own script", ""), ...examples.map(one => new Option(one.name, one.name)));
+    byId("examples").append(new Option("your own script", ""),
+      ...examples.map(one => new Option(one.name, one.name)));
     byId("pagedoc").href = `${pages}PAGE.md#what-is-proved`;
-    byId("tabs").append(...TABS.map((tab, i) => element("button", { type: "button", role: "tab", id: `tab${i + 1}`, title: `${tab} (${i + 1})`,
-      "aria-controls": "panel", onclick: () => this.open(tab) }, tab)));
+    byId("tabs").append(...TABS.map((tab, i) =>
+      element("button", { type: "button", role: "tab", id: `tab${i + 1}`,
+      title: `${tab} (${i + 1})`, "aria-controls": "panel", onclick: () => this.open(tab) }, tab)));
     byId("keys").append(...keyTables());
+    const frames = [{ kind: "frame" }];
     const clicks = {
-      first: () => this.go(0), last: () => this.toEnd(), back: () => this.go(this.steps - 1), next: () => this.go(this.steps + 1),
-      run: () => this.run(), runback: () => this.find(this.active, true), play: () => this.play(!this.isPlaying),
-      framebefore: () => this.find([{ kind: "frame" }], true), frameafter: () => this.find([{ kind: "frame" }], false),
-      openfile: () => byId("file").click(), share: () => this.share(), help: () => byId("helpbox").showModal(),
-      ownfonts: () => this.useFonts(this.ownFonts), savetext: () => this.save("text"), savebytes: () => this.save("bytes"),
-      savereport: () => this.save("report"), savepng: () => this.save("png"), saveapng: () => this.save("apng"),
+      first: () => this.go(0),
+      runback: () => this.find(this.active, true),
+      framebefore: () => this.find(frames, true),
+      back: () => this.go(this.steps - 1),
+      next: () => this.go(this.steps + 1),
+      frameafter: () => this.find(frames, false),
+      run: () => this.run(),
+      last: () => this.toEnd(),
+      play: () => this.play(!this.isPlaying),
+      openfile: () => byId("file").click(),
+      share: () => this.share(),
+      help: () => byId("helpbox").showModal(),
+      ownfonts: () => this.useFonts(this.ownFonts),
     };
-    for (const [name, does] of Object.entries(clicks)) byId(name).addEventListener("click", () => this.guarded(does));
+    for (const what of SAVED) clicks[`save${what}`] = () => this.save(what);
+    for (const [name, does] of Object.entries(clicks)) {
+      byId(name).addEventListener("click", () => this.guarded(does));
+    }
+    this.makeChoices();
+    this.makeFiles();
+    document.addEventListener("keydown", event => this.pressed(event));
+    addEventListener("hashchange", () => this.follow());
+  }
+
+  makeChoices() {
     byId("examples").addEventListener("change", event => this.loadExample(event.target.value));
     byId("slider").addEventListener("input", event => this.go(Number(event.target.value)));
     byId("notice").lastElementChild.addEventListener("click", () => this.tell(""));
@@ -69,9 +93,6 @@ export class View {
       event.preventDefault();
       this.guarded(() => this.goTo(byId("gotokind").value, byId("gotonumber").value));
     });
-    this.makeFiles();
-    document.addEventListener("keydown", event => this.pressed(event));
-    addEventListener("hashchange", () => this.follow());
   }
 
   makeFiles() {
@@ -94,12 +115,12 @@ export class View {
 
   pressed(event) {
     if (event.altKey || event.metaKey || document.querySelector("dialog[open]")) return;
-    const inText = event.target === this.editor.area, isTyping = /^(INPUT|SELECT|TEXTAREA)$/.test(event.target.tagName) &&
-      !["checkbox", "button"].includes(event.target.type);
+    const { tagName, type } = event.target, inText = event.target === this.editor.area;
+    const isTyping = /^(INPUT|SELECT|TEXTAREA)$/.test(tagName) && !["checkbox", "button"].includes(type);
     if (inText && this.pressedInText(event)) return event.preventDefault();
     if (event.key === "Escape") return document.activeElement?.blur();
     const isFunction = /^F\d+$/.test(event.key);
-    if (event.ctrlKey || (isTyping && !isFunction) || (event.key.length > 1 && this.hasOwnKeys(event))) return;
+    if (event.ctrlKey || (isTyping && !isFunction) || this.hasOwnKeys(event)) return;
     const found = KEYS.find(([, , names]) => names.includes(keyName(event)));
     if (!found) return;
     event.preventDefault();
@@ -108,7 +129,8 @@ export class View {
 
   /** Whether the element of a key's event goes on by this key itself, as tabs and lists do by arrows. */
   hasOwnKeys(event) {
-    return event.target.getAttribute?.("role") === "tab" && event.key.startsWith("Arrow") ? this.nextTab(event) : false;
+    const isTab = event.target.getAttribute?.("role") === "tab" && event.key.startsWith("Arrow");
+    return isTab && this.nextTab(event);
   }
 
   nextTab(event) {
@@ -158,7 +180,8 @@ export class View {
     if (!(error instanceof WebAssembly.RuntimeError)) throw error;
     this.session = null;
     this.adapter = await Adapter.opened(this.module);
-    return this.tell(`The module has stopped (${error.message}). It is opened anew: change the script, and it runs again.`);
+    return this.tell(
+      `The module has stopped (${error.message}). It is opened anew: change the script, and it runs again.`);
   }
 
   /** Says something in the line above the page; an empty text takes the line away. */
@@ -193,7 +216,10 @@ export class View {
     if (TABS.includes(words.get("tab"))) this.tab = words.get("tab");
     await this.guarded(async () => {
       if (words.has("fonts")) this.fonts = await unpacked(words.get("fonts"));
-      if (words.has("script")) return this.load("your own script", new TextDecoder().decode(await unpacked(words.get("script"))), asked);
+      if (words.has("script")) {
+        const text = new TextDecoder().decode(await unpacked(words.get("script")));
+        return this.load("your own script", text, asked);
+      }
       const { examples } = this.data, named = name => examples.find(one => one.name === name);
       const example = named(words.get("example")) ?? (open ? null : named(FIRST_EXAMPLE) ?? examples[0]);
       if (example) return this.load(example.name, example.text, asked);
@@ -223,14 +249,16 @@ export class View {
     byId("about").textContent = "";
     byId("compared").textContent = "";
     clearTimeout(this.timer);
-    this.timer = setTimeout(() => this.guarded(() => this.begin()), this.editor.text.length > MUCH_TEXT ? TYPED_MUCH : TYPED);
+    const wait = this.editor.text.length > MUCH_TEXT ? TYPED_MUCH : TYPED;
+    this.timer = setTimeout(() => this.guarded(() => this.begin()), wait);
   }
 
   /** Runs the text, and shows what is asked for: so many steps, or as many as before, or all. */
   begin(asked = this.session && this.steps < this.session.length ? this.steps : Infinity) {
     clearTimeout(this.timer);
     byId("compared").textContent = "";
-    Object.assign(this, { search: null, coming: null, isHalted: false, asked, begun: performance.now(), shownAt: performance.now() });
+    Object.assign(this, { search: null, coming: null, isHalted: false, asked, begun: performance.now(),
+      shownAt: performance.now() });
     this.play(false);
     try {
       const { text } = this.editor, judged = judgedText(this.adapter, text);
@@ -285,12 +313,14 @@ export class View {
     if (this.search) this.searchOn();
     else if (this.coming !== null) this.comeOn();
     this.buttons();
-    return (!session.isDone && !this.isHalted) || this.search !== null || this.coming !== null || (session.isDone && !this.isCompared);
+    const isRunning = session.isDone ? !this.isCompared : !this.isHalted;
+    return isRunning || this.search !== null || this.coming !== null;
   }
 
   runOn() {
     const { session } = this;
-    if (session.runFor(SLICE_TIME)) this.say(`running: step ${grouped(session.ran)} of ${grouped(session.length)}`);
+    if (session.runFor(SLICE_TIME)) this.say(
+      `running: step ${grouped(session.ran)} of ${grouped(session.length)}`);
     byId("slider").max = session.ran;
     const now = performance.now(), isTime = now - this.shownAt > SHOWN_EVERY;
     if (session.isDone && this.asked !== null) this.come(Math.min(this.asked, session.length));
@@ -304,12 +334,12 @@ export class View {
   finish() {
     const { session } = this, why = session.whyNotCompared;
     this.isCompared = true;
-    this.say(`${session.summary()} · ${session.time < 10 ? session.time.toFixed(1) : grouped(Math.round(session.time))} ms`);
+    this.saySummary();
     const differs = why ? "" : session.compared(), box = byId("compared");
     box.className = differs ? "wrong" : why ? "" : "right";
-    if (why) box.textContent = `The answers of this run are not held to those of zak_run: it has ${why}.`;
-    else if (differs) box.textContent = `This run and one by zak_run are not the same: ${differs}. Please report it.`;
-    else box.textContent = `✓ All ${grouped(session.length)} answers of this run are those of zak_run, which takes the whole script at once.`;
+    box.textContent = why ? `The answers of this run are not held to those of zak_run: it has ${why}.`
+      : differs ? `This run and one by zak_run are not the same: ${differs}. Please report it.`
+      : `✓ All ${grouped(session.length)} answers are those of one run by zak_run, of the whole script.`;
     if (!session.length) this.come(0);
   }
 
@@ -333,7 +363,8 @@ export class View {
       if (this.isHalted) this.coming = session.ran;
       return;
     }
-    if (session.at === coming && this.seen?.session === session && this.seen.steps === coming) this.coming = null;
+    const isSeen = this.seen?.session === session && this.seen.steps === coming;
+    if (isSeen && session.at === coming) this.coming = null;
     else if (session.approach(Math.max(0, coming - 1), SLICE_TIME)) {
       this.coming = null;
       this.show({ ...session.seen(coming), session });
@@ -371,7 +402,8 @@ export class View {
   find(points, isBack, isInclusive = false) {
     const { session, steps } = this;
     if (!session) return;
-    if (!points.length) throw new Trouble("There are no breakpoints: click a line's number, or use the tab of breakpoints.");
+    if (!points.length) throw new Trouble(
+      "There are no breakpoints: click a line's number, or use their tab.");
     this.asked = null;
     this.coming = null;
     this.search = { search: new Search(session, points, steps, isBack, isInclusive), points, isBack };
@@ -390,13 +422,16 @@ export class View {
     const steps = found.steps ?? (isBack ? 0 : this.session.length);
     this.come(steps);
     if (found.ended) this.play(false);
-    const what = points.map(pointText).join(", ");
-    if (found.ended && points[0].kind !== "frame") this.tell(`No ${isBack ? "earlier" : "later"} step meets ${what.slice(0, MOST_WORDS)}.`);
+    const what = points.map(pointText).join(", ").slice(0, MOST_WORDS);
+    if (found.ended && points[0].kind !== "frame") this.tell(
+      `No ${isBack ? "earlier" : "later"} step meets ${what}.`);
     this.saySummary();
   }
 
   saySummary() {
-    if (this.session.isDone) this.say(this.session.summary());
+    const { isDone, time } = this.session;
+    if (isDone) this.say(
+      `${this.session.summary()} · ${time < 10 ? time.toFixed(1) : grouped(Math.round(time))} ms`);
   }
 
   /** Goes to the step that draws a dot of the picture. */
@@ -434,7 +469,8 @@ export class View {
 
   pointsChanged(points) {
     this.points = points;
-    this.editor.points = new Set(points.filter(point => point.kind === "line" && point.isOn).map(point => point.line));
+    const lines = points.filter(point => point.kind === "line" && point.isOn);
+    this.editor.points = new Set(lines.map(point => point.line));
     this.editor.draw();
     byId("tab6").textContent = points.length ? `breakpoints (${points.length})` : "breakpoints";
   }
@@ -459,9 +495,12 @@ export class View {
       byId("changes").textContent = "";
       return;
     }
-    const entry = outline.entryOf(steps - 1), words = outline.wordsOf(entry), answer = session.answers.get(steps - 1);
-    byId("laststep").replaceChildren(`After step ${grouped(steps)} of ${grouped(session.length)}, line ${grouped(outline.lineOf(entry))}: `,
-      element("code", {}, words.slice(0, MOST_WORDS)), " answers ", element("code", {}, answer.slice(0, MOST_WORDS)));
+    const entry = outline.entryOf(steps - 1), words = outline.wordsOf(entry);
+    const answer = session.answers.get(steps - 1),
+      code = text => element("code", {}, text.slice(0, MOST_WORDS));
+    const place =
+      `After step ${grouped(steps)} of ${grouped(session.length)}, line ${grouped(outline.lineOf(entry))}: `;
+    byId("laststep").replaceChildren(place, code(words), " answers ", code(answer));
     if (isRefusal(answer)) this.showRefusal(words, answer);
     const changes = changesOf(seen.before, seen.after);
     byId("changes").textContent = changes.length ? `Changed: ${changes.join("; ")}.` : "Nothing changed.";
@@ -469,7 +508,8 @@ export class View {
 
   showRefusal(words, answer) {
     const { text, link } = whyRefused(words, answer, this.seen.before), box = byId("refusal");
-    box.replaceChildren(element("strong", {}, answer), ` ${text} `, pageLink(this.data.pages, link.page, link.anchor, `See ${link.title}.`));
+    const more = pageLink(this.data.pages, link.page, link.anchor, `See ${link.title}.`);
+    box.replaceChildren(element("strong", {}, answer), ` ${text} `, more);
     box.hidden = false;
   }
 
@@ -482,17 +522,24 @@ export class View {
     });
     byId("panel").setAttribute("aria-labelledby", `tab${TABS.indexOf(tab) + 1}`);
     if (!this.seen) return;
-    const { pages } = this.data, makers = { registers: () => registerPanel(pages, this.seen), memory: () => this.memoryPanel.made(this.seen),
-      cells: () => cellPanel(this.seen), colours: () => colourPanel(this.seen), "BIOS data": () => biosPanel(pages, this.seen),
-      breakpoints: () => (this.pointPanel.box?.isConnected ? null : this.pointPanel.made()) };
+    const { pages } = this.data;
+    const makers = {
+      registers: () => registerPanel(pages, this.seen),
+      memory: () => this.memoryPanel.made(this.seen),
+      cells: () => cellPanel(this.seen),
+      colours: () => colourPanel(this.seen),
+      "BIOS data": () => biosPanel(pages, this.seen),
+      breakpoints: () => (this.pointPanel.box?.isConnected ? null : this.pointPanel.made()),
+    };
     const made = makers[tab]();
     if (made) byId("panel").replaceChildren(made);
   }
 
   buttons() {
     byId("run").textContent = this.isBusy && !this.isPlaying ? "stop ■" : "run ▶▶";
+    const isAtEnd = this.session.isDone && this.steps >= this.session.length;
     for (const name of ["first", "back", "framebefore", "runback"]) byId(name).disabled = this.steps === 0;
-    for (const name of ["next", "frameafter", "last"]) byId(name).disabled = this.steps >= this.session.length && this.session.isDone;
+    for (const name of ["next", "frameafter", "last"]) byId(name).disabled = isAtEnd;
   }
 
   // Links and files.
@@ -503,9 +550,10 @@ export class View {
     if (this.steps < (this.session?.length ?? 0)) words.set("step", this.steps);
     if (this.tab !== TABS[0]) words.set("tab", this.tab);
     if (this.fonts !== this.ownFonts) words.set("fonts", await packed(this.fonts));
-    const link = `${location.href.split("#")[0]}#${words}`, size = `It has ${counted(link.length, "character")}`;
-    byId("linksaid").textContent = link.length > MOST_LINK
-      ? `${size}, more than many programs take: save the script as a file instead.` : `${size}, and holds the whole script.`;
+    const link = `${location.href.split("#")[0]}#${words}`, isTooLong = link.length > MOST_LINK;
+    byId("linksaid").textContent = `It has ${counted(link.length, "character")}` +
+      (isTooLong ? ", more than many programs take: save the script as a file."
+        : ", and holds the whole script.");
     byId("link").value = link;
     byId("linkbox").showModal();
     byId("link").select();
@@ -514,8 +562,10 @@ export class View {
   async save(what) {
     byId("savemenu").open = false;
     const { session, name, seen } = this;
-    if (what === "text") return saveFile(`${name}.vga`, new TextEncoder().encode(this.editor.text), "text/plain");
-    if (!session || !seen || this.editor.isStale) throw new Trouble("There is no run to save from: mend the bad line first.");
+    if (what === "text") return saveFile(`${name}.vga`, new TextEncoder().encode(this.editor.text),
+      "text/plain");
+    if (!session || !seen || this.editor.isStale) throw new Trouble(
+      "There is no run to save: mend the bad line first.");
     if (what === "bytes") return saveFile(`${name}.bin`, session.script, "application/octet-stream");
     if (what === "report") return saveFile(`${name}.txt`, reportOf(session), "application/octet-stream");
     if (what === "png") return saveFile(`${name}-${this.steps}.png`, await pngOfSeen(seen), "image/png");

@@ -36,7 +36,8 @@ test("a link gives back its script", async () => {
 test("links that are damaged are told, and those that unpack without an end", async () => {
   await assert.rejects(unpacked("%%%"), /damaged/);
   await assert.rejects(unpacked("AAAA"), /damaged/);
-  await assert.rejects(unpacked(base64OfBytes(deflateRawSync(Buffer.alloc(1 << 25)))), /more than 16,777,216 bytes/);
+  await assert.rejects(unpacked(base64OfBytes(deflateRawSync(Buffer.alloc(1 << 25)))),
+    /more than 16,777,216 bytes/);
 });
 
 test("base64 of any length, and counts", () => {
@@ -45,7 +46,8 @@ test("base64 of any length, and counts", () => {
     assert.deepEqual(bytesOfBase64(base64OfBytes(bytes)), bytes);
     assert.equal(base64OfBytes(bytes), Buffer.from(bytes).toString("base64url"));
   }
-  assert.deepEqual([grouped(16777216), counted(1, "step"), counted(1000, "step")], ["16,777,216", "1 step", "1,000 steps"]);
+  assert.deepEqual([grouped(16777216), counted(1, "step"), counted(1000, "step")],
+    ["16,777,216", "1 step", "1,000 steps"]);
 });
 
 test("what a file is", async () => {
@@ -53,7 +55,8 @@ test("what a file is", async () => {
   assert.deepEqual(await contentsOf(bytesOf(text), adapter), { text });
   assert.deepEqual(await contentsOf(gzipSync(text), adapter), { text });
   assert.deepEqual(await contentsOf(FONTS, adapter), { fonts: FONTS });
-  assert.deepEqual(await contentsOf(bytes, adapter), { text: "int ax=0003 bx=0000 cx=0000 dx=0000\nframe\n" });
+  assert.deepEqual(await contentsOf(bytes, adapter),
+    { text: "int ax=0003 bx=0000 cx=0000 dx=0000\nframe\n" });
   const trace = readFileSync(TOP + "examples/typed-line.trace");
   assert.match((await contentsOf(trace, adapter)).text, /^out 3C2 67\nin 3CC ; = 67\n/);
 });
@@ -73,21 +76,26 @@ test("junk is told, and why", async () => {
 test("a trace is the text that vga-trace makes of it", () => {
   const text = readFileSync(TOP + "examples/typed-line.trace", "utf-8");
   const made = written(folder => execFileSync("tools/vga-trace",
-    ["convert", "examples/typed-line.trace", folder + "/out", "--text", "--no-repeat"], { cwd: TOP, stdio: "ignore" }));
+    ["convert", "examples/typed-line.trace", folder + "/out", "--text", "--no-repeat"],
+      { cwd: TOP, stdio: "ignore" }));
   assert.equal(traceForm(text), "plain");
   assert.equal(textOfTrace(text), made.toString());
 });
 
 test("a log of qemu is the text that vga-trace makes of it", () => {
   const event = (kind, address, value, size, region) =>
-    `7@1.000001:memory_region_ops_${kind} cpu 0 mr 0x55 addr 0x${address} value 0x${value} size ${size} name '${region}'`;
-  const log = [event("write", "3c2", "67", 1, "vga"), "other", event("read", "3cc", "67", 1, "vga"), event("read", "1", "2", 1, "ide"),
+    `7@1.000001:memory_region_ops_${kind} cpu 0 mr 0x55 ` +
+    `addr 0x${address} value 0x${value} size ${size} name '${region}'`;
+  const log = [event("write", "3c2", "67", 1, "vga"), "other", event("read", "3cc", "67", 1, "vga"),
+    event("read", "1", "2", 1, "ide"),
     event("write", "b8000", "41", 1, "vga-lowmem"), event("write", "b8001", "7", 1, "vga-lowmem"),
-    event("write", "a0000", "1122334455667788", 8, "vga-chain4"), event("read", "3da", "9", 1, "vga"), event("read", "b8003", "9", 1, "vga-lowmem"),
+    event("write", "a0000", "1122334455667788", 8, "vga-chain4"), event("read", "3da", "9", 1, "vga"),
+      event("read", "b8003", "9", 1, "vga-lowmem"),
     event("write", "1ce", "9", 2, "vbe"), "memory_region_ops_read cpu 0 mr"].join("\n") + "\n";
   const made = written(folder => {
     writeFileSync(folder + "/log", log);
-    execFileSync("tools/vga-trace", ["convert", folder + "/log", folder + "/out", "--text", "--no-repeat"], { cwd: TOP, stdio: "ignore" });
+    execFileSync("tools/vga-trace", ["convert", folder + "/log", folder + "/out", "--text", "--no-repeat"],
+      { cwd: TOP, stdio: "ignore" });
   });
   assert.equal(traceForm(log), "qemu");
   assert.equal(textOfTrace(log), made.toString());
@@ -112,7 +120,8 @@ test("a picture is saved as vga-report saves it, to the dot", async () => {
 function dotsOf(png) {
   const chunks = [], data = [];
   for (let at = 8; at < png.length;) {
-    const view = Buffer.from(png.buffer, png.byteOffset), length = view.readUInt32BE(at), name = view.toString("latin1", at + 4, at + 8);
+    const view = Buffer.from(png.buffer, png.byteOffset), length = view.readUInt32BE(at),
+      name = view.toString("latin1", at + 4, at + 8);
     const body = view.subarray(at + 8, at + 8 + length);
     if (name === "IDAT") data.push(body);
     else chunks.push([name, body.toString("hex"), view.toString("hex", at + 8 + length, at + 12 + length)]);
@@ -136,7 +145,8 @@ from vga_report.png import Shape
 animation = Animation(Shape())
 for seconds in (0.0142, 1.5):
     dots = bytes(11 * i % 64 for i in range(105))
-    animation.add(Picture.of_dots(7, 5, dots if seconds < 1 else bytes(63 - dot for dot in dots)), seconds, "x")
+    animation.add(Picture.of_dots(7, 5, dots if seconds < 1 else bytes(63 - dot for dot in dots)),
+      seconds, "x")
 animation.write(sys.stdout.buffer)`;
   const theirs = execFileSync("python3", ["-c", source], { cwd: TOP });
   assert.deepEqual(animated(apngOf(frames)), animated(theirs));
@@ -147,7 +157,8 @@ animation.write(sys.stdout.buffer)`;
 function animated(png) {
   const view = Buffer.from(png.buffer, png.byteOffset, png.length), chunks = [];
   for (let at = 8; at < view.length;) {
-    const length = view.readUInt32BE(at), name = view.toString("latin1", at + 4, at + 8), body = view.subarray(at + 8, at + 8 + length);
+    const length = view.readUInt32BE(at), name = view.toString("latin1", at + 4, at + 8),
+      body = view.subarray(at + 8, at + 8 + length);
     const dots = name === "IDAT" ? inflateSync(body) : name === "fdAT" ? inflateSync(body.subarray(4)) : body;
     chunks.push(name + dots.toString("hex"));
     at += length + 12;

@@ -1,4 +1,5 @@
-// What the tests stand on: the module, the fonts and the examples. The module is that of ZAKLIMOT_MODULE, a file of wasm,
+// What the tests stand on: the module, the fonts and the examples. The module is that of ZAKLIMOT_MODULE, a
+// file of wasm,
 // or else that of the page as built.
 import { gunzipSync } from "node:zlib";
 import { readFileSync, readdirSync } from "node:fs";
@@ -10,7 +11,8 @@ export const PAGE = process.env.ZAKLIMOT_PAGE ?? TOP + "page/zaklimot.html";
 
 /** The JSON object that the page as built has in it. */
 export function pageData(page = PAGE) {
-  const found = readFileSync(page, "utf-8").match(/<script type="application\/json" id="zaklimot-data">([^]*?)<\/script>/);
+  const found = readFileSync(page, "utf-8").match(
+    /<script type="application\/json" id="zaklimot-data">([^]*?)<\/script>/);
   return JSON.parse(found[1]);
 }
 

@@ -1,4 +1,5 @@
-// The page tells the same reasons of bad lines as tools/vga_report: those of a table that both tests read, and those of
+// The page tells the same reasons of bad lines as tools/vga_report: those of a table that both tests read,
+// and those of
 // lines at random, which Python is asked for.
 import assert from "node:assert/strict";
 import test from "node:test";
@@ -35,7 +36,8 @@ test("good lines have none", () => {
 
 test("texts that are wrong as a whole, and blocks", () => {
   for (const { hex, reason } of TABLE.texts) assert.equal(encodingTrouble(Buffer.from(hex, "hex")), reason);
-  for (const { text, number, reason } of TABLE.blocks) assert.equal(reasonOfLine(text, number).reason, reason);
+  for (const { text, number, reason } of TABLE.blocks) assert.equal(reasonOfLine(text, number)
+    .reason, reason);
 });
 
 test("scripts of bytes", () => {
@@ -57,11 +59,14 @@ test("the grammar is that of tools/vga_report", () => {
 from vga_report.grammar import *
 from vga_report.script import MOST_STEPS
 def numbers(table):
-    return {name: [[n.name, getattr(n, "digits", 0), n.least, n.most] for n in shape] for name, shape in table.items()}
-print(json.dumps([numbers(SHAPES), numbers(BLOCK_LINES), numbers(SHOWN), list(REGISTERS), list(READING), MOST_STEPS]))`);
+    return {name: [[n.name, getattr(n, "digits", 0), n.least, n.most] for n in shape] for name,
+      shape in table.items()}
+print(json.dumps([numbers(SHAPES), numbers(BLOCK_LINES), numbers(SHOWN), list(REGISTERS), list(READING),
+  MOST_STEPS]))`);
   const numbers = table => Object.fromEntries(Object.entries(table).map(([name, shape]) =>
     [name, shape.map(number => [number.name, number.digits, number.least, number.most])]));
-  assert.deepEqual([numbers(SHAPES), numbers(BLOCK_LINES), numbers(SHOWN), CALL_REGISTERS, READING, MOST_STEPS], told);
+  assert.deepEqual([numbers(SHAPES), numbers(BLOCK_LINES), numbers(SHOWN), CALL_REGISTERS, READING,
+    MOST_STEPS], told);
 });
 
 /** Lines at random, the same in each run: words of the table, changed here and there. */
@@ -72,9 +77,11 @@ function randomLines(count) {
     return Math.floor(seed / 2 ** 32 * most);
   };
   const pick = from => from[random(from.length)];
-  const words = [...new Set([...TABLE.lines.map(row => row.line), ...TABLE.good].flatMap(line => line.split(/ +/)))]
+  const words = [...new Set([...TABLE.lines.map(row => row.line), ...TABLE.good].flatMap(
+    line => line.split(/ +/)))]
     .filter(word => word !== "LONG");
-  const letters = [..."0123456789abcdefgxhOl=,:;.#$-+_'\"()[]\t\r /\\&", "\u00a0", "\u200b", "\u2028", "é", "\x85", "\x7f"];
+  const letters = [..."0123456789abcdefgxhOl=,:;.#$-+_'\"()[]\t\r /\\&", "\u00a0", "\u200b", "\u2028", "é",
+    "\x85", "\x7f"];
   return Array.from({ length: count }, () => {
     let line = Array.from({ length: 1 + random(5) }, () => pick(words)).join(" ");
     for (let changes = random(3); changes > 0; changes--) {
@@ -90,7 +97,8 @@ test("lines at random have the reason that Python tells", () => {
   const told = python(`
 from vga_report.mistakes import mistake_in
 found = [mistake_in(line) for line in json.load(sys.stdin)]
-print(json.dumps([None if mistake is None else [mistake.at, mistake.width, mistake.reason] for mistake in found]))`, lines);
+print(json.dumps([None if mistake is None else [mistake.at, mistake.width,
+  mistake.reason] for mistake in found]))`, lines);
   let bad = 0;
   for (const [i, line] of lines.entries()) {
     const found = mistakeIn(line);

@@ -13,12 +13,14 @@ const slugs = text => Array.from(text.matchAll(/^#+ (.*)$/gm), ([, heading]) =>
 /** The rows of the table in a section: lists of cells. */
 function rowsOf(section) {
   const text = page("REGISTERS.md").split(`\n## ${section}\n`)[1].split("\n## ")[0];
-  return text.split("\n").filter(line => line.startsWith("| ")).slice(1).map(line => line.slice(2, -2).split(" | "));
+  return text.split("\n").filter(line => line.startsWith("| ")).slice(1)
+    .map(line => line.slice(2, -2).split(" | "));
 }
 
 /** The numbers that a row begins with: "2 to 5 horizontal" are 2, 3, 4 and 5. */
 function numbersOf(label) {
-  const range = label.match(/^([0-9A-F]+) to ([0-9A-F]+) (.*)$/), several = label.match(/^((?:[0-9A-F]+, )*[0-9A-F]+) (.*)$/);
+  const range = label.match(/^([0-9A-F]+) to ([0-9A-F]+) (.*)$/),
+    several = label.match(/^((?:[0-9A-F]+, )*[0-9A-F]+) (.*)$/);
   if (!range) return { numbers: several[1].split(", ").map(one => parseInt(one, 16)), name: several[2] };
   const [from, to] = [range[1], range[2]].map(one => parseInt(one, 16));
   return { numbers: Array.from({ length: to - from + 1 }, (_, i) => from + i), name: range[3] };
@@ -45,7 +47,8 @@ for (const group of GROUPS.slice(1)) {
         assert.ok(register.name.startsWith(name), `${register.name} is ${name}`);
         assert.equal(register.kept, parseInt(kept, 16), label);
         assert.equal(maskOfAll(register.fields), register.kept, `fields of ${label}`);
-        assert.equal(maskOfAll(register.fields.filter(field => field.isStored)), storedBits(fields, register.kept), `stored of ${label}`);
+        assert.equal(maskOfAll(register.fields.filter(field => field.isStored)),
+          storedBits(fields, register.kept), `stored of ${label}`);
       }
     }
     assert.deepEqual(seen, group.registers.map((_, i) => i));
@@ -76,9 +79,11 @@ test("links lead to places that are there", () => {
 });
 
 test("links in the page's sources lead to places that are there", () => {
-  const sources = readdirSync(TOP + "page").filter(name => /\.(js|html)$/.test(name) && name !== "zaklimot.html")
+  const sources = readdirSync(TOP + "page").filter(name => /\.(js|html)$/.test(name) &&
+    name !== "zaklimot.html")
     .map(name => readFileSync(`${TOP}page/${name}`, "utf-8")).join("\n");
-  const links = [...sources.matchAll(/"([A-Z-]+\.md)", "([a-z0-9-]*)"/g), ...sources.matchAll(/\b([A-Z-]+\.md)#([a-z0-9-]+)/g)];
+  const links = [...sources.matchAll(/"([A-Z-]+\.md)", "([a-z0-9-]*)"/g),
+    ...sources.matchAll(/\b([A-Z-]+\.md)#([a-z0-9-]+)/g)];
   assert.ok(links.length > 3, `${links.length} links`);
   for (const [, name, anchor] of links) assert.ok(slugs(page(name)).includes(anchor), `${name}#${anchor}`);
 });

@@ -39,7 +39,8 @@ test("an answer that differs from that of zak_run is found, and a picture too", 
 });
 
 test("a step's state is the same by whichever way one comes there", () => {
-  const text = "version 2\nint ax=3\nrepeat 300\nint ax=E41\nout 3C8 1\nadvance 12345\nframe\nin 3DA\nend\nint ax=13\nadvance 99";
+  const text = "version 2\nint ax=3\nrepeat 300\nint ax=E41\nout 3C8 1\nadvance 12345\n" +
+    "frame\nin 3DA\nend\nint ax=13\nadvance 99";
   const session = sessionOf(text), { length } = session;
   assert.equal(length, 1503);
   assert.ok(session.kept.length > 3);
@@ -67,7 +68,8 @@ test("what is seen of a step leaves the card after it", () => {
 
 test("long scripts: any step of three million within 50 milliseconds, back as quick as forward", () => {
   const shapes = {
-    "in blocks": "version 2\nint ax=13\n" + "repeat 60000\nput A0001 12\nget A0002\nout 3C8 3\nput A1234 77\nin 3DA\nend\n".repeat(10),
+    "in blocks": "version 2\nint ax=13\n" +
+      "repeat 60000\nput A0001 12\nget A0002\nout 3C8 3\nput A1234 77\nin 3DA\nend\n".repeat(10),
     "in lines": "int ax=13\n" + "get A0001\nin 3CC\nput A0000 1\n".repeat(400000),
   };
   for (const [shape, text] of Object.entries(shapes)) {
@@ -83,7 +85,8 @@ test("long scripts: any step of three million within 50 milliseconds, back as qu
       }
     }
     times.sort((a, b) => a - b);
-    console.log(`${shape}: ${session.length} steps in ${session.time.toFixed(0)} ms; to a step ${times.at(-1).toFixed(1)} ms at most`);
+    const most = times.at(-1).toFixed(1), run = session.time.toFixed(0);
+    console.log(`${shape}: ${session.length} steps in ${run} ms; to a step ${most} ms at most`);
     assert.ok(times[Math.floor(times.length * 0.8)] < 50, `${shape}: ${times.map(time => time.toFixed(1))}`);
     session.close();
   }
@@ -100,7 +103,8 @@ test("bad lines are told with their line and reason", () => {
 });
 
 test("a step belongs to its line, in blocks each time", () => {
-  const { outline } = judgedText(adapter, "version 2 ; x\n\nint ax=3 ; = *\nrepeat 3\n; c\nframe\n IN 3da ;= 5\nend\nrepeat 2\nend\nget 0");
+  const { outline } = judgedText(adapter,
+    "version 2 ; x\n\nint ax=3 ; = *\nrepeat 3\n; c\nframe\n IN 3da ;= 5\nend\nrepeat 2\nend\nget 0");
   assert.equal(outline.length, 8);
   const lines = Array.from({ length: 8 }, (_, step) => outline.lineOf(outline.entryOf(step)));
   assert.deepEqual(lines, [3, 6, 7, 6, 7, 6, 7, 11]);

@@ -2,7 +2,9 @@
 import assert from "node:assert/strict";
 import test from "node:test";
 import { Session } from "../session.js";
-import { State, characterWidth, dacEntry, fetchAddress, frameShape, shownBytes, windowShape } from "../state.js";
+import { statusOne } from "../registerpanel.js";
+import { State, characterWidth, dacEntry, fetchAddress, frameShape, shownBytes,
+  windowShape } from "../state.js";
 import { FONTS, examples, loadAdapter, runWhole } from "./loading.mjs";
 
 const adapter = await loadAdapter();
@@ -15,8 +17,10 @@ function structOf(card, call, size, ...more) {
 }
 
 function registersOf(card) {
-  const bytes = structOf(card, "zak_read_registers", 73), part = (from, count) => bytes.slice(from, from + count);
-  return { misc: bytes[0], seqIndex: bytes[1], seq: part(2, 5), crtcIndex: bytes[7], crtc: part(8, 25), gfxIndex: bytes[33],
+  const bytes = structOf(card, "zak_read_registers", 73), part = (from, count) =>
+    bytes.slice(from, from + count);
+  return { misc: bytes[0], seqIndex: bytes[1], seq: part(2, 5), crtcIndex: bytes[7], crtc: part(8, 25),
+    gfxIndex: bytes[33],
     gfx: part(34, 9), attrIndex: bytes[43], attrIsData: bytes[44], attr: part(45, 21), dacIndex: bytes[66],
     dacComponent: bytes[67], dacMask: bytes[68], dacRed: bytes[69], dacGreen: bytes[70] };
 }
@@ -28,12 +32,15 @@ function assertState(card) {
     assert.deepEqual(state.colour(index), [...structOf(card, "zak_read_colour", 3, index)]);
   }
   assert.deepEqual(state.latches, structOf(card, "zak_read_latches", 4));
-  const beam = new DataView(structOf(card, "zak_read_beam", 16).buffer), word = at => beam.getUint16(at, true);
-  assert.deepEqual(state.beam, { line: word(0), character: word(2), dot: word(4), base: word(6), scan: word(8),
+  const beam = new DataView(structOf(card, "zak_read_beam", 16).buffer),
+    word = at => beam.getUint16(at, true);
+  assert.deepEqual(state.beam, { line: word(0), character: word(2), dot: word(4), base: word(6),
+    scan: word(8),
     frame: beam.getUint8(12), half: beam.getUint8(13), split: beam.getUint8(14) });
   const bda = new DataView(structOf(card, "zak_read_bda", 32).buffer), data = at => bda.getUint16(at, true);
   assert.deepEqual(state.bda, { columns: data(0), size: data(2), start: data(4),
-    places: [0, 1, 2, 3, 4, 5, 6, 7].map(page => data(6 + 2 * page)), type: data(22), crtc: data(24), height: data(26),
+    places: [0, 1, 2, 3, 4, 5, 6, 7].map(page => data(6 + 2 * page)), type: data(22), crtc: data(24),
+      height: data(26),
     mode: bda.getUint8(28), page: bda.getUint8(29), lastRow: bda.getUint8(30) });
   for (let plane = 0; plane < 4; plane++) {
     const room = adapter.room("plane", 65536);
@@ -62,7 +69,8 @@ test("dots drawn so far are those of the state", () => {
   session.close();
 });
 
-const SHAPES = { 3: [720, 400, 900, 449], 7: [720, 400, 900, 449], 13: [320, 400, 400, 449], 16: [640, 350, 800, 449],
+const SHAPES = { 3: [720, 400, 900, 449], 7: [720, 400, 900, 449], 13: [320, 400, 400, 449],
+  16: [640, 350, 800, 449],
   18: [640, 480, 800, 525], 19: [640, 400, 800, 449] };
 for (const [mode, [width, height, dots, lines]] of Object.entries(SHAPES)) {
   test(`the window of mode ${Number(mode).toString(16)}`, () => {
@@ -102,23 +110,46 @@ for (const mode of ["3", "D", "12", "13"]) {
 }
 
 test("the entry of the DAC that a dot's four bits pick is that of the picture", () => {
-  const text = "int ax=12\n" + Array.from({ length: 16 }, (_, i) => `int ax=${(0x0c00 + i).toString(16)} cx=${i.toString(16)}\n`).join("");
-  for (const more of ["", "out 3C6 2F\n", "int ax=1000 bx=1105\n", "in 3DA\nout 3C0 34\nout 3C0 3\nout 3C0 30\nout 3C0 81\n",
+  const text = "int ax=12\n" + Array.from({ length: 16 },
+    (_, i) => `int ax=${(0x0c00 + i).toString(16)} cx=${i.toString(16)}\n`).join("");
+  for (const more of ["", "out 3C6 2F\n", "int ax=1000 bx=1105\n",
+    "in 3DA\nout 3C0 34\nout 3C0 3\nout 3C0 30\nout 3C0 81\n",
     "in 3DA\nout 3C0 32\nout 3C0 7\n"]) {
     const session = runWhole(new Session(adapter, FONTS, text + more + "frame"));
     session.approach(session.length - 1);
     const state = session.state(), { rgb } = session.card.frameLines();
     for (let four = 0; four < 16; four++) {
-      assert.deepEqual([...rgb.slice(3 * four, 3 * four + 3)], state.colour(dacEntry(state.registers, four)), `${more} ${four}`);
+      assert.deepEqual([...rgb.slice(3 * four, 3 * four + 3)], state.colour(dacEntry(state.registers, four)),
+        `${more} ${four}`);
     }
     session.close();
   }
 });
 
 test("fetch addresses of words go round at 65,536", () => {
-  const registers = (underline, mode) => ({ crtc: Uint8Array.from({ length: 25 }, (_, i) => (i === 20 ? underline : i === 23 ? mode : 0)) });
+  const registers = (underline, mode) => ({ crtc: Uint8Array.from({ length: 25 },
+    (_, i) => (i === 20 ? underline : i === 23 ? mode : 0)) });
   assert.equal(fetchAddress(registers(0, 0xe3), 0x1234), 0x1234);
   assert.equal(fetchAddress(registers(0, 0xa3), 0x8001), 3);
   assert.equal(fetchAddress(registers(0, 0x83), 0x2001), 0x4003);
   assert.equal(fetchAddress(registers(64, 0xa3), 0x4001), 4);
+});
+
+test("input status 1 is what would be read", () => {
+  const changed = "outw 3D4 0111\noutw 3D4 0210\noutw 3D4 0007\n";
+  for (const [mode, change] of ["3", "7", "D", "12", "13"].flatMap(one => [[one, ""], [one, changed]])) {
+    const port = mode === "7" ? "3BA" : "3DA", steps = `in ${port}\nadvance 2777\n`;
+    const text = `version 2\nint ax=${mode}\n${mode === "7" ? "" : change}repeat 170\n${steps}end\n`;
+    const session = runWhole(new Session(adapter, FONTS, text)), { outline } = session;
+    let count = 0;
+    for (let step = 1; step < session.length; step++) {
+      if (outline.nameOf(outline.entryOf(step)) !== "in") continue;
+      session.approach(step);
+      assert.equal(statusOne(session.state()).slice(0, 2), session.answers.get(step),
+        `mode ${mode}, step ${step}`);
+      count++;
+    }
+    assert.equal(count, 170);
+    session.close();
+  }
 });
