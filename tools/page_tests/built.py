@@ -75,7 +75,7 @@ def check_built(module: bytes, page: bytes) -> tuple[str, bool]:
         raise Wrong(f"{NAME} has other data than the repository: {', '.join(others or parts)}; {ANEW}")
     told = f"{NAME} is the page that its sources make, {len(page):,} bytes"
     if own == module:
-        return told, True
+        return f"{told}; its module is the one that the crate makes", True
     if kit_of(own) == kit_of(module):
         raise Wrong(f"the module in {NAME} is not the one that the crate makes: {ANEW}")
     return f"{told}, around a module of another kit, {kit_of(own)}: the suite judges that", False
