@@ -60,7 +60,7 @@ def _parser() -> argparse.ArgumentParser:
 
 
 def _made(words: argparse.Namespace, progress: Progress, times: int) -> tuple[list[bytes], Optional[bytes]]:
-    """The module that is tested, made so many times of one proof, and one of fixed memory; or the given one."""
+    """The module that is tested, made so many times, and one of fixed memory; or the one that is given."""
     if words.module is not None:
         return [read_at_most(words.module, MOST_MODULE)], None
     try:
@@ -79,7 +79,7 @@ def check_modules(modules: Sequence[bytes]) -> str:
 
 
 def _times(page: Optional[bytes], wanted: Sequence[str]) -> int:
-    """How many modules are made: one alone where that is held to the page's, which this kit made in another run."""
+    """How many modules are made: one where it is held to the page's, which this kit made in another run."""
     return 1 if PAGE in wanted and page is not None and kit_of(module_in(page)) == kit_line() else 2
 
 
