@@ -12,6 +12,18 @@ export function differingBytes(before, after) {
   return found;
 }
 
+/** What was found of the changed bytes of planes, by the state after the step. */
+const CHANGED_PLANES = new WeakMap();
+
+/** Of each plane, the numbers of the bytes in which two states differ. */
+export function changedPlanes(before, after) {
+  const known = CHANGED_PLANES.get(after);
+  if (known?.before === before) return known.found;
+  const found = [0, 1, 2, 3].map(plane => differingBytes(before.plane(plane), after.plane(plane)));
+  CHANGED_PLANES.set(after, { before, found });
+  return found;
+}
+
 /** The entries of the DAC in which two states differ. */
 export function differingColours(before, after) {
   return Array.from({ length: 256 }, (_, index) => index)
@@ -38,9 +50,9 @@ function changedPointers(before, after) {
 }
 
 function changedMemory(before, after) {
-  return [0, 1, 2, 3].flatMap(plane => {
-    const [old, now] = [before.plane(plane), after.plane(plane)], found = differingBytes(old, now);
+  return changedPlanes(before, after).flatMap((found, plane) => {
     if (!found.length) return [];
+    const [old, now] = [before.plane(plane), after.plane(plane)];
     const [first] = found, last = found.at(-1);
     if (first === last) return [
       `plane ${plane} ${hex(first, 4)}: ${hex(old[first], 2)} → ${hex(now[first], 2)}`];

@@ -14,30 +14,51 @@ function swatchOf(state, entry, text, title) {
   return made;
 }
 
-/** The panel of colours. */
-export function colourPanel({ before, after }) {
-  const { registers } = after, changed = new Set(differingColours(before, after)),
-    told = element("output", { className: "told" });
-  const palette = Array.from({ length: 16 }, (_, four) => dacEntry(registers, four));
-  const own = palette.map((entry, four) => {
-    const made = swatchOf(after, entry, hex(four, 1),
-      `palette ${hex(four, 1)} is ${hex(registers.attr[four], 2)}, entry ${hex(entry, 2)} of the DAC`);
-    made.classList.toggle("changed", before.registers.attr[four] !== registers.attr[four] ||
-      changed.has(entry));
-    return element("span", { className: "pair" }, made, element("small", {}, hex(entry, 2)));
-  });
-  const entries = Array.from({ length: 256 }, (_, entry) => {
-    const made = swatchOf(after, entry, hex(entry, 2), `DAC entry ${hex(entry, 2)}`);
-    made.classList.toggle("changed", changed.has(entry));
-    made.classList.toggle("picked", entry === registers.dacIndex);
-    return made;
-  });
-  const tell = event => { told.textContent = event.target.dataset?.told ?? ""; };
-  const made = element("div", { className: "colours", onpointerover: tell, onfocusin: tell },
-    element("h3", {}, "Palette: four bits of a dot, and the entry of the DAC that they pick"),
-      element("div", { className: "palette" }, ...own),
-    element("h3", {}, `DAC: 256 entries, mask ${hex(registers.dacMask, 2)}; a frame stands round the index`),
-    element("div", { className: "dac" }, ...entries), told);
-  made.addEventListener("focusin", tell);
-  return made;
+/** The panel of colours. Swatches that stay as they are stay in the page. */
+export class ColourPanel {
+  constructor() {
+    const told = element("output", { className: "told" }),
+      title = "Palette: four bits of a dot, and their entry of the DAC";
+    const tell = event => { told.textContent = event.target.dataset?.told ?? ""; };
+    const boxOf = (className, count) =>
+      element("div", { className }, ...Array.from({ length: count }, () => element("span")));
+    Object.assign(this, { keys: new Map(), title: element("h3"), palette: boxOf("palette", 16),
+      dac: boxOf("dac", 256) });
+    this.root = element("div", { className: "colours" }, element("h3", {}, title), this.palette, this.title,
+      this.dac, told);
+    for (const event of ["pointerover", "focusin"]) this.root.addEventListener(event, tell);
+  }
+
+  made({ before, after }) {
+    const { registers } = after, changed = new Set(differingColours(before, after));
+    this.title.textContent =
+      `DAC: 256 entries, mask ${hex(registers.dacMask, 2)}; a frame stands round the index`;
+    for (let four = 0; four < 16; four++) this.fillPalette(before, after, four, changed);
+    for (let entry = 0; entry < 256; entry++) {
+      const make = () => swatchOf(after, entry, hex(entry, 2), `DAC entry ${hex(entry, 2)}`);
+      const isPicked = entry === registers.dacIndex;
+      this.fill(this.dac, entry, after.colour(entry), changed.has(entry), isPicked, make);
+    }
+    return this.root;
+  }
+
+  fillPalette(before, after, four, changed) {
+    const { registers } = after, entry = dacEntry(registers, four), own = registers.attr[four];
+    const isChanged = before.registers.attr[four] !== own || changed.has(entry);
+    const title = `palette ${hex(four, 1)} is ${hex(own, 2)}, entry ${hex(entry, 2)} of the DAC`;
+    const make = () => element("span", { className: "pair" }, swatchOf(after, entry, hex(four, 1), title),
+      element("small", {}, hex(entry, 2)));
+    this.fill(this.palette, four, [own, entry, ...after.colour(entry)], isChanged, false, make);
+  }
+
+  /** Makes a swatch anew where what it shows is not what it showed. */
+  fill(box, i, shown, isChanged, isPicked, make) {
+    const key = [...shown, isChanged, isPicked].join(" "), name = `${box.className} ${i}`;
+    if (this.keys.get(name) === key) return;
+    this.keys.set(name, key);
+    const made = make(), swatch = made.querySelector("button") ?? made;
+    swatch.classList.toggle("changed", isChanged);
+    swatch.classList.toggle("picked", isPicked);
+    box.children[i].replaceWith(made);
+  }
 }

@@ -1,4 +1,5 @@
 // The text, with line numbers, breakpoints and marks at its left, and the answers of its steps at its right.
+import { Scroller } from "./scroller.js";
 import { byId, element, rowsInSight } from "./dom.js";
 import { grouped } from "./bytes.js";
 import { isPlainAnswer, isRefusal, shortAnswer } from "./expecting.js";
@@ -22,10 +23,7 @@ export class Editor {
       this.draw();
       heard.changed(this.area.value);
     });
-    for (const box of [this.area, this.long]) {
-      box.addEventListener("scroll", () => this.draw());
-      new ResizeObserver(() => this.draw()).observe(box);
-    }
+    this.boxes = [this.area, this.long].map(box => new Scroller(box, () => this.draw()));
     this.gutter.addEventListener("click", event => {
       const line = Number(event.target.closest("button")?.dataset.line);
       if (line) heard.pointed(line);
@@ -52,7 +50,7 @@ export class Editor {
     this.area.hidden = this.isLong;
     this.long.hidden = !this.isLong;
     this.count = this.isLong ? this.starts.length : this.area.value.split("\n").length;
-    if (this.isLong) this.rows.style.height = Math.min(HIGHEST_TEXT, TOP + ROW * (this.count + 1)) + "px";
+    if (this.isLong) this.rows.style.height = this.height + "px";
     Object.assign(this, { mark: 0, bad: null });
     this.scrollTo(0);
   }
@@ -65,21 +63,27 @@ export class Editor {
   }
 
   get box() {
-    return this.isLong ? this.long : this.area;
+    return this.boxes[this.isLong ? 1 : 0];
+  }
+
+  /** How high the text is, as far as the browser shows it. */
+  get height() {
+    const high = 2 * TOP + ROW * this.count;
+    return this.isLong ? Math.min(HIGHEST_TEXT, high) : high;
   }
 
   /** How much a pixel of the scroll bar is, in pixels of lines. */
   get scale() {
-    const { long } = this, seen = long.clientHeight;
-    return this.isLong ? Math.max(1, (ROW * this.count - seen) / Math.max(1, long.scrollHeight - seen)) : 1;
+    const seen = this.box.height;
+    return this.isLong ? Math.max(1, (ROW * this.count - seen) / Math.max(1, this.height - seen)) : 1;
   }
 
   get scrolled() {
-    return this.box.scrollTop * this.scale;
+    return this.box.top * this.scale;
   }
 
   scrollTo(top) {
-    this.box.scrollTop = top / this.scale;
+    this.box.scrollTo(top / this.scale, this.height);
   }
 
   /** A line as it stands, with its number from 1. */
@@ -100,7 +104,7 @@ export class Editor {
 
   /** Scrolls to a line that is not in sight. */
   reveal(line) {
-    const top = TOP + ROW * (line - 1), height = this.box.clientHeight, { scrolled } = this;
+    const top = TOP + ROW * (line - 1), { scrolled, box: { height } } = this;
     if (line && (top < scrolled || top > scrolled + height - 2 * ROW)) this.scrollTo(top - height / 2);
   }
 
@@ -112,8 +116,7 @@ export class Editor {
   }
 
   draw() {
-    const { box, scrolled } = this, { first, last } = rowsInSight(scrolled, box.clientHeight, ROW,
-      this.count);
+    const { box, scrolled } = this, { first, last } = rowsInSight(scrolled, box.height, ROW, this.count);
     const lines = Array.from({ length: Math.max(0, last - first) }, (_, i) => first + i + 1);
     const place = (made, line, from = 0) => {
       made.style.top = TOP + ROW * (line - 1) - scrolled + from + "px";
@@ -123,7 +126,7 @@ export class Editor {
     this.told.replaceChildren(...lines.map(line => [line, this.answer(line)]).filter(([, made]) => made)
       .map(([line, made]) => place(made, line)));
     if (this.isLong) this.rows.replaceChildren(
-      ...lines.map(line => place(this.longLine(line), line, box.scrollTop)));
+      ...lines.map(line => place(this.longLine(line), line, box.top)));
     const marked = this.bad?.line ?? this.mark, ribbon = byId("mark");
     ribbon.hidden = !marked || this.isLong;
     ribbon.classList.toggle("bad", this.bad !== null);
@@ -188,7 +191,7 @@ export class Editor {
       : at + 1), 0);
     const at = columns(line.slice(0, bad.at ?? 0)), width = Math.max(1, Math.min(bad.width ?? 1, 60));
     why.style.top = TOP + ROW * bad.line - 3 - this.scrolled + "px";
-    why.style.left = `calc(${Math.min(at, 60)}ch + 6px - ${box.scrollLeft}px)`;
+    why.style.left = `calc(${Math.min(at, 60)}ch + 6px - ${box.left}px)`;
     why.firstElementChild.style.width = `${width}ch`;
     why.lastElementChild.textContent = bad.message;
   }

@@ -22,18 +22,13 @@ function watchable() {
 /** The panel of breakpoints. `heard` has `changed(points)`. */
 export class PointPanel {
   constructor(heard) {
-    Object.assign(this, { heard, points: [], kind: "port" });
-  }
-
-  made() {
-    this.box = element("div", { className: "points" });
+    Object.assign(this, { heard, points: [], kind: "port", box: element("div", { className: "points" }) });
     this.fill();
-    return this.box;
   }
 
   change(points) {
     this.points = points;
-    if (this.box) this.fill();
+    this.fill();
     this.heard.changed(points);
   }
 
@@ -63,6 +58,7 @@ export class PointPanel {
     const kinds = selectOf("what to stop at", POINT_KINDS, { id: "pointkind", onchange: event => {
       this.kind = event.target.value;
       this.fill();
+      this.box.querySelector("#pointkind").focus();
     } });
     kinds.value = this.kind;
     const why = element("span", { className: "wrong", role: "alert" });

@@ -45,21 +45,22 @@ function registerRow(base, group, i, value, before, isPicked) {
   return made;
 }
 
-function groupTable(base, group, now, old) {
-  const [values, before] = [now, old].map(registers => valuesOf(registers, group.id));
-  const index = { seq: now.seqIndex, gfx: now.gfxIndex, crtc: now.crtcIndex,
-    attr: now.attrIndex & 31 }[group.id];
-  const port = indexPort(now, group), parts = [];
-  if (port) parts.push(`${hex(port, 3)}, index ${hex(group.id === "attr" ? now.attrIndex : index, 2)}`);
+/** The index that picks a register of a group; -1 where none does. */
+function pickedIndex(group, registers) {
+  const { seqIndex, gfxIndex, crtcIndex, attrIndex } = registers;
+  return { seq: seqIndex, gfx: gfxIndex, crtc: crtcIndex, attr: attrIndex & 31 }[group.id] ?? -1;
+}
+
+/** What stands behind a group's title. */
+function groupNote(group, registers) {
+  const port = indexPort(registers, group), parts = [];
+  const index = group.id === "attr" ? registers.attrIndex : pickedIndex(group, registers);
+  if (port) parts.push(`${hex(port, 3)}, index ${hex(index, 2)}`);
   if (group.id === "attr") {
-    parts.push(`next is ${now.attrIsData ? "data" : "an index"}`,
-      `palette ${now.attrIndex & 32 ? "shown" : "hidden"}`);
+    parts.push(`next is ${registers.attrIsData ? "data" : "an index"}`);
+    parts.push(`palette ${registers.attrIndex & 32 ? "shown" : "hidden"}`);
   }
-  const caption = element("caption", {}, group.title,
-    element("small", {}, parts.length ? ` ${parts.join(", ")}` : ""));
-  return element("table", { className: `group ${group.id}` }, caption,
-    element("tbody", {}, ...Array.from(values, (value, i) => registerRow(base, group, i, value, before[i],
-      i === index))));
+  return parts.length ? ` ${parts.join(", ")}` : "";
 }
 
 /** A table of names and values; each row is [name, value, the value before]. */
@@ -107,10 +108,38 @@ export function statusOne({ registers, beam }) {
     ? ": a display dot" : ": no display dot");
 }
 
-/** The panel of registers. */
-export function registerPanel(base, { before, after }) {
-  const [old, now] = [before.registers, after.registers];
-  const groups = GROUPS.map(group => groupTable(base, group, now, old));
-  const more = plainTable("Latches, beam and DAC", rowsOfStates(before, after, otherRows));
-  return element("div", { className: "groups" }, ...groups, more);
+/** The panel of registers. Rows that stay as they are stay in the page. */
+export class RegisterPanel {
+  constructor(base) {
+    Object.assign(this, { base, keys: new Map(), more: element("div") });
+    this.groups = GROUPS.map(group => {
+      const note = element("small"), rows = group.registers.map(() => element("tr"));
+      const caption = element("caption", {}, group.title, note), body = element("tbody", {}, ...rows);
+      return { group, note, rows, table: element("table", { className: `group ${group.id}` },
+        caption, body) };
+    });
+    this.root = element("div", { className: "groups" }, ...this.groups.map(one => one.table), this.more);
+  }
+
+  made({ before, after }) {
+    const [old, now] = [before.registers, after.registers];
+    for (const one of this.groups) this.fill(one, now, old);
+    const rows = rowsOfStates(before, after, otherRows);
+    this.more.replaceChildren(plainTable("Latches, beam and DAC", rows));
+    return this.root;
+  }
+
+  fill({ group, note, rows }, now, old) {
+    const [values, before] = [now, old].map(registers => valuesOf(registers, group.id));
+    const picked = pickedIndex(group, now);
+    note.textContent = groupNote(group, now);
+    for (let i = 0; i < rows.length; i++) {
+      const key = `${values[i]} ${before[i]} ${i === picked}`, name = `${group.id} ${i}`;
+      if (this.keys.get(name) === key) continue;
+      this.keys.set(name, key);
+      const made = registerRow(this.base, group, i, values[i], before[i], i === picked);
+      rows[i].replaceWith(made);
+      rows[i] = made;
+    }
+  }
 }

@@ -3,6 +3,7 @@
 import { byId, cssColour, element } from "./dom.js";
 import { characterWidth, displayedLines, fetchAddress } from "./state.js";
 import { hex } from "./bytes.js";
+import { widened } from "./png.js";
 
 const DARK = 0.32, GLASS_DOTS = 15, GLASS_SCALE = 10;
 
@@ -24,9 +25,16 @@ function linesOf(picture) {
   return { rows, width: widest, height: Math.max(1, rows.length) };
 }
 
-/** Eight bits of six, darker where a dot is not drawn yet. */
-const LIGHT = Uint8Array.from({ length: 64 }, (_, six) => six << 2 | six >> 4);
-const DIMMED = LIGHT.map(eight => Math.round(eight * DARK));
+/** The words of colours of six bits, shifted to their place, and the same of dots that are not drawn yet. */
+const wordsOf = share => [0, 8, 16].map(shift =>
+  Uint32Array.from({ length: 64 }, (_, six) => Math.round(widened(six) * share) << shift));
+const LIGHT = wordsOf(1), DIMMED = wordsOf(DARK);
+
+function paintDots(words, to, rgb, from, count, [reds, greens, blues]) {
+  for (let at = 0; at < count; at++, from += 3) {
+    words[to + at] = 0xff000000 | blues[rgb[from + 2]] | greens[rgb[from + 1]] | reds[rgb[from]];
+  }
+}
 
 /** The picture on its stage. `heard` has `clicked(line, dot)`. */
 export class Screen {
@@ -45,7 +53,11 @@ export class Screen {
       const found = this.dotAt(isNear ? this.pointer : event);
       if (found) heard.clicked(found.row.line, found.x);
     });
-    new ResizeObserver(() => this.shape()).observe(this.stage);
+    this.room = { width: 0, height: 0 };
+    new ResizeObserver(([{ contentRect: { width, height } }]) => {
+      this.room = { width, height };
+      this.shape();
+    }).observe(this.stage);
   }
 
   show(seen) {
@@ -68,15 +80,12 @@ export class Screen {
   }
 
   image({ rows, width, height }) {
-    const image = new ImageData(width, height), words = new Uint32Array(image.data.buffer),
-      { rgb } = this.seen.picture;
+    const image = new ImageData(width, height), words = new Uint32Array(image.data.buffer);
+    const { rgb } = this.seen.picture, { isSoFar } = this;
     rows.forEach((row, y) => {
-      let from = row.from;
-      for (let x = 0; x < row.width; x++, from += 3) {
-        const table = this.isSoFar && x >= row.drawn ? DIMMED : LIGHT;
-        words[y * width + x] = 0xff000000 | table[rgb[from + 2]] << 16 | table[
-          rgb[from + 1]] << 8 | table[rgb[from]];
-      }
+      const light = isSoFar ? Math.min(row.drawn, row.width) : row.width;
+      paintDots(words, y * width, rgb, row.from, light, LIGHT);
+      paintDots(words, y * width + light, rgb, row.from + 3 * light, row.width - light, DIMMED);
     });
     return image;
   }
@@ -90,8 +99,8 @@ export class Screen {
 
   /** How large the picture stands on its stage: as a monitor of 4:3 shows it, or with square dots. */
   shape() {
-    const { canvas, stage } = this, ratio = byId("aspect").checked ? 4 / 3 : canvas.width / canvas.height;
-    const width = Math.min(stage.clientWidth, stage.clientHeight * ratio), frame = byId("frame");
+    const { canvas, room } = this, ratio = byId("aspect").checked ? 4 / 3 : canvas.width / canvas.height;
+    const width = Math.min(room.width, room.height * ratio), frame = byId("frame");
     frame.style.width = Math.floor(width) + "px";
     frame.style.height = Math.floor(width / ratio) + "px";
   }

@@ -15,10 +15,10 @@ import { biosPanel } from "./biospanel.js";
 import { byId, element, pageLink } from "./dom.js";
 import { cellPanel } from "./cellpanel.js";
 import { changesOf } from "./changes.js";
-import { colourPanel } from "./colourpanel.js";
+import { ColourPanel } from "./colourpanel.js";
 import { contentsOf, packed, printedText, unpacked } from "./share.js";
 import { isRefusal } from "./expecting.js";
-import { registerPanel } from "./registerpanel.js";
+import { RegisterPanel } from "./registerpanel.js";
 import { whyRefused } from "./refusals.js";
 
 const SLICE_TIME = 14, SHOWN_EVERY = 250, TYPED = 250, TYPED_MUCH = 1000, MUCH_TEXT = 100000;
@@ -41,6 +41,8 @@ export class View {
     this.listing = new Listing(steps => this.go(steps));
     this.screen = new Screen({ clicked: (line, dot) => this.toDot(line, dot) });
     this.memoryPanel = new MemoryPanel();
+    this.registerPanel = new RegisterPanel(data.pages);
+    this.colourPanel = new ColourPanel();
     this.pointPanel = new PointPanel({ changed: points => this.pointsChanged(points) });
     this.channel = new MessageChannel();
     this.channel.port1.onmessage = () => this.turn();
@@ -524,15 +526,15 @@ export class View {
     if (!this.seen) return;
     const { pages } = this.data;
     const makers = {
-      registers: () => registerPanel(pages, this.seen),
+      registers: () => this.registerPanel.made(this.seen),
       memory: () => this.memoryPanel.made(this.seen),
       cells: () => cellPanel(this.seen),
-      colours: () => colourPanel(this.seen),
+      colours: () => this.colourPanel.made(this.seen),
       "BIOS data": () => biosPanel(pages, this.seen),
-      breakpoints: () => (this.pointPanel.box?.isConnected ? null : this.pointPanel.made()),
+      breakpoints: () => this.pointPanel.box,
     };
-    const made = makers[tab]();
-    if (made) byId("panel").replaceChildren(made);
+    const made = makers[tab](), panel = byId("panel");
+    if (panel.firstChild !== made) panel.replaceChildren(made);
   }
 
   buttons() {
