@@ -343,6 +343,9 @@ export class View {
       : differs ? `This run and one by zak_run are not the same: ${differs}. Please report it.`
       : `✓ All ${grouped(session.length)} answers are those of one run by zak_run, of the whole script.`;
     if (!session.length) this.come(0);
+    if (this.seen?.session !== session) return;
+    this.listing.show(session, this.steps);
+    this.editor.draw();
   }
 
   /** Asks for the state after so many steps. */

@@ -66,6 +66,17 @@ test("what is seen of a step leaves the card after it", () => {
   session.close();
 });
 
+/** How long it takes to see a step from elsewhere: the least of three, since others use the machine too. */
+function quickest(session, step) {
+  return Math.min(...[0, 1, 2].map(() => {
+    session.approach(step < session.length / 2 ? session.length : 0);
+    const begun = performance.now();
+    session.approach(step);
+    session.seen(step + 1);
+    return performance.now() - begun;
+  }));
+}
+
 test("long scripts: any step of three million within 50 milliseconds, back as quick as forward", () => {
   const shapes = {
     "in blocks": "version 2\nint ax=13\n" +
@@ -75,19 +86,11 @@ test("long scripts: any step of three million within 50 milliseconds, back as qu
   for (const [shape, text] of Object.entries(shapes)) {
     const session = sessionOf(text);
     assert.ok(session.length >= 1200001, shape);
-    const times = [];
-    for (const part of [0.5, 0.999, 0.001, 0.3, 0.7, 0.2]) {
-      for (const back of [0, 1, 2]) {
-        const begun = performance.now();
-        session.approach(Math.floor(session.length * part) - back);
-        session.seen(Math.floor(session.length * part) - back + 1);
-        times.push(performance.now() - begun);
-      }
-    }
-    times.sort((a, b) => a - b);
-    const most = times.at(-1).toFixed(1), run = session.time.toFixed(0);
-    console.log(`${shape}: ${session.length} steps in ${run} ms; to a step ${most} ms at most`);
-    assert.ok(times[Math.floor(times.length * 0.8)] < 50, `${shape}: ${times.map(time => time.toFixed(1))}`);
+    const times = [0.5, 0.999, 0.001, 0.3, 0.7, 0.2].flatMap(part =>
+      [0, 1, 2].map(back => quickest(session, Math.floor(session.length * part) - back)));
+    const most = Math.max(...times), run = session.time.toFixed(0);
+    console.log(`${shape}: ${session.length} steps in ${run} ms; to a step ${most.toFixed(1)} ms at most`);
+    assert.ok(most < 50, `${shape}: ${times.map(time => time.toFixed(1))}`);
     session.close();
   }
 });
