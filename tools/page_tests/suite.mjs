@@ -165,7 +165,7 @@ class Suite {
     await this.hold(one, "text", one, () => sumOf(byRun(this.adapter, script, fonts)));
   }
 
-  /** The steps all at once, and where the script is short enough in slices of few. */
+  /** The steps all at once, and in slices of few; those of long scripts in eighths. */
   async runSlices(one, script, fonts) {
     let steps = ALL;
     await this.hold(one, "steps, all at once", one, () => {
@@ -173,10 +173,11 @@ class Suite {
       ({ steps } = answer);
       return answer;
     });
-    for (const slice of SLICES) {
-      if (steps / slice * (steps + script.length) > MOST_PASSED) continue;
-      await this.hold(one, `steps, ${slice} at a time`, one, () =>
-        bySlices(this.adapter, script, fonts, slice, one.length + MARGIN));
+    const isShort = slice => steps / slice * (steps + script.length) <= MOST_PASSED;
+    const slices = SLICES.filter(isShort).map(slice => [slice, `steps, ${slice} at a time`]);
+    if (slices.length < SLICES.length) slices.push([Math.ceil(steps / 8), "steps, an eighth at a time"]);
+    for (const [slice, way] of slices) {
+      await this.hold(one, way, one, () => bySlices(this.adapter, script, fonts, slice, one.length + MARGIN));
     }
   }
 }
