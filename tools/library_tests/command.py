@@ -10,7 +10,7 @@ from contextlib import contextmanager
 from pathlib import Path
 from typing import Callable, Iterator, Optional, Sequence
 
-from vga_library.gated import gated_archive, gated_proof
+from vga_library.gated import gated_archive
 from vga_library.making import MOVING, Place, make_library
 from vga_library.toolchain import BACKENDS, kit_archive, proved_archive
 from vga_report.trouble import Trouble
@@ -52,6 +52,9 @@ def _parser() -> argparse.ArgumentParser:
         "--gated", action="store_true", help="over the libraries that `rt ci` left, which must have run just before"
     )
     parser.add_argument(
+        "--proof", type=Path, metavar="FOLDER", help="with --gated: keeps the crate's proof there, or takes it from there"
+    )
+    parser.add_argument(
         "--only", action="append", default=[], choices=[*ONCE, *EACH], help="this check alone; again and again"
     )
     return parser
@@ -62,8 +65,7 @@ def _archive(words: argparse.Namespace, backend: str, folder: Path) -> Path:
     kept = folder / f"{backend}.a"
     if words.gated:
         # One proof is enough for both compilers.
-        proof = folder / "proof"
-        return gated_archive(backend, proof if proof.exists() else gated_proof(proof), kept)
+        return gated_archive(backend, words.proof or folder / "proof", kept)
     # The next compiler's archive takes the place of this one.
     return Path(shutil.copyfile(words.archive or proved_archive(backend), kept))
 
@@ -98,6 +100,8 @@ def main(given: Optional[Sequence[str]] = None) -> int:
     words = _parser().parse_args(given)
     missing = lacking()
     try:
+        if words.proof is not None and not words.gated:
+            raise Trouble("--proof keeps a proof of --gated")
         if missing:
             raise Trouble("this machine lacks\n" + "\n".join(f"  {line}" for line in missing))
         _run(words)

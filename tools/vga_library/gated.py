@@ -1,8 +1,8 @@
 """The crate's archive right behind the gate, over the libraries that `rt ci` proved and built.
 
-`rt lib` does not take these, and would prove all crates once more. So its calls of the compiler are made here, over them: the
-crate itself is proved again, once, and each compiler builds what that proved. It is right as long as no source changed since
-`rt ci` ran.
+`rt lib` does not take these, and would prove all crates once more. So its calls of the compiler are made
+here, over them: the crate itself is proved again, once, and a folder keeps its proof, so that each compiler
+builds over that. It is right as long as no source below the crate changed since `rt ci` ran.
 """
 
 from __future__ import annotations
@@ -14,7 +14,8 @@ from pathlib import Path
 from vga_report.trouble import Trouble
 
 from .header import TOP
-from .toolchain import CRATE, run
+from .running import run
+from .toolchain import CRATE, kit_folder
 
 # What every crate stands on, unnamed.
 ALWAYS = "std"
@@ -23,7 +24,8 @@ ALWAYS = "std"
 @cache
 def uses() -> dict[str, list[str]]:
     """What each crate of the repository uses, by `crates.txt`."""
-    lines = [line for line in (TOP / "crates.txt").read_text("ascii").splitlines() if line and not line.startswith("#")]
+    listed = (TOP / "crates.txt").read_text("ascii").splitlines()
+    lines = [line for line in listed if line and not line.startswith("#")]
     return {line.partition(":")[0].split()[0]: line.partition(":")[2].split() for line in lines}
 
 
@@ -60,29 +62,26 @@ def _libraries(kit: Path) -> list[str | Path]:
     return words
 
 
-def _kit() -> Path:
-    """The kit's folder."""
-    return Path(run(["rt", "doc"]).strip()).parent
-
-
-def _words(kit: Path) -> list[str | Path]:
+def crate_words(kit: Path) -> list[str | Path]:
     """What the compiler is told of the crate, whatever it is to do."""
     words = ["--crate-name", CRATE.name, "src/lib.rt", *_libraries(kit)]
     words += ["--antt-project", kit / "rattle" / "logic" / "antt-project.json"]
     return [*words, "--links", f"{CRATE.name}=", "--crate-type", "staticlib"]
 
 
-def gated_proof(made: Path) -> Path:
-    """Proves the crate, and keeps in a folder what the compilers build it from."""
-    kit = _kit()
-    words = [*_words(kit), "--logic-built", kit / "logic_built", "--jobs", str(min(4, os.cpu_count() or 1))]
-    run([kit / "bin" / "rattle", "check", *words, "-o", made], CRATE)
-    return made
+def proving_words(kit: Path, kept: str | Path) -> list[str | Path]:
+    """What the compiler is told where it proves the crate, over what a folder keeps of its proof."""
+    jobs = min(4, os.cpu_count() or 1)
+    words = [*crate_words(kit), "--logic-built", kit / "logic_built", "--jobs", str(jobs)]
+    return [*words, "--incremental", kept]
 
 
-def gated_archive(backend: str, proof: Path, made: Path) -> Path:
-    """Builds the archive, of which a folder keeps the proof, by one of the two compilers into a file."""
-    kit = _kit()
-    words = [*_words(kit), "--crate-checked", proof, "--toolchain", kit / "toolchain", "--backend", backend]
+def gated_archive(backend: str, kept: Path, made: Path) -> Path:
+    """Proves the crate, keeps its proof in a folder, and builds the archive by one of the compilers.
+
+    Where the folder has the proof already, it is not made again.
+    """
+    kit = kit_folder()
+    words = [*proving_words(kit, kept.absolute()), "--toolchain", kit / "toolchain", "--backend", backend]
     run([kit / "bin" / "rattle", "build", *words, "-o", made], CRATE)
     return made

@@ -8,7 +8,8 @@ from pathlib import Path, PurePosixPath
 from typing import NamedTuple
 
 from .header import HEADER, TOP, Version, version
-from .toolchain import compiler, run
+from .running import run
+from .toolchain import compiler
 
 NAME = "zaklimot"
 # The names that are seen of the library.

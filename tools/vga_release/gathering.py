@@ -20,7 +20,7 @@ from .running import output_of
 # What of the commit goes into a release, where it lies in the repository.
 PATHS = (
     "LICENSE", "README.md", "crates/vga_suite/data", "docs", "examples", "fonts", "include",
-    "tools/README.md", "tools/vga-report", "tools/vga_report",
+    "page/zaklimot.html", "tools/README.md", "tools/vga-report", "tools/vga_report",
 )
 PAGE, COPY = "docs/RELEASE.md", "RELEASE.md"
 MADE_OF = "MADE-OF"

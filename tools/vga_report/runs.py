@@ -12,7 +12,9 @@ from pathlib import Path
 from typing import Iterator, Union
 
 from .blocks import block_lines
+from .debugging import debug_page, link_to, read_at_most
 from .expecting import answer_of, is_worth_telling
+from .faults import MOST_BYTES
 from .listing import Choice, Row, Script, heading, listed
 from .output import AGREED, DIFFERED, name_of, write
 from .page import run_page
@@ -67,16 +69,49 @@ class Tally:
         return ", ".join(parts)
 
 
-def run(words: argparse.Namespace, progress: Progress) -> int:
-    """Runs a script, and shows each step beside its line and its answer."""
-    choice = Choice(words.only)
-    program: Union[Built, Tried] = Tried() if words.try_ else Built(found_program(words.vga))
+def _refuse_words(words: argparse.Namespace) -> None:
+    """Ends the work where words contradict one another."""
     if words.bless and (words.script == STANDARD or words.until is not None):
         raise Trouble("--bless writes into the script, whole: it wants a file, and no --until")
     if words.html and (words.bless or words.pictures or words.show):
         raise Trouble("--html writes a page that has the pictures: without --bless, --pictures and --show")
+    if words.debug is None:
+        return
+    if words.bless or words.pictures or words.show:
+        raise Trouble("--debug writes a page that runs the script: without --bless, --pictures and --show")
+    if words.html is None and (words.only is not None or words.try_ or words.vga):
+        raise Trouble("--debug runs nothing here: without --only, --try and --vga, unless --html is there too")
+    if words.html and STANDARD in (words.html, words.debug):
+        raise Trouble("the page of --html links to that of --debug: both want files")
+    if words.html and os.path.realpath(words.html) == os.path.realpath(words.debug):
+        raise Trouble("--html and --debug are two pages, and want two files", words.debug)
+
+
+def _fragment(words: argparse.Namespace) -> str:
+    """What an address ends with that opens the page at a step."""
+    return "" if words.until is None else f"#step={words.until}"
+
+
+def _write_debug_page(words: argparse.Namespace, data: bytes) -> None:
+    """Writes the page that runs the script, and tells how it is opened."""
+    write_file(words.debug, debug_page(name_of(words.script), data, words.fonts, words.debug))
+    if words.debug != STANDARD:
+        address = Path(words.debug).absolute().as_uri() + _fragment(words)
+        write(f"{words.debug}: open it in Chromium or Firefox, for instance as {address}\n")
+
+
+def run(words: argparse.Namespace, progress: Progress) -> int:
+    """Runs a script, and shows each step beside its line and its answer."""
+    _refuse_words(words)
+    if words.debug is not None and words.html is None:
+        _write_debug_page(words, read_at_most(words.script, MOST_BYTES))
+        return AGREED
+    choice = Choice(words.only)
+    program: Union[Built, Tried] = Tried() if words.try_ else Built(found_program(words.vga))
     tally, blessed, page = Tally(), {}, run_page()
     with _script_file(words.script) as (path, data):
+        if words.debug is not None and os.path.isfile(path):
+            _write_debug_page(words, data)
         script = Script(path, data, program, name_of(words.script))
         if words.pictures is not None:
             os.makedirs(words.pictures, exist_ok=True)
@@ -98,7 +133,8 @@ def run(words: argparse.Namespace, progress: Progress) -> int:
         if words.bless:
             return _bless(words.script, script, data, blessed)
     if words.html:
-        write_file(words.html, page.text(script.shown, tally.text()).encode("utf-8", "replace"))
+        link = None if words.debug is None else link_to(words.debug, words.html) + _fragment(words)
+        write_file(words.html, page.text(script.shown, tally.text(), link).encode("utf-8", "replace"))
     _tell_tally(tally, script, words)
     return DIFFERED if tally.wrong else AGREED
 

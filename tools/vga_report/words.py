@@ -98,6 +98,9 @@ def _add_run(parser: argparse.ArgumentParser) -> None:
     parser.add_argument("--pictures", metavar="FOLDER", help="writes the pictures of the steps shown, as NNNN.png")
     parser.add_argument("--show", action="store_true", help="shows pictures as blocks of colour")
     parser.add_argument("--html", metavar="FILE", help="writes the listing as a page, with its pictures")
+    parser.add_argument(
+        "--debug", metavar="FILE", help="writes a page that runs the script in a browser, step by step; nothing is run here"
+    )
     parser.add_argument("--bless", action="store_true", help="writes the answers into the script, as `; = 55`")
     _add_shape(parser)
 

@@ -1,0 +1,184 @@
+// The calls of the module (include/zaklimot.h) as the page has them. Pointers and lengths are BigInts.
+import { MOST_BYTES } from "./grammar.js";
+import { Trouble } from "./trouble.js";
+import { grouped } from "./bytes.js";
+
+export const HIGHEST = 1024, WIDEST = 2304, FONTS_SIZE = 9728, FIRST_STATE = 265086, MOST_STATE = 7342974;
+/** Bytes of the largest picture, with its head and a newline. */
+export const MOST_PICTURE = 3 * WIDEST * HIGHEST + 32;
+const STATUS_MEMORY = 23, STATUS_NO_ROOM = 25, STATUS_BAD_LINE = 107, STATUS_TOO_LONG = 106;
+const NO_MEMORY = "The module has no memory left for this.";
+
+/** The module, and rooms in its memory that calls write into. */
+export class Adapter {
+  constructor(instance) {
+    this.calls = instance.exports;
+    this.rooms = new Map();
+    this.told = this.room("told", 64);
+  }
+
+  /** An adapter of the module's bytes. */
+  static async opened(bytes) {
+    const { instance } = await WebAssembly.instantiate(bytes, {});
+    return new Adapter(instance);
+  }
+
+  get bytes() {
+    return new Uint8Array(this.calls.memory.buffer);
+  }
+
+  get view() {
+    return new DataView(this.calls.memory.buffer);
+  }
+
+  /** Memory of the module under a name, of at least so many bytes. */
+  room(name, size) {
+    const old = this.rooms.get(name);
+    if (old && old.size >= size) return old;
+    if (old) this.calls.page_give(old.at);
+    this.rooms.delete(name);
+    const at = BigInt(this.calls.page_take(BigInt(size)));
+    if (!at) throw new Trouble(NO_MEMORY);
+    const room = { at, place: Number(at), size, length: BigInt(size) };
+    this.rooms.set(name, room);
+    return room;
+  }
+
+  /** Gives back the rooms that long scripts or pictures have taken. */
+  giveBack() {
+    for (const [name, room] of this.rooms) {
+      if (name === "told" || room.size < 1 << 16) continue;
+      this.calls.page_give(room.at);
+      this.rooms.delete(name);
+    }
+  }
+
+  /** Bytes in the module's memory. */
+  given(name, bytes) {
+    const room = this.room(name, Math.max(1, bytes.length));
+    this.bytes.set(bytes, room.place);
+    return { at: room.at, length: BigInt(bytes.length) };
+  }
+
+  /** A copy of what a call has written. */
+  copied(room, length) {
+    return this.bytes.slice(room.place, room.place + length);
+  }
+
+  /** One of the lengths and places that calls tell. */
+  number(at) {
+    return Number(this.view.getBigUint64(this.told.place + 8 * at, true));
+  }
+
+  /** What a call answers that writes into a room and tells the length first: { status, bytes }. */
+  written(name, first, call) {
+    let room = this.room(name, first), status = call(room);
+    if (status === STATUS_NO_ROOM) {
+      room = this.room(name, this.number(0));
+      status = call(room);
+    }
+    if (status === STATUS_MEMORY) throw new Trouble(NO_MEMORY);
+    return { status, bytes: status ? new Uint8Array() : this.copied(room, this.number(0)) };
+  }
+
+  /**
+   * The bytes of the script that a text spells: { bytes, line }; `line` is the number of a bad line, and else
+   * 0.
+   */
+  assembled(text) {
+    const given = this.given("text", text), told = this.told.at;
+    const { status, bytes } = this.written("script", Math.max(1024, text.length), room =>
+      this.calls.zak_assemble(given.at, given.length, room.at, room.length, told, told + 8n));
+    if (status === STATUS_TOO_LONG) throw new Trouble(tooLong(text.length));
+    if (status && status !== STATUS_BAD_LINE) throw new Trouble(`The module answers ${status} to this text.`);
+    return { bytes, line: status ? this.number(1) : 0 };
+  }
+
+  /** The text of the script that some bytes are: { status, text, place }. */
+  printed(script) {
+    const given = this.given("script", script), told = this.told.at;
+    const { status, bytes } = this.written("text", Math.max(1024, 8 * script.length), room =>
+      this.calls.zak_print(given.at, given.length, room.at, room.length, told, told + 8n));
+    return { status, place: status ? this.number(1) : 0, text: bytes };
+  }
+
+  /** A whole run from power-on: { status, report, place }. */
+  run(script, fonts) {
+    const given = this.given("script", script), font = this.given("fonts", fonts), told = this.told.at;
+    const { status, bytes } = this.written("report", 1 << 20, room =>
+      this.calls.zak_run(given.at, given.length, font.at, font.length, room.at, room.length, told,
+        told + 8n));
+    return { status, place: status ? this.number(1) : 0, report: bytes };
+  }
+}
+
+function tooLong(length) {
+  const most = `${grouped(MOST_BYTES)} bytes are the most`;
+  return length > MOST_BYTES ? `The text has more bytes, and ${most}.`
+    : `The steps of the text have more bytes, and ${most}.`;
+}
+
+/** A card: a machine that is open, with the fonts of its mode sets. */
+export class Card {
+  constructor(adapter, fonts) {
+    this.adapter = adapter;
+    this.at = BigInt(adapter.calls.page_take(16n));
+    if (!this.at) throw new Trouble(NO_MEMORY);
+    adapter.bytes.fill(0, Number(this.at), Number(this.at) + 16);
+    const font = adapter.given("fonts", fonts);
+    const status = adapter.calls.zak_open(this.at, font.at, font.length);
+    if (status) {
+      adapter.calls.page_give(this.at);
+      throw new Trouble(status === STATUS_MEMORY ? NO_MEMORY
+        : `The card does not open: the module answers ${status}.`);
+    }
+  }
+
+  close() {
+    this.adapter.calls.zak_close(this.at);
+    this.adapter.calls.page_give(this.at);
+  }
+
+  /**
+   * Steps of a script: `most` of them after the first `first`. { taken, report }: the report is a view of
+   * the module's
+   * memory, which holds until the next call. `room` is how many bytes the report may have.
+   */
+  runOn(script, first, most, room) {
+    const adapter = this.adapter, given = adapter.given("steps", script), told = adapter.told.at;
+    const report = adapter.room("answers", Math.max(room, 4096));
+    const status = adapter.calls.zak_run_on(this.at, given.at, given.length, first, most, report.at,
+      report.length,
+      told, told + 8n, told + 16n);
+    if (status === STATUS_MEMORY) throw new Trouble(NO_MEMORY);
+    if (status) throw new Trouble(`The module answers ${status} to steps that it has read before.`);
+    const length = adapter.number(0);
+    return { taken: adapter.number(1), report: adapter.bytes.subarray(report.place, report.place + length) };
+  }
+
+  /** The state as bytes (docs/STATE.md). */
+  save() {
+    const adapter = this.adapter, room = adapter.room("state", MOST_STATE);
+    const status = adapter.calls.zak_save(this.at, room.at, room.length, adapter.told.at);
+    if (status) throw new Trouble(`The card is not saved: the module answers ${status}.`);
+    return adapter.copied(room, adapter.number(0));
+  }
+
+  restore(state) {
+    const given = this.adapter.given("state", state);
+    const status = this.adapter.calls.zak_restore(this.at, given.at, given.length);
+    if (status) throw new Trouble(`The card is not restored: the module answers ${status}.`);
+  }
+
+  /**
+   * To the end of the frame: { widths, rgb }, of each of 1,024 lines how many dots it has, and their colours.
+   */
+  frameLines() {
+    const adapter = this.adapter, widths = adapter.room("widths", 4 * HIGHEST);
+    const rgb = adapter.room("rgb", 3 * WIDEST * HIGHEST);
+    const status = adapter.calls.zak_frame_lines(this.at, widths.at, rgb.at, rgb.length, adapter.told.at);
+    if (status) throw new Trouble(`The frame is not drawn: the module answers ${status}.`);
+    return { widths: new Uint32Array(adapter.copied(widths, 4 * HIGHEST).buffer),
+      rgb: adapter.copied(rgb, adapter.number(0)) };
+  }
+}

@@ -1,0 +1,66 @@
+// Numbers and bytes as text, and back.
+
+/** A number in upper-case hexadecimal, with at least so many digits. */
+export function hex(value, digits) {
+  return value.toString(16).toUpperCase().padStart(digits, "0");
+}
+
+/** A number with a comma between thousands. */
+export function grouped(value) {
+  return String(value).replace(/\B(?=(\d{3})+$)/g, ",");
+}
+
+/** A count and what is counted: "1 step", "3 steps". */
+export function counted(count, noun) {
+  return `${grouped(count)} ${noun}${count === 1 ? "" : "s"}`;
+}
+
+/** The bytes of a text of characters below 256. */
+export function bytesOfCodes(text) {
+  return Uint8Array.from(text, letter => letter.charCodeAt(0));
+}
+
+/** The text of bytes, a character each. */
+export function codesOfBytes(bytes) {
+  let text = "";
+  for (let at = 0; at < bytes.length; at += 8192) text += String.fromCharCode(
+    ...bytes.subarray(at, at + 8192));
+  return text;
+}
+
+/** The bytes of a base64 text, also of the alphabet for addresses. */
+export function bytesOfBase64(text) {
+  return bytesOfCodes(atob(text.replace(/-/g, "+").replace(/_/g, "/")));
+}
+
+/** Bytes as base64 of the alphabet for addresses, with nothing to fill up. */
+export function base64OfBytes(bytes) {
+  return btoa(codesOfBytes(bytes)).replace(/\+/g, "-").replace(/\//g, "_").replace(/=+$/, "");
+}
+
+/** Parts, one after the other. */
+export function joinedBytes(parts) {
+  const joined = new Uint8Array(parts.reduce((sum, part) => sum + part.length, 0));
+  let at = 0;
+  for (const part of parts) {
+    joined.set(part, at);
+    at += part.length;
+  }
+  return joined;
+}
+
+/** What a stream makes of bytes. `most` is how many bytes it may give; more are an error. */
+export async function throughStream(bytes, stream, most = Infinity) {
+  const reader = new Blob([bytes]).stream().pipeThrough(stream).getReader(), parts = [];
+  let length = 0;
+  for (;;) {
+    const { done, value } = await reader.read();
+    if (done) return joinedBytes(parts);
+    parts.push(value);
+    length += value.length;
+    if (length > most) {
+      await reader.cancel();
+      throw new RangeError(`it unpacks to more than ${grouped(most)} bytes`);
+    }
+  }
+}

@@ -1,0 +1,207 @@
+// The text, with line numbers, breakpoints and marks at its left, and the answers of its steps at its right.
+import { Scroller } from "./scroller.js";
+import { byId, element, rowsInSight } from "./dom.js";
+import { grouped } from "./bytes.js";
+import { isPlainAnswer, isRefusal, shortAnswer } from "./expecting.js";
+
+const ROW = 18, TOP = 6, TAB = 8;
+// A longer text is shown, and not edited: a browser's own editor takes seconds for each change of it.
+const MOST_EDITED = 300000;
+// Browsers have no elements that are much higher.
+const HIGHEST_TEXT = 8000000, WIDEST_LINE = 400;
+
+/** The editor. `heard` has `changed(text)` and `pointed(line)`, a breakpoint's mark that was clicked. */
+export class Editor {
+  constructor(heard) {
+    Object.assign(this, { heard, area: byId("text"), gutter: byId("gutter"), told: byId("told"),
+      why: byId("why") });
+    Object.assign(this, { long: byId("long"), rows: byId("longrows"), starts: null, whole: "" });
+    Object.assign(this, { mark: 0, bad: null, session: null, steps: 0, points: new Set(), count: 1 });
+    this.area.addEventListener("input", () => {
+      this.count = this.area.value.split("\n").length;
+      this.bad = null;
+      this.draw();
+      heard.changed(this.area.value);
+    });
+    this.boxes = [this.area, this.long].map(box => new Scroller(box, () => this.draw()));
+    this.gutter.addEventListener("click", event => {
+      const line = Number(event.target.closest("button")?.dataset.line);
+      if (line) heard.pointed(line);
+    });
+  }
+
+  get isLong() {
+    return this.starts !== null;
+  }
+
+  get text() {
+    return this.isLong ? this.whole : this.area.value;
+  }
+
+  /** The number of the line with the caret. */
+  get line() {
+    return this.area.value.slice(0, this.area.selectionStart).split("\n").length;
+  }
+
+  load(text) {
+    this.starts = text.length > MOST_EDITED ? lineStarts(text) : null;
+    this.whole = this.isLong ? text : "";
+    this.area.value = this.isLong ? "" : text;
+    this.area.hidden = this.isLong;
+    this.long.hidden = !this.isLong;
+    this.count = this.isLong ? this.starts.length : this.area.value.split("\n").length;
+    if (this.isLong) this.rows.style.height = this.height + "px";
+    Object.assign(this, { mark: 0, bad: null });
+    this.scrollTo(0);
+  }
+
+  /** How long a text may be that is edited here. */
+  get note() {
+    if (!this.isLong) return "";
+    const size = `${grouped(this.whole.length)} characters`;
+    return `This text of ${size} is too long to be edited here; it runs all the same.`;
+  }
+
+  get box() {
+    return this.boxes[this.isLong ? 1 : 0];
+  }
+
+  /** How high the text is, as far as the browser shows it. */
+  get height() {
+    const high = 2 * TOP + ROW * this.count;
+    return this.isLong ? Math.min(HIGHEST_TEXT, high) : high;
+  }
+
+  /** How much a pixel of the scroll bar is, in pixels of lines. */
+  get scale() {
+    const seen = this.box.height;
+    return this.isLong ? Math.max(1, (ROW * this.count - seen) / Math.max(1, this.height - seen)) : 1;
+  }
+
+  get scrolled() {
+    return this.box.top * this.scale;
+  }
+
+  scrollTo(top) {
+    this.box.scrollTo(top / this.scale, this.height);
+  }
+
+  /** A line as it stands, with its number from 1. */
+  lineText(line) {
+    if (!this.isLong) return this.area.value.split("\n", line)[line - 1] ?? "";
+    return this.whole.slice(this.starts[line - 1], this.starts[line] ? this.starts[line] - 1 : undefined);
+  }
+
+  /** Shows the answers of a run up to so many steps, and marks the line of the last. */
+  show(session, steps) {
+    Object.assign(this, { session, steps });
+    const { outline } = session;
+    this.mark = steps ? outline.lineOf(outline.entryOf(steps - 1)) : 0;
+    this.next = steps < session.length ? outline.lineOf(outline.entryOf(steps)) : 0;
+    if (document.activeElement !== this.area) this.reveal(this.mark);
+    this.draw();
+  }
+
+  /** Scrolls to a line that is not in sight. */
+  reveal(line) {
+    const top = TOP + ROW * (line - 1), { scrolled, box: { height } } = this;
+    if (line && (top < scrolled || top > scrolled + height - 2 * ROW)) this.scrollTo(top - height / 2);
+  }
+
+  /** Marks a bad line: { line, at, width, message }; null where there is none. */
+  blame(trouble) {
+    this.bad = trouble;
+    if (trouble) this.reveal(trouble.line);
+    this.draw();
+  }
+
+  draw() {
+    const { box, scrolled } = this, { first, last } = rowsInSight(scrolled, box.height, ROW, this.count);
+    const lines = Array.from({ length: Math.max(0, last - first) }, (_, i) => first + i + 1);
+    const place = (made, line, from = 0) => {
+      made.style.top = TOP + ROW * (line - 1) - scrolled + from + "px";
+      return made;
+    };
+    this.gutter.replaceChildren(...lines.map(line => place(this.number(line), line)));
+    this.told.replaceChildren(...lines.map(line => [line, this.answer(line)]).filter(([, made]) => made)
+      .map(([line, made]) => place(made, line)));
+    if (this.isLong) this.rows.replaceChildren(
+      ...lines.map(line => place(this.longLine(line), line, box.top)));
+    const marked = this.bad?.line ?? this.mark, ribbon = byId("mark");
+    ribbon.hidden = !marked || this.isLong;
+    ribbon.classList.toggle("bad", this.bad !== null);
+    place(ribbon, marked);
+    this.drawWhy();
+  }
+
+  /** A line of a text that is shown alone. */
+  longLine(line) {
+    const made = element("div", {}, this.lineText(line).slice(0, WIDEST_LINE));
+    made.classList.toggle("here", line === (this.bad?.line ?? this.mark));
+    return made;
+  }
+
+  number(line) {
+    const isPoint = this.points.has(line), isBad = this.bad?.line === line;
+    const made = element("button", { type: "button", tabIndex: -1, className: "number",
+      "aria-pressed": String(isPoint) }, String(line));
+    made.dataset.line = line;
+    made.title = isPoint ? `Line ${line}: remove the breakpoint` : `Line ${line}: set a breakpoint`;
+    made.classList.toggle("point", isPoint);
+    made.classList.toggle("here", this.mark === line && !this.bad);
+    made.classList.toggle("next", this.next === line && !this.bad);
+    made.classList.toggle("bad", isBad);
+    return made;
+  }
+
+  /** The last answer of a line's step so far, or its first one, pale. */
+  answer(line) {
+    const { session } = this;
+    if (!session || this.bad || this.isStale) return null;
+    const { outline, answers } = session, entry = outline.entryAtLine(line);
+    if (entry < 0 || outline.lineOf(entry) !== line) return null;
+    const taken = outline.lastStepOfEntry(entry, this.steps);
+    const step = taken < 0 ? outline.stepOfEntry(entry) : taken;
+    if (step < 0 || step >= answers.length) return null;
+    const answer = answers.get(step), expected = outline.expectedOf(entry);
+    const words = outline.wordsOf(entry), [first, ...more] = shortAnswer(answer, words).split("\n");
+    const made = element("span", { className: "answer" }, first + (more.length ? " …" : ""));
+    made.title = `step ${step + 1}: ${answer}`;
+    made.classList.toggle("later", taken < 0);
+    made.classList.toggle("refused", isRefusal(answer));
+    made.classList.toggle("plain", isPlainAnswer(answer, words));
+    if (expected !== null) this.judge(made, step, expected);
+    return made;
+  }
+
+  judge(made, step, expected) {
+    const isWrong = this.session.isWrong(step);
+    made.classList.add(isWrong ? "wrong" : "right");
+    made.prepend(isWrong ? "✗ " : "✓ ");
+    if (isWrong) made.title += `\nexpected: ${expected}`;
+  }
+
+  /** The reason of a bad line, below the word where it stops being a step. */
+  drawWhy() {
+    const { why, bad, box } = this;
+    why.hidden = !bad?.line;
+    if (why.hidden) return;
+    const line = this.lineText(bad.line);
+    const columns = text => [...text].reduce((at, letter) => (letter === "\t" ? at + TAB - at % TAB
+      : at + 1), 0);
+    const at = columns(line.slice(0, bad.at ?? 0)), width = Math.max(1, Math.min(bad.width ?? 1, 60));
+    why.style.top = TOP + ROW * bad.line - 3 - this.scrolled + "px";
+    why.style.left = `calc(${Math.min(at, 60)}ch + 6px - ${box.left}px)`;
+    why.firstElementChild.style.width = `${width}ch`;
+    why.lastElementChild.textContent = bad.message;
+  }
+}
+
+/** Where the lines of a text begin. */
+function lineStarts(text) {
+  let count = 1;
+  for (let at = text.indexOf("\n"); at >= 0; at = text.indexOf("\n", at + 1)) count++;
+  const starts = new Uint32Array(count);
+  for (let line = 1, at = 0; line < count; line++) starts[line] = at = text.indexOf("\n", at) + 1;
+  return starts;
+}

@@ -1,0 +1,73 @@
+// Pictures as PNG, and pictures that move: the same forms as tools/vga_report/png.py and apng.py write.
+import { Trouble } from "./trouble.js";
+import { joinedBytes, throughStream } from "./bytes.js";
+
+const PNG_SIGNATURE = [0x89, 0x50, 0x4e, 0x47, 13, 10, 26, 10];
+const MOST_FRACTION = 65535, SHORT_PART = 50000, LONG_PART = 100;
+const CRC_TABLE = Uint32Array.from({ length: 256 }, (_, byte) => {
+  for (let bit = 0; bit < 8; bit++) byte = byte & 1 ? byte >>> 1 ^ 0xedb88320 : byte >>> 1;
+  return byte;
+});
+
+/** Six bits widened to eight, so that 0 stays 0 and 3F is FF. */
+export function widened(six) {
+  return six << 2 | six >> 4;
+}
+
+function crcOf(bytes) {
+  let crc = -1;
+  for (const byte of bytes) crc = CRC_TABLE[(crc ^ byte) & 255] ^ crc >>> 8;
+  return ~crc >>> 0;
+}
+
+/** A number of four bytes, the highest first. */
+function long(value) {
+  return [value >>> 24, value >>> 16 & 255, value >>> 8 & 255, value & 255];
+}
+
+const short = value => [value >> 8, value & 255];
+
+/** A chunk of a PNG. */
+function chunk(kind, ...parts) {
+  const data = joinedBytes(parts.map(part => Uint8Array.from(part)));
+  const named = joinedBytes([Uint8Array.from(kind, letter => letter.charCodeAt(0)), data]);
+  return joinedBytes([Uint8Array.from(long(data.length)), named, Uint8Array.from(long(crcOf(named)))]);
+}
+
+/** The dots of a picture as PNG packs them: of each row a 0, and its dots of eight bits a component. */
+export async function packedRows({ width, height, rgb }) {
+  const rows = new Uint8Array((3 * width + 1) * height);
+  for (let y = 0, from = 0, to = 0; y < height; y++) {
+    rows[to++] = 0;
+    for (let x = 0; x < 3 * width; x++) rows[to++] = widened(rgb[from++]);
+  }
+  return throughStream(rows, new CompressionStream("deflate"));
+}
+
+function head({ width, height }) {
+  const size = chunk("IHDR", long(width), long(height), [8, 2, 0, 0, 0]);
+  return [Uint8Array.from(PNG_SIGNATURE), size, chunk("sBIT", [6, 6, 6])];
+}
+
+/** A picture { width, height, rgb } as PNG. */
+export async function pngOf(picture) {
+  return joinedBytes([...head(picture), chunk("IDAT", await packedRows(picture)), chunk("IEND")]);
+}
+
+/** Pictures of one size as a PNG that moves; each has `packed` rows and the seconds that it lasts. */
+export function apngOf(frames) {
+  const [{ width, height }] = frames, parts = [...head(frames[0]),
+    chunk("acTL", long(frames.length), long(0))];
+  let sequence = 0;
+  for (const [i, frame] of frames.entries()) {
+    if (frame.width !== width || frame.height !== height) {
+      throw new Trouble(`Frame ${i + 1} has another size than the first, and a PNG that moves has one size.`);
+    }
+    const part = frame.seconds < 1 ? SHORT_PART : LONG_PART;
+    const time = Math.min(MOST_FRACTION, Math.round(frame.seconds * part));
+    parts.push(chunk("fcTL", long(sequence++), long(width), long(height), long(0), long(0), short(time),
+      short(part), [0, 0]));
+    parts.push(i ? chunk("fdAT", long(sequence++), frame.packed) : chunk("IDAT", frame.packed));
+  }
+  return joinedBytes([...parts, chunk("IEND")]);
+}

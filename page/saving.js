@@ -1,0 +1,76 @@
+// What is saved: text, bytes, report, the picture, and all pictures as one that moves.
+import { Card } from "./adapter.js";
+import { Trouble } from "./trouble.js";
+import { apngOf, packedRows, pngOf } from "./png.js";
+import { element } from "./dom.js";
+import { frameShape } from "./state.js";
+import { readReport } from "./report.js";
+
+// The clocks that bits 3 and 2 of miscellaneous output select, in dots a second; of others, 70 frames a
+// second.
+const CLOCKS = { 0: 25175000, 1: 28322000 }, USUAL_FRAME = 1 / 70;
+const MOST_FRAMES = 2000, MOST_PACKED = 1 << 28, MOST_SAVED = 1 << 28;
+
+/** Hands a file to the browser to be saved. */
+export function saveFile(name, bytes, kind) {
+  const address = URL.createObjectURL(new Blob([bytes], { type: kind }));
+  element("a", { href: address, download: name }).click();
+  setTimeout(() => URL.revokeObjectURL(address), 60000);
+}
+
+/** The report of a run, as `vga` writes it. */
+export function reportOf(session) {
+  if (session.reported > MOST_SAVED) throw new Trouble(
+    "The report has more than 256 MiB: run the script by `vga go`.");
+  return session.adapter.run(session.script, session.fonts).report;
+}
+
+/** The picture that is seen, as { width, height, rgb }; a Trouble where its lines differ in width. */
+export function wholePicture({ picture }) {
+  if (picture.isWhole) return picture;
+  const widths = picture.widths.filter(width => width > 0);
+  if (!widths.length) throw new Trouble("The frame has no dot.");
+  if (widths.some(width => width !== widths[0])) throw new Trouble(
+    "Lines of this frame differ in width, so it has no picture.");
+  return { width: widths[0], height: widths.length, rgb: picture.rgb };
+}
+
+export function pngOfSeen(seen) {
+  return pngOf(wholePicture(seen));
+}
+
+/** How long a frame lasts by the clock that the registers select, in seconds. */
+export function frameSeconds(registers) {
+  const clock = CLOCKS[registers.misc >> 2 & 3], { dots, lines } = frameShape(registers);
+  return clock ? dots * lines * (registers.seq[1] & 8 ? 2 : 1) / clock : USUAL_FRAME;
+}
+
+/**
+ * All pictures of a run as a PNG that moves. `told` is called with how many steps are done; it answers false
+ * to end.
+ */
+export async function apngOfRun(session, told) {
+  const card = new Card(session.adapter, session.fonts), frames = [];
+  let size = 0;
+  try {
+    for (let step = 0; step < session.length;) {
+      const pictures = [], { taken, first, report } = session.pieces.runOn(card, step, session.length, 8);
+      readReport(report, first, taken, (_, answer, picture) => picture &&
+        pictures.push({ width: picture.width, height: picture.height, rgb: picture.rgb.slice() }));
+      for (const picture of pictures) {
+        const packed = await packedRows(picture);
+        size += packed.length;
+        frames.push({ width: picture.width, height: picture.height, packed,
+          seconds: frameSeconds(session.registersOf(card)) });
+      }
+      if (frames.length > MOST_FRAMES || size > MOST_PACKED) throw new Trouble(
+        `There are more pictures than ${MOST_FRAMES}, or than fit.`);
+      step += taken;
+      if (await told(step) === false) return null;
+    }
+  } finally {
+    card.close();
+  }
+  if (!frames.length) throw new Trouble("The script has no `frame` that answers a picture.");
+  return apngOf(frames);
+}

@@ -1,0 +1,27 @@
+/** A box that scrolls. Its place and its height are known without asking the browser to lay out the page. */
+export class Scroller {
+  constructor(box, heard) {
+    Object.assign(this, { box, top: 0, left: 0, height: 0, isAsked: false });
+    box.addEventListener("scroll", () => {
+      const { top, left } = this;
+      this.top = box.scrollTop;
+      this.left = box.scrollLeft;
+      if (Math.abs(top - this.top) >= 1 || left !== this.left) heard();
+    });
+    new ResizeObserver(() => {
+      this.height = box.clientHeight;
+      heard();
+    }).observe(box);
+  }
+
+  /** Scrolls to a place of what is so high in all; the browser does it when it lays out the page next. */
+  scrollTo(top, high) {
+    this.top = Math.max(0, Math.min(top, high - this.height));
+    if (this.isAsked) return;
+    this.isAsked = true;
+    requestAnimationFrame(() => {
+      this.isAsked = false;
+      this.box.scrollTop = this.top;
+    });
+  }
+}

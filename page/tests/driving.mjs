@@ -1,0 +1,154 @@
+// Chromium without a window, driven by its DevTools protocol over two pipes.
+import { spawn } from "node:child_process";
+import { mkdtempSync, rmSync, statSync } from "node:fs";
+import { tmpdir } from "node:os";
+
+const NAMES = ["chromium", "chromium-browser", "google-chrome"];
+const PATIENCE = 60000;
+
+/** A browser with one page. */
+export class Browser {
+  /** A browser that is started, by the first of some names that is there. */
+  static async started() {
+    const browser = new Browser();
+    await browser.start(process.env.CHROMIUM ?? NAMES.find(name => hasProgram(name)) ?? NAMES[0]);
+    return browser;
+  }
+
+  async start(program) {
+    this.folder = mkdtempSync(`${tmpdir()}/zaklimot-browser-`);
+    this.process = spawn(program, ["--headless", "--no-sandbox", "--disable-gpu", "--hide-scrollbars",
+      "--no-first-run",
+      `--user-data-dir=${this.folder}`, "--remote-debugging-pipe", "about:blank"],
+        { stdio: ["ignore", "ignore", "ignore", "pipe", "pipe"] });
+    Object.assign(this, { number: 0, waiting: new Map(), said: [], rest: "", downloads: [] });
+    this.process.stdio[4].setEncoding("utf-8").on("data", part => this.hear(part));
+    const { targetInfos } = await this.send("Target.getTargets");
+    const { targetId } = targetInfos.find(target => target.type === "page");
+    ({ sessionId: this.session } = await this.send("Target.attachToTarget", { targetId, flatten: true }));
+    for (const domain of ["Page", "Runtime", "Log"]) await this.send(`${domain}.enable`);
+    await this.send("Browser.setDownloadBehavior", { behavior: "allow", downloadPath: this.folder,
+      eventsEnabled: true });
+  }
+
+  async stop() {
+    const ended = new Promise(resolve => this.process.once("exit", resolve));
+    this.process.kill();
+    await ended;
+    rmSync(this.folder, { recursive: true, force: true, maxRetries: 5 });
+  }
+
+  hear(part) {
+    const messages = (this.rest + part).split("\0");
+    this.rest = messages.pop();
+    for (const text of messages) this.take(JSON.parse(text));
+  }
+
+  take(message) {
+    if (message.id) {
+      const { resolve, reject } = this.waiting.get(message.id);
+      this.waiting.delete(message.id);
+      return message.error ? reject(new Error(message.error.message)) : resolve(message.result);
+    }
+    const { method, params } = message;
+    if (method === "Runtime.exceptionThrown") this.said.push(
+      params.exceptionDetails.exception?.description ?? params.exceptionDetails.text);
+    if (method === "Runtime.consoleAPICalled") this.said.push(
+      params.args.map(one => one.value ?? one.description).join(" "));
+    if (method === "Log.entryAdded") this.said.push(params.entry.text);
+    if (method === "Browser.downloadWillBegin") this.downloads.push(
+      { guid: params.guid, name: params.suggestedFilename });
+    if (method === "Browser.downloadProgress" && params.state === "completed") {
+      this.downloads.find(one => one.guid === params.guid).isDone = true;
+    }
+    return null;
+  }
+
+  send(method, params = {}) {
+    const id = ++this.number, sessionId = method.startsWith("Target.") || method.startsWith("Browser.")
+      ? undefined : this.session;
+    this.process.stdio[3].write(JSON.stringify({ id, method, params, sessionId }) + "\0");
+    return new Promise((resolve, reject) => this.waiting.set(id, { resolve, reject }));
+  }
+
+  /** The value of an expression in the page. */
+  async value(expression) {
+    const { result, exceptionDetails } = await this.send("Runtime.evaluate",
+      { expression, awaitPromise: true, returnByValue: true });
+    if (exceptionDetails) throw new Error(
+      `${expression}: ${exceptionDetails.exception?.description ?? exceptionDetails.text}`);
+    return result.value;
+  }
+
+  /** Waits until an expression in the page is true, or a condition here. */
+  async until(condition, patience = PATIENCE) {
+    const begun = Date.now();
+    // While a page loads, its elements are not there yet.
+    while (!(typeof condition === "string" ? await this.value(condition).catch(() => false) : condition())) {
+      if (Date.now() - begun > patience) throw new Error(
+        `this did not come: ${condition}\n${await this.value("document.body.innerText.slice(0, 600)")}`);
+      await new Promise(resolve => setTimeout(resolve, 20));
+    }
+  }
+
+  async open(address) {
+    await this.send("Page.navigate", { url: "about:blank" });
+    await this.send("Page.navigate", { url: address });
+  }
+
+  async look({ width, height, dark = false, scale = 1 }) {
+    await this.send("Emulation.setDeviceMetricsOverride", { width, height, deviceScaleFactor: scale,
+      mobile: false });
+    await this.send("Emulation.setEmulatedMedia",
+      { features: [{ name: "prefers-color-scheme", value: dark ? "dark" : "light" }] });
+  }
+
+  async screenshot() {
+    const { data } = await this.send("Page.captureScreenshot", { format: "png" });
+    return Buffer.from(data, "base64");
+  }
+
+  async click(selector) {
+    const [x, y] = await this.value(`(() => {
+      const control = document.querySelector(${JSON.stringify(selector)});
+      control.scrollIntoView({ block: "nearest" });
+      const box = control.getBoundingClientRect();
+      return [box.left + box.width / 2, box.top + box.height / 2];
+    })()`);
+    await this.clickAt(x, y);
+  }
+
+  async clickAt(x, y) {
+    for (const type of ["mouseMoved", "mousePressed", "mouseReleased"]) {
+      await this.send("Input.dispatchMouseEvent", { type, x, y, button: type === "mouseMoved" ? "none"
+        : "left", clickCount: type === "mouseMoved" ? 0 : 1 });
+    }
+  }
+
+  /** Presses a key: { key, code, text, shift, control }. */
+  async press(key, { shift = false, control = false } = {}) {
+    const text = key.length === 1 && !control ? key : key === "Enter" ? "\r" : undefined,
+      modifiers = (shift ? 8 : 0) + (control ? 2 : 0);
+    const codes = { ArrowLeft: 37, ArrowRight: 39, Home: 36, End: 35, Enter: 13, Escape: 27, Tab: 9, F8: 119,
+      F9: 120, F10: 121 };
+    const windowsVirtualKeyCode = codes[key] ?? key.toUpperCase().charCodeAt(0);
+    await this.send("Input.dispatchKeyEvent", { type: text ? "keyDown" : "rawKeyDown", key, text, modifiers,
+      windowsVirtualKeyCode });
+    await this.send("Input.dispatchKeyEvent", { type: "keyUp", key, modifiers, windowsVirtualKeyCode });
+  }
+
+  /** Types into the element that has the focus. */
+  async type(text) {
+    await this.send("Input.insertText", { text });
+  }
+}
+
+function hasProgram(name) {
+  return (process.env.PATH ?? "").split(":").some(folder => {
+    try {
+      return folder && statSync(`${folder}/${name}`);
+    } catch {
+      return false;
+    }
+  });
+}

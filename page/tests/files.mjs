@@ -1,0 +1,167 @@
+// Files that are dropped on the page, links, pictures that are saved, and traces.
+import assert from "node:assert/strict";
+import test from "node:test";
+import { execFileSync } from "node:child_process";
+import { deflateRawSync, gzipSync, inflateSync } from "node:zlib";
+import { mkdtempSync, readFileSync, rmSync, writeFileSync } from "node:fs";
+import { tmpdir } from "node:os";
+import { apngOf, packedRows, pngOf } from "../png.js";
+import { base64OfBytes, bytesOfBase64, counted, grouped } from "../bytes.js";
+import { contentsOf, packed, unpacked } from "../share.js";
+import { textOfTrace, traceForm } from "../trace.js";
+import { FONTS, TOP, examples, loadAdapter } from "./loading.mjs";
+
+const adapter = await loadAdapter();
+const bytesOf = text => new TextEncoder().encode(text);
+
+/** What a command of the tools writes into a file. */
+function written(make) {
+  const folder = mkdtempSync(tmpdir() + "/zaklimot-");
+  try {
+    make(folder);
+    return readFileSync(folder + "/out");
+  } finally {
+    rmSync(folder, { recursive: true });
+  }
+}
+
+test("a link gives back its script", async () => {
+  for (const { text } of examples()) {
+    const link = await packed(bytesOf(text));
+    assert.match(link, /^[A-Za-z0-9_-]+$/);
+    assert.equal(new TextDecoder().decode(await unpacked(link)), text);
+  }
+});
+
+test("links that are damaged are told, and those that unpack without an end", async () => {
+  await assert.rejects(unpacked("%%%"), /damaged/);
+  await assert.rejects(unpacked("AAAA"), /damaged/);
+  await assert.rejects(unpacked(base64OfBytes(deflateRawSync(Buffer.alloc(1 << 25)))),
+    /more than 16,777,216 bytes/);
+});
+
+test("base64 of any length, and counts", () => {
+  for (let length = 0; length < 70; length++) {
+    const bytes = Uint8Array.from({ length }, (_, i) => 91 * i + length);
+    assert.deepEqual(bytesOfBase64(base64OfBytes(bytes)), bytes);
+    assert.equal(base64OfBytes(bytes), Buffer.from(bytes).toString("base64url"));
+  }
+  assert.deepEqual([grouped(16777216), counted(1, "step"), counted(1000, "step")],
+    ["16,777,216", "1 step", "1,000 steps"]);
+});
+
+test("what a file is", async () => {
+  const text = "int ax=3\nframe ; é\n", { bytes } = adapter.assembled(bytesOf(text));
+  assert.deepEqual(await contentsOf(bytesOf(text), adapter), { text });
+  assert.deepEqual(await contentsOf(gzipSync(text), adapter), { text });
+  assert.deepEqual(await contentsOf(FONTS, adapter), { fonts: FONTS });
+  assert.deepEqual(await contentsOf(bytes, adapter),
+    { text: "int ax=0003 bx=0000 cx=0000 dx=0000\nframe\n" });
+  const trace = readFileSync(TOP + "examples/typed-line.trace");
+  assert.match((await contentsOf(trace, adapter)).text, /^out 3C2 67\nin 3CC ; = 67\n/);
+});
+
+test("junk is told, and why", async () => {
+  const noise = Uint8Array.from({ length: 5000 }, (_, i) => Math.imul(i, 2654435761) >>> 13);
+  for (const [bytes, said] of [
+    [noise, /no script, no trace and no font file/],
+    [Uint8Array.of(0x1f, 0x8b, 1, 2, 3), /can't be unpacked/],
+    [bytesOf("VGAS"), /the version is lacking/],
+    [bytesOf("VGAS\x09"), /the version, byte 4, is 09/],
+    [Uint8Array.of(0xff, 0xfe, 65, 0), /UTF-16/],
+    [new Uint8Array((1 << 24) + 1).fill(59), /more than 16,777,216 bytes/],
+  ]) await assert.rejects(contentsOf(bytes, adapter), said);
+});
+
+test("a trace is the text that vga-trace makes of it", () => {
+  const text = readFileSync(TOP + "examples/typed-line.trace", "utf-8");
+  const made = written(folder => execFileSync("tools/vga-trace",
+    ["convert", "examples/typed-line.trace", folder + "/out", "--text", "--no-repeat"],
+      { cwd: TOP, stdio: "ignore" }));
+  assert.equal(traceForm(text), "plain");
+  assert.equal(textOfTrace(text), made.toString());
+});
+
+test("a log of qemu is the text that vga-trace makes of it", () => {
+  const event = (kind, address, value, size, region) =>
+    `7@1.000001:memory_region_ops_${kind} cpu 0 mr 0x55 ` +
+    `addr 0x${address} value 0x${value} size ${size} name '${region}'`;
+  const log = [event("write", "3c2", "67", 1, "vga"), "other", event("read", "3cc", "67", 1, "vga"),
+    event("read", "1", "2", 1, "ide"),
+    event("write", "b8000", "41", 1, "vga-lowmem"), event("write", "b8001", "7", 1, "vga-lowmem"),
+    event("write", "a0000", "1122334455667788", 8, "vga-chain4"), event("read", "3da", "9", 1, "vga"),
+      event("read", "b8003", "9", 1, "vga-lowmem"),
+    event("write", "1ce", "9", 2, "vbe"), "memory_region_ops_read cpu 0 mr"].join("\n") + "\n";
+  const made = written(folder => {
+    writeFileSync(folder + "/log", log);
+    execFileSync("tools/vga-trace", ["convert", folder + "/log", folder + "/out", "--text", "--no-repeat"],
+      { cwd: TOP, stdio: "ignore" });
+  });
+  assert.equal(traceForm(log), "qemu");
+  assert.equal(textOfTrace(log), made.toString());
+  assert.equal(traceForm("frame\nin 3DA\n"), null);
+  assert.throws(() => textOfTrace("1 w p 3C2 67 1\nfoo\n"), /Line 2 of the trace/);
+});
+
+const PICTURE = { width: 7, height: 5, rgb: Uint8Array.from({ length: 105 }, (_, i) => (11 * i) % 64) };
+
+test("a picture is saved as vga-report saves it, to the dot", async () => {
+  const ppm = Buffer.concat([Buffer.from("P6\n7 5\n63\n"), PICTURE.rgb]);
+  const report = Buffer.concat([Buffer.from(`1 picture ${ppm.length}\n`), ppm, Buffer.from("\n")]);
+  const theirs = written(folder => {
+    writeFileSync(folder + "/report", report);
+    execFileSync("tools/vga-report", ["pictures", folder + "/report", folder], { cwd: TOP });
+    execFileSync("mv", [folder + "/0001.png", folder + "/out"]);
+  });
+  assert.deepEqual(dotsOf(await pngOf(PICTURE)), dotsOf(theirs));
+});
+
+/** The chunks of a PNG but its dots, and the dots. */
+function dotsOf(png) {
+  const chunks = [], data = [];
+  for (let at = 8; at < png.length;) {
+    const view = Buffer.from(png.buffer, png.byteOffset), length = view.readUInt32BE(at),
+      name = view.toString("latin1", at + 4, at + 8);
+    const body = view.subarray(at + 8, at + 8 + length);
+    if (name === "IDAT") data.push(body);
+    else chunks.push([name, body.toString("hex"), view.toString("hex", at + 8 + length, at + 12 + length)]);
+    at += length + 12;
+  }
+  return { chunks, dots: inflateSync(Buffer.concat(data)).toString("hex") };
+}
+
+test("pictures that move are those that vga-report writes", async () => {
+  const other = { ...PICTURE, rgb: PICTURE.rgb.map(six => 63 - six) };
+  const frames = [];
+  for (const [picture, seconds] of [[PICTURE, 0.0142], [other, 1.5]]) {
+    frames.push({ ...picture, seconds, packed: await packedRows(picture) });
+  }
+  const source = `
+import io, sys
+sys.path.insert(0, "tools")
+from vga_report.apng import Animation
+from vga_report.picture import Picture
+from vga_report.png import Shape
+animation = Animation(Shape())
+for seconds in (0.0142, 1.5):
+    dots = bytes(11 * i % 64 for i in range(105))
+    animation.add(Picture.of_dots(7, 5, dots if seconds < 1 else bytes(63 - dot for dot in dots)),
+      seconds, "x")
+animation.write(sys.stdout.buffer)`;
+  const theirs = execFileSync("python3", ["-c", source], { cwd: TOP });
+  assert.deepEqual(animated(apngOf(frames)), animated(theirs));
+  assert.throws(() => apngOf([frames[0], { ...frames[1], width: 8 }]), /another size/);
+});
+
+/** The chunks of an APNG, with what they pack unpacked. */
+function animated(png) {
+  const view = Buffer.from(png.buffer, png.byteOffset, png.length), chunks = [];
+  for (let at = 8; at < view.length;) {
+    const length = view.readUInt32BE(at), name = view.toString("latin1", at + 4, at + 8),
+      body = view.subarray(at + 8, at + 8 + length);
+    const dots = name === "IDAT" ? inflateSync(body) : name === "fdAT" ? inflateSync(body.subarray(4)) : body;
+    chunks.push(name + dots.toString("hex"));
+    at += length + 12;
+  }
+  return chunks;
+}

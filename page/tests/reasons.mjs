@@ -1,0 +1,109 @@
+// The page tells the same reasons of bad lines as tools/vga_report: those of a table that both tests read,
+// and those of
+// lines at random, which Python is asked for.
+import assert from "node:assert/strict";
+import test from "node:test";
+import { execFileSync } from "node:child_process";
+import { readFileSync } from "node:fs";
+import { BLOCK_LINES, CALL_REGISTERS, MOST_STEPS, READING, SHAPES, SHOWN } from "../grammar.js";
+import { FAULT_NAMES, reasonOfBytes } from "../faults.js";
+import { encodingTrouble, mistakeIn, reasonOfLine } from "../reasons.js";
+import { TOP, loadAdapter } from "./loading.mjs";
+
+const TABLE = JSON.parse(readFileSync(TOP + "tools/tests/mistakes.json", "utf-8"));
+const DIGITS = "0".repeat(131072);
+
+/** What Python prints as JSON, with `data` as JSON on its standard input. */
+function python(source, data = null) {
+  const said = execFileSync("python3", ["-c", `import json, sys\nsys.path.insert(0, "tools")\n${source}`],
+    { cwd: TOP, input: JSON.stringify(data), maxBuffer: 1 << 28 });
+  return JSON.parse(said);
+}
+
+test("each bad line of the table has its reason", () => {
+  assert.ok(TABLE.lines.length >= 60);
+  for (const { line, part, reason } of TABLE.lines) {
+    const text = line.replace("LONG", DIGITS), found = mistakeIn(text), wanted = part.replace("LONG", DIGITS);
+    assert.equal(found?.reason, reason, line);
+    if (part) assert.equal(text.slice(found.at, found.at + found.width), wanted, line);
+    else assert.equal(found.at, text.split(";")[0].trimEnd().length, line);
+  }
+});
+
+test("good lines have none", () => {
+  for (const line of TABLE.good) assert.equal(mistakeIn(line), null, line);
+});
+
+test("texts that are wrong as a whole, and blocks", () => {
+  for (const { hex, reason } of TABLE.texts) assert.equal(encodingTrouble(Buffer.from(hex, "hex")), reason);
+  for (const { text, number, reason } of TABLE.blocks) assert.equal(reasonOfLine(text, number)
+    .reason, reason);
+});
+
+test("scripts of bytes", () => {
+  for (const { fault, hex, reason } of TABLE.scripts) {
+    const [, name, place] = fault.match(/^(F\d+ \w+)(?:\((\d+)\))?$/);
+    const status = Number(Object.keys(FAULT_NAMES).find(one => FAULT_NAMES[one] === name));
+    assert.equal(reasonOfBytes(Buffer.from(hex, "hex"), status, Number(place)), reason);
+  }
+});
+
+test("the module refuses each line of the table, and takes the good ones", async () => {
+  const adapter = await loadAdapter(), judge = text => adapter.assembled(new TextEncoder().encode(text)).line;
+  for (const { line } of TABLE.lines) assert.equal(judge("frame\n" + line.replace("LONG", DIGITS)), 2, line);
+  for (const line of TABLE.good) assert.equal(judge(line), 0, line);
+});
+
+test("the grammar is that of tools/vga_report", () => {
+  const told = python(`
+from vga_report.grammar import *
+from vga_report.script import MOST_STEPS
+def numbers(table):
+    return {name: [[n.name, getattr(n, "digits", 0), n.least, n.most] for n in shape] for name,
+      shape in table.items()}
+print(json.dumps([numbers(SHAPES), numbers(BLOCK_LINES), numbers(SHOWN), list(REGISTERS), list(READING),
+  MOST_STEPS]))`);
+  const numbers = table => Object.fromEntries(Object.entries(table).map(([name, shape]) =>
+    [name, shape.map(number => [number.name, number.digits, number.least, number.most])]));
+  assert.deepEqual([numbers(SHAPES), numbers(BLOCK_LINES), numbers(SHOWN), CALL_REGISTERS, READING,
+    MOST_STEPS], told);
+});
+
+/** Lines at random, the same in each run: words of the table, changed here and there. */
+function randomLines(count) {
+  let seed = 4711;
+  const random = most => {
+    seed = Math.imul(seed, 1103515245) + 12345 >>> 0;
+    return Math.floor(seed / 2 ** 32 * most);
+  };
+  const pick = from => from[random(from.length)];
+  const words = [...new Set([...TABLE.lines.map(row => row.line), ...TABLE.good].flatMap(
+    line => line.split(/ +/)))]
+    .filter(word => word !== "LONG");
+  const letters = [..."0123456789abcdefgxhOl=,:;.#$-+_'\"()[]\t\r /\\&", "\u00a0", "\u200b", "\u2028", "é",
+    "\x85", "\x7f"];
+  return Array.from({ length: count }, () => {
+    let line = Array.from({ length: 1 + random(5) }, () => pick(words)).join(" ");
+    for (let changes = random(3); changes > 0; changes--) {
+      const at = random(line.length + 1);
+      line = line.slice(0, at) + (random(2) ? pick(letters) : "") + line.slice(at + random(2));
+    }
+    return line.replaceAll("\n", " ");
+  });
+}
+
+test("lines at random have the reason that Python tells", () => {
+  const lines = randomLines(20000);
+  const told = python(`
+from vga_report.mistakes import mistake_in
+found = [mistake_in(line) for line in json.load(sys.stdin)]
+print(json.dumps([None if mistake is None else [mistake.at, mistake.width,
+  mistake.reason] for mistake in found]))`, lines);
+  let bad = 0;
+  for (const [i, line] of lines.entries()) {
+    const found = mistakeIn(line);
+    assert.deepEqual(found && [found.at, found.width, found.reason], told[i], JSON.stringify(line));
+    if (found) bad++;
+  }
+  assert.ok(bad > 10000, `${bad} of them are bad`);
+});

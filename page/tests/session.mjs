@@ -1,0 +1,119 @@
+// A session gives each step's answer as zak_run does, and gets to any step's state, forward and back.
+import assert from "node:assert/strict";
+import test from "node:test";
+import { Session, judgedText } from "../session.js";
+import { FONTS, examples, loadAdapter, runWhole } from "./loading.mjs";
+
+const adapter = await loadAdapter();
+
+function sessionOf(text) {
+  return runWhole(new Session(adapter, FONTS, text));
+}
+
+/** The state after so many steps, by steps from power-on and nothing else. */
+function stateFromPowerOn(session, steps) {
+  session.restore(session.kept[0]);
+  while (session.at < steps) session.advance(steps - session.at);
+  return session.card.save();
+}
+
+for (const { name, text } of examples()) {
+  test(`${name} answers as by zak_run, and as it expects`, () => {
+    const session = sessionOf(text);
+    assert.equal(session.compared(), "");
+    assert.equal(session.whyNotCompared, null);
+    assert.equal(session.wrong, 0);
+    session.close();
+  });
+}
+
+test("an answer that differs from that of zak_run is found, and a picture too", () => {
+  const session = sessionOf("int ax=3\nframe\nin 3CC\n");
+  assert.equal(session.compared(), "");
+  session.sums[0]++;
+  assert.equal(session.compared(), "step 2 answers otherwise");
+  session.sums[0]--;
+  session.answers.texts[session.answers.numbers[2]] = "68";
+  assert.equal(session.compared(), "step 3 answers otherwise");
+  session.close();
+});
+
+test("a step's state is the same by whichever way one comes there", () => {
+  const text = "version 2\nint ax=3\nrepeat 300\nint ax=E41\nout 3C8 1\nadvance 12345\n" +
+    "frame\nin 3DA\nend\nint ax=13\nadvance 99";
+  const session = sessionOf(text), { length } = session;
+  assert.equal(length, 1503);
+  assert.ok(session.kept.length > 3);
+  for (const steps of [length, 1, 750, 749, 751, 0, 1502, 1499, 3, 4, 1000]) {
+    assert.ok(session.approach(steps));
+    const found = session.card.save();
+    assert.deepEqual(found, stateFromPowerOn(session, steps), `after step ${steps}`);
+  }
+  session.close();
+});
+
+test("what is seen of a step leaves the card after it", () => {
+  const session = sessionOf("int ax=3\nadvance 200000\nint ax=E41\nframe");
+  for (const steps of [0, 1, 2, 3, 4, 3]) {
+    session.approach(Math.max(0, steps - 1));
+    const seen = session.seen(steps);
+    assert.equal(session.at, steps);
+    assert.deepEqual(session.card.save(), stateFromPowerOn(session, steps));
+    assert.equal(seen.picture.isWhole, steps === 4);
+    if (steps === 4) assert.deepEqual([seen.picture.width, seen.picture.height], [720, 400]);
+    if (steps === 3) assert.equal(seen.picture.drawn.reduce((sum, dots) => sum + dots, 0) > 100000, true);
+  }
+  session.close();
+});
+
+/** How long it takes to see a step from elsewhere: the least of three, since others use the machine too. */
+function quickest(session, step) {
+  return Math.min(...[0, 1, 2].map(() => {
+    session.approach(step < session.length / 2 ? session.length : 0);
+    const begun = performance.now();
+    session.approach(step);
+    session.seen(step + 1);
+    return performance.now() - begun;
+  }));
+}
+
+test("long scripts: any step of three million within 50 milliseconds, back as quick as forward", () => {
+  const shapes = {
+    "in blocks": "version 2\nint ax=13\n" +
+      "repeat 60000\nput A0001 12\nget A0002\nout 3C8 3\nput A1234 77\nin 3DA\nend\n".repeat(10),
+    "in lines": "int ax=13\n" + "get A0001\nin 3CC\nput A0000 1\n".repeat(400000),
+  };
+  for (const [shape, text] of Object.entries(shapes)) {
+    const session = sessionOf(text);
+    assert.ok(session.length >= 1200001, shape);
+    const times = [0.5, 0.999, 0.001, 0.3, 0.7, 0.2].flatMap(part =>
+      [0, 1, 2].map(back => quickest(session, Math.floor(session.length * part) - back)));
+    const most = Math.max(...times), run = session.time.toFixed(0);
+    console.log(`${shape}: ${session.length} steps in ${run} ms; to a step ${most.toFixed(1)} ms at most`);
+    assert.ok(most < 50, `${shape}: ${times.map(time => time.toFixed(1))}`);
+    session.close();
+  }
+});
+
+test("bad lines are told with their line and reason", () => {
+  for (const [text, line, reason] of [
+    ["frame\nout 0x3C4 02", 2, "numbers are hexadecimal digits alone: write 3C4"],
+    ["version 2\nrepeat 2\nframe", 2, "the block has no end"],
+    ["\ufeffframe", 1, "the text begins with a byte order mark: save the text as UTF-8 without it"],
+  ]) {
+    assert.throws(() => judgedText(adapter, text), { line, message: reason });
+  }
+});
+
+test("a step belongs to its line, in blocks each time", () => {
+  const { outline } = judgedText(adapter,
+    "version 2 ; x\n\nint ax=3 ; = *\nrepeat 3\n; c\nframe\n IN 3da ;= 5\nend\nrepeat 2\nend\nget 0");
+  assert.equal(outline.length, 8);
+  const lines = Array.from({ length: 8 }, (_, step) => outline.lineOf(outline.entryOf(step)));
+  assert.deepEqual(lines, [3, 6, 7, 6, 7, 6, 7, 11]);
+  assert.deepEqual([0, 1, 2, 3].map(entry => outline.expectedOf(entry)), ["*", null, "5", null]);
+  assert.equal(outline.wordsOf(2), "IN 3da");
+  assert.equal(outline.stepOfEntry(1, 2), 3);
+  assert.equal(outline.stepOfEntry(1, 6), -1);
+  assert.equal(outline.entryAtLine(4), 1);
+});

@@ -1,0 +1,585 @@
+// The page: what is seen, and what its controls do.
+import { Adapter } from "./adapter.js";
+import { Editor } from "./editor.js";
+import { KEYS, keyName, keyTables } from "./keys.js";
+import { Listing } from "./listing.js";
+import { MemoryPanel } from "./memorypanel.js";
+import { PointPanel } from "./pointpanel.js";
+import { Screen } from "./screen.js";
+import { Search, pointText } from "./points.js";
+import { Session, judgedText } from "./session.js";
+import { Trouble } from "./trouble.js";
+import { apngOfRun, pngOfSeen, reportOf, saveFile } from "./saving.js";
+import { bytesOfBase64, counted, grouped } from "./bytes.js";
+import { biosPanel } from "./biospanel.js";
+import { byId, element, pageLink } from "./dom.js";
+import { cellPanel } from "./cellpanel.js";
+import { changesOf } from "./changes.js";
+import { ColourPanel } from "./colourpanel.js";
+import { contentsOf, packed, printedText, unpacked } from "./share.js";
+import { isRefusal } from "./expecting.js";
+import { RegisterPanel } from "./registerpanel.js";
+import { whyRefused } from "./refusals.js";
+
+const SLICE_TIME = 14, SHOWN_EVERY = 250, TYPED = 250, TYPED_MUCH = 1000, MUCH_TEXT = 100000;
+const MOST_LINK = 200000, MOST_WORDS = 160;
+/** What the page shows first. */
+const FIRST_EXAMPLE = "text-by-services";
+const SAVED = ["text", "bytes", "report", "png", "apng"];
+const TABS = ["registers", "memory", "cells", "colours", "BIOS data", "breakpoints"];
+
+/** The page over a module, with the data that it was built with. */
+export class View {
+  constructor(adapter, module, data) {
+    const fonts = bytesOfBase64(data.fonts);
+    Object.assign(this, { adapter, module, data, fonts, ownFonts: fonts, name: "script", tab: TABS[0],
+      points: [] });
+    Object.assign(this, { session: null, seen: null, steps: 0, coming: null, search: null });
+    Object.assign(this, { isPlaying: false, isHalted: false });
+    this.editor = new Editor({ changed: () => this.typed(),
+      pointed: line => this.pointPanel.toggleLine(line) });
+    this.listing = new Listing(steps => this.go(steps));
+    this.screen = new Screen({ clicked: (line, dot) => this.toDot(line, dot) });
+    this.memoryPanel = new MemoryPanel();
+    this.registerPanel = new RegisterPanel(data.pages);
+    this.colourPanel = new ColourPanel();
+    this.pointPanel = new PointPanel({ changed: points => this.pointsChanged(points) });
+    this.channel = new MessageChannel();
+    this.channel.port1.onmessage = () => this.turn();
+    this.makeControls();
+    this.follow();
+  }
+
+  // What the controls do.
+
+  makeControls() {
+    const { examples, pages } = this.data;
+    byId("examples").append(new Option("your own script", ""),
+      ...examples.map(one => new Option(one.name, one.name)));
+    byId("pagedoc").href = `${pages}PAGE.md#what-is-proved`;
+    byId("tabs").append(...TABS.map((tab, i) =>
+      element("button", { type: "button", role: "tab", id: `tab${i + 1}`,
+      title: `${tab} (${i + 1})`, "aria-controls": "panel", onclick: () => this.open(tab) }, tab)));
+    byId("keys").append(...keyTables());
+    const frames = [{ kind: "frame" }];
+    const clicks = {
+      first: () => this.go(0),
+      runback: () => this.find(this.active, true),
+      framebefore: () => this.find(frames, true),
+      back: () => this.go(this.steps - 1),
+      next: () => this.go(this.steps + 1),
+      frameafter: () => this.find(frames, false),
+      run: () => this.run(),
+      last: () => this.toEnd(),
+      play: () => this.play(!this.isPlaying),
+      openfile: () => byId("file").click(),
+      share: () => this.share(),
+      help: () => byId("helpbox").showModal(),
+      ownfonts: () => this.useFonts(this.ownFonts),
+    };
+    for (const what of SAVED) clicks[`save${what}`] = () => this.save(what);
+    for (const [name, does] of Object.entries(clicks)) {
+      byId(name).addEventListener("click", () => this.guarded(does));
+    }
+    this.makeChoices();
+    this.makeFiles();
+    document.addEventListener("keydown", event => this.pressed(event));
+    addEventListener("hashchange", () => this.follow());
+  }
+
+  makeChoices() {
+    byId("examples").addEventListener("change", event => this.loadExample(event.target.value));
+    byId("slider").addEventListener("input", event => this.go(Number(event.target.value)));
+    byId("notice").lastElementChild.addEventListener("click", () => this.tell(""));
+    byId("goto").addEventListener("submit", event => {
+      event.preventDefault();
+      this.guarded(() => this.goTo(byId("gotokind").value, byId("gotonumber").value));
+    });
+  }
+
+  makeFiles() {
+    const box = byId("drop");
+    byId("file").addEventListener("change", event => {
+      this.openFile(event.target.files[0]);
+      event.target.value = "";
+    });
+    document.addEventListener("dragover", event => {
+      event.preventDefault();
+      box.hidden = false;
+    });
+    document.addEventListener("dragleave", event => { box.hidden = event.relatedTarget === null; });
+    document.addEventListener("drop", event => {
+      event.preventDefault();
+      box.hidden = true;
+      this.openFile(event.dataTransfer.files[0]);
+    });
+  }
+
+  pressed(event) {
+    if (event.altKey || event.metaKey || document.querySelector("dialog[open]")) return;
+    const { tagName, type } = event.target, inText = event.target === this.editor.area;
+    const isTyping = /^(INPUT|SELECT|TEXTAREA)$/.test(tagName) && !["checkbox", "button"].includes(type);
+    if (inText && this.pressedInText(event)) return event.preventDefault();
+    if (event.key === "Escape") return document.activeElement?.blur();
+    const isFunction = /^F\d+$/.test(event.key);
+    if (event.ctrlKey || (isTyping && !isFunction) || this.hasOwnKeys(event)) return;
+    const found = KEYS.find(([, , names]) => names.includes(keyName(event)));
+    if (!found) return;
+    event.preventDefault();
+    this.press(found[3], event.key);
+  }
+
+  /** Whether the element of a key's event goes on by this key itself, as tabs and lists do by arrows. */
+  hasOwnKeys(event) {
+    const isTab = event.target.getAttribute?.("role") === "tab" && event.key.startsWith("Arrow");
+    return isTab && this.nextTab(event);
+  }
+
+  nextTab(event) {
+    const at = TABS.indexOf(this.tab) + (event.key === "ArrowRight" ? 1 : -1);
+    this.open(TABS[(at + TABS.length) % TABS.length]);
+    byId(`tab${TABS.indexOf(this.tab) + 1}`).focus();
+    event.preventDefault();
+    return true;
+  }
+
+  press(control, key) {
+    if (control === "tab") return this.open(TABS[Number(key) - 1]);
+    const made = byId(control);
+    if (control === "gotonumber" || control === "text") return made.focus();
+    if (control === "savemenu") {
+      made.open = !made.open;
+      return made.querySelector("button, summary").focus();
+    }
+    return made.click();
+  }
+
+  /** Whether a key means something in the text alone. */
+  pressedInText(event) {
+    const { line } = this.editor;
+    if (event.key === "F9" || (event.ctrlKey && event.key === "b")) this.pointPanel.toggleLine(line);
+    else if (event.ctrlKey && event.key === "Enter") this.guarded(() => this.goTo("line", String(line)));
+    else return false;
+    return true;
+  }
+
+  /** Does something, and tells what is wrong where it can't be done. */
+  async guarded(does) {
+    try {
+      this.tell("");
+      await does();
+    } catch (error) {
+      await this.failed(error);
+    }
+  }
+
+  async failed(error) {
+    this.search = null;
+    this.coming = null;
+    this.play(false);
+    if (error instanceof Trouble) return this.tell(error.message);
+    if (error instanceof RangeError) return this.tell(`There is no memory left for this: ${error.message}.`);
+    if (!(error instanceof WebAssembly.RuntimeError)) throw error;
+    this.session = null;
+    this.adapter = await Adapter.opened(this.module);
+    return this.tell(
+      `The module has stopped (${error.message}). It is opened anew: change the script, and it runs again.`);
+  }
+
+  /** Says something in the line above the page; an empty text takes the line away. */
+  tell(text) {
+    byId("notice").hidden = !text;
+    byId("notice").firstElementChild.textContent = text;
+  }
+
+  // Scripts.
+
+  loadExample(name) {
+    const found = this.data.examples.find(one => one.name === name);
+    if (found) this.load(found.name, found.text);
+  }
+
+  load(name, text, asked = Infinity) {
+    const example = this.data.examples.find(one => one.name === name && one.text === text);
+    this.name = name.replace(/\.\w{1,6}$/, "");
+    byId("examples").value = example ? name : "";
+    byId("about").textContent = example ? example.about : name;
+    document.title = `${this.name}: Zaklimot`;
+    this.pointPanel.change(this.points.filter(point => point.kind !== "line"));
+    this.editor.load(text);
+    if (this.editor.isLong) byId("about").textContent = `${name}. ${this.editor.note}`;
+    this.begin(asked);
+  }
+
+  /** What the link or the tool that made the page asks for. */
+  async follow() {
+    const words = new URLSearchParams(location.hash.slice(1)), { open } = this.data;
+    const asked = words.has("step") ? Number(words.get("step")) : Infinity;
+    if (TABS.includes(words.get("tab"))) this.tab = words.get("tab");
+    await this.guarded(async () => {
+      if (words.has("fonts")) this.fonts = await unpacked(words.get("fonts"));
+      if (words.has("script")) {
+        const text = new TextDecoder().decode(await unpacked(words.get("script")));
+        return this.load("your own script", text, asked);
+      }
+      const { examples } = this.data, named = name => examples.find(one => one.name === name);
+      const example = named(words.get("example")) ?? (open ? null : named(FIRST_EXAMPLE) ?? examples[0]);
+      if (example) return this.load(example.name, example.text, asked);
+      if (open.fonts) this.fonts = bytesOfBase64(open.fonts);
+      return this.load(open.name, open.text ?? printedText(bytesOfBase64(open.bytes), this.adapter), asked);
+    });
+  }
+
+  async openFile(file) {
+    if (!file) return;
+    await this.guarded(async () => {
+      const found = await contentsOf(new Uint8Array(await file.arrayBuffer()), this.adapter);
+      if (found.fonts) return this.useFonts(found.fonts, file.name);
+      return this.load(file.name, found.text);
+    });
+  }
+
+  useFonts(fonts, name = "") {
+    this.fonts = fonts;
+    byId("ownfonts").hidden = fonts === this.ownFonts;
+    this.begin();
+    if (name) this.tell(`Mode sets load the glyphs of ${name} now.`);
+  }
+
+  typed() {
+    byId("examples").value = "";
+    byId("about").textContent = "";
+    byId("compared").textContent = "";
+    clearTimeout(this.timer);
+    const wait = this.editor.text.length > MUCH_TEXT ? TYPED_MUCH : TYPED;
+    this.timer = setTimeout(() => this.guarded(() => this.begin()), wait);
+  }
+
+  /** Runs the text, and shows what is asked for: so many steps, or as many as before, or all. */
+  begin(asked = this.session && this.steps < this.session.length ? this.steps : Infinity) {
+    clearTimeout(this.timer);
+    byId("compared").textContent = "";
+    Object.assign(this, { search: null, coming: null, isHalted: false, asked, begun: performance.now(),
+      shownAt: performance.now() });
+    this.play(false);
+    try {
+      const { text } = this.editor, judged = judgedText(this.adapter, text);
+      this.session?.close();
+      this.session = null;
+      this.session = new Session(this.adapter, this.fonts, text, judged);
+    } catch (error) {
+      if (!(error instanceof Trouble) || !error.line) throw error;
+      return this.blame(error);
+    }
+    this.editor.blame(null);
+    this.editor.isStale = false;
+    document.body.classList.remove("stale");
+    this.isCompared = false;
+    return this.wake();
+  }
+
+  blame(trouble) {
+    this.editor.isStale = true;
+    this.editor.blame(trouble);
+    document.body.classList.add("stale");
+    this.say(`line ${trouble.line} is no step: ${trouble.message}`);
+  }
+
+  say(text) {
+    byId("state").textContent = text;
+  }
+
+  // Going on: the run, the way to a step, and searches, a slice of time after the other.
+
+  wake() {
+    if (this.isAwake) return;
+    this.isAwake = true;
+    this.channel.port2.postMessage(0);
+  }
+
+  async turn() {
+    this.isAwake = false;
+    if (!this.session) return;
+    try {
+      if (this.work()) this.wake();
+    } catch (error) {
+      await this.failed(error);
+    }
+  }
+
+  /** Works for a slice of time; whether there is more to do. */
+  work() {
+    const { session } = this;
+    if (!session.isDone && !this.isHalted) this.runOn();
+    else if (!this.isCompared && session.isDone) this.finish();
+    if (this.search) this.searchOn();
+    else if (this.coming !== null) this.comeOn();
+    this.buttons();
+    const isRunning = session.isDone ? !this.isCompared : !this.isHalted;
+    return isRunning || this.search !== null || this.coming !== null;
+  }
+
+  runOn() {
+    const { session } = this;
+    if (session.runFor(SLICE_TIME)) this.say(
+      `running: step ${grouped(session.ran)} of ${grouped(session.length)}`);
+    byId("slider").max = session.ran;
+    const now = performance.now(), isTime = now - this.shownAt > SHOWN_EVERY;
+    if (session.isDone && this.asked !== null) this.come(Math.min(this.asked, session.length));
+    else if (isTime && this.asked === Infinity) this.come(session.ran);
+    else if (this.asked !== null && this.asked <= session.ran) this.come(this.asked);
+    else return;
+    this.shownAt = now;
+    if (session.isDone || this.asked !== Infinity) this.asked = null;
+  }
+
+  finish() {
+    const { session } = this, why = session.whyNotCompared;
+    this.isCompared = true;
+    this.saySummary();
+    const differs = why ? "" : session.compared(), box = byId("compared");
+    box.className = differs ? "wrong" : why ? "" : "right";
+    box.textContent = why ? `The answers of this run are not held to those of zak_run: it has ${why}.`
+      : differs ? `This run and one by zak_run are not the same: ${differs}. Please report it.`
+      : `✓ All ${grouped(session.length)} answers are those of one run by zak_run, of the whole script.`;
+    if (!session.length) this.come(0);
+    if (this.seen?.session !== session) return;
+    this.listing.show(session, this.steps);
+    this.editor.draw();
+  }
+
+  /** Asks for the state after so many steps. */
+  go(steps) {
+    if (!this.session) return;
+    this.play(false);
+    this.search = null;
+    this.asked = null;
+    this.come(Math.max(0, Math.min(steps, this.session.length)));
+  }
+
+  come(steps) {
+    this.coming = steps;
+    this.wake();
+  }
+
+  comeOn() {
+    const { session, coming } = this;
+    if (coming > session.ran) {
+      if (this.isHalted) this.coming = session.ran;
+      return;
+    }
+    const isSeen = this.seen?.session === session && this.seen.steps === coming;
+    if (isSeen && session.at === coming) this.coming = null;
+    else if (session.approach(Math.max(0, coming - 1), SLICE_TIME)) {
+      this.coming = null;
+      this.show({ ...session.seen(coming), session });
+    } else this.say(`going to step ${grouped(coming)}: at ${grouped(session.at)}`);
+  }
+
+  toEnd() {
+    this.isHalted = false;
+    this.go(this.session?.length ?? 0);
+  }
+
+  get active() {
+    return this.points.filter(point => point.isOn);
+  }
+
+  /** Runs to the next breakpoint, or to the end where there is none; where something runs, it stops. */
+  run() {
+    if (this.isBusy) return this.stop();
+    this.isHalted = false;
+    if (this.active.length) return this.find(this.active, false);
+    return this.toEnd();
+  }
+
+  get isBusy() {
+    return this.isPlaying || this.search !== null || (this.session && !this.session.isDone && !this.isHalted);
+  }
+
+  stop() {
+    const looked = this.search?.search.looked;
+    this.isHalted = !this.session.isDone;
+    this.go(looked ?? (this.session.isDone ? this.steps : this.session.ran));
+  }
+
+  /** Goes to the next or the last step that meets one of some breakpoints. */
+  find(points, isBack, isInclusive = false) {
+    const { session, steps } = this;
+    if (!session) return;
+    if (!points.length) throw new Trouble(
+      "There are no breakpoints: click a line's number, or use their tab.");
+    this.asked = null;
+    this.coming = null;
+    this.search = { search: new Search(session, points, steps, isBack, isInclusive), points, isBack };
+    this.wake();
+  }
+
+  searchOn() {
+    const { search, points, isBack } = this.search, found = search.take(SLICE_TIME);
+    if (!found || found.waiting) {
+      if (found && this.isHalted) this.search = null;
+      this.say(`looking at step ${grouped(search.looked + 1)} of ${grouped(this.session.length)}`);
+      return;
+    }
+    this.search = null;
+    this.isCompared = this.session.whyNotCompared !== null && this.isCompared;
+    const steps = found.steps ?? (isBack ? 0 : this.session.length);
+    this.come(steps);
+    if (found.ended) this.play(false);
+    const what = points.map(pointText).join(", ").slice(0, MOST_WORDS);
+    if (found.ended && points[0].kind !== "frame") this.tell(
+      `No ${isBack ? "earlier" : "later"} step meets ${what}.`);
+    this.saySummary();
+  }
+
+  saySummary() {
+    const { isDone, time } = this.session;
+    if (isDone) this.say(
+      `${this.session.summary()} · ${time < 10 ? time.toFixed(1) : grouped(Math.round(time))} ms`);
+  }
+
+  /** Goes to the step that draws a dot of the picture. */
+  toDot(line, dot) {
+    const { seen } = this, point = { kind: "beam", line, dot };
+    if (!seen || this.isBusy) return;
+    const drawn = seen.picture.isWhole || dot < seen.picture.drawn[line];
+    this.guarded(() => this.find([point], drawn, true));
+  }
+
+  goTo(kind, text) {
+    const number = Number(text.replace(/[, ]/g, ""));
+    if (!/^[\d, ]+$/.test(text.trim())) throw new Trouble("Type a number of a step or a line.");
+    if (kind === "step") return this.go(number);
+    const { outline } = this.session, entry = outline.entryAtLine(number);
+    if (entry < 0) throw new Trouble(`No step stands at line ${number} or after it.`);
+    const next = outline.stepOfEntry(entry, this.steps), step = next < 0 ? outline.stepOfEntry(entry) : next;
+    if (step < 0) throw new Trouble(`The steps of line ${outline.lineOf(entry)} are never taken.`);
+    return this.go(step + 1);
+  }
+
+  play(isOn) {
+    this.isPlaying = isOn;
+    byId("play").textContent = isOn ? "pause" : "play";
+    if (!isOn || !this.session) return;
+    if (this.steps >= this.session.length) this.come(0);
+    this.playOn();
+  }
+
+  playOn() {
+    if (!this.isPlaying) return;
+    if (this.coming === null && !this.search) this.find([{ kind: "frame" }], false);
+    setTimeout(() => this.playOn(), 15);
+  }
+
+  pointsChanged(points) {
+    this.points = points;
+    const lines = points.filter(point => point.kind === "line" && point.isOn);
+    this.editor.points = new Set(lines.map(point => point.line));
+    this.editor.draw();
+    byId("tab6").textContent = points.length ? `breakpoints (${points.length})` : "breakpoints";
+  }
+
+  // What is seen.
+
+  show(seen) {
+    Object.assign(this, { seen, steps: seen.steps });
+    byId("slider").value = seen.steps;
+    this.editor.show(this.session, seen.steps);
+    this.listing.show(this.session, seen.steps);
+    this.screen.show(seen);
+    this.showStep();
+    this.open(this.tab);
+  }
+
+  showStep() {
+    const { session, seen, steps } = this, { outline } = session;
+    byId("refusal").hidden = true;
+    if (!steps) {
+      byId("laststep").replaceChildren(`Power-on: no step of ${grouped(session.length)} is taken yet.`);
+      byId("changes").textContent = "";
+      return;
+    }
+    const entry = outline.entryOf(steps - 1), words = outline.wordsOf(entry);
+    const answer = session.answers.get(steps - 1),
+      code = text => element("code", {}, text.slice(0, MOST_WORDS));
+    const place =
+      `After step ${grouped(steps)} of ${grouped(session.length)}, line ${grouped(outline.lineOf(entry))}: `;
+    byId("laststep").replaceChildren(place, code(words), " answers ", code(answer));
+    if (isRefusal(answer)) this.showRefusal(words, answer);
+    const changes = changesOf(seen.before, seen.after);
+    byId("changes").textContent = changes.length ? `Changed: ${changes.join("; ")}.` : "Nothing changed.";
+  }
+
+  showRefusal(words, answer) {
+    const { text, link } = whyRefused(words, answer, this.seen.before), box = byId("refusal");
+    const more = pageLink(this.data.pages, link.page, link.anchor, `See ${link.title}.`);
+    box.replaceChildren(element("strong", {}, answer), ` ${text} `, more);
+    box.hidden = false;
+  }
+
+  open(tab) {
+    this.tab = tab;
+    TABS.forEach((name, i) => {
+      const made = byId(`tab${i + 1}`);
+      made.setAttribute("aria-selected", String(name === tab));
+      made.tabIndex = name === tab ? 0 : -1;
+    });
+    byId("panel").setAttribute("aria-labelledby", `tab${TABS.indexOf(tab) + 1}`);
+    if (!this.seen) return;
+    const { pages } = this.data;
+    const makers = {
+      registers: () => this.registerPanel.made(this.seen),
+      memory: () => this.memoryPanel.made(this.seen),
+      cells: () => cellPanel(this.seen),
+      colours: () => this.colourPanel.made(this.seen),
+      "BIOS data": () => biosPanel(pages, this.seen),
+      breakpoints: () => this.pointPanel.box,
+    };
+    const made = makers[tab](), panel = byId("panel");
+    if (panel.firstChild !== made) panel.replaceChildren(made);
+  }
+
+  buttons() {
+    byId("run").textContent = this.isBusy && !this.isPlaying ? "stop ■" : "run ▶▶";
+    const isAtEnd = this.session.isDone && this.steps >= this.session.length;
+    for (const name of ["first", "back", "framebefore", "runback"]) byId(name).disabled = this.steps === 0;
+    for (const name of ["next", "frameafter", "last"]) byId(name).disabled = isAtEnd;
+  }
+
+  // Links and files.
+
+  async share() {
+    const words = new URLSearchParams(), { text } = this.editor;
+    words.set("script", await packed(new TextEncoder().encode(text)));
+    if (this.steps < (this.session?.length ?? 0)) words.set("step", this.steps);
+    if (this.tab !== TABS[0]) words.set("tab", this.tab);
+    if (this.fonts !== this.ownFonts) words.set("fonts", await packed(this.fonts));
+    const link = `${location.href.split("#")[0]}#${words}`, isTooLong = link.length > MOST_LINK;
+    byId("linksaid").textContent = `It has ${counted(link.length, "character")}` +
+      (isTooLong ? ", more than many programs take: save the script as a file."
+        : ", and holds the whole script.");
+    byId("link").value = link;
+    byId("linkbox").showModal();
+    byId("link").select();
+  }
+
+  async save(what) {
+    byId("savemenu").open = false;
+    const { session, name, seen } = this;
+    if (what === "text") return saveFile(`${name}.vga`, new TextEncoder().encode(this.editor.text),
+      "text/plain");
+    if (!session || !seen || this.editor.isStale) throw new Trouble(
+      "There is no run to save: mend the bad line first.");
+    if (what === "bytes") return saveFile(`${name}.bin`, session.script, "application/octet-stream");
+    if (what === "report") return saveFile(`${name}.txt`, reportOf(session), "application/octet-stream");
+    if (what === "png") return saveFile(`${name}-${this.steps}.png`, await pngOfSeen(seen), "image/png");
+    const moving = await apngOfRun(session, async steps => {
+      this.say(`drawing: step ${grouped(steps)} of ${grouped(session.length)}`);
+      await new Promise(resolve => setTimeout(resolve));
+      return this.session === session;
+    });
+    this.saySummary();
+    return moving && saveFile(`${name}.png`, moving, "image/png");
+  }
+}

@@ -1,0 +1,149 @@
+"""The words of the command line, and the checks one after the other."""
+
+from __future__ import annotations
+
+import argparse
+import sys
+import tempfile
+import time
+from pathlib import Path
+from typing import Iterator, Optional, Sequence
+
+from library_tests.compilers import Wrong
+from vga_page.making import kit_line, made_modules
+from vga_page.telling import phases
+from vga_page.wasm import MOST_MODULE, check_module, kit_of
+from vga_report.debugging import read_at_most
+from vga_report.progress import Progress
+from vga_report.trouble import Trouble
+
+from .built import built_page, check_built, module_in
+from .node import node_words
+from .scripts import (
+    SMALL_MEMORY, Modules, check_browser, check_heap, check_own, check_scripts, check_syntax,
+)
+from .suite import check_suite
+
+RIGHT, WRONG, TROUBLE, INTERRUPTED = 0, 1, 2, 130
+MODULE, PAGE, SUITE, HEAP, SCRIPTS, OWN = CHECKS = ("module", "page", "suite", "heap", "scripts", "own")
+BROWSER = "browser"
+# A line of what was seen: the check, and what it tells.
+Told = Iterator[tuple[str, str]]
+
+
+def _parser() -> argparse.ArgumentParser:
+    parser = argparse.ArgumentParser(
+        prog="vga-page-tests", description="Tests the page that runs scripts in a browser, and its module.",
+        epilog="Exit status: 0 all is right; 1 something is wrong; 2 the tests can't be made.",
+    )
+    parser.add_argument(
+        "--module", metavar="FILE", help="a module that was made already; else it is made"
+    )
+    parser.add_argument(
+        "--gated", action="store_true",
+        help="over the libraries that `rt ci` left, which must have run just before",
+    )
+    parser.add_argument(
+        "--proof", type=Path, metavar="FOLDER",
+        help="with --gated: keeps the crate's proof there, or takes it from there",
+    )
+    parser.add_argument(
+        "--ready", action="store_true", help="tests nothing, and tells what this machine lacks"
+    )
+    parser.add_argument(
+        "--browser", action="store_true", help="the page as built in Chromium, and nothing else"
+    )
+    parser.add_argument(
+        "--only", action="append", default=[], choices=CHECKS, help="this check alone; again and again"
+    )
+    return parser
+
+
+def _made(words: argparse.Namespace, progress: Progress, times: int) -> tuple[list[bytes], Optional[bytes]]:
+    """The module that is tested, made so many times, and one of fixed memory; or the one that is given."""
+    if words.module is not None:
+        return [read_at_most(words.module, MOST_MODULE)], None
+    try:
+        made = made_modules(phases(progress), words.gated, words.proof, [None, SMALL_MEMORY], times)
+        return [module for module, _ in made], made[0][1]
+    finally:
+        progress.clear()
+
+
+def check_modules(modules: Sequence[bytes]) -> str:
+    """The module has what the page relies on, and is the same bytes each time."""
+    if len(set(modules)) != 1:
+        lengths = ", ".join(f"{len(one):,} bytes" for one in modules)
+        raise Wrong(f"two modules of the same crate differ: {lengths}")
+    return check_module(modules[0]) + (", the same twice" if len(modules) > 1 else "")
+
+
+def _times(page: Optional[bytes], wanted: Sequence[str]) -> int:
+    """How many modules are made: one where it is held to the page's, which this kit made in another run."""
+    return 1 if PAGE in wanted and page is not None and kit_of(module_in(page)) == kit_line() else 2
+
+
+def _file(folder: Path, name: str, data: bytes) -> Path:
+    (folder / name).write_bytes(data)
+    return folder / name
+
+
+def _checks(words: argparse.Namespace, progress: Progress, folder: Path) -> Told:
+    """Makes each check that is wanted, and tells what came of it."""
+    wanted = words.only or CHECKS
+    page = built_page() if {PAGE, SCRIPTS, OWN} & set(wanted) else None
+    same, small = _made(words, progress, 1 if words.module else _times(page, wanted))
+    yield MODULE, check_modules(same)
+    modules = Modules(_file(folder, "module.wasm", same[0]), small and _file(folder, "small.wasm", small))
+    under_test = [modules.module]
+    if page is not None:
+        # What runs in the page is the module in it, even where that is another kit's.
+        modules = modules._replace(module=_file(folder, "page.wasm", module_in(page)))
+    if page is not None and PAGE in wanted:
+        told, is_of_this_kit = check_built(same[0], page)
+        under_test += [] if is_of_this_kit else [modules.module]
+        yield PAGE, f"{told}; {check_syntax(page, folder)}"
+    if SUITE in wanted:
+        for module in under_test:
+            yield SUITE, check_suite(module, folder / f"cases of {module.name}")
+    for name, check in ((HEAP, check_heap), (SCRIPTS, check_scripts), (OWN, check_own)):
+        if name in wanted:
+            yield name, check(modules)
+
+
+def _in_browser() -> Told:
+    """The check of the page in a browser."""
+    yield BROWSER, check_browser()
+
+
+def _run(words: argparse.Namespace, progress: Progress) -> None:
+    """Tells a line for each check."""
+    with tempfile.TemporaryDirectory(prefix="vga-page-tests-") as name:
+        checks = _in_browser() if words.browser else _checks(words, progress, Path(name))
+        begun = time.monotonic()
+        for check, told in checks:
+            print(f"{check}: {told} ({time.monotonic() - begun:.0f} s)", flush=True)
+            begun = time.monotonic()
+
+
+def main(given: Optional[Sequence[str]] = None) -> int:
+    """Runs a command line, and answers its exit status."""
+    words, progress = _parser().parse_args(given), Progress()
+    try:
+        if words.proof is not None and not words.gated:
+            raise Trouble("--proof keeps a proof of --gated")
+        node_words()
+        if not words.ready:
+            _run(words, progress)
+        return RIGHT
+    except Wrong as wrong:
+        status, reason = WRONG, str(wrong)
+    except Trouble as trouble:
+        status, reason = TROUBLE, str(trouble)
+    except OSError as error:
+        status, reason = TROUBLE, f"{error.filename or 'standard output'}: {error.strerror}"
+    except KeyboardInterrupt:
+        return INTERRUPTED
+    progress.clear()
+    print(f"vga-page-tests: {reason}", file=sys.stderr)
+    return status

@@ -1,0 +1,106 @@
+"""What the page's own scripts do: their tests, the check of the examples, and the page in a browser."""
+
+from __future__ import annotations
+
+import json
+import re
+import shutil
+from pathlib import Path
+from typing import Any, NamedTuple, Optional
+
+from library_tests.compilers import Wrong
+from vga_report.debugging import PAGE
+from vga_report.processes import MEBIBYTE
+from vga_report.trouble import Trouble
+
+from .node import run_node
+
+TESTS = PAGE.parent / "tests"
+BROWSER = TESTS / "browser.mjs"
+HEAP, OWN = (Path(__file__).resolve().parent / name for name in ("heap.mjs", "own.mjs"))
+# How a file tells that it has tests.
+IS_TEST = 'from "node:test"'
+SCRIPT = re.compile(r'<script type="module">\n(.*?)</script>', re.S)
+# What node tells of its tests.
+COUNT = re.compile(r"^# (pass|fail|skipped|todo|cancelled) ([0-9]+)$", re.M)
+CHROMIUM = ("chromium", "chromium-browser", "google-chrome")
+# Where the tests find the module, the page as built, and a module whose memory doesn't grow.
+MODULE, BUILT, SMALL = "ZAKLIMOT_MODULE", "ZAKLIMOT_PAGE", "ZAKLIMOT_SMALL_MODULE"
+# So much memory the small module has: enough for two cards, and not for three.
+SMALL_MEMORY = 16 * MEBIBYTE
+
+
+class Modules(NamedTuple):
+    """The files of a module, and of one whose memory is fixed, where there is one."""
+
+    module: Path
+    small: Optional[Path] = None
+
+
+def check_syntax(page: bytes, folder: Path) -> str:
+    """The joined script of the page is one that an engine takes, in which no name is declared twice."""
+    found = SCRIPT.findall(page.decode("utf-8"))
+    if len(found) != 1:
+        raise Wrong(f"the page has {len(found)} scripts, and one is right")
+    script = folder / "page.mjs"
+    script.write_text(found[0], "utf-8")
+    run_node(["--check", script])
+    return f"a script of {len(found[0]):,} characters, as node takes it"
+
+
+def test_files(folder: Path) -> list[Path]:
+    """The files of a folder that node runs as tests."""
+    files = sorted(path for path in folder.glob("*.mjs") if path.name != BROWSER.name)
+    return [path for path in files if IS_TEST in path.read_text("utf-8")]
+
+
+def counted(said: str) -> str:
+    """What node tells of its tests, of which each has passed, and none is left out."""
+    counts = {name: int(count) for name, count in COUNT.findall(said)}
+    others = {name: count for name, count in counts.items() if name != "pass" and count}
+    if others or not counts.get("pass"):
+        raise Wrong(f"the page's tests in node: {counts}")
+    return f"{counts['pass']} tests of the page's scripts pass"
+
+
+def check_scripts(modules: Modules) -> str:
+    """The page's tests in node."""
+    files = test_files(TESTS)
+    if not files:
+        raise Wrong(f"there are no tests in {TESTS}")
+    environment = {MODULE: str(modules.module), BUILT: str(PAGE)}
+    if modules.small is not None:
+        environment[SMALL] = str(modules.small)
+    return counted(run_node(["--test", "--test-reporter", "tap", *files], environment))
+
+
+def check_own(modules: Modules) -> str:
+    """The page's check of its examples, over its module: each answers as by `zak_run`, and as expected."""
+    return agreed(json.loads(run_node([OWN, modules.module, PAGE])))
+
+
+def agreed(told: dict[str, Any]) -> str:
+    """What the page's check of its examples tells, where each of them agrees."""
+    if told["differ"] or not (told["agree"] and told["expected"]):
+        lines = [f"  {line}" for line in told["lines"]]
+        raise Wrong("\n".join(["the page's check of its examples:", *lines]))
+    return f"{told['agree']} examples answer as by zak_run, {told['expected']} answers as expected"
+
+
+def check_heap(modules: Modules) -> str:
+    """The module's heap: blocks at random don't overlap, and calls say where memory is spent, and go on."""
+    if modules.small is None:
+        return "left out: --module has none of fixed memory"
+    told = json.loads(run_node([HEAP, modules.module, modules.small]))
+    grown, cards = told["grown"] // MEBIBYTE, told["cards"]
+    spent = f"where memory is spent after {cards} card{'s' * (cards != 1)}, calls say so and go on"
+    return f"{told['rounds']:,} times a block is taken or given back, in {grown} MiB; {spent}"
+
+
+def check_browser() -> str:
+    """The page as built in Chromium; what was seen is told."""
+    if not BROWSER.exists():
+        raise Trouble("it is not there", str(BROWSER))
+    if not any(map(shutil.which, CHROMIUM)):
+        raise Trouble(f"it is not in the path: install the package {CHROMIUM[0]}", CHROMIUM[0])
+    return run_node([BROWSER], {BUILT: str(PAGE)}).strip().replace("\n", "; ")

@@ -1,0 +1,173 @@
+"""`run --debug`: the page that runs a script, in a folder of tools as a release has them."""
+
+from __future__ import annotations
+
+import base64
+import json
+import os
+import shutil
+import subprocess
+import sys
+import tempfile
+import unittest
+from pathlib import Path
+from typing import Any
+from urllib.parse import unquote
+
+from vga_report.debugging import data_element, page_data
+from vga_report.program import FONTS
+
+from .test_command import Files
+from .test_page import Alone
+from .test_run import Fake
+
+TOOLS = Path(__file__).resolve().parents[1]
+TEXT = "; A script.\nint ax=3 ; = ax=0003\nframe ; <!-- </script> \u00e9\n"
+OTHER_FONTS = bytes(9728)
+
+
+def small_page() -> str:
+    """A page that runs scripts, as far as the tool looks at it."""
+    fonts = base64.b64encode(FONTS.read_bytes()).decode("ascii")
+    data = {"module": "AA==", "fonts": fonts, "examples": [], "pages": "../docs/", "open": None}
+    element = data_element(data)
+    return f"<!DOCTYPE html>\n<title>page</title>\n{element}\n<script>\n'zaklimot-data'\n</script>\n"
+
+
+class Release(Files):
+    """A folder that has the tool, the fonts and the page."""
+
+    def setUp(self) -> None:
+        super().setUp()
+        self.top = self.folder / "a release"
+        (self.top / "page").mkdir(parents=True)
+        ignored = shutil.ignore_patterns("__pycache__")
+        shutil.copytree(TOOLS / "vga_report", self.top / "tools" / "vga_report", ignore=ignored)
+        shutil.copy(TOOLS / "vga-report", self.top / "tools")
+        self.built = self.top / "page" / "zaklimot.html"
+        self.built.write_text(small_page(), "utf-8")
+        self.script = self.write("script.vga", TEXT)
+        self.made = self.folder / "debug.html"
+        self.fonts = self.folder / "fonts"
+        self.fonts.write_bytes(FONTS.read_bytes())
+
+    def ran(self, *words: str, given: bytes = b"") -> tuple[int, str, str]:
+        """Exit status, standard output and standard error of `run` with the font file of this folder."""
+        tool = self.top / "tools" / "vga-report"
+        command = [sys.executable, tool, "run", "--fonts", self.fonts, *words]
+        done = subprocess.run(command, input=given, capture_output=True, timeout=100, cwd=self.folder)
+        return done.returncode, done.stdout.decode(), done.stderr.decode()
+
+    def opened(self, page: str) -> dict[str, Any]:
+        """What a page is told to open. Nothing else of it is otherwise than the page as built."""
+        data, built = page_data(page), page_data(small_page())
+        found: dict[str, Any] = data["open"]
+        self.assertEqual({**data, "open": None, "pages": built["pages"]}, built)
+        self.assertEqual(page, small_page().replace(data_element(built), data_element(data)))
+        return found
+
+
+class Pages(Release):
+    def test_a_text(self) -> None:
+        status, output, said = self.ran(self.script, "--debug", str(self.made))
+        self.assertEqual((status, said), (0, ""))
+        self.assertEqual(output, (
+            f"{self.made}: open it in Chromium or Firefox, for instance as {self.made.as_uri()}\n"
+        ))
+        page = self.made.read_text("utf-8")
+        self.assertEqual(self.opened(page), {"name": self.script, "text": TEXT, "fonts": None})
+        # No character of the script ends the element of the data.
+        self.assertEqual(page.count("</script"), small_page().count("</script"))
+        pages = unquote(page_data(page)["pages"])
+        self.assertEqual((self.folder / pages).resolve(), (self.top / "docs").resolve())
+
+    def test_bytes_and_another_font_file(self) -> None:
+        script = b"VGAS\x01\x0b\xff"
+        self.fonts.write_bytes(OTHER_FONTS)
+        status, page, said = self.ran("-", "--debug", "-", given=script)
+        self.assertEqual((status, said), (0, ""))
+        self.assertEqual(self.opened(page), {
+            "name": "standard input", "bytes": base64.b64encode(script).decode("ascii"),
+            "fonts": base64.b64encode(OTHER_FONTS).decode("ascii"),
+        })
+
+    def test_the_step_at_which_it_opens(self) -> None:
+        status, output, _ = self.ran(self.script, "--debug", str(self.made), "--until", "2")
+        self.assertEqual((status, output.split()[-1]), (0, self.made.as_uri() + "#step=2"))
+
+    def test_bytes_of_a_text_that_are_no_text(self) -> None:
+        path = self.folder / "s"
+        path.write_bytes(b"frame ; \xff\n\0\n")
+        self.assertEqual(self.ran(str(path), "--debug", str(self.made))[0], 0)
+        self.assertEqual(self.opened(self.made.read_text("utf-8"))["text"], "frame ; \ufffd\n\0\n")
+
+    def test_a_file_that_is_read_is_not_written(self) -> None:
+        for path in (self.script, str(self.fonts), str(self.built)):
+            with self.subTest(path):
+                before = Path(path).read_bytes()
+                status, output, said = self.ran(self.script, "--debug", path)
+                self.assertEqual((status, output), (2, ""))
+                self.assertTrue(said.startswith(f"vga-report: {path}: it is read as "), said)
+                self.assertTrue(said.endswith(", so it isn't written\n"), said)
+                self.assertEqual(Path(path).read_bytes(), before)
+        link = self.folder / "link"
+        link.symlink_to(self.script)
+        self.assertIn("so it isn't written", self.ran(self.script, "--debug", str(link))[2])
+        names = sorted(path.name for path in self.folder.iterdir())
+        self.assertEqual(names, ["a release", "fonts", "link", "script.vga"])
+
+    def test_what_can_not_be_done(self) -> None:
+        def said(*words: str, given: bytes = b"") -> str:
+            status, output, told = self.ran(*words, given=given)
+            self.assertEqual((status, output), (2, ""))
+            self.assertFalse(self.made.exists())
+            return told.removeprefix("vga-report: ")
+
+        debug = ["--debug", str(self.made)]
+        self.assertEqual(said("none", *debug), "none: No such file or directory\n")
+        self.assertEqual(said("-", *debug, given=bytes(16_777_217)), "-: it has more than 16,777,216 bytes\n")
+        for words in (["--only", "1"], ["--try"], ["--vga", "x"]):
+            told = said(self.script, *debug, *words)
+            self.assertTrue(told.startswith("--debug runs nothing here: "), words)
+        for words in (["--bless"], ["--show"], ["--pictures", "p"]):
+            told = said(self.script, *debug, *words)
+            self.assertTrue(told.startswith("--debug writes a page that runs the script: "), words)
+        self.assertIn("both want files", said(self.script, *debug, "--html", "-"))
+        self.assertIn("want two files", said(self.script, *debug, "--html", str(self.made)))
+        self.fonts.write_bytes(bytes(9727))
+        told = f"{self.fonts}: the font file has 9,727 bytes, and 9,728 are right\n"
+        self.assertEqual(said(self.script, *debug), told)
+        self.fonts.write_bytes(OTHER_FONTS)
+        self.built.write_text("<!DOCTYPE html>\n")
+        self.assertEqual(said(self.script, *debug), "zaklimot.html: it is not the page that runs scripts\n")
+        self.built.unlink()
+        told = "the page is not built: `tools/vga-page make page/zaklimot.html` builds it"
+        self.assertIn(told, said(self.script, *debug))
+
+
+@unittest.skipIf(sys.platform == "win32", "a script is a program on POSIX")
+class WithListing(Release, Fake, Alone):
+    def test_the_listing_links_to_it(self) -> None:
+        (self.folder / "x y").mkdir()
+        html, made = self.folder / "page.html", self.folder / "x y" / "debug.html"
+        for path, given in ((self.path, b""), ("-", Path(self.path).read_bytes())):
+            with self.subTest(path):
+                words = ["--vga", str(self.program), "--html", str(html), "--debug", str(made)]
+                status, output, said = self.ran(path, *words, given=given)
+                self.assertEqual((status, said), (0, ""))
+                self.assertTrue(output.endswith("\n6 steps, 1 picture, 4 of 4 answers as expected\n"))
+                self.assertIn('<a href="x%20y/debug.html">Run it step by step</a>', html.read_text("utf-8"))
+                self.assertEqual(self.opened(made.read_text("utf-8"))["text"], Path(self.path).read_text())
+
+    def test_the_page_of_a_script_with_a_mistake(self) -> None:
+        path = self.write("bad.vga", "frame\nmove 1\n")
+        html = str(self.folder / "page.html")
+        words = ["--vga", str(self.program), "--html", html, "--debug", str(self.made)]
+        status, _, said = self.ran(path, *words)
+        self.assertEqual(status, 2)
+        self.assertIn("F7 BadLine(2)", said)
+        self.assertEqual(self.opened(self.made.read_text("utf-8"))["text"], "frame\nmove 1\n")
+
+
+if __name__ == "__main__":
+    unittest.main()

@@ -1,0 +1,476 @@
+"""The page that runs scripts: how its scripts are joined, what it is given, what its module is held to."""
+
+from __future__ import annotations
+
+import base64
+import contextlib
+import gzip
+import io
+import json
+import os
+import signal
+import subprocess
+import sys
+import tempfile
+import time
+import unittest
+from pathlib import Path
+from unittest import mock
+
+from library_tests.compilers import Wrong
+from page_tests import built, node, scripts, suite
+from page_tests import command as tests_command
+from vga_library.header import HEADER, TOP, calls_of
+from vga_library.running import Failed, run
+from vga_page import command, page, wasm
+from vga_page.bundling import joined
+from vga_page.page import DATA, SCRIPT, STYLE, Sources, about, data_of, examples, make_page, packed, page_text
+from vga_page.retargeting import LAYOUTS, TRIPLES, retargeted
+from vga_page.telling import Phases
+from vga_page.wasm import check_module, exports_of, kit_of, with_kit
+from vga_report.debugging import page_data
+from vga_report.progress import Progress
+from vga_report.trouble import Trouble
+
+FRAME = f"<!DOCTYPE html>\n{STYLE}\n{DATA}\n{SCRIPT}\n"
+
+
+def refused(work: object, *words: object) -> str:
+    """What ends the work."""
+    try:
+        work(*words)  # type: ignore[operator]
+    except Trouble as trouble:
+        return str(trouble)
+    raise AssertionError("it is not refused")
+
+
+class Bundling(unittest.TestCase):
+    def test_a_module_stands_after_those_that_it_imports(self) -> None:
+        told = joined({
+            "a.js": 'import { c } from "./c.js";\nexport const a = c + 1;\n',
+            "b.js": (
+                'import { a } from "./a.js";\nimport { c } from "./c.js";\n\nexport class B {\n  c = a + c;\n}\n'
+            ),
+            "c.js": "export const c = 1;\n",
+            "main.js": 'import { B } from "./b.js";\nimport { a } from "./a.js";\n\nnew B(a);\n',
+        })
+        self.assertEqual(told, (
+            "// c.js\nconst c = 1;\n\n// a.js\nconst a = c + 1;\n\n"
+            "// b.js\nclass B {\n  c = a + c;\n}\n\n// main.js\nnew B(a);\n"
+        ))
+
+    def test_the_order_of_files_is_not_seen(self) -> None:
+        sources = {
+            "main.js": 'import { x } from "./x.js";\nimport { y } from "./y.js";\nx(y);\n',
+            "x.js": "export function x() {}\n", "y.js": "export async function y() {}\n",
+        }
+        self.assertEqual(joined(sources), joined(dict(reversed(sources.items()))))
+
+    def test_names_at_the_top_level_differ(self) -> None:
+        def with_names(first: str, second: str) -> dict[str, str]:
+            main = f'import {{ z }} from "./z.js";\nz();\n{first}\n'
+            return {"main.js": main, "z.js": f"export const z = 1;\n{second}\n"}
+
+        for first, second in (
+            ("let a = 1;", "const a = 2;"),
+            ("function a() {}", "let b, a;"),
+            ("class a {}", "async function a() {}"),
+            ("const b = 1, a = 2;", "function* a() {}"), ("const a = [];", "var a;"),
+        ):
+            with self.subTest((first, second)):
+                told = refused(joined, with_names(first, second))
+                self.assertEqual(told, "main.js:3: a is a name at the top level of z.js too")
+        # Names that are not at the top level may be the same.
+        joined(with_names("function b() {\n  const a = 1;\n}", "function d() {\n  const a = 2;\n}"))
+        told = refused(joined, {"main.js": "let a;\nfunction a() {}\n"})
+        self.assertEqual(told, "main.js:2: a is declared in line 1 too")
+
+    def test_what_is_not_as_a_module_is_to_be(self) -> None:
+        for line, reason in (
+            ('import a from "./a.js";', "an import is a line"),
+            ('import * as a from "./a.js";', "an import is a line"),
+            ('import { a as b } from "./a.js";', "an import is a line"),
+            ('import { a } from "a";', "an import is a line"),
+            ("import {", "an import is a line"), ('import "./a.js";', "an import is a line"),
+            ("export default 1;", "`export` stands before"), ("export { a };", "`export` stands before"),
+            ("export let a = 1;", "`export` stands before"),
+            ('  await import("./a.js");', "by a line at the top alone"),
+            ("const { a } = b;", "is declared by itself"), ("export const [a] = b;", "is declared by itself"),
+            ('const a = "</script>";', "the end of a script"), ("// <!-- a", "the end of a script"),
+        ):
+            with self.subTest(line):
+                told = refused(joined, {"main.js": f"\n{line}\n", "a.js": "export const a = 1;\n"})
+                self.assertTrue(told.startswith("main.js:2: ") and reason in told, told)
+
+    def test_what_does_not_fit_together(self) -> None:
+        one = 'import { a } from "./a.js";\n'
+        for sources, reason in (
+            ({"main.js": one}, "a.js: there is no such module, and main.js imports it"),
+            ({"main.js": one, "a.js": "const a = 1;\n"}, "main.js: it imports a, which a.js doesn't export"),
+            ({"main.js": one, "a.js": 'import { b } from "./b.js";\nexport const a = b;\n',
+              "b.js": 'import { a } from "./a.js";\nexport const b = a;\n'},
+             "a.js: it is imported in a circle: a.js imports b.js imports a.js"),
+            ({"main.js": "", "a.js": ""}, "a.js: no module that main.js leads to imports it"),
+            ({"a.js": ""}, "main.js: there is no such module, and the page imports it"),
+        ):
+            with self.subTest(reason):
+                self.assertEqual(refused(joined, sources), reason)
+
+
+def small_sources(script: str = "start();\n", style: str = "p {}\n") -> Sources:
+    return Sources(FRAME, style, {"main.js": script})
+
+
+class Pages(unittest.TestCase):
+    def test_each_part_has_its_place(self) -> None:
+        data = {"open": None, "text": "</script><!-- <script>"}
+        text = page_text(small_sources(), data)
+        self.assertEqual(text, (
+            "<!DOCTYPE html>\n<style>\np {}\n</style>\n"
+            '<script type="application/json" id="zaklimot-data">'
+            '{"open":null,"text":"\\u003c/script>\\u003c!-- \\u003cscript>"}</script>\n'
+            '<script type="module">\n// main.js\nstart();\n</script>\n'
+        ))
+        self.assertEqual(page_data(text), data)
+
+    def test_a_frame_that_lacks_a_place(self) -> None:
+        for frame in (FRAME.replace(STYLE, ""), FRAME + DATA, FRAME.replace(SCRIPT, "")):
+            with self.subTest(frame):
+                told = refused(page_text, Sources(frame, "", {"main.js": ""}), {})
+                self.assertIn("index.html: <!-- zaklimot:", told)
+        told = refused(page_text, small_sources(style="a::after { content: '</Style>' }"), {})
+        self.assertIn("style.css: ", told)
+
+    def test_it_is_the_same_each_time(self) -> None:
+        pages = {make_page(b"module", small_sources()) for _ in range(2)}
+        self.assertEqual(len(pages), 1)
+        packing = packed(b"module")
+        self.assertEqual((gzip.decompress(packing), packing[4:8]), (b"module", bytes(4)))
+
+    def test_a_page_that_is_too_large(self) -> None:
+        length = len(make_page(b"", small_sources("")))
+        fits = "x" * (page.MOST_BYTES - length)
+        self.assertEqual(len(make_page(b"", small_sources(f"{fits}\n"))), page.MOST_BYTES)
+        told = refused(make_page, b"", small_sources(f"{fits}x\n"))
+        self.assertEqual(told, "zaklimot.html: it would have 400,001 bytes, and 400,000 are the most")
+
+    def test_what_it_is_given(self) -> None:
+        data = data_of(b"module")
+        self.assertEqual(gzip.decompress(base64.b64decode(data["module"])), b"module")
+        self.assertEqual(len(base64.b64decode(data["fonts"])), 9728)
+        self.assertEqual((data["pages"], data["open"]), ("../docs/", None))
+        given = json.loads(gzip.decompress(base64.b64decode(data["examples"])))
+        self.assertEqual(given, examples())
+        names = [one["name"] for one in given]
+        self.assertEqual(names, sorted(names))
+        self.assertTrue({"text-by-services", "raster-bands"} <= set(names))
+        told = {one["name"]: one["about"] for one in given}
+        self.assertEqual(told["driver-test"], "")
+        self.assertEqual(told["text-by-services"], "A screen of text by the video services alone, in ten steps.")
+        self.assertGreater(sum(map(bool, told.values())), 14)
+
+    def test_what_an_example_is_about(self) -> None:
+        for text, told in (
+            ("; A screen. Numbers are\n; hexadecimal.\n\nframe\n", "A screen."),
+            ("; A screen\n; of text.\nframe ; a picture\n", "A screen of text."),
+            ("frame\nout 3C2 3 ; memory on\n; more.\n", ""), ("; A bar: red! More.\n", "A bar: red!"),
+            ("\n; one\n\n; two\n", "one"),
+            ("frame\n", ""),
+            ("", ""),
+        ):
+            with self.subTest(text):
+                self.assertEqual(about(text), told)
+
+
+NATIVE = f"""target datalayout = "{LAYOUTS[0]}"
+target triple = "{TRIPLES[0]}"
+
+define noundef i32 @zak_open(ptr noundef %card, ptr noundef %0, i64 noundef %length) #7 {{
+start:
+  %tried = call {{ i64, i64 }} @rattle_alloc(i64 %length, i64 8)
+  ret i32 0
+}}
+
+define internal void @inside() #8 {{
+  call void @llvm.trap()
+  unreachable
+}}
+
+declare void @llvm.trap() #9
+declare {{ i64, i64 }} @rattle_alloc(i64, i64)
+attributes #7 = {{ nounwind "probe-stack"="inline-asm" "stack-probe-size"="4096" "target-cpu"="x86-64-v2" }}
+"""
+
+
+class Retargeting(unittest.TestCase):
+    def test_an_export_gets_a_wrapper(self) -> None:
+        text = retargeted(NATIVE)
+        self.assertIn(f'target triple = "{TRIPLES[1]}"', text)
+        inner = 'define internal noundef i32 @"rattle::export zak_open"(ptr noundef %card, ptr noundef %0, i64'
+        self.assertIn(inner, text)
+        self.assertIn('%answer = call i32 @"rattle::export zak_open"(ptr %card, ptr %0, i64 %length)', text)
+        self.assertIn('"wasm-export-name"="zak_open"', text)
+        self.assertIn('"wasm-export-name"="page_take"', text)
+        self.assertIn('attributes #7 = { nounwind "no-builtin-bcmp"', text)
+        self.assertNotIn("x86", text)
+        self.assertNotIn('"wasm-export-name"="inside"', text)
+
+    def test_what_is_not_known_is_refused(self) -> None:
+        for line, reason in (
+            ("declare i32 @puts(ptr)", "it calls puts, and"),
+            ("declare double @llvm.sqrt.f64(double)", "it calls llvm.sqrt.f64, and"),
+            ('declare void @"a b"()', "it calls a b, and"),
+            ('  call void asm sideeffect "nop", ""()', "it has inline assembly, and"),
+            ("  %v = load <4 x i32>, ptr %p", "it has a vector, and"),
+            ("  %p = load ptr addrspace(10), ptr %q", "it has an address space, and"),
+            ("  %r = call i32 %f(i32 1)", "it has a call by a pointer, and"),
+            ('attributes #8 = { "x86" }', "x86 is still named"),
+        ):
+            with self.subTest(line):
+                told = refused(retargeted, f"{NATIVE}{line}\n")
+                self.assertTrue(told.startswith("the module for x86-64") and reason in told, told)
+        for old, new in (
+            (LAYOUTS[0], "e"), (TRIPLES[0], "aarch64"),
+            ("define noundef i32 @zak", "define i32 @zak"), ("%card,", "%card zz,"),
+        ):
+            with self.subTest(old):
+                told = refused(retargeted, NATIVE.replace(old, new, 1))
+                self.assertTrue(told.startswith("the module for x86-64: "))
+
+
+def leb(value: int) -> bytes:
+    return bytes([value & 127 | 128, value >> 7]) if value > 127 else bytes([value])
+
+
+def module_of(names: list[str], *more: tuple[int, bytes], memory: int = 4) -> bytes:
+    """A module that exports functions of these names and its memory, with more sections."""
+    exported = [*((name, 0) for name in names), ("memory", 2), ("__heap_base", 3)]
+    listed = b"".join(leb(len(name)) + name.encode() + bytes([kind, 0]) for name, kind in exported)
+    parts = [*more, (5, bytes([1, memory, 1])), (7, leb(len(exported)) + listed)]
+    return wasm.MAGIC + b"".join(bytes([number]) + leb(len(data)) + data for number, data in parts)
+
+
+class Modules(unittest.TestCase):
+    calls = calls_of(HEADER.read_text("ascii"))
+    right = [*calls, "page_take", "page_give"]
+
+    def test_one_that_is_right(self) -> None:
+        module = module_of(self.right)
+        told = f"{len(module):,} bytes, {len(self.calls)} calls, no imports, no table"
+        self.assertEqual(check_module(module), told)
+        names = [export.name for export in exports_of(module)]
+        self.assertEqual(names, [*self.right, "memory", "__heap_base"])
+
+    def test_what_is_otherwise(self) -> None:
+        for module, reason in (
+            (module_of(self.right, (2, b"\0")), "it has imports"),
+            (module_of(self.right, (4, b"\0")), "it has a table"),
+            (module_of(self.right, (9, b"\0")), "it has elements of a table"),
+            (module_of(self.right, memory=0), "64-bit addresses"),
+            (module_of(self.right[1:]), f"it lacks {self.right[0]}"),
+            (module_of(self.calls), "it lacks page_give, page_take"),
+            (module_of([*self.right, "zak_more"]), "it exports what is not in zaklimot.h: zak_more"),
+            (module_of(self.right)[:-1], "it is cut off"), (b"\x7fELF", "it is no WebAssembly module"),
+        ):
+            with self.subTest(reason):
+                self.assertIn(reason, refused(check_module, module))
+
+    def test_the_kit_that_made_it(self) -> None:
+        module = module_of(self.right)
+        self.assertEqual(kit_of(module), "")
+        self.assertEqual(kit_of(with_kit(module, "kit 1")), "kit 1")
+        told = [check_module(one).partition("bytes")[2] for one in (with_kit(module, "kit 1"), module)]
+        self.assertEqual(told[0], told[1])
+
+
+class Running(unittest.TestCase):
+    def test_what_ends_badly_is_told(self) -> None:
+        for words, reason in (
+            (["sh", "-c", "echo a >&2; exit 3"], "sh: it ended with status 3\n  sh -c echo a >&2; exit 3\na\n"),
+            (["no-such-program"], "no-such-program: it is not in the path"),
+        ):
+            self.assertEqual(refused(run, words), reason)
+        with self.assertRaises(Failed) as raised:
+            run(["sleep", "60"], seconds=0.1)
+        self.assertEqual(str(raised.exception), "sleep: it had not ended after 0 seconds")
+
+    def test_lines_are_heard_and_output_is_answered(self) -> None:
+        heard: list[str] = []
+        said = run(["sh", "-c", "echo one; echo two >&2; echo three"], heard=heard.append)
+        self.assertEqual(said, "one\nthree\n")
+        self.assertTrue(heard[-1] in ("two", "three"))
+        self.assertEqual(run(["sh", "-c", 'printf "$ONE"'], environment={"ONE": "1"}), "1")
+
+    def test_phases_and_crates(self) -> None:
+        told: list[str] = []
+        progress = mock.create_autospec(Progress)
+        progress.tell.side_effect = told.append
+        hear = Phases(progress, ["low", "high"])("proving")
+        for line in ("", "crate high: modules loaded=1 checked=2", "so far"):
+            hear(line)
+        self.assertEqual([line.partition(" ")[2] for line in told], [
+            "proving", "proving", "proving: high, crate 2 of 2, is done", "proving: so far",
+        ])
+
+
+class Commands(unittest.TestCase):
+    def said(self, *words: str) -> str:
+        said = io.StringIO()
+        with contextlib.redirect_stderr(said):
+            self.assertEqual(command.main(words), command.TROUBLE)
+        return said.getvalue()
+
+    def test_words_that_cannot_be_meant(self) -> None:
+        for words, reason in (
+            (["make", "x", "--proof", "p"], "--proof keeps a proof of --gated"),
+            (["make", "x", "--module", "m", "--gated"], "--module takes a module as it is"),
+            (["module", "x", "--proof", "p"], "--proof keeps a proof of --gated"),
+        ):
+            with self.subTest(words):
+                self.assertTrue(self.said(*words).startswith(f"vga-page: {reason}"))
+
+    def test_a_module_that_was_made_already(self) -> None:
+        with tempfile.TemporaryDirectory() as name, mock.patch.object(command, "read_sources", small_sources):
+            module, made = Path(name) / "module", Path(name) / "page"
+            module.write_bytes(module_of(Modules.right))
+            output = io.StringIO()
+            with contextlib.redirect_stdout(output):
+                self.assertEqual(command.main(["make", str(made), "--module", str(module)]), command.DONE)
+            self.assertEqual(built.module_in(made.read_bytes()), module.read_bytes())
+            self.assertIn(f"{made}: {made.stat().st_size:,} bytes; its module has", output.getvalue())
+            self.assertIn("so it isn't written", self.said("make", str(module), "--module", str(module)))
+            module.write_bytes(b"no module")
+            said = self.said("make", str(made), "--module", str(module))
+            self.assertIn("it is no WebAssembly module", said)
+
+
+# A toolchain that takes long: it notes its number and starts a program that would outlive it.
+SLOW_RT = """#!/bin/sh
+if [ "$1" = doc ]; then echo "$PWD/kit/START-HERE.md"; exit; fi
+sleep 600 &
+echo $$ $! > "$STARTED"
+wait
+"""
+
+
+@unittest.skipIf(sys.platform == "win32", "a script is a program on POSIX")
+class Stopping(unittest.TestCase):
+    """What was begun ends with the command, and leaves nothing."""
+
+    def started(self, folder: Path) -> tuple[subprocess.Popen[bytes], list[int]]:
+        """The command with a slow toolchain, and the numbers of the programs that this has started."""
+        for name in ("bin", "tmp"):
+            (folder / name).mkdir()
+        rt = folder / "bin" / "rt"
+        rt.write_text(SLOW_RT)
+        rt.chmod(0o755)
+        path = f"{folder / 'bin'}{os.pathsep}{os.environ['PATH']}"
+        told = folder / "started"
+        environment = {**os.environ, "PATH": path, "TMPDIR": str(folder / "tmp"), "STARTED": str(told)}
+        process = subprocess.Popen(
+            [sys.executable, TOP / "tools" / "vga-page", "module", folder / "module"], env=environment,
+            stdout=subprocess.DEVNULL, stderr=subprocess.DEVNULL,
+        )
+        until = time.monotonic() + 60
+        while not (told.exists() and told.read_text().endswith("\n")) and time.monotonic() < until:
+            time.sleep(0.02)
+        return process, [int(number) for number in told.read_text().split()]
+
+    def assert_ended(self, number: int) -> None:
+        """That a program has ended, or is about to."""
+        status = Path(f"/proc/{number}/stat")
+        until = time.monotonic() + 10
+        while status.exists() and status.read_text().rpartition(")")[2].split()[0] != "Z":
+            self.assertLess(time.monotonic(), until, "a program is left")
+            time.sleep(0.02)
+
+    def test_each_signal_that_ends_it(self) -> None:
+        for number, status in ((signal.SIGINT, 130), (signal.SIGTERM, 143), (signal.SIGHUP, 129)):
+            with self.subTest(number), tempfile.TemporaryDirectory() as name:
+                process, started = self.started(Path(name))
+                self.assertEqual(len(list((Path(name) / "tmp").iterdir())), 1)
+                process.send_signal(number)
+                self.assertEqual(process.wait(30), status)
+                for one in started:
+                    self.assert_ended(one)
+                self.assertEqual(list((Path(name) / "tmp").iterdir()), [])
+                self.assertFalse((Path(name) / "module").exists())
+
+
+class Tests(unittest.TestCase):
+    """That the page's tests can fail."""
+
+    def test_a_page_of_other_sources(self) -> None:
+        module, other = (with_kit(module_of(Modules.right), kit) for kit in ("one", "other"))
+        with mock.patch.object(built, "read_sources", small_sources):
+            made = make_page(module, small_sources())
+            self.assertTrue(built.check_built(module, made)[1])
+            self.assertFalse(built.check_built(other, made)[1])
+            wrong = with_kit(module_of(Modules.right, (1, b"\0")), "one")
+            other_page = make_page(module, small_sources("end();\n"))
+            data = page_data(made.decode("utf-8"))
+            other_data, no_data = (
+                page_text(small_sources(), {**data, "examples": examples}).encode("utf-8")
+                for examples in (base64.b64encode(packed(b"[]")).decode("ascii"), "AAAA")
+            )
+            for module_under_test, page_under_test in (
+                (wrong, made), (module, other_page), (module, other_data), (module, no_data),
+            ):
+                with self.assertRaises(Wrong):
+                    built.check_built(module_under_test, page_under_test)
+
+    def test_two_modules_that_differ(self) -> None:
+        module = module_of(Modules.right)
+        self.assertIn("the same twice", tests_command.check_modules([module, module]))
+        with self.assertRaises(Wrong):
+            tests_command.check_modules([module, with_kit(module, "kit")])
+
+    def test_reports_that_differ_and_cases_that_were_not_run(self) -> None:
+        ways = {"bytes": 2, "text": 1, "steps, all at once": 2}
+        told = suite.judged({"ways": ways, "wrong": []}, 2)
+        self.assertEqual(told, "by bytes 2; by text 1; by steps, all at once 2; of 2 cases")
+        one = {"name": "n", "way": "bytes", "reason": "r"}
+        for answer in (
+            {"ways": ways, "wrong": [one]}, {"ways": {}, "wrong": []}, {"ways": {**ways, "text": 0}, "wrong": []},
+        ):
+            with self.subTest(answer), self.assertRaises(Wrong):
+                suite.judged(answer, 2)
+
+    def test_what_node_tells(self) -> None:
+        told = scripts.counted("# pass 3\n# fail 0\n# skipped 0\n")
+        self.assertEqual(told, "3 tests of the page's scripts pass")
+        for said in ("# pass 3\n# fail 1\n", "# pass 3\n# skipped 1\n", "# pass 0\n", ""):
+            with self.subTest(said), self.assertRaises(Wrong):
+                scripts.counted(said)
+
+    def test_what_the_page_tells_of_its_examples(self) -> None:
+        told = {"agree": 2, "differ": 0, "expected": 3, "lines": ["a: right", "b: right"]}
+        self.assertEqual(scripts.agreed(told), "2 examples answer as by zak_run, 3 answers as expected")
+        for other in ({"differ": 1}, {"agree": 0}, {"expected": 0}):
+            with self.subTest(other), self.assertRaises(Wrong) as raised:
+                scripts.agreed({**told, **other})
+            self.assertIn("\n  a: right\n", str(raised.exception))
+
+    def test_node_that_is_lacking_or_too_old(self) -> None:
+        with mock.patch("shutil.which", return_value=None):
+            told = refused(node.node_words)
+        self.assertEqual(told, "node: it is not in the path: install the package nodejs")
+        old = mock.patch.object(node, "_answer", return_value="v18.19.0")
+        with mock.patch("shutil.which", return_value="node"), old:
+            told = refused(node.node_words)
+        self.assertEqual(told, "node: it is v18.19.0, and the tests need 20 or newer: the package nodejs")
+        said = io.StringIO()
+        with mock.patch("shutil.which", return_value=None), contextlib.redirect_stderr(said):
+            self.assertEqual(tests_command.main([]), tests_command.TROUBLE)
+        self.assertTrue(said.getvalue().startswith("vga-page-tests: node: "))
+
+    def test_the_files_of_tests(self) -> None:
+        with tempfile.TemporaryDirectory() as name:
+            text = 'import test from "node:test";\n'
+            for file, content in (("a.mjs", text), ("browser.mjs", text), ("b.mjs", "")):
+                (Path(name) / file).write_text(content)
+            self.assertEqual([path.name for path in scripts.test_files(Path(name))], ["a.mjs"])
+
+
+if __name__ == "__main__":
+    unittest.main()

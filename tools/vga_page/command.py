@@ -1,0 +1,127 @@
+"""The words of the command line, what the command does, and how it ends."""
+
+from __future__ import annotations
+
+import argparse
+import sys
+from pathlib import Path
+from typing import Optional, Sequence
+
+from vga_report.processes import MEBIBYTE
+from vga_report.progress import Progress
+from vga_report.streams import STANDARD, reading, write_file
+from vga_report.trouble import Trouble
+from vga_report.words import number_to
+
+from .making import made_modules
+from .page import MOST_BYTES, make_page, read_sources
+from .telling import phases
+from .wasm import MOST_MODULE, check_module
+
+DONE, TROUBLE, INTERRUPTED = 0, 2, 130
+MOST_MEBIBYTES = 4096
+
+
+def _add_proof(parser: argparse.ArgumentParser) -> None:
+    parser.add_argument(
+        "--gated", action="store_true",
+        help="over the libraries that `rt ci` left, which must have run just before; else `rt check` proves",
+    )
+    parser.add_argument(
+        "--proof", type=Path, metavar="FOLDER",
+        help="with --gated: keeps the crate's proof there, or takes it from there",
+    )
+
+
+def _mebibytes(word: str) -> int:
+    """Reads a number of MiB; how many bytes they are."""
+    return number_to(MOST_MEBIBYTES)(word) * MEBIBYTE
+
+
+def _parser() -> argparse.ArgumentParser:
+    parser = argparse.ArgumentParser(
+        prog="vga-page", description="Makes the page that runs scripts in a browser.",
+        epilog="Exit status: 0 done; 2 the work can't be done.",
+    )
+    commands = parser.add_subparsers(required=True, metavar="COMMAND")
+    command = commands.add_parser(
+        "make", help="makes the page",
+        description=f"Makes the page: one file of at most {MOST_BYTES:,} bytes.",
+    )
+    command.add_argument("file", metavar="FILE", help="the page, page/zaklimot.html in the repository")
+    command.add_argument(
+        "--module", metavar="FILE", help="a module that was made already; else it is made"
+    )
+    _add_proof(command)
+    command.set_defaults(job=_make, memory=None)
+    command = commands.add_parser(
+        "module", help="makes the module alone",
+        description="Proves the library's crate, and makes a WebAssembly module of 64-bit memory of it.",
+    )
+    command.add_argument("file", metavar="FILE", help="the module")
+    command.add_argument(
+        "--memory", type=_mebibytes, metavar="MIB",
+        help="fixes the size of its memory, so that tests see it spent; else it grows",
+    )
+    _add_proof(command)
+    command.set_defaults(job=_module, module=None)
+    return parser
+
+
+def _given_module(path: str) -> bytes:
+    """A module that was made already, held to what the page relies on."""
+    with reading(path) as stream:
+        module = stream.read(MOST_MODULE + 1)
+    check_module(module)
+    return module
+
+
+def _made_module(words: argparse.Namespace, progress: Progress) -> bytes:
+    """The module, as it is given or made."""
+    if words.module is not None:
+        return _given_module(words.module)
+    try:
+        return made_modules(phases(progress), words.gated, words.proof, [words.memory])[0][0]
+    finally:
+        progress.clear()
+
+
+def _write(path: str, data: bytes, told: str) -> None:
+    """Writes what was made, and tells of it unless it goes to standard output itself."""
+    write_file(path, data)
+    if path != STANDARD:
+        print(f"{path}: {told}")
+
+
+def _make(words: argparse.Namespace, progress: Progress) -> None:
+    # What is wrong with the sources is told before the long work.
+    sources = read_sources()
+    module = _made_module(words, progress)
+    page = make_page(module, sources)
+    _write(words.file, page, f"{len(page):,} bytes; its module has {check_module(module)}")
+
+
+def _module(words: argparse.Namespace, progress: Progress) -> None:
+    module = _made_module(words, progress)
+    _write(words.file, module, check_module(module))
+
+
+def main(given: Optional[Sequence[str]] = None) -> int:
+    """Runs a command line, and answers its exit status."""
+    words = _parser().parse_args(given)
+    try:
+        if words.proof is not None and not words.gated:
+            raise Trouble("--proof keeps a proof of --gated")
+        if words.module is not None and words.gated:
+            raise Trouble("--module takes a module as it is, so --gated proves nothing")
+        words.job(words, Progress())
+        sys.stdout.flush()
+        return DONE
+    except Trouble as trouble:
+        reason = str(trouble)
+    except OSError as error:
+        reason = f"{'standard output' if error.filename is None else error.filename}: {error.strerror}"
+    except KeyboardInterrupt:
+        return INTERRUPTED
+    print(f"vga-page: {reason}", file=sys.stderr)
+    return TROUBLE

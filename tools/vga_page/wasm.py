@@ -1,0 +1,132 @@
+"""What a WebAssembly module imports and exports, and whether that is what the page relies on."""
+
+from __future__ import annotations
+
+from typing import Iterable, Iterator, NamedTuple
+
+from vga_library.header import HEADER, calls_of
+from vga_report.trouble import Trouble
+
+MAGIC = b"\0asm\1\0\0\0"
+# A section for tools, and the name of the one that tells the kit.
+CUSTOM, KIT = 0, b"kit"
+IMPORTS, TABLES, MEMORIES, EXPORTS, ELEMENTS = 2, 4, 5, 7, 9
+FUNCTION = 0
+# What the module exports besides the header's calls: its memory, where the heap begins, and how the page
+# takes memory from it.
+OWN = frozenset(("memory", "__heap_base", "page_take", "page_give"))
+# A memory of 64-bit addresses.
+IS_64 = 4
+MOST_MODULE = 16 << 20
+
+
+class Export(NamedTuple):
+    """A name that a module exports, and its kind: 0 is a function."""
+
+    name: str
+    kind: int
+
+
+class _Reader:
+    """Reads a module's numbers and names."""
+
+    def __init__(self, data: bytes) -> None:
+        self._data = data
+        self._at = 0
+
+    def is_done(self) -> bool:
+        return self._at == len(self._data)
+
+    def byte(self) -> int:
+        return self.bytes(1)[0]
+
+    def bytes(self, count: int) -> bytes:
+        if count > len(self._data) - self._at:
+            raise Trouble("it is cut off", "the module")
+        self._at += count
+        return self._data[self._at - count:self._at]
+
+    def number(self) -> int:
+        """A number in LEB128."""
+        value = shift = 0
+        while True:
+            byte = self.byte()
+            value |= (byte & 127) << shift
+            shift += 7
+            if byte < 128:
+                return value
+
+    def name(self) -> str:
+        return self.bytes(self.number()).decode("utf-8", "replace")
+
+
+def _all_sections(module: bytes) -> Iterator[tuple[int, bytes]]:
+    """The sections of a module in their order: their numbers, and their bytes."""
+    if not module.startswith(MAGIC):
+        raise Trouble("it is no WebAssembly module", "the module")
+    reader = _Reader(module[len(MAGIC):])
+    while not reader.is_done():
+        number = reader.byte()
+        yield number, reader.bytes(reader.number())
+
+
+def sections(module: bytes) -> dict[int, bytes]:
+    """The sections of a module by their numbers, but for those of tools."""
+    return {number: data for number, data in _all_sections(module) if number != CUSTOM}
+
+
+def with_kit(module: bytes, kit: str) -> bytes:
+    """A module that tells the kit which has made it, in a section that engines pass over."""
+    content = bytes([len(KIT)]) + KIT + kit.encode("ascii")
+    if len(content) > 127:
+        raise Trouble("it has more letters than a kit's line", kit)
+    return module + bytes([CUSTOM, len(content)]) + content
+
+
+def kit_of(module: bytes) -> str:
+    """The kit that has made a module; nothing where it doesn't tell."""
+    begin = bytes([len(KIT)]) + KIT
+    found = [data for number, data in _all_sections(module) if number == CUSTOM and data.startswith(begin)]
+    return found[-1][len(begin):].decode("ascii", "replace") if found else ""
+
+
+def _exports(section: bytes) -> Iterator[Export]:
+    reader = _Reader(section)
+    for _ in range(reader.number()):
+        name, kind = reader.name(), reader.byte()
+        reader.number()
+        yield Export(name, kind)
+
+
+def exports_of(module: bytes) -> list[Export]:
+    """What a module exports, in its order."""
+    return list(_exports(sections(module).get(EXPORTS, b"\0")))
+
+
+def _listed(names: Iterable[str]) -> str:
+    return ", ".join(sorted(names))
+
+
+def check_module(module: bytes) -> str:
+    """Holds a module to what the page relies on, and answers what was seen.
+
+    It has no imports and no table, its memory has 64-bit addresses, and it exports the header's calls.
+    """
+    if len(module) > MOST_MODULE:
+        raise Trouble(f"it has more than {MOST_MODULE:,} bytes", "the module")
+    found = sections(module)
+    for number, what in ((IMPORTS, "imports"), (TABLES, "a table"), (ELEMENTS, "elements of a table")):
+        if number in found:
+            raise Trouble(f"it has {what}, which it must not have", "the module")
+    if not found.get(MEMORIES, b"")[1:2] or not found[MEMORIES][1] & IS_64:
+        raise Trouble("its memory is not one of 64-bit addresses", "the module")
+    exports = exports_of(module)
+    calls = set(calls_of(HEADER.read_text("ascii")))
+    names = {export.name for export in exports}
+    shown = {export.name for export in exports if export.kind == FUNCTION} - OWN
+    if calls - shown or OWN - names:
+        raise Trouble(f"it lacks {_listed((calls - shown) | (OWN - names))}", "the module")
+    if names - calls - OWN:
+        more = _listed(names - calls - OWN)
+        raise Trouble(f"it exports what is not in {HEADER.name}: {more}", "the module")
+    return f"{len(module):,} bytes, {len(calls)} calls, no imports, no table"
