@@ -1,10 +1,13 @@
 /* Performs a script's steps by the library, and writes the report that docs/REPORT.md tells.
  *
- *     harness SCRIPT FONTS [--until STEPS]     a text, step by step
+ *     harness SCRIPT FONTS [--until STEPS]     a text, by a call for each step
  *     harness --restored SCRIPT FONTS [--until STEPS]
  *                                              the same, but the card is saved at pseudo-random
  *                                              steps and dots, and another goes on from its state
  *     harness --bytes SCRIPT FONTS             the bytes of a script, by zak_run
+ *     harness --slices N [--bytes] SCRIPT FONTS [--until STEPS]
+ *                                              a text or bytes, by zak_run_on: N steps a call, and
+ *                                              more where many are behind, which a call passes over
  *
  * A fault is a line on standard error, and the status is 1 then; it is 2 for words that are none.
  *
@@ -19,21 +22,30 @@
 
 #define MOST_FILE (SCRIPT_MOST + 1u)
 #define FIRST_ROOM ((size_t)1 << 20)
+/* A slice has at least so many of the steps behind it: one in 64. */
+#define SHARE 64u
 
-/* What a run has: the card, what is written, the number of the last step, and buffers for what calls
- * answer. Where cards are restored, the fonts of the next one, and behind which step it goes on. */
+/* Bytes of a file, or what a text spells. */
+struct bytes {
+    uint8_t *at;
+    size_t len;
+};
+
+/* What a run has: the card, what is written, the number of the last step, and buffers for what
+ * calls answer. Where cards are restored, the fonts of the next one, and behind which step it goes
+ * on. */
 struct run {
     zak_card card;
     FILE *out;
     unsigned long number;
     bool is_restored;
-    const uint8_t *fonts;
-    size_t fonts_len;
+    struct bytes fonts;
     unsigned long next;
     uint32_t random;
     uint8_t rgb[ZAK_MOST_RGB];
     uint8_t text[ZAK_MOST_TEXT];
     uint8_t table[ZAK_MOST_TABLE];
+    uint8_t state[ZAK_MOST_STATE];
 };
 
 static const char *const REFUSALS[] = {
@@ -41,7 +53,7 @@ static const char *const REFUSALS[] = {
     "BadPage",   "Outside",    "CountPast",    "BadRegister", "BadBlock",    "TooFar",  "BadHeight",
 };
 
-/* What a fault of zak_run is called, and whether it has a place. */
+/* What a fault of a script is called, and whether it has a place. */
 static const struct fault {
     zak_status status;
     const char *name;
@@ -53,6 +65,7 @@ static const struct fault {
     {ZAK_BAD_STEP, "F4 BadStep", true},
     {ZAK_TRUNCATED, "F5 Truncated", true},
     {ZAK_TOO_LONG, "F6 TooLong", false},
+    {ZAK_BAD_LINE, "F7 BadLine", true},
     {ZAK_OUT_OF_MEMORY, "F10 OutOfMemory", false},
     {ZAK_TOO_MANY, "F11 TooMany", true},
 };
@@ -74,18 +87,18 @@ static int fail(zak_status status, size_t place)
 }
 
 /* All bytes of a file, up to one more than a script may have; NULL where it can't be read. */
-static uint8_t *read_file(const char *path, size_t *len)
+static struct bytes read_file(const char *path)
 {
     FILE *file = fopen(path, "rb");
-    uint8_t *bytes = file ? malloc(MOST_FILE) : NULL;
-    *len = bytes ? fread(bytes, 1, MOST_FILE, file) : 0;
-    if (bytes && ferror(file)) {
-        free(bytes);
-        bytes = NULL;
+    struct bytes bytes = {file ? malloc(MOST_FILE) : NULL, 0};
+    bytes.len = bytes.at ? fread(bytes.at, 1, MOST_FILE, file) : 0;
+    if (bytes.at && ferror(file)) {
+        free(bytes.at);
+        bytes.at = NULL;
     }
     if (file)
         fclose(file);
-    if (!bytes)
+    if (!bytes.at)
         fprintf(stderr, "harness: F8 ReadFault\n");
     return bytes;
 }
@@ -111,7 +124,7 @@ static bool is_time(struct run *run)
 static zak_status open_restored(const struct run *run, zak_card *card, const uint8_t *state,
                                 size_t len)
 {
-    zak_status status = zak_open(card, run->fonts, run->fonts_len);
+    zak_status status = zak_open(card, run->fonts.at, run->fonts.len);
     if (status)
         return status;
     status = zak_restore(card, state, len);
@@ -172,13 +185,11 @@ static zak_status write_picture(struct run *run)
     return ZAK_OK;
 }
 
-static zak_status write_call(struct run *run, const struct script *script, const struct step *step)
+static zak_status write_call(struct run *run, const struct step *step)
 {
-    static const uint8_t NOTHING[1] = {0};
-    const uint8_t *block = step->block_len ? script->blocks + step->block : NOTHING;
     zak_regs regs = step->regs;
     size_t len = 0;
-    zak_status status = zak_int10(&run->card, &regs, block, step->block_len, run->table,
+    zak_status status = zak_int10(&run->card, &regs, step->block, step->block_len, run->table,
                                   sizeof run->table, &len);
     if (status)
         return status;
@@ -196,19 +207,19 @@ static zak_status show(struct run *run, const struct step *step, size_t *len)
     zak_card *card = &run->card;
     uint8_t *text = run->text;
     size_t room = sizeof run->text;
-    switch (step->kind) {
-    case STEP_SHOW_REGS:
+    switch (step->shown) {
+    case SHOW_REGS:
         return zak_show_regs(card, text, room, len);
-    case STEP_SHOW_DAC:
+    case SHOW_DAC:
         return zak_show_dac(card, (uint8_t)step->value, text, room, len);
-    case STEP_SHOW_BEAM:
+    case SHOW_BEAM:
         return zak_show_beam(card, text, room, len);
-    case STEP_SHOW_LATCHES:
+    case SHOW_LATCHES:
         return zak_show_latches(card, text, room, len);
-    case STEP_SHOW_PLANE:
+    case SHOW_PLANE:
         return zak_show_plane(card, (uint8_t)step->value, (uint16_t)step->place,
                               (uint16_t)step->count, text, room, len);
-    case STEP_SHOW_BDA:
+    case SHOW_BDA:
         return zak_show_bda(card, text, room, len);
     default:
         return zak_show_cells(card, text, room, len);
@@ -274,7 +285,7 @@ static zak_status write_word(struct run *run, const struct step *step)
     return status;
 }
 
-static zak_status answer(struct run *run, const struct script *script, const struct step *step)
+static zak_status answer(struct run *run, const struct step *step)
 {
     switch (step->kind) {
     case STEP_OUT:
@@ -290,7 +301,7 @@ static zak_status answer(struct run *run, const struct script *script, const str
     case STEP_GET_WORD:
         return write_word(run, step);
     case STEP_INT10:
-        return write_call(run, script, step);
+        return write_call(run, step);
     case STEP_FRAME:
         return write_picture(run);
     default:
@@ -299,50 +310,100 @@ static zak_status answer(struct run *run, const struct script *script, const str
 }
 
 /* Writes the line of a step, which a refusal is too. Any other status ends the run. */
-static zak_status take(struct run *run, const struct script *script, const struct step *step)
+static zak_status take(struct run *run, const struct step *step)
 {
     zak_status status = step->kind != STEP_ADVANCE && is_time(run) ? go_on(run) : ZAK_OK;
     fprintf(run->out, "%lu ", ++run->number);
     if (status == ZAK_OK)
-        status = answer(run, script, step);
+        status = answer(run, step);
     if (status == ZAK_OK || status >= sizeof REFUSALS / sizeof *REFUSALS)
         return status;
     fprintf(run->out, "E%u %s\n", (unsigned)status, REFUSALS[status]);
     return ZAK_OK;
 }
 
-/* Takes the steps, those of a block so many times as it says, up to a number of them. */
-static zak_status take_all(struct run *run, const struct script *script, unsigned long until)
+/* Takes the steps of a script by a call each, up to a number of them. */
+static zak_status take_all(struct run *run, struct bytes bytes, unsigned long until)
 {
-    size_t block = 0;
-    uint32_t left = 0;
-    for (size_t at = 0; at < script->count && run->number < until; at++) {
-        const struct step *step = &script->steps[at];
-        if (step->kind == STEP_REPEAT) {
-            block = at;
-            left = step->value;
-        } else if (step->kind == STEP_END) {
-            at = --left ? block : at;
-        } else {
-            zak_status status = take(run, script, step);
-            if (status)
-                return status;
-        }
+    struct script script = script_begin(bytes.at, bytes.len);
+    struct step step;
+    zak_status status = ZAK_OK;
+    while (status == ZAK_OK && run->number < until && script_next(&script, &step))
+        status = take(run, &step);
+    return status;
+}
+
+/* A slice's report, and how many steps it tells of. */
+struct slice {
+    struct bytes report;
+    size_t room, taken, place;
+};
+
+/* Takes the next steps, at most so many. Where there is too little room for their report, they are
+ * taken all the same: so the card goes back to the state before them, and takes them again. */
+static zak_status take_slice(struct run *run, struct bytes script, uint32_t most,
+                             struct slice *slice)
+{
+    size_t len;
+    zak_status status = zak_save(&run->card, run->state, sizeof run->state, &len);
+    while (status == ZAK_OK) {
+        status = zak_run_on(&run->card, script.at, script.len, (uint32_t)run->number, most,
+                            slice->report.at, slice->room, &slice->report.len, &slice->taken,
+                            &slice->place);
+        if (status != ZAK_NO_ROOM)
+            return status;
+        free(slice->report.at);
+        slice->room = slice->report.len;
+        slice->report.at = malloc(slice->room);
+        if (!slice->report.at)
+            return ZAK_OUT_OF_MEMORY;
+        status = zak_restore(&run->card, run->state, len);
     }
-    return ZAK_OK;
+    return status;
+}
+
+/* How many steps the next slice has: so many, or more where many are behind. */
+static uint32_t steps_of_slice(const struct run *run, uint32_t steps, unsigned long until)
+{
+    unsigned long share = run->number / SHARE, left = until - run->number;
+    unsigned long wanted = share > steps ? share : steps;
+    return (uint32_t)(wanted < left ? wanted : left);
+}
+
+/* Takes the steps of a script slice by slice, up to a number of them. A slice of fewer steps than
+ * were asked for is the last. */
+static zak_status take_slices(struct run *run, struct bytes script, uint32_t steps,
+                              unsigned long until, size_t *place)
+{
+    struct slice slice = {.report = {malloc(1), 0}, .room = 1};
+    zak_status status = slice.report.at ? ZAK_OK : ZAK_OUT_OF_MEMORY;
+    uint32_t most = 0;
+    while (status == ZAK_OK && slice.taken == most) {
+        most = steps_of_slice(run, steps, until);
+        status = take_slice(run, script, most, &slice);
+        if (status)
+            break;
+        fwrite(slice.report.at, 1, slice.report.len, run->out);
+        run->number += slice.taken;
+        if (run->number == until)
+            break;
+    }
+    *place = slice.place;
+    free(slice.report.at);
+    return status;
 }
 
 /* The looks at the state behind the last step. */
 static zak_status take_looks(struct run *run)
 {
     static const struct step LOOKS[] = {
-        {.kind = STEP_SHOW_REGS},
-        {.kind = STEP_SHOW_BEAM},
-        {.kind = STEP_SHOW_LATCHES},
-        {.kind = STEP_SHOW_BDA},
+        {.kind = STEP_SHOW, .shown = SHOW_REGS},
+        {.kind = STEP_SHOW, .shown = SHOW_BEAM},
+        {.kind = STEP_SHOW, .shown = SHOW_LATCHES},
+        {.kind = STEP_SHOW, .shown = SHOW_BDA},
     };
     for (size_t i = 0; i < sizeof LOOKS / sizeof *LOOKS; i++) {
-        zak_status status = take(run, NULL, &LOOKS[i]);
+        zak_status status = take(run, &LOOKS[i]);
         if (status)
             return status;
     }
@@ -352,67 +413,58 @@ static zak_status take_looks(struct run *run)
 /* What the words of the command line ask for. */
 struct words {
     bool is_bytes, is_restored;
+    uint32_t slices; /* steps of a slice, or 0 */
     const char *script, *fonts, *until;
 };
 
-static zak_status run_steps(const struct script *script, const uint8_t *fonts, size_t fonts_len,
-                            const struct words *words)
+static zak_status take_steps(struct run *run, struct bytes script, const struct words *words,
+                             size_t *place)
 {
-    const char *until = words->until;
-    unsigned long most = until ? strtoul(until, NULL, 10) : (unsigned long)-1;
+    unsigned long until = words->until ? strtoul(words->until, NULL, 10) : (unsigned long)-1;
+    zak_status status = words->slices ? take_slices(run, script, words->slices, until, place)
+                                      : take_all(run, script, until);
+    return status == ZAK_OK && words->until ? take_looks(run) : status;
+}
+
+/* Takes the steps of a script's bytes on a card. */
+static zak_status run_steps(struct bytes script, struct bytes fonts, const struct words *words,
+                            size_t *place)
+{
     struct run *run = calloc(1, sizeof *run);
     if (!run)
         return ZAK_OUT_OF_MEMORY;
     run->out = stdout;
     run->is_restored = words->is_restored;
     run->fonts = fonts;
-    run->fonts_len = fonts_len;
-    zak_status status = zak_open(&run->card, fonts, fonts_len);
+    zak_status status = zak_open(&run->card, fonts.at, fonts.len);
     if (status == ZAK_OK) {
-        status = take_all(run, script, most);
-        if (status == ZAK_OK && until)
-            status = take_looks(run);
+        status = take_steps(run, script, words, place);
         zak_close(&run->card);
     }
     free(run);
     return status;
 }
 
-static int run_text(const uint8_t *text, size_t text_len, const uint8_t *fonts, size_t fonts_len,
-                    const struct words *words)
+static zak_status run_text(struct bytes text, struct bytes fonts, const struct words *words,
+                           size_t *place)
 {
-    struct script script;
-    size_t line = 0;
-    int status = 0;
-    switch (script_read(&script, (const char *)text, text_len, &line)) {
-    case SCRIPT_GOOD: {
-        zak_status ended = run_steps(&script, fonts, fonts_len, words);
-        status = ended ? fail(ended, 0) : 0;
-        break;
+    struct bytes script;
+    zak_status status = script_assemble(text.at, text.len, &script.at, &script.len, place);
+    if (status == ZAK_OK) {
+        status = run_steps(script, fonts, words, place);
+        free(script.at);
     }
-    case SCRIPT_BAD_LINE:
-        fprintf(stderr, "harness: F7 BadLine(%zu)\n", line);
-        status = 1;
-        break;
-    case SCRIPT_TOO_LONG:
-        status = fail(ZAK_TOO_LONG, 0);
-        break;
-    case SCRIPT_NO_MEMORY:
-        status = fail(ZAK_OUT_OF_MEMORY, 0);
-        break;
-    }
-    script_free(&script);
     return status;
 }
 
 /* A whole run by one call, with more room where the first was too little. */
-static int run_bytes(const uint8_t *bytes, size_t bytes_len, const uint8_t *fonts, size_t fonts_len)
+static zak_status run_bytes(struct bytes script, struct bytes fonts, size_t *place)
 {
-    size_t room = FIRST_ROOM, len = 0, place = 0;
+    size_t room = FIRST_ROOM, len = 0;
     uint8_t *report = malloc(room);
     zak_status status = ZAK_OUT_OF_MEMORY;
     while (report) {
-        status = zak_run(bytes, bytes_len, fonts, fonts_len, report, room, &len, &place);
+        status = zak_run(script.at, script.len, fonts.at, fonts.len, report, room, &len, place);
         if (status != ZAK_NO_ROOM)
             break;
         free(report);
@@ -423,23 +475,54 @@ static int run_bytes(const uint8_t *bytes, size_t bytes_len, const uint8_t *font
     if (status == ZAK_OK)
         fwrite(report, 1, len, stdout);
     free(report);
-    return status ? fail(status, place) : 0;
+    return status;
+}
+
+static zak_status run_script(struct bytes script, struct bytes fonts, const struct words *words,
+                             size_t *place)
+{
+    if (!words->is_bytes)
+        return run_text(script, fonts, words, place);
+    return words->slices ? run_steps(script, fonts, words, place) : run_bytes(script, fonts, place);
+}
+
+/* Takes a word that stands next, if it does. */
+static bool takes_word(char **argv, int *at, const char *word)
+{
+    bool is_there = argv[*at] && strcmp(argv[*at], word) == 0;
+    *at += is_there;
+    return is_there;
+}
+
+/* Takes a number above 0 that stands next. */
+static bool takes_number(char **argv, int *at, uint32_t *number)
+{
+    char *end = argv[*at];
+    unsigned long value = end ? strtoul(argv[*at], &end, 10) : 0;
+    if (value == 0 || value > UINT32_MAX || *end)
+        return false;
+    *number = (uint32_t)value;
+    ++*at;
+    return true;
 }
 
 /* Whether the words of the command line are some, and what they ask for. */
 static bool read_words(int argc, char **argv, struct words *words)
 {
     int at = 1;
-    words->is_bytes = at < argc && strcmp(argv[at], "--bytes") == 0;
-    words->is_restored = at < argc && strcmp(argv[at], "--restored") == 0;
-    at += words->is_bytes || words->is_restored;
-    bool is_stopped = !words->is_bytes && argc == at + 4 && strcmp(argv[at + 2], "--until") == 0;
-    if (argc != at + 2 && !is_stopped)
+    words->is_restored = takes_word(argv, &at, "--restored");
+    if (takes_word(argv, &at, "--slices") && !takes_number(argv, &at, &words->slices))
         return false;
-    words->script = argv[at];
-    words->fonts = argv[at + 1];
-    words->until = is_stopped ? argv[at + 3] : NULL;
-    return true;
+    words->is_bytes = takes_word(argv, &at, "--bytes");
+    if (words->is_restored && (words->is_bytes || words->slices))
+        return false;
+    if (argc < at + 2)
+        return false;
+    words->script = argv[at++];
+    words->fonts = argv[at++];
+    if ((!words->is_bytes || words->slices) && takes_word(argv, &at, "--until"))
+        words->until = argv[at++];
+    return at == argc;
 }
 
 int main(int argc, char **argv)
@@ -447,17 +530,20 @@ int main(int argc, char **argv)
     struct words words = {0};
     if (!read_words(argc, argv, &words)) {
         fprintf(stderr, "harness [--restored] SCRIPT FONTS [--until STEPS]\n"
-                        "harness --bytes SCRIPT FONTS\n");
+                        "harness --bytes SCRIPT FONTS\n"
+                        "harness --slices N [--bytes] SCRIPT FONTS [--until STEPS]\n");
         return 2;
     }
-    size_t script_len, fonts_len = 0;
-    uint8_t *script = read_file(words.script, &script_len);
-    uint8_t *fonts = script ? read_file(words.fonts, &fonts_len) : NULL;
-    int status = 1;
-    if (fonts)
-        status = words.is_bytes ? run_bytes(script, script_len, fonts, fonts_len)
-                                : run_text(script, script_len, fonts, fonts_len, &words);
-    free(fonts);
-    free(script);
-    return status;
+    struct bytes script = read_file(words.script), fonts = {NULL, 0};
+    int failed = 1;
+    if (script.at)
+        fonts = read_file(words.fonts);
+    if (fonts.at) {
+        size_t place = 0;
+        zak_status status = run_script(script, fonts, &words, &place);
+        failed = status ? fail(status, place) : 0;
+    }
+    free(fonts.at);
+    free(script.at);
+    return failed;
 }

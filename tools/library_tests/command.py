@@ -21,7 +21,7 @@ from .header import check_header, check_names
 from .installing import check_installing
 from .pc import check_pc
 from .programs import check_memory, check_misuse, check_state, check_threads
-from .suite import check_restored, check_suite
+from .suite import check_restored, check_sliced, check_suite
 
 RIGHT, WRONG, TROUBLE = 0, 1, 2
 Check = Callable[[Built, Path], str]
@@ -30,6 +30,7 @@ EACH: dict[str, Check] = {
     "names": lambda built, _: check_names(built),
     "suite": check_suite,
     "restored": check_restored,
+    "sliced": check_sliced,
     "state": check_state,
     "misuse": check_misuse,
     "memory": check_memory,

@@ -3,6 +3,7 @@
 from __future__ import annotations
 
 import difflib
+import re
 from pathlib import Path
 
 from vga_library.making import fonts_file
@@ -10,6 +11,8 @@ from vga_library.making import fonts_file
 from .compilers import COMPILERS, SANITIZED, Built, Wrong, build, run
 
 SOURCES = Path(__file__).resolve().parent / "c"
+# A line of misuse.txt that tells a call's status; functions of misuse.c make some.
+CALL = re.compile(r"^(?:zak_\w+|restore_with|assemble|print|take)\(", re.M)
 WRAPPED = "-Wl,--wrap=malloc,--wrap=realloc,--wrap=free"
 
 
@@ -27,7 +30,7 @@ def check_misuse(built: Built, folder: Path) -> str:
         made = folder / f"misuse-{compiler.c}"
         build(compiler.c, built, [SOURCES / "misuse.c"], made, *SANITIZED)
         expect("misuse", run([made, fonts_file()]))
-    count = (SOURCES / "misuse.txt").read_text("ascii").count("(&card")
+    count = len(CALL.findall((SOURCES / "misuse.txt").read_text("ascii")))
     return f"{count} calls answered as they should be, with sanitizers"
 
 

@@ -19,6 +19,10 @@ from .compilers import COMPILERS, Built, Wrong, build
 
 # So many cases are told that do not agree.
 MOST_TOLD = 20
+# What the harness is given for a text.
+TEXTS = "{script} {fonts} {until}"
+# Steps of a slice, so that most cases have several.
+SLICE = 7
 HARNESS = [TOP / "examples" / "c" / name for name in ("harness.c", "script.c")]
 
 
@@ -30,28 +34,37 @@ def judged(told: dict[str, Any], left_out: set[str]) -> str:
     if wrong or len(cases) == len(others):
         lines = [f"  {case['name']}: {case['answer']}: {case.get('reason', '')}" for case in wrong[:MOST_TOLD]]
         raise Wrong("\n".join([f"{len(wrong)} of {len(cases)} cases do not agree", *lines]))
-    return f"{len(cases) - len(others)} cases agree, {len(others)} of bytes can't be stopped"
+    told = f"{len(cases) - len(others)} cases agree"
+    return f"{told}, {len(others)} of bytes can't be stopped" if others else told
 
 
-def _answers(built: Built, folder: Path, *restored: str) -> str:
-    """What comes of all cases by the harness, but for those of bytes that are to be stopped, which it does not do."""
+def _answers(built: Built, folder: Path, texts: str, scripts: str, left_out: set[str]) -> str:
+    """What comes of all cases by the harness, with these words for texts and for bytes."""
     harness = folder / f"harness-{built.name}"
     build(COMPILERS[0].c, built, HARNESS, harness, "-O2")
-    step_by_step = " ".join([f"'{harness}'", *restored, "{script} {fonts} {until}"])
-    commands = [step_by_step, "--bytes", f"'{harness}' --bytes {{script}} {{fonts}}"]
+    commands = [f"'{harness}' {texts}", "--bytes", f"'{harness}' {scripts}"]
     words = [sys.executable, TOP / "tools" / "vga-report", "suite", *commands, "--json"]
     done = subprocess.run([*words, "--jobs", str(os.cpu_count() or 1)], capture_output=True)
     if done.returncode not in (AGREED, DIFFERED):
         raise Wrong(done.stderr.decode("utf-8", "replace"))
-    left_out = {case.name for case in read_cases(str(SUITE)) if case.is_bytes and case.until is not None}
     return judged(json.loads(done.stdout), left_out)
+
+
+def _stopped_bytes() -> set[str]:
+    """The cases of bytes that are to be stopped, which zak_run does not do."""
+    return {case.name for case in read_cases(str(SUITE)) if case.is_bytes and case.until is not None}
 
 
 def check_suite(built: Built, folder: Path) -> str:
     """Each case agrees."""
-    return _answers(built, folder)
+    return _answers(built, folder, TEXTS, "--bytes {script} {fonts}", _stopped_bytes())
 
 
 def check_restored(built: Built, folder: Path) -> str:
-    """So does each where cards are saved and others restored, at pseudo-random steps and dots."""
-    return _answers(built, folder, "--restored")
+    """So does each text where cards are saved and others restored, at pseudo-random steps and dots."""
+    return _answers(built, folder, f"--restored {TEXTS}", "--bytes {script} {fonts}", _stopped_bytes())
+
+
+def check_sliced(built: Built, folder: Path) -> str:
+    """So does each in slices of a few steps, all on one card."""
+    return _answers(built, folder, f"--slices {SLICE} {TEXTS}", f"--slices {SLICE} --bytes {TEXTS}", set())

@@ -114,6 +114,7 @@ class Checks(unittest.TestCase):
             return {"rules": [{"cases": [{"name": f"n{at}", "answer": one} for at, one in enumerate(answers)]}]}
 
         self.assertEqual(judged(told("agrees", "skipped"), {"n1"}), "1 cases agree, 1 of bytes can't be stopped")
+        self.assertEqual(judged(told("agrees", "agrees"), set()), "2 cases agree")
         for answers in (["agrees", "differs"], ["agrees", "failed"], ["skipped", "agrees"], ["agrees", "skipped", "skipped"], []):
             with self.subTest(answers), self.assertRaises(Wrong):
                 judged(told(*answers), {"n1"})

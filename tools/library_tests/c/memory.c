@@ -1,7 +1,8 @@
 /* Refuses each growth of memory in turn to each call that takes some: the call answers
  * ZAK_OUT_OF_MEMORY, keeps no memory and leaves the card and what its pointers name; and where no
- * growth is refused it answers ZAK_OK. Other calls take none. It is linked with --wrap for malloc,
- * realloc and free.
+ * growth is refused it answers ZAK_OK. But zak_run_on may have taken some of the first steps: the
+ * card is then as behind one of them, and goes on. Other calls take none. It is linked with --wrap
+ * for malloc, realloc and free.
  *
  * A line for each call tells how many growths were refused to it. */
 #include <stdbool.h>
@@ -14,6 +15,8 @@
 #define MOST_GROWTHS 1000
 #define MOST_STATE (4 * ZAK_MOST_TEXT)
 #define UNTOUCHED 0xEE
+/* How many steps steps_text has. */
+#define STEPS 9u
 
 void *__real_malloc(size_t bytes);
 void *__real_realloc(void *block, size_t bytes);
@@ -54,7 +57,7 @@ void __wrap_free(void *block)
 static uint8_t fonts[ZAK_FONTS_SIZE], answer[MOST_STATE], rgb[ZAK_MOST_RGB];
 static uint32_t pixels[640 * 480], widths[ZAK_HIGHEST];
 static const uint8_t none[1];
-static size_t len, place;
+static size_t len, place, taken;
 static zak_card card = ZAK_CARD_INIT, opened = ZAK_CARD_INIT;
 static zak_screen screen;
 static zak_cell cell;
@@ -91,26 +94,56 @@ static zak_status do_run(void)
     return zak_run(script, sizeof script, fonts, sizeof fonts, answer, sizeof answer, &len, &place);
 }
 
-/* A call that takes memory, and the mode in which it is made. */
+/* Steps that take memory for their answers, with others between them that change the card. */
+static const char steps_text[] = "version 2\nint ax=3\nframe\nrepeat 2\nput B8000 41\nshow cells\n"
+                                 "advance 1000\nend\nint ax=1017 cx=100 ; the DAC's entries\n";
+static uint8_t steps[64], report[ZAK_MOST_RGB];
+static size_t steps_len;
+
+static zak_status do_assemble(void)
+{
+    return zak_assemble((const uint8_t *)steps_text, sizeof steps_text - 1, answer, sizeof answer,
+                        &len, &place);
+}
+
+static zak_status do_print(void)
+{
+    return zak_print(steps, steps_len, answer, sizeof answer, &len, &place);
+}
+
+static zak_status take_steps(uint32_t first, uint32_t most)
+{
+    return zak_run_on(&card, steps, steps_len, first, most, report, sizeof report, &len, &taken,
+                      &place);
+}
+
+static zak_status do_steps(void) { return take_steps(0, STEPS); }
+
+/* A call that takes memory, the mode in which it is made, and whether it may leave the card behind
+ * some of the first steps. */
 static const struct job {
     const char *name;
     zak_status (*call)(void);
     uint16_t mode;
+    bool takes_steps;
 } JOBS[] = {
-    {"zak_open", do_open, 3},
-    {"zak_int10", do_dac_entries, 3},
-    {"zak_show_regs", do_regs, 3},
-    {"zak_show_beam", do_beam, 3},
-    {"zak_show_latches", do_latches, 3},
-    {"zak_show_bda", do_bda, 3},
-    {"zak_show_cells", do_cells, 3},
-    {"zak_show_dac", do_dac, 3},
-    {"zak_show_plane", do_plane, 3},
-    {"zak_screen_read", do_screen, 3},
-    {"zak_screen_cell", do_cell, 3},
-    {"zak_screen_pixel", do_pixel, 0x13},
-    {"zak_screen_cursor", do_cursor, 3},
-    {"zak_run", do_run, 3},
+    {"zak_open", do_open, 3, false},
+    {"zak_int10", do_dac_entries, 3, false},
+    {"zak_show_regs", do_regs, 3, false},
+    {"zak_show_beam", do_beam, 3, false},
+    {"zak_show_latches", do_latches, 3, false},
+    {"zak_show_bda", do_bda, 3, false},
+    {"zak_show_cells", do_cells, 3, false},
+    {"zak_show_dac", do_dac, 3, false},
+    {"zak_show_plane", do_plane, 3, false},
+    {"zak_screen_read", do_screen, 3, false},
+    {"zak_screen_cell", do_cell, 3, false},
+    {"zak_screen_pixel", do_pixel, 0x13, false},
+    {"zak_screen_cursor", do_cursor, 3, false},
+    {"zak_run", do_run, 3, false},
+    {"zak_assemble", do_assemble, 3, false},
+    {"zak_print", do_print, 3, false},
+    {"zak_run_on", do_steps, 0x12, true},
 };
 
 static void wrong(const char *name, const char *what)
@@ -135,14 +168,76 @@ static size_t read_state(uint8_t *state)
     return at + part;
 }
 
+/* A state of the card as bytes. */
+struct saved {
+    uint8_t bytes[ZAK_MOST_STATE];
+    size_t len;
+};
+
+/* Those behind none of the steps, behind the first, and so on, and the one that is looked at. */
+static struct saved behind[STEPS + 1], looked_at;
+
+static void save(struct saved *saved)
+{
+    if (zak_save(&card, saved->bytes, sizeof saved->bytes, &saved->len))
+        wrong("zak_save", "it fails");
+}
+
+static void restore(const struct saved *saved)
+{
+    if (zak_restore(&card, saved->bytes, saved->len))
+        wrong("zak_restore", "it fails");
+}
+
+/* Takes the steps one by one, keeps the state behind each, and goes back. */
+static void save_steps(void)
+{
+    save(&behind[0]);
+    for (uint32_t first = 0; first < STEPS; first++) {
+        if (take_steps(first, 1) || taken != 1)
+            wrong("zak_run_on", "a step can't be taken");
+        save(&behind[first + 1]);
+    }
+    if (take_steps(STEPS, 1) || taken != 0)
+        wrong("zak_run_on", "there are more steps");
+    restore(&behind[0]);
+}
+
+/* How many of the steps the card has behind it, at least so many. */
+static uint32_t steps_behind(uint32_t least)
+{
+    save(&looked_at);
+    for (uint32_t count = least; count <= STEPS; count++)
+        if (looked_at.len == behind[count].len &&
+            memcmp(looked_at.bytes, behind[count].bytes, looked_at.len) == 0)
+            return count;
+    wrong("zak_run_on", "the card is as behind no step, or behind fewer than before");
+    return 0;
+}
+
+/* How many steps the card had behind it when a growth was refused last. A later growth is refused
+ * behind the same step, or a later one. */
+static uint32_t refused_behind;
+
+/* The card goes on behind the steps that it took, and comes to where they all lead; then it goes
+ * back. */
+static void finish_steps(void)
+{
+    uint32_t count = refused_behind = steps_behind(refused_behind);
+    if (take_steps(count, STEPS) || taken != STEPS - count || steps_behind(STEPS) != STEPS)
+        wrong("zak_run_on", "the card does not go on");
+    restore(&behind[0]);
+}
+
 static void clear_answers(void)
 {
     memset(answer, UNTOUCHED, sizeof answer);
+    memset(report, UNTOUCHED, sizeof report);
     memset(&screen, UNTOUCHED, sizeof screen);
     memset(&cell, UNTOUCHED, sizeof cell);
     memset(&cursor, UNTOUCHED, sizeof cursor);
     pixel = UNTOUCHED;
-    len = place = 999;
+    len = place = taken = 999;
 }
 
 static bool are_untouched(const void *bytes, size_t count)
@@ -156,9 +251,10 @@ static bool are_untouched(const void *bytes, size_t count)
 
 static bool has_no_answer(void)
 {
-    return are_untouched(answer, sizeof answer) && are_untouched(&screen, sizeof screen) &&
-           are_untouched(&cell, sizeof cell) && are_untouched(&cursor, sizeof cursor) &&
-           are_untouched(&pixel, 1) && len == 999 && place == 999 && !opened.is_open;
+    return are_untouched(answer, sizeof answer) && are_untouched(report, sizeof report) &&
+           are_untouched(&screen, sizeof screen) && are_untouched(&cell, sizeof cell) &&
+           are_untouched(&cursor, sizeof cursor) && are_untouched(&pixel, 1) && len == 999 &&
+           place == 999 && taken == 999 && !opened.is_open;
 }
 
 /* Makes a call with one growth refused; whether there was one. */
@@ -186,6 +282,8 @@ static bool refuse_growth(const struct job *job, unsigned number)
     if (!has_no_answer())
         wrong(job->name, "it answers something");
     refused = 0;
+    if (job->takes_steps)
+        finish_steps();
     size_t after_len = read_state(after);
     if (after_len != before_len || memcmp(before, after, after_len) != 0)
         wrong(job->name, "it changes the card");
@@ -200,10 +298,17 @@ static void refuse_all(const struct job *job)
     /* To the first dot of a whole frame. */
     zak_size size;
     zak_frame(&card, &size, rgb, sizeof rgb);
+    if (job->takes_steps)
+        save_steps();
     while (number < MOST_GROWTHS && refuse_growth(job, number))
         number++;
     if (number == 1)
         wrong(job->name, "it takes no memory");
+    if (job->takes_steps) {
+        if (steps_behind(STEPS) != STEPS || refused_behind < STEPS - 2)
+            wrong(job->name, "growths of the last steps are not refused");
+        restore(&behind[0]);
+    }
     printf("%s %u\n", job->name, number - 1);
     if (opened.is_open && zak_close(&opened))
         wrong(job->name, "the card can't be closed");
@@ -245,8 +350,10 @@ int main(int argc, char **argv)
     /* So that printing takes no memory among the calls. */
     setvbuf(stdout, out, _IOFBF, sizeof out);
     held = 0;
-    if (zak_open(&card, fonts, sizeof fonts))
-        wrong("zak_open", "it fails");
+    if (zak_open(&card, fonts, sizeof fonts) || do_assemble() || len > sizeof steps)
+        wrong("zak_open", "it fails, or the steps can't be assembled");
+    steps_len = len;
+    memcpy(steps, answer, steps_len);
     for (size_t i = 0; i < sizeof JOBS / sizeof *JOBS; i++)
         refuse_all(&JOBS[i]);
     if (call_int10(0x12, 0) || zak_frame(&card, &(zak_size){0, 0}, rgb, sizeof rgb))

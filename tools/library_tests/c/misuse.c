@@ -1,6 +1,7 @@
-/* Calls that are answered by a status: on a card that is not open, with arguments that are too short
- * or out of range, and a second open and close. Each buffer is as long as a call is told, so that a
- * sanitizer sees a byte that is written past it. What is printed is to be that of misuse.txt. */
+/* Calls that are answered by a status: on a card that is not open, with arguments that are too
+ * short or out of range, with damaged scripts, and a second open and close. Each buffer is as long
+ * as a call is told, so that a sanitizer sees a byte past it that is touched. What is printed is to
+ * be that of misuse.txt. */
 #include <stdio.h>
 #include <stdlib.h>
 #include <string.h>
@@ -10,6 +11,8 @@
 #define SHOW(call) printf("%-66s %u\n", #call, (unsigned)(call))
 
 #define UNTOUCHED 0xEE
+/* Bytes that a text, or a script, has at most. */
+#define MOST_SCRIPT 16777216u
 
 static uint8_t fonts[ZAK_FONTS_SIZE];
 static const uint8_t none[1];
@@ -75,6 +78,17 @@ static void calls_of_closed(void)
     SHOW(zak_show_plane(&card, 4, 0, 1, bytes, 1, &len));
     SHOW(size.width == 7 && pixel == 7 && len == 999 && *bytes == UNTOUCHED);
     SHOW(widths[0] == 7 && widths[1] == 0);
+    free(bytes);
+}
+
+static void steps_of_closed(void)
+{
+    static const uint8_t script[] = {'V', 'G', 'A', 'S', 1, 0x0B};
+    size_t len = 999, taken = 999, place = 999;
+    uint8_t *bytes = buffer(1);
+    SHOW(zak_run_on(&card, script, 6, 0, 1, bytes, 1, &len, &taken, &place));
+    SHOW(zak_run_on(&card, none, 0, 0, 1, bytes, 1, &len, &taken, &place));
+    SHOW(len == 999 && taken == 999 && place == 999 && *bytes == UNTOUCHED);
     free(bytes);
 }
 
@@ -374,6 +388,188 @@ static void runs(void)
     free(report);
 }
 
+/* A text of so many lines. */
+static uint8_t *lines(const char *line, size_t count)
+{
+    size_t len = strlen(line);
+    uint8_t *text = buffer(len * count);
+    for (size_t i = 0; i < count; i++)
+        memcpy(text + len * i, line, len);
+    return text;
+}
+
+static zak_status assemble(const char *text, uint8_t *script, size_t room, size_t *len,
+                           size_t *line)
+{
+    /* As long as it is, so that a sanitizer sees a byte that is read past it. */
+    uint8_t *exact = buffer(strlen(text));
+    memcpy(exact, text, strlen(text));
+    zak_status status = zak_assemble(exact, strlen(text), script, room, len, line);
+    free(exact);
+    return status;
+}
+
+static void texts(void)
+{
+    size_t len = 999, line = 999;
+    uint8_t *script = buffer(13);
+    SHOW(assemble("frame\nmove 3C4 02\nput 1", script, 13, &len, &line));
+    SHOW(line);
+    SHOW(assemble("; blanks\r\n\n frame 2", script, 13, &len, &line));
+    SHOW(line);
+    SHOW(assemble("version 2\n\nrepeat 2\nframe", script, 13, &len, &line));
+    SHOW(line);
+    SHOW(assemble("put 1000A0000 55", script, 13, &len, &line));
+    SHOW(line);
+    SHOW(len == 999 && script[0] == UNTOUCHED);
+    SHOW(assemble("put A0000 41\nout 3C4", script, 0, &len, &line));
+    SHOW(line);
+    SHOW(assemble("put A0000 41\nframe\nframe", script, 12, &len, &line));
+    SHOW(len);
+    SHOW(script[0] == UNTOUCHED && line == 2);
+    SHOW(assemble("put A0000 41\nframe\nframe", script, 13, &len, &line));
+    SHOW(len == 13 && memcmp(script, "VGAS\1\5\0\0\12\0\101\13\13", 13) == 0);
+    SHOW(assemble("", script, 4, &len, &line));
+    SHOW(len);
+    SHOW(assemble("", script, 5, &len, &line));
+    SHOW(len);
+    free(script);
+}
+
+/* More bytes than a text, or than a script, may have. */
+static void long_texts(void)
+{
+    size_t len = 999, line = 999, ints = 1525201;
+    uint8_t *text = lines("\n", MOST_SCRIPT + 1), *script = buffer(5);
+    SHOW(zak_assemble(text, MOST_SCRIPT + 1, script, 5, &len, &line));
+    SHOW(len == 999 && line == 999 && script[0] == UNTOUCHED);
+    SHOW(zak_assemble(text, MOST_SCRIPT, script, 5, &len, &line));
+    free(text);
+    text = lines("int\n", ints + 1);
+    SHOW(zak_assemble(text, 4 * (ints + 1), script, 0, &len, &line));
+    SHOW(zak_assemble(text, 4 * ints, script, 0, &len, &line));
+    SHOW(len == 5 + 11 * ints && line == 999);
+    free(text);
+    free(script);
+}
+
+/* A call over bytes of a script that are as many as it is told. */
+static zak_status print(const void *script, size_t script_len, uint8_t *text, size_t room,
+                        size_t *len, size_t *place)
+{
+    uint8_t *exact = buffer(script_len);
+    memcpy(exact, script, script_len);
+    zak_status status = zak_print(exact, script_len, text, room, len, place);
+    free(exact);
+    return status;
+}
+
+static void prints(void)
+{
+    static const char good[] = "VGAS\2\15\3\0\3\332\3\16\13";
+    size_t len = 999, place = 999;
+    uint8_t *text = buffer(36), *bytes = lines("V", MOST_SCRIPT + 1);
+    SHOW(print("VGAX\1", 5, text, 36, &len, &place));
+    SHOW(print("VGAS\11", 5, text, 36, &len, &place));
+    SHOW(zak_print(bytes, MOST_SCRIPT + 1, text, 36, &len, &place));
+    SHOW(len == 999 && place == 999 && text[0] == UNTOUCHED);
+    SHOW(print("VGAS", 4, text, 36, &len, &place));
+    SHOW(place);
+    SHOW(print("VGAS\1\13\377", 7, text, 36, &len, &place));
+    SHOW(place);
+    SHOW(print("VGAS\1\13\13\1", 8, text, 36, &len, &place));
+    SHOW(place);
+    SHOW(print(good, 13, text, 35, &len, &place));
+    SHOW(len);
+    SHOW(text[0] == UNTOUCHED && place == 7);
+    SHOW(print(good, 13, text, 36, &len, &place));
+    printf("%.*s", (int)len, (char *)text);
+    free(text);
+    free(bytes);
+}
+
+/* Seven steps, of which three are those of a block: out, and then in from 3DA and get in turn. */
+static const char seven[] = "VGAS\2\1\302\3\143\15\3\0\3\332\3\7\0\0\12\0\16";
+#define SEVEN (sizeof seven - 1)
+
+/* Steps of these bytes, which are as many as is told, with as much room for the report. */
+static zak_status take(const void *script, size_t script_len, uint32_t first, uint32_t most,
+                       size_t room)
+{
+    size_t len = 999, taken = 999, place = 999;
+    uint8_t *exact = buffer(script_len), *report = buffer(room);
+    memcpy(exact, script, script_len);
+    zak_status status = zak_run_on(&card, exact, script_len, first, most, report, room, &len,
+                                   &taken, &place);
+    printf("  report %zu, taken %zu, place %zu\n", len, taken, place);
+    if (status == ZAK_OK)
+        printf("%.*s", (int)len, (char *)report);
+    else if (room && (report[0] != UNTOUCHED || report[room - 1] != UNTOUCHED))
+        printf("the report is touched\n");
+    free(exact);
+    free(report);
+    return status;
+}
+
+/* Slices of a script: none, all, some again, and behind its end. */
+static void slices(void)
+{
+    SHOW(take(seven, SEVEN, 0, 0, 0));
+    SHOW(take(seven, SEVEN, 0, 7, 100));
+    SHOW(take(seven, SEVEN, 2, 3, 15));
+    SHOW(take(seven, SEVEN, 3, 3, 15));
+    SHOW(take(seven, SEVEN, 3, 3, 14));
+    SHOW(take(seven, SEVEN, 3, 3, 0));
+    SHOW(take(seven, SEVEN, 6, 2, 5));
+    SHOW(take(seven, SEVEN, 7, 1, 1));
+    SHOW(take(seven, SEVEN, 0xFFFFFFFF, 0xFFFFFFFF, 1));
+    SHOW(take("VGAS\1", 5, 0, 1, 1));
+    SHOW(take("VGAS\1\1\140\0\0", 9, 0, 1, 16));
+}
+
+/* Bytes that spell no script: no step is taken, whichever are asked for. */
+static void damaged_slices(void)
+{
+    uint8_t *bytes = lines("V", MOST_SCRIPT + 1);
+    SHOW(take(none, 0, 0, 7, 9));
+    SHOW(take("VGAX\1\13", 6, 0, 7, 9));
+    SHOW(take("VGAS\3\13", 6, 0, 7, 9));
+    SHOW(take("VGAS", 4, 0, 7, 9));
+    SHOW(take("VGAS\1\13\377", 7, 0, 1, 9));
+    SHOW(take("VGAS\1\13\377", 7, 0, 0, 9));
+    SHOW(take("VGAS\1\13\377", 7, 9, 1, 9));
+    SHOW(take("VGAS\1\13\13\1", 8, 0, 1, 9));
+    SHOW(take(seven, SEVEN - 1, 0, 1, 9));
+    SHOW(take("VGAS\1\15\1\0\13\16", 10, 0, 1, 9));
+    SHOW(take(bytes, MOST_SCRIPT + 1, 0, 1, 9));
+    free(bytes);
+    /* 257 frames, 65,535 times. */
+    uint8_t *many = lines("\13", 266);
+    memcpy(many, "VGAS\2\15\377\377", 8);
+    many[265] = 0x0E;
+    SHOW(take(many, 266, 0, 1, 9));
+    free(many);
+}
+
+/* The card is the same behind slices of no step and behind faults, and another behind steps whose
+ * report has no room. */
+static void states_of_slices(void)
+{
+    size_t len, again;
+    uint8_t *before = state_of(&len);
+    damaged_slices();
+    SHOW(take(seven, SEVEN, 7, 7, 9));
+    SHOW(take(seven, SEVEN, 0, 0, 9));
+    uint8_t *after = state_of(&again);
+    SHOW(again == len && memcmp(before, after, len) == 0);
+    free(after);
+    SHOW(take("VGAS\1\12\1\0\0\0", 10, 0, 1, 4));
+    after = state_of(&again);
+    SHOW(again == len && memcmp(before, after, len) == 0);
+    free(before);
+    free(after);
+}
+
 int main(int argc, char **argv)
 {
     FILE *file = argc == 2 ? fopen(argv[1], "rb") : NULL;
@@ -383,6 +579,7 @@ int main(int argc, char **argv)
     SHOW(zak_version() == ZAK_API_VERSION);
     cycles_of_closed();
     calls_of_closed();
+    steps_of_closed();
     reads_of_closed();
     opens();
     refused_cycles();
@@ -398,6 +595,11 @@ int main(int argc, char **argv)
     ragged_lines();
     states();
     runs();
+    texts();
+    long_texts();
+    prints();
+    slices();
+    states_of_slices();
     SHOW(zak_close(&card));
     SHOW(zak_close(&card));
     SHOW(card.is_open);

@@ -1,14 +1,18 @@
-/* Two cards in two threads draw what one card draws alone, and a card that goes from thread to thread
- * draws it too. */
+/* Two cards in two threads draw what one card draws alone, and so does a card that goes from thread
+ * to thread. Two more in two threads draw it by the slices of a script that each assembles. */
 #include <pthread.h>
 #include <stdint.h>
 #include <stdio.h>
 #include <stdlib.h>
+#include <string.h>
 
 #include "zaklimot.h"
 
 #define PUTS 2000000u
 #define PARTS 4u
+#define PIXELS 64000u
+#define MOST_LINE 16u
+#define SLICE 1000u
 
 static uint8_t fonts[ZAK_FONTS_SIZE];
 
@@ -66,6 +70,45 @@ static void *draw(void *given)
     return close_card(given);
 }
 
+/* The text of the puts that the others make last, which leave every pixel. */
+static char *text_of_puts(void)
+{
+    char *text = malloc(PIXELS * MOST_LINE);
+    size_t len = 0;
+    if (!text)
+        exit(2);
+    for (uint32_t at = PUTS - PIXELS; at < PUTS; at++)
+        len += (size_t)snprintf(text + len, MOST_LINE, "put %X %X\n",
+                                (unsigned)(0xA0000 + at % PIXELS), (unsigned)(uint8_t)(at >> 7));
+    return text;
+}
+
+static void take_slices(struct drawing *drawing, const uint8_t *script, size_t script_len)
+{
+    uint8_t report[MOST_LINE * SLICE];
+    size_t len, place, taken = SLICE;
+    for (uint32_t first = 0; drawing->status == ZAK_OK && taken == SLICE; first += SLICE)
+        drawing->status |= zak_run_on(&drawing->card, script, script_len, first, SLICE, report,
+                                      sizeof report, &len, &taken, &place);
+}
+
+static void *draw_slices(void *given)
+{
+    struct drawing *drawing = given;
+    char *text = text_of_puts();
+    uint8_t *script = malloc(PIXELS * MOST_LINE);
+    size_t len, line;
+    if (!script)
+        exit(2);
+    open_card(drawing);
+    drawing->status |= zak_assemble((const uint8_t *)text, strlen(text), script,
+                                    PIXELS * MOST_LINE, &len, &line);
+    take_slices(drawing, script, len);
+    free(script);
+    free(text);
+    return close_card(drawing);
+}
+
 static pthread_t start(void *(*work)(void *), struct drawing *drawing)
 {
     pthread_t thread;
@@ -81,7 +124,7 @@ static void in_thread(void *(*work)(void *), struct drawing *drawing)
 
 int main(int argc, char **argv)
 {
-    static struct drawing alone, one, other, moved;
+    static struct drawing alone, one, other, moved, sliced, resliced;
     FILE *file = argc == 2 ? fopen(argv[1], "rb") : NULL;
     if (!file || fread(fonts, 1, sizeof fonts, file) != sizeof fonts)
         return 2;
@@ -94,9 +137,16 @@ int main(int argc, char **argv)
     for (uint32_t part = 0; part < PARTS; part++)
         in_thread(put_part, &moved);
     in_thread(close_card, &moved);
-    printf("statuses %u %u %u %u\n", (unsigned)alone.status, (unsigned)one.status,
-           (unsigned)other.status, (unsigned)moved.status);
+    first = start(draw_slices, &sliced);
+    second = start(draw_slices, &resliced);
+    pthread_join(first, NULL);
+    pthread_join(second, NULL);
+    printf("statuses %u %u %u %u %u %u\n", (unsigned)alone.status, (unsigned)one.status,
+           (unsigned)other.status, (unsigned)moved.status, (unsigned)sliced.status,
+           (unsigned)resliced.status);
     printf("two at a time %s\n", one.sum == alone.sum && other.sum == alone.sum ? "alike" : "differ");
     printf("one that moves %s\n", moved.sum == alone.sum ? "alike" : "differs");
+    bool are_alike = sliced.sum == alone.sum && resliced.sum == alone.sum;
+    printf("two by slices %s\n", are_alike ? "alike" : "differ");
     return 0;
 }
