@@ -7,6 +7,11 @@ from typing import Any, NamedTuple, Optional
 
 U8, U16, U32, SIZE = ctypes.c_uint8, ctypes.c_uint16, ctypes.c_uint32, ctypes.c_size_t
 MOST_RGB, MOST_TABLE, MOST_TEXT = 3 * 2304 * 1024, 768, 32768
+# Room for the report of any one step.
+STEP_ROOM = MOST_RGB + 100
+NO_ROOM = 25
+# The statuses that come with a place: BAD_STEP, TRUNCATED, BAD_LINE and TOO_MANY.
+PLACED = (104, 105, 107, 111)
 
 
 class _Card(ctypes.Structure):
@@ -42,7 +47,10 @@ CALLS: dict[str, list[Any]] = {
     "restore": [BYTES, SIZE],
     "show_regs": [BYTES, SIZE, COUNT],
     "show_cells": [BYTES, SIZE, COUNT],
+    "run_on": [BYTES, SIZE, U32, U32, BYTES, SIZE, COUNT, COUNT, COUNT],
 }
+# The parameters of the calls that need no card.
+FORMS: list[Any] = [BYTES, SIZE, BYTES, SIZE, COUNT, COUNT]
 
 
 class Regs(NamedTuple):
@@ -62,12 +70,49 @@ class Picture(NamedTuple):
     rgb: bytes
 
 
-class Refused(Exception):
-    """A call that is not done, with its status, as `zaklimot.h` names it."""
+class Slice(NamedTuple):
+    """What came of steps of a script: their report, and how many were taken."""
 
-    def __init__(self, call: str, status: int) -> None:
-        super().__init__(f"zak_{call} answers status {status}")
-        self.status = status
+    report: bytes
+    taken: int
+
+
+class Refused(Exception):
+    """A call that is not done, with its status, as `zaklimot.h` names it.
+
+    Where that has a place, it is the number of a bad line, from 1, or an offset in the bytes of a script. Else it
+    is None.
+    """
+
+    def __init__(self, call: str, status: int, place: int = 0) -> None:
+        self.status, self.place = status, place if status in PLACED else None
+        where = "" if self.place is None else f" at {self.place}"
+        super().__init__(f"zak_{call} answers status {status}{where}")
+
+
+def _other_form(library: str, name: str, given: bytes) -> bytes:
+    """What a call makes of a script's text, or of its bytes. The first time it tells how long that is."""
+    call = getattr(ctypes.CDLL(library), f"zak_{name}")
+    call.argtypes, call.restype = FORMS, U32
+    length, place = SIZE(), SIZE()
+    made = ctypes.create_string_buffer(0)
+    status = call(given, len(given), made, 0, ctypes.byref(length), ctypes.byref(place))
+    if status == NO_ROOM:
+        made = ctypes.create_string_buffer(length.value)
+        status = call(given, len(given), made, len(made), ctypes.byref(length), ctypes.byref(place))
+    if status:
+        raise Refused(name, status, place.value)
+    return made.raw
+
+
+def assemble(library: str, text: bytes) -> bytes:
+    """The bytes of the script that a text spells."""
+    return _other_form(library, "assemble", text)
+
+
+def printed(library: str, script: bytes) -> bytes:
+    """The text that spells the script of some bytes, with one line a step."""
+    return _other_form(library, "print", script)
 
 
 class Card:
@@ -136,6 +181,26 @@ class Card:
         state = ctypes.create_string_buffer(length.value)
         self._call("save", state, length.value, ctypes.byref(length))
         return state.raw
+
+    def run_on(self, script: bytes, first: int, most: int) -> Slice:
+        """Takes at most so many steps of a script, after the first ones, which are passed over.
+
+        It saves the card before, and so takes them again where their report needs more room.
+        """
+        state, room = self.save(), STEP_ROOM
+        length, taken, place = SIZE(), SIZE(), SIZE()
+        told = [ctypes.byref(number) for number in (length, taken, place)]
+        while True:
+            report = ctypes.create_string_buffer(room)
+            status = self._library.zak_run_on(
+                ctypes.byref(self._card), script, len(script), first, most, report, room, *told)
+            if status != NO_ROOM:
+                break
+            room = length.value
+            self.restore(state)
+        if status:
+            raise Refused("run_on", status, place.value)
+        return Slice(report[:length.value], taken.value)
 
     def restore(self, state: bytes) -> None:
         """Goes on from a state that was saved."""

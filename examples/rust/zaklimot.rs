@@ -7,6 +7,9 @@ use std::fmt;
 pub const FONTS_SIZE: usize = 9728;
 const MOST_RGB: usize = 3 * 2304 * 1024;
 const MOST_TABLE: usize = 768;
+/// Room for the report of any one step.
+const STEP_ROOM: usize = MOST_RGB + 100;
+const NO_ROOM: u32 = 25;
 
 #[repr(C)]
 struct RawCard {
@@ -52,6 +55,34 @@ extern "C" {
     fn zak_save_size(card: *mut RawCard, len: *mut usize) -> u32;
     fn zak_save(card: *mut RawCard, bytes: *mut u8, bytes_cap: usize, len: *mut usize) -> u32;
     fn zak_restore(card: *mut RawCard, bytes: *const u8, bytes_len: usize) -> u32;
+    fn zak_run_on(
+        card: *mut RawCard,
+        script: *const u8,
+        script_len: usize,
+        first: u32,
+        most: u32,
+        report: *mut u8,
+        report_cap: usize,
+        report_len: *mut usize,
+        taken: *mut usize,
+        place: *mut usize,
+    ) -> u32;
+    fn zak_assemble(
+        text: *const u8,
+        text_len: usize,
+        script: *mut u8,
+        script_cap: usize,
+        script_len: *mut usize,
+        line: *mut usize,
+    ) -> u32;
+    fn zak_print(
+        script: *const u8,
+        script_len: usize,
+        text: *mut u8,
+        text_cap: usize,
+        text_len: *mut usize,
+        place: *mut usize,
+    ) -> u32;
 }
 
 /// What a call answers that is not done: a status of `zaklimot.h`.
@@ -74,6 +105,69 @@ fn done(status: u32) -> Result<(), Status> {
     }
 }
 
+/// What a call over a script answers that is not done. Where its status has a place, it is the
+/// number of a bad line, from 1, or an offset in the bytes of a script.
+#[derive(Clone, Copy, Debug, PartialEq, Eq)]
+pub struct Fault {
+    pub status: Status,
+    pub place: Option<usize>,
+}
+
+impl Fault {
+    fn new(status: u32, place: usize) -> Fault {
+        // BAD_STEP, TRUNCATED, BAD_LINE and TOO_MANY.
+        let has_place = matches!(status, 104 | 105 | 107 | 111);
+        Fault { status: Status(status), place: has_place.then_some(place) }
+    }
+}
+
+impl From<Status> for Fault {
+    fn from(status: Status) -> Fault {
+        Fault { status, place: None }
+    }
+}
+
+impl fmt::Display for Fault {
+    fn fmt(&self, f: &mut fmt::Formatter<'_>) -> fmt::Result {
+        write!(f, "the script is answered with status {}", self.status.0)?;
+        self.place.map_or(Ok(()), |place| write!(f, " at {place}"))
+    }
+}
+
+impl std::error::Error for Fault {}
+
+type OtherForm =
+    unsafe extern "C" fn(*const u8, usize, *mut u8, usize, *mut usize, *mut usize) -> u32;
+
+/// What a call makes of a script's text, or of its bytes. The first time it tells how long that is.
+fn other_form(call: OtherForm, given: &[u8]) -> Result<Vec<u8>, Fault> {
+    let (mut made, mut len, mut place) = (Vec::new(), 0, 0);
+    loop {
+        let (to, room) = (made.as_mut_ptr(), made.len());
+        match unsafe { call(given.as_ptr(), given.len(), to, room, &mut len, &mut place) } {
+            0 => return Ok(made),
+            NO_ROOM => made = vec![0; len],
+            status => return Err(Fault::new(status, place)),
+        }
+    }
+}
+
+/// The bytes of the script that a text spells.
+pub fn assemble(text: &[u8]) -> Result<Vec<u8>, Fault> {
+    other_form(zak_assemble, text)
+}
+
+/// The text that spells the script of some bytes, with one line a step.
+pub fn printed(script: &[u8]) -> Result<Vec<u8>, Fault> {
+    other_form(zak_print, script)
+}
+
+/// What came of steps of a script: their report, and how many were taken.
+pub struct Slice {
+    pub report: Vec<u8>,
+    pub taken: usize,
+}
+
 /// A picture: red, green and blue of each dot, 0 to 63 each.
 pub struct Picture {
     pub width: u32,
@@ -81,8 +175,8 @@ pub struct Picture {
     pub rgb: Vec<u8>,
 }
 
-/// A card that is open as long as it lives. A call takes it as `&mut`, so no two run at once, and the
-/// buffers of a call can't overlap. Where it moves, its old place is not used again.
+/// A card that is open as long as it lives. A call takes it as `&mut`, so no two run at once, and
+/// the buffers of a call can't overlap. Where it moves, its old place is not used again.
 pub struct Card {
     raw: RawCard,
 }
@@ -155,6 +249,40 @@ impl Card {
         let mut bytes = vec![0; len];
         done(unsafe { zak_save(&mut self.raw, bytes.as_mut_ptr(), bytes.len(), &mut len) })?;
         Ok(bytes)
+    }
+
+    /// Takes at most so many steps of a script, after the first ones, which are passed over. It
+    /// saves the card before, and so takes them again where their report needs more room.
+    pub fn run_on(&mut self, script: &[u8], first: u32, most: u32) -> Result<Slice, Fault> {
+        let (state, mut report) = (self.save()?, vec![0; STEP_ROOM]);
+        let (mut len, mut taken, mut place) = (0, 0, 0);
+        loop {
+            let status = unsafe {
+                zak_run_on(
+                    &mut self.raw,
+                    script.as_ptr(),
+                    script.len(),
+                    first,
+                    most,
+                    report.as_mut_ptr(),
+                    report.len(),
+                    &mut len,
+                    &mut taken,
+                    &mut place,
+                )
+            };
+            match status {
+                0 => {
+                    report.truncate(len);
+                    return Ok(Slice { report, taken });
+                }
+                NO_ROOM => {
+                    report = vec![0; len];
+                    self.restore(&state)?;
+                }
+                status => return Err(Fault::new(status, place)),
+            }
+        }
     }
 
     /// Goes on from a state that was saved.

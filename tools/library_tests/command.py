@@ -21,6 +21,7 @@ from .header import check_header, check_names
 from .installing import check_installing
 from .pc import check_pc
 from .programs import check_memory, check_misuse, check_state, check_threads
+from .scripts import check_scripts
 from .suite import check_restored, check_sliced, check_suite
 
 RIGHT, WRONG, TROUBLE = 0, 1, 2
@@ -37,7 +38,8 @@ EACH: dict[str, Check] = {
     "threads": check_threads,
 }
 ONCE: dict[str, Check] = {
-    "header": check_header, "examples": check_examples, "installing": check_installing, "pc": check_pc,
+    "header": check_header, "examples": check_examples, "scripts": check_scripts,
+    "installing": check_installing, "pc": check_pc,
 }
 
 

@@ -47,7 +47,7 @@ def check_threads(built: Built, folder: Path) -> str:
     made = folder / "threads"
     build(COMPILERS[0].c, built, [SOURCES / "threads.c"], made, "-O2", "-pthread")
     expect("threads", run([made, fonts_file()]))
-    return "two cards in two threads, and one that moves"
+    return "two cards in two threads, by cycles and by slices of scripts, and one that moves"
 
 
 def check_memory(built: Built, folder: Path) -> str:
