@@ -7,6 +7,15 @@
 
 #include "zaklimot.h"
 
+/* Steps of the script that is taken in slices, and of the one whose text has a million bytes. */
+#define PUTS 10000u
+#define LINES 76923u
+/* A step as text, as bytes, and its line in a report, at most. */
+#define LINE_BYTES 13u
+#define STEP_BYTES 6u
+#define HEADER_BYTES 5u
+#define ANSWER_BYTES 16u
+
 static uint8_t fonts[ZAK_FONTS_SIZE], rgb[ZAK_MOST_RGB], table[ZAK_MOST_TABLE];
 static uint8_t text[ZAK_MOST_TEXT];
 static uint8_t state[ZAK_MOST_STATE];
@@ -17,6 +26,9 @@ static zak_size size;
 static size_t len;
 static uint8_t byte;
 static uint16_t word;
+static size_t place, taken, script_len;
+static uint8_t text_of_puts[LINE_BYTES * LINES], printed[LINE_BYTES * LINES];
+static uint8_t script[HEADER_BYTES + STEP_BYTES * LINES], report[ANSWER_BYTES * PUTS];
 static zak_registers registers;
 static zak_beam beam;
 
@@ -106,35 +118,93 @@ static zak_status do_show_regs(uint32_t i)
     return zak_show_regs(&card, text, sizeof text, &len);
 }
 
+/* A script of so many steps `put A0000 41`, as bytes and as text. */
+static void make_script(uint32_t steps)
+{
+    static const uint8_t header[] = {'V', 'G', 'A', 'S', 1}, step[] = {5, 0, 0, 0x0A, 0, 0x41};
+    memcpy(script, header, HEADER_BYTES);
+    for (uint32_t i = 0; i < steps; i++) {
+        memcpy(script + HEADER_BYTES + STEP_BYTES * i, step, STEP_BYTES);
+        memcpy(text_of_puts + LINE_BYTES * i, "put A0000 41\n", LINE_BYTES);
+    }
+    script_len = HEADER_BYTES + STEP_BYTES * steps;
+}
+
+static void make_one(void) { make_script(1); }
+static void make_puts(void) { make_script(PUTS); }
+static void make_lines(void) { make_script(LINES); }
+
+static zak_status take(uint32_t first, uint32_t most)
+{
+    return zak_run_on(&card, script, script_len, first, most, report, sizeof report, &len, &taken,
+                      &place);
+}
+
+static zak_status do_run_on_first(uint32_t i) { return take(i & 0, 1); }
+static zak_status do_run_on_last(uint32_t i) { return take(PUTS - 1 + (i & 0), 1); }
+static zak_status do_run_on_all(uint32_t i) { return take(i & 0, PUTS); }
+
+/* As many calls as that takes steps. */
+static zak_status do_puts(uint32_t i)
+{
+    zak_status status = ZAK_OK;
+    for (uint32_t at = 0; at < PUTS; at++)
+        status |= zak_put(&card, 0xA0000 + (i & 0), 0x41);
+    return status;
+}
+
+static zak_status do_assemble(uint32_t i)
+{
+    (void)i;
+    return zak_assemble(text_of_puts, sizeof text_of_puts, script, sizeof script, &len, &place);
+}
+
+static zak_status do_print(uint32_t i)
+{
+    (void)i;
+    return zak_print(script, script_len, printed, sizeof printed, &len, &place);
+}
+
+/* A call, and what is made ready for it, if anything. */
 static const struct call {
     const char *name;
     zak_status (*make)(uint32_t);
+    void (*prepare)(void);
 } CALLS[] = {
-    {"put", do_put},
-    {"put_word", do_put_word},
-    {"get", do_get},
-    {"get_word", do_get_word},
-    {"out", do_out},
-    {"out_word", do_out_word},
-    {"in", do_in},
-    {"advance_0", do_advance_0},
-    {"advance_1", do_advance_1},
-    {"advance_25", do_advance_25},
-    {"advance_line", do_advance_line},
-    {"frame", do_frame},
-    {"frame_xrgb", do_frame_xrgb},
-    {"frame_lines", do_frame_lines},
-    {"teletype", do_teletype},
-    {"read_registers", do_read_registers},
-    {"read_beam", do_read_beam},
-    {"show_regs", do_show_regs},
-    {"save", do_save},
-    {"restore", do_restore},
+    {"put", do_put, NULL},
+    {"put_word", do_put_word, NULL},
+    {"get", do_get, NULL},
+    {"get_word", do_get_word, NULL},
+    {"out", do_out, NULL},
+    {"out_word", do_out_word, NULL},
+    {"in", do_in, NULL},
+    {"advance_0", do_advance_0, NULL},
+    {"advance_1", do_advance_1, NULL},
+    {"advance_25", do_advance_25, NULL},
+    {"advance_line", do_advance_line, NULL},
+    {"frame", do_frame, NULL},
+    {"frame_xrgb", do_frame_xrgb, NULL},
+    {"frame_lines", do_frame_lines, NULL},
+    {"teletype", do_teletype, NULL},
+    {"read_registers", do_read_registers, NULL},
+    {"read_beam", do_read_beam, NULL},
+    {"show_regs", do_show_regs, NULL},
+    {"save", do_save, NULL},
+    {"restore", do_restore, NULL},
+    {"run_on_one", do_run_on_first, make_one},
+    {"run_on_first", do_run_on_first, make_puts},
+    {"run_on_last", do_run_on_last, make_puts},
+    {"run_on_all", do_run_on_all, make_puts},
+    {"puts", do_puts, NULL},
+    {"assemble", do_assemble, make_lines},
+    {"print", do_print, make_lines},
 };
 
 static zak_status repeat(const struct call *call, uint32_t times)
 {
     zak_status status = ZAK_OK;
+    if (call->prepare)
+        call->prepare();
     for (uint32_t i = 0; status == ZAK_OK && i < times; i++)
         status = call->make(i);
     return status;

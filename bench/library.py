@@ -1,6 +1,7 @@
-"""Counts the instructions and the time of each call of the library: python3 bench/library.py FOLDER
+"""Counts the instructions and the time of each call of the library: python3 bench/library.py FOLDER [CALL ..]
 
-FOLDER is one that `tools/vga-library make` has made. Debian's packages gcc and valgrind are needed.
+FOLDER is one that `tools/vga-library make` has made. CALL is a name in the table; without one, all are
+counted. Debian's packages gcc and valgrind are needed.
 """
 
 from __future__ import annotations
@@ -41,6 +42,11 @@ CALLS = (
     Call("teletype", "3", 1000, 100_000), Call("read_registers", "13", 1000, 1_000_000),
     Call("read_beam", "13", 1000, 1_000_000), Call("show_regs", "13", 1000, 100_000),
     Call("save", "13", 10, 2000), Call("restore", "13", 10, 2000),
+    # A step of a script that has no other, the first and the last one of 10,000, and all of these, against as many calls.
+    Call("run_on_one", "13", 1000, 100_000), Call("run_on_first", "13", 100, 10_000),
+    Call("run_on_last", "13", 100, 10_000), Call("run_on_all", "13", 10, 1000), Call("puts", "13", 10, 1000),
+    # A text of a million bytes, and the script that it spells.
+    Call("assemble", "13", 5, 100), Call("print", "13", 5, 100),
 )
 
 
@@ -65,7 +71,8 @@ def seconds(program: Path, call: Call, times: int) -> float:
 
 
 def main() -> int:
-    if len(sys.argv) != 2:
+    wanted = sys.argv[2:] or [call.name for call in CALLS]
+    if len(sys.argv) < 2 or not {call.name for call in CALLS}.issuperset(wanted):
         print(__doc__, file=sys.stderr)
         return 2
     library = Path(sys.argv[1])
@@ -75,7 +82,7 @@ def main() -> int:
         program = folder / "calls"
         words = ["gcc", "-std=c99", "-O2", "-I", library / "include", SOURCE, library / "lib" / "libzaklimot.a"]
         subprocess.run([*words, "-o", program], check=True)
-        for call in CALLS:
+        for call in (call for call in CALLS if call.name in wanted):
             counts = [instructions(program, call, times, folder) for times in (0, call.counted)]
             took = seconds(program, call, call.timed) - seconds(program, call, 0)
             each = round((counts[1] - counts[0]) / call.counted)

@@ -53,7 +53,7 @@ enum {
     ZAK_NO_CARD = 20,        /* the card is not open */
     ZAK_OPEN_ALREADY = 21,
     ZAK_FONT_SIZE = 22,      /* the font file has not ZAK_FONTS_SIZE bytes */
-    ZAK_OUT_OF_MEMORY = 23,  /* malloc gave none; nothing has changed */
+    ZAK_OUT_OF_MEMORY = 23,  /* malloc gave none; nothing has changed, but see zak_run_on */
     ZAK_RAGGED = 24,         /* two rows of the frame differ in width: there is no picture */
     ZAK_NO_ROOM = 25,        /* the caller's buffer is too short, and nothing was written there */
     ZAK_BAD_ARGUMENT = 26,   /* an argument is not in the range that the call names */
@@ -68,7 +68,7 @@ enum {
     ZAK_BAD_STEP = 104,
     ZAK_TRUNCATED = 105,
     ZAK_TOO_LONG = 106,
-    ZAK_BAD_LINE = 107,      /* of zak_assemble */
+    ZAK_BAD_LINE = 107,      /* of zak_assemble: a line of the text is bad */
     ZAK_TOO_MANY = 111
 };
 
@@ -247,25 +247,30 @@ zak_status zak_restore(zak_card *card, const uint8_t *bytes, size_t bytes_len);
 zak_status zak_run(const uint8_t *script, size_t script_len, const uint8_t *fonts, size_t fonts_len,
                    uint8_t *report, size_t report_cap, size_t *report_len, size_t *place);
 
-/* Steps of a script on an open card: at most `most` of them, after the first `first`, which are
- * passed over. The steps of a `repeat` count each time that they are taken. The report has a line
- * for each step that was taken, numbered first + 1, first + 2, and so on; *taken tells how many,
- * fewer than `most` only where the script ends. So a script can be taken in slices, with other
- * calls between them.
+/* Takes steps of a script on an open card: at most `most` of them, after the first `first` steps,
+ * which are passed over. The steps of a `repeat` count each time that they are taken. The report
+ * has the lines of zak_run for the steps that were taken, numbered from first + 1 on. *taken tells
+ * how many they are: fewer than `most` only where the script ends. A step that is refused says so
+ * in its line, and the call answers ZAK_OK. So you can take a script in slices, with other calls
+ * between them. Each call decodes the whole script and walks over the first `first` steps.
  * ZAK_NO_ROOM: the steps are taken all the same; *report_len and *taken are written, the report is
- * not. The faults of zak_run leave the card as it was. ZAK_OUT_OF_MEMORY: some of the first steps
- * may have been taken, none in part; restore a saved state. ZAK_BAD_CARD as with zak_int10. */
+ * not. The report of a single step has at most ZAK_MOST_RGB + 100 bytes. The faults of zak_run,
+ * with *place: no step is taken, whichever were asked for. ZAK_OUT_OF_MEMORY: some of the first of
+ * the steps may have been taken, each as a whole, and nothing tells how many; restore a saved
+ * state. ZAK_BAD_CARD: no step is taken. */
 zak_status zak_run_on(zak_card *card, const uint8_t *script, size_t script_len, uint32_t first,
                       uint32_t most, uint8_t *report, size_t report_cap, size_t *report_len,
                       size_t *taken, size_t *place);
 
-/* The bytes of the script that a text spells. ZAK_NO_ROOM: *script_len tells how many they are.
- * ZAK_BAD_LINE: *line is the number of the first bad line, from 1. ZAK_TOO_LONG: the text or the
- * script has more than 16,777,216 bytes. */
+/* The bytes of the script that a text spells (docs/SCRIPT.md). ZAK_NO_ROOM: *script_len tells how
+ * many they are, so a first call with a script_cap of 0 tells how much room to get. ZAK_BAD_LINE:
+ * *line is the number of the first bad line, from 1. ZAK_TOO_LONG: the text or the script has more
+ * than 16,777,216 bytes. */
 zak_status zak_assemble(const uint8_t *text, size_t text_len, uint8_t *script, size_t script_cap,
                         size_t *script_len, size_t *line);
 
-/* The text that spells the script of some bytes: one line a step, every value in full. ZAK_NO_ROOM:
+/* The text that spells the script of some bytes: a line for each step, with every number at full
+ * width, and for each `version 2`, `repeat` and `end`. Comments are not in the bytes. ZAK_NO_ROOM:
  * *text_len tells how many bytes it has. The faults of zak_run, with *place. */
 zak_status zak_print(const uint8_t *script, size_t script_len, uint8_t *text, size_t text_cap,
                      size_t *text_len, size_t *place);

@@ -99,6 +99,20 @@ class Page(unittest.TestCase):
             function = core[core.index(f"static void {name}(void)\n{{"):]
             self.assertIn(function[:function.index("\n}\n") + 3], PAGE.read_text("utf-8"))
 
+    def test_its_way_through_scripts_is_the_debugger_s(self) -> None:
+        for name, begins in (
+            ("debugger", "/* Takes the next step,"), ("debugger", "static void back("), ("script", "zak_status script_assemble("),
+        ):
+            source = (TOP / "examples" / "c" / f"{name}.c").read_text("ascii")
+            function = source[source.index(begins):]
+            self.assertIn(function[:function.index("\n}\n") + 3], PAGE.read_text("utf-8"), begins)
+
+    def test_its_version_is_the_header_s(self) -> None:
+        told = version_of(TEXT)
+        self.assertIn(f"this is version {told}.", PAGE.read_text("utf-8"))
+        for page in (PAGE, PAGE.with_name("RELEASE.md")):
+            self.assertEqual(set(re.findall(r"zaklimot-(\d+\.\d+)-", page.read_text("utf-8"))), {str(told)}, page.name)
+
     def test_each_call_is_named(self) -> None:
         page = PAGE.read_text("utf-8")
         self.assertEqual([name for name in calls_of(TEXT) if name not in page], [])
