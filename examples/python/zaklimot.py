@@ -185,7 +185,8 @@ class Card:
     def run_on(self, script: bytes, first: int, most: int) -> Slice:
         """Takes at most so many steps of a script, after the first ones, which are passed over.
 
-        It saves the card before, and so takes them again where their report needs more room.
+        It saves the card before. So it can take them again where their report needs more room, and where it fails,
+        the card is as it was.
         """
         state, room = self.save(), STEP_ROOM
         length, taken, place = SIZE(), SIZE(), SIZE()
@@ -194,13 +195,12 @@ class Card:
             report = ctypes.create_string_buffer(room)
             status = self._library.zak_run_on(
                 ctypes.byref(self._card), script, len(script), first, most, report, room, *told)
-            if status != NO_ROOM:
-                break
-            room = length.value
+            if not status:
+                return Slice(report[:length.value], taken.value)
             self.restore(state)
-        if status:
-            raise Refused("run_on", status, place.value)
-        return Slice(report[:length.value], taken.value)
+            if status != NO_ROOM:
+                raise Refused("run_on", status, place.value)
+            room = length.value
 
     def restore(self, state: bytes) -> None:
         """Goes on from a state that was saved."""

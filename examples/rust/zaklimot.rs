@@ -252,7 +252,8 @@ impl Card {
     }
 
     /// Takes at most so many steps of a script, after the first ones, which are passed over. It
-    /// saves the card before, and so takes them again where their report needs more room.
+    /// saves the card before. So it can take them again where their report needs more room, and
+    /// where it fails, the card is as it was.
     pub fn run_on(&mut self, script: &[u8], first: u32, most: u32) -> Result<Slice, Fault> {
         let (state, mut report) = (self.save()?, vec![0; STEP_ROOM]);
         let (mut len, mut taken, mut place) = (0, 0, 0);
@@ -271,17 +272,15 @@ impl Card {
                     &mut place,
                 )
             };
-            match status {
-                0 => {
-                    report.truncate(len);
-                    return Ok(Slice { report, taken });
-                }
-                NO_ROOM => {
-                    report = vec![0; len];
-                    self.restore(&state)?;
-                }
-                status => return Err(Fault::new(status, place)),
+            if status == 0 {
+                report.truncate(len);
+                return Ok(Slice { report, taken });
             }
+            self.restore(&state)?;
+            if status != NO_ROOM {
+                return Err(Fault::new(status, place));
+            }
+            report = vec![0; len];
         }
     }
 
