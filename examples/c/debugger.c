@@ -16,7 +16,7 @@
 #include "script.h"
 #include "zaklimot.h"
 
-/* A state is kept behind each so many steps. */
+/* A state is kept after each so many steps. */
 #define SPACING 100u
 /* Room for the report of any one step. Pictures are the longest answers. */
 #define STEP_ROOM (ZAK_MOST_RGB + 100u)
@@ -42,7 +42,7 @@ static void check(zak_status status, const char *call)
     exit(1);
 }
 
-/* Keeps the state behind the step that was taken last, where it is the next to be kept. */
+/* Keeps the state after the step that was taken last, where it is the next to be kept. */
 static void keep_state(void)
 {
     if (number != states_count * SPACING)
@@ -57,19 +57,16 @@ static void keep_state(void)
     states[states_count++] = state;
 }
 
-/* Takes the next step, with so much room for its report. Answers false behind the last. */
-static bool take_step(size_t room, size_t *len)
+/* Takes the next steps, at most so many, with so much room for their report. Answers how many. */
+static size_t take(uint32_t most, size_t room, size_t *len)
 {
     size_t taken, place;
     zak_status status =
-        zak_run_on(&card, script, script_len, number, 1, report, room, len, &taken, &place);
-    /* With no room the step is taken all the same. */
+        zak_run_on(&card, script, script_len, number, most, report, room, len, &taken, &place);
+    /* With no room the steps are taken all the same. */
     check(status == ZAK_NO_ROOM && room == 0 ? ZAK_OK : status, "zak_run_on");
-    if (taken == 0)
-        return false;
-    number++;
-    keep_state();
-    return true;
+    number += (uint32_t)taken;
+    return taken;
 }
 
 /* How much of a step's report is text: all of it, or the first line where a picture follows. */
@@ -84,8 +81,10 @@ static size_t text_len(size_t len)
 static void step(uint32_t count)
 {
     size_t len;
-    while (count-- && take_step(sizeof report, &len))
+    while (count-- && take(1, sizeof report, &len)) {
         fwrite(report, 1, text_len(len), stdout);
+        keep_state();
+    }
 }
 
 static void back(uint32_t count)
@@ -94,9 +93,8 @@ static void back(uint32_t count)
     size_t len;
     check(zak_restore(&card, states[at].bytes, states[at].len), "zak_restore");
     number = at * SPACING;
-    while (number < wanted && take_step(0, &len))
-        continue;
-    printf("behind step %u\n", (unsigned)number);
+    take(wanted - number, 0, &len);
+    printf("after step %u\n", (unsigned)number);
 }
 
 static void list(void)

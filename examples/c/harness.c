@@ -7,7 +7,7 @@
  *     harness --bytes SCRIPT FONTS             the bytes of a script, by zak_run
  *     harness --slices N [--bytes] SCRIPT FONTS [--until STEPS]
  *                                              a text or bytes, by zak_run_on: N steps a call, and
- *                                              more where many are behind, which a call passes over
+ *                                              more where many are taken, which a call passes over
  *
  * A fault is a line on standard error, and the status is 1 then; it is 2 for words that are none.
  *
@@ -22,7 +22,7 @@
 
 #define MOST_FILE (SCRIPT_MOST + 1u)
 #define FIRST_ROOM ((size_t)1 << 20)
-/* A slice has at least so many of the steps behind it: one in 64. */
+/* A slice has at least one in so many of the steps that are taken already. */
 #define SHARE 64u
 
 /* Bytes of a file, or what a text spells. */
@@ -362,7 +362,7 @@ static zak_status take_slice(struct run *run, struct bytes script, uint32_t most
     return status;
 }
 
-/* How many steps the next slice has: so many, or more where many are behind. */
+/* How many steps the next slice has: so many, or more where many are taken. */
 static uint32_t steps_of_slice(const struct run *run, uint32_t steps, unsigned long until)
 {
     unsigned long share = run->number / SHARE, left = until - run->number;

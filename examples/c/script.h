@@ -68,7 +68,7 @@ zak_status script_assemble(const uint8_t *text, size_t text_len, uint8_t **scrip
  * for. */
 struct script script_begin(const uint8_t *bytes, size_t len);
 
-/* Reads the next step, those of a block so many times as it says. Answers false behind the last. */
+/* Reads the next step, those of a block so many times as it says. Answers false after the last. */
 bool script_next(struct script *script, struct step *step);
 
 #endif

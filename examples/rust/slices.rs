@@ -1,6 +1,6 @@
 //! Takes the steps of a script slice by slice: `slices FONTS SCRIPT STEPS`.
 //!
-//! Writes the printed text, and behind it the report of each slice of so many steps. Behind every
+//! Writes the printed text, and then the report of each slice of so many steps. After every
 //! slice it goes back and takes it once more, as a debugger does.
 
 #[allow(dead_code)]

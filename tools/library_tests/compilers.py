@@ -10,7 +10,7 @@ from typing import Mapping, NamedTuple, Optional, Sequence
 
 from vga_report.trouble import Trouble
 
-STRICT = ("-Wall", "-Wextra", "-Wpedantic", "-Werror")
+STRICT = ("-Wall", "-Wextra", "-Wpedantic", "-Wconversion", "-Werror")
 SANITIZED = ("-g", "-fsanitize=address,undefined", "-fno-sanitize-recover=all")
 NOTHING = "int main(void) { return 0; }\n"
 # So much of what a program says at last is told.

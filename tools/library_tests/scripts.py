@@ -26,7 +26,7 @@ SLICES = ("1", "4", "6", "1000")
 PICTURES, MOST_PICTURE = "version 2\nint ax=13\nrepeat 20\nframe\nend\n", 3 * 2304 * 1024
 # A text whose third line is bad.
 BAD, BAD_LINE = "frame\n\nmove 3C4 02\n", "107 at 3"
-# A text of more steps than the debugger keeps a state behind. The beam moves, so that each step has its own.
+# A text of more steps than lie between two states that the debugger keeps. The beam moves, so each step has its own.
 LONG = "version 2\nint ax=13\nrepeat 90\nadvance 12345\nshow beam\nin 3DA\nend\nframe\n"
 LONG_STEPS, FROM, BACK = 272, 150, 45
 
@@ -75,19 +75,19 @@ def _check_debugger(built: Built, folder: Path) -> None:
     build(COMPILERS[0].c, built, HARNESS, harness, "-O2")
     told = _session(debugger, folder / "few.vga", "list\nstep 3\nback\nstep 9\nback 9\nbeam\n")
     few = REPORT.splitlines()
-    wanted = [*PRINTED.splitlines(), *few[:3], "behind step 2", *few[2:], "behind step 0"]
+    wanted = [*PRINTED.splitlines(), *few[:3], "after step 2", *few[2:], "after step 0"]
     if told != [*wanted, "line 0, character 0, dot 0"]:
         raise Wrong(f"the debugger writes {told}")
     script.write_text(LONG, "ascii")
     lines = run([harness, script, fonts_file()]).splitlines()
     told = _session(debugger, script, f"step {FROM}\nback {BACK}\nstep 1000\nback 1000\nstep {FROM}\n")
-    again = [f"behind step {FROM - BACK}", *lines[FROM - BACK:LONG_STEPS]]
-    if told != [*lines[:FROM], *again, "behind step 0", *lines[:FROM]]:
+    again = [f"after step {FROM - BACK}", *lines[FROM - BACK:LONG_STEPS]]
+    if told != [*lines[:FROM], *again, "after step 0", *lines[:FROM]]:
         raise Wrong("the debugger's answers are not the harness's")
 
 
 def check_scripts(built: Built, folder: Path) -> str:
-    """Texts become bytes and bytes texts, and slices answer what whole runs do, also behind a step back."""
+    """Texts become bytes and bytes texts, and slices answer what whole runs do, also after a step back."""
     languages = []
     for name, words in _slicers(built, folder):
         _check_slicer(name, words, folder)

@@ -101,7 +101,7 @@ class Page(unittest.TestCase):
 
     def test_its_way_through_scripts_is_the_debugger_s(self) -> None:
         for name, begins in (
-            ("debugger", "/* Takes the next step,"), ("debugger", "static void back("), ("script", "zak_status script_assemble("),
+            ("debugger", "/* Takes the next steps,"), ("debugger", "static void back("), ("script", "zak_status script_assemble("),
         ):
             source = (TOP / "examples" / "c" / f"{name}.c").read_text("ascii")
             function = source[source.index(begins):]

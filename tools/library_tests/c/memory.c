@@ -1,7 +1,7 @@
 /* Refuses each growth of memory in turn to each call that takes some: the call answers
  * ZAK_OUT_OF_MEMORY, keeps no memory and leaves the card and what its pointers name; and where no
  * growth is refused it answers ZAK_OK. But zak_run_on may have taken some of the first steps: the
- * card is then as behind one of them, and goes on. Other calls take none. It is linked with --wrap
+ * card is then as after one of them, and goes on. Other calls take none. It is linked with --wrap
  * for malloc, realloc and free.
  *
  * A line for each call tells how many growths were refused to it. */
@@ -119,7 +119,7 @@ static zak_status take_steps(uint32_t first, uint32_t most)
 
 static zak_status do_steps(void) { return take_steps(0, STEPS); }
 
-/* A call that takes memory, the mode in which it is made, and whether it may leave the card behind
+/* A call that takes memory, the mode in which it is made, and whether it may leave the card after
  * some of the first steps. */
 static const struct job {
     const char *name;
@@ -174,8 +174,8 @@ struct saved {
     size_t len;
 };
 
-/* Those behind none of the steps, behind the first, and so on, and the one that is looked at. */
-static struct saved behind[STEPS + 1], looked_at;
+/* Those after none of the steps, after the first, and so on, and the one that is looked at. */
+static struct saved after_steps[STEPS + 1], looked_at;
 
 static void save(struct saved *saved)
 {
@@ -189,44 +189,44 @@ static void restore(const struct saved *saved)
         wrong("zak_restore", "it fails");
 }
 
-/* Takes the steps one by one, keeps the state behind each, and goes back. */
+/* Takes the steps one by one, keeps the state after each, and goes back. */
 static void save_steps(void)
 {
-    save(&behind[0]);
+    save(&after_steps[0]);
     for (uint32_t first = 0; first < STEPS; first++) {
         if (take_steps(first, 1) || taken != 1)
             wrong("zak_run_on", "a step can't be taken");
-        save(&behind[first + 1]);
+        save(&after_steps[first + 1]);
     }
     if (take_steps(STEPS, 1) || taken != 0)
         wrong("zak_run_on", "there are more steps");
-    restore(&behind[0]);
+    restore(&after_steps[0]);
 }
 
-/* How many of the steps the card has behind it, at least so many. */
-static uint32_t steps_behind(uint32_t least)
+/* How many of the steps the card has taken, at least so many. */
+static uint32_t steps_taken(uint32_t least)
 {
     save(&looked_at);
     for (uint32_t count = least; count <= STEPS; count++)
-        if (looked_at.len == behind[count].len &&
-            memcmp(looked_at.bytes, behind[count].bytes, looked_at.len) == 0)
+        if (looked_at.len == after_steps[count].len &&
+            memcmp(looked_at.bytes, after_steps[count].bytes, looked_at.len) == 0)
             return count;
-    wrong("zak_run_on", "the card is as behind no step, or behind fewer than before");
+    wrong("zak_run_on", "the card is as after no step, or after fewer than before");
     return 0;
 }
 
-/* How many steps the card had behind it when a growth was refused last. A later growth is refused
- * behind the same step, or a later one. */
-static uint32_t refused_behind;
+/* How many steps the card had taken when a growth was refused last. A later growth is refused after
+ * the same step, or a later one. */
+static uint32_t refused_after;
 
-/* The card goes on behind the steps that it took, and comes to where they all lead; then it goes
+/* The card goes on after the steps that it took, and comes to where they all lead; then it goes
  * back. */
 static void finish_steps(void)
 {
-    uint32_t count = refused_behind = steps_behind(refused_behind);
-    if (take_steps(count, STEPS) || taken != STEPS - count || steps_behind(STEPS) != STEPS)
+    uint32_t count = refused_after = steps_taken(refused_after);
+    if (take_steps(count, STEPS) || taken != STEPS - count || steps_taken(STEPS) != STEPS)
         wrong("zak_run_on", "the card does not go on");
-    restore(&behind[0]);
+    restore(&after_steps[0]);
 }
 
 static void clear_answers(void)
@@ -305,9 +305,9 @@ static void refuse_all(const struct job *job)
     if (number == 1)
         wrong(job->name, "it takes no memory");
     if (job->takes_steps) {
-        if (steps_behind(STEPS) != STEPS || refused_behind < STEPS - 2)
+        if (steps_taken(STEPS) != STEPS || refused_after < STEPS - 2)
             wrong(job->name, "growths of the last steps are not refused");
-        restore(&behind[0]);
+        restore(&after_steps[0]);
     }
     printf("%s %u\n", job->name, number - 1);
     if (opened.is_open && zak_close(&opened))

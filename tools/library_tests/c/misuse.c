@@ -511,7 +511,7 @@ static zak_status take(const void *script, size_t script_len, uint32_t first, ui
     return status;
 }
 
-/* Slices of a script: none, all, some again, and behind its end. */
+/* Slices of a script: none, all, some again, and past its end. */
 static void slices(void)
 {
     SHOW(take(seven, SEVEN, 0, 0, 0));
@@ -551,7 +551,7 @@ static void damaged_slices(void)
     free(many);
 }
 
-/* The card is the same behind slices of no step and behind faults, and another behind steps whose
+/* The card is the same after slices of no step and after faults, and another after steps whose
  * report has no room. */
 static void states_of_slices(void)
 {
