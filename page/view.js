@@ -88,7 +88,8 @@ export class View {
   }
 
   makeChoices() {
-    byId("examples").addEventListener("change", event => this.loadExample(event.target.value));
+    byId("examples").addEventListener("change",
+      ({ target }) => this.guarded(() => this.loadExample(target.value)));
     byId("slider").addEventListener("input", event => this.go(Number(event.target.value)));
     byId("notice").lastElementChild.addEventListener("click", () => this.tell(""));
     byId("goto").addEventListener("submit", event => {
@@ -174,8 +175,7 @@ export class View {
   }
 
   async failed(error) {
-    this.search = null;
-    this.coming = null;
+    Object.assign(this, { search: null, coming: null, isHalted: true });
     this.play(false);
     if (error instanceof Trouble) return this.tell(error.message);
     if (error instanceof RangeError) return this.tell(`There is no memory left for this: ${error.message}.`);

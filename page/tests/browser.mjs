@@ -502,6 +502,32 @@ await check("want of memory in the module", async () => {
   }
 });
 
+// A module whose next step traps, as one would whose memory was overwritten.
+const TRAPS = `{
+  const real = WebAssembly.instantiate;
+  WebAssembly.instantiate = async (...given) => {
+    const { instance } = await real.apply(WebAssembly, given), exports = { ...instance.exports };
+    exports.zak_run_on = (...words) => {
+      if (!window.traps) return instance.exports.zak_run_on(...words);
+      window.traps = false;
+      throw new WebAssembly.RuntimeError("unreachable");
+    };
+    return { instance: { exports } };
+  };
+}`;
+
+await check("a module that traps is opened anew", async () => {
+  const { identifier } = await browser.send("Page.addScriptToEvaluateOnNewDocument", { source: TRAPS });
+  await open(await fragment(SCRIPT));
+  await browser.value("window.traps = true");
+  await browser.click("#back");
+  await says("#notice", "The module has stopped (unreachable). It is opened anew");
+  await set("text", "int ax=3\nframe\n", "input");
+  await browser.until(IDLE);
+  await stepIs(2);
+  await browser.send("Page.removeScriptToEvaluateOnNewDocument", { identifier });
+});
+
 await check("every control has a name for screen readers", async () => {
   await browser.look(WIDE);
   await open(await fragment(SCRIPT));
