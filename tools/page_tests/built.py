@@ -39,7 +39,7 @@ def _unzipped(text: str) -> bytes:
 
 
 def _unpacked(data: dict[str, Any]) -> dict[str, Any]:
-    """The data of a page, with what is packed in them as its bytes: another version of zlib packs otherwise."""
+    """The data of a page, with what is packed in them as its bytes: other versions of zlib pack otherwise."""
     return {**data, **{name: _unzipped(data[name]) for name in PACKED}}
 
 
@@ -72,10 +72,10 @@ def check_built(module: bytes, page: bytes) -> tuple[str, bool]:
     parts, wanted_parts = _unpacked(data), _unpacked(data_of(own))
     others = [name for name in wanted_parts if parts.get(name) != wanted_parts[name]]
     if others or list(parts) != list(wanted_parts):
-        raise Wrong(f"{NAME} has other data than those of the repository: {', '.join(others or parts)}; {ANEW}")
+        raise Wrong(f"{NAME} has other data than the repository: {', '.join(others or parts)}; {ANEW}")
     told = f"{NAME} is the page that its sources make, {len(page):,} bytes"
     if own == module:
-        return told, True
+        return f"{told}; its module is the one that the crate makes", True
     if kit_of(own) == kit_of(module):
         raise Wrong(f"the module in {NAME} is not the one that the crate makes: {ANEW}")
     return f"{told}, around a module of another kit, {kit_of(own)}: the suite judges that", False

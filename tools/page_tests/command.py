@@ -10,9 +10,9 @@ from pathlib import Path
 from typing import Iterator, Optional, Sequence
 
 from library_tests.compilers import Wrong
-from vga_page.making import made_modules
+from vga_page.making import kit_line, made_modules
 from vga_page.telling import phases
-from vga_page.wasm import MOST_MODULE, check_module
+from vga_page.wasm import MOST_MODULE, check_module, kit_of
 from vga_report.debugging import read_at_most
 from vga_report.progress import Progress
 from vga_report.trouble import Trouble
@@ -37,7 +37,7 @@ def _parser() -> argparse.ArgumentParser:
         epilog="Exit status: 0 all is right; 1 something is wrong; 2 the tests can't be made.",
     )
     parser.add_argument(
-        "--module", metavar="FILE", help="a module that was made already; else it is made, twice"
+        "--module", metavar="FILE", help="a module that was made already; else it is made"
     )
     parser.add_argument(
         "--gated", action="store_true",
@@ -59,13 +59,13 @@ def _parser() -> argparse.ArgumentParser:
     return parser
 
 
-def _made(words: argparse.Namespace, progress: Progress) -> tuple[list[bytes], Optional[bytes]]:
-    """The module that is tested, made twice of one proof, and one of fixed memory; or the given one."""
+def _made(words: argparse.Namespace, progress: Progress, times: int) -> tuple[list[bytes], Optional[bytes]]:
+    """The module that is tested, made so many times, and one of fixed memory; or the one that is given."""
     if words.module is not None:
         return [read_at_most(words.module, MOST_MODULE)], None
     try:
-        first, second = made_modules(phases(progress), words.gated, words.proof, [None, SMALL_MEMORY], times=2)
-        return [first[0], second[0]], first[1]
+        made = made_modules(phases(progress), words.gated, words.proof, [None, SMALL_MEMORY], times)
+        return [module for module, _ in made], made[0][1]
     finally:
         progress.clear()
 
@@ -78,6 +78,11 @@ def check_modules(modules: Sequence[bytes]) -> str:
     return check_module(modules[0]) + (", the same twice" if len(modules) > 1 else "")
 
 
+def _times(page: Optional[bytes], wanted: Sequence[str]) -> int:
+    """How many modules are made: one where it is held to the page's, which this kit made in another run."""
+    return 1 if PAGE in wanted and page is not None and kit_of(module_in(page)) == kit_line() else 2
+
+
 def _file(folder: Path, name: str, data: bytes) -> Path:
     (folder / name).write_bytes(data)
     return folder / name
@@ -86,15 +91,15 @@ def _file(folder: Path, name: str, data: bytes) -> Path:
 def _checks(words: argparse.Namespace, progress: Progress, folder: Path) -> Told:
     """Makes each check that is wanted, and tells what came of it."""
     wanted = words.only or CHECKS
-    same, small = _made(words, progress)
+    page = built_page() if {PAGE, SCRIPTS, OWN} & set(wanted) else None
+    same, small = _made(words, progress, 1 if words.module else _times(page, wanted))
     yield MODULE, check_modules(same)
     modules = Modules(_file(folder, "module.wasm", same[0]), small and _file(folder, "small.wasm", small))
     under_test = [modules.module]
-    if {PAGE, SCRIPTS, OWN} & set(wanted):
-        page = built_page()
+    if page is not None:
         # What runs in the page is the module in it, even where that is another kit's.
         modules = modules._replace(module=_file(folder, "page.wasm", module_in(page)))
-    if PAGE in wanted:
+    if page is not None and PAGE in wanted:
         told, is_of_this_kit = check_built(same[0], page)
         under_test += [] if is_of_this_kit else [modules.module]
         yield PAGE, f"{told}; {check_syntax(page, folder)}"

@@ -82,7 +82,8 @@ def check_own(modules: Modules) -> str:
 def agreed(told: dict[str, Any]) -> str:
     """What the page's check of its examples tells, where each of them agrees."""
     if told["differ"] or not (told["agree"] and told["expected"]):
-        raise Wrong("\n".join(["the page's check of its examples:", *(f"  {line}" for line in told["lines"])]))
+        lines = [f"  {line}" for line in told["lines"]]
+        raise Wrong("\n".join(["the page's check of its examples:", *lines]))
     return f"{told['agree']} examples answer as by zak_run, {told['expected']} answers as expected"
 
 

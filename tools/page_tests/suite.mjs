@@ -14,9 +14,30 @@ const SLICES = [7, 1];
 const MOST_PASSED = 30_000_000;
 // The room for a report is so much larger than the one that is expected, that a longer one is seen as such.
 const MARGIN = 4096;
+// Of a report that comes in slices so much is kept, to tell where it differs.
+const MOST_KEPT = 1 << 16;
 
 const file = name => new Uint8Array(readFileSync(name));
-const sumOf = bytes => ({ length: bytes.length, sha256: createHash("sha256").update(bytes).digest("hex") });
+// So much of a line is told.
+const MOST_LINE = 60;
+
+/** Bytes with their length and their sum. */
+function sumOf(bytes) {
+  return { length: bytes.length, sha256: createHash("sha256").update(bytes).digest("hex"), bytes };
+}
+
+/** Where bytes differ from those that are expected: the first line that does, as both have it. */
+function difference(bytes, wanted) {
+  let at = 0;
+  while (at < bytes.length && bytes[at] === wanted[at]) at++;
+  const begin = at ? wanted.lastIndexOf(10, at - 1) + 1 : 0;
+  const shown = data => {
+    const text = Buffer.from(data.subarray(begin, begin + MOST_LINE)).toString("latin1");
+    return JSON.stringify(text.split("\n")[0]);
+  };
+  const line = wanted.subarray(0, begin).filter(byte => byte === 10).length + 1;
+  return `line ${line} is ${shown(bytes)}, not ${shown(wanted)}`;
+}
 
 /** A fault as the program prints it. */
 function faultLine(status, place) {
@@ -72,15 +93,17 @@ function bySlices(adapter, script, fonts, slice, size) {
   try {
     if (card.opened !== OK) return { steps: 0, ...sumOf(faultLine(card.opened, 0)) };
     let steps = 0, length = 0, taken = slice;
+    const parts = [];
     while (taken === slice) {
       const told = card.take(steps, slice, size);
       if (told.status !== OK) return { steps, ...sumOf(faultLine(told.status, told.place)) };
       hash.update(told.report);
+      if (length < MOST_KEPT) parts.push(told.report.slice());
       ({ taken } = told);
       steps += taken;
       length += told.report.length;
     }
-    return { steps, length, sha256: hash.digest("hex") };
+    return { steps, length, sha256: hash.digest("hex"), bytes: Buffer.concat(parts) };
   } finally {
     card.close();
   }
@@ -101,7 +124,9 @@ class Suite {
     this.ways[way] = (this.ways[way] ?? 0) + 1;
     const told = await this.guarded(one, way, answer);
     if (!told || told.sha256 === wanted.sha256 && told.length === wanted.length) return;
-    const reason = `${told.length} bytes with the sum ${told.sha256}, not ${wanted.length} with ${wanted.sha256}`;
+    const expected = wanted.bytes ?? (wanted.report && file(wanted.report));
+    const sums = `the sum ${told.sha256}, not ${wanted.length} with ${wanted.sha256}`;
+    const reason = expected ? difference(told.bytes, expected) : `${told.length} bytes with ${sums}`;
     this.wrong.push({ name: one.name, way, reason });
   }
 
@@ -140,7 +165,7 @@ class Suite {
     await this.hold(one, "text", one, () => sumOf(byRun(this.adapter, script, fonts)));
   }
 
-  /** The steps all at once, and where the script is short enough in slices of few. */
+  /** The steps all at once, and in slices of few; those of long scripts in eighths. */
   async runSlices(one, script, fonts) {
     let steps = ALL;
     await this.hold(one, "steps, all at once", one, () => {
@@ -148,10 +173,11 @@ class Suite {
       ({ steps } = answer);
       return answer;
     });
-    for (const slice of SLICES) {
-      if (steps / slice * (steps + script.length) > MOST_PASSED) continue;
-      await this.hold(one, `steps, ${slice} at a time`, one, () =>
-        bySlices(this.adapter, script, fonts, slice, one.length + MARGIN));
+    const isShort = slice => steps / slice * (steps + script.length) <= MOST_PASSED;
+    const slices = SLICES.filter(isShort).map(slice => [slice, `steps, ${slice} at a time`]);
+    if (slices.length < SLICES.length) slices.push([Math.ceil(steps / 8), "steps, an eighth at a time"]);
+    for (const [slice, way] of slices) {
+      await this.hold(one, way, one, () => bySlices(this.adapter, script, fonts, slice, one.length + MARGIN));
     }
   }
 }

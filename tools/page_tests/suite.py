@@ -23,6 +23,8 @@ from .node import run_node
 
 DRIVER = Path(__file__).resolve().parent / "suite.mjs"
 LIMITS = Limits(60, 256 * MEBIBYTE)
+# Reports of so many bytes are kept, so that the line which differs can be told.
+MOST_KEPT = 1 << 16
 # What the program says before a fault.
 SAID = "vga: "
 # The way that each case without a bad line is run in.
@@ -42,11 +44,14 @@ def _native(case: Case, folder: Path) -> dict[str, Any]:
         raise Trouble(f"{case.name}: {outcome.reason}", str(PROGRAM))
     if outcome.status:
         report.write_text(said_lines(messages)[-1].removeprefix(SAID) + "\n", "ascii")
+    length = report.stat().st_size
     told = {
         "name": case.name, "isBytes": case.is_bytes, "script": str(script), "fonts": str(case.fonts),
-        "length": report.stat().st_size, "sha256": hashlib.sha256(report.read_bytes()).hexdigest(),
+        "length": length, "sha256": hashlib.sha256(report.read_bytes()).hexdigest(),
         **({} if case.is_bytes else _assembled(script)),
     }
+    if length <= MOST_KEPT:
+        return {**told, "report": str(report)}
     # Of long reports with pictures the sum is enough.
     report.unlink()
     return told

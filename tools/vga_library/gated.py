@@ -77,7 +77,7 @@ def proving_words(kit: Path, kept: str | Path) -> list[str | Path]:
 
 
 def gated_archive(backend: str, kept: Path, made: Path) -> Path:
-    """Proves the crate, keeps its proof in a folder, and builds the archive by one of the two compilers into a file.
+    """Proves the crate, keeps its proof in a folder, and builds the archive by one of the compilers.
 
     Where the folder has the proof already, it is not made again.
     """

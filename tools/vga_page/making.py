@@ -36,6 +36,11 @@ KEEPER = "#!/bin/sh\n/bin/cp module.bc {kept} && : > module.o\n"
 Phase = Callable[[str], Optional[Hearer]]
 
 
+def kit_line() -> str:
+    """The line by which a kit tells what it is."""
+    return run(["rt", "version"]).strip()
+
+
 class Maker:
     """Makes modules in a folder, with the toolchain of a kit."""
 
@@ -104,7 +109,7 @@ class Maker:
         words = ["--target", WASM, "--toolchain", self._kit / "toolchain"]
         words += [] if memory is None else ["--memory", str(memory)]
         self._run("linking", [self._kit / "bin" / "rattle-link", *words, "-o", module, archive])
-        return with_kit(module.read_bytes(), run(["rt", "version"]).strip())
+        return with_kit(module.read_bytes(), kit_line())
 
     def modules(self, building: Sequence[str | Path], memories: Sequence[Optional[int]]) -> list[bytes]:
         """Modules of the proved crate, held to what the page relies on, one for each size of memory.

@@ -41,6 +41,11 @@ def _data_of(picture: Picture, other: Optional[Picture] = None) -> str:
     return "data:image/png;base64," + base64.b64encode(stream.getvalue()).decode("ascii")
 
 
+def _told(said: str, link: Optional[str]) -> str:
+    """What is told above a listing, with a link to the page that runs the script, where there is one."""
+    return escape(said) + ("" if link is None else f' <a href="{escape(link)}">Run it step by step</a>')
+
+
 class Page:
     """A page that is filled row by row."""
 
@@ -99,7 +104,6 @@ class Page:
         frames = json.dumps([frame._asdict() for frame in self._frames]).replace("<", "\\u003c")
         captions = (f"<figcaption>{escape(caption)}</figcaption>" for caption in self._captions)
         figures = "".join(f"<figure><canvas></canvas>{caption}</figure>" for caption in captions)
-        runs = "" if link is None else f' <a href="{escape(link)}">Run it step by step</a>'
         heads = "".join(f"<th>{escape(column)}</th>" for column in self._columns)
         return f"""<!DOCTYPE html>
 <html lang="en">
@@ -112,7 +116,7 @@ class Page:
 </head>
 <body>
 <h1>{escape(title)}</h1>
-<p>{escape(said)}{runs}</p>
+<p>{_told(said, link)}</p>
 <section id="viewer" hidden>
 <div class="controls">
 <input id="frame" type="range" min="0" value="0" aria-label="frame">
