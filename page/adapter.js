@@ -81,10 +81,7 @@ export class Adapter {
     return { status, bytes: status ? new Uint8Array() : this.copied(room, this.number(0)) };
   }
 
-  /**
-   * The bytes of the script that a text spells: { bytes, line }; `line` is the number of a bad line, and else
-   * 0.
-   */
+  /** The bytes of the script that a text spells: { bytes, line }. A bad line's number is `line`, else 0. */
   assembled(text) {
     const given = this.given("text", text), told = this.told.at;
     const { status, bytes } = this.written("script", Math.max(1024, text.length), room =>

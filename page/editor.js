@@ -125,8 +125,9 @@ export class Editor {
     this.gutter.replaceChildren(...lines.map(line => place(this.number(line), line)));
     this.told.replaceChildren(...lines.map(line => [line, this.answer(line)]).filter(([, made]) => made)
       .map(([line, made]) => place(made, line)));
-    if (this.isLong) this.rows.replaceChildren(
-      ...lines.map(line => place(this.longLine(line), line, box.top)));
+    if (this.isLong) {
+      this.rows.replaceChildren(...lines.map(line => place(this.longLine(line), line, box.top)));
+    }
     const marked = this.bad?.line ?? this.mark, ribbon = byId("mark");
     ribbon.hidden = !marked || this.isLong;
     ribbon.classList.toggle("bad", this.bad !== null);

@@ -7,9 +7,8 @@ import { bytesOfBase64 } from "./bytes.js";
 import { checkedExamples } from "./checking.js";
 import { examplesOf, unzipped } from "./packed.js";
 
-const NO_MEMORY64 =
-  "This browser has no WebAssembly with 64-bit memory, which the adapter is compiled for. " +
-  "Chromium from 133 and Firefox from 134 have it; Safari does not, as far as we know.";
+const NO_MEMORY64 = "This browser has no WebAssembly with 64-bit memory, and the adapter needs it. " +
+  "Chromium 156 and Firefox 153 have it; Safari does not, as far as we know.";
 
 /** Shows what the check of all examples tells. */
 async function showCheck(adapter, { examples, fonts }) {

@@ -1,5 +1,4 @@
-// The four planes: as bitmaps at the pitch of the offset register, and as hexadecimal. What is shown is
-// bright.
+// The four planes, as bitmaps at the pitch of the offset register and as hexadecimal.
 import { counted, grouped, hex } from "./bytes.js";
 import { changedPlanes } from "./changes.js";
 import { element, selectOf } from "./dom.js";

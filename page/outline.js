@@ -1,6 +1,5 @@
 // Where the steps of a text stand: which line a step's number belongs to, with blocks taken so many times
-// as they count.
-// The text is one that the module has assembled, so its lines are known to be good.
+// as they count. The text is one that the module has assembled, so its lines are known to be good.
 import { expectedIn } from "./expecting.js";
 
 const SEMICOLON = 59;

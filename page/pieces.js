@@ -1,6 +1,6 @@
 // A script in pieces: the module takes some steps of it at a time, and each piece is a script of its own
-// that it has
-// assembled from the script's text. So a step costs as much at the end of a long script as at its beginning.
+// that it has assembled from the script's text. So a step costs as much at the end of a long script as at
+// its beginning.
 import { KIND } from "./outline.js";
 import { MOST_PICTURE } from "./adapter.js";
 

@@ -243,30 +243,56 @@ function mistakeInBlock(words) {
     : null;
 }
 
+/** The lines of a text that have a word before their comment: { number, name, line }. */
+function* linesWithWords(text) {
+  for (let at = 0, number = 1; at <= text.length; number++) {
+    const end = text.indexOf("\n", at), next = end < 0 ? text.length : end;
+    const [, name] = text.slice(at, Math.min(next, at + 200)).match(/^[ \t\r]*([^ \t\r;]+)/) ?? [];
+    if (name) yield { number, name: name.toLowerCase(), line: text.slice(at, next) };
+    at = next + 1;
+  }
+}
+
+/**
+ * The first line with a word, the line of a number, the block that is open there, and whether an end follows.
+ */
+function surroundings(text, number) {
+  let first = null, line = null, opened = null;
+  for (const one of linesWithWords(text)) {
+    first ??= one;
+    if (line && one.name === "end") return { first, line, opened, hasEnd: true };
+    if (line) continue;
+    if (one.number === number) line = one;
+    else if (one.name === "repeat") opened = one;
+    else if (one.name === "end") opened = null;
+    if (line && line.name !== "repeat") break;
+  }
+  return { first, line, opened, hasEnd: false };
+}
+
 /** Why a good line is bad where it stands in a text, as the end of a block that none has begun. */
-function mistakeAmongLines(lines, number) {
-  const named = lines.map((line, i) => ({ number: i + 1,
-    words: wordsIn(line).map(word => word.text.toLowerCase()) }))
-    .filter(line => line.words.length);
-  const at = named.findIndex(line => line.number === number), line = named[at];
+function mistakeAmongLines(text, number) {
+  const { first, line, opened, hasEnd } = surroundings(text, number);
   if (!line) return null;
-  const name = line.words[0];
-  if (name === "version") return at ? `${VERSION_TWO} stands once, before every other line` : null;
-  const hasBlocks = named[0].words.join(" ") === VERSION_TWO;
-  if (Object.hasOwn(BLOCK_LINES, name) && !hasBlocks) {
+  if (line.name === "version") return line === first ? null
+    : `${VERSION_TWO} stands once, before every other line`;
+  const begin = wordsIn(first.line).map(word => word.text.toLowerCase()).join(" ");
+  if (Object.hasOwn(BLOCK_LINES, line.name) && begin !== VERSION_TWO) {
     return `blocks are of version 2: write ${VERSION_TWO} before every other line`;
   }
-  let opened = null;
-  for (const other of named.slice(0, at)) {
-    if (other.words[0] === "repeat") opened = other;
-    if (other.words[0] === "end") opened = null;
-  }
-  if (name === "end" && !opened) return "no block is open here";
-  if (name === "repeat" &&
-    opened) return `a block has no other block, and the one of line ${opened.number} is open here`;
-  if (name !== "repeat") return null;
-  if (!named.slice(at).some(other => other.words[0] === "end")) return "the block has no end";
-  return `with this block the script means more than ${grouped(MOST_STEPS)} steps`;
+  if (line.name === "end" && !opened) return "no block is open here";
+  if (line.name !== "repeat") return null;
+  if (opened) return `a block has no other block, and the one of line ${opened.number} is open here`;
+  return hasEnd ? `with this block the script means more than ${grouped(MOST_STEPS)} steps`
+    : "the block has no end";
+}
+
+/** A line of a text by its number, from 1. */
+function lineOfText(text, number) {
+  let at = 0;
+  for (let passed = 1; passed < number; passed++) at = text.indexOf("\n", at) + 1;
+  const end = text.indexOf("\n", at);
+  return text.slice(at, end < 0 ? text.length : end);
 }
 
 /** What is wrong with a text as a whole that its first line shows; null where nothing is found. */
@@ -289,9 +315,8 @@ export function encodingTrouble(bytes) {
 
 /** Why a text is bad at the line of this number: { at, width, reason }. */
 export function reasonOfLine(text, number) {
-  const lines = text.split("\n"), line = lines[number - 1] ?? "";
-  const found = mistakeIn(line);
+  const line = lineOfText(text, number), found = mistakeIn(line);
   if (found) return found;
-  return { at: 0, width: line.length, reason: mistakeAmongLines(lines,
+  return { at: 0, width: line.length, reason: mistakeAmongLines(text,
     number) ?? "refused, and I can't say why" };
 }

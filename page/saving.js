@@ -20,8 +20,9 @@ export function saveFile(name, bytes, kind) {
 
 /** The report of a run, as `vga` writes it. */
 export function reportOf(session) {
-  if (session.reported > MOST_SAVED) throw new Trouble(
-    "The report has more than 256 MiB: run the script by `vga go`.");
+  if (session.reported > MOST_SAVED) {
+    throw new Trouble("The report has more than 256 MiB: run the script by `vga go`.");
+  }
   return session.adapter.run(session.script, session.fonts).report;
 }
 
@@ -30,8 +31,9 @@ export function wholePicture({ picture }) {
   if (picture.isWhole) return picture;
   const widths = picture.widths.filter(width => width > 0);
   if (!widths.length) throw new Trouble("The frame has no dot.");
-  if (widths.some(width => width !== widths[0])) throw new Trouble(
-    "Lines of this frame differ in width, so it has no picture.");
+  if (widths.some(width => width !== widths[0])) {
+    throw new Trouble("Lines of this frame differ in width, so it has no picture.");
+  }
   return { width: widths[0], height: widths.length, rgb: picture.rgb };
 }
 
@@ -63,8 +65,9 @@ export async function apngOfRun(session, told) {
         frames.push({ width: picture.width, height: picture.height, packed,
           seconds: frameSeconds(session.registersOf(card)) });
       }
-      if (frames.length > MOST_FRAMES || size > MOST_PACKED) throw new Trouble(
-        `There are more pictures than ${MOST_FRAMES}, or than fit.`);
+      if (frames.length > MOST_FRAMES || size > MOST_PACKED) {
+        throw new Trouble(`There are more pictures than ${MOST_FRAMES}, or than fit.`);
+      }
       step += taken;
       if (await told(step) === false) return null;
     }

@@ -1,5 +1,4 @@
-// The picture as it is drawn so far: what is not drawn yet is dark, cross-hairs show the beam, and a glass
-// the dots.
+// The picture as it is drawn so far. What is not drawn yet is dark, cross-hairs show the beam, a glass dots.
 import { byId, cssColour, element } from "./dom.js";
 import { characterWidth, displayedLines, fetchAddress } from "./state.js";
 import { hex } from "./bytes.js";
@@ -42,15 +41,16 @@ export class Screen {
     Object.assign(this, { heard, stage: byId("stage"), canvas: byId("picture"), glass: byId("glass"),
       seen: null });
     this.glass.width = this.glass.height = GLASS_DOTS * GLASS_SCALE;
-    for (const name of ["aspect", "sharp", "sofar", "hairs", "zoom"]) byId(name).addEventListener("change",
-      () => this.draw());
+    for (const name of ["aspect", "sharp", "sofar", "hairs", "zoom"]) {
+      byId(name).addEventListener("change", () => this.draw());
+    }
     this.canvas.addEventListener("pointermove", event => this.point(event));
     this.canvas.addEventListener("pointerleave", () => this.point(null));
     this.canvas.addEventListener("click", event => {
       // A click's place is rounded to a pixel, and the dot that is told was that of the pointer's own place.
-      const isNear = this.pointer && Math.hypot(this.pointer.clientX - event.clientX,
-        this.pointer.clientY - event.clientY) < 2;
-      const found = this.dotAt(isNear ? this.pointer : event);
+      const { pointer } = this, { clientX, clientY } = event;
+      const isNear = pointer && Math.hypot(pointer.clientX - clientX, pointer.clientY - clientY) < 2;
+      const found = this.dotAt(isNear ? pointer : event);
       if (found) heard.clicked(found.row.line, found.x);
     });
     this.room = { width: 0, height: 0 };

@@ -16,7 +16,7 @@ export class Scroller {
 
   /** Scrolls to a place of what is so high in all; the browser does it when it lays out the page next. */
   scrollTo(top, high) {
-    this.top = Math.max(0, Math.min(top, high - this.height));
+    this.top = Math.max(0, Math.round(Math.min(top, high - this.height)));
     if (this.isAsked) return;
     this.isAsked = true;
     requestAnimationFrame(() => {

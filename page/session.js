@@ -241,8 +241,9 @@ export class Session {
     const parts = [counted(this.length, "step")];
     if (this.pictures) parts.push(counted(this.pictures, "picture"));
     if (this.refused) parts.push(`${grouped(this.refused)} refused`);
-    if (this.expected) parts.push(
-      `${grouped(this.expected - this.wrong)} of ${grouped(this.expected)} answers as expected`);
+    if (this.expected) {
+      parts.push(`${grouped(this.expected - this.wrong)} of ${grouped(this.expected)} answers as expected`);
+    }
     return parts.join(", ");
   }
 }

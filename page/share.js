@@ -37,8 +37,9 @@ export async function contentsOf(bytes, adapter) {
   const text = new TextDecoder().decode(bytes), form = traceForm(text);
   if (form) return { text: textOfTrace(text) };
   const begin = bytes.subarray(0, 4096);
-  if (begin.some(byte => byte > 0 && byte < 32 && !TEXT_CONTROLS.includes(byte))) throw new Trouble(
-    noneOf(bytes));
+  if (begin.some(byte => byte > 0 && byte < 32 && !TEXT_CONTROLS.includes(byte))) {
+    throw new Trouble(noneOf(bytes));
+  }
   const trouble = encodingTrouble(bytes);
   if (trouble) throw new Trouble(`This file is not run: ${trouble}.`);
   if (begin.includes(0)) throw new Trouble(noneOf(bytes));

@@ -1,6 +1,5 @@
 // What a saved state says (docs/STATE.md): the page reads registers, planes and dots there.
-// page/tests/state.mjs holds
-// each of them to the module's own calls.
+// page/tests/state.mjs holds each of them to the module's own calls.
 import { FIRST_STATE, HIGHEST } from "./adapter.js";
 
 const AT = { bda: 9, misc: 40, crtc: 41, attr: 78, dac: 101, host: 874, lengths: 263038 };

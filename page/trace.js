@@ -1,6 +1,5 @@
 // A trace of software (docs/TRACES.md) as a script: each cycle is a step, and what was read is what is
-// expected.
-// tools/vga-trace does the same and more; page/tests/trace.mjs holds both to the same text.
+// expected. tools/vga-trace does the same and more; page/tests/trace.mjs holds both to the same text.
 import { Trouble } from "./trouble.js";
 import { hex } from "./bytes.js";
 

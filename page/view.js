@@ -88,7 +88,8 @@ export class View {
   }
 
   makeChoices() {
-    byId("examples").addEventListener("change", event => this.loadExample(event.target.value));
+    byId("examples").addEventListener("change",
+      ({ target }) => this.guarded(() => this.loadExample(target.value)));
     byId("slider").addEventListener("input", event => this.go(Number(event.target.value)));
     byId("notice").lastElementChild.addEventListener("click", () => this.tell(""));
     byId("goto").addEventListener("submit", event => {
@@ -174,8 +175,7 @@ export class View {
   }
 
   async failed(error) {
-    this.search = null;
-    this.coming = null;
+    Object.assign(this, { search: null, coming: null, isHalted: true });
     this.play(false);
     if (error instanceof Trouble) return this.tell(error.message);
     if (error instanceof RangeError) return this.tell(`There is no memory left for this: ${error.message}.`);
@@ -321,8 +321,9 @@ export class View {
 
   runOn() {
     const { session } = this;
-    if (session.runFor(SLICE_TIME)) this.say(
-      `running: step ${grouped(session.ran)} of ${grouped(session.length)}`);
+    if (session.runFor(SLICE_TIME)) {
+      this.say(`running: step ${grouped(session.ran)} of ${grouped(session.length)}`);
+    }
     byId("slider").max = session.ran;
     const now = performance.now(), isTime = now - this.shownAt > SHOWN_EVERY;
     if (session.isDone && this.asked !== null) this.come(Math.min(this.asked, session.length));
@@ -407,8 +408,9 @@ export class View {
   find(points, isBack, isInclusive = false) {
     const { session, steps } = this;
     if (!session) return;
-    if (!points.length) throw new Trouble(
-      "There are no breakpoints: click a line's number, or use their tab.");
+    if (!points.length) {
+      throw new Trouble("There are no breakpoints: click a line's number, or use their tab.");
+    }
     this.asked = null;
     this.coming = null;
     this.search = { search: new Search(session, points, steps, isBack, isInclusive), points, isBack };
@@ -428,15 +430,17 @@ export class View {
     this.come(steps);
     if (found.ended) this.play(false);
     const what = points.map(pointText).join(", ").slice(0, MOST_WORDS);
-    if (found.ended && points[0].kind !== "frame") this.tell(
-      `No ${isBack ? "earlier" : "later"} step meets ${what}.`);
+    if (found.ended && points[0].kind !== "frame") {
+      this.tell(`No ${isBack ? "earlier" : "later"} step meets ${what}.`);
+    }
     this.saySummary();
   }
 
   saySummary() {
     const { isDone, time } = this.session;
-    if (isDone) this.say(
-      `${this.session.summary()} · ${time < 10 ? time.toFixed(1) : grouped(Math.round(time))} ms`);
+    if (isDone) {
+      this.say(`${this.session.summary()} · ${time < 10 ? time.toFixed(1) : grouped(Math.round(time))} ms`);
+    }
   }
 
   /** Goes to the step that draws a dot of the picture. */
@@ -569,8 +573,9 @@ export class View {
     const { session, name, seen } = this;
     if (what === "text") return saveFile(`${name}.vga`, new TextEncoder().encode(this.editor.text),
       "text/plain");
-    if (!session || !seen || this.editor.isStale) throw new Trouble(
-      "There is no run to save: mend the bad line first.");
+    if (!session || !seen || this.editor.isStale) {
+      throw new Trouble("There is no run to save: mend the bad line first.");
+    }
     if (what === "bytes") return saveFile(`${name}.bin`, session.script, "application/octet-stream");
     if (what === "report") return saveFile(`${name}.txt`, reportOf(session), "application/octet-stream");
     if (what === "png") return saveFile(`${name}-${this.steps}.png`, await pngOfSeen(seen), "image/png");

@@ -11,7 +11,7 @@ import { gunzipSync, gzipSync } from "node:zlib";
 import { KEYS } from "../keys.js";
 import { packed } from "../share.js";
 import { Browser } from "./driving.mjs";
-import { FONTS, PAGE, TOP, pageData } from "./loading.mjs";
+import { FONTS, PAGE, TOP, pageData, withMemory } from "./loading.mjs";
 
 const ADDRESS = pathToFileURL(resolve(PAGE)).href, SHOTS = process.argv[2];
 const IDLE = "document.getElementById('compared')?.textContent.length > 0";
@@ -426,6 +426,22 @@ await check("junk is told, and the page goes on", async () => {
   await browser.until("document.getElementById('notice').textContent.includes('damaged')");
 });
 
+await check("a page with a script of a command in it", async () => {
+  const page = readFileSync(PAGE, "utf-8"), fonts = Buffer.from(FONTS).toString("base64");
+  const bytes = readFileSync(`${TOP}examples/first-path.bin`).toString("base64");
+  for (const [own, wanted, begin] of [
+    [{ name: "own.vga", text: "in 3CC\nframe\n", fonts: null }, 2, "in 3CC\n"],
+    [{ name: "own.bin", bytes, fonts }, 9, "out 3C2 02\n"],
+  ]) {
+    writeFileSync(`${folder}/own.html`, page.replace('"open":null', `"open":${JSON.stringify(own)}`));
+    await open("#step=1", pathToFileURL(`${folder}/own.html`).href);
+    await stepIs(1);
+    assert.ok((await browser.value("document.getElementById('text').value")).startsWith(begin));
+    assert.ok((await text("state")).startsWith(`${wanted} steps`));
+    assert.equal(await text("about"), own.name);
+  }
+});
+
 await check("a script of 16 MiB", async () => {
   await open();
   const line = "put A0000 11\n", count = Math.floor((1 << 24) / line.length);
@@ -467,35 +483,6 @@ await check("frames without an end", async () => {
   assert.ok(await step() > 20);
 });
 
-/** The number that LEB128 writes, and where it ends. */
-function leb(bytes, at) {
-  let value = 0, shift = 0;
-  for (;; shift += 7) {
-    const byte = bytes[at++];
-    value += (byte & 127) * 2 ** shift;
-    if (byte < 128) return [value, at];
-  }
-}
-
-function lebBytes(value) {
-  return value < 128 ? [value] : [value % 128 + 128, ...lebBytes(Math.floor(value / 128))];
-}
-
-/** A module whose memory has so many pages at most. */
-function withMemory(module, pages) {
-  for (let at = 8; at < module.length;) {
-    const [size, begin] = leb(module, at + 1);
-    if (module[at] === 5) {
-      const [first] = leb(module, begin + 2), body = [1, module[begin + 1] | 1, ...lebBytes(first),
-        ...lebBytes(pages)];
-      return Buffer.concat([module.subarray(0, at), Buffer.from([5, ...lebBytes(body.length), ...body]),
-        module.subarray(begin + size)]);
-    }
-    at = begin + size;
-  }
-  throw new Error("the module has no memory");
-}
-
 await check("want of memory in the module", async () => {
   const page = readFileSync(PAGE, "utf-8"), { module } = pageData();
   for (const [pages, isRun] of [[300, false], [800, true]]) {
@@ -513,6 +500,32 @@ await check("want of memory in the module", async () => {
     await choose("small.vga", "int ax=3\nframe\n");
     await browser.until("document.getElementById('state').textContent.startsWith('2 steps')");
   }
+});
+
+// A module whose next step traps, as one would whose memory was overwritten.
+const TRAPS = `{
+  const real = WebAssembly.instantiate;
+  WebAssembly.instantiate = async (...given) => {
+    const { instance } = await real.apply(WebAssembly, given), exports = { ...instance.exports };
+    exports.zak_run_on = (...words) => {
+      if (!window.traps) return instance.exports.zak_run_on(...words);
+      window.traps = false;
+      throw new WebAssembly.RuntimeError("unreachable");
+    };
+    return { instance: { exports } };
+  };
+}`;
+
+await check("a module that traps is opened anew", async () => {
+  const { identifier } = await browser.send("Page.addScriptToEvaluateOnNewDocument", { source: TRAPS });
+  await open(await fragment(SCRIPT));
+  await browser.value("window.traps = true");
+  await browser.click("#back");
+  await says("#notice", "The module has stopped (unreachable). It is opened anew");
+  await set("text", "int ax=3\nframe\n", "input");
+  await browser.until(IDLE);
+  await stepIs(2);
+  await browser.send("Page.removeScriptToEvaluateOnNewDocument", { identifier });
 });
 
 await check("every control has a name for screen readers", async () => {

@@ -1,6 +1,5 @@
 // What the tests stand on: the module, the fonts and the examples. The module is that of ZAKLIMOT_MODULE, a
-// file of wasm,
-// or else that of the page as built.
+// file of wasm, or else that of the page as built.
 import { gunzipSync } from "node:zlib";
 import { readFileSync, readdirSync } from "node:fs";
 import { fileURLToPath } from "node:url";
@@ -16,11 +15,44 @@ export function pageData(page = PAGE) {
   return JSON.parse(found[1]);
 }
 
+/** The module's bytes. */
+export function moduleBytes() {
+  const file = process.env.ZAKLIMOT_MODULE;
+  return file ? readFileSync(file) : gunzipSync(Buffer.from(pageData().module, "base64"));
+}
+
 /** A new instance of the module. */
 export async function loadAdapter() {
-  const file = process.env.ZAKLIMOT_MODULE;
-  const bytes = file ? readFileSync(file) : gunzipSync(Buffer.from(pageData().module, "base64"));
-  return Adapter.opened(bytes);
+  return Adapter.opened(moduleBytes());
+}
+
+/** The number that LEB128 writes, and where it ends. */
+function leb(bytes, at) {
+  let value = 0, shift = 0;
+  for (;; shift += 7) {
+    const byte = bytes[at++];
+    value += (byte & 127) * 2 ** shift;
+    if (byte < 128) return [value, at];
+  }
+}
+
+function lebBytes(value) {
+  return value < 128 ? [value] : [value % 128 + 128, ...lebBytes(Math.floor(value / 128))];
+}
+
+/** A module whose memory has so many pages at most. */
+export function withMemory(module, pages) {
+  for (let at = 8; at < module.length;) {
+    const [size, begin] = leb(module, at + 1);
+    if (module[at] === 5) {
+      const [first] = leb(module, begin + 2), body = [1, module[begin + 1] | 1, ...lebBytes(first),
+        ...lebBytes(pages)];
+      return Buffer.concat([module.subarray(0, at), Buffer.from([5, ...lebBytes(body.length), ...body]),
+        module.subarray(begin + size)]);
+    }
+    at = begin + size;
+  }
+  throw new Error("the module has no memory");
 }
 
 export const FONTS = new Uint8Array(readFileSync(TOP + "fonts/zaklimot.fnt"));

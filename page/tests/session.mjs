@@ -1,8 +1,9 @@
 // A session gives each step's answer as zak_run does, and gets to any step's state, forward and back.
 import assert from "node:assert/strict";
 import test from "node:test";
+import { Adapter } from "../adapter.js";
 import { Session, judgedText } from "../session.js";
-import { FONTS, examples, loadAdapter, runWhole } from "./loading.mjs";
+import { FONTS, examples, loadAdapter, moduleBytes, runWhole, withMemory } from "./loading.mjs";
 
 const adapter = await loadAdapter();
 
@@ -116,4 +117,32 @@ test("a step belongs to its line, in blocks each time", () => {
   assert.equal(outline.stepOfEntry(1, 2), 3);
   assert.equal(outline.stepOfEntry(1, 6), -1);
   assert.equal(outline.entryAtLine(4), 1);
+});
+
+test("texts of 16 MiB of any kind are judged", () => {
+  const most = 1 << 24, begun = performance.now(), reasonOf = text => {
+    try {
+      return `${judgedText(adapter, text).outline.length} steps`;
+    } catch (trouble) {
+      return `${trouble.line}: ${trouble.message}`;
+    }
+  };
+  assert.equal(reasonOf("\n".repeat(most)), "0 steps");
+  assert.equal(reasonOf(";".repeat(most)), "0 steps");
+  assert.equal(reasonOf("frame ; " + "x".repeat(most - 8)), "1 steps");
+  assert.match(reasonOf("a".repeat(most)), /^1: there is no step 'a{22}\.\.'/);
+  assert.equal(reasonOf("version 2\nrepeat 2\n" + "\n".repeat(most - 20)), "2: the block has no end");
+  assert.equal(reasonOf("frame\n".repeat(2796000) + "end"),
+    "2796001: blocks are of version 2: write version 2 before every other line");
+  assert.equal(reasonOf("x".repeat(most + 1)), "0: The text has more than 16,777,216 bytes.");
+  assert.match(reasonOf("version 2\nrepeat 65535\n" + "frame\n".repeat(300) + "end"),
+    /^2: with this block the script means more/);
+  assert.ok(performance.now() - begun < 60000);
+});
+
+test("where the module has no memory, it is told", async () => {
+  const small = await Adapter.opened(withMemory(moduleBytes(), 300));
+  assert.throws(() => new Session(small, FONTS, "frame"), /no memory left/);
+  assert.throws(() => judgedText(small, "frame\n".repeat(2700000)), /no memory left/);
+  assert.equal(judgedText(small, "frame").outline.length, 1);
 });
