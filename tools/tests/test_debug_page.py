@@ -28,6 +28,7 @@ from vga_page.page import DATA, SCRIPT, STYLE, Sources, about, data_of, examples
 from vga_page.retargeting import LAYOUTS, TRIPLES, retargeted
 from vga_page.telling import Phases
 from vga_page.wasm import check_module, exports_of, kit_of, with_kit
+from vga_report.cli import TROUBLE
 from vga_report.debugging import page_data
 from vga_report.progress import Progress
 from vga_report.trouble import Trouble
@@ -317,7 +318,7 @@ class Commands(unittest.TestCase):
     def said(self, *words: str) -> str:
         said = io.StringIO()
         with contextlib.redirect_stderr(said):
-            self.assertEqual(command.main(words), command.TROUBLE)
+            self.assertEqual(command.main(words), TROUBLE)
         return said.getvalue()
 
     def test_words_that_cannot_be_meant(self) -> None:

@@ -4,6 +4,8 @@ from __future__ import annotations
 
 import contextlib
 import io
+import signal
+import subprocess
 import sys
 import tempfile
 import unittest
@@ -12,6 +14,7 @@ from pathlib import Path
 from random import Random
 
 from vga_fuzz import command
+from vga_fuzz.command import TOP
 from vga_fuzz.feeding import Fed, Program
 from vga_fuzz.judging import trouble_of
 from vga_fuzz.making import MAGIC, Input, make
@@ -167,6 +170,41 @@ class Command(Files):
             self.assertEqual(self.run_command(self.program("sys.exit(3)"), "--seed", "2", "--keep", str(keep))[0], 2)
         self.assertIn("the folder has files, and none of them is to be lost", said.getvalue())
         self.assertEqual({file: file.read_bytes() for file in keep.iterdir()}, before)
+
+    def test_what_can_not_be_meant_is_told(self) -> None:
+        tool = [sys.executable, str(TOP / "tools" / "vga-fuzz")]
+        for words, told in (
+            (["/bin/true"], "vga asm: status 0, and it has written no script"),
+            ([str(self.folder)], "it is no program"),
+            *(([option, "0"], "is no number") for option in ("--timeout", "--memory", "--output", "--seconds")),
+            (["--memory", "-1"], "is no number"),
+            (["--seconds", "nan"], "is no number of seconds"),
+        ):
+            with self.subTest(words):
+                done = subprocess.run([*tool, *words], capture_output=True, text=True, timeout=60)
+                self.assertEqual(done.returncode, 2)
+                self.assertIn(told, done.stderr)
+                self.assertNotIn("Traceback", done.stderr)
+
+    def test_a_user_who_ends_it_gets_the_figures(self) -> None:
+        keep = self.folder / "kept"
+        process = subprocess.Popen(
+            [sys.executable, "-u", str(TOP / "tools" / "vga-fuzz"), self.program("sys.exit(3)"), "--keep", str(keep)],
+            stdout=subprocess.PIPE, stderr=subprocess.PIPE, text=True,
+            preexec_fn=lambda: signal.signal(signal.SIGINT, signal.default_int_handler),
+        )
+        assert process.stdout is not None
+        self.assertTrue(process.stdout.readline().startswith("input 1 "))
+        process.send_signal(signal.SIGINT)
+        output, said = process.communicate(timeout=40)
+        self.assertEqual((process.returncode, said), (130, ""))
+        self.assertRegex(output, r"(?s)^(?:input .*)?seed 1: [0-9,]+ inputs in .*[0-9]+ with something wrong\n$")
+
+    def test_an_output_that_takes_nothing(self) -> None:
+        words = [sys.executable, str(TOP / "tools" / "vga-fuzz"), self.program(), "--inputs", "1"]
+        with open("/dev/full", "wb") as full:
+            done = subprocess.run(words, stdout=full, stderr=subprocess.PIPE, text=True, timeout=60)
+        self.assertEqual((done.returncode, done.stderr), (2, "vga-fuzz: standard output: No space left on device\n"))
 
     def test_a_program_that_is_not_there(self) -> None:
         with contextlib.redirect_stderr(io.StringIO()):

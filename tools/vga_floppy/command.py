@@ -4,14 +4,13 @@ from __future__ import annotations
 
 import argparse
 import os
-import sys
 from typing import Optional, Sequence
 
-from vga_report.command import open_closed_streams
+from vga_report import cli
 from vga_report.images import Image
-from vga_report.output import AGREED, TROUBLE, name_of, refuse_twice
+from vga_report.output import AGREED, name_of, refuse_twice
 from vga_report.png import Shape, write_png
-from vga_report.streams import STANDARD, reading, write_file, writing
+from vga_report.streams import STANDARD, reading, to_read, write_file, writing
 from vga_report.suite import LIST, empty_folder
 from vga_report.trouble import Trouble
 from vga_report.words import seconds
@@ -24,15 +23,13 @@ from .script import MOST_BYTES, Item, read_script
 from .serial import read_record
 from .table_page import write_tables
 
-# What a shell says of programs that a closed pipe or the user has ended.
-PIPE_CLOSED, INTERRUPTED = 141, 130
 # A longer file is no image and no record.
 MOST_READ = 1 << 26
 
 
 def _add_script(parser: argparse.ArgumentParser) -> None:
     parser.add_argument(
-        "script", metavar="SCRIPT", help="the script, as text or bytes, or a folder of `vga-report scripts`; - is standard input"
+        "script", type=to_read, metavar="SCRIPT", help="the script, as text or bytes, or a folder of `vga-report scripts`; - is standard input"
     )
 
 
@@ -58,7 +55,7 @@ def _parser() -> argparse.ArgumentParser:
     command.add_argument("image", metavar="IMAGE", help="the image, of 1,474,560 bytes; - is standard output")
     command.set_defaults(job=_make)
     command = commands.add_parser("read", help="gives the report of what a run has left")
-    command.add_argument("file", metavar="FILE", help="the image, or with --serial the record; - is standard input")
+    command.add_argument("file", type=to_read, metavar="FILE", help="the image, or with --serial the record; - is standard input")
     command.add_argument("--serial", action="store_true", help="FILE is what came over the serial port")
     command.add_argument("--part", action="store_true", help="the front of the report, of a record that ends too early")
     _add_report(command)
@@ -73,13 +70,9 @@ def _parser() -> argparse.ArgumentParser:
     command.set_defaults(job=_run)
     command = commands.add_parser("table", help="writes the suite's results into a page")
     command.add_argument("page", metavar="PAGE", help="the page, with the marks between which they stand")
-    command.add_argument("results", nargs="+", metavar="RESULTS", help="what `vga-report suite --json` printed of `run`")
+    command.add_argument("results", nargs="+", type=to_read, metavar="RESULTS", help="what `vga-report suite --json` printed of `run`")
     command.set_defaults(job=_table)
     return parser
-
-
-def _say(text: str) -> None:
-    print(f"vga-floppy: {text}", file=sys.stderr)
 
 
 def _items(path: str) -> list[Item]:
@@ -163,32 +156,12 @@ def _table(words: argparse.Namespace) -> int:
     return AGREED
 
 
-def _end(words: argparse.Namespace) -> int:
-    """Does a command's work; what ends it is told on standard error."""
-    try:
-        status: int = words.job(words)
-        sys.stdout.flush()
-        return status
-    except BrokenPipeError:
-        raise
-    except Trouble as trouble:
-        reason = str(trouble)
-    except OSError as error:
-        reason = f"{'standard output' if error.filename is None else error.filename}: {error.strerror}"
-    _say(reason)
-    return TROUBLE
-
-
 def main(words: Optional[Sequence[str]] = None) -> int:
     """Runs a command line, and answers its exit status."""
-    if not open_closed_streams():
-        _say("standard output: it is closed")
-        return TROUBLE
-    try:
-        return _end(_parser().parse_args(words))
-    except BrokenPipeError:
-        # What can't be written would fail once more when Python ends.
-        os.dup2(os.open(os.devnull, os.O_WRONLY), sys.stdout.fileno())
-        return PIPE_CLOSED
-    except KeyboardInterrupt:
-        return INTERRUPTED
+
+    def work() -> int:
+        parsed = _parser().parse_args(words)
+        status: int = parsed.job(parsed)
+        return status
+
+    return cli.run("vga-floppy", work)

@@ -27,7 +27,7 @@ class Program:
     """The program `vga`, run over one font file in a folder of its own."""
 
     def __init__(self, path: str, fonts: str, folder: Path, limits: Limits) -> None:
-        self._path = path
+        self.path = path
         self._fonts = fonts
         self._folder = folder
         self._limits = limits
@@ -48,11 +48,17 @@ class Program:
         file, script = self._folder / "text", self._folder / "script"
         file.write_bytes(text)
         outcome = self._done("asm", str(file), str(script))
-        return script.read_bytes() if outcome.status == DONE else None
+        if outcome.status != DONE:
+            return None
+        if not script.exists():
+            raise Wrong("vga asm: status 0, and it has written no script")
+        made = script.read_bytes()
+        script.unlink()
+        return made
 
     def _done(self, command: str, *words: str) -> Outcome:
         """How a command ended, where nothing is wrong with it."""
-        outcome = run([self._path, command, *words], self._folder, self._limits)
+        outcome = run([self.path, command, *words], self._folder, self._limits)
         trouble = trouble_of(outcome, command in ("run", "go"))
         if trouble is not None:
             raise Wrong(f"vga {command}: {trouble}")

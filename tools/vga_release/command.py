@@ -3,21 +3,20 @@
 from __future__ import annotations
 
 import argparse
-import sys
 from pathlib import Path
 from typing import Optional, Sequence
 
 from vga_library.header import TOP, version
 from vga_library.toolchain import BACKENDS, proved_archive
-from vga_report.streams import writing
-from vga_report.trouble import Trouble
+from vga_report import cli
+from vga_report.streams import to_read, writing
 
 from .commit import clean_commit
 from .gathering import release_entries
 from .packing import pack
 from .running import output_of
 
-DONE, TROUBLE, INTERRUPTED = 0, 2, 130
+DONE = 0
 PROGRAM = TOP / "crates" / "vga"
 MACHINE = "x86_64-linux"
 
@@ -25,8 +24,8 @@ MACHINE = "x86_64-linux"
 def _parser() -> argparse.ArgumentParser:
     parser = argparse.ArgumentParser(prog="vga-release", description="Packs a release of what is checked out.")
     parser.add_argument("folder", type=Path, metavar="FOLDER", help="where the archive goes")
-    parser.add_argument("--program", type=Path, metavar="FILE", help="the program, built already; else `rt run` proves and builds it")
-    parser.add_argument("--archive", type=Path, metavar="FILE", help="the same of the library; else `rt lib` does")
+    parser.add_argument("--program", type=to_read, metavar="FILE", help="the program, built already; else `rt run` proves and builds it")
+    parser.add_argument("--archive", type=to_read, metavar="FILE", help="the same of the library; else `rt lib` does")
     return parser
 
 
@@ -44,8 +43,9 @@ def _proved_program() -> Path:
 def _release(words: argparse.Namespace) -> None:
     """Makes the archive, and tells its name."""
     commit, name = clean_commit(), release_name()
-    program = words.program or _proved_program()
-    entries = release_entries(commit, program, words.archive or proved_archive(BACKENDS[0]))
+    program = _proved_program() if words.program is None else Path(words.program)
+    archive = proved_archive(BACKENDS[0]) if words.archive is None else Path(words.archive)
+    entries = release_entries(commit, program, archive)
     words.folder.mkdir(parents=True, exist_ok=True)
     path = words.folder / f"{name}.tar.gz"
     with writing(str(path)) as stream:
@@ -55,16 +55,9 @@ def _release(words: argparse.Namespace) -> None:
 
 def main(given: Optional[Sequence[str]] = None) -> int:
     """Runs a command line, and answers its exit status."""
-    words = _parser().parse_args(given)
-    try:
-        _release(words)
-        sys.stdout.flush()
+
+    def work() -> int:
+        _release(_parser().parse_args(given))
         return DONE
-    except Trouble as trouble:
-        reason = str(trouble)
-    except OSError as error:
-        reason = f"{'standard output' if error.filename is None else error.filename}: {error.strerror}"
-    except KeyboardInterrupt:
-        return INTERRUPTED
-    print(f"vga-release: {reason}", file=sys.stderr)
-    return TROUBLE
+
+    return cli.run("vga-release", work)

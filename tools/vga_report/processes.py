@@ -88,7 +88,7 @@ def run_command(
         said.start()
         reason = _wait(process, report, limits, is_ended)
     finally:
-        _end(process)
+        end(process)
     for drain in (report, said):
         drain.join(DRAINING)
     if report.trouble or said.trouble:
@@ -124,8 +124,10 @@ def _has_ended(process: subprocess.Popen[bytes]) -> bool:
     return os.waitid(os.P_PID, process.pid, os.WEXITED | os.WNOWAIT | os.WNOHANG) is not None
 
 
-def _end(process: subprocess.Popen[bytes]) -> None:
-    """Ends a command with all that it has started."""
+def end(process: subprocess.Popen[bytes]) -> None:
+    """Ends a command with all that it has started, unless its end was asked for: its number may be another's then."""
+    if process.returncode is not None:
+        return
     if IS_POSIX:
         try:
             os.killpg(process.pid, signal.SIGKILL)

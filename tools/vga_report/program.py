@@ -4,7 +4,6 @@ from __future__ import annotations
 
 import os
 import shutil
-import signal
 import subprocess
 import tempfile
 from contextlib import contextmanager
@@ -12,7 +11,8 @@ from pathlib import Path
 from typing import BinaryIO, Iterator, Optional, Sequence, cast
 
 from .faults import FAULT
-from .processes import IS_POSIX
+from .processes import IS_POSIX, end
+from .streams import to_read
 from .trouble import Trouble
 
 TOP = Path(__file__).resolve().parents[2]
@@ -46,23 +46,14 @@ class Outcome:
 def found_program(named: Optional[str]) -> str:
     """Where the program is: as it is named, or as this repository has built it, or in the path."""
     if named is not None:
-        return named
+        # A name without a folder is looked for in the path.
+        return to_read(shutil.which(named) or named)
     if os.access(PROGRAM, os.X_OK):
-        return str(PROGRAM)
+        return to_read(str(PROGRAM))
     in_path = shutil.which("vga")
     if in_path is None:
         raise Trouble(NO_PROGRAM)
-    return in_path
-
-
-def _end(process: subprocess.Popen[bytes]) -> None:
-    """Ends a program with all that it has started, if it has not ended."""
-    if process.poll() is None:
-        if IS_POSIX:
-            os.killpg(process.pid, signal.SIGKILL)
-        else:
-            process.kill()
-    process.wait()
+    return to_read(in_path)
 
 
 @contextmanager
@@ -86,7 +77,7 @@ def _started(words: Sequence[str], folder: Optional[Path] = None) -> Iterator[Ou
             said.seek(0)
             outcome.said = said.read(MOST_SAID).decode("utf-8", "replace")
         finally:
-            _end(process)
+            end(process)
 
 
 class Built:

@@ -14,9 +14,10 @@ from typing import BinaryIO, Iterator, Optional, Union, cast
 from .trouble import Trouble
 
 STANDARD = "-"
+NO_NAME = "the name of a file is empty"
 # So many bytes are dropped at a time.
 DRAINED = 1 << 16
-# The files that were read: where each is found, and what messages call it.
+# The files that are read: where each is found, and what messages call it.
 _were_read: dict[Union[int, str], str] = {}
 
 
@@ -34,8 +35,15 @@ def _status_of(place: Union[int, str]) -> Optional[os.stat_result]:
     return status if stat.S_ISREG(status.st_mode) else None
 
 
+def to_read(path: str) -> str:
+    """A name of the command line whose file is read, or may be: from now on it isn't written, under whatever name."""
+    if path != STANDARD:
+        _were_read[path] = path
+    return path
+
+
 def refuse_input(path: str) -> None:
-    """Ends the work where what is to be written is a file that was read."""
+    """Ends the work where what is to be written is a file that is read."""
     output = _status_of(sys.stdout.fileno() if path == STANDARD else path)
     for place, name in _were_read.items():
         status = _status_of(place)
@@ -55,7 +63,7 @@ def reading(path: str, is_drained: bool = True) -> Iterator[io.BufferedReader]:
         while is_drained and not sys.stdin.isatty() and stream.read(DRAINED):
             pass
     elif not path:
-        raise Trouble("the name of a file is empty")
+        raise Trouble(NO_NAME)
     else:
         with open(path, "rb") as stream:
             _were_read[path] = path
@@ -65,6 +73,8 @@ def reading(path: str, is_drained: bool = True) -> Iterator[io.BufferedReader]:
 @contextmanager
 def writing(path: str) -> Iterator[BinaryIO]:
     """A file that is written, as bytes: a new one beside it that takes its place once it is whole."""
+    if not path:
+        raise Trouble(NO_NAME)
     refuse_input(path)
     if path == STANDARD:
         sys.stdout.flush()
