@@ -2,6 +2,7 @@
 
 from __future__ import annotations
 
+import io
 import os
 import shutil
 import subprocess
@@ -19,6 +20,9 @@ TOP = Path(__file__).resolve().parents[2]
 CRATE = TOP / "crates" / "vga"
 PROGRAM = CRATE / "out" / "vga"
 FONTS = TOP / "fonts" / "zaklimot.fnt"
+# No script is printed in more bytes: none of its steps has a line that is seven times as long as its bytes.
+MOST_PRINTED = 7 << 24
+CHUNK = 1 << 16
 # So much of what the program says is looked at.
 MOST_SAID = 1 << 16
 NO_PROGRAM = (
@@ -94,16 +98,24 @@ class Built:
         with _started(words) as outcome:
             yield outcome
 
-    def understood(self, script: Path, is_bytes: bool) -> list[str]:
-        """The steps of a script as the program prints them; none where it has a fault."""
+    def print_steps(self, script: Path, is_bytes: bool, printed: BinaryIO) -> None:
+        """Prints the steps of a script as the program understands them; nothing where it has a fault."""
         with tempfile.TemporaryDirectory(prefix="vga-report-") as name:
             made = script if is_bytes else Path(name) / "script"
-            if not is_bytes:
-                assembled = subprocess.run([self._path, "asm", script, made], capture_output=True)
-                if assembled.returncode:
-                    return []
-            printed = subprocess.run([self._path, "dis", made], capture_output=True)
-        return printed.stdout.decode("ascii", "replace").splitlines() if printed.returncode == 0 else []
+            if is_bytes or self._writes(["asm", str(script), str(made)], io.BytesIO()):
+                if not self._writes(["dis", str(made)], printed):
+                    printed.truncate(0)
+
+    def _writes(self, words: Sequence[str], output: BinaryIO) -> bool:
+        """Whether a command of the program ends well; what it writes goes into a file."""
+        left = MOST_PRINTED
+        with _started([self._path, *words]) as outcome:
+            while chunk := outcome.report.read(CHUNK):
+                left -= len(chunk)
+                if left < 0:
+                    raise Trouble(f"vga {words[0]} writes more than any script takes", self._path)
+                output.write(chunk)
+        return outcome.status == 0
 
 
 class Tried:
@@ -124,6 +136,5 @@ class Tried:
             raise Trouble(f"rt try has not run it to its end, within its limits of time and output: {outcome.fault}")
         outcome.status = int(ended[0])
 
-    def understood(self, script: Path, is_bytes: bool) -> list[str]:
+    def print_steps(self, script: Path, is_bytes: bool, printed: BinaryIO) -> None:
         """Nothing: each answer would take a build of its own."""
-        return []

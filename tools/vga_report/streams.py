@@ -70,6 +70,15 @@ def reading(path: str, is_drained: bool = True) -> Iterator[io.BufferedReader]:
             yield stream
 
 
+def read_at_most(path: str, most: int, told: str = "") -> bytes:
+    """The bytes of a file, which may not have more than so many; else a Trouble, whose reason may be given."""
+    with reading(path, is_drained=False) as stream:
+        data = stream.read(most + 1)
+    if len(data) > most:
+        raise Trouble(told or f"it has more than {most:,} bytes", shown_name(path, "standard input"))
+    return data
+
+
 @contextmanager
 def writing(path: str) -> Iterator[BinaryIO]:
     """A file that is written, as bytes: a new one beside it that takes its place once it is whole."""
