@@ -10,16 +10,17 @@ from vga_report import cli
 from vga_report.images import Image
 from vga_report.output import AGREED, name_of, refuse_twice
 from vga_report.png import Shape, write_png
+from vga_report.script import MOST_BYTES
 from vga_report.streams import STANDARD, reading, to_read, write_file, writing
 from vga_report.suite import LIST, empty_folder
 from vga_report.trouble import Trouble
+from vga_report.whole import Item, steps_and_blocks
 from vga_report.words import seconds
 
 from .answers import Reports, report_lines
 from .image import IMAGE_SIZE, Run, image_for, read_image
 from .machines import LGPL, MACHINES, SEABIOS
 from .running import Wanted, run_on
-from .script import MOST_BYTES, Item, read_script
 from .serial import read_record
 from .table_page import write_tables
 
@@ -78,7 +79,7 @@ def _parser() -> argparse.ArgumentParser:
 def _items(path: str) -> list[Item]:
     """The script of a file."""
     with reading(path) as stream:
-        return read_script(stream.read(MOST_BYTES + 1), name_of(path))
+        return steps_and_blocks(stream.read(MOST_BYTES + 1), name_of(path))
 
 
 def _scripts(path: str) -> dict[str, list[Item]]:
