@@ -3,12 +3,11 @@
 from __future__ import annotations
 
 import re
-from itertools import chain, repeat
-from typing import Iterable, Iterator, Optional, Sequence
+from typing import Optional, Sequence
 
 from vga_report import report
 from vga_report.picture import Picture
-from vga_report.whole import KIND_NAMES, Block, Item, Step
+from vga_report.whole import KIND_NAMES, Step
 
 REFUSALS = {
     1: "NotDecoded", 2: "NotInProfile", 3: "NoMode", 4: "BadFunction", 5: "BadMode", 6: "WrongKind", 7: "BadPage",
@@ -47,13 +46,6 @@ DUMPS = {
 }
 # The rows and columns that a screen of cells may have.
 ROWS, COLUMNS = (25, 28, 50), (40, 80)
-
-
-def steps_meant(items: Iterable[Item]) -> Iterator[Step]:
-    """The steps that a script means, those of a block in each of its rounds."""
-    return chain.from_iterable(
-        chain.from_iterable(repeat(item.steps, item.count)) if isinstance(item, Block) else (item,) for item in items
-    )
 
 
 def _refusals(step: Step) -> set[int]:

@@ -9,9 +9,9 @@ from typing import Optional, Sequence
 from vga_report.faults import FAULT
 from vga_report.report import Report
 from vga_report.trouble import Trouble
-from vga_report.whole import Item, steps_and_blocks
+from vga_report.whole import Item, steps_and_blocks, steps_meant
 
-from .answers import is_right_form, steps_meant
+from .answers import is_right_form
 from .running import Outcome
 
 DONE, FAULTY, WORDS = 0, 1, 2

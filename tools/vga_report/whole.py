@@ -4,7 +4,8 @@ from __future__ import annotations
 
 import re
 import struct
-from typing import Iterator, NamedTuple, Optional, Sequence, Union
+from itertools import chain, repeat
+from typing import Iterable, Iterator, NamedTuple, Optional, Sequence, Union
 
 from .grammar import (
     BLOCK, BLOCK_LINES, END, REGISTERS, REPEAT, SHAPES, SHOWN, VERSION_TWO, DecimalNumber, Number,
@@ -57,6 +58,13 @@ def steps_and_blocks(data: bytes, name: str) -> list[Item]:
     if len(data) > MOST_BYTES:
         raise _fault("F6 TooLong", f"a script has at most {MOST_BYTES:,} bytes", name)
     return list(_Bytes(data, name).items()) if is_bytes(data) else _Text(data, name).items()
+
+
+def steps_meant(items: Iterable[Item]) -> Iterator[Step]:
+    """The steps that a script means, those of a block in each of its rounds."""
+    return chain.from_iterable(
+        chain.from_iterable(repeat(item.steps, item.count)) if isinstance(item, Block) else (item,) for item in items
+    )
 
 
 def _fault(fault: str, reason: str, name: str, line: Optional[int] = None) -> Trouble:
