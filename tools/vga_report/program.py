@@ -9,7 +9,7 @@ import subprocess
 import tempfile
 from contextlib import contextmanager
 from pathlib import Path
-from typing import BinaryIO, Iterator, Optional, Sequence, cast
+from typing import BinaryIO, Iterator, Mapping, Optional, Sequence, cast
 
 from .faults import FAULT
 from .processes import IS_POSIX, end
@@ -61,12 +61,14 @@ def found_program(named: Optional[str]) -> str:
 
 
 @contextmanager
-def _started(words: Sequence[str], folder: Optional[Path] = None) -> Iterator[Outcome]:
+def _started(
+    words: Sequence[str], folder: Optional[Path] = None, environment: Optional[Mapping[str, str]] = None
+) -> Iterator[Outcome]:
     """A command that runs, with its report as it comes."""
     with tempfile.TemporaryFile() as said:
         try:
             process = subprocess.Popen(
-                words, cwd=folder, stdin=subprocess.DEVNULL, stdout=subprocess.PIPE, stderr=said,
+                words, cwd=folder, env=environment, stdin=subprocess.DEVNULL, stdout=subprocess.PIPE, stderr=said,
                 start_new_session=IS_POSIX,
             )
         except OSError as error:
@@ -129,8 +131,10 @@ class Tried:
         stop = [] if until is None else ["--until", str(until)]
         files = ["--data", f"script={script.resolve()}", "--data", f"fonts={Path(fonts).resolve()}"]
         words = ["rt", "try", *files, "--", "run" if is_bytes else "go", "script", "--fonts", "fonts", *stop]
-        with _started(words, CRATE) as outcome:
-            yield outcome
+        # What it leaves when it is ended goes with this folder.
+        with tempfile.TemporaryDirectory(prefix="vga-report-") as temporary:
+            with _started(words, CRATE, {**os.environ, "TMPDIR": temporary}) as outcome:
+                yield outcome
         ended = outcome.said.rpartition(self.ENDED)[2].split()
         if self.ENDED not in outcome.said:
             raise Trouble(f"rt try has not run it to its end, within its limits of time and output: {outcome.fault}")
