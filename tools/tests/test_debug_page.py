@@ -26,7 +26,7 @@ from vga_page import command, page, wasm
 from vga_page.bundling import joined
 from vga_page.page import DATA, SCRIPT, STYLE, Sources, about, data_of, examples, make_page, packed, page_text
 from vga_page.retargeting import LAYOUTS, TRIPLES, retargeted
-from vga_page.telling import Phases
+from vga_library.telling import Phases
 from vga_page.wasm import check_module, exports_of, kit_of, with_kit
 from vga_report.cli import TROUBLE
 from vga_report.debugging import page_data

@@ -423,7 +423,7 @@ class Endings(Folder):
         command = self.begun("kinds", "-")
         self.assertEqual(self.feed(command, BEGIN + b"0 w p 3C2" + bytes(1 << 17)), 2)
         assert command.stderr is not None
-        self.assertIn(b"standard input:2: it is no cycle", command.stderr.read())
+        self.assertIn(b"standard input:2: the line is longer than any of a trace", command.stderr.read())
 
     def test_a_compressed_trace_that_is_cut_off(self) -> None:
         path = self.folder / "trace"

@@ -11,7 +11,7 @@ from vga_report.images import Image
 from vga_report.output import AGREED, name_of, refuse_twice
 from vga_report.png import Shape, write_png
 from vga_report.script import MOST_BYTES
-from vga_report.streams import STANDARD, reading, to_read, write_file, writing
+from vga_report.streams import STANDARD, read_at_most, reading, to_read, write_file, writing
 from vga_report.suite import LIST, empty_folder
 from vga_report.trouble import Trouble
 from vga_report.whole import Item, steps_and_blocks
@@ -86,8 +86,8 @@ def _scripts(path: str) -> dict[str, list[Item]]:
     """The script of a file; or those of a folder, by the names that its list has."""
     if not os.path.isdir(path) or not os.path.exists(os.path.join(path, LIST)):
         return {"": _items(path)}
-    with reading(os.path.join(path, LIST)) as stream:
-        names = [os.fsdecode(line.split(b" ")[0]) for line in stream]
+    listed = read_at_most(os.path.join(path, LIST), MOST_BYTES)
+    names = [os.fsdecode(line.split(b" ")[0]) for line in listed.split(b"\n") if line]
     # The names in the list have the ends that tell text from bytes, and those of reports have none.
     return {os.path.splitext(name)[0]: _items(os.path.join(path, name)) for name in names}
 

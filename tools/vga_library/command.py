@@ -8,10 +8,12 @@ from pathlib import Path
 from typing import Optional, Sequence
 
 from vga_report import cli
-from vga_report.streams import to_read
+from vga_report.progress import Progress
+from vga_report.streams import check_folder, to_read
 from vga_report.trouble import Trouble
 
 from .making import MOVING, Place, make_library
+from .telling import phases
 from .toolchain import ARCHIVE, BACKENDS, kit_archive, proved_archive
 
 DONE = 0
@@ -53,7 +55,13 @@ def _lay(words: argparse.Namespace, place: Place, prefix: str) -> None:
     """Makes the library, and tells its files."""
     if words.archive is not None and not os.path.isfile(words.archive):
         raise Trouble("there is no such file", words.archive)
-    archive = proved_archive(words.backend) if words.archive is None else Path(words.archive)
+    # What is wrong with the folders is told before the long work.
+    for name in ("include", place.library_folder, "share"):
+        check_folder(place.folder(name))
+    progress = Progress()
+    heard = phases(progress)("proving and building the library")
+    archive = proved_archive(words.backend, heard) if words.archive is None else Path(words.archive)
+    progress.clear()
     for path in make_library(archive, kit_archive(), place, prefix):
         print(path)
 

@@ -6,16 +6,16 @@ import argparse
 from pathlib import Path
 from typing import Optional, Sequence
 
+from vga_library.telling import phases
 from vga_report import cli
 from vga_report.processes import MEBIBYTE
 from vga_report.progress import Progress
-from vga_report.streams import STANDARD, reading, to_read, write_file
+from vga_report.streams import STANDARD, check_file, reading, to_read, write_file
 from vga_report.trouble import Trouble
 from vga_report.words import number_to
 
 from .making import made_modules
 from .page import MOST_BYTES, make_page, read_sources
-from .telling import phases
 from .wasm import MOST_MODULE, check_module
 
 DONE = 0
@@ -112,6 +112,7 @@ def _check_words(words: argparse.Namespace) -> None:
         raise Trouble("--proof keeps a proof of --gated")
     if words.module is not None and words.gated:
         raise Trouble("--module takes a module as it is, so --gated proves nothing")
+    check_file(words.file)
 
 
 def main(given: Optional[Sequence[str]] = None) -> int:

@@ -9,10 +9,12 @@ from typing import Optional, Sequence
 
 from vga_report import cli
 from vga_report.output import AGREED, name_of, refuse_twice
+from vga_report.images import image_bytes
 from vga_report.png import Shape, write_png
 from vga_report.program import FONTS
 from vga_report.progress import Progress
-from vga_report.streams import STANDARD, reading, refuse_input, to_read, writing
+from vga_report.script import MOST_BYTES
+from vga_report.streams import STANDARD, read_at_most, refuse_input, to_read, writing
 from vga_report.trouble import Trouble
 
 from .cells import font_of
@@ -68,10 +70,8 @@ def _drawn(words: argparse.Namespace, progress: Progress) -> tuple[Drawn, str]:
     font = b""
     if mode.kind is Kind.CELLS:
         refuse_twice(words.image, words.fonts)
-        with reading(words.fonts) as stream:
-            font = font_of(stream.read(), name_of(words.fonts))
-    with reading(words.image) as stream:
-        image = read_image(stream.read(), name)
+        font = font_of(read_at_most(words.fonts, MOST_BYTES), name_of(words.fonts))
+    image = read_image(image_bytes(words.image), name)
     image, size = fitted(image, mode, words.fit, name)
     made, count = indexed(six_bits(image), len(mode.entries), words.fewer, name)
     told = f"{size}, {len(made.colours)} colour{'s' * (len(made.colours) != 1)}"

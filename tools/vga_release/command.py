@@ -3,18 +3,22 @@
 from __future__ import annotations
 
 import argparse
+import os
 from pathlib import Path
 from typing import Optional, Sequence
 
 from vga_library.header import TOP, version
+from vga_library.running import Hearer, run
+from vga_library.telling import phases
 from vga_library.toolchain import BACKENDS, proved_archive
 from vga_report import cli
-from vga_report.streams import to_read, writing
+from vga_report.progress import Progress
+from vga_report.streams import check_folder, to_read, writing
+from vga_report.trouble import Trouble
 
 from .commit import clean_commit
 from .gathering import release_entries
 from .packing import pack
-from .running import output_of
 
 DONE = 0
 PROGRAM = TOP / "crates" / "vga"
@@ -34,17 +38,23 @@ def release_name() -> str:
     return f"zaklimot-{version()}-{MACHINE}"
 
 
-def _proved_program() -> Path:
+def _proved_program(heard: Hearer) -> Path:
     """The program, proved and built. What is kept of its proof makes it quick."""
-    output_of(["rt", "run", "--", "--help"], PROGRAM)
+    run(["rt", "run", "--", "--help"], PROGRAM, heard)
     return PROGRAM / "out" / "vga"
 
 
-def _release(words: argparse.Namespace) -> None:
+def _release(words: argparse.Namespace, progress: Progress) -> None:
     """Makes the archive, and tells its name."""
+    for given in (words.program, words.archive):
+        if given is not None and not os.path.isfile(given):
+            raise Trouble("there is no such file", given)
+    check_folder(words.folder)
     commit, name = clean_commit(), release_name()
-    program = _proved_program() if words.program is None else Path(words.program)
-    archive = proved_archive(BACKENDS[0]) if words.archive is None else Path(words.archive)
+    tell = phases(progress)
+    program = Path(words.program or _proved_program(tell("proving and building the program")))
+    archive = Path(words.archive or proved_archive(BACKENDS[0], tell("proving and building the library")))
+    progress.clear()
     entries = release_entries(commit, program, archive)
     words.folder.mkdir(parents=True, exist_ok=True)
     path = words.folder / f"{name}.tar.gz"
@@ -56,8 +66,10 @@ def _release(words: argparse.Namespace) -> None:
 def main(given: Optional[Sequence[str]] = None) -> int:
     """Runs a command line, and answers its exit status."""
 
+    progress = Progress()
+
     def work() -> int:
-        _release(_parser().parse_args(given))
+        _release(_parser().parse_args(given), progress)
         return DONE
 
-    return cli.run("vga-release", work)
+    return cli.run("vga-release", work, progress)

@@ -4,12 +4,15 @@ from __future__ import annotations
 
 import io
 import re
+import select
+import time
 from itertools import islice, zip_longest
 from pathlib import Path
 from typing import BinaryIO, Iterator, NamedTuple, Optional, Union
 
 from .expecting import answer_of, is_as_expected
 from .faults import Files, explained
+from .processes import IS_POSIX
 from .program import Built, Tried
 from .progress import Progress
 from .report import REFUSAL, VALUE, Report, Step
@@ -19,6 +22,8 @@ from .trouble import Trouble
 # What a stopped run shows behind the last step.
 LOOKS = ("show regs", "show beam", "show latches", "show bda")
 HEADING = "step as understood"
+# Seconds between two looks whether there is an answer.
+PAUSE = 0.2
 # A script of bytes with no step has so many.
 EMPTY = 5
 # The widest column of steps; what is longer has its end cut off.
@@ -128,6 +133,7 @@ class Script:
         """The steps with their answers, as they come. A fault is told with its reason."""
         lines, taken, looks = islice(self._lines(), until), 0, () if until is None else LOOKS
         with program.running(self.path, fonts, until, self.is_bytes) as outcome:
+            _wait_for(outcome.report, self.shown, progress)
             report = Report(outcome.report, "the report", progress)  # type: ignore[arg-type]
             for step in report.steps():
                 if progress.is_due():
@@ -155,6 +161,14 @@ class Script:
         wanted = (self.count if until is None else min(until, self.count)) + looks
         if answered < wanted:
             raise Trouble(f"the report ends after {answered:,} of {wanted:,} steps", self.shown)
+
+
+def _wait_for(report: BinaryIO, shown: str, progress: Progress) -> None:
+    """Tells how long the first answer takes, as of a program that is built first."""
+    begun = time.monotonic()
+    while IS_POSIX and progress.is_wanted and not select.select([report], [], [], PAUSE)[0]:
+        if progress.is_due():
+            progress.tell(f"{shown}: no answer yet after {time.monotonic() - begun:.0f} seconds")
 
 
 def listed(row: Row, width: int, more: str = "") -> Iterator[str]:

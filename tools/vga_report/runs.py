@@ -22,7 +22,7 @@ from .png import Shape, write_png
 from .program import FONTS, Built, Tried, found_program
 from .progress import Progress
 from .script import blessed_line, read_script, text_of
-from .streams import STANDARD, write_file, write_over, writing
+from .streams import STANDARD, check_file, check_folder, write_file, write_over, writing
 from .trouble import Trouble
 
 
@@ -110,6 +110,11 @@ def _refuse_words(words: argparse.Namespace) -> None:
         raise Trouble("--bless writes into the script, whole: it wants a file, and no --until")
     if words.html and (words.bless or words.pictures or words.show):
         raise Trouble("--html writes a page that has the pictures: without --bless, --pictures and --show")
+    if words.pictures is not None:
+        check_folder(words.pictures)
+    for file in (words.html, words.debug):
+        if file is not None:
+            check_file(file)
     if words.debug is None:
         return
     if words.bless or words.pictures or words.show:

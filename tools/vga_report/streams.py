@@ -70,6 +70,43 @@ def reading(path: str, is_drained: bool = True) -> Iterator[io.BufferedReader]:
             yield stream
 
 
+def check_folder(path: Union[str, Path]) -> None:
+    """Ends the work, before it begins, where files can't be laid into a folder, be it there or to be made."""
+    if not str(path):
+        raise Trouble(NO_NAME)
+    place = Path(path).absolute()
+    while not os.path.lexists(place):
+        place = place.parent
+    if not place.is_dir():
+        raise Trouble("it is not a folder", str(path) if place == Path(path).absolute() else str(place))
+    if not os.access(place, os.W_OK | os.X_OK):
+        raise Trouble("there is no permission to write there", str(place))
+
+
+def check_file(path: str) -> None:
+    """Ends the work, before it begins, where a file can't be written."""
+    if not path:
+        raise Trouble(NO_NAME)
+    refuse_input(path)
+    if path == STANDARD:
+        return
+    if os.path.isdir(path):
+        raise Trouble("it is a folder", path)
+    if _may_be_replaced(path):
+        if not os.path.isdir(os.path.dirname(os.path.abspath(path))):
+            raise Trouble("there is no such folder", os.path.dirname(path))
+        check_folder(os.path.dirname(os.path.abspath(path)))
+
+
+def bytes_of(path: Union[str, Path], most: int) -> bytes:
+    """The bytes of a file of many, which may not have more than so many."""
+    with open(path, "rb") as stream:
+        data = stream.read(most + 1)
+    if len(data) > most:
+        raise Trouble(f"it has more than {most:,} bytes", str(path))
+    return data
+
+
 def read_at_most(path: str, most: int, told: str = "") -> bytes:
     """The bytes of a file, which may not have more than so many; else a Trouble, whose reason may be given."""
     with reading(path, is_drained=False) as stream:
