@@ -127,10 +127,11 @@ class Signals(Folder):
         fake, temporary = self.folder / "bin" / "rt", self.folder / "tmp"
         fake.parent.mkdir()
         fake.write_text(
-            f"#!{sys.executable}\nimport os, subprocess, sys, tempfile, time\n"
+            f"#!{sys.executable}\nimport os, signal, subprocess, sys, tempfile, time\n"
             "if sys.argv[1] == 'doc': print('/none/doc'); sys.exit()\n"
             "tempfile.mkstemp()\n"
-            "child = subprocess.Popen(['sleep', '600'])\n"
+            "child = subprocess.Popen(['sleep', '600'], start_new_session=True)\n"
+            "signal.signal(signal.SIGTERM, lambda *_: (child.kill(), child.wait(), sys.exit(1)))\n"
             f"open({str(self.folder / 'child')!r}, 'w').write(f'{{child.pid}} {{os.getpid()}} ')\n"
             "time.sleep(600)\n"
         )

@@ -23,6 +23,8 @@ FONTS = TOP / "fonts" / "zaklimot.fnt"
 # No script is printed in more bytes: none of its steps has a line that is seven times as long as its bytes.
 MOST_PRINTED = 7 << 24
 CHUNK = 1 << 16
+# Seconds in which `rt` ends what it has started.
+ASKING = 5
 # So much of what the program says is looked at.
 MOST_SAID = 1 << 16
 NO_PROGRAM = (
@@ -62,7 +64,8 @@ def found_program(named: Optional[str]) -> str:
 
 @contextmanager
 def _started(
-    words: Sequence[str], folder: Optional[Path] = None, environment: Optional[Mapping[str, str]] = None
+    words: Sequence[str], folder: Optional[Path] = None, environment: Optional[Mapping[str, str]] = None,
+    asking: float = 0,
 ) -> Iterator[Outcome]:
     """A command that runs, with its report as it comes."""
     with tempfile.TemporaryFile() as said:
@@ -83,7 +86,7 @@ def _started(
             said.seek(0)
             outcome.said = said.read(MOST_SAID).decode("utf-8", "replace")
         finally:
-            end(process)
+            end(process, asking)
 
 
 class Built:
@@ -133,7 +136,7 @@ class Tried:
         words = ["rt", "try", *files, "--", "run" if is_bytes else "go", "script", "--fonts", "fonts", *stop]
         # What it leaves when it is ended goes with this folder.
         with tempfile.TemporaryDirectory(prefix="vga-report-") as temporary:
-            with _started(words, CRATE, {**os.environ, "TMPDIR": temporary}) as outcome:
+            with _started(words, CRATE, {**os.environ, "TMPDIR": temporary}, ASKING) as outcome:
                 yield outcome
         ended = outcome.said.rpartition(self.ENDED)[2].split()
         if self.ENDED not in outcome.said:
