@@ -10,8 +10,8 @@ from pathlib import Path
 from typing import Iterator, Optional, Sequence
 
 from library_tests.compilers import Wrong
+from vga_library.telling import phases
 from vga_page.making import kit_line, made_modules
-from vga_page.telling import phases
 from vga_page.wasm import MOST_MODULE, check_module, kit_of
 from vga_report.debugging import read_at_most
 from vga_report.progress import Progress

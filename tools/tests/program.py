@@ -12,6 +12,16 @@ from typing import Mapping, NamedTuple, Sequence
 from vga_report.program import FONTS, PROGRAM
 
 
+# Why a test is skipped. The gate sees to it that none is, once the program is built.
+UNBUILT = "the program isn't built: (cd crates/vga && rt run -- --help) builds it"
+
+
+def want_program() -> None:
+    """Skips a test where the program isn't built yet."""
+    if not os.access(PROGRAM, os.X_OK):
+        raise unittest.SkipTest(UNBUILT)
+
+
 class Ran(NamedTuple):
     """How a run of the program ended: its status, its report, and what it said."""
 
@@ -22,8 +32,7 @@ class Ran(NamedTuple):
 
 def run_texts(texts: Mapping[str, bytes]) -> dict[str, Ran]:
     """What `vga go` answers to each of these texts. Where the program isn't built yet, the test is skipped."""
-    if not os.access(PROGRAM, os.X_OK):
-        raise unittest.SkipTest("the program isn't built: (cd crates/vga && rt run -- --help) builds it")
+    want_program()
     with tempfile.TemporaryDirectory() as folder:
         return {name: _run(Path(folder), text) for name, text in texts.items()}
 

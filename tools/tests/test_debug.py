@@ -125,7 +125,7 @@ class Pages(Release):
 
         debug = ["--debug", str(self.made)]
         self.assertEqual(said("none", *debug), "none: No such file or directory\n")
-        self.assertEqual(said("-", *debug, given=bytes(16_777_217)), "-: it has more than 16,777,216 bytes\n")
+        self.assertEqual(said("-", *debug, given=bytes(16_777_217)), "standard input: F6 TooLong: a script has at most 16,777,216 bytes\n")
         for words in (["--only", "1"], ["--try"], ["--vga", "x"]):
             told = said(self.script, *debug, *words)
             self.assertTrue(told.startswith("--debug runs nothing here: "), words)

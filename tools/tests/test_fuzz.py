@@ -4,19 +4,27 @@ from __future__ import annotations
 
 import contextlib
 import io
+import re
+import signal
+import subprocess
 import sys
 import tempfile
 import unittest
 from dataclasses import replace
 from pathlib import Path
 from random import Random
+from unittest import mock
 
 from vga_fuzz import command
+from vga_fuzz.command import TOP
+from vga_fuzz.answers import REFUSALS, is_right_form
 from vga_fuzz.feeding import Fed, Program
-from vga_fuzz.judging import trouble_of
+from vga_fuzz.judging import FAULTS, meant_by, trouble_of
 from vga_fuzz.making import MAGIC, Input, make
 from vga_fuzz.running import Limits, Outcome
-from vga_fuzz.steps import step
+from vga_fuzz.steps import block, step
+from vga_report import report
+from vga_report.whole import Step, steps_and_blocks
 
 # A program that takes each text as its script, and answers each script alike.
 GOOD = """#!{python}
@@ -28,7 +36,7 @@ if command == "asm":
 elif command == "dis":
     sys.stdout.buffer.write(data)
 else:
-    sys.stdout.buffer.write(b"1 ok\\n")
+    sys.stdout.buffer.write(b"1 55\\n")
 """
 # What a program may do wrong in its place, and what is said of it.
 WRONGS = {
@@ -36,22 +44,29 @@ WRONGS = {
     "sys.exit(2)": "its words are refused: ''",
     "os.kill(os.getpid(), signal.SIGSEGV)": "signal 11 has ended it",
     "time.sleep(600)": "it has not ended in time",
-    "sys.exit('vga: F11 TooMany(5)')": "status 1, and no fault: 'vga: F11 TooMany(5)\\n'",
+    "sys.exit('vga: F11 TooMany(5)')": "answers F11 TooMany(5), and not done",
+    "sys.exit('vga: F12 TooMuch')": "status 1, and no fault: 'vga: F12 TooMuch\\n'",
     "sys.exit('vga: F4 BadStep')": "status 1, and no fault: 'vga: F4 BadStep\\n'",
     "sys.exit('vga: F2 BadMagic(4)')": "status 1, and no fault: 'vga: F2 BadMagic(4)\\n'",
     "sys.exit('vga: F9 WriteFault')": "F9 WriteFault, and each write was taken",
-    "print('1 ok'); sys.stdout.flush(); sys.exit('vga: F3 BadVersion')": "5 bytes are written before F3 BadVersion",
-    "sys.stdout.write('1 ok\\n2 o'); sys.stdout.flush(); sys.exit('vga: F10 OutOfMemory')":
+    "print('1 55'); sys.stdout.flush(); sys.exit('vga: F3 BadVersion')": "5 bytes are written before F3 BadVersion",
+    "sys.stdout.write('1 55\\n2 o'); sys.stdout.flush(); sys.exit('vga: F10 OutOfMemory')":
         "report:2: the report ends within a line",
-    "print('1 ok'); print('3 ok')": "report:2: step 2 is to come, and not '3 ok'",
+    "print('1 55'); print('3 ok')": "report:2: step 2 is to come, and not '3 ok'",
+    "print('1 55'); print('2 ok')": "step 2 is answered, and the script has none",
+    "pass": "the report ends before the script",
+    **{
+        f"print('1 {answer}')": f"step 1, in, answers '{answer}'"
+        for answer in ("ok", "5", "5g", "0055", "zz", "E1 NotDegoded", "G3 NoMode", "E3 NoMode", "E14 NotDecoded", "ragged")
+    },
     "print('F2 BadMagic')": "a fault stands on standard output",
-    "print('1 ok'); print('oh', file=sys.stderr)": "status 0, and it says 'oh\\n'",
+    "print('1 55'); print('oh', file=sys.stderr)": "status 0, and it says 'oh\\n'",
 }
 # A machine that has just started may take seconds for a program that ends at once.
 LIMITS = Limits(seconds=60, memory=1 << 28, output=1 << 16)
 # Those of a program that doesn't end.
 SHORT = replace(LIMITS, seconds=5)
-SCRIPT, TEXT = Input(False, b"VGAS\x01", "script"), Input(True, b"in 3DA\n", "text")
+SCRIPT, TEXT = Input(False, b"VGAS\x01\x03\xda\x03", "script"), Input(True, b"in 3DA\n", "text")
 
 
 class Files(unittest.TestCase):
@@ -63,7 +78,7 @@ class Files(unittest.TestCase):
     def program(self, wrong: str = "") -> str:
         """A program that is good, or does something wrong when it runs a script or a text."""
         path = self.folder / "program"
-        answer = 'sys.stdout.buffer.write(b"1 ok\\n")'
+        answer = 'sys.stdout.buffer.write(b"1 55\\n")'
         source = GOOD.format(python=sys.executable)
         self.assertIn(answer, source)
         path.write_text(source.replace(answer, wrong or answer))
@@ -84,17 +99,19 @@ class Judging(Files):
             for given, name in ((SCRIPT, "run"), (TEXT, "go")):
                 with self.subTest(wrong, command=name):
                     fed = self.fed(given, self.program(wrong), SHORT if "sleep" in wrong else LIMITS)
-                    self.assertEqual(fed, Fed("wrong", f"vga {name}: {said}"))
+                    self.assertEqual(fed.answer, "wrong")
+                    self.assertIn(fed.trouble, (f"vga {name}: {said}", f"vga {name} {said}"))
 
     def test_faults_of_one_command_alone(self) -> None:
         refused = "sys.exit('vga: F7 BadLine(1)')"
         fed = self.fed(SCRIPT, self.program(f"{refused} if command == 'run' else None"))
-        self.assertEqual(fed.answer, "F7 BadLine(1)")
-        fed = self.fed(TEXT, self.program(f"{refused} if command == 'run' else print('1 ok')"))
-        self.assertEqual(fed.trouble, "vga go answers done, vga run F7 BadLine(1)")
+        self.assertEqual(fed.trouble, "vga run answers F7 BadLine(1), and not done")
+        bad = Input(True, b"move 1\n", "text")
+        self.assertEqual(self.fed(bad, self.program()).trouble, "vga go: step 1 is answered, and the script has none")
+        self.assertEqual(self.fed(bad, self.program("pass")).trouble, "vga go answers done, and not F7 BadLine(1)")
 
     def test_reports_that_differ(self) -> None:
-        fed = self.fed(TEXT, self.program("print('1 ok' if command == 'go' else '1 FF')"))
+        fed = self.fed(TEXT, self.program("print('1 55' if command == 'go' else '1 FF')"))
         self.assertEqual(fed.trouble, "vga go and vga run have reports that differ")
 
     def test_a_text_that_spells_another_script(self) -> None:
@@ -103,15 +120,77 @@ class Judging(Files):
         self.assertEqual(self.fed(SCRIPT, str(path)).trouble, "vga asm: what vga dis prints spells another script")
 
     def test_a_report_that_fills_its_room(self) -> None:
-        full = "\n    try:\n        for n in range(1, 100000): sys.stdout.buffer.write(b'%d ok\\n' % n)\n"
+        full = "\n    try:\n        for n in range(1, 100000): sys.stdout.buffer.write(b'%d 55\\n' % n)\n"
         full += "        sys.stdout.flush()\n    except OSError: os.dup2(os.open('/dev/null', os.O_WRONLY), 1);"
-        fed = self.fed(SCRIPT, self.program(full + " sys.exit('vga: F9 WriteFault')"))
-        self.assertEqual(fed, Fed("F9 WriteFault"))
+        long = Input(False, b"VGAS\x02\x0d\xff\xff\x03\xda\x03\x0e", "script")
+        self.assertEqual(self.fed(long, self.program(full + " sys.exit('vga: F9 WriteFault')")), Fed("F9 WriteFault"))
+
+    def test_reports_that_change(self) -> None:
+        seen = self.folder / "seen"
+        wrong = f"print('1 54' if os.path.exists('{seen}') else '1 55'); open('{seen}', 'w')"
+        for given, name in ((SCRIPT, "run"), (TEXT, "go")):
+            seen.unlink(missing_ok=True)
+            trouble = f"vga {name} and vga {name} once more have reports that differ"
+            self.assertEqual(self.fed(given, self.program(wrong)).trouble, trouble)
+
+    def test_a_printed_text_that_answers_otherwise(self) -> None:
+        fed = self.fed(SCRIPT, self.program("print('1 54' if command == 'go' else '1 55')"))
+        self.assertEqual(fed.trouble, "vga run and vga go of what vga dis prints have reports that differ")
 
     def test_want_of_memory_behind_whole_lines(self) -> None:
-        for report, trouble in ((b"", None), (b"1 ok\n", None), (b"1 ok", "report:1: the report ends within a line")):
-            outcome = Outcome(1, report, b"vga: F10 OutOfMemory\n", False)
-            self.assertEqual(trouble_of(outcome, is_report=True), trouble)
+        for written, trouble in ((b"", None), (b"1 55\n", None), (b"1 55", "report:1: the report ends within a line")):
+            outcome = Outcome(1, written, b"vga: F10 OutOfMemory\n", False)
+            self.assertEqual(trouble_of(outcome, [Step("in", (0x3DA,))]), trouble)
+
+
+ROW = ":" + 80 * " 4107"
+# Right answers of steps, and the same with bytes of them changed.
+ANSWERS: dict[str, tuple[list[str], list[str]]] = {
+    "out 3C2 1": (["ok", "E1 NotDecoded", "E2 NotInProfile"], ["oK", "okk", "E3 NoMode", "E1 NotInProfile", "00"]),
+    "in 3DA": (["00", "FF", "E2 NotInProfile"], ["ok", "0G", "ff", "000", "0000", "E12 TooFar"]),
+    "getw A0000": (["0000", "FF00"], ["00", "00000", "FF0g"]),
+    "int ax=3": (
+        ["ax=0003 bx=0000 cx=0000 dx=0000", "E5 BadMode", "E13 BadHeight"],
+        ["ok", "ax=0003 bx=0000 cx=0000 dx=000", "ax=0003 bx=0000 cx=0000 dx=0000 block 00", "E1 NotDecoded", "E5 Badmode"],
+    ),
+    "int ax=1017 bx=0 cx=1": (
+        ["ax=1017 bx=0000 cx=0001 dx=0000 block 010203"],
+        ["ax=1017 bx=0000 cx=0001 dx=0000", "ax=1017 bx=0000 cx=0001 dx=0000 block 0102"],
+    ),
+    "advance 5": (["ok"], ["E12 TooFar", "05"]),
+    "advance 16777217": (["E12 TooFar"], ["ok"]),
+    "frame": (["ragged"], ["ok", "raggef", "E1 NotDecoded"]),
+    "show dac 01": (["entry 01: 00 2A 3F"], ["entry 02: 00 2A 3F", "entry 01: 00 2A 4F", "entry 01: 00 2A", "ok"]),
+    "show plane 2 0820 4": (["plane 2 0820: 00 18 3C 66"], ["plane 1 0820: 00 18 3C 66", "plane 2 0820: 00 18 3C"]),
+    "show latches": (["latches 00 55 00 00"], ["latches 00 55 00", "latches 00 55 00 0"]),
+    "show beam": (
+        ["beam frame 0 line 111 char 11 dot 1 base 01E0 scan 15 half 0 split 0 rows 112"],
+        ["beam frame 0 line 111 char 11 dot 1 base 01E0 scan 15 half 2 split 0 rows 112"],
+    ),
+    "show cells": (
+        ["E3 NoMode", "E6 WrongKind", "\n".join(f"row {row:02X}{ROW}" for row in range(25))],
+        ["row 00: 4107", "\n".join(f"row {row:02X}{ROW}" for row in range(24)), "E7 BadPage"],
+    ),
+}
+
+
+class Forms(unittest.TestCase):
+    def test_answers_of_steps(self) -> None:
+        for line, answers in ANSWERS.items():
+            (step,) = steps_and_blocks(line.encode(), "t")
+            assert isinstance(step, Step)
+            for is_right, some in zip((True, False), answers):
+                for answer in some:
+                    with self.subTest(line, answer=answer):
+                        first, *others = answer.split("\n")
+                        self.assertEqual(is_right_form(step, report.Step(1, 1, first, tuple(others))), is_right)
+
+    def test_the_refusals_and_faults_are_those_of_the_page(self) -> None:
+        page = (TOP / "docs" / "REPORT.md").read_text()
+        told = re.findall(r"^\| `E(\d+) (\w+)` \|", page, re.M)
+        self.assertEqual(told, [(str(number), name) for number, name in REFUSALS.items()])
+        faults = re.findall(r"^\| `(F\d+ \w+)(\(\w+\))?` \|", page, re.M)
+        self.assertEqual([(name, bool(place)) for name, place in faults], list(FAULTS))
 
 
 class Making(unittest.TestCase):
@@ -121,6 +200,11 @@ class Making(unittest.TestCase):
         self.assertEqual(made, [make(Random(f"7:{number}"), texts, scripts) for number in range(300)])
         self.assertEqual(len({given.made for given in made}), 8)
         self.assertGreater(len({given.data for given in made}), 250)
+
+    def test_cells_and_too_many_steps_are_made(self) -> None:
+        self.assertIn((b"\x0c\x06", "show cells"), [step(Random(number)) for number in range(4000)])
+        blocks = [b"VGAS\x02" + block(Random(number))[0] for number in range(300)]
+        self.assertIn("F11 TooMany(5)", {meant_by(data)[0] for data in blocks})
 
     def test_a_step_as_bytes_and_as_a_line(self) -> None:
         steps = [step(Random(number)) for number in range(2000)]
@@ -151,7 +235,8 @@ class Command(Files):
         command.TEXTS = (texts,)
 
     def test_figures_where_nothing_is_wrong(self) -> None:
-        status, lines = self.run_command(self.program())
+        with mock.patch.object(Program, "feed", return_value=Fed("done")):
+            status, lines = self.run_command(self.program())
         self.assertEqual((status, lines[-2]), (0, "0 with something wrong"))
         self.assertTrue(lines[0].startswith("seed 3: 4 inputs in "))
         self.assertIn("        4 done", lines)
@@ -167,6 +252,46 @@ class Command(Files):
             self.assertEqual(self.run_command(self.program("sys.exit(3)"), "--seed", "2", "--keep", str(keep))[0], 2)
         self.assertIn("the folder has files, and none of them is to be lost", said.getvalue())
         self.assertEqual({file: file.read_bytes() for file in keep.iterdir()}, before)
+
+    def test_what_can_not_be_meant_is_told(self) -> None:
+        tool = [sys.executable, str(TOP / "tools" / "vga-fuzz")]
+        for words, told in (
+            (["/bin/true"], "vga asm: status 0, and it has written no script"),
+            ([str(self.folder)], "it is no program"),
+            *(([option, "0"], "is no number") for option in ("--timeout", "--memory", "--output", "--seconds")),
+            (["--memory", "-1"], "is no number"),
+            (["--seconds", "nan"], "is no number of seconds"),
+        ):
+            with self.subTest(words):
+                done = subprocess.run([*tool, *words], capture_output=True, text=True, timeout=60)
+                self.assertEqual(done.returncode, 2)
+                self.assertIn(told, done.stderr)
+                self.assertNotIn("Traceback", done.stderr)
+
+    def test_a_user_who_ends_it_gets_the_figures(self) -> None:
+        keep = self.folder / "kept"
+        process = subprocess.Popen(
+            [sys.executable, "-u", str(TOP / "tools" / "vga-fuzz"), self.program("sys.exit(3)"), "--keep", str(keep)],
+            stdout=subprocess.PIPE, stderr=subprocess.PIPE, text=True,
+            preexec_fn=lambda: signal.signal(signal.SIGINT, signal.default_int_handler),
+        )
+        assert process.stdout is not None
+        self.assertTrue(process.stdout.readline().startswith("input 1 "))
+        output = said = ""
+        for _ in range(4):
+            # Python loses a signal that comes while it takes an object down.
+            process.send_signal(signal.SIGINT)
+            with contextlib.suppress(subprocess.TimeoutExpired):
+                output, said = process.communicate(timeout=10)
+                break
+        self.assertEqual((process.returncode, said), (130, ""))
+        self.assertRegex(output, r"(?s)^(?:input .*)?seed 1: [0-9,]+ inputs in .*[0-9]+ with something wrong\n$")
+
+    def test_an_output_that_takes_nothing(self) -> None:
+        words = [sys.executable, str(TOP / "tools" / "vga-fuzz"), self.program(), "--inputs", "1"]
+        with open("/dev/full", "wb") as full:
+            done = subprocess.run(words, stdout=full, stderr=subprocess.PIPE, text=True, timeout=60)
+        self.assertEqual((done.returncode, done.stderr), (2, "vga-fuzz: standard output: No space left on device\n"))
 
     def test_a_program_that_is_not_there(self) -> None:
         with contextlib.redirect_stderr(io.StringIO()):

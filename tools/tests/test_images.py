@@ -9,6 +9,7 @@ from typing import Callable
 
 from vga_report.images import image_of
 from vga_report.timing import USUAL, Timing
+from vga_report.whole import Step, steps_and_blocks
 from vga_report.trouble import Trouble
 
 from .making import BLACK, RED, WHITE, ppm
@@ -131,6 +132,28 @@ class Animations(Files):
         self.assertEqual([time[5:7] for time in times], [(713, 50000), (834, 50000)])
         self.assertEqual(zlib.decompress(chunks[6][1][4:]), b"\0" + bytes(27))
 
+    def test_a_script_of_bytes_has_the_times_of_its_text(self) -> None:
+        path, moving = self.report("r", "ok", PICTURE, "ok", ppm(9, 1, BLACK * 9)), str(self.folder / "m.png")
+        script = self.folder / "s.bin"
+        calls = [b"\x09" + bytes([mode]) + bytes(9) for mode in (3, 0x12)]
+        script.write_bytes(b"VGAS\x01" + calls[0] + b"\x0b" + calls[1] + b"\x0b")
+        done = run("pictures", path, "--apng", moving, "--script", str(script))
+        self.assertEqual(done, (0, f"{moving}: 2 frames, 0.031 seconds\n".encode(), ""))
+
+    def test_what_is_no_script_of_the_report(self) -> None:
+        path, moving = self.report("r", "ok", PICTURE), self.folder / "m.png"
+        (self.folder / "i.png").write_bytes(png(1, 1, bytes(4)))
+        for script, told in (
+            (str(self.folder / "i.png"), "F7 BadLine(1): "), ("/dev/zero", "F6 TooLong: "),
+            ("/dev/null", "it is not the report's script: step 2 has a picture, and is no frame of it"),
+            (self.write("s.vga", "frame\nframe ax\n"), "F7 BadLine(2): "),
+        ):
+            with self.subTest(script):
+                status, output, message = run("pictures", path, "--apng", str(moving), "--script", script)
+                self.assertEqual((status, output, moving.exists()), (2, b"", False))
+                self.assertTrue(message.startswith(f"vga-report: {script}:"), message)
+                self.assertIn(told, message)
+
     def test_sizes_and_words_that_can_not_be_meant(self) -> None:
         path, moving = self.report("r", PICTURE, ppm(1, 1, RED)), str(self.folder / "m.png")
         message = "vga-report: step 2 has a picture of another size than step 1: --step picks those of one size\n"
@@ -148,7 +171,8 @@ class Animations(Files):
         ]:
             with self.subTest(steps):
                 timing = Timing()
-                for step in filter(None, steps.split(";")):
+                for step in steps_and_blocks(steps.replace(";", "\n").encode(), "t"):
+                    assert isinstance(step, Step)
                     timing.take(step)
                 self.assertAlmostEqual(timing.frame(), seconds)
 

@@ -18,6 +18,7 @@ from library_tests.suite import judged
 from vga_library import command, gated
 from vga_library.header import HEADER, TOP, Version, calls_of, version_of, without_comments
 from vga_library.making import Place, package_text
+from vga_report.cli import TROUBLE
 from vga_report.trouble import Trouble
 
 TEXT = HEADER.read_text("ascii")
@@ -72,7 +73,7 @@ class Places(unittest.TestCase):
         ):
             said = io.StringIO()
             with self.subTest(words), contextlib.redirect_stderr(said):
-                self.assertEqual(command.main(words), command.TROUBLE)
+                self.assertEqual(command.main(words), TROUBLE)
             self.assertTrue(said.getvalue().startswith("vga-library: "))
 
 

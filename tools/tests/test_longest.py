@@ -2,7 +2,6 @@
 
 from __future__ import annotations
 
-import os
 import subprocess
 import tempfile
 import unittest
@@ -10,6 +9,8 @@ from pathlib import Path
 from typing import Iterator
 
 from vga_report.program import FONTS, PROGRAM
+
+from .program import want_program
 
 MOST_BYTES = 16_777_216
 MEBIBYTE = 1_048_576
@@ -38,8 +39,7 @@ class Longest(unittest.TestCase):
     """1,525,201 lines, whose script has as many bytes as a script of whole steps of this kind may have."""
 
     def setUp(self) -> None:
-        if not os.access(PROGRAM, os.X_OK):
-            self.skipTest("the program isn't built: (cd crates/vga && rt run -- --help) builds it")
+        want_program()
         folder = tempfile.TemporaryDirectory()
         self.addCleanup(folder.cleanup)
         self.text, self.script = (Path(folder.name) / name for name in ("text", "script"))
@@ -77,8 +77,7 @@ class OneMore(unittest.TestCase):
     """One line more has a fault."""
 
     def test_it_is_too_long(self) -> None:
-        if not os.access(PROGRAM, os.X_OK):
-            self.skipTest("the program isn't built: (cd crates/vga && rt run -- --help) builds it")
+        want_program()
         with tempfile.NamedTemporaryFile() as text:
             text.write(LINE * (LINES + 1))
             text.flush()

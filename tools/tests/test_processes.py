@@ -122,6 +122,47 @@ class Signals(Folder):
                 self.assertEqual(list((self.folder / "tmp").iterdir()), [])
                 (self.folder / "child").unlink()
 
+    def test_each_tool_ends_the_prover_and_its_files(self) -> None:
+        """`rt` is a fake, which starts a child, leaves a temporary file, and sleeps."""
+        fake, temporary = self.folder / "bin" / "rt", self.folder / "tmp"
+        fake.parent.mkdir()
+        fake.write_text(
+            f"#!{sys.executable}\nimport os, signal, subprocess, sys, tempfile, time\n"
+            "if sys.argv[1] == 'doc': print('/none/doc'); sys.exit()\n"
+            "tempfile.mkstemp()\n"
+            "child = subprocess.Popen(['sleep', '600'], start_new_session=True)\n"
+            "signal.signal(signal.SIGTERM, lambda *_: (child.kill(), child.wait(), sys.exit(1)))\n"
+            f"open({str(self.folder / 'child')!r}, 'w').write(f'{{child.pid}} {{os.getpid()}} ')\n"
+            "time.sleep(600)\n"
+        )
+        fake.chmod(0o755)
+        script = self.write("s.vga", "frame\n")
+        for words in (
+            ["vga-memory"], ["vga-library", "make", str(self.folder / "kit")], ["vga-report", "run", script, "--try"],
+        ):
+            for number, status in ((signal.SIGTERM, 143), (signal.SIGHUP, 129)):
+                with self.subTest(words[0], number=number):
+                    self.end_tool(words, number, status, temporary, fake.parent)
+
+    def end_tool(self, words: list[str], number: int, status: int, temporary: Path, path: Path) -> None:
+        temporary.mkdir(exist_ok=True)
+        (self.folder / "child").unlink(missing_ok=True)
+        process = subprocess.Popen(
+            [sys.executable, str(PROGRAM.parent / words[0]), *words[1:]], stdout=subprocess.PIPE, stderr=subprocess.PIPE,
+            env={**os.environ, "TMPDIR": str(temporary), "PATH": f"{path}:{os.environ['PATH']}"},
+            preexec_fn=lambda: [signal.signal(some, signal.SIG_DFL) for some in (signal.SIGTERM, signal.SIGHUP)],
+        )
+        file, until = self.folder / "child", time.monotonic() + 60
+        while not (file.exists() and file.read_text().endswith(" ")) and time.monotonic() < until:
+            time.sleep(0.01)
+        numbers = [int(word) for word in file.read_text().split()]
+        process.send_signal(number)
+        output, said = process.communicate(timeout=40)
+        self.assertEqual((process.returncode, output, said), (status, b"", b""))
+        self.assertEqual([some for some in numbers if is_running(some)], [])
+        self.assertEqual(list(temporary.iterdir()), [])
+        self.assertFalse((self.folder / "kit").exists())
+
     def test_the_fuzzer_ends_its_program_and_its_folder_goes(self) -> None:
         program, temporary = self.folder / "program", self.folder / "tmp"
         program.write_text(f"#!{sys.executable}\nimport os, time\nprint(os.getpid(), flush=True)\ntime.sleep(600)\n")

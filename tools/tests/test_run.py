@@ -2,6 +2,7 @@
 
 from __future__ import annotations
 
+import io
 import os
 import subprocess
 import sys
@@ -12,7 +13,7 @@ from pathlib import Path
 from vga_report.expecting import answer_of, handed_in, is_as_expected, is_worth_telling
 from vga_report.listing import Choice, Row
 from vga_report.report import Report, Step
-from vga_report.script import blessed_line, expected_in, steps_of
+from vga_report.script import blessed_line, count_in, expected_in, steps_of
 from vga_report.trouble import Trouble
 
 from .making import BLACK, RED, ppm, stream
@@ -137,6 +138,44 @@ class Listings(Fake):
         status, _, said = run("run", self.path, "--vga", str(self.folder / "none"))
         self.assertEqual((status, said), (2, f"vga-report: {self.folder / 'none'}: No such file or directory\n"))
 
+    def test_a_report_that_ends_before_its_script(self) -> None:
+        self.program.write_text(self.program.read_text().replace("in enumerate(numbered[:stop], 1)", "in enumerate(numbered[:2], 1)"))
+        status, output, said = self.run_script()
+        self.assertEqual((status, said), (2, f"vga-report: {self.path}: the report ends after 2 of 6 steps\n"))
+        self.assertIn("     4      2  GET A0000 ", output)
+        self.assertEqual(self.run_script("--until", "2")[0], 0)
+        true = run("run", self.path, "--vga", "/bin/true")
+        self.assertEqual(true, (2, b"", f"vga-report: {self.path}: the report ends after 0 of 6 steps\n"))
+        self.assertEqual(run("run", self.write("none.vga", "; no step\n"), "--vga", "/bin/true")[0], 0)
+
+    def test_a_report_that_goes_on_behind_its_script(self) -> None:
+        self.program.write_text(self.program.read_text() + "if words[0] == 'go': out.write(b'7 ok\\n')\n")
+        status, _, said = self.run_script()
+        self.assertEqual((status, said), (2, f"vga-report: {self.path}: the report goes on behind the last step, 6\n"))
+
+    def test_long_scripts_take_no_longer_a_step(self) -> None:
+        path = self.write("long.vga", "out 3c4 02\n" * 50_000)
+        words = [sys.executable, PROGRAM, "run", path, "--vga", self.program, "--only", "50000"]
+        done = subprocess.run(words, capture_output=True, text=True, timeout=40)
+        self.assertEqual(done.stdout.splitlines()[1:], [
+            " 50000  50000  OUT 3C4 02          ok", "50000 steps, 0 pictures",
+        ])
+
+    def test_a_script_whose_name_is_no_text(self) -> None:
+        path, fonts = (os.fsencode(self.folder / name) + b"\xff" for name in ("s", "f"))
+        for name, data in ((path, TEXT.encode()), (fonts, b"font")):
+            with open(name, "wb") as stream:
+                stream.write(data)
+        # As the program does, which wants words of UTF-8.
+        self.program.write_text(self.program.read_text().replace("words = sys.argv[1:]", "words = sys.argv[1:]; ' '.join(words).encode()"))
+        words = [sys.executable, PROGRAM, "run", path, "--fonts", fonts, "--vga", self.program]
+        done = subprocess.run(words, capture_output=True, timeout=40)
+        self.assertEqual(done.stdout.decode(), self.run_script()[1])
+
+    def test_a_script_without_an_end(self) -> None:
+        done = run("run", "/dev/zero", "--vga", str(self.program))
+        self.assertEqual(done, (2, b"", "vga-report: /dev/zero: F6 TooLong: a script has at most 16,777,216 bytes\n"))
+
     def test_answers_that_differ(self) -> None:
         path = self.write("t.vga", "get 0 ; = 55\nget 1 ; = *\nframe ; = picture 9x2\n")
         status, output, _ = self.run_script(path=path, *("--only", "differs"))
@@ -194,6 +233,11 @@ class Expectations(unittest.TestCase):
         self.assertEqual(steps("version 2\nrepeat 65535\nframe\n"), [(3, "frame")])
         self.assertEqual(len(steps("version 2\nrepeat 65535\n" + "frame\n" * 300 + "end")), 16_777_200)
         self.assertEqual(steps("frame\nrepeat 2\nend"), [(1, "frame"), (2, "repeat 2"), (3, "end")])
+        long = "version 2\nrepeat 3\n" + "".join(f"in {at:X}\n" for at in range(5000)) + "end\nframe\n"
+        once = [(at + 3, f"in {at:X}") for at in range(5000)]
+        self.assertEqual(steps(long), [*once, *once, *once, (5004, "frame")])
+        for some in (text, long, "frame\nin 3DA ; repeat 2\n", "", "version 2\nrepeat 7\nend\n"):
+            self.assertEqual(count_in(io.BytesIO(some.encode())), len(steps(some)))
 
     def test_what_is_worth_telling(self) -> None:
         self.assertEqual(handed_in("int ax=3 dx=12"), "ax=0003 bx=0000 cx=0000 dx=0012")

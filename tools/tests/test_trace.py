@@ -16,6 +16,7 @@ from pathlib import Path
 from unittest import mock
 
 from vga_report.timing import Timing
+from vga_report.whole import Step as ScriptStep
 from vga_report.trouble import Trouble
 from vga_trace import converting
 from vga_trace.command import main
@@ -247,9 +248,9 @@ class Passing(unittest.TestCase):
     def test_speed_of_what_a_script_has_chosen(self) -> None:
         timing = Timing()
         self.assertIsNone(timing.speed())
-        timing.take("int ax=13")
+        timing.take(ScriptStep("int", (0x13, 0, 0, 0)))
         self.assertEqual(timing.speed(), (359_200, 25_175_000.0))
-        timing.take("int ax=D")
+        timing.take(ScriptStep("int", (0x0D, 0, 0, 0)))
         self.assertEqual(timing.speed(), (179_600, 12_587_500.0))
 
 
@@ -422,7 +423,7 @@ class Endings(Folder):
         command = self.begun("kinds", "-")
         self.assertEqual(self.feed(command, BEGIN + b"0 w p 3C2" + bytes(1 << 17)), 2)
         assert command.stderr is not None
-        self.assertIn(b"standard input:2: it is no cycle", command.stderr.read())
+        self.assertIn(b"standard input:2: the line is longer than any of a trace", command.stderr.read())
 
     def test_a_compressed_trace_that_is_cut_off(self) -> None:
         path = self.folder / "trace"

@@ -8,7 +8,7 @@ from pathlib import Path
 
 from vga_report.program import FONTS, PROGRAM
 
-from .program import Ran
+from .program import Ran, want_program
 from .test_cases import Folder
 
 # The text of a script, with a comment; its bytes; its printed text; and its report.
@@ -36,8 +36,7 @@ class Program(Folder):
     """A folder with a text, its script and the fonts, where the program runs."""
 
     def setUp(self) -> None:
-        if not os.access(PROGRAM, os.X_OK):
-            self.skipTest("the program isn't built: (cd crates/vga && rt run -- --help) builds it")
+        want_program()
         super().setUp()
         for name, content in (("text", TEXT), ("script", SCRIPT), ("fonts", FONTS.read_bytes()), ("short", b"123")):
             (self.folder / name).write_bytes(content)

@@ -4,35 +4,33 @@ from __future__ import annotations
 
 import argparse
 import os
-import sys
 from typing import Optional, Sequence
 
-from vga_report.command import open_closed_streams
+from vga_report import cli
 from vga_report.images import Image
-from vga_report.output import AGREED, TROUBLE, name_of, refuse_twice
+from vga_report.output import AGREED, name_of, refuse_twice
 from vga_report.png import Shape, write_png
-from vga_report.streams import STANDARD, reading, write_file, writing
+from vga_report.script import MOST_BYTES
+from vga_report.streams import STANDARD, read_at_most, reading, to_read, write_file, writing
 from vga_report.suite import LIST, empty_folder
 from vga_report.trouble import Trouble
+from vga_report.whole import Item, steps_and_blocks
 from vga_report.words import seconds
 
 from .answers import Reports, report_lines
 from .image import IMAGE_SIZE, Run, image_for, read_image
 from .machines import LGPL, MACHINES, SEABIOS
 from .running import Wanted, run_on
-from .script import MOST_BYTES, Item, read_script
 from .serial import read_record
 from .table_page import write_tables
 
-# What a shell says of programs that a closed pipe or the user has ended.
-PIPE_CLOSED, INTERRUPTED = 141, 130
 # A longer file is no image and no record.
 MOST_READ = 1 << 26
 
 
 def _add_script(parser: argparse.ArgumentParser) -> None:
     parser.add_argument(
-        "script", metavar="SCRIPT", help="the script, as text or bytes, or a folder of `vga-report scripts`; - is standard input"
+        "script", type=to_read, metavar="SCRIPT", help="the script, as text or bytes, or a folder of `vga-report scripts`; - is standard input"
     )
 
 
@@ -58,7 +56,7 @@ def _parser() -> argparse.ArgumentParser:
     command.add_argument("image", metavar="IMAGE", help="the image, of 1,474,560 bytes; - is standard output")
     command.set_defaults(job=_make)
     command = commands.add_parser("read", help="gives the report of what a run has left")
-    command.add_argument("file", metavar="FILE", help="the image, or with --serial the record; - is standard input")
+    command.add_argument("file", type=to_read, metavar="FILE", help="the image, or with --serial the record; - is standard input")
     command.add_argument("--serial", action="store_true", help="FILE is what came over the serial port")
     command.add_argument("--part", action="store_true", help="the front of the report, of a record that ends too early")
     _add_report(command)
@@ -73,27 +71,23 @@ def _parser() -> argparse.ArgumentParser:
     command.set_defaults(job=_run)
     command = commands.add_parser("table", help="writes the suite's results into a page")
     command.add_argument("page", metavar="PAGE", help="the page, with the marks between which they stand")
-    command.add_argument("results", nargs="+", metavar="RESULTS", help="what `vga-report suite --json` printed of `run`")
+    command.add_argument("results", nargs="+", type=to_read, metavar="RESULTS", help="what `vga-report suite --json` printed of `run`")
     command.set_defaults(job=_table)
     return parser
-
-
-def _say(text: str) -> None:
-    print(f"vga-floppy: {text}", file=sys.stderr)
 
 
 def _items(path: str) -> list[Item]:
     """The script of a file."""
     with reading(path) as stream:
-        return read_script(stream.read(MOST_BYTES + 1), name_of(path))
+        return steps_and_blocks(stream.read(MOST_BYTES + 1), name_of(path))
 
 
 def _scripts(path: str) -> dict[str, list[Item]]:
     """The script of a file; or those of a folder, by the names that its list has."""
     if not os.path.isdir(path) or not os.path.exists(os.path.join(path, LIST)):
         return {"": _items(path)}
-    with reading(os.path.join(path, LIST)) as stream:
-        names = [os.fsdecode(line.split(b" ")[0]) for line in stream]
+    listed = read_at_most(os.path.join(path, LIST), MOST_BYTES)
+    names = [os.fsdecode(line.split(b" ")[0]) for line in listed.split(b"\n") if line]
     # The names in the list have the ends that tell text from bytes, and those of reports have none.
     return {os.path.splitext(name)[0]: _items(os.path.join(path, name)) for name in names}
 
@@ -163,32 +157,12 @@ def _table(words: argparse.Namespace) -> int:
     return AGREED
 
 
-def _end(words: argparse.Namespace) -> int:
-    """Does a command's work; what ends it is told on standard error."""
-    try:
-        status: int = words.job(words)
-        sys.stdout.flush()
-        return status
-    except BrokenPipeError:
-        raise
-    except Trouble as trouble:
-        reason = str(trouble)
-    except OSError as error:
-        reason = f"{'standard output' if error.filename is None else error.filename}: {error.strerror}"
-    _say(reason)
-    return TROUBLE
-
-
 def main(words: Optional[Sequence[str]] = None) -> int:
     """Runs a command line, and answers its exit status."""
-    if not open_closed_streams():
-        _say("standard output: it is closed")
-        return TROUBLE
-    try:
-        return _end(_parser().parse_args(words))
-    except BrokenPipeError:
-        # What can't be written would fail once more when Python ends.
-        os.dup2(os.open(os.devnull, os.O_WRONLY), sys.stdout.fileno())
-        return PIPE_CLOSED
-    except KeyboardInterrupt:
-        return INTERRUPTED
+
+    def work() -> int:
+        parsed = _parser().parse_args(words)
+        status: int = parsed.job(parsed)
+        return status
+
+    return cli.run("vga-floppy", work)

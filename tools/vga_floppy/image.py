@@ -10,8 +10,8 @@ from pathlib import Path
 from typing import Mapping, NamedTuple, Optional, Sequence
 
 from vga_report.trouble import Trouble
+from vga_report.whole import Item
 
-from .script import Item
 from .table import HEADER, Table, table_for
 
 SECTOR = 512

@@ -12,8 +12,8 @@ from itertools import takewhile
 from typing import Iterable, Iterator, Mapping, NamedTuple, Optional, Sequence, Union
 
 from vga_report.trouble import Trouble
+from vga_report.whole import Block, Item, Step
 
-from .script import Block, Item, Step
 
 # The opcodes; those of a script's steps have its numbers.
 FINISH, OUT, OUTW, IN, INW, PUT, PUTW, GET, GETW, INT = range(10)

@@ -9,7 +9,8 @@ from typing import Any, Iterator, Sequence
 
 from vga_report.output import name_of
 from vga_report.running import AGREES, DIFFERS, FAILED, SKIPPED
-from vga_report.streams import STANDARD, reading, write_over
+from vga_report.script import MOST_BYTES
+from vga_report.streams import STANDARD, read_at_most, write_over
 from vga_report.trouble import Trouble
 
 from .machines import MACHINES
@@ -45,8 +46,7 @@ class Results:
 def _read(path: str) -> Results:
     """The results of a file."""
     name = name_of(path)
-    with reading(path) as stream:
-        data = stream.read()
+    data = read_at_most(path, MOST_BYTES)
     try:
         found = json.loads(data)
         command, rules = found["command"], found["rules"]
@@ -71,8 +71,7 @@ def write_tables(page: str, paths: Sequence[str]) -> None:
     """Writes the tables of results into a page."""
     if page == STANDARD:
         raise Trouble("a page is read and written again, so it is a file", "standard input")
-    with reading(page) as stream:
-        text = stream.read().decode("utf-8", "surrogateescape")
+    text = read_at_most(page, MOST_BYTES).decode("utf-8", "surrogateescape")
     before, first, rest = text.partition(FIRST_MARK)
     _, last, after = rest.partition(LAST_MARK)
     if not first or not last:

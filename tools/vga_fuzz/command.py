@@ -4,19 +4,20 @@ from __future__ import annotations
 
 import argparse
 import os
-import sys
 import tempfile
 import time
 from collections import Counter
 from pathlib import Path
 from random import Random
-from typing import Optional, Sequence
+from typing import Any, Optional, Sequence
 
-from vga_report.streams import write_file
+from vga_report import cli
+from vga_report.streams import to_read, write_file
 from vga_report.suite import empty_folder
 from vga_report.trouble import Trouble
+from vga_report.words import number_to, seconds
 
-from .feeding import Fed, Program
+from .feeding import Fed, Program, Wrong
 from .making import Input, make
 from .running import Limits
 
@@ -27,20 +28,34 @@ FONTS = TOP / "fonts" / "zaklimot.fnt"
 TEXTS = (TOP / "examples", TOP / "crates" / "vga_suite" / "data")
 # Longer texts are left out: they are runs of many frames.
 MOST_TEXT = 1 << 14
+# One of the first texts is a script.
+FIRST_TEXTS = 3
+EMPTY = b"VGAS\x01"
 MEBIBYTE = 1 << 20
-NOTHING_WRONG, SOMETHING_WRONG, NOT_RUN = 0, 1, 2
+# The largest numbers of options: MiB that a run may take, and inputs.
+MOST_MEBIBYTES, MOST_NUMBER = 1 << 16, 1 << 62
+NOTHING_WRONG, SOMETHING_WRONG = 0, 1
 
 
 def _words(words: Optional[Sequence[str]]) -> argparse.Namespace:
     parser = argparse.ArgumentParser(prog="vga-fuzz", description="Feeds vga with scripts and texts made at random.")
-    parser.add_argument("program", nargs="?", default=str(PROGRAM), help="the program (default: the one that is built)")
-    parser.add_argument("--seed", type=int, default=1, help="where the random numbers begin (default: 1)")
-    parser.add_argument("--seconds", type=float, default=60, help="how long inputs are made (default: 60)")
-    parser.add_argument("--inputs", type=int, default=0, help="how many inputs are made at most (default: any number)")
-    parser.add_argument("--first", type=int, default=1, help="the number of the first input, to make one again")
-    parser.add_argument("--timeout", type=int, default=60, help="how many seconds one run may take (default: 60)")
-    parser.add_argument("--memory", type=int, default=256, help="how many MiB one run may take (default: 256)")
-    parser.add_argument("--output", type=int, default=64, help="how many MiB one run may write (default: 64)")
+    parser.add_argument(
+        "program", nargs="?", type=to_read, default=str(PROGRAM), help="the program (default: the one that is built)"
+    )
+    numbers = {
+        "seed": (1, 0, "where the random numbers begin (default: 1)"),
+        "inputs": (0, 0, "how many inputs are made at most (default: any number)"),
+        "first": (1, 1, "the number of the first input, to make one again"),
+        "memory": (256, 1, "how many MiB one run may take (default: 256)"),
+        "output": (64, 1, "how many MiB one run may write (default: 64)"),
+    }
+    for name, (usual, least, told) in numbers.items():
+        most = MOST_MEBIBYTES if name in ("memory", "output") else MOST_NUMBER
+        parser.add_argument(f"--{name}", type=number_to(most, least), default=usual, metavar="N", help=told)
+    for name, default, told in (("seconds", 60, "how long inputs are made"), ("timeout", 60, "how long one run may take")):
+        parser.add_argument(
+            f"--{name}", type=seconds, default=default, metavar="SECONDS", help=f"{told}, in seconds (default: {default})"
+        )
     parser.add_argument("--keep", metavar="FOLDER", help="where inputs are kept with which something is wrong")
     return parser.parse_args(words)
 
@@ -84,35 +99,62 @@ def _tell(number: int, given: Input, fed: Fed, keep: Optional[str]) -> None:
 
 
 def _fuzz(words: argparse.Namespace, folder: Path) -> int:
-    """Makes inputs and feeds the program with them, until the time or the inputs are used up."""
+    """Makes inputs and feeds the program with them, until the time or the inputs are used up, or the user ends it."""
     limits = Limits(words.timeout, words.memory * MEBIBYTE, words.output * MEBIBYTE)
     program = Program(words.program, str(FONTS), folder, limits)
     texts = _texts()
-    scripts = [script for script in map(program.assembled, texts) if script is not None]
+    scripts = Scripts(program, texts)
     tally, number, begin = Tally(), words.first, time.monotonic()
-    while time.monotonic() - begin < words.seconds and number - words.first != (words.inputs or -1):
-        given = make(Random(f"{words.seed}:{number}"), texts, scripts)
-        fed = program.feed(given)
-        tally.count(given, fed)
-        if fed.trouble is not None:
-            _tell(number, given, fed, words.keep)
-        number += 1
-    print("\n".join(tally.lines(words.seed, time.monotonic() - begin)))
+    try:
+        while time.monotonic() - begin < words.seconds and number - words.first != (words.inputs or -1):
+            given = make(Random(f"{words.seed}:{number}"), texts, scripts)
+            fed = program.feed(given)
+            tally.count(given, fed)
+            if fed.trouble is not None:
+                _tell(number, given, fed, words.keep)
+            number += 1
+    finally:
+        # The figures are told of a run that the user ends, too.
+        print("\n".join(tally.lines(words.seed, time.monotonic() - begin)), flush=True)
     return SOMETHING_WRONG if tally.wrong else NOTHING_WRONG
+
+
+class Scripts(Sequence[bytes]):
+    """The scripts of the texts at hand, each made when it is asked for. One of a bad text has no step."""
+
+    def __init__(self, program: Program, texts: Sequence[bytes]) -> None:
+        self._program = program
+        self._texts = texts
+        self._made: dict[int, bytes] = {}
+        try:
+            is_program = any(program.assembled(text) is not None for text in texts[:FIRST_TEXTS])
+        except Wrong as wrong:
+            raise Trouble(f"it isn't vga, or can't work within these limits: {wrong}", program.path) from wrong
+        if not is_program:
+            raise Trouble("it isn't vga: it takes none of the texts of examples/ for one", program.path)
+
+    def __len__(self) -> int:
+        return len(self._texts)
+
+    def __getitem__(self, at: Any) -> Any:
+        if at not in self._made:
+            try:
+                self._made[at] = self._program.assembled(self._texts[at]) or EMPTY
+            except Wrong as wrong:
+                raise Trouble(f"a text at hand: {wrong}", self._program.path) from wrong
+        return self._made[at]
+
+
+def _run(words: argparse.Namespace) -> int:
+    """Looks at the words, and does the work."""
+    if not os.path.isfile(words.program) or not os.access(words.program, os.X_OK):
+        raise Trouble("it is no program; (cd crates/vga && rt run -- --help) builds it", words.program)
+    if words.keep is not None:
+        empty_folder(words.keep)
+    with tempfile.TemporaryDirectory(prefix="vga-fuzz-") as folder:
+        return _fuzz(words, Path(folder))
 
 
 def main(words: Optional[Sequence[str]] = None) -> int:
     """Runs the command, and answers its exit status."""
-    parsed = _words(words)
-    if not os.access(parsed.program, os.X_OK):
-        message = f"vga-fuzz: {parsed.program} is no program; (cd crates/vga && rt run -- --help) builds it"
-        print(message, file=sys.stderr)
-        return NOT_RUN
-    if parsed.keep is not None:
-        try:
-            empty_folder(parsed.keep)
-        except (Trouble, OSError) as trouble:
-            print(f"vga-fuzz: {trouble}", file=sys.stderr)
-            return NOT_RUN
-    with tempfile.TemporaryDirectory(prefix="vga-fuzz-") as folder:
-        return _fuzz(parsed, Path(folder))
+    return cli.run("vga-fuzz", lambda: _run(_words(words)))

@@ -4,11 +4,18 @@ from __future__ import annotations
 
 from dataclasses import dataclass
 from pathlib import Path
-from typing import Optional
+from typing import Optional, Sequence
 
-from .judging import DONE, OUT_OF_MEMORY, WRITE_FAULT, answer_of, trouble_of
+from vga_report.script import is_bytes
+from vga_report.whole import Item
+
+from .judging import DONE, DONE_ANSWER, OUT_OF_MEMORY, WRITE_FAULT, answer_of, meant_by, trouble_of
 from .making import Input
 from .running import Limits, Outcome, run
+
+
+# What the program answers to bytes that are no script.
+NO_SCRIPT = "F2 BadMagic"
 
 
 @dataclass(frozen=True)
@@ -27,7 +34,7 @@ class Program:
     """The program `vga`, run over one font file in a folder of its own."""
 
     def __init__(self, path: str, fonts: str, folder: Path, limits: Limits) -> None:
-        self._path = path
+        self.path = path
         self._fonts = fonts
         self._folder = folder
         self._limits = limits
@@ -38,7 +45,7 @@ class Program:
         file.write_bytes(given.data)
         try:
             if given.is_text:
-                return Fed(self._feed_text(str(file)))
+                return Fed(self._feed_text(str(file), given.data))
             return Fed(self._feed_script(str(file), given.data))
         except Wrong as wrong:
             return Fed("wrong", str(wrong))
@@ -48,39 +55,66 @@ class Program:
         file, script = self._folder / "text", self._folder / "script"
         file.write_bytes(text)
         outcome = self._done("asm", str(file), str(script))
-        return script.read_bytes() if outcome.status == DONE else None
+        if outcome.status != DONE:
+            return None
+        if not script.exists():
+            raise Wrong("vga asm: status 0, and it has written no script")
+        made = script.read_bytes()
+        script.unlink()
+        return made
 
-    def _done(self, command: str, *words: str) -> Outcome:
-        """How a command ended, where nothing is wrong with it."""
-        outcome = run([self._path, command, *words], self._folder, self._limits)
-        trouble = trouble_of(outcome, command in ("run", "go"))
+    def _done(self, command: str, *words: str, items: Optional[Sequence[Item]] = None) -> Outcome:
+        """How a command ended, where nothing is wrong with it. What it writes is the report of steps, if they are given."""
+        outcome = run([self.path, command, *words], self._folder, self._limits)
+        trouble = trouble_of(outcome, items)
         if trouble is not None:
             raise Wrong(f"vga {command}: {trouble}")
         return outcome
 
-    def _ran(self, command: str, file: str) -> Outcome:
-        return self._done(command, file, "--fonts", self._fonts)
+    def _ran(self, command: str, file: str, wanted: str, items: Sequence[Item]) -> Outcome:
+        """How a script is run: twice, with the same answers, which are to end as it is wanted."""
+        once, again = (self._done(command, file, "--fonts", self._fonts, items=items) for _ in range(2))
+        _agree(command, once, f"{command} once more", again)
+        if answer_of(once) not in (wanted, WRITE_FAULT, OUT_OF_MEMORY):
+            raise Wrong(f"vga {command} answers {answer_of(once)}, and not {wanted}")
+        return once
 
-    def _feed_text(self, text: str) -> str:
+    def _feed_text(self, text: str, data: bytes) -> str:
         """Runs a text, and its script: they answer the same."""
         script = str(self._folder / "script")
-        ran = self._ran("go", text)
+        wanted, items = meant_by(data)
+        ran = self._ran("go", text, wanted, items)
         made = self._done("asm", text, script)
-        if made.status == DONE:
-            _agree("go", ran, "run", self._ran("run", script))
-        else:
+        if made.status != DONE:
             _agree("go", ran, "asm", made)
+            return answer_of(ran)
+        if meant_by(Path(script).read_bytes())[1] != items:
+            raise Wrong("vga asm: the script has other steps than the text")
+        _agree("go", ran, "run", self._ran("run", script, wanted, items))
+        self._print_again(script, Path(script).read_bytes(), ran, items)
         return answer_of(ran)
 
     def _feed_script(self, script: str, data: bytes) -> str:
-        """Runs a script, and prints it: the printed text spells it again."""
-        ran = self._ran("run", script)
+        """Runs a script, and prints it: the printed text spells it again, and answers the same."""
+        wanted, items = meant_by(data)
+        if not is_bytes(data):
+            # A text is no script, whatever it means as one.
+            wanted, items = NO_SCRIPT, []
+        ran = self._ran("run", script, wanted, items)
+        self._print_again(script, data, ran, items)
+        return answer_of(ran)
+
+    def _print_again(self, script: str, data: bytes, ran: Outcome, items: Sequence[Item]) -> None:
+        """Prints a script: the printed text spells it again, and answers as the script did."""
         printed = self._done("dis", script)
         if printed.status != DONE:
             _agree("run", ran, "dis", printed)
-        elif self.assembled(printed.report) != data:
+            return
+        if self.assembled(printed.report) != data:
             raise Wrong("vga asm: what vga dis prints spells another script")
-        return answer_of(ran)
+        text = self._folder / "text"
+        text.write_bytes(printed.report)
+        _agree("run", ran, "go of what vga dis prints", self._ran("go", str(text), DONE_ANSWER, items))
 
 
 def _agree(first: str, one: Outcome, second: str, other: Outcome) -> None:

@@ -4,14 +4,18 @@ from __future__ import annotations
 
 import io
 import re
-from typing import Optional
+from typing import Optional, Sequence
 
+from vga_report.faults import FAULT
 from vga_report.report import Report
 from vga_report.trouble import Trouble
+from vga_report.whole import Item, steps_and_blocks, steps_meant
 
+from .answers import is_right_form
 from .running import Outcome
 
-DONE, FAULT, WORDS = 0, 1, 2
+DONE, FAULTY, WORDS = 0, 1, 2
+DONE_ANSWER = "done"
 # Each fault's name, and whether a place stands behind it.
 FAULTS = (
     ("F1 FontSize", False),
@@ -24,6 +28,7 @@ FAULTS = (
     ("F8 ReadFault", False),
     ("F9 WriteFault", False),
     ("F10 OutOfMemory", False),
+    ("F11 TooMany", True),
 )
 WRITE_FAULT, OUT_OF_MEMORY = "F9 WriteFault", "F10 OutOfMemory"
 LINE = re.compile(
@@ -33,7 +38,7 @@ LINE = re.compile(
 
 def answer_of(outcome: Outcome) -> str:
     """The fault that ended a run, or `done`. The run must be one that `trouble_of` finds nothing wrong with."""
-    return "done" if outcome.status == DONE else outcome.said.decode("ascii")[len("vga: "):-1]
+    return DONE_ANSWER if outcome.status == DONE else outcome.said.decode("ascii")[len("vga: "):-1]
 
 
 def _shown(data: bytes) -> str:
@@ -41,41 +46,57 @@ def _shown(data: bytes) -> str:
     return repr(data[:100].decode("ascii", "backslashreplace"))
 
 
-def _trouble_of_report(report: bytes) -> Optional[str]:
-    """Why some bytes are no report, or not the whole lines of one."""
+def _trouble_of_report(report: bytes, items: Sequence[Item], is_whole: bool) -> Optional[str]:
+    """Why some bytes are no report of these steps, or not the whole lines of one's front."""
+    stream = io.BufferedReader(io.BytesIO(report))  # type: ignore[arg-type]
+    meant = steps_meant(items)
     try:
-        for step in Report(io.BufferedReader(io.BytesIO(report)), "report").steps():  # type: ignore[arg-type]
-            if step.number == 0:
+        for answered in Report(stream, "report").steps():
+            if answered.number == 0:
                 return "a fault stands on standard output"
+            step = next(meant, None)
+            if step is None:
+                return f"step {answered.number} is answered, and the script has none"
+            if not is_right_form(step, answered):
+                return f"step {answered.number}, {step.name}, answers {answered.answer[:60]!r}"
     except Trouble as trouble:
         return str(trouble)
-    return None
+    return "the report ends before the script" if is_whole and next(meant, None) else None
 
 
-def trouble_of(outcome: Outcome, is_report: bool) -> Optional[str]:
-    """What is wrong with a run, if anything is. What it writes is a report, or else has no form that is judged here."""
+def meant_by(data: bytes) -> tuple[str, list[Item]]:
+    """What the program is to answer to a script or a text, a fault or `done`, and the steps that it means."""
+    try:
+        return DONE_ANSWER, steps_and_blocks(data, "input")
+    except Trouble as trouble:
+        found = FAULT.search(str(trouble))
+        return found[0] if found else str(trouble), []
+
+
+def trouble_of(outcome: Outcome, items: Optional[Sequence[Item]]) -> Optional[str]:
+    """What is wrong with a run, if anything is. What it writes is the report of these steps, or has no form here."""
     if outcome.status is None:
         return "it has not ended in time"
     if outcome.status < 0:
         return f"signal {-outcome.status} has ended it"
     if outcome.status == WORDS:
         return f"its words are refused: {_shown(outcome.said)}"
-    if outcome.status not in (DONE, FAULT):
+    if outcome.status not in (DONE, FAULTY):
         return f"status {outcome.status}: {_shown(outcome.said)}"
     if outcome.status == DONE:
         if outcome.said:
             return f"status 0, and it says {_shown(outcome.said)}"
-        return _trouble_of_report(outcome.report) if is_report else None
-    return _trouble_of_fault(outcome, is_report)
+        return None if items is None else _trouble_of_report(outcome.report, items, is_whole=True)
+    return _trouble_of_fault(outcome, items)
 
 
-def _trouble_of_fault(outcome: Outcome, is_report: bool) -> Optional[str]:
+def _trouble_of_fault(outcome: Outcome, items: Optional[Sequence[Item]]) -> Optional[str]:
     """What is wrong with a run that ended with status 1."""
     line = LINE.fullmatch(outcome.said.decode("ascii", "backslashreplace"))
     if line is None:
         return f"status 1, and no fault: {_shown(outcome.said)}"
     if line[1] == WRITE_FAULT:
         return None if outcome.is_report_full else "F9 WriteFault, and each write was taken"
-    if line[1] == OUT_OF_MEMORY and is_report:
-        return _trouble_of_report(outcome.report)
+    if line[1] == OUT_OF_MEMORY and items is not None:
+        return _trouble_of_report(outcome.report, items, is_whole=False)
     return f"{len(outcome.report)} bytes are written before {line[1]}" if outcome.report else None

@@ -20,8 +20,10 @@ INT, ADVANCE, FRAME, SHOW = 0x09, 0x0A, 0x0B, 0x0C
 # What a block of steps begins and ends with, and how often one that has steps is taken.
 REPEAT, END = 0x0D, 0x0E
 COUNTS = (1, 2, 3, 7)
+# A block of so many short steps means more than a script may, if it is taken as often as can be.
+MOST_COUNT, TOO_MANY = 0xFFFF, 257
 # What `show` may be followed by: its kind, and the fields that stand behind it.
-LOOKS = (("regs", ""), ("dac", "B"), ("beam", ""), ("latches", ""), ("plane", "BHH"), ("bda", ""))
+LOOKS = (("regs", ""), ("dac", "B"), ("beam", ""), ("latches", ""), ("plane", "BHH"), ("bda", ""), ("cells", ""))
 
 BYTES = (0x00, 0xFF, 0x01, 0x80, 0x55, 0x20)
 PORTS = (0x3C0, 0x3C0, 0x3C2, 0x3C4, 0x3C5, 0x3C6, 0x3C7, 0x3C8, 0x3C9, 0x3CE, 0x3CF, 0x3D4, 0x3D5, 0x3DA, 0x3B4, 0x3BA)
@@ -108,6 +110,8 @@ def step(random: Random) -> tuple[bytes, str]:
 def block(random: Random) -> tuple[bytes, str]:
     """A block of a few steps that is taken a few times, or of none that is taken often, as bytes and as lines."""
     steps = [step(random) for _ in range(random.randrange(5))]
-    count = random.choice(COUNTS) if steps else random.randint(1, 0xFFFF)
+    count = random.choice(COUNTS) if steps else random.randint(1, MOST_COUNT)
+    if random.random() < 0.03:
+        steps, count = [(bytes([FRAME]), "frame")] * TOO_MANY, MOST_COUNT
     data = struct.pack("<BH", REPEAT, count) + b"".join(data for data, _ in steps) + bytes([END])
     return data, "\n".join([f"repeat {count}", *(line for _, line in steps), "end"])

@@ -4,16 +4,19 @@ from __future__ import annotations
 
 import argparse
 import os
-import sys
 from pathlib import Path
 from typing import Optional, Sequence
 
+from vga_report import cli
+from vga_report.progress import Progress
+from vga_report.streams import check_folder, to_read
 from vga_report.trouble import Trouble
 
 from .making import MOVING, Place, make_library
+from .telling import phases
 from .toolchain import ARCHIVE, BACKENDS, kit_archive, proved_archive
 
-DONE, TROUBLE, INTERRUPTED = 0, 2, 130
+DONE = 0
 # Where files go that a package names no other place for.
 USUAL_PREFIX = "/usr/local"
 
@@ -24,7 +27,7 @@ def _add_archive(parser: argparse.ArgumentParser) -> None:
         help="the compiler: llvm, or rattle, which is written in Rattle; else llvm",
     )
     parser.add_argument(
-        "--archive", type=Path, metavar="FILE",
+        "--archive", type=to_read, metavar="FILE",
         help=f"an archive of the crate that was built already, as {ARCHIVE.name}; else `rt lib` proves and builds it",
     )
 
@@ -50,9 +53,15 @@ def _parser() -> argparse.ArgumentParser:
 
 def _lay(words: argparse.Namespace, place: Place, prefix: str) -> None:
     """Makes the library, and tells its files."""
-    if words.archive is not None and not words.archive.is_file():
-        raise Trouble("there is no such file", str(words.archive))
-    archive = words.archive or proved_archive(words.backend)
+    if words.archive is not None and not os.path.isfile(words.archive):
+        raise Trouble("there is no such file", words.archive)
+    # What is wrong with the folders is told before the long work.
+    for name in ("include", place.library_folder, "share"):
+        check_folder(place.folder(name))
+    progress = Progress()
+    heard = phases(progress)("proving and building the library")
+    archive = proved_archive(words.backend, heard) if words.archive is None else Path(words.archive)
+    progress.clear()
     for path in make_library(archive, kit_archive(), place, prefix):
         print(path)
 
@@ -73,16 +82,10 @@ def _install(words: argparse.Namespace) -> None:
 
 def main(words: Optional[Sequence[str]] = None) -> int:
     """Runs a command line, and answers its exit status."""
-    parsed = _parser().parse_args(words)
-    try:
+
+    def work() -> int:
+        parsed = _parser().parse_args(words)
         parsed.job(parsed)
-        sys.stdout.flush()
         return DONE
-    except Trouble as trouble:
-        reason = str(trouble)
-    except OSError as error:
-        reason = f"{'standard output' if error.filename is None else error.filename}: {error.strerror}"
-    except KeyboardInterrupt:
-        return INTERRUPTED
-    print(f"vga-library: {reason}", file=sys.stderr)
-    return TROUBLE
+
+    return cli.run("vga-library", work)

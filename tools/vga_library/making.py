@@ -7,6 +7,8 @@ import tempfile
 from pathlib import Path, PurePosixPath
 from typing import NamedTuple
 
+from vga_report.streams import refuse_input
+
 from .header import HEADER, TOP, Version, version
 from .running import run
 from .toolchain import compiler
@@ -73,22 +75,36 @@ def make_shared(whole: Path, folder: Path, told: Version) -> None:
         (folder / link).symlink_to(file)
 
 
+def _lay(source: Path, place: Path) -> None:
+    """Lays a file or a link, in the place of what has its name."""
+    place.unlink(missing_ok=True)
+    shutil.copyfile(source, place, follow_symlinks=False)
+
+
 def make_library(archive: Path, kit: Path, place: Place, prefix: str) -> list[Path]:
     """Lays header, libraries, fonts, and the file for `pkg-config`, which names this prefix. Answers what was laid."""
     told = version()
     include, libraries = place.folder("include"), place.folder(place.library_folder)
     packages, share = libraries / "pkgconfig", place.folder(f"share/{NAME}")
-    for folder in (include, libraries, packages, share):
-        folder.mkdir(parents=True, exist_ok=True)
-    shutil.copyfile(HEADER, include / HEADER.name)
-    shutil.copyfile(FONTS, share / FONTS.name)
     with tempfile.TemporaryDirectory(prefix="vga-library-") as name:
+        made = Path(name) / "lib"
+        made.mkdir()
         whole = joined_object(archive, kit, Path(name))
-        make_archive(whole, libraries / f"lib{NAME}.a")
-        make_shared(whole, libraries, told)
-    (packages / f"{NAME}.pc").write_text(package_text(prefix, place.library_folder, told), "ascii")
-    laid = sorted(libraries.glob(f"lib{NAME}.*"))
-    return [include / HEADER.name, *laid, packages / f"{NAME}.pc", share / FONTS.name]
+        make_archive(whole, made / f"lib{NAME}.a")
+        make_shared(whole, made, told)
+        package = Path(name) / f"{NAME}.pc"
+        package.write_text(package_text(prefix, place.library_folder, told), "ascii")
+        laid = {
+            include / HEADER.name: HEADER, **{libraries / path.name: path for path in sorted(made.iterdir())},
+            packages / package.name: package, share / FONTS.name: FONTS,
+        }
+        for path in laid:
+            refuse_input(str(path))
+        # All is made now, so that nothing is laid where something can't be made.
+        for path, source in laid.items():
+            path.parent.mkdir(parents=True, exist_ok=True)
+            _lay(source, path)
+    return list(laid)
 
 
 def fonts_file() -> Path:

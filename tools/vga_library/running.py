@@ -1,4 +1,7 @@
-"""Runs other programs to their end, each in a process group that ends with this program."""
+"""Runs other programs to their end, each in a process group that ends with this program.
+
+Their temporary files lie in a folder of their own, which goes with them.
+"""
 
 from __future__ import annotations
 
@@ -7,6 +10,7 @@ import selectors
 import shutil
 import signal
 import subprocess
+import tempfile
 import time
 from pathlib import Path
 from typing import Callable, Mapping, Optional, Sequence
@@ -111,11 +115,10 @@ def run_both(
     if shutil.which(name) is None:
         package = PACKAGES.get(name)
         raise Trouble("it is not in the path" + (f": install the package {package}" if package else ""), name)
-    output, errors = _Stream(), _Stream()
-    pipe, environ = subprocess.PIPE, None if environment is None else {**os.environ, **environment}
-    with subprocess.Popen(
-        [str(word) for word in words], cwd=folder, env=environ, stdin=subprocess.DEVNULL, stdout=pipe,
-        stderr=pipe, start_new_session=True,
+    output, errors, pipe = _Stream(), _Stream(), subprocess.PIPE
+    with tempfile.TemporaryDirectory(prefix="vga-tool-") as temporary, subprocess.Popen(
+        [str(word) for word in words], cwd=folder, env={**os.environ, "TMPDIR": temporary, **(environment or {})},
+        stdin=subprocess.DEVNULL, stdout=pipe, stderr=pipe, start_new_session=True,
     ) as process:
         try:
             _listen(process, output, errors, _heard_until(name, seconds, heard))
@@ -128,6 +131,26 @@ def run_both(
         said = output.text() + errors.text()
         raise Failed(f"it ended with status {status}\n  {line}\n{said[-MOST_SAID:]}", name)
     return output.text(), errors.text()
+
+
+def captured(words: Sequence[str | Path], folder: Optional[Path] = None) -> subprocess.CompletedProcess[bytes]:
+    """Runs a program to its end, and answers its status and all that it writes. Its group ends with this program."""
+    name = str(words[0])
+    with tempfile.TemporaryDirectory(prefix="vga-tool-") as temporary:
+        try:
+            process = subprocess.Popen(
+                [str(word) for word in words], cwd=folder, env={**os.environ, "TMPDIR": temporary},
+                stdin=subprocess.DEVNULL, stdout=subprocess.PIPE, stderr=subprocess.PIPE, start_new_session=True,
+            )
+        except OSError as error:
+            raise Trouble(error.strerror or str(error), name) from error
+        with process:
+            try:
+                output, errors = process.communicate()
+            except BaseException:
+                _end(process)
+                raise
+    return subprocess.CompletedProcess(words, process.returncode, output, errors)
 
 
 def run(

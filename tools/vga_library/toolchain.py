@@ -4,9 +4,10 @@ from __future__ import annotations
 
 import os
 from pathlib import Path
+from typing import Optional
 
 from .header import TOP
-from .running import run
+from .running import Hearer, run
 
 CRATE = TOP / "crates" / "vga_c"
 ARCHIVE = CRATE / "out" / "libvga_c.a"
@@ -28,8 +29,8 @@ def kit_archive() -> Path:
     return kit_folder() / "c" / "liblibc_c.a"
 
 
-def proved_archive(backend: str) -> Path:
+def proved_archive(backend: str, heard: Optional[Hearer] = None) -> Path:
     """The crate's archive, proved and built by one of the two compilers. What is kept of its proof makes it quick."""
     flags = [] if backend == BACKENDS[0] else ["--backend", backend]
-    run(["rt", "lib", *flags], CRATE)
+    run(["rt", "lib", *flags], CRATE, heard)
     return ARCHIVE

@@ -2,9 +2,12 @@
 
 from __future__ import annotations
 
+import argparse
 import sys
 from pathlib import Path
-from typing import NamedTuple, Sequence
+from typing import NamedTuple, Optional, Sequence
+
+from vga_report import cli
 
 from .judging import Wrong, judge_calls, judge_program
 from .program import NoSuchMain, growing_program
@@ -82,8 +85,8 @@ def refuse_program() -> str:
     return "growths of vga refused: " + ", ".join(f"{name} {count}" for name, count in counts.items())
 
 
-def main() -> int:
-    """Runs both, and answers the exit status."""
+def _refuse() -> int:
+    """Runs both."""
     try:
         print(refuse_calls(), flush=True)
         print(refuse_program())
@@ -91,3 +94,22 @@ def main() -> int:
         print(f"vga-memory: {wrong}", file=sys.stderr)
         return SOMETHING_WRONG
     return NOTHING_WRONG
+
+
+def _parser() -> argparse.ArgumentParser:
+    return argparse.ArgumentParser(
+        prog="vga-memory",
+        description="Refuses each growth of memory in turn, and judges what the calls and the program then answer.",
+        epilog="It takes minutes, and needs `rt`. tools/README.md tells more. Exit status: 0 nothing is wrong; "
+        "1 something is; 2 the work can't be done.",
+    )
+
+
+def main(words: Optional[Sequence[str]] = None) -> int:
+    """Runs a command line, and answers its exit status."""
+
+    def work() -> int:
+        _parser().parse_args(words)
+        return _refuse()
+
+    return cli.run("vga-memory", work)

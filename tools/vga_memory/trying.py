@@ -3,11 +3,12 @@
 from __future__ import annotations
 
 import re
-import subprocess
 import tempfile
 from dataclasses import dataclass
 from pathlib import Path
 from typing import Mapping, NamedTuple, Sequence
+
+from vga_library.running import captured
 
 # What stands before the output of a case, and what behind what it said.
 SECTION = re.compile(rb"^== (\S+)\n", re.M)
@@ -47,7 +48,7 @@ def try_cases(
             (folder / f"{case}.args").write_text("".join(f"{word}\n" for word in words))
         files = [word for file, path in data.items() for word in ("--data", f"{file}={path}")]
         command = ["rt", "try", "--fail-alloc", str(growth), *files, "--cases", str(folder), "--"]
-        done = subprocess.run(command, cwd=crate, stdin=subprocess.DEVNULL, capture_output=True)
+        done = captured(command, crate)
     answers = answers_of(done.stdout, done.stderr.decode("utf-8", "replace"))
     if answers.keys() != cases.keys():
         raise TryFailed(done.stderr.decode("utf-8", "replace")[-2000:])

@@ -3,22 +3,22 @@
 from __future__ import annotations
 
 import argparse
-import sys
 from pathlib import Path
 from typing import Optional, Sequence
 
+from vga_library.telling import phases
+from vga_report import cli
 from vga_report.processes import MEBIBYTE
 from vga_report.progress import Progress
-from vga_report.streams import STANDARD, reading, write_file
+from vga_report.streams import STANDARD, check_file, reading, to_read, write_file
 from vga_report.trouble import Trouble
 from vga_report.words import number_to
 
 from .making import made_modules
 from .page import MOST_BYTES, make_page, read_sources
-from .telling import phases
 from .wasm import MOST_MODULE, check_module
 
-DONE, TROUBLE, INTERRUPTED = 0, 2, 130
+DONE = 0
 MOST_MEBIBYTES = 4096
 
 
@@ -50,7 +50,7 @@ def _parser() -> argparse.ArgumentParser:
     )
     command.add_argument("file", metavar="FILE", help="the page, page/zaklimot.html in the repository")
     command.add_argument(
-        "--module", metavar="FILE", help="a module that was made already; else it is made"
+        "--module", type=to_read, metavar="FILE", help="a module that was made already; else it is made"
     )
     _add_proof(command)
     command.set_defaults(job=_make, memory=None)
@@ -106,22 +106,23 @@ def _module(words: argparse.Namespace, progress: Progress) -> None:
     _write(words.file, module, check_module(module))
 
 
+def _check_words(words: argparse.Namespace) -> None:
+    """Ends the work where words contradict one another."""
+    if words.proof is not None and not words.gated:
+        raise Trouble("--proof keeps a proof of --gated")
+    if words.module is not None and words.gated:
+        raise Trouble("--module takes a module as it is, so --gated proves nothing")
+    check_file(words.file)
+
+
 def main(given: Optional[Sequence[str]] = None) -> int:
     """Runs a command line, and answers its exit status."""
-    words = _parser().parse_args(given)
-    try:
-        if words.proof is not None and not words.gated:
-            raise Trouble("--proof keeps a proof of --gated")
-        if words.module is not None and words.gated:
-            raise Trouble("--module takes a module as it is, so --gated proves nothing")
-        words.job(words, Progress())
-        sys.stdout.flush()
+    progress = Progress()
+
+    def work() -> int:
+        words = _parser().parse_args(given)
+        _check_words(words)
+        words.job(words, progress)
         return DONE
-    except Trouble as trouble:
-        reason = str(trouble)
-    except OSError as error:
-        reason = f"{'standard output' if error.filename is None else error.filename}: {error.strerror}"
-    except KeyboardInterrupt:
-        return INTERRUPTED
-    print(f"vga-page: {reason}", file=sys.stderr)
-    return TROUBLE
+
+    return cli.run("vga-page", work, progress)

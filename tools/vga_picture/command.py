@@ -7,11 +7,14 @@ import os
 import sys
 from typing import Optional, Sequence
 
-from vga_report.output import AGREED, TROUBLE, name_of, refuse_twice
+from vga_report import cli
+from vga_report.output import AGREED, name_of, refuse_twice
+from vga_report.images import image_bytes
 from vga_report.png import Shape, write_png
 from vga_report.program import FONTS
 from vga_report.progress import Progress
-from vga_report.streams import STANDARD, reading, refuse_input, writing
+from vga_report.script import MOST_BYTES
+from vga_report.streams import STANDARD, read_at_most, refuse_input, to_read, writing
 from vga_report.trouble import Trouble
 
 from .cells import font_of
@@ -21,8 +24,6 @@ from .fitting import Fit, fitted, read_image
 from .mode import MODES, Kind
 from .steps import write_script
 
-# What a shell says of programs that a closed pipe or the user has ended.
-PIPE_CLOSED, INTERRUPTED = 141, 130
 WAYS = {
     Fewer.NEAREST: "the nearest", Fewer.FLOYD: "the dither of Floyd and Steinberg", Fewer.ORDERED: "an ordered dither",
 }
@@ -34,7 +35,7 @@ def _parser() -> argparse.ArgumentParser:
     )
     commands = parser.add_subparsers(required=True, metavar="COMMAND")
     command = commands.add_parser("script", help="makes a script that draws an image")
-    command.add_argument("image", metavar="IMAGE", help="a PNG, or a PPM of the kind P6")
+    command.add_argument("image", type=to_read, metavar="IMAGE", help="a PNG, or a PPM of the kind P6")
     command.add_argument("script", metavar="SCRIPT", help="the script")
     command.add_argument("--mode", required=True, type=str.upper, choices=list(MODES), help="the mode; 3 is text")
     command.add_argument("--bytes", action="store_true", help="the script as bytes; else as text")
@@ -55,7 +56,9 @@ def _parser() -> argparse.ArgumentParser:
         "--dither", dest="fewer", choices=[Fewer.FLOYD, Fewer.ORDERED], type=Fewer, metavar="floyd|ordered",
         help="the same, but they are mixed: by Floyd and Steinberg, or by a pattern of four by four dots",
     )
-    command.add_argument("--fonts", default=str(FONTS), metavar="FILE", help="the font file of text; else the project's")
+    command.add_argument(
+        "--fonts", type=to_read, default=str(FONTS), metavar="FILE", help="the font file of text; else the project's"
+    )
     command.add_argument("--picture", metavar="FILE", help="the picture that the script is to show, as PNG")
     command.set_defaults(job=_script, fit=Fit.EXACT, fewer=Fewer.REFUSED)
     return parser
@@ -67,10 +70,8 @@ def _drawn(words: argparse.Namespace, progress: Progress) -> tuple[Drawn, str]:
     font = b""
     if mode.kind is Kind.CELLS:
         refuse_twice(words.image, words.fonts)
-        with reading(words.fonts) as stream:
-            font = font_of(stream.read(), name_of(words.fonts))
-    with reading(words.image) as stream:
-        image = read_image(stream.read(), name)
+        font = font_of(read_at_most(words.fonts, MOST_BYTES), name_of(words.fonts))
+    image = read_image(image_bytes(words.image), name)
     image, size = fitted(image, mode, words.fit, name)
     made, count = indexed(six_bits(image), len(mode.entries), words.fewer, name)
     told = f"{size}, {len(made.colours)} colour{'s' * (len(made.colours) != 1)}"
@@ -93,48 +94,26 @@ def _script(words: argparse.Namespace, progress: Progress) -> int:
     drawn, told = _drawn(words, progress)
     progress.clear()
     if words.picture is not None:
-        # Told before the script is written.
+        # Told before the script goes to standard output.
         refuse_input(words.picture)
+    # The script takes its place once the picture has taken its own, so that neither is written alone.
     with writing(words.script) as stream:
         figures = write_script(stream, drawn.parts, drawn.answer, not words.bytes)
-    if words.picture is not None:
-        with writing(words.picture) as stream:
-            write_png(stream, drawn.picture, Shape())
+        if words.picture is not None:
+            with writing(words.picture) as picture:
+                write_png(picture, drawn.picture, Shape())
     line = f"mode {words.mode}: {told}{drawn.told}; {figures.line()}"
     print(line, file=sys.stderr if STANDARD in (words.script, words.picture) else sys.stdout)
     return AGREED
 
 
-def _end(words: argparse.Namespace) -> int:
-    """Does the command's work; what ends it is told on standard error."""
-    progress = Progress()
-    try:
-        status: int = words.job(words, progress)
-        sys.stdout.flush()
-        return status
-    except BrokenPipeError:
-        raise
-    except Trouble as trouble:
-        reason = str(trouble)
-    except OSError as error:
-        reason = f"{'standard output' if error.filename is None else error.filename}: {error.strerror}"
-    progress.clear()
-    print(f"vga-picture: {reason}", file=sys.stderr)
-    return TROUBLE
-
-
 def main(words: Optional[Sequence[str]] = None) -> int:
     """Runs a command line, and answers its exit status."""
-    # What is said where nobody can hear it would else go to standard output.
-    sys.stderr = sys.stderr or open(os.devnull, "w", encoding="ascii")
-    if sys.stdout is None:
-        print("vga-picture: standard output: it is closed", file=sys.stderr)
-        return TROUBLE
-    try:
-        return _end(_parser().parse_args(words))
-    except BrokenPipeError:
-        # What can't be written would fail once more when Python ends.
-        os.dup2(os.open(os.devnull, os.O_WRONLY), sys.stdout.fileno())
-        return PIPE_CLOSED
-    except KeyboardInterrupt:
-        return INTERRUPTED
+    progress = Progress()
+
+    def work() -> int:
+        parsed = _parser().parse_args(words)
+        status: int = parsed.job(parsed, progress)
+        return status
+
+    return cli.run("vga-picture", work, progress)

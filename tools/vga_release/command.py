@@ -3,21 +3,24 @@
 from __future__ import annotations
 
 import argparse
-import sys
+import os
 from pathlib import Path
 from typing import Optional, Sequence
 
 from vga_library.header import TOP, version
+from vga_library.running import Hearer, run
+from vga_library.telling import phases
 from vga_library.toolchain import BACKENDS, proved_archive
-from vga_report.streams import writing
+from vga_report import cli
+from vga_report.progress import Progress
+from vga_report.streams import check_folder, to_read, writing
 from vga_report.trouble import Trouble
 
 from .commit import clean_commit
 from .gathering import release_entries
 from .packing import pack
-from .running import output_of
 
-DONE, TROUBLE, INTERRUPTED = 0, 2, 130
+DONE = 0
 PROGRAM = TOP / "crates" / "vga"
 MACHINE = "x86_64-linux"
 
@@ -25,8 +28,8 @@ MACHINE = "x86_64-linux"
 def _parser() -> argparse.ArgumentParser:
     parser = argparse.ArgumentParser(prog="vga-release", description="Packs a release of what is checked out.")
     parser.add_argument("folder", type=Path, metavar="FOLDER", help="where the archive goes")
-    parser.add_argument("--program", type=Path, metavar="FILE", help="the program, built already; else `rt run` proves and builds it")
-    parser.add_argument("--archive", type=Path, metavar="FILE", help="the same of the library; else `rt lib` does")
+    parser.add_argument("--program", type=to_read, metavar="FILE", help="the program, built already; else `rt run` proves and builds it")
+    parser.add_argument("--archive", type=to_read, metavar="FILE", help="the same of the library; else `rt lib` does")
     return parser
 
 
@@ -35,17 +38,24 @@ def release_name() -> str:
     return f"zaklimot-{version()}-{MACHINE}"
 
 
-def _proved_program() -> Path:
+def _proved_program(heard: Hearer) -> Path:
     """The program, proved and built. What is kept of its proof makes it quick."""
-    output_of(["rt", "run", "--", "--help"], PROGRAM)
+    run(["rt", "run", "--", "--help"], PROGRAM, heard)
     return PROGRAM / "out" / "vga"
 
 
-def _release(words: argparse.Namespace) -> None:
+def _release(words: argparse.Namespace, progress: Progress) -> None:
     """Makes the archive, and tells its name."""
+    for given in (words.program, words.archive):
+        if given is not None and not os.path.isfile(given):
+            raise Trouble("there is no such file", given)
+    check_folder(words.folder)
     commit, name = clean_commit(), release_name()
-    program = words.program or _proved_program()
-    entries = release_entries(commit, program, words.archive or proved_archive(BACKENDS[0]))
+    tell = phases(progress)
+    program = Path(words.program or _proved_program(tell("proving and building the program")))
+    archive = Path(words.archive or proved_archive(BACKENDS[0], tell("proving and building the library")))
+    progress.clear()
+    entries = release_entries(commit, program, archive)
     words.folder.mkdir(parents=True, exist_ok=True)
     path = words.folder / f"{name}.tar.gz"
     with writing(str(path)) as stream:
@@ -55,16 +65,11 @@ def _release(words: argparse.Namespace) -> None:
 
 def main(given: Optional[Sequence[str]] = None) -> int:
     """Runs a command line, and answers its exit status."""
-    words = _parser().parse_args(given)
-    try:
-        _release(words)
-        sys.stdout.flush()
+
+    progress = Progress()
+
+    def work() -> int:
+        _release(_parser().parse_args(given), progress)
         return DONE
-    except Trouble as trouble:
-        reason = str(trouble)
-    except OSError as error:
-        reason = f"{'standard output' if error.filename is None else error.filename}: {error.strerror}"
-    except KeyboardInterrupt:
-        return INTERRUPTED
-    print(f"vga-release: {reason}", file=sys.stderr)
-    return TROUBLE
+
+    return cli.run("vga-release", work, progress)

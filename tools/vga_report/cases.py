@@ -10,8 +10,8 @@ from typing import Iterable, Iterator, Optional, Sequence
 
 from .expected import Expected
 from .report import FAULT, REFUSAL, VALUE, Step
-from .script import steps_of
-from .streams import STANDARD, reading, shown_name
+from .script import MOST_BYTES, steps_of
+from .streams import STANDARD, bytes_of, read_at_most, shown_name
 from .trouble import Trouble
 
 CASE = re.compile(r"(?P<bytes>bytes )?(?P<name>[^ ]+)( until (?P<steps>[0-9]+))?")
@@ -57,7 +57,7 @@ class Case:
 
     def rule(self) -> str:
         """The rule that it shows: the first line of its first comment, or else its name."""
-        for line in self.source.read_bytes().splitlines():
+        for line in bytes_of(self.source, MOST_BYTES).splitlines():
             _, mark, comment = line.partition(b";")
             text = comment.decode("utf-8", "replace").strip()
             if mark and text:
@@ -66,10 +66,10 @@ class Case:
 
     def script(self) -> bytes:
         """Its whole script: text, with what stands in front of it, or bytes."""
-        source = self.source.read_bytes()
+        source = bytes_of(self.source, MOST_BYTES)
         if self.is_bytes:
             return _bytes_of(source, self.source)
-        return (self.front.read_bytes() if self.front else b"") + source
+        return (bytes_of(self.front, MOST_BYTES) if self.front else b"") + source
 
     def place_of(self, number: int) -> str:
         """A step with the file and the line where it stands; empty where it stands in no text."""
@@ -77,7 +77,7 @@ class Case:
             return ""
         behind = number
         for file in (self.front, self.source):
-            steps = steps_of(file.read_bytes()) if file else []
+            steps = steps_of(bytes_of(file, MOST_BYTES)) if file else []
             if behind <= len(steps):
                 step = steps[behind - 1]
                 return printable(f"`{step.words[:MOST_WORDS]}`, {file.relative_to(self.folder)}:{step.number}")
@@ -175,8 +175,7 @@ def _front_of(text: bytes, steps: int) -> bytes:
 def read_cases(path: str) -> list[Case]:
     """The cases of a list, but for those whose expected report is wrong on purpose."""
     folder = Path(".") if path == STANDARD else Path(path).parent
-    with reading(path) as stream:
-        lines = stream.read().decode("utf-8", "replace").splitlines()
+    lines = read_at_most(path, MOST_BYTES).decode("utf-8", "replace").splitlines()
     return list(_cases(lines, folder.absolute(), shown_name(path, "standard input")))
 
 

@@ -13,7 +13,7 @@ from urllib.parse import quote
 from .faults import FONT_BYTES, MOST_BYTES
 from .program import TOP
 from .script import is_bytes
-from .streams import STANDARD, reading
+from .streams import STANDARD, read_at_most
 from .trouble import Trouble
 
 PAGE = TOP / "page" / "zaklimot.html"
@@ -35,15 +35,6 @@ def page_data(page: str) -> dict[str, Any]:
     if len(found) != 1:
         raise Trouble("it is not the page that runs scripts", PAGE.name)
     data: dict[str, Any] = json.loads(found[0])
-    return data
-
-
-def read_at_most(path: str, most: int) -> bytes:
-    """The bytes of a file, which may not have more than so many."""
-    with reading(path, is_drained=False) as stream:
-        data = stream.read(most + 1)
-    if len(data) > most:
-        raise Trouble(f"it has more than {most:,} bytes", path)
     return data
 
 

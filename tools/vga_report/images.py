@@ -10,9 +10,12 @@ from typing import Iterator, Sequence
 
 from .picture import Picture
 from .png import MOST_DOTS, SIGNATURE
+from .streams import read_at_most
 from .trouble import Trouble
 
 PPM = re.compile(rb"P6(?:\s|#[^\n]*\n)+(\d{1,7})(?:\s|#[^\n]*\n)+(\d{1,7})(?:\s|#[^\n]*\n)+(\d{1,5})\s")
+# An image's file has at most so many bytes.
+MOST_BYTES = 1 << 26
 # Samples of a dot, by the colour type of a PNG, and the colour type whose dots name entries of a palette.
 SAMPLES, PALETTE = {0: 1, 2: 3, 3: 1, 4: 2, 6: 4}, 3
 
@@ -51,6 +54,11 @@ class Image:
         """The picture of six bits a component, of which so many low bits are taken off."""
         table = bytes(min(63, value >> shift) for value in range(256))
         return Picture.of_dots(self.width, self.height, b"".join(self.rows).translate(table))
+
+
+def image_bytes(path: str) -> bytes:
+    """The bytes of an image's file."""
+    return read_at_most(path, MOST_BYTES)
 
 
 def image_of_picture(picture: Picture) -> Image:

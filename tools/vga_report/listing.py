@@ -2,22 +2,30 @@
 
 from __future__ import annotations
 
+import io
 import re
-from itertools import zip_longest
+import select
+import time
+from itertools import islice, zip_longest
 from pathlib import Path
-from typing import Iterator, NamedTuple, Optional, Sequence, Union
+from typing import BinaryIO, Iterator, NamedTuple, Optional, Union
 
 from .expecting import answer_of, is_as_expected
 from .faults import Files, explained
+from .processes import IS_POSIX
 from .program import Built, Tried
 from .progress import Progress
 from .report import REFUSAL, VALUE, Report, Step
-from .script import Line, is_bytes, steps_of
+from .script import Line, count_in, is_bytes, steps_in
 from .trouble import Trouble
 
 # What a stopped run shows behind the last step.
 LOOKS = ("show regs", "show beam", "show latches", "show bda")
 HEADING = "step as understood"
+# Seconds between two looks whether there is an answer.
+PAUSE = 0.2
+# A script of bytes with no step has so many.
+EMPTY = 5
 # The widest column of steps; what is longer has its end cut off.
 MOST_WORDS = 47
 RANGE = re.compile(r"([0-9]{1,10})(?:-([0-9]{1,10}))?")
@@ -31,7 +39,11 @@ class Row(NamedTuple):
     words: str
     line: Optional[int] = None
     expected: Optional[str] = None
-    name: str = ""
+
+    @property
+    def name(self) -> str:
+        """What the step does: its first word."""
+        return self.words.partition(" ")[0].lower()
 
     @property
     def is_wrong(self) -> bool:
@@ -75,56 +87,97 @@ class Choice:
 
 
 class Script:
-    """A script that is run: its file, and its steps as they stand in it and as the program understands them."""
+    """A script that is run: its file, and its steps as they stand in it and as the program understands them.
 
-    def __init__(self, path: str, data: bytes, program: Union[Built, Tried], shown: str) -> None:
+    The steps are read anew each time from the text and from what the program prints, so that memory holds none of them.
+    """
+
+    def __init__(
+        self, path: str, data: bytes, program: Union[Built, Tried], shown: str, printed: BinaryIO
+    ) -> None:
         self.path = Path(path)
         self.shown = shown
         self.is_bytes = is_bytes(data)
-        printed = "\n".join(program.understood(self.path, self.is_bytes))
-        self.understood = [line.words for line in steps_of(printed.encode("ascii", "replace"))]
-        self.lines: Sequence[Line] = () if self.is_bytes else steps_of(data)
-        if self.lines and len(self.lines) != len(self.understood):
-            # Without a line for each step there is no telling which is which; the words are then those of the text.
-            self.understood = [line.words for line in self.lines]
+        self._text = None if self.is_bytes else io.BytesIO(data)
+        program.print_steps(self.path, self.is_bytes, printed)
+        count = count_in(printed)
+        meant = count if self._text is None else count_in(self._text)
+        # Without a line for each step there is no telling which is which; the words are then those of the text.
+        self._printed = printed if count == meant else None
+        # How many steps it means; None where that isn't known, of bytes that the program doesn't print.
+        self.count: Optional[int] = meant if meant or not self.is_bytes or len(data) <= EMPTY else None
+        self.width = min(max(len(HEADING), self._longest()), MOST_WORDS)
 
-    @property
-    def width(self) -> int:
-        """The width of the column of steps."""
-        return min(max(map(len, [HEADING, *self.understood])), MOST_WORDS)
+    def _longest(self) -> int:
+        """The length of the longest step."""
+        if self._printed is None:
+            assert self._text is not None
+            return max((len(line.words) for line in steps_in(self._text)), default=0)
+        self._printed.seek(0)
+        return max(map(len, self._printed), default=1) - 1
+
+    def _lines(self) -> Iterator[tuple[str, Line]]:
+        """The steps: the words of each, and its line."""
+        printed = None if self._printed is None else steps_in(self._printed)
+        if self._text is None:
+            assert printed is not None
+            return ((line.words, Line(at, line.words, None)) for at, line in enumerate(printed, 1))
+        lines = steps_in(self._text)
+        if printed is None:
+            return ((line.words, line) for line in lines)
+        return ((one.words, line) for one, line in zip(printed, lines))
 
     def rows(
         self, program: Union[Built, Tried], fonts: str, until: Optional[int], progress: Progress
     ) -> Iterator[Row]:
         """The steps with their answers, as they come. A fault is told with its reason."""
+        lines, taken, looks = islice(self._lines(), until), 0, () if until is None else LOOKS
         with program.running(self.path, fonts, until, self.is_bytes) as outcome:
+            _wait_for(outcome.report, self.shown, progress)
             report = Report(outcome.report, "the report", progress)  # type: ignore[arg-type]
             for step in report.steps():
                 if progress.is_due():
-                    progress.tell(f"{self.shown}: step {step.number} of {len(self.understood)}")
-                yield self._row(step, until)
+                    progress.tell(f"{self.shown}: step {step.number} of {self.count}")
+                words, line = next(lines, (None, None))
+                if words is not None and line is not None:
+                    taken += 1
+                    yield Row(step, words, line.number, line.expected)
+                elif step.number <= taken + len(looks):
+                    # Behind the last there are the looks of a stopped run.
+                    yield Row(step, looks[step.number - taken - 1])
+                elif self.count is not None:
+                    raise Trouble(f"the report goes on behind the last step, {taken + len(looks)}", self.shown)
+                else:
+                    yield Row(step, "")
         if outcome.status:
             fault = explained(outcome.fault, Files(str(self.path), fonts))
             raise Trouble(fault.replace(str(self.path), self.shown))
+        self._check_end(report.count, until, len(looks))
 
-    def _row(self, step: Step, until: Optional[int]) -> Row:
-        """A step with what the script says of it. Behind the last there are the looks of a stopped run."""
-        at = step.number - 1
-        end = len(self.understood) if until is None else min(until, len(self.understood))
-        if at >= end:
-            look = LOOKS[at - end] if until is not None and at - end < len(LOOKS) else ""
-            return Row(step, look, name="show")
-        words = self.understood[at]
-        if not self.lines:
-            return Row(step, words, at + 1, name=words.partition(" ")[0])
-        line = self.lines[at]
-        return Row(step, words, line.number, line.expected, line.name)
+    def _check_end(self, answered: int, until: Optional[int], looks: int) -> None:
+        """Ends the work where a report ends before its script."""
+        if self.count is None:
+            raise Trouble("the program prints none of its steps, so there is no telling which were answered", self.shown)
+        wanted = (self.count if until is None else min(until, self.count)) + looks
+        if answered < wanted:
+            raise Trouble(f"the report ends after {answered:,} of {wanted:,} steps", self.shown)
+
+
+def _wait_for(report: BinaryIO, shown: str, progress: Progress) -> None:
+    """Tells how long the first answer takes, as of a program that is built first."""
+    begun = time.monotonic()
+    while IS_POSIX and progress.is_wanted and not select.select([report], [], [], PAUSE)[0]:
+        if progress.is_due():
+            progress.tell(f"{shown}: no answer yet after {time.monotonic() - begun:.0f} seconds")
 
 
 def listed(row: Row, width: int, more: str = "") -> Iterator[str]:
     """The lines of a step in the listing."""
     words = row.words if len(row.words) <= width else row.words[:width - 2] + ".."
-    place = "" if row.line is None else str(row.line)
+    place = "" if row.line is None else row.line
+    if row.expected is None and row.step.picture is None and not row.step.others:
+        yield f"{place:>6} {row.step.number:>6}  {words:{width}}  {row.step.answer}"
+        return
     answers = [answer_of(row.step) + more] if row.step.picture is not None else list(row.step.lines)
     if row.is_wrong:
         answers[-1] += f"   not {row.expected}"

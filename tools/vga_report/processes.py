@@ -6,6 +6,7 @@ import os
 import signal
 import subprocess
 import time
+from contextlib import suppress
 from pathlib import Path
 from threading import Event, Thread
 from typing import BinaryIO, NamedTuple, Optional, Sequence
@@ -88,7 +89,7 @@ def run_command(
         said.start()
         reason = _wait(process, report, limits, is_ended)
     finally:
-        _end(process)
+        end(process)
     for drain in (report, said):
         drain.join(DRAINING)
     if report.trouble or said.trouble:
@@ -124,13 +125,18 @@ def _has_ended(process: subprocess.Popen[bytes]) -> bool:
     return os.waitid(os.P_PID, process.pid, os.WEXITED | os.WNOWAIT | os.WNOHANG) is not None
 
 
-def _end(process: subprocess.Popen[bytes]) -> None:
-    """Ends a command with all that it has started."""
-    if IS_POSIX:
-        try:
-            os.killpg(process.pid, signal.SIGKILL)
-        except (ProcessLookupError, PermissionError):
-            pass
-    else:
-        process.kill()
-    process.wait()
+def end(process: subprocess.Popen[bytes], asking: float = 0) -> None:
+    """Ends a command with all that it has started, unless its end was asked for: its number may be another's then.
+
+    It may be asked to end so many seconds before it is made to: it ends what it has started in groups of their own.
+    """
+    for number in (signal.SIGTERM, signal.SIGKILL) if asking and IS_POSIX else (None,):
+        if process.returncode is not None:
+            return
+        if not IS_POSIX:
+            process.kill()
+        else:
+            with suppress(ProcessLookupError, PermissionError):
+                os.killpg(process.pid, number or signal.SIGKILL)
+        with suppress(subprocess.TimeoutExpired):
+            process.wait(asking if number == signal.SIGTERM else None)

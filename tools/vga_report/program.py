@@ -2,23 +2,29 @@
 
 from __future__ import annotations
 
+import io
 import os
 import shutil
-import signal
 import subprocess
 import tempfile
 from contextlib import contextmanager
 from pathlib import Path
-from typing import BinaryIO, Iterator, Optional, Sequence, cast
+from typing import BinaryIO, Iterator, Mapping, Optional, Sequence, cast
 
 from .faults import FAULT
-from .processes import IS_POSIX
+from .processes import IS_POSIX, end
+from .streams import to_read
 from .trouble import Trouble
 
 TOP = Path(__file__).resolve().parents[2]
 CRATE = TOP / "crates" / "vga"
 PROGRAM = CRATE / "out" / "vga"
 FONTS = TOP / "fonts" / "zaklimot.fnt"
+# No script is printed in more bytes: none of its steps has a line that is seven times as long as its bytes.
+MOST_PRINTED = 7 << 24
+CHUNK = 1 << 16
+# Seconds in which `rt` ends what it has started.
+ASKING = 5
 # So much of what the program says is looked at.
 MOST_SAID = 1 << 16
 NO_PROGRAM = (
@@ -46,32 +52,26 @@ class Outcome:
 def found_program(named: Optional[str]) -> str:
     """Where the program is: as it is named, or as this repository has built it, or in the path."""
     if named is not None:
-        return named
+        # A name without a folder is looked for in the path.
+        return to_read(shutil.which(named) or named)
     if os.access(PROGRAM, os.X_OK):
-        return str(PROGRAM)
+        return to_read(str(PROGRAM))
     in_path = shutil.which("vga")
     if in_path is None:
         raise Trouble(NO_PROGRAM)
-    return in_path
-
-
-def _end(process: subprocess.Popen[bytes]) -> None:
-    """Ends a program with all that it has started, if it has not ended."""
-    if process.poll() is None:
-        if IS_POSIX:
-            os.killpg(process.pid, signal.SIGKILL)
-        else:
-            process.kill()
-    process.wait()
+    return to_read(in_path)
 
 
 @contextmanager
-def _started(words: Sequence[str], folder: Optional[Path] = None) -> Iterator[Outcome]:
+def _started(
+    words: Sequence[str], folder: Optional[Path] = None, environment: Optional[Mapping[str, str]] = None,
+    asking: float = 0,
+) -> Iterator[Outcome]:
     """A command that runs, with its report as it comes."""
     with tempfile.TemporaryFile() as said:
         try:
             process = subprocess.Popen(
-                words, cwd=folder, stdin=subprocess.DEVNULL, stdout=subprocess.PIPE, stderr=said,
+                words, cwd=folder, env=environment, stdin=subprocess.DEVNULL, stdout=subprocess.PIPE, stderr=said,
                 start_new_session=IS_POSIX,
             )
         except OSError as error:
@@ -86,7 +86,7 @@ def _started(words: Sequence[str], folder: Optional[Path] = None) -> Iterator[Ou
             said.seek(0)
             outcome.said = said.read(MOST_SAID).decode("utf-8", "replace")
         finally:
-            _end(process)
+            end(process, asking)
 
 
 class Built:
@@ -103,16 +103,24 @@ class Built:
         with _started(words) as outcome:
             yield outcome
 
-    def understood(self, script: Path, is_bytes: bool) -> list[str]:
-        """The steps of a script as the program prints them; none where it has a fault."""
+    def print_steps(self, script: Path, is_bytes: bool, printed: BinaryIO) -> None:
+        """Prints the steps of a script as the program understands them; nothing where it has a fault."""
         with tempfile.TemporaryDirectory(prefix="vga-report-") as name:
             made = script if is_bytes else Path(name) / "script"
-            if not is_bytes:
-                assembled = subprocess.run([self._path, "asm", script, made], capture_output=True)
-                if assembled.returncode:
-                    return []
-            printed = subprocess.run([self._path, "dis", made], capture_output=True)
-        return printed.stdout.decode("ascii", "replace").splitlines() if printed.returncode == 0 else []
+            if is_bytes or self._writes(["asm", str(script), str(made)], io.BytesIO()):
+                if not self._writes(["dis", str(made)], printed):
+                    printed.truncate(0)
+
+    def _writes(self, words: Sequence[str], output: BinaryIO) -> bool:
+        """Whether a command of the program ends well; what it writes goes into a file."""
+        left = MOST_PRINTED
+        with _started([self._path, *words]) as outcome:
+            while chunk := outcome.report.read(CHUNK):
+                left -= len(chunk)
+                if left < 0:
+                    raise Trouble(f"vga {words[0]} writes more than any script takes", self._path)
+                output.write(chunk)
+        return outcome.status == 0
 
 
 class Tried:
@@ -126,13 +134,14 @@ class Tried:
         stop = [] if until is None else ["--until", str(until)]
         files = ["--data", f"script={script.resolve()}", "--data", f"fonts={Path(fonts).resolve()}"]
         words = ["rt", "try", *files, "--", "run" if is_bytes else "go", "script", "--fonts", "fonts", *stop]
-        with _started(words, CRATE) as outcome:
-            yield outcome
+        # What it leaves when it is ended goes with this folder.
+        with tempfile.TemporaryDirectory(prefix="vga-report-") as temporary:
+            with _started(words, CRATE, {**os.environ, "TMPDIR": temporary}, ASKING) as outcome:
+                yield outcome
         ended = outcome.said.rpartition(self.ENDED)[2].split()
         if self.ENDED not in outcome.said:
             raise Trouble(f"rt try has not run it to its end, within its limits of time and output: {outcome.fault}")
         outcome.status = int(ended[0])
 
-    def understood(self, script: Path, is_bytes: bool) -> list[str]:
+    def print_steps(self, script: Path, is_bytes: bool, printed: BinaryIO) -> None:
         """Nothing: each answer would take a build of its own."""
-        return []

@@ -15,13 +15,13 @@ class Progress:
     """A line on standard error, where that is a terminal; else nothing."""
 
     def __init__(self, is_wanted: bool = True) -> None:
-        self._is_wanted = is_wanted and sys.stderr is not None and sys.stderr.isatty()
+        self.is_wanted = is_wanted and sys.stderr is not None and sys.stderr.isatty()
         self._next = time.monotonic() + DELAY
         self._width = 0
 
     def is_due(self) -> bool:
         """Whether it's time to tell."""
-        return self._is_wanted and time.monotonic() >= self._next
+        return self.is_wanted and time.monotonic() >= self._next
 
     def tell(self, text: str) -> None:
         """Shows a text in the place of the last one."""

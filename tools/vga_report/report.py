@@ -29,6 +29,7 @@ SKIPPED = "skipped"
 VALUE, REFUSAL, RUN_FAULT = "read", "refused", "fault"
 # The answers of most steps: they are found by a look, which makes long reports quick to read.
 PLAIN = {b"%s\n" % answer.encode(): answer for answer in ("ok", SKIPPED, *("%02X" % value for value in range(256)))}
+MOST_PLAIN = 1024
 # What may stand where the lines of an answer have ended.
 DIGITS_OR_END = (b"", *(b"%d" % digit for digit in range(10)))
 
@@ -72,7 +73,11 @@ class Report:
         self._name = name
         self._progress = progress or Progress(is_wanted=False)
         self._length = length_of(stream)
+        # The answers of steps that a look finds, with the refusals that came.
+        self._plain = dict(PLAIN)
         self._line = 0
+        # How many steps were read so far.
+        self.count = 0
 
     def steps(self) -> Iterator[Step]:
         """The steps in their order; a Trouble where the report is damaged, behind the steps before that place."""
@@ -80,7 +85,8 @@ class Report:
         try:
             for line in iter(self._next_line, b""):
                 front = b"%d " % number
-                plain = PLAIN.get(line[len(front):]) if line.startswith(front) else None
+                plain = self._plain.get(line[len(front):]) if line.startswith(front) else None
+                self.count = number
                 yield Step(number, self._line, plain) if plain is not None else self._step(number, line)
                 number += 1
         except OSError as error:
@@ -98,6 +104,8 @@ class Report:
         if answer.split(" ")[0] == "picture":
             return self._picture_step(number, answer)
         if REFUSED.fullmatch(answer) or READ.fullmatch(answer):
+            if len(self._plain) < MOST_PLAIN:
+                self._plain[line[len(front) + 1:]] = answer
             return Step(number, place, answer)
         return Step(number, place, answer, tuple(self._other_lines()))
 

@@ -16,10 +16,11 @@ from .picture import Digest, Picture
 from .png import Shape, write_marked_png, write_png
 from .progress import Progress
 from .report import Report, Step
-from .script import steps_of
+from .script import read_script
 from .streams import STANDARD, reading, write_file, writing
 from .timing import USUAL, Timing
 from .trouble import Trouble
+from .whole import steps_and_blocks, steps_meant
 
 
 def text(words: argparse.Namespace, progress: Progress) -> int:
@@ -90,14 +91,22 @@ def _animate(words: argparse.Namespace, shape: Shape, progress: Progress) -> int
 
 
 def _delays(script: Optional[str]) -> Callable[[int], float]:
-    """How long the frame of a step lasts, as the script tells it."""
+    """How long the frame of a step lasts, as the script tells it, be it text or bytes."""
+    if script is None:
+        return lambda number: USUAL
     timing, frames = Timing(), {}
-    if script is not None:
-        with reading(script) as stream:
-            for number, line in enumerate(steps_of(stream.read()), 1):
-                timing.take(line.words)
-                frames[number] = timing.frame()
-    return lambda number: frames.get(number, USUAL)
+    name = name_of(script)
+    for number, step in enumerate(steps_meant(steps_and_blocks(read_script(script), name)), 1):
+        timing.take(step)
+        if step.name == "frame":
+            frames[number] = timing.frame()
+
+    def delay(number: int) -> float:
+        if number not in frames:
+            raise Trouble(f"it is not the report's script: step {number} has a picture, and is no frame of it", name)
+        return frames[number]
+
+    return delay
 
 
 def _write_picture(words: argparse.Namespace, stem: str, picture: Picture, shape: Shape) -> None:

@@ -7,14 +7,13 @@ import os
 import shutil
 import sys
 import tempfile
-from contextlib import contextmanager
+from contextlib import ExitStack, contextmanager
 from pathlib import Path
-from typing import Iterator, Union
+from typing import BinaryIO, Iterator, Union, cast
 
 from .blocks import block_lines
-from .debugging import debug_page, link_to, read_at_most
+from .debugging import debug_page, link_to
 from .expecting import answer_of, is_worth_telling
-from .faults import MOST_BYTES
 from .listing import Choice, Row, Script, heading, listed
 from .output import AGREED, DIFFERED, name_of, write
 from .page import run_page
@@ -22,9 +21,13 @@ from .picture import Picture
 from .png import Shape, write_png
 from .program import FONTS, Built, Tried, found_program
 from .progress import Progress
-from .script import blessed_line, text_of
-from .streams import STANDARD, reading, write_file, write_over, writing
+from .script import blessed_line, read_script, text_of
+from .streams import STANDARD, check_file, check_folder, write_file, write_over, writing
 from .trouble import Trouble
+
+
+# So many bytes of answers that differ stay in memory.
+MOST_TOLD = 1 << 20
 
 
 @contextmanager
@@ -34,10 +37,9 @@ def _script_file(path: str) -> Iterator[tuple[str, bytes]]:
         # The program says what is wrong with it.
         yield path, b""
         return
-    with reading(path) as stream:
-        data = stream.read()
+    data = read_script(path)
     # The program's own standard input is another one than that which `/dev/stdin` names here.
-    if os.path.isfile(path) and not path.startswith(("/dev/", "/proc/")):
+    if os.path.isfile(path) and not path.startswith(("/dev/", "/proc/")) and _is_text(path):
         yield path, data
         return
     with tempfile.TemporaryDirectory(prefix="vga-report-") as folder:
@@ -46,26 +48,59 @@ def _script_file(path: str) -> Iterator[tuple[str, bytes]]:
         yield str(copy), data
 
 
+def _is_text(name: str) -> bool:
+    """Whether a name is one that the program takes: it reads its words as UTF-8."""
+    try:
+        name.encode("utf-8")
+    except UnicodeEncodeError:
+        return False
+    return True
+
+
+@contextmanager
+def _font_file(path: str) -> Iterator[str]:
+    """The path of a font file, by a name that the program takes."""
+    if _is_text(path):
+        yield path
+        return
+    with tempfile.TemporaryDirectory(prefix="vga-report-") as folder:
+        link = Path(folder) / "fonts"
+        link.symlink_to(os.path.abspath(path))
+        yield str(link)
+
+
 class Tally:
     """What was seen of a run."""
 
-    def __init__(self) -> None:
-        self.steps = self.pictures = self.expected = 0
-        self.wrong: list[Row] = []
+    def __init__(self, shown: str) -> None:
+        self._shown = shown
+        self.steps = self.pictures = self.expected = self.wrong = 0
+        # The answers that differ may be as many as the steps.
+        self._told = tempfile.SpooledTemporaryFile(MOST_TOLD)
 
     def count(self, row: Row) -> None:
         """Counts a step."""
         self.steps += 1
         self.pictures += row.step.picture is not None
-        self.expected += row.expected is not None
+        if row.expected is None:
+            return
+        self.expected += 1
         if row.is_wrong:
-            self.wrong.append(row)
+            self.wrong += 1
+            place = f"{self._shown}:{row.line}: step {row.step.number}"
+            told = f"{place}: {row.words} answers {answer_of(row.step)}, not {row.expected}\n"
+            self._told.write(told.encode("utf-8", "surrogateescape"))
+
+    def differing(self) -> Iterator[str]:
+        """The answers that differ, a line each."""
+        self._told.seek(0)
+        return (line.decode("utf-8", "surrogateescape") for line in self._told)
 
     def text(self) -> str:
         """What was seen, as a line."""
         parts = [f"{self.steps} step{'s' * (self.steps != 1)}", f"{self.pictures} picture{'s' * (self.pictures != 1)}"]
         if self.expected:
-            parts.append(f"{self.expected - len(self.wrong)} of {self.expected} answers as expected")
+            parts.append(f"{self.expected - self.wrong} of {self.expected} answers as expected")
         return ", ".join(parts)
 
 
@@ -75,6 +110,11 @@ def _refuse_words(words: argparse.Namespace) -> None:
         raise Trouble("--bless writes into the script, whole: it wants a file, and no --until")
     if words.html and (words.bless or words.pictures or words.show):
         raise Trouble("--html writes a page that has the pictures: without --bless, --pictures and --show")
+    if words.pictures is not None:
+        check_folder(words.pictures)
+    for file in (words.html, words.debug):
+        if file is not None:
+            check_file(file)
     if words.debug is None:
         return
     if words.bless or words.pictures or words.show:
@@ -104,18 +144,21 @@ def run(words: argparse.Namespace, progress: Progress) -> int:
     """Runs a script, and shows each step beside its line and its answer."""
     _refuse_words(words)
     if words.debug is not None and words.html is None:
-        _write_debug_page(words, read_at_most(words.script, MOST_BYTES))
+        _write_debug_page(words, read_script(words.script))
         return AGREED
     choice = Choice(words.only)
     program: Union[Built, Tried] = Tried() if words.try_ else Built(found_program(words.vga))
-    tally, blessed, page = Tally(), {}, run_page()
-    with _script_file(words.script) as (path, data):
+    tally, blessed, page = Tally(name_of(words.script)), {}, run_page()
+    with ExitStack() as stack:
+        path, data = stack.enter_context(_script_file(words.script))
+        fonts = stack.enter_context(_font_file(words.fonts))
+        printed = stack.enter_context(tempfile.TemporaryFile())
         if words.debug is not None and os.path.isfile(path):
             _write_debug_page(words, data)
-        script = Script(path, data, program, name_of(words.script))
+        script = Script(path, data, program, name_of(words.script), cast(BinaryIO, printed))
         if words.pictures is not None:
             os.makedirs(words.pictures, exist_ok=True)
-        for row in script.rows(program, words.fonts, words.until, progress):
+        for row in script.rows(program, fonts, words.until, progress):
             if not (words.bless or words.html or tally.steps):
                 write(heading(script.width) + "\n")
             tally.count(row)
@@ -135,21 +178,16 @@ def run(words: argparse.Namespace, progress: Progress) -> int:
     if words.html:
         link = None if words.debug is None else link_to(words.debug, words.html) + _fragment(words)
         write_file(words.html, page.text(script.shown, tally.text(), link).encode("utf-8", "replace"))
-    _tell_tally(tally, script, words)
+    _tell_tally(tally, words)
     return DIFFERED if tally.wrong else AGREED
 
 
-def _tell_tally(tally: Tally, script: Script, words: argparse.Namespace) -> None:
+def _tell_tally(tally: Tally, words: argparse.Namespace) -> None:
     """Tells the answers that differ, and what was seen; on standard error where a page goes to standard output."""
-    lines = []
-    for row in tally.wrong:
-        place = f"{script.shown}:{row.line}: step {row.step.number}"
-        lines.append(f"{place}: {row.words} answers {answer_of(row.step)}, not {row.expected}\n")
-    text = "".join([*lines, tally.text() + "\n"])
-    if words.html == STANDARD:
-        sys.stderr.write(text)
-    else:
-        write(text)
+    tell = sys.stderr.write if words.html == STANDARD else write
+    for line in tally.differing():
+        tell(line)
+    tell(tally.text() + "\n")
 
 
 def _is_blessed(row: Row) -> bool:
@@ -165,7 +203,7 @@ def _show(row: Row, script: Script, words: argparse.Namespace) -> None:
         with writing(path) as stream:
             write_png(stream, picture, Shape(words.scale, words.aspect))
         more = f"  {path}"
-    write("".join(line + "\n" for line in listed(row, script.width, more)))
+    write("\n".join(listed(row, script.width, more)) + "\n")
     if isinstance(picture, Picture) and words.show:
         columns = shutil.get_terminal_size((80, 24)).columns
         write("".join(line + "\n" for line in block_lines(picture, columns)))

@@ -2,17 +2,24 @@
 
 from __future__ import annotations
 
+import io
 import re
-from typing import NamedTuple, Optional, Sequence
+from itertools import islice
+from typing import BinaryIO, Iterator, NamedTuple, Optional, Sequence
 
 from .grammar import END, REPEAT, VERSION_TWO
+from .streams import read_at_most
 
 # A script means at most so many steps.
 MOST_STEPS = 16_777_216
+# A script, or a text, has at most so many bytes.
+MOST_BYTES = 16_777_216
 MAGIC = b"VGAS"
 # What a comment begins with that tells the answer which is expected.
-MARK = "="
-WORDS = re.compile(r"[^ \t\r]+")
+MARK, MARK_BYTE = "=", b"="
+WORDS = re.compile(rb"[^ \t\r\n]+")
+# Of a longer block the lines are read again in each of its rounds.
+MOST_KEPT = 4096
 
 
 class Line(NamedTuple):
@@ -41,15 +48,23 @@ def expected_in(comment: str) -> Optional[str]:
     return " ".join(text[len(MARK):].partition(";")[0].split())
 
 
+def _lines_in(stream: BinaryIO, before: int = 0) -> Iterator[Line]:
+    """The lines of a stream that have a word before their comment, behind so many lines."""
+    for number, line in enumerate(stream, before + 1):
+        expected = None
+        if b";" in line:
+            line, _, comment = line.partition(b";")
+            expected = expected_in(text_of(comment)) if MARK_BYTE in comment else None
+        # Blanks are parted fastest by the call that takes other letters for blanks too.
+        has_others = b"\v" in line or b"\f" in line
+        words = WORDS.findall(line) if has_others else line.split()
+        if words:
+            yield Line(number, text_of(b" ".join(words)), expected)
+
+
 def lines_of(data: bytes) -> list[Line]:
     """The lines of a text that have a word before their comment."""
-    lines = []
-    for number, line in enumerate(data.split(b"\n"), 1):
-        step, _, comment = text_of(line).partition(";")
-        words = WORDS.findall(step)
-        if words:
-            lines.append(Line(number, " ".join(words), expected_in(comment)))
-    return lines
+    return list(_lines_in(io.BytesIO(data)))
 
 
 def has_blocks(lines: Sequence[Line]) -> bool:
@@ -59,24 +74,78 @@ def has_blocks(lines: Sequence[Line]) -> bool:
 
 def steps_of(data: bytes) -> list[Line]:
     """The steps that a text means, in their order: those of a block so many times as it counts."""
-    lines = lines_of(data)
-    return _unrolled(lines[1:]) if has_blocks(lines) else lines
+    return list(steps_in(io.BytesIO(data)))
 
 
-def _unrolled(lines: Sequence[Line]) -> list[Line]:
+def steps_in(stream: BinaryIO) -> Iterator[Line]:
+    """The same of a stream that can be read again from any place; no more than a short block is kept in memory."""
+    stream.seek(0)
+    lines = _lines_in(stream)
+    first = next(lines, None)
+    if first is None:
+        return
+    if has_blocks([first]):
+        yield from _unrolled(stream, lines)
+    else:
+        yield first
+        yield from lines
+
+
+def _unrolled(stream: BinaryIO, lines: Iterator[Line]) -> Iterator[Line]:
     """The steps that lines of version 2 mean, as far as they are good ones."""
-    steps: list[Line] = []
-    block, count = steps, 1
+    left, count, place, number = MOST_STEPS, 0, 0, 0
+    block: list[Line] = []
+    length = 0
     for line in lines:
         if line.name == REPEAT:
-            number = line.words.partition(" ")[2]
-            block, count = [], int(number) if number.isdigit() else 1
-        elif line.name == END and block is not steps:
-            steps.extend(block * min(count, (MOST_STEPS - len(steps)) // max(1, len(block))))
-            block = steps
+            given = line.words.partition(" ")[2]
+            count = int(given) if given.isdigit() else 1
+            place, number, block, length = stream.tell(), line.number, [], 0
+        elif line.name == END and count:
+            rounds = min(count - 1, left // max(1, length))
+            left -= rounds * length
+            behind = stream.tell()
+            for _ in range(rounds if length else 0):
+                if length > MOST_KEPT:
+                    stream.seek(place)
+                yield from block if length <= MOST_KEPT else islice(_lines_in(stream, number), length)
+            stream.seek(behind)
+            count = 0
         else:
-            block.append(line)
-    return steps if block is steps else steps + block
+            # The first of a block's rounds is taken as it is read.
+            length += 1
+            left -= 1
+            if count and length <= MOST_KEPT:
+                block.append(line)
+            yield line
+
+
+def count_in(stream: BinaryIO) -> int:
+    """How many steps a text means, if it is a good one."""
+    stream.seek(0)
+    total = length = count = 0
+    version: Optional[bool] = None
+    for line in stream:
+        words = line.partition(b";")[0].split()
+        if not words:
+            continue
+        if version is None:
+            version = [word.lower() for word in words] == VERSION_TWO.encode().split()
+            total += not version
+        elif version and words[0].lower() == REPEAT.encode() and words[1:]:
+            count, length = int(words[1]) if words[1].isdigit() else 1, 0
+        elif version and words[0].lower() == END.encode():
+            total += max(0, count - 1) * length
+            count = 0
+        else:
+            total += 1
+            length += 1
+    return total
+
+
+def read_script(path: str) -> bytes:
+    """The bytes of a script's file. One that is too long is told as the program tells it."""
+    return read_at_most(path, MOST_BYTES, f"F6 TooLong: a script has at most {MOST_BYTES:,} bytes")
 
 
 def is_bytes(data: bytes) -> bool:

@@ -5,7 +5,7 @@ from __future__ import annotations
 import argparse
 from typing import Optional
 
-from .images import Image, image_of, image_of_picture
+from .images import Image, image_bytes, image_of, image_of_picture
 from .output import AGREED, DIFFERED, name_of, refuse_twice, write
 from .picture import DifferentDots, Picture, different_dots
 from .png import Shape, write_marked_png
@@ -65,8 +65,7 @@ def compare_picture(words: argparse.Namespace, progress: Progress) -> int:
         steps = Report(stream, name_of(words.report), progress).steps()
         _, picture = next(wanted_pictures(steps, [words.step], name_of(words.report)))
     name = name_of(words.image)
-    with reading(words.image) as stream:
-        image = image_of(stream.read(), name)
+    image = image_of(image_bytes(words.image), name)
     fitted = _fitted(image_of_picture(picture), image)
     if fitted is None:
         sizes = f"{picture.size} and {image.width}x{image.height}"

@@ -14,9 +14,10 @@ from typing import BinaryIO, Iterator, Optional, Union, cast
 from .trouble import Trouble
 
 STANDARD = "-"
+NO_NAME = "the name of a file is empty"
 # So many bytes are dropped at a time.
 DRAINED = 1 << 16
-# The files that were read: where each is found, and what messages call it.
+# The files that are read: where each is found, and what messages call it.
 _were_read: dict[Union[int, str], str] = {}
 
 
@@ -34,8 +35,15 @@ def _status_of(place: Union[int, str]) -> Optional[os.stat_result]:
     return status if stat.S_ISREG(status.st_mode) else None
 
 
+def to_read(path: str) -> str:
+    """A name of the command line whose file is read, or may be: from now on it isn't written, under whatever name."""
+    if path != STANDARD:
+        _were_read[path] = path
+    return path
+
+
 def refuse_input(path: str) -> None:
-    """Ends the work where what is to be written is a file that was read."""
+    """Ends the work where what is to be written is a file that is read."""
     output = _status_of(sys.stdout.fileno() if path == STANDARD else path)
     for place, name in _were_read.items():
         status = _status_of(place)
@@ -55,16 +63,64 @@ def reading(path: str, is_drained: bool = True) -> Iterator[io.BufferedReader]:
         while is_drained and not sys.stdin.isatty() and stream.read(DRAINED):
             pass
     elif not path:
-        raise Trouble("the name of a file is empty")
+        raise Trouble(NO_NAME)
     else:
         with open(path, "rb") as stream:
             _were_read[path] = path
             yield stream
 
 
+def check_folder(path: Union[str, Path]) -> None:
+    """Ends the work, before it begins, where files can't be laid into a folder, be it there or to be made."""
+    if not str(path):
+        raise Trouble(NO_NAME)
+    place = Path(path).absolute()
+    while not os.path.lexists(place):
+        place = place.parent
+    if not place.is_dir():
+        raise Trouble("it is not a folder", str(path) if place == Path(path).absolute() else str(place))
+    if not os.access(place, os.W_OK | os.X_OK):
+        raise Trouble("there is no permission to write there", str(place))
+
+
+def check_file(path: str) -> None:
+    """Ends the work, before it begins, where a file can't be written."""
+    if not path:
+        raise Trouble(NO_NAME)
+    refuse_input(path)
+    if path == STANDARD:
+        return
+    if os.path.isdir(path):
+        raise Trouble("it is a folder", path)
+    if _may_be_replaced(path):
+        if not os.path.isdir(os.path.dirname(os.path.abspath(path))):
+            raise Trouble("there is no such folder", os.path.dirname(path))
+        check_folder(os.path.dirname(os.path.abspath(path)))
+
+
+def bytes_of(path: Union[str, Path], most: int) -> bytes:
+    """The bytes of a file of many, which may not have more than so many."""
+    with open(path, "rb") as stream:
+        data = stream.read(most + 1)
+    if len(data) > most:
+        raise Trouble(f"it has more than {most:,} bytes", str(path))
+    return data
+
+
+def read_at_most(path: str, most: int, told: str = "") -> bytes:
+    """The bytes of a file, which may not have more than so many; else a Trouble, whose reason may be given."""
+    with reading(path, is_drained=False) as stream:
+        data = stream.read(most + 1)
+    if len(data) > most:
+        raise Trouble(told or f"it has more than {most:,} bytes", shown_name(path, "standard input"))
+    return data
+
+
 @contextmanager
 def writing(path: str) -> Iterator[BinaryIO]:
     """A file that is written, as bytes: a new one beside it that takes its place once it is whole."""
+    if not path:
+        raise Trouble(NO_NAME)
     refuse_input(path)
     if path == STANDARD:
         sys.stdout.flush()

@@ -4,6 +4,8 @@ from __future__ import annotations
 
 from typing import Optional
 
+from .whole import Step
+
 # Dots a second, by bits 3 and 2 of miscellaneous output.
 CLOCKS = {0: 25_175_000, 1: 28_322_000}
 # Where a script doesn't tell.
@@ -25,20 +27,17 @@ class Timing:
         self._indexes = {"seq": 0, "crtc": 0}
         self._registers: dict[str, dict[int, int]] = {"seq": {}, "crtc": {}}
 
-    def take(self, words: str) -> None:
+    def take(self, step: Step) -> None:
         """Takes a step."""
-        name, *rest = words.lower().split()
-        if name == "out" and len(rest) == 2:
-            self.out(int(rest[0], 16), int(rest[1], 16))
-        elif name == "outw" and len(rest) == 2:
-            port, value = int(rest[0], 16), int(rest[1], 16)
+        if step.name == "out":
+            self.out(*step.numbers)
+        elif step.name == "outw":
+            port, value = step.numbers
             self.out(port, value & 0xFF)
             self.out(port + 1, value >> 8)
-        elif name == "int" and rest and rest[0].startswith("ax="):
-            mode = int(rest[0][3:], 16)
-            if mode >> 8 == 0 and mode & 0x7F in MODES:
-                self._misc, *dots = MODES[mode & 0x7F]
-                self._set_dots = (dots[0], bool(dots[1]))
+        elif step.name == "int" and step.numbers[0] >> 8 == 0 and step.numbers[0] & 0x7F in MODES:
+            self._misc, *dots = MODES[step.numbers[0] & 0x7F]
+            self._set_dots = (dots[0], bool(dots[1]))
 
     def out(self, port: int, value: int) -> None:
         """Takes a byte that is written to a port."""

@@ -11,6 +11,7 @@ from .progress import Progress
 from .reports import check, compare, pictures, text
 from .shots import compare_picture
 from .runs import DEFAULT_FONTS, run
+from .streams import to_read
 from .suite import scripts, suite
 
 SUITE = Path(__file__).resolve().parents[2] / "crates" / "vga_suite" / "data" / "list.txt"
@@ -50,7 +51,7 @@ def _add_shape(parser: argparse.ArgumentParser) -> None:
 
 
 def _add_cases(parser: argparse.ArgumentParser) -> None:
-    parser.add_argument("--list", default=str(SUITE), metavar="FILE", help="the list of cases; else the project's")
+    parser.add_argument("--list", type=to_read, default=str(SUITE), metavar="FILE", help="the list of cases; else the project's")
     parser.add_argument(
         "--only", action="append", default=[], metavar="FRONT", help="cases whose names begin so; again and again"
     )
@@ -88,7 +89,7 @@ def _add_suite(parser: argparse.ArgumentParser) -> None:
 def _add_run(parser: argparse.ArgumentParser) -> None:
     parser.add_argument("--vga", metavar="PROGRAM", help="the program; else the one that is built here, or in the path")
     parser.add_argument("--try", dest="try_", action="store_true", help="the program without its proofs, by `rt try`")
-    parser.add_argument("--fonts", default=DEFAULT_FONTS, metavar="FILE", help="the font file; else the project's")
+    parser.add_argument("--fonts", type=to_read, default=DEFAULT_FONTS, metavar="FILE", help="the font file; else the project's")
     parser.add_argument(
         "--until", type=number_to(MOST_STEP, 0), metavar="N", help="stops after N steps, and shows the state"
     )
@@ -108,7 +109,9 @@ def _add_run(parser: argparse.ArgumentParser) -> None:
 def _add_pictures(parser: argparse.ArgumentParser) -> None:
     parser.add_argument("folder", nargs="?", metavar="FOLDER", help="where the files go")
     parser.add_argument("--apng", metavar="FILE", help="the pictures as one that moves, each as long as a frame lasts")
-    parser.add_argument("--script", metavar="SCRIPT", help="the text that tells how long; else 70 frames a second")
+    parser.add_argument(
+        "--script", type=to_read, metavar="SCRIPT", help="the script that tells how long; else 70 frames a second"
+    )
     parser.add_argument("--ppm", action="store_true", help="the bytes as they are, as NNNN.ppm, in the place of PNG")
     parser.add_argument(
         "--step", type=number_to(MOST_STEP), action="append", default=[], metavar="N", help="of this step alone"
@@ -130,7 +133,7 @@ def parser() -> argparse.ArgumentParser:
         added = commands.add_parser(job.__name__.replace("_", "-"), help=job.__doc__, description=job.__doc__)
         added.set_defaults(job=job)
         for file in files:
-            added.add_argument(file.lower(), metavar=file.upper())
+            added.add_argument(file.lower(), type=str if file == "folder" else to_read, metavar=file.upper())
         return added
 
     _add_run(add(run, "script"))
@@ -143,11 +146,13 @@ def parser() -> argparse.ArgumentParser:
     _add_shape(adding)
     adding = add(compare_picture, "report")
     adding.add_argument("step", type=number_to(MOST_STEP), metavar="STEP")
-    adding.add_argument("image", metavar="IMAGE")
+    adding.add_argument("image", type=to_read, metavar="IMAGE")
     adding.add_argument("--picture", metavar="FILE", help="the picture as PNG, its dots marked that differ")
     _add_shape(adding)
     add(check, "report", "expected")
-    _add_suite(add(suite, "command"))
+    adding = add(suite)
+    adding.add_argument("command", metavar="COMMAND")
+    _add_suite(adding)
     adding = add(scripts, "folder")
     _add_cases(adding)
     _add_machine(adding)

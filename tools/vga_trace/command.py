@@ -3,15 +3,14 @@
 from __future__ import annotations
 
 import argparse
-import os
 import sys
 from itertools import islice
 from typing import ContextManager, Optional, Sequence, TextIO
 
-from vga_report.output import AGREED, DIFFERED, TROUBLE, name_of, refuse_twice
+from vga_report import cli
+from vga_report.output import AGREED, DIFFERED, name_of, refuse_twice
 from vga_report.report import Report
-from vga_report.streams import STANDARD, reading, writing
-from vga_report.trouble import Trouble
+from vga_report.streams import STANDARD, reading, to_read, writing
 from vga_report.words import number_to, seconds
 
 from .checking import check
@@ -20,8 +19,6 @@ from .kinds import count
 from .trace import Trace, opened
 
 KEEP, FIRST = "keep", "first"
-# What a shell says of programs that a closed pipe or the user has ended.
-PIPE_CLOSED, INTERRUPTED = 141, 130
 MOST_CYCLES, MOST_KINDS = 1 << 40, 1 << 20
 
 
@@ -31,7 +28,9 @@ def _frames(word: str) -> Frames:
 
 
 def _add_trace(parser: argparse.ArgumentParser) -> None:
-    parser.add_argument("trace", metavar="TRACE", help="qemu's log or lines of the plain form, by gzip too; - is standard input")
+    parser.add_argument(
+        "trace", type=to_read, metavar="TRACE", help="qemu's log or lines of the plain form, by gzip too; - is standard input"
+    )
     parser.add_argument(
         "--to", type=number_to(MOST_CYCLES), metavar="N", help="the first N cycles alone (default: all)"
     )
@@ -69,7 +68,7 @@ def _parser() -> argparse.ArgumentParser:
     command.set_defaults(job=_convert)
     command = commands.add_parser("check", help="holds a script's report against the trace; with the options of convert")
     _add_trace(command)
-    command.add_argument("report", metavar="REPORT", help="the report; - is standard input")
+    command.add_argument("report", type=to_read, metavar="REPORT", help="the report; - is standard input")
     command.add_argument(
         "--most", type=number_to(MOST_KINDS), default=40, metavar="N", help="tells N kinds at most (default: 40)"
     )
@@ -131,29 +130,12 @@ def _kinds(words: argparse.Namespace) -> int:
     return AGREED
 
 
-def _end(words: argparse.Namespace) -> int:
-    """Does a command's work; what ends it is told on standard error."""
-    try:
-        status: int = words.job(words)
-        sys.stdout.flush()
-        return status
-    except BrokenPipeError:
-        raise
-    except Trouble as trouble:
-        reason = str(trouble)
-    except OSError as error:
-        reason = f"{'standard output' if error.filename is None else error.filename}: {error.strerror}"
-    _say(f"vga-trace: {reason}")
-    return TROUBLE
-
-
 def main(words: Optional[Sequence[str]] = None) -> int:
     """Runs a command line, and answers its exit status."""
-    try:
-        return _end(_parser().parse_args(words))
-    except BrokenPipeError:
-        # What can't be written would fail once more when Python ends.
-        os.dup2(os.open(os.devnull, os.O_WRONLY), sys.stdout.fileno())
-        return PIPE_CLOSED
-    except KeyboardInterrupt:
-        return INTERRUPTED
+
+    def work() -> int:
+        parsed = _parser().parse_args(words)
+        status: int = parsed.job(parsed)
+        return status
+
+    return cli.run("vga-trace", work)

@@ -15,8 +15,8 @@ from vga_report.trouble import Trouble
 
 from .cycle import MEMORY, PORT, VBE, Cycle
 
-# Longer lines are none of a trace's.
-MOST_LINE = 1 << 16
+# Longer lines are none of a trace's, and no trace has more before its first cycle.
+MOST_LINE, MOST_BEFORE = 1 << 16, 1 << 26
 GZIP = b"\x1f\x8b"
 # What each cycle of qemu's log has, of whatever device.
 EVENT = b"memory_region_ops_"
@@ -65,7 +65,15 @@ class Trace:
 
     def _lines(self) -> Iterator[bytes]:
         try:
-            yield from iter(lambda: self._stream.readline(MOST_LINE), b"")
+            passed = 0
+            for line in iter(lambda: self._stream.readline(MOST_LINE), b""):
+                if len(line) == MOST_LINE:
+                    self.line += 1
+                    raise self.trouble("the line is longer than any of a trace")
+                passed += len(line)
+                if self._is_plain is None and passed > MOST_BEFORE:
+                    raise Trouble(f"it has no cycle in its first {MOST_BEFORE:,} bytes", self.name)
+                yield line
         except (EOFError, gzip.BadGzipFile, zlib.error) as error:
             raise self.trouble(f"its compressed bytes are damaged behind this line: {error}") from error
         except OSError as error:

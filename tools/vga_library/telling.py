@@ -5,10 +5,11 @@ from __future__ import annotations
 import re
 import time
 
-from vga_library.gated import below
-from vga_library.running import Hearer
-from vga_library.toolchain import CRATE
 from vga_report.progress import Progress
+
+from .gated import below
+from .running import Hearer
+from .toolchain import CRATE
 
 # What Rattle says of a crate that is done.
 DONE = re.compile(r"crate (\w+): ")

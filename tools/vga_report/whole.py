@@ -4,16 +4,16 @@ from __future__ import annotations
 
 import re
 import struct
-from typing import Iterator, NamedTuple, Optional, Sequence, Union
+from itertools import chain, repeat
+from typing import Iterable, Iterator, NamedTuple, Optional, Sequence, Union
 
-from vga_report.grammar import (
+from .grammar import (
     BLOCK, BLOCK_LINES, END, REGISTERS, REPEAT, SHAPES, SHOWN, VERSION_TWO, DecimalNumber, Number,
 )
-from vga_report.mistakes import mistake_among_lines, mistake_in
-from vga_report.script import MAGIC, MOST_STEPS, is_bytes, text_of
-from vga_report.trouble import Trouble
+from .mistakes import mistake_among_lines, mistake_in
+from .script import MAGIC, MOST_BYTES, MOST_STEPS, is_bytes, text_of
+from .trouble import Trouble
 
-MOST_BYTES = 16_777_216
 MOST_BLOCK_DIGITS = 131_070
 PLANE_BYTES = 65_536
 LINE_WORDS = re.compile(rb"[^ \t\r]+")
@@ -32,10 +32,11 @@ OPENS, CLOSES = 13, 14
 SIZES = {name: 1 + fields.size for name, fields in FIELDS.values()}
 # What `show` shows, by its kinds, with the form of the fields behind the kind.
 KINDS = [("regs", ""), ("dac", "<B"), ("beam", ""), ("latches", ""), ("plane", "<BHH"), ("bda", ""), ("cells", "")]
+KIND_NAMES = [name for name, _ in KINDS]
 
 
 class Step(NamedTuple):
-    """A step: its name, its numbers, and the block of a call. What `show` shows isn't kept."""
+    """A step: its name, its numbers, and the block of a call. The first number of `show` is its kind."""
 
     name: str
     numbers: tuple[int, ...] = ()
@@ -52,11 +53,18 @@ class Block(NamedTuple):
 Item = Union[Step, Block]
 
 
-def read_script(data: bytes, name: str) -> list[Item]:
+def steps_and_blocks(data: bytes, name: str) -> list[Item]:
     """The steps and blocks of a script; a Trouble with its fault, as the program has it, where it is no good."""
     if len(data) > MOST_BYTES:
         raise _fault("F6 TooLong", f"a script has at most {MOST_BYTES:,} bytes", name)
     return list(_Bytes(data, name).items()) if is_bytes(data) else _Text(data, name).items()
+
+
+def steps_meant(items: Iterable[Item]) -> Iterator[Step]:
+    """The steps that a script means, those of a block in each of its rounds."""
+    return chain.from_iterable(
+        chain.from_iterable(repeat(item.steps, item.count)) if isinstance(item, Block) else (item,) for item in items
+    )
 
 
 def _fault(fault: str, reason: str, name: str, line: Optional[int] = None) -> Trouble:
@@ -160,7 +168,7 @@ def _step_of(words: list[str]) -> Step:
         numbers = _numbers(rest[1:], SHOWN[rest[0]])
         if rest[0] == "plane" and numbers[1] + numbers[2] > PLANE_BYTES:
             raise ValueError(name)
-        return Step(SHOW, ([kind for kind, _ in KINDS].index(rest[0]),))
+        return Step(SHOW, (KIND_NAMES.index(rest[0]), *numbers))
     raise ValueError(name)
 
 
@@ -252,7 +260,7 @@ class _Bytes:
         name, form = FIELDS[self._data[opcode_at]]
         numbers = self._fields(opcode_at, opcode_at + 1, form)
         if name == SHOW:
-            self._look(opcode_at, numbers[0])
+            numbers = (numbers[0], *self._look(opcode_at, numbers[0]))
         if name != INT:
             return Step(name, numbers)
         length = numbers[4]
@@ -261,8 +269,8 @@ class _Bytes:
         self._at += length
         return Step(INT, numbers[:4], self._data[self._at - length:self._at])
 
-    def _look(self, opcode_at: int, kind: int) -> None:
-        """Passes over what a `show` names."""
+    def _look(self, opcode_at: int, kind: int) -> tuple[int, ...]:
+        """What a `show` names behind its kind."""
         if kind >= len(KINDS):
             raise self._bad(opcode_at)
         fields = self._fields(opcode_at, self._at, struct.Struct(KINDS[kind][1]))
@@ -270,6 +278,7 @@ class _Bytes:
             plane, offset, count = fields
             if plane > 3 or not 1 <= count <= 256 or offset + count > PLANE_BYTES:
                 raise self._bad(opcode_at)
+        return fields
 
     def _fields(self, opcode_at: int, at: int, form: struct.Struct) -> tuple[int, ...]:
         if len(self._data) - at < form.size:

@@ -1,0 +1,56 @@
+"""Runs all tests that are found; and once the program is built, those that were skipped for want of it."""
+
+from __future__ import annotations
+
+import argparse
+import unittest
+from pathlib import Path
+from typing import Iterator, Optional, Sequence
+
+from .program import UNBUILT
+
+HERE = Path(__file__).resolve().parent
+PASSED, FAILED = 0, 1
+
+
+def _each(tests: unittest.TestSuite) -> Iterator[unittest.TestCase]:
+    for test in tests:
+        if isinstance(test, unittest.TestSuite):
+            yield from _each(test)
+        else:
+            yield test
+
+
+def _class_of(test: unittest.TestCase) -> str:
+    return f"{type(test).__module__}.{type(test).__qualname__}"
+
+
+def skipped_in(result: unittest.TestResult) -> list[str]:
+    """The tests that were skipped for want of the program: their names, or that of a whole class."""
+    # What skips a class has the name of the method that did so, and that of the class in parentheses.
+    names = [test.id() for test, reason in result.skipped if reason == UNBUILT]
+    return [name.partition("(")[2].rstrip(")") or name for name in names]
+
+
+def run_tests(folder: Path, names: Optional[Sequence[str]] = None) -> unittest.TestResult:
+    """Finds the tests below a folder, and runs all, or those that have these names or are in classes that do."""
+    found = _each(unittest.defaultTestLoader.discover(str(folder), top_level_dir=str(folder.parent)))
+    wanted = [test for test in found if names is None or {test.id(), _class_of(test)} & set(names)]
+    return unittest.TextTestRunner().run(unittest.TestSuite(wanted))
+
+
+def main(words: Optional[Sequence[str]] = None, folder: Path = HERE) -> int:
+    """Runs a command line, and answers its exit status."""
+    parser = argparse.ArgumentParser(prog="tests-of-tools", description="Runs the tests of the tools.")
+    kept = parser.add_mutually_exclusive_group()
+    kept.add_argument("--keep", type=Path, metavar="FILE", help="writes which tests want the program, which isn't built")
+    kept.add_argument("--again", type=Path, metavar="FILE", help="runs those alone; now none of them may be skipped so")
+    parsed = parser.parse_args(words)
+    result = run_tests(folder, None if parsed.again is None else parsed.again.read_text("utf-8").split())
+    skipped = skipped_in(result)
+    if parsed.keep is not None:
+        parsed.keep.write_text("".join(f"{name}\n" for name in skipped), "utf-8")
+    if parsed.again is not None and skipped:
+        print("skipped, though the program is to be built: " + ", ".join(skipped))
+        return FAILED
+    return PASSED if result.wasSuccessful() else FAILED
