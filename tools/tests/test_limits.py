@@ -14,7 +14,7 @@ from .test_command import HERE, Files
 MEMORY = 1 << 30
 # Words with a file that has no end, and what is said of them.
 ENDLESS = {
-    "report run /dev/zero": "F6 TooLong: a script has at most 16,777,216 bytes",
+    "report run /dev/zero --vga /bin/true": "F6 TooLong: a script has at most 16,777,216 bytes",
     "report run {s} --fonts /dev/zero --debug {o}": "/dev/zero: it has more than 16,777,216 bytes",
     "report text /dev/zero": "/dev/zero:1: the line is longer than any answer",
     "report pictures {r} --apng {o} --script /dev/zero": "F6 TooLong: ",
