@@ -1,6 +1,6 @@
 //! The program's command line: its commands, their arguments, and the help on each.
 ghost use Rattle.std.specs.Prelude.{◌≡◌, IfOk, false};
-ghost use Rattle.clap.specs.Words.{app_of, rule_of, shape_of};
+ghost use Rattle.clap.specs.Words.{app_of, new_app, rule_of, shape_of};
 ghost use Rattle.clap.specs.declared.builder.command.Command.TheViews.{out-Command as fields_of};
 ghost use Rattle.vga.specs.CommandLine.{asm_command, command_line, converting_line, dis_command};
 ghost use Rattle.vga.specs.CommandLine.{fonts_argument, go_command, path_argument, run_command};
@@ -114,53 +114,83 @@ fn until_argument<'a>(alloc: Global) -> Arg<'a>
         .help("Stops after so many steps, and shows the card")
 }
 
+/// A command with no arguments yet: its name, what it is about, its usage, and what its help ends
+/// with.
+fn described<'a>(
+    alloc: Global,
+    name: &'a str,
+    about: &'a str,
+    usage: &'a str,
+    example: &'a str,
+) -> Command<'a>
+    ensures app { app_of result ≡ new_app name.now }
+    ensures local { (fields_of result).has_globals ≡ false }
+{
+    Command::new(alloc, name)
+        .about(about)
+        .override_usage(usage)
+        .after_help(example)
+}
+
 /// `asm TEXT BIN`.
 fn asm_command<'a>(alloc: Global) -> Result<Command<'a>, AllocError>
     ensures { IfOk result (λ c. (shape_of c ≡ asm_command) × ((fields_of c).has_globals ≡ false)) }
 {
-    Command::new(alloc, "asm")
-        .about("Assembles the text of a script, and writes its binary form")
-        .override_usage("vga asm <TEXT> <BIN>")
-        .after_help(ASM_EXAMPLE)
-        .arg(path_argument(alloc, "TEXT", "The script, as text"))?
-        .arg(path_argument(alloc, "BIN", "The file that its binary form is written to"))
+    described(
+        alloc,
+        "asm",
+        "Assembles the text of a script, and writes its binary form",
+        "vga asm <TEXT> <BIN>",
+        ASM_EXAMPLE,
+    )
+    .arg(path_argument(alloc, "TEXT", "The script, as text"))?
+    .arg(path_argument(alloc, "BIN", "The file that its binary form is written to"))
 }
 
 /// `dis BIN`.
 fn dis_command<'a>(alloc: Global) -> Result<Command<'a>, AllocError>
     ensures { IfOk result (λ c. (shape_of c ≡ dis_command) × ((fields_of c).has_globals ≡ false)) }
 {
-    Command::new(alloc, "dis")
-        .about("Prints a script as text on standard output")
-        .override_usage("vga dis <BIN>")
-        .after_help(DIS_EXAMPLE)
-        .arg(path_argument(alloc, "BIN", "The script, in its binary form"))
+    described(
+        alloc,
+        "dis",
+        "Prints a script as text on standard output",
+        "vga dis <BIN>",
+        DIS_EXAMPLE,
+    )
+    .arg(path_argument(alloc, "BIN", "The script, in its binary form"))
 }
 
 /// `run BIN --fonts FILE [--until N]`.
 fn run_command<'a>(alloc: Global) -> Result<Command<'a>, AllocError>
     ensures { IfOk result (λ c. (shape_of c ≡ run_command) × ((fields_of c).has_globals ≡ false)) }
 {
-    Command::new(alloc, "run")
-        .about("Runs a script, and writes its report on standard output")
-        .override_usage("vga run <BIN> --fonts <FILE> [--until <N>]")
-        .after_help(RUN_EXAMPLE)
-        .arg(path_argument(alloc, "BIN", "The script, in its binary form"))?
-        .arg(fonts_argument(alloc))?
-        .arg(until_argument(alloc))
+    described(
+        alloc,
+        "run",
+        "Runs a script, and writes its report on standard output",
+        "vga run <BIN> --fonts <FILE> [--until <N>]",
+        RUN_EXAMPLE,
+    )
+    .arg(path_argument(alloc, "BIN", "The script, in its binary form"))?
+    .arg(fonts_argument(alloc))?
+    .arg(until_argument(alloc))
 }
 
 /// `go TEXT --fonts FILE [--until N]`.
 fn go_command<'a>(alloc: Global) -> Result<Command<'a>, AllocError>
     ensures { IfOk result (λ c. (shape_of c ≡ go_command) × ((fields_of c).has_globals ≡ false)) }
 {
-    Command::new(alloc, "go")
-        .about("Assembles the text of a script, and runs it as `run` does")
-        .override_usage("vga go <TEXT> --fonts <FILE> [--until <N>]")
-        .after_help(GO_EXAMPLE)
-        .arg(path_argument(alloc, "TEXT", "The script, as text"))?
-        .arg(fonts_argument(alloc))?
-        .arg(until_argument(alloc))
+    described(
+        alloc,
+        "go",
+        "Assembles the text of a script, and runs it as `run` does",
+        "vga go <TEXT> --fonts <FILE> [--until <N>]",
+        GO_EXAMPLE,
+    )
+    .arg(path_argument(alloc, "TEXT", "The script, as text"))?
+    .arg(fonts_argument(alloc))?
+    .arg(until_argument(alloc))
 }
 
 /// The program's command line, but for the commands that run a script.
@@ -168,13 +198,16 @@ fn converting_line<'a>(alloc: Global) -> Result<Command<'a>, AllocError>
     ensures line { IfOk result (λ c. app_of c ≡ converting_line) }
     ensures local { IfOk result (λ c. (fields_of c).has_globals ≡ false) }
 {
-    Command::new(alloc, "vga")
-        .about("A VGA display adapter that is driven by a script")
-        .override_usage("vga <COMMAND>")
-        .after_help(EXAMPLES)
-        .subcommand_required(true)
-        .subcommand(asm_command(alloc)?)?
-        .subcommand(dis_command(alloc)?)
+    described(
+        alloc,
+        "vga",
+        "A VGA display adapter that is driven by a script",
+        "vga <COMMAND>",
+        EXAMPLES,
+    )
+    .subcommand_required(true)
+    .subcommand(asm_command(alloc)?)?
+    .subcommand(dis_command(alloc)?)
 }
 
 /// The program's command line.

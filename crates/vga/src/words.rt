@@ -25,7 +25,7 @@ const BAD_COUNT: &str = "the number behind '--until' is decimal digits alone, 0 
 fn has_plus(word: &str) -> bool
     ensures { result ≡ (slice_index word.now 0 == 43) }
 {
-    word.as_bytes().first() == Some(&b'+')
+    matches!(word.as_bytes().first(), Some(b'+'))
 }
 
 /// The number of steps that a word names, which is digits alone. A plus is none, though numbers may
