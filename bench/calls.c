@@ -15,6 +15,10 @@
 #define STEP_BYTES 6u
 #define HEADER_BYTES 5u
 #define ANSWER_BYTES 16u
+/* Bytes of a screen of mode 13, of a page of text, and of what is copied. */
+#define SCREEN 64000u
+#define PAGE 4000u
+#define COPY 8400u
 
 static uint8_t fonts[ZAK_FONTS_SIZE], rgb[ZAK_MOST_RGB], table[ZAK_MOST_TABLE];
 static uint8_t text[ZAK_MOST_TEXT];
@@ -31,6 +35,7 @@ static uint8_t text_of_puts[LINE_BYTES * LINES], printed[LINE_BYTES * LINES];
 static uint8_t script[HEADER_BYTES + STEP_BYTES * LINES], report[ANSWER_BYTES * PUTS];
 static zak_registers registers;
 static zak_beam beam;
+static zak_timing timing;
 
 static zak_status call_int10(uint16_t ax, uint16_t bx)
 {
@@ -68,6 +73,76 @@ static zak_status do_advance_0(uint32_t i) { return zak_advance(&card, i & 0); }
 static zak_status do_advance_1(uint32_t i) { return zak_advance(&card, 1 + (i & 0)); }
 static zak_status do_advance_25(uint32_t i) { return zak_advance(&card, 25 + (i & 0)); }
 static zak_status do_advance_line(uint32_t i) { return zak_advance(&card, 800 + (i & 0)); }
+
+/* Many bytes by one call, and by as many calls: a screen of mode 13, a page of text, and 8,400 bytes
+ * that are copied by the latches. */
+static zak_status do_put_bytes(uint32_t i)
+{
+    (void)i;
+    return zak_put_bytes(&card, 0xA0000, rgb, SCREEN, false, &len);
+}
+
+static zak_status do_put_each(uint32_t i)
+{
+    zak_status status = ZAK_OK;
+    for (uint32_t at = 0; at < SCREEN; at++)
+        status |= zak_put(&card, 0xA0000 + at, rgb[at + (i & 0)]);
+    return status;
+}
+
+static zak_status do_get_bytes(uint32_t i)
+{
+    (void)i;
+    return zak_get_bytes(&card, 0xA0000, rgb, SCREEN, false, &len);
+}
+
+static zak_status do_get_each(uint32_t i)
+{
+    zak_status status = ZAK_OK;
+    for (uint32_t at = 0; at < SCREEN; at++)
+        status |= zak_get(&card, 0xA0000 + at, &rgb[at + (i & 0)]);
+    return status;
+}
+
+static zak_status do_put_page(uint32_t i)
+{
+    (void)i;
+    return zak_put_bytes(&card, 0xB8000, rgb, PAGE, false, &len);
+}
+
+static zak_status do_put_page_each(uint32_t i)
+{
+    zak_status status = ZAK_OK;
+    for (uint32_t at = 0; at < PAGE; at++)
+        status |= zak_put(&card, 0xB8000 + at, rgb[at + (i & 0)]);
+    return status;
+}
+
+static void latch_writes(void) { zak_out_word(&card, 0x3CE, 0x0105); }
+
+static zak_status do_copy(uint32_t i)
+{
+    (void)i;
+    return zak_move_bytes(&card, 0xA0000, 0xA8000, COPY, false, &len);
+}
+
+static zak_status do_copy_each(uint32_t i)
+{
+    zak_status status = ZAK_OK;
+    for (uint32_t at = 0; at < COPY; at++) {
+        status |= zak_get(&card, 0xA0000 + at + (i & 0), &byte);
+        status |= zak_put(&card, 0xA8000 + at, byte);
+    }
+    return status;
+}
+
+static zak_status do_fill(uint32_t i) { return zak_fill_bytes(&card, 0xA0000, (uint8_t)i, SCREEN, false, &len); }
+
+static zak_status do_clock(uint32_t i)
+{
+    (void)i;
+    return zak_clock(&card, &timing);
+}
 
 static zak_status do_frame(uint32_t i)
 {
@@ -182,6 +257,16 @@ static const struct call {
     {"advance_1", do_advance_1, NULL},
     {"advance_25", do_advance_25, NULL},
     {"advance_line", do_advance_line, NULL},
+    {"put_bytes", do_put_bytes, NULL},
+    {"put_each", do_put_each, NULL},
+    {"fill_bytes", do_fill, NULL},
+    {"get_bytes", do_get_bytes, NULL},
+    {"get_each", do_get_each, NULL},
+    {"put_page", do_put_page, NULL},
+    {"put_page_each", do_put_page_each, NULL},
+    {"copy", do_copy, latch_writes},
+    {"copy_each", do_copy_each, latch_writes},
+    {"clock", do_clock, NULL},
     {"frame", do_frame, NULL},
     {"frame_xrgb", do_frame_xrgb, NULL},
     {"frame_lines", do_frame_lines, NULL},

@@ -36,6 +36,11 @@ CALLS = (
     Call("get_word", "13"), Call("out", "13"), Call("out_word", "13"), Call("in", "13"),
     Call("advance_0", "13"), Call("advance_1", "13"), Call("advance_25", "13", timed=1_000_000),
     Call("advance_line", "13", 1000, 100_000),
+    # Many bytes by one call, and by as many calls.
+    Call("put_bytes", "13", 10, 2000), Call("put_each", "13", 10, 500), Call("fill_bytes", "13", 10, 5000),
+    Call("get_bytes", "13", 10, 1000), Call("get_each", "13", 10, 500),
+    Call("put_page", "3", 100, 20_000), Call("put_page_each", "3", 100, 5000),
+    Call("copy", "12", 100, 10_000), Call("copy_each", "12", 100, 2000), Call("clock", "13", 1000, 1_000_000),
     Call("frame", "13", 10, 500), Call("frame", "3", 10, 500), Call("frame", "12", 10, 500),
     Call("frame_xrgb", "13", 10, 500), Call("frame_xrgb", "3", 10, 500), Call("frame_xrgb", "12", 10, 500),
     Call("frame_lines", "12", 10, 500),

@@ -29,7 +29,7 @@ extern "C" {
 /* The interface that this header describes. The major number changes when a call, a struct or a
  * status is no longer what it was; the minor one grows when some are added. */
 #define ZAK_API_MAJOR 1
-#define ZAK_API_MINOR 1
+#define ZAK_API_MINOR 2
 #define ZAK_API_VERSION (65536u * ZAK_API_MAJOR + ZAK_API_MINOR) /* as zak_version() tells it */
 
 /* What a call answers. 1 to 13 are the refusals E1 to E13 of docs/REPORT.md; 102 and up are the
@@ -74,6 +74,7 @@ enum {
 
 #define ZAK_FONTS_SIZE 9728u                           /* bytes of a font file */
 #define ZAK_MOST_DOTS 16777216u                        /* dots of one zak_advance */
+#define ZAK_NEVER 0xFFFFFFFFu                          /* zak_clock: no dots lead to a change */
 #define ZAK_WIDEST 2304u                               /* dots in a row of a picture */
 #define ZAK_HIGHEST 1024u                              /* rows of a picture */
 #define ZAK_MOST_RGB (3u * ZAK_WIDEST * ZAK_HIGHEST)   /* bytes of a picture */
@@ -113,9 +114,40 @@ zak_status zak_put_word(zak_card *card, uint32_t address, uint16_t value);
 zak_status zak_get(zak_card *card, uint32_t address, uint8_t *value);
 zak_status zak_get_word(zak_card *card, uint32_t address, uint16_t *value);
 
+/* Cycles of a byte at len or count addresses that follow one another: the first address first, or,
+ * if down is true, the last one first, as an 8086 moves strings. Each does what the single call
+ * does: a cycle that the adapter does not decode changes nothing, and reads FF. bytes[i] is the
+ * byte of address + i, whichever way they go. zak_move_bytes reads from + i and then writes to + i,
+ * for each i in its order. *decoded tells how many addresses the adapter decodes; of zak_move_bytes
+ * it is the reads and the writes together, 2 * count if it decodes all. Words and doublewords that
+ * go up are one call over all their bytes. If they go down, make a call for each, since the bytes of
+ * each go up. ZAK_BAD_ARGUMENT: address + len, or one like it, is above 0xFFFFFFFF. */
+zak_status zak_put_bytes(zak_card *card, uint32_t address, const uint8_t *bytes, size_t len,
+                         bool down, size_t *decoded);
+zak_status zak_fill_bytes(zak_card *card, uint32_t address, uint8_t value, size_t count, bool down,
+                          size_t *decoded);
+zak_status zak_get_bytes(zak_card *card, uint32_t address, uint8_t *bytes, size_t len, bool down,
+                         size_t *decoded);
+zak_status zak_move_bytes(zak_card *card, uint32_t from, uint32_t to, size_t count, bool down,
+                          size_t *decoded);
+
 /* So many dots of the clock, 0 to ZAK_MOST_DOTS; more are refused with ZAK_TOO_FAR. Dots may be
  * added up until the next other call: n and then m dots are n + m dots. */
 zak_status zak_advance(zak_card *card, uint32_t dots);
+
+/* What the clock comes to next, if no register is written meanwhile. The dots of to_frame end the
+ * frame under way; those of to_display change bit 0 of input status 1 (1 where no dot is
+ * displayed), and those of to_retrace its bit 3 (1 in the vertical retrace): just so many dots do,
+ * and no fewer. ZAK_NEVER: no dots change the bit. rate / rate_divisor is the number of dots a
+ * second: 25,175,000 or 28,322,000 by the clock select bits of the miscellaneous output register,
+ * divided by 2 if the sequencer halves the clock (clocking mode, bit 3). */
+typedef struct zak_timing {
+    uint32_t to_frame, to_display, to_retrace; /* dots; the last two may be ZAK_NEVER */
+    uint32_t line_dots, frame_dots, lines;     /* dots of a line and of a frame; lines of a frame */
+    uint32_t rate, rate_divisor;               /* dots a second */
+} zak_timing;
+
+zak_status zak_clock(zak_card *card, zak_timing *timing);
 
 typedef struct zak_size { uint32_t width, height; } zak_size; /* dots in a row, and rows */
 

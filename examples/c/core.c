@@ -64,22 +64,13 @@ static void check(zak_status status, const char *what)
     exit(1);
 }
 
-/* Looks at what registers decide on: the rate of dots, and how many are left of this frame. */
+/* Asks how many dots are left of the frame, and how many a second has. */
 static void look_at_clock(void)
 {
-    zak_registers state;
-    zak_beam beam;
-    check(zak_read_registers(&card, &state), "registers");
-    check(zak_read_beam(&card, &beam), "beam");
-    uint32_t width = state.seq[1] & 1 ? 8 : 9;
-    uint32_t line = (state.crtc[0] + 5u) * width;
-    uint32_t high = (state.crtc[7] & 0x01u) << 8 | (state.crtc[7] & 0x20u) << 4;
-    uint32_t frame = (state.crtc[6] + high + 2u) * line;
-    uint32_t passed = beam.line * line + beam.character * width + beam.dot;
-    left = passed < frame ? frame - passed : 1;
-    dot_rate = state.misc & 0x0C ? 28322000 : 25175000;
-    if (state.seq[1] & 0x08)
-        dot_rate /= 2;
+    zak_timing timing;
+    check(zak_clock(&card, &timing), "clock");
+    left = timing.to_frame;
+    dot_rate = timing.rate / timing.rate_divisor;
 }
 
 /* A frame of which two rows differ in width has no picture, as where a mode was set within it. */
@@ -114,11 +105,15 @@ static void spend(uint32_t clocks)
         settle();
 }
 
-/* A cycle that the card refuses is nobody's: a write is lost, and a read gives bits of 1. */
+/* A cycle that the card refuses is nobody's: a write is lost, and a read gives bits of 1. A word of
+ * which one byte is refused does nothing, so its bytes are written by themselves. */
 static void write_port(uint16_t port, uint16_t value)
 {
     settle();
-    zak_out_word(&card, port, value);
+    if (zak_out_word(&card, port, value) != ZAK_OK) {
+        zak_out(&card, port, (uint8_t)value);
+        zak_out(&card, (uint16_t)(port + 1), (uint8_t)(value >> 8));
+    }
     look_at_clock();
 }
 
@@ -128,12 +123,6 @@ static uint8_t read_port(uint16_t port)
     settle();
     zak_in(&card, port, &value);
     return value;
-}
-
-static void write_memory(uint32_t address, uint8_t value)
-{
-    settle();
-    zak_put(&card, address, value);
 }
 
 /* Interrupt 10 by the library's video BIOS. With a ROM of one's own it is an interrupt as any. */
@@ -194,12 +183,16 @@ static void compare_register(void)
     compare(value, fetch_word());
 }
 
+/* rep stosb, whose bytes stay within the segment here. */
 static void store_string(void)
 {
-    for (; registers[CX] != 0; registers[CX]--) {
-        spend(3);
-        write_memory(16u * extra_segment + registers[DI]++, (uint8_t)registers[AX]);
-    }
+    size_t decoded;
+    uint32_t address = 16u * extra_segment + registers[DI];
+    settle();
+    zak_fill_bytes(&card, address, (uint8_t)registers[AX], registers[CX], false, &decoded);
+    spend(3u * registers[CX]);
+    registers[DI] = (uint16_t)(registers[DI] + registers[CX]);
+    registers[CX] = 0;
 }
 
 /* A byte names two registers: the one that is written, and the one that is read. */

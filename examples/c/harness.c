@@ -4,6 +4,9 @@
  *     harness --restored SCRIPT FONTS [--until STEPS]
  *                                              the same, but the card is saved at pseudo-random
  *                                              steps and dots, and another goes on from its state
+ *     harness --joined SCRIPT FONTS [--until STEPS]
+ *                                              the same as the first, but writes, and reads, of
+ *                                              addresses that follow one another are one call
  *     harness --bytes SCRIPT FONTS             the bytes of a script, by zak_run
  *     harness --slices N [--bytes] SCRIPT FONTS [--until STEPS]
  *                                              a text or bytes, by zak_run_on: N steps a call, and
@@ -24,6 +27,8 @@
 #define FIRST_ROOM ((size_t)1 << 20)
 /* A slice has at least one in so many of the steps that are taken already. */
 #define SHARE 64u
+/* So many writes or reads are one call at most. */
+#define MOST_JOINED 4096u
 
 /* Bytes of a file, or what a text spells. */
 struct bytes {
@@ -322,6 +327,129 @@ static zak_status take(struct run *run, const struct step *step)
     return ZAK_OK;
 }
 
+/* Writes, or reads, of bytes at addresses that follow one another, up or down, in the order of their
+ * steps. */
+struct joined {
+    enum step_kind kind;
+    uint32_t first; /* the address of the first of them */
+    bool down;
+    size_t len;
+    uint8_t bytes[MOST_JOINED];
+};
+
+/* Whether a step goes on where the others end. The last address of all takes no part. */
+static bool joins(const struct joined *joined, const struct step *step)
+{
+    if (step->place == UINT32_MAX)
+        return false;
+    if (joined->len == 0)
+        return step->kind == STEP_PUT || step->kind == STEP_GET;
+    uint32_t up = joined->first + (uint32_t)joined->len, down = joined->first - (uint32_t)joined->len;
+    if (joined->kind != step->kind || joined->len == MOST_JOINED)
+        return false;
+    return joined->len == 1 ? step->place == up || step->place == down
+                            : step->place == (joined->down ? down : up);
+}
+
+static void join(struct joined *joined, const struct step *step)
+{
+    if (joined->len == 0) {
+        joined->kind = step->kind;
+        joined->first = step->place;
+    }
+    joined->down = joined->len > 0 && step->place < joined->first;
+    joined->bytes[joined->len++] = (uint8_t)step->value;
+}
+
+/* The same bytes from the last to the first. */
+static void turn(struct joined *joined)
+{
+    for (size_t i = 0; i < joined->len / 2; i++) {
+        uint8_t byte = joined->bytes[i];
+        joined->bytes[i] = joined->bytes[joined->len - 1 - i];
+        joined->bytes[joined->len - 1 - i] = byte;
+    }
+}
+
+/* Performs the steps by one call, whose bytes are in the order of the addresses. */
+static zak_status transfer(struct run *run, struct joined *joined, size_t *decoded)
+{
+    uint32_t address = joined->down ? joined->first - (uint32_t)(joined->len - 1) : joined->first;
+    if (joined->down)
+        turn(joined);
+    zak_status status = joined->kind == STEP_PUT
+                            ? zak_put_bytes(&run->card, address, joined->bytes, joined->len,
+                                            joined->down, decoded)
+                            : zak_get_bytes(&run->card, address, joined->bytes, joined->len,
+                                            joined->down, decoded);
+    if (joined->down)
+        turn(joined);
+    return status;
+}
+
+/* Whether the adapter decodes an address, by the registers. */
+static bool is_decoded(const zak_registers *registers, uint32_t address)
+{
+    static const uint32_t START[] = {0xA0000, 0xA0000, 0xB0000, 0xB8000};
+    static const uint32_t SIZE[] = {0x20000, 0x10000, 0x8000, 0x8000};
+    uint8_t map = registers->gfx[6] >> 2 & 3;
+    return registers->misc & 2 && address >= START[map] && address - START[map] < SIZE[map];
+}
+
+/* Writes the lines of steps that were performed together. */
+static size_t write_joined(struct run *run, const struct joined *joined,
+                           const zak_registers *registers)
+{
+    size_t decoded = 0;
+    for (size_t i = 0; i < joined->len; i++) {
+        uint32_t step = (uint32_t)i;
+        uint32_t address = joined->down ? joined->first - step : joined->first + step;
+        bool is_there = is_decoded(registers, address);
+        decoded += is_there;
+        fprintf(run->out, "%lu ", ++run->number);
+        if (!is_there)
+            fprintf(run->out, "E1 NotDecoded\n");
+        else if (joined->kind == STEP_PUT)
+            fprintf(run->out, "ok\n");
+        else
+            fprintf(run->out, "%02X\n", joined->bytes[i]);
+    }
+    return decoded;
+}
+
+static zak_status take_joined(struct run *run, struct joined *joined)
+{
+    zak_registers registers;
+    size_t decoded = 0;
+    if (joined->len == 0)
+        return ZAK_OK;
+    zak_status status = zak_read_registers(&run->card, &registers);
+    if (status == ZAK_OK)
+        status = transfer(run, joined, &decoded);
+    if (status == ZAK_OK && write_joined(run, joined, &registers) != decoded)
+        status = ZAK_BAD_ARGUMENT;
+    joined->len = 0;
+    return status;
+}
+
+/* Takes the steps of a script, up to a number of them; those that join by one call. */
+static zak_status take_all_joined(struct run *run, struct bytes bytes, unsigned long until)
+{
+    struct script script = script_begin(bytes.at, bytes.len);
+    struct joined joined = {.len = 0};
+    struct step step;
+    zak_status status = ZAK_OK;
+    while (status == ZAK_OK && run->number + joined.len < until && script_next(&script, &step)) {
+        if (!joins(&joined, &step))
+            status = take_joined(run, &joined);
+        if (status == ZAK_OK && joins(&joined, &step))
+            join(&joined, &step);
+        else if (status == ZAK_OK)
+            status = take(run, &step);
+    }
+    return status == ZAK_OK ? take_joined(run, &joined) : status;
+}
+
 /* Takes the steps of a script by a call each, up to a number of them. */
 static zak_status take_all(struct run *run, struct bytes bytes, unsigned long until)
 {
@@ -412,7 +540,7 @@ static zak_status take_looks(struct run *run)
 
 /* What the words of the command line ask for. */
 struct words {
-    bool is_bytes, is_restored;
+    bool is_bytes, is_restored, is_joined;
     uint32_t slices; /* steps of a slice, or 0 */
     const char *script, *fonts, *until;
 };
@@ -421,8 +549,9 @@ static zak_status take_steps(struct run *run, struct bytes script, const struct 
                              size_t *place)
 {
     unsigned long until = words->until ? strtoul(words->until, NULL, 10) : (unsigned long)-1;
-    zak_status status = words->slices ? take_slices(run, script, words->slices, until, place)
-                                      : take_all(run, script, until);
+    zak_status status = words->slices      ? take_slices(run, script, words->slices, until, place)
+                        : words->is_joined ? take_all_joined(run, script, until)
+                                           : take_all(run, script, until);
     return status == ZAK_OK && words->until ? take_looks(run) : status;
 }
 
@@ -511,10 +640,11 @@ static bool read_words(int argc, char **argv, struct words *words)
 {
     int at = 1;
     words->is_restored = takes_word(argv, &at, "--restored");
+    words->is_joined = takes_word(argv, &at, "--joined");
     if (takes_word(argv, &at, "--slices") && !takes_number(argv, &at, &words->slices))
         return false;
     words->is_bytes = takes_word(argv, &at, "--bytes");
-    if (words->is_restored && (words->is_bytes || words->slices))
+    if (words->is_restored + words->is_joined + (words->is_bytes || words->slices) > 1)
         return false;
     if (argc < at + 2)
         return false;
@@ -529,7 +659,7 @@ int main(int argc, char **argv)
 {
     struct words words = {0};
     if (!read_words(argc, argv, &words)) {
-        fprintf(stderr, "harness [--restored] SCRIPT FONTS [--until STEPS]\n"
+        fprintf(stderr, "harness [--restored | --joined] SCRIPT FONTS [--until STEPS]\n"
                         "harness --bytes SCRIPT FONTS\n"
                         "harness --slices N [--bytes] SCRIPT FONTS [--until STEPS]\n");
         return 2;

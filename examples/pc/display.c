@@ -26,19 +26,12 @@ bool display_has_port(uint16_t port)
     return port >= 0x3B0 && port <= 0x3DF;
 }
 
-/* Reckons how many dots are left of the frame, as docs/RASTER.md counts them. */
+/* Asks how many dots are left of the frame. */
 static void look(struct display *display)
 {
-    zak_registers registers;
-    zak_beam beam;
-    zak_read_registers(&display->card, &registers);
-    zak_read_beam(&display->card, &beam);
-    uint32_t width = registers.seq[1] & 1 ? 8 : 9;
-    uint32_t line = (registers.crtc[0] + 5u) * width;
-    uint32_t high = (registers.crtc[7] & 0x01u) << 8 | (registers.crtc[7] & 0x20u) << 4;
-    uint32_t frame = (registers.crtc[6] + high + 2u) * line;
-    uint32_t passed = beam.line * line + beam.character * width + beam.dot;
-    display->left = passed < frame ? frame - passed : 1;
+    zak_timing timing;
+    zak_clock(&display->card, &timing);
+    display->left = timing.to_frame;
     display->is_looked_at = true;
 }
 
@@ -82,13 +75,22 @@ void display_look(struct display *display)
     display->is_looked_at = false;
 }
 
+/* A word of which one byte is refused does nothing: its bytes are then written by themselves. */
+static void out_word(struct display *display, uint16_t port, uint16_t word)
+{
+    if (zak_out_word(&display->card, port, word) == ZAK_OK)
+        return;
+    zak_out(&display->card, port, (uint8_t)word);
+    zak_out(&display->card, (uint16_t)(port + 1), (uint8_t)(word >> 8));
+}
+
 void display_out(struct display *display, uint16_t port, int bytes, uint32_t value)
 {
     display_settle(display);
     if (bytes == 1)
         zak_out(&display->card, port, (uint8_t)value);
     for (int i = 0; i + 1 < bytes; i += 2)
-        zak_out_word(&display->card, (uint16_t)(port + i), (uint16_t)(value >> 8 * i));
+        out_word(display, (uint16_t)(port + i), (uint16_t)(value >> 8 * i));
     display_look(display);
 }
 
@@ -104,21 +106,24 @@ uint32_t display_in(struct display *display, uint16_t port, int bytes)
     return value;
 }
 
-void display_put(struct display *display, uint32_t address, unsigned bytes, uint32_t value)
+void display_put(struct display *display, uint32_t address, unsigned bytes, uint64_t value)
 {
-    display_settle(display);
+    uint8_t parts[sizeof value];
+    size_t decoded;
     for (unsigned i = 0; i < bytes; i++)
-        zak_put(&display->card, address + i, (uint8_t)(value >> 8 * i));
+        parts[i] = (uint8_t)(value >> 8 * i);
+    display_settle(display);
+    zak_put_bytes(&display->card, address, parts, bytes, false, &decoded);
 }
 
-uint32_t display_get(struct display *display, uint32_t address, unsigned bytes)
+uint64_t display_get(struct display *display, uint32_t address, unsigned bytes)
 {
-    uint32_t value = 0;
+    uint64_t value = 0;
+    uint8_t parts[sizeof value];
+    size_t decoded;
     display_settle(display);
-    for (unsigned i = 0; i < bytes; i++) {
-        uint8_t byte = 0xFF;
-        zak_get(&display->card, address + i, &byte);
-        value |= (uint32_t)byte << 8 * i;
-    }
+    zak_get_bytes(&display->card, address, parts, bytes, false, &decoded);
+    for (unsigned i = 0; i < bytes; i++)
+        value |= (uint64_t)parts[i] << 8 * i;
     return value;
 }

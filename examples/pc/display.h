@@ -35,8 +35,8 @@ bool display_has_port(uint16_t port);
 /* Cycles of 1, 2 or 4 bytes at a port or an address. What is refused is lost, and reads as 1. */
 void display_out(struct display *display, uint16_t port, int bytes, uint32_t value);
 uint32_t display_in(struct display *display, uint16_t port, int bytes);
-void display_put(struct display *display, uint32_t address, unsigned bytes, uint32_t value);
-uint32_t display_get(struct display *display, uint32_t address, unsigned bytes);
+void display_put(struct display *display, uint32_t address, unsigned bytes, uint64_t value);
+uint64_t display_get(struct display *display, uint32_t address, unsigned bytes);
 
 /* Behind a call of the BIOS: the registers may be others. */
 void display_look(struct display *display);

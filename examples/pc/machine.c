@@ -208,7 +208,7 @@ static void on_write(uc_engine *engine, uint64_t offset, unsigned size, uint64_t
 {
     struct machine *machine = given;
     (void)engine;
-    display_put(&machine->display, (uint32_t)(WINDOW + offset), size, (uint32_t)value);
+    display_put(&machine->display, (uint32_t)(WINDOW + offset), size, value);
 }
 
 static bool map_memory(struct machine *machine)

@@ -20,9 +20,9 @@ from .examples import check_examples
 from .header import check_header, check_names
 from .installing import check_installing
 from .pc import check_pc
-from .programs import check_memory, check_misuse, check_state, check_threads
+from .programs import check_clock, check_memory, check_misuse, check_state, check_threads, check_transfers
 from .scripts import check_scripts
-from .suite import check_restored, check_sliced, check_suite
+from .suite import check_joined, check_restored, check_sliced, check_suite
 
 RIGHT, WRONG, TROUBLE = 0, 1, 2
 Check = Callable[[Built, Path], str]
@@ -32,7 +32,10 @@ EACH: dict[str, Check] = {
     "suite": check_suite,
     "restored": check_restored,
     "sliced": check_sliced,
+    "joined": check_joined,
     "state": check_state,
+    "clock": check_clock,
+    "transfers": check_transfers,
     "misuse": check_misuse,
     "memory": check_memory,
     "threads": check_threads,

@@ -13,6 +13,8 @@ from .compilers import COMPILERS, SANITIZED, Built, Wrong, build, run
 SOURCES = Path(__file__).resolve().parent / "c"
 # A line of misuse.txt that tells a call's status; functions of misuse.c make some.
 CALL = re.compile(r"^(?:zak_\w+|restore_with|assemble|print|take)\(", re.M)
+# How many settings of registers have an event of theirs waited for, and how many transfers are compared.
+SETTINGS, TRANSFERS = 100_000, 20_000
 WRAPPED = "-Wl,--wrap=malloc,--wrap=realloc,--wrap=free"
 
 
@@ -40,6 +42,22 @@ def check_state(built: Built, folder: Path) -> str:
     build(COMPILERS[0].c, built, [SOURCES / "state.c"], made, *SANITIZED)
     count = int(run([made, fonts_file()]))
     return f"{count} readings are those of dumps and screens"
+
+
+def check_clock(built: Built, folder: Path) -> str:
+    """What zak_clock tells comes after just so many dots, over pseudo-random registers."""
+    made = folder / "clock"
+    build(COMPILERS[0].c, built, [SOURCES / "clock.c"], made, "-O2")
+    count = int(run([made, fonts_file(), str(SETTINGS)]))
+    return f"{count} settings of registers, each with an event that comes when it is told"
+
+
+def check_transfers(built: Built, folder: Path) -> str:
+    """Calls for many bytes leave and answer what their single cycles do, over pseudo-random registers."""
+    made = folder / "transfers"
+    build(COMPILERS[0].c, built, [SOURCES / "transfers.c"], made, *SANITIZED)
+    count = int(run([made, fonts_file(), str(TRANSFERS)]))
+    return f"{count} transfers, each the same as its cycles"
 
 
 def check_threads(built: Built, folder: Path) -> str:

@@ -68,3 +68,8 @@ def check_restored(built: Built, folder: Path) -> str:
 def check_sliced(built: Built, folder: Path) -> str:
     """So does each in slices of a few steps, all on one card."""
     return _answers(built, folder, f"--slices {SLICE} {TEXTS}", f"--slices {SLICE} --bytes {TEXTS}", set())
+
+
+def check_joined(built: Built, folder: Path) -> str:
+    """So does each text where writes, and reads, of addresses that follow one another are one call."""
+    return _answers(built, folder, f"--joined {TEXTS}", "--bytes {script} {fonts}", _stopped_bytes())

@@ -8,6 +8,7 @@
 #![tactic(auto)]
 
 mod buffer;
+mod clock;
 mod cycles;
 mod dumps;
 mod frames;
@@ -24,4 +25,5 @@ mod state;
 mod status;
 mod steps;
 mod texts;
+mod transfers;
 mod version;

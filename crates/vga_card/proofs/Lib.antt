@@ -14,3 +14,5 @@ pub mod SavedLemmas
 pub mod SavedCards
 pub mod SettledLemmas
 pub mod RepeatLemmas
+pub mod ClockLemmas
+pub mod TransferLemmas

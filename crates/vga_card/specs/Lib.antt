@@ -7,9 +7,11 @@ pub mod Cycles
 pub mod Words
 pub mod Dots
 pub mod Frames
+pub mod Clock
 pub mod Valid
 pub mod Bounds
 pub mod Bus
+pub mod Transfers
 pub mod Line
 pub mod Saved
 pub mod Settled

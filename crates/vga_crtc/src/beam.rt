@@ -2,6 +2,7 @@
 ghost use Rattle.std.specs.Prelude.{◌≡◌, ◌≤◌, ◌⊎◌};
 ghost use Rattle.vga_crtc.specs.Raster.{IsInLine, moved_in_line};
 
+mod clock;
 mod saved;
 
 use crate::registers::Registers;

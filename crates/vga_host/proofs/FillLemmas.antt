@@ -1,6 +1,7 @@
 -- Fills that put words of the planes: one write where no address bit picks a plane; two where odd and even addresses are apart; four in a chain of four.
 use Rattle.std.proofs.Common.{Bool, true, false, ◌≡◌, ℕ, zero, suc, ◌+◌, ◌-◌, ◌*◌, ◌/◌, ◌%◌, ◌<◌, ◌≤◌, ◌==◌, ◌&&◌, ◌||◌, refl, sym, ap, subst, ◌∙◌, arith, List}
 use Rattle.std.proofs.Common.{if◌then◌else◌}
+use Rattle.std.specs.Prelude.{not}
 use Rattle.std.proofs.lemmas.Bool.Decides.{nat_tests}
 use Rattle.vga_bits.proofs.FourLemmas.{by_plane}
 use Rattle.vga_bits.specs.Four.{Four, four, of_plane}
@@ -8,10 +9,12 @@ use Rattle.vga_host.specs.declared.host.aim.Aim.{Aim}
 use Rattle.vga_host.specs.Host.{HostState}
 use Rattle.vga_host.specs.Address.{is_decoded, window_offset, plane_offset, is_reached}
 use Rattle.vga_host.specs.Fields.{is_in_map_mask, is_chain_four, is_chain_odd_even, is_odd_even_off}
-use Rattle.vga_host.specs.MemoryWrite.{written_bit, combined_bit, written_byte, after_put}
+use Rattle.vga_host.specs.MemoryWrite.{written_bit, combined_bit, written_byte, after_put, IsPlain}
 use Rattle.vga_host.specs.Runs.{put_where, after_puts, in_turn, with_memory}
 use Rattle.vga_host.specs.Aim.{IsAim}
-use Rattle.vga_host.specs.Words.{word_put, alternating, ArePutWithin, FillsPlanes, FillsFours, FillsPairs, FillsWords}
+use Rattle.vga_host.specs.Words.{word_put, alternating, grouped, ArePutWithin, FillsPlanes, FillsFours, FillsPairs, PutsWords}
+use Rattle.vga_bits.proofs.BitLemmas.{byte_from_bits}
+use Rattle.vga_host.proofs.PlainLemmas.{plain_bit}
 use Rattle.vga_host.proofs.RunLemmas.{even_in_turn, odd_in_turn, Turns}
 use Rattle.vga_host.proofs.WordLemmas.{plane_is, plane_alone, alone_is, and_turned, in_four, of_four, in_two, of_two, next_place, aim_over}
 
@@ -77,14 +80,12 @@ put_paired s misc y v b j w less chain pairs off dy py eb own =
 
 -- ---- words
 
--- in a chain of four, four writes of two bytes in turn put a word
-pub four_filled : (h : HostState) (misc first n f even odd i : ℕ) → ArePutWithin h misc first n f → is_chain_four h ≡ true → f % 4 ≡ 0 → i % 4 ≡ 0 → i + 4 ≤ n
-    → after_puts misc first (in_turn even odd) 4 i h
-    ≡ word_put h (is_in_map_mask h) ((f + i) % 65536) (alternating (four (λ p. written_byte h even p)) (four (λ p. written_byte h odd p)))
-four_filled h misc first n f even odd i within chain ef ei room =
+-- in a chain of four, four writes put a word
+pub four_put : (h : HostState) (misc first n f i : ℕ) (g : ℕ → ℕ) (w : Four ℕ) → ArePutWithin h misc first n f → is_chain_four h ≡ true → f % 4 ≡ 0 → i % 4 ≡ 0
+    → i + 4 ≤ n → written_byte h (g i) 0 ≡ w.plane0 → written_byte h (g (i + 1)) 1 ≡ w.plane1 → written_byte h (g (i + 1 + 1)) 2 ≡ w.plane2
+    → written_byte h (g (i + 1 + 1 + 1)) 3 ≡ w.plane3 → after_puts misc first g 4 i h ≡ word_put h (is_in_map_mask h) ((f + i) % 65536) w
+four_put h misc first n f i g w within chain ef ei room own0 own1 own2 own3 =
     let b = (f + i) % 65536 in
-    let w = alternating (four (λ p. written_byte h even p)) (four (λ p. written_byte h odd p)) in
-    let turn = in_turn even odd in
     let bf : b % 4 ≡ 0 = omega (arith, ef, ei) in
     let s1 : HostState = word_put h (plane_alone h 0) b w in
     let s2 : HostState = word_put s1 (plane_alone h 1) b w in
@@ -95,20 +96,27 @@ four_filled h misc first n f even odd i within chain ef ei room =
     let l1 : i + 1 < n = omega (arith, room) in
     let l2 : i + 1 + 1 < n = omega (arith, room) in
     let l3 : i + 1 + 1 + 1 < n = omega (arith, room) in
-    let v0 : turn i ≡ even = sym (even_in_turn even odd i (omega (arith, ei))) in
-    let v1 : turn (i + 1) ≡ odd = sym (odd_in_turn even odd (i + 1) (λ e. omega (arith, ei, e))) in
-    let v2 : turn (i + 1 + 1) ≡ even = sym (even_in_turn even odd (i + 1 + 1) (omega (arith, ei))) in
-    let v3 : turn (i + 1 + 1 + 1) ≡ odd = sym (odd_in_turn even odd (i + 1 + 1 + 1) (λ e. omega (arith, ei, e))) in
-    let e0 = put_chained h misc (first + i) (turn i) b 0 w (omega arith) chain (within.written i l0)
-    (within.place i l0 ∙ place i 0 (omega arith) (omega arith)) bf (ap (λ v. written_byte h v 0) v0) in
-    let e1 = put_chained s1 misc (first + (i + 1)) (turn (i + 1)) b 1 w (omega arith) chain (within.written (i + 1) l1)
-    (within.place (i + 1) l1 ∙ place (i + 1) 1 (omega arith) (omega arith)) bf (ap (λ v. written_byte s1 v 1) v1 ∙ written_over h s1.memory odd 1) in
-    let e2 = put_chained s2 misc (first + (i + 1 + 1)) (turn (i + 1 + 1)) b 2 w (omega arith) chain (within.written (i + 1 + 1) l2)
-    (within.place (i + 1 + 1) l2 ∙ place (i + 1 + 1) 2 (omega arith) (omega arith)) bf (ap (λ v. written_byte s2 v 2) v2 ∙ written_over h s2.memory even 2) in
-    let e3 = put_chained s3 misc (first + (i + 1 + 1 + 1)) (turn (i + 1 + 1 + 1)) b 3 w (omega arith) chain (within.written (i + 1 + 1 + 1) l3)
-    (within.place (i + 1 + 1 + 1) l3 ∙ place (i + 1 + 1 + 1) 3 (omega arith) (omega arith)) bf (ap (λ v. written_byte s3 v 3) v3
-    ∙ written_over h s3.memory odd 3) in
-    ap (after_puts misc first turn 3 (i + 1)) e0 ∙ ap (after_puts misc first turn 2 (i + 1 + 1)) e1 ∙ ap (after_puts misc first turn 1 (i + 1 + 1 + 1)) e2 ∙ e3
+    let e0 = put_chained h misc (first + i) (g i) b 0 w (omega arith) chain (within.written i l0)
+    (within.place i l0 ∙ place i 0 (omega arith) (omega arith)) bf own0 in
+    let e1 = put_chained s1 misc (first + (i + 1)) (g (i + 1)) b 1 w (omega arith) chain (within.written (i + 1) l1)
+    (within.place (i + 1) l1 ∙ place (i + 1) 1 (omega arith) (omega arith)) bf (written_over h s1.memory (g (i + 1)) 1 ∙ own1) in
+    let e2 = put_chained s2 misc (first + (i + 1 + 1)) (g (i + 1 + 1)) b 2 w (omega arith) chain (within.written (i + 1 + 1) l2)
+    (within.place (i + 1 + 1) l2 ∙ place (i + 1 + 1) 2 (omega arith) (omega arith)) bf (written_over h s2.memory (g (i + 1 + 1)) 2 ∙ own2) in
+    let e3 = put_chained s3 misc (first + (i + 1 + 1 + 1)) (g (i + 1 + 1 + 1)) b 3 w (omega arith) chain (within.written (i + 1 + 1 + 1) l3)
+    (within.place (i + 1 + 1 + 1) l3 ∙ place (i + 1 + 1 + 1) 3 (omega arith) (omega arith)) bf (written_over h s3.memory (g (i + 1 + 1 + 1)) 3 ∙ own3) in
+    ap (after_puts misc first g 3 (i + 1)) e0 ∙ ap (after_puts misc first g 2 (i + 1 + 1)) e1 ∙ ap (after_puts misc first g 1 (i + 1 + 1 + 1)) e2 ∙ e3
+
+-- and so do four writes of two bytes in turn
+four_filled : (h : HostState) (misc first n f even odd i : ℕ) → ArePutWithin h misc first n f → is_chain_four h ≡ true → f % 4 ≡ 0 → i % 4 ≡ 0 → i + 4 ≤ n
+    → after_puts misc first (in_turn even odd) 4 i h
+    ≡ word_put h (is_in_map_mask h) ((f + i) % 65536) (alternating (four (λ p. written_byte h even p)) (four (λ p. written_byte h odd p)))
+four_filled h misc first n f even odd i within chain ef ei room =
+    let w = alternating (four (λ p. written_byte h even p)) (four (λ p. written_byte h odd p)) in
+    four_put h misc first n f i (in_turn even odd) w within chain ef ei room
+    (ap (λ v. written_byte h v 0) (sym (even_in_turn even odd i (omega (arith, ei)))))
+    (ap (λ v. written_byte h v 1) (sym (odd_in_turn even odd (i + 1) (λ e. omega (arith, ei, e)))))
+    (ap (λ v. written_byte h v 2) (sym (even_in_turn even odd (i + 1 + 1) (omega (arith, ei)))))
+    (ap (λ v. written_byte h v 3) (sym (odd_in_turn even odd (i + 1 + 1 + 1) (λ e. omega (arith, ei, e)))))
 
 even_plane : (h : HostState) (even odd p : ℕ) → p < 4 → p % 2 ≡ 0
     → written_byte h even p ≡ of_plane (alternating (four (λ p. written_byte h even p)) (four (λ p. written_byte h odd p))) p
@@ -122,29 +130,34 @@ odd_plane h even odd p l is =
     by_plane (λ p. p % 2 ≡ 1 → written_byte h odd p ≡ of_plane (alternating (four (λ p. written_byte h even p)) (four (λ p. written_byte h odd p))) p)
     (λ e. absurd (cc)) (λ e. refl) (λ e. absurd (cc)) (λ e. refl) p l is
 
--- where odd and even addresses are apart, two writes of two bytes in turn put a word
-pub two_filled : (h : HostState) (misc first n f even odd i : ℕ) → ArePutWithin h misc first n f → is_chain_four h ≡ false → is_chain_odd_even h ≡ true
-    → is_odd_even_off h ≡ false → f % 2 ≡ 0 → i % 2 ≡ 0 → i + 2 ≤ n
-    → after_puts misc first (in_turn even odd) 2 i h
-    ≡ word_put h (is_in_map_mask h) ((f + i) % 65536) (alternating (four (λ p. written_byte h even p)) (four (λ p. written_byte h odd p)))
-two_filled h misc first n f even odd i within chain pairs off ef ei room =
+-- where odd and even addresses are apart, two writes put a word
+pub two_put : (h : HostState) (misc first n f i : ℕ) (g : ℕ → ℕ) (w : Four ℕ) → ArePutWithin h misc first n f → is_chain_four h ≡ false
+    → is_chain_odd_even h ≡ true → is_odd_even_off h ≡ false → f % 2 ≡ 0 → i % 2 ≡ 0 → i + 2 ≤ n
+    → ((p : ℕ) → p < 4 → p % 2 ≡ 0 → written_byte h (g i) p ≡ of_plane w p) → ((p : ℕ) → p < 4 → p % 2 ≡ 1 → written_byte h (g (i + 1)) p ≡ of_plane w p)
+    → after_puts misc first g 2 i h ≡ word_put h (is_in_map_mask h) ((f + i) % 65536) w
+two_put h misc first n f i g w within chain pairs off ef ei room own0 own1 =
     let b = (f + i) % 65536 in
-    let w = alternating (four (λ p. written_byte h even p)) (four (λ p. written_byte h odd p)) in
-    let turn = in_turn even odd in
     let bf : b % 2 ≡ 0 = omega (arith, ef, ei) in
     let s1 : HostState = word_put h (planes_apart h 0) b w in
     let l0 : i < n = omega (arith, room) in
     let l1 : i + 1 < n = omega (arith, room) in
-    let v0 : turn i ≡ even = sym (even_in_turn even odd i ei) in
-    let v1 : turn (i + 1) ≡ odd = sym (odd_in_turn even odd (i + 1) (λ e. omega (arith, ei, e))) in
     let place1 : (f + (i + 1)) % 65536 ≡ b + 1 = omega (arith, ef, ei) in
     let place0 : (f + i) % 65536 ≡ b + 0 = omega arith in
-    let e0 = put_paired h misc (first + i) (turn i) b 0 w (omega arith) chain pairs off (within.written i l0) (within.place i l0 ∙ place0) bf
-    (λ p l e. ap (λ v. written_byte h v p) v0 ∙ even_plane h even odd p l e) in
-    let e1 = put_paired s1 misc (first + (i + 1)) (turn (i + 1)) b 1 w (omega arith) chain pairs off (within.written (i + 1) l1) (within.place (i + 1) l1
-    ∙ place1) bf
-    (λ p l e. ap (λ v. written_byte s1 v p) v1 ∙ written_over h s1.memory odd p ∙ odd_plane h even odd p l e) in
-    ap (after_puts misc first turn 1 (i + 1)) e0 ∙ e1
+    let e0 = put_paired h misc (first + i) (g i) b 0 w (omega arith) chain pairs off (within.written i l0) (within.place i l0 ∙ place0) bf own0 in
+    let e1 = put_paired s1 misc (first + (i + 1)) (g (i + 1)) b 1 w (omega arith) chain pairs off (within.written (i + 1) l1) (within.place (i + 1) l1
+    ∙ place1) bf (λ p l e. written_over h s1.memory (g (i + 1)) p ∙ own1 p l e) in
+    ap (after_puts misc first g 1 (i + 1)) e0 ∙ e1
+
+-- and so do two writes of two bytes in turn
+two_filled : (h : HostState) (misc first n f even odd i : ℕ) → ArePutWithin h misc first n f → is_chain_four h ≡ false → is_chain_odd_even h ≡ true
+    → is_odd_even_off h ≡ false → f % 2 ≡ 0 → i % 2 ≡ 0 → i + 2 ≤ n
+    → after_puts misc first (in_turn even odd) 2 i h
+    ≡ word_put h (is_in_map_mask h) ((f + i) % 65536) (alternating (four (λ p. written_byte h even p)) (four (λ p. written_byte h odd p)))
+two_filled h misc first n f even odd i within chain pairs off ef ei room =
+    let w = alternating (four (λ p. written_byte h even p)) (four (λ p. written_byte h odd p)) in
+    two_put h misc first n f i (in_turn even odd) w within chain pairs off ef ei room
+    (λ p l e. ap (λ v. written_byte h v p) (sym (even_in_turn even odd i ei)) ∙ even_plane h even odd p l e)
+    (λ p l e. ap (λ v. written_byte h v p) (sym (odd_in_turn even odd (i + 1) (λ e. omega (arith, ei, e)))) ∙ odd_plane h even odd p l e)
 
 -- where no bit of an address picks a plane, a write puts a word
 one_filled : (h : HostState) (misc first n f v i : ℕ) → ArePutWithin h misc first n f → is_chain_four h ≡ false → is_chain_odd_even h ≡ false
@@ -170,21 +183,21 @@ word_over : (h : HostState) (m : Four (List ℕ)) (v : ℕ) → (let s : HostSta
 word_over h m v = λ j. four (λ p. written_over h m v p j)
 
 pub four_fills : (h : HostState) (misc first n f even odd : ℕ) → ArePutWithin h misc first n f → FillsFours h f →
-    FillsWords 4 h misc first n f even odd (alternating (four (λ p. written_byte h even p)) (four (λ p. written_byte h odd p)))
+    PutsWords 4 h misc first n f (in_turn even odd) (λ i. alternating (four (λ p. written_byte h even p)) (four (λ p. written_byte h odd p)))
 four_fills h misc first n f even odd within is = record {
   some = omega arith;
   next = λ i e. omega (arith, e);
-  filled = λ m i e room. let s : HostState = record h { memory = m } in
+  put = λ m i e room. let s : HostState = record h { memory = m } in
       four_filled s misc first n f even odd i (put_within h m misc first n f within) is.chain is.place e room
       ∙ (λ j. word_put s (is_in_map_mask h) ((f + i) % 65536) (alternating (word_over h m even j) (word_over h m odd j)));
 }
 
 pub pair_fills : (h : HostState) (misc first n f even odd : ℕ) → ArePutWithin h misc first n f → FillsPairs h f →
-    FillsWords 2 h misc first n f even odd (alternating (four (λ p. written_byte h even p)) (four (λ p. written_byte h odd p)))
+    PutsWords 2 h misc first n f (in_turn even odd) (λ i. alternating (four (λ p. written_byte h even p)) (four (λ p. written_byte h odd p)))
 pair_fills h misc first n f even odd within is = record {
   some = omega arith;
   next = λ i e. omega (arith, e);
-  filled = λ m i e room. let s : HostState = record h { memory = m } in
+  put = λ m i e room. let s : HostState = record h { memory = m } in
       two_filled s misc first n f even odd i (put_within h m misc first n f within) is.chain is.pairs is.off is.place e room
       ∙ (λ j. word_put s (is_in_map_mask h) ((f + i) % 65536) (alternating (word_over h m even j) (word_over h m odd j)));
 }
@@ -194,11 +207,11 @@ same_turn v i true = refl
 same_turn v i false = refl
 
 pub plane_fills : (h : HostState) (misc first n f v : ℕ) → ArePutWithin h misc first n f → FillsPlanes h →
-    FillsWords 1 h misc first n f v v (four (λ p. written_byte h v p))
+    PutsWords 1 h misc first n f (in_turn v v) (λ i. four (λ p. written_byte h v p))
 plane_fills h misc first n f v within is = record {
   some = omega arith;
   next = λ i e. omega (arith, e);
-  filled = λ m i e room. let s : HostState = record h { memory = m } in
+  put = λ m i e room. let s : HostState = record h { memory = m } in
       ap (put_where s misc (first + i)) (same_turn v i (i % 2 == 0))
       ∙ one_filled s misc first n f v i (put_within h m misc first n f within) is.chain is.pairs is.off (omega (arith, room))
       ∙ (λ j. word_put s (is_in_map_mask h) ((f + i) % 65536) (word_over h m v j));
@@ -218,34 +231,32 @@ puts_add misc first g (suc k) r i h =
     ∙ ap (λ n. after_puts misc first g r n (after_puts misc first g k (i + 1) (put_where h misc (first + i) (g i)))) z
 
 -- what a loop over words keeps
-pub fill_goes_on : (h s r : HostState) (per misc first n f even odd done : ℕ) (w : Four ℕ) → FillsWords per h misc first n f even odd w → per ≤ n - done →
+pub words_go_on : (h s r : HostState) (per misc first n f done : ℕ) (g : ℕ → ℕ) (w : ℕ → Four ℕ) → PutsWords per h misc first n f g w → per ≤ n - done →
     done ≤ n
-    → done % per ≡ 0 → with_memory h s.memory ≡ s → after_puts misc first (in_turn even odd) done 0 h ≡ s
-    → r ≡ word_put s (is_in_map_mask h) ((f + done) % 65536) w
-    → (done + per ≤ n) × ((done + per) % per ≡ 0) × (with_memory h r.memory ≡ r) × (after_puts misc first (in_turn even odd) (done + per) 0 h ≡ r)
-fill_goes_on h s r per misc first n f even odd done w words room few whole same put is =
+    → done % per ≡ 0 → with_memory h s.memory ≡ s → after_puts misc first g done 0 h ≡ s
+    → r ≡ word_put s (is_in_map_mask h) ((f + done) % 65536) (w done)
+    → (done + per ≤ n) × ((done + per) % per ≡ 0) × (with_memory h r.memory ≡ r) × (after_puts misc first g (done + per) 0 h ≡ r)
+words_go_on h s r per misc first n f done g w words room few whole same put is =
     let left : done + per ≤ n = omega (arith, room, few) in
-    let after : HostState = word_put s (is_in_map_mask h) ((f + done) % 65536) w in
-    let z : 0 + done ≡ done = omega arith in
-    let turn = in_turn even odd in (
+    let after : HostState = word_put s (is_in_map_mask h) ((f + done) % 65536) (w done) in
+    let z : 0 + done ≡ done = omega arith in (
       left,
       words.next done whole,
       subst (λ (x : HostState). with_memory h x.memory ≡ x) (sym is)
           (ap (λ (x : HostState). with_memory x after.memory) same),
-      puts_add misc first turn done per 0 h ∙ ap (λ (k : ℕ). after_puts misc first turn per k (after_puts misc first turn done 0 h)) z
-          ∙ ap (after_puts misc first turn per done) (put ∙ sym same) ∙ words.filled s.memory done whole left
-          ∙ ap (λ (x : HostState). word_put x (is_in_map_mask h) ((f + done) % 65536) w) same ∙ sym is,
+      puts_add misc first g done per 0 h ∙ ap (λ (k : ℕ). after_puts misc first g per k (after_puts misc first g done 0 h)) z
+          ∙ ap (after_puts misc first g per done) (put ∙ sym same) ∙ words.put s.memory done whole left
+          ∙ ap (λ (x : HostState). word_put x (is_in_map_mask h) ((f + done) % 65536) (w done)) same ∙ sym is,
     )
 
 -- what is left of n writes, behind those that are done, is what all of them leave
-pub puts_rest : (misc first even odd n done : ℕ) (h s : HostState) → done ≤ n → s ≡ after_puts misc first (in_turn even odd) done 0 h →
-    after_puts misc first (in_turn even odd) (n - done) done s ≡ after_puts misc first (in_turn even odd) n 0 h
-puts_rest misc first even odd n done h s few is =
+pub puts_rest : (misc first n done : ℕ) (g : ℕ → ℕ) (h s : HostState) → done ≤ n → s ≡ after_puts misc first g done 0 h →
+    after_puts misc first g (n - done) done s ≡ after_puts misc first g n 0 h
+puts_rest misc first n done g h s few is =
     let z : done ≡ 0 + done = omega arith in
     let all : done + (n - done) ≡ n = omega (arith, few) in
-    let turn = in_turn even odd in
-    ap (after_puts misc first turn (n - done) done) is ∙ ap (λ (k : ℕ). after_puts misc first turn (n - done) k (after_puts misc first turn done 0 h)) z
-    ∙ sym (puts_add misc first turn done (n - done) 0 h) ∙ ap (λ (k : ℕ). after_puts misc first turn k 0 h) all
+    ap (after_puts misc first g (n - done) done) is ∙ ap (λ (k : ℕ). after_puts misc first g (n - done) k (after_puts misc first g done 0 h)) z
+    ∙ sym (puts_add misc first g done (n - done) 0 h) ∙ ap (λ (k : ℕ). after_puts misc first g k 0 h) all
 
 -- what the loop over the writes that are left begins with
 pub fill_leaves : (aim : Aim) (bytes others : Four ℕ) (misc first even odd n done : ℕ) (h s : HostState) → IsAim aim h
@@ -256,5 +267,68 @@ fill_leaves aim bytes others misc first even odd n done h s is be bo few kept pu
   subst (IsAim aim) kept (aim_over aim h s.memory h.latches is),
   be ∙ sym (word_over h s.memory even) ∙ ap (λ (x : HostState). four (λ p. written_byte x even p)) kept,
   bo ∙ sym (word_over h s.memory odd) ∙ ap (λ (x : HostState). four (λ p. written_byte x odd p)) kept,
-  puts_rest misc first even odd n done h s few put,
+  puts_rest misc first n done (in_turn even odd) h s few put,
 )
+
+-- ---- bytes of the caller's
+
+-- a plain write leaves its byte in each plane
+plain_byte : (h : HostState) (v p : ℕ) → IsPlain h → p < 4 → v < 256 → written_byte h v p ≡ v
+plain_byte h v p plain l byte = sym (byte_from_bits v (λ i. written_bit h v p i) byte (λ i li. sym (plain_bit h v p i plain l li)))
+
+plain_over : (h : HostState) (m : Four (List ℕ)) → IsPlain h → (let s : HostState = record h { memory = m } in IsPlain s)
+plain_over h m is = record { mode = is.mode; rotate = is.rotate; function = is.function; own = is.own; mask = is.mask }
+
+pub four_grouped : (h : HostState) (misc first n f : ℕ) (g : ℕ → ℕ) → ArePutWithin h misc first n f → FillsFours h f → IsPlain h → ((i : ℕ) → g i < 256) →
+    PutsWords 4 h misc first n f g (grouped 4 g)
+four_grouped h misc first n f g within is plain bytes = record {
+  some = omega arith;
+  next = λ i e. omega (arith, e);
+  put = λ m i e room. let s : HostState = record h { memory = m } in
+      let own : (p k : ℕ) → p < 4 → k ≡ i + p → written_byte s (g k) p ≡ g (i + p) =
+      λ p k l at. plain_byte s (g k) p (plain_over h m plain) l (bytes k) ∙ ap g at in
+      four_put s misc first n f i g (grouped 4 g i) (put_within h m misc first n f within) is.chain is.place e room
+      (own 0 i (omega arith) (omega arith)) (own 1 (i + 1) (omega arith) refl) (own 2 (i + 1 + 1) (omega arith) (omega arith))
+      (own 3 (i + 1 + 1 + 1) (omega arith) (omega arith));
+}
+
+pub pair_grouped : (h : HostState) (misc first n f : ℕ) (g : ℕ → ℕ) → ArePutWithin h misc first n f → FillsPairs h f → IsPlain h → ((i : ℕ) → g i < 256) →
+    PutsWords 2 h misc first n f g (grouped 2 g)
+pair_grouped h misc first n f g within is plain bytes = record {
+  some = omega arith;
+  next = λ i e. omega (arith, e);
+  put = λ m i e room. let s : HostState = record h { memory = m } in
+      let kept = plain_over h m plain in
+      let zero_is : i ≡ i + 0 = omega arith in
+      two_put s misc first n f i g (grouped 2 g i) (put_within h m misc first n f within) is.chain is.pairs is.off is.place e room
+      (λ p l odd. plain_byte s (g i) p kept l (bytes i) ∙ by_plane (λ q. q % 2 ≡ 0 → g i ≡ of_plane (grouped 2 g i) q)
+      (λ x. ap g zero_is) (λ x. absurd (cc)) (λ x. ap g zero_is) (λ x. absurd (cc)) p l odd)
+      (λ p l odd. plain_byte s (g (i + 1)) p kept l (bytes (i + 1)) ∙ by_plane (λ q. q % 2 ≡ 1 → g (i + 1) ≡ of_plane (grouped 2 g i) q)
+      (λ x. absurd (cc)) (λ x. refl) (λ x. absurd (cc)) (λ x. refl) p l odd);
+}
+
+pub plane_grouped : (h : HostState) (misc first n f : ℕ) (g : ℕ → ℕ) → ArePutWithin h misc first n f → FillsPlanes h → IsPlain h → ((i : ℕ) → g i < 256) →
+    PutsWords 1 h misc first n f g (grouped 1 g)
+plane_grouped h misc first n f g within is plain bytes = record {
+  some = omega arith;
+  next = λ i e. omega (arith, e);
+  put = λ m i e room. let s : HostState = record h { memory = m } in
+      let kept = plain_over h m plain in
+      let zero_is : i ≡ i + 0 = omega arith in
+      let own : (p : ℕ) → p < 4 → written_byte s (g i) p ≡ g (i + 0) = λ p l. plain_byte s (g i) p kept l (bytes i) ∙ ap g zero_is in
+      one_filled s misc first n f (g i) i (put_within h m misc first n f within) is.chain is.pairs is.off (omega (arith, room))
+      ∙ (λ j. word_put s (is_in_map_mask h) ((f + i) % 65536) (record {
+        plane0 = own 0 (omega arith) j;
+        plane1 = own 1 (omega arith) j;
+        plane2 = own 2 (omega arith) j;
+        plane3 = own 3 (omega arith) j;
+      }));
+}
+
+pub not_false : (b : Bool) → not b ≡ false → b ≡ true
+not_false true e = refl
+not_false false e = absurd (cc)
+
+-- what the registers say stays where memory alone changes
+pub aim_kept : (aim : Aim) (h s : HostState) → IsAim aim h → with_memory h s.memory ≡ s → IsAim aim s
+aim_kept aim h s is kept = subst (IsAim aim) kept (aim_over aim h s.memory h.latches is)

@@ -1,18 +1,27 @@
 -- Runs of writes: what the registers say stays, and a write by what they say.
 use Rattle.std.proofs.Common.{Bool, true, false, ◌≡◌, ℕ, suc, ◌+◌, ◌-◌, ◌*◌, ◌/◌, ◌%◌, ◌<◌, ◌==◌, ◌&&◌, ◌||◌, nat_le, nat_lt, IsTrue, refl, sym, ap}
 use Rattle.std.proofs.Common.{subst, ◌∙◌, arith, if◌then◌else◌}
-use Rattle.std.specs.Prelude.{slice_set}
+use Rattle.std.specs.Prelude.{slice_set, slice_index}
+use Rattle.std.proofs.Common.{length, List, ◌≤◌, zero}
+use Rattle.std.specs.Prelude.{min, max}
+use Rattle.std.proofs.lemmas.Bool.Decides.{nat_tests}
+use Rattle.std.proofs.Common.{⊎_elim}
+use Rattle.std.proofs.lemmas.Bool.{cases_order, cases_lt}
+use Rattle.std.proofs.lemmas.List.{get_or-set_other, get_or-set_same}
 use Rattle.vga_bits.specs.Bits.{is_set, byte_of}
 use Rattle.vga_bits.specs.Four.{Four, four, of_plane}
-use Rattle.vga_planes.specs.Planes.{with_bytes, bytes_at}
+use Rattle.vga_planes.specs.Planes.{with_bytes, bytes_at, byte_at}
 use Rattle.vga_host.specs.declared.host.aim.Aim.{Aim}
 use Rattle.vga_host.specs.Host.{HostState}
-use Rattle.vga_host.specs.Address.{is_decoded, window_offset, plane_offset, is_reached}
+use Rattle.vga_host.specs.Address.{is_decoded, decoded_among, window_offset, plane_offset, is_reached, window_start, window_len}
 use Rattle.vga_host.specs.MemoryWrite.{written_bit, combined_bit, written_byte, after_put}
-use Rattle.vga_host.specs.MemoryRead.{loaded, read_bit, read_byte, after_get}
-use Rattle.vga_host.specs.Runs.{put_where, put_bytes, get_where, byte_where, move_where, after_puts, after_moves, in_turn}
+use Rattle.vga_host.specs.MemoryRead.{loaded, compared_bit, picked_plane, read_bit, read_byte, after_get}
+use Rattle.std.specs.Int.{bit_at}
+use Rattle.vga_bits.proofs.BitLemmas.{byte_from_bits}
+use Rattle.vga_bits.proofs.FourLemmas.{by_plane}
+use Rattle.vga_host.specs.Runs.{put_where, put_bytes, get_where, byte_where, move_where, after_puts, after_gets, after_moves, in_turn}
 use Rattle.vga_host.specs.Aim.{IsAim}
-use Rattle.vga_host.specs.Fields.{write_mode, is_memory_enabled}
+use Rattle.vga_host.specs.Fields.{write_mode, is_memory_enabled, is_read_compare}
 
 -- ---- what the registers say stays
 
@@ -179,3 +188,119 @@ pub odd_in_turn : (even odd i : ℕ) → (i % 2 ≡ 0 → ⊥) → odd ≡ in_tu
 odd_in_turn even odd i is =
     let one : i % 2 ≡ 1 = omega arith in
     sym (ap (λ x. if x == 0 then even else odd) one)
+
+-- ---- reads
+
+-- the host path with other latches
+abbrev pub with_latches : HostState → Four ℕ → HostState
+with_latches h l = record h { latches = l }
+
+latches_where : (d : Bool) (h : HostState) (a : ℕ) → with_latches h (if d then after_get h a else h).latches ≡ (if d then after_get h a else h)
+latches_where true h a = refl
+latches_where false h a = refl
+
+-- a read changes the latches alone
+pub latches_read : (h s : HostState) (misc a : ℕ) → with_latches h s.latches ≡ s → with_latches h (get_where s misc a).latches ≡ get_where s misc a
+latches_read h s misc a kept =
+    ap (λ (x : HostState). with_latches x (get_where s misc a).latches) kept ∙ latches_where (is_decoded s misc a) s a
+
+-- and those change no byte that is read
+pub byte_over : (h s : HostState) (misc a : ℕ) → with_latches h s.latches ≡ s → byte_where s misc a ≡ byte_where h misc a
+unfolding read_bit
+byte_over h s misc a kept = ap (λ (x : HostState). byte_where x misc a) (sym kept)
+
+-- a step of a loop of reads
+pub next_get : (misc first n i : ℕ) (h t r : HostState) → i < n → t ≡ get_where h misc (first + i) → after_gets misc first (n - i) i h ≡ r →
+    after_gets misc first (n - (i + 1)) (i + 1) t ≡ r
+next_get misc first n i h t r less now before =
+    let k : n - i ≡ suc (n - (i + 1)) = omega arith in
+    ap (after_gets misc first (n - (i + 1)) (i + 1)) now ∙ sym (ap (λ k. after_gets misc first k i h) k) ∙ before
+
+-- a byte more that is read
+pub byte_set : (bytes : List ℕ) (i k v : ℕ) (g : ℕ → ℕ) → i < length bytes → k < i + 1 → ((j : ℕ) → j < i → slice_index bytes j ≡ g j) → v ≡ g i →
+    slice_index (slice_set bytes i v) k ≡ g k
+byte_set bytes i k v g within few read is = ⊎_elim
+    (λ (here : k ≡ i). ap (slice_index (slice_set bytes i v)) here ∙ get_or-set_same bytes i v 0 within ∙ is ∙ ap g (sym here))
+    (⊎_elim
+    (λ (before : k < i). get_or-set_other bytes i k v 0 (omega arith) ∙ read k before)
+    (λ (past : i < k). absurd (omega arith)))
+    (cases_order k i)
+
+-- ---- decoded addresses
+
+pub none_enabled : (h : HostState) (misc first n : ℕ) → is_memory_enabled misc ≡ false → decoded_among h misc first n ≡ 0
+unfolding decoded_among
+none_enabled h misc first zero off = refl
+none_enabled h misc first (suc n) off =
+    let s = window_start h in
+    let a = first + n in
+    (λ j. none_enabled h misc first n off j + (if off j && (nat_le s a && nat_lt a (s + window_len h)) then 1 else 0))
+
+abbrev as_one : Bool → ℕ
+as_one d = if d then 1 else 0
+
+inside_one : (s e a : ℕ) → s ≤ a → a < e → as_one (nat_le s a && nat_lt a e) ≡ 1
+inside_one s e a low high = grind (arith, nat_tests)
+
+below_none : (s e a : ℕ) → a < s → as_one (nat_le s a && nat_lt a e) ≡ 0
+below_none s e a low = grind (arith, nat_tests)
+
+past_none : (s e a : ℕ) → e ≤ a → as_one (nat_le s a && nat_lt a e) ≡ 0
+past_none s e a high = grind (arith, nat_tests)
+
+-- one address more
+one_more : (s e first n : ℕ) → min (first + n) e - max first s + as_one (nat_le s (first + n) && nat_lt (first + n) e)
+    ≡ min (first + suc n) e - max first s
+one_more s e first n = ⊎_elim
+    (λ (low : first + n < s). ap (λ i. min (first + n) e - max first s + i) (below_none s e (first + n) low) ∙ omega (arith, low))
+    (λ (at : s ≤ first + n). ⊎_elim
+    (λ (high : first + n < e). ap (λ i. min (first + n) e - max first s + i) (inside_one s e (first + n) at high) ∙ omega (arith, at, high))
+    (λ (past : e ≤ first + n). ap (λ i. min (first + n) e - max first s + i) (past_none s e (first + n) past) ∙ omega (arith, past))
+    (cases_lt (first + n) e))
+    (cases_lt (first + n) s)
+
+-- those among n addresses that are in the window
+pub among_window : (h : HostState) (misc first n : ℕ) → is_memory_enabled misc ≡ true →
+    decoded_among h misc first n ≡ min (first + n) (window_start h + window_len h) - max first (window_start h)
+unfolding decoded_among
+among_window h misc first zero on = omega arith
+among_window h misc first (suc n) on =
+    let s = window_start h in
+    let e = window_start h + window_len h in
+    let a = first + n in
+    (λ j. among_window h misc first n on j + (if on j && (nat_le s a && nat_lt a e) then 1 else 0)) ∙ one_more s e first n
+
+-- the byte that a read in mode 0 of a decoded address answers is the picked plane's
+pub byte_there : (h : HostState) (misc a w k o : ℕ) → is_decoded h misc a ≡ true → window_offset h a ≡ w → is_read_compare h ≡ false → k ≡ picked_plane h w
+    → k < 4 → o ≡ plane_offset h w → byte_at h.memory k o < 256 → byte_at h.memory k o ≡ byte_where h misc a
+unfolding read_bit
+byte_there h misc a w k o decoded place compare picked low at byte =
+    let m = h.memory in
+    let v = window_offset h a in
+    let bytes = bytes_at m (plane_offset h v) in
+    let offset : plane_offset h v ≡ o = ap (plane_offset h) place ∙ sym at in
+    let plane : picked_plane h v ≡ k = ap (picked_plane h) place ∙ sym picked in
+    let same : of_plane bytes k ≡ byte_at m k o =
+    by_plane (λ q. of_plane bytes q ≡ byte_at m q o) (ap (byte_at m 0) offset) (ap (byte_at m 1) offset) (ap (byte_at m 2) offset)
+    (ap (byte_at m 3) offset) k low in
+    let read : (i : ℕ) → read_bit h v bytes i ≡ bit_at (byte_at m k o) i =
+    λ i. (λ j. if compare j then compared_bit h bytes i else bit_at (of_plane bytes (plane j)) i) ∙ ap (λ n. bit_at n i) same in
+    byte_from_bits (byte_at m k o) (λ i. read_bit h v bytes i) byte (λ i li. sym (read i))
+    ∙ if_true (is_decoded h misc a) (read_byte h a) 0xFF decoded
+
+-- where all of some addresses are decoded, the latches are those of the last read
+get_over : (h s : HostState) (misc a : ℕ) → is_decoded h misc a ≡ true → with_latches h s.latches ≡ s → get_where s misc a ≡ get_where h misc a
+get_over h s misc a decoded kept = sym (ap (λ (x : HostState). get_where x misc a) kept)
+    ∙ (λ j. if decoded j then after_get (with_latches h s.latches) a else with_latches h s.latches)
+    ∙ (λ j. if sym decoded j then after_get h a else h)
+
+pub last_get : (misc first n i : ℕ) (h s : HostState) → with_latches h s.latches ≡ s → ((k : ℕ) → i ≤ k → k < i + suc n → is_decoded h misc (first + k) ≡ true) →
+    after_gets misc first (suc n) i s ≡ get_where h misc (first + (i + n))
+last_get misc first zero i h s kept decoded =
+    let z : first + i ≡ first + (i + 0) = omega arith in
+    get_over h s misc (first + i) (decoded i (omega arith) (omega arith)) kept ∙ ap (get_where h misc) z
+last_get misc first (suc n) i h s kept decoded =
+    let z : first + (i + 1 + n) ≡ first + (i + suc n) = omega arith in
+    last_get misc first n (i + 1) h (get_where s misc (first + i)) (latches_read h s misc (first + i) kept)
+    (λ k low high. decoded k (omega (arith, low)) (omega (arith, high)))
+    ∙ ap (get_where h misc) z

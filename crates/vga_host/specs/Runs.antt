@@ -43,6 +43,12 @@ get_where h misc address = if is_decoded h misc address then after_get h address
 abbrev pub byte_where : HostState → ℕ → ℕ → ℕ
 byte_where h misc address = if is_decoded h misc address then read_byte h address else 0xFF
 
+-- n reads from number i on, of the address i after the first
+abbrev pub after_gets : ℕ → ℕ → ℕ → ℕ → HostState → HostState
+after_gets misc first zero i h = h
+after_gets misc first (suc n) i h = after_gets misc first n (i + 1)
+    (get_where h misc (first + i))
+
 -- a byte is read at one address, and written at another
 abbrev pub move_where : HostState → ℕ → ℕ → ℕ → HostState
 move_where h misc from to = put_where (get_where h misc from) misc to (byte_where h misc from)

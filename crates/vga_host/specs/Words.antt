@@ -12,7 +12,7 @@ use Rattle.vga_host.specs.Fields.{is_chain_odd_even, is_odd_even_read, is_read_c
 use Rattle.vga_host.specs.Fields.{read_map_pair}
 use Rattle.vga_host.specs.Address.{is_decoded, window_offset}
 use Rattle.vga_host.specs.MemoryWrite.{written_byte, IsPlain}
-use Rattle.vga_host.specs.Runs.{after_moves, after_puts, in_turn}
+use Rattle.vga_host.specs.Runs.{after_moves, after_puts}
 
 -- a word of the planes is copied from one offset to another, in the planes told, and the latches
 -- are loaded with it
@@ -123,13 +123,18 @@ pub record FillsPairs (h : HostState) (f : ℕ) : Type 0 where
   pub off : is_odd_even_off h ≡ false
   pub place : f % 2 ≡ 0
 
--- n writes of two bytes in turn put a word again and again, by so many writes each, whatever memory
--- holds
-pub record FillsWords (per : ℕ) (h : HostState) (misc first n f even odd : ℕ) (w : Four ℕ)
+-- n writes put words of the planes, each by so many writes, whatever memory holds: write i is of byte
+-- g i, and the word that begins there is w i
+pub record PutsWords (per : ℕ) (h : HostState) (misc first n f : ℕ) (g : ℕ → ℕ) (w : ℕ → Four ℕ)
     : Type 0 where
   pub some : 0 < per
   pub next : (i : ℕ) → i % per ≡ 0 → (i + per) % per ≡ 0
-  pub filled : (m : Four (List ℕ)) (i : ℕ) → i % per ≡ 0 → i + per ≤ n
+  pub put : (m : Four (List ℕ)) (i : ℕ) → i % per ≡ 0 → i + per ≤ n
       → (let s : HostState = record h { memory = m } in
-      after_puts misc first (in_turn even odd) per i s
-      ≡ word_put s (is_in_map_mask h) ((f + i) % 65536) w)
+      after_puts misc first g per i s
+      ≡ word_put s (is_in_map_mask h) ((f + i) % 65536) (w i))
+
+-- the bytes from number i on as a word: four of them, two that each go to two planes, or one that
+-- goes to all
+abbrev pub grouped : ℕ → (ℕ → ℕ) → ℕ → Four ℕ
+grouped per g i = four (λ p. g (i + p % per))

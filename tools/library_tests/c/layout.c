@@ -53,6 +53,15 @@ LIES(zak_beam, frame, 12);
 LIES(zak_beam, half, 13);
 LIES(zak_beam, split, 14);
 
+TAKES(zak_timing, 32);
+LIES(zak_timing, to_display, 4);
+LIES(zak_timing, to_retrace, 8);
+LIES(zak_timing, line_dots, 12);
+LIES(zak_timing, frame_dots, 16);
+LIES(zak_timing, lines, 20);
+LIES(zak_timing, rate, 24);
+LIES(zak_timing, rate_divisor, 28);
+
 TAKES(zak_latches, 4);
 
 TAKES(zak_bda, 32);

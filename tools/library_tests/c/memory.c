@@ -325,10 +325,16 @@ static zak_status other_calls(void)
     zak_beam beam;
     zak_latches latches;
     zak_bda bda;
+    zak_timing timing;
     zak_status status = zak_out(&card, 0x3C4, 2) | zak_out_word(&card, 0x3C4, 0x0F02);
     status |= zak_in(&card, 0x3CC, &byte) | zak_in_word(&card, 0x3C4, &word);
     status |= zak_put(&card, 0xA0000, 1) | zak_put_word(&card, 0xA0000, 1);
     status |= zak_get(&card, 0xA0000, &byte) | zak_get_word(&card, 0xA0000, &word);
+    status |= zak_put_bytes(&card, 0xA0000, rgb, 100, false, &len);
+    status |= zak_fill_bytes(&card, 0xA0000, 1, 100, true, &len);
+    status |= zak_get_bytes(&card, 0xA0000, rgb, 100, false, &len);
+    status |= zak_move_bytes(&card, 0xA0000, 0xA0100, 100, true, &len);
+    status |= zak_clock(&card, &timing);
     status |= zak_advance(&card, 100) | zak_frame(&card, &size, rgb, sizeof rgb);
     status |= zak_frame_xrgb(&card, &size, pixels, sizeof pixels / 4, 640);
     status |= zak_frame_lines(&card, widths, rgb, sizeof rgb, &len);

@@ -53,6 +53,20 @@ static void cycles_of_closed(void)
     SHOW(byte == UNTOUCHED && word == UNTOUCHED);
 }
 
+static void transfers_of_closed(void)
+{
+    uint8_t *bytes = buffer(2);
+    size_t decoded = 999;
+    zak_timing timing = {.to_frame = 7};
+    SHOW(zak_put_bytes(&card, 0xA0000, bytes, 2, false, &decoded));
+    SHOW(zak_fill_bytes(&card, 0xA0000, 1, 2, false, &decoded));
+    SHOW(zak_get_bytes(&card, 0xA0000, bytes, 2, true, &decoded));
+    SHOW(zak_move_bytes(&card, 0xA0000, 0xA0002, 2, true, &decoded));
+    SHOW(zak_clock(&card, &timing));
+    SHOW(decoded == 999 && bytes[0] == UNTOUCHED && timing.to_frame == 7);
+    free(bytes);
+}
+
 static void calls_of_closed(void)
 {
     zak_size size = {7, 7};
@@ -147,6 +161,28 @@ static void refused_cycles(void)
     SHOW(zak_advance(&card, ZAK_MOST_DOTS + 1));
     SHOW(zak_advance(&card, 0xFFFFFFFF));
     SHOW(zak_advance(&card, 0));
+}
+
+/* At power-on the adapter decodes no address. */
+static void transfers_out_of_range(void)
+{
+    uint8_t *bytes = buffer(3);
+    size_t decoded = 999;
+    SHOW(zak_put_bytes(&card, 0xFFFFFFFD, bytes, 3, false, &decoded));
+    SHOW(zak_put_bytes(&card, 0xFFFFFFFF, bytes, 1, true, &decoded));
+    SHOW(zak_fill_bytes(&card, 0xA0000, 1, 0xFFF60000, false, &decoded));
+    SHOW(zak_fill_bytes(&card, 0, 1, (size_t)-1, true, &decoded));
+    SHOW(zak_get_bytes(&card, 1, bytes, 0xFFFFFFFF, false, &decoded));
+    SHOW(zak_move_bytes(&card, 0xA0000, 0xFFFFFFFE, 2, false, &decoded));
+    SHOW(zak_move_bytes(&card, 0xFFFFFFFE, 0xA0000, 2, true, &decoded));
+    SHOW(decoded == 999 && bytes[0] == UNTOUCHED);
+    SHOW(zak_put_bytes(&card, 0xFFFFFFFC, bytes, 3, false, &decoded));
+    SHOW(decoded);
+    SHOW(zak_get_bytes(&card, 0xA0000, bytes, 0, false, &decoded));
+    SHOW(bytes[0] == UNTOUCHED);
+    SHOW(zak_get_bytes(&card, 0xA0000, bytes, 3, true, &decoded));
+    SHOW(bytes[0] == 0xFF && bytes[2] == 0xFF && decoded == 0);
+    free(bytes);
 }
 
 static void refused_services(void)
@@ -578,11 +614,13 @@ int main(int argc, char **argv)
     fclose(file);
     SHOW(zak_version() == ZAK_API_VERSION);
     cycles_of_closed();
+    transfers_of_closed();
     calls_of_closed();
     steps_of_closed();
     reads_of_closed();
     opens();
     refused_cycles();
+    transfers_out_of_range();
     no_screen();
     refused_services();
     little_pictures();

@@ -1,5 +1,8 @@
 //! Dots, lines and frames.
 ghost use Rattle.std.specs.Prelude.{ℕ, ◌≡◌, ◌<◌, ◌≤◌, ◌⊎◌, ◌↔◌, true};
+ghost use Rattle.std.specs.Prelude.{IfSome, MatchOption};
+ghost use Rattle.vga_crtc.specs.Clock.{ChangesAfter, NeverChanges};
+ghost use Rattle.vga_crtc.specs.Status.{is_display, is_retrace};
 ghost use Rattle.vga_crtc.specs.Beam.{after_start, after_dot, after_dots};
 ghost use Rattle.vga_crtc.specs.Raster.{dots_in_line, dots_in_frame, IsLineTaken, IsInLine};
 
@@ -28,29 +31,47 @@ impl Crtc {
     }
 
     /// How many dots, at least one, lead to the next line; a character is `cw` dots wide, 8 or 9.
-    #[tactic(auto, unfolding(crate::specs::Raster::dots_in_line))]
     pub fn dots_in_line(&self, cw: u8) -> u32
         requires { (cw ≡ 8) ⊎ (cw ≡ 9) }
         ensures value { result ≡ dots_in_line cw self.now.registers self.now.beam }
         ensures at_most { result ≤ 2340 }
     {
-        let after = self
-            .registers
-            .characters()
-            .saturating_sub(self.beam.character + 1);
-        after as u32 * cw as u32 + cw.saturating_sub(self.beam.dot + 1) as u32 + 1
+        self.beam.dots_in_line(&self.registers, cw)
     }
 
     /// How many dots, at least one, lead to the next frame; a character is `cw` dots wide, 8 or 9.
-    #[tactic(auto, unfolding(crate::specs::Raster::dots_in_frame))]
     pub fn dots_in_frame(&self, cw: u8) -> u32
         requires { (cw ≡ 8) ⊎ (cw ≡ 9) }
         ensures value { result ≡ dots_in_frame cw self.now.registers self.now.beam }
         ensures at_most { result ≤ 2398500 }
     {
-        let line = self.registers.characters() as u32 * cw as u32;
-        let after = self.registers.lines().saturating_sub(self.beam.line + 1);
-        after as u32 * line + self.dots_in_line(cw)
+        self.beam.dots_in_frame(&self.registers, cw)
+    }
+
+    /// After how many dots, at least one, the vertical retrace begins next, or ends if the beam is
+    /// in it; `None` if no dots lead there. No register is written meanwhile, and a character is
+    /// `cw` dots wide, 8 or 9.
+    pub fn dots_to_retrace_change(&self, cw: u8) -> Option<u32>
+        requires { (cw ≡ 8) ⊎ (cw ≡ 9) }
+        ensures change { MatchOption result
+            (NeverChanges (is_retrace self.now.registers) cw self.now.registers self.now.beam)
+            (ChangesAfter (is_retrace self.now.registers) cw self.now.registers self.now.beam) }
+        ensures at_most { IfSome result (λ n. n ≤ 4800000) }
+    {
+        self.beam.dots_to_retrace_change(&self.registers, cw)
+    }
+
+    /// After how many dots, at least one, the display begins next, or ends if the beam is at a
+    /// display dot; `None` if no dots lead there. No register is written meanwhile, and a character
+    /// is `cw` dots wide, 8 or 9.
+    pub fn dots_to_display_change(&self, cw: u8) -> Option<u32>
+        requires { (cw ≡ 8) ⊎ (cw ≡ 9) }
+        ensures change { MatchOption result
+            (NeverChanges (is_display self.now.registers) cw self.now.registers self.now.beam)
+            (ChangesAfter (is_display self.now.registers) cw self.now.registers self.now.beam) }
+        ensures at_most { IfSome result (λ n. n ≤ 4800000) }
+    {
+        self.beam.dots_to_display_change(&self.registers, cw)
     }
 
     /// Moves the beam dot by dot, at least one, until it is at the first dot of a line again; a

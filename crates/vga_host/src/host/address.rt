@@ -1,8 +1,8 @@
 //! The place of an address, and the planes that a write there reaches.
-ghost use Rattle.std.specs.Prelude.{◌≡◌, IsTrue};
+ghost use Rattle.std.specs.Prelude.{◌≡◌, ◌<◌, ◌≤◌, ◌+◌, ◌^◌, IsTrue};
 ghost use Rattle.std.specs.Option.{SomeIff};
 ghost use Rattle.vga_bits.specs.Bits.{is_set};
-ghost use Rattle.vga_host.specs.Address.{is_decoded, window_offset};
+ghost use Rattle.vga_host.specs.Address.{is_decoded, decoded_among, window_offset};
 ghost use Rattle.vga_host.specs.Address.{plane_offset};
 ghost use Rattle.vga_host.specs.Address.{is_reached};
 
@@ -17,6 +17,22 @@ impl Host {
     {
         let aim = self.aim();
         is_memory_enabled(misc) && aim.start <= address && address < aim.start + aim.len
+    }
+
+    /// How many of n addresses from the first on the display memory has; `misc` is the
+    /// miscellaneous output register.
+    pub fn decoded_among(&self, first: u32, n: u32, misc: u8) -> u32
+        requires { first + n < 2 ^ 32 }
+        ensures value { result ≡ decoded_among self.now misc first n }
+        ensures few { result ≤ n }
+    {
+        let aim = self.aim();
+        if !is_memory_enabled(misc) {
+            return 0;
+        }
+        let start = first.max(aim.start);
+        let end = (first + n).min(aim.start + aim.len);
+        end.saturating_sub(start)
     }
 
     /// The offset of an address in the window, where it is decoded.

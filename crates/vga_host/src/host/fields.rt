@@ -5,6 +5,7 @@ ghost use Rattle.std.specs.Int.{bit_at};
 ghost use Rattle.vga_bits.specs.Bits.{is_set as is_set_of};
 ghost use Rattle.vga_host.specs.Fields.{is_memory_enabled as is_memory_enabled_of};
 ghost use Rattle.vga_host.specs.Fields.{is_eight_dots, character_width, is_screen_off};
+ghost use Rattle.vga_host.specs.Fields.{is_clock_halved};
 ghost use Rattle.vga_host.specs.Fields.{character_map_a, character_map_b};
 ghost use Rattle.vga_host.specs.Fields.{is_chain_four};
 ghost use Rattle.vga_host.specs.Fields.{set_reset, is_set_reset_enabled, colour_compare};
@@ -73,6 +74,13 @@ impl Host {
         ensures known { (result ≡ 8) ⊎ (result ≡ 9) }
     {
         if self.is_eight_dots() { 8 } else { 9 }
+    }
+
+    /// Whether the dot clock has half its rate.
+    pub fn is_clock_halved(&self) -> bool
+        ensures { result ≡ is_clock_halved self.now }
+    {
+        self.seq.bit(sequencer::CLOCKING_MODE, 3)
     }
 
     /// Whether the screen is off.

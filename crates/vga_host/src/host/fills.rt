@@ -8,7 +8,7 @@ ghost use Rattle.vga_host.specs.MemoryWrite.{written_byte};
 ghost use Rattle.vga_host.specs.Runs.{after_puts, in_turn, with_memory};
 ghost use Rattle.vga_host.specs.Aim.{IsAim};
 ghost use Rattle.vga_host.specs.Words.{alternating, word_put, written_in_turn, ArePutWithin};
-ghost use Rattle.vga_host.specs.Words.{FillsPlanes, FillsFours, FillsPairs, FillsWords};
+ghost use Rattle.vga_host.specs.Words.{FillsPlanes, FillsFours, FillsPairs, PutsWords};
 
 use super::Host;
 use super::aim::Aim;
@@ -23,7 +23,7 @@ fn alternate(even: Latch, odd: Latch) -> Latch
 
 impl Host {
     /// Whether the memory has all addresses of n writes.
-    fn is_put_within(&self, aim: Aim, first: u32, n: u32, misc: u8) -> bool
+    pub(super) fn is_put_within(&self, aim: Aim, first: u32, n: u32, misc: u8) -> bool
         requires aim { IsAim aim self.now }
         requires small { aim.start + aim.len < 2 ^ 32 }
         requires few { first + n < 2 ^ 32 }
@@ -33,17 +33,16 @@ impl Host {
         aim.covers(first, n, misc)
     }
 
-    /// Whether the two bytes are one, and no bit of an address picks a plane.
-    fn fills_planes(&self, aim: Aim, even: u8, odd: u8) -> bool
+    /// Whether no bit of an address picks a plane.
+    pub(super) fn fills_planes(&self, aim: Aim) -> bool
         requires { IsAim aim self.now }
-        ensures one { result ≡ true → even ≡ odd }
-        ensures planes { result ≡ true → FillsPlanes self.now }
+        ensures { result ≡ true → FillsPlanes self.now }
     {
-        even == odd && aim.all && !aim.four && !aim.pairs
+        aim.all && !aim.four && !aim.pairs
     }
 
     /// Whether the two low bits of an address pick the plane, and a place is the first of four.
-    fn fills_fours(&self, aim: Aim, place: u32) -> bool
+    pub(super) fn fills_fours(&self, aim: Aim, place: u32) -> bool
         requires { IsAim aim self.now }
         ensures { result ≡ true → FillsFours self.now place }
     {
@@ -51,7 +50,7 @@ impl Host {
     }
 
     /// Whether the lowest bit of an address picks planes, and a place is even.
-    fn fills_pairs(&self, aim: Aim, place: u32) -> bool
+    pub(super) fn fills_pairs(&self, aim: Aim, place: u32) -> bool
         requires { IsAim aim self.now }
         ensures { result ≡ true → FillsPairs self.now place }
     {
@@ -63,11 +62,11 @@ impl Host {
         requires aim { IsAim aim self.now }
         requires start { aim.start ≤ first }
         requires within { ArePutWithin self.now misc first n (first - aim.start) }
-        ensures { 0 < result → FillsWords result self.now misc first n (first - aim.start) even odd
-            (written_in_turn self.now even odd) }
+        ensures { 0 < result → PutsWords result self.now misc first n (first - aim.start)
+            (in_turn even odd) (λ i. written_in_turn self.now even odd) }
     {
         let place = first - aim.start;
-        if self.fills_planes(aim, even, odd) {
+        if even == odd && self.fills_planes(aim) {
             1
         } else if self.fills_fours(aim, place) {
             4
@@ -79,7 +78,7 @@ impl Host {
     }
 
     /// Puts a word at an offset, in the planes of a set.
-    fn put_word(&mut self, at: u16, word: Latch, set: PlaneSet)
+    pub(super) fn put_word(&mut self, at: u16, word: Latch, set: PlaneSet)
         ensures { self.new ≡ word_put self.old (is_set set) at word }
     {
         self.planes.store(at, word, set);
@@ -101,7 +100,8 @@ impl Host {
         requires aim { IsAim aim self.old }
         requires start { aim.start ≤ first }
         requires few { first + n < 2 ^ 32 }
-        requires words { FillsWords per self.old misc first n (first - aim.start) even odd word }
+        requires words { PutsWords per self.old misc first n (first - aim.start)
+            (in_turn even odd) (λ i. word) }
         ensures few { result ≤ n }
         ensures kept { with_memory self.old self.new.memory ≡ self.new }
         ensures put { self.new ≡ after_puts misc first (in_turn even odd) result 0 self.old }

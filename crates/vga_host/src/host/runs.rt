@@ -17,7 +17,7 @@ const REFUSED: u8 = 0xFF;
 impl Host {
     /// Writes these four bytes to the planes that an address reaches where it is decoded, by what
     /// the registers say of every write.
-    fn put_aimed(&mut self, aim: Aim, bytes: Latch, address: u32, misc: u8)
+    pub(super) fn put_aimed(&mut self, aim: Aim, bytes: Latch, address: u32, misc: u8)
         requires aim { IsAim aim self.old }
         requires small { aim.start + aim.len < 2 ^ 32 }
         ensures { self.new ≡ put_bytes self.old misc address bytes }
@@ -30,7 +30,7 @@ impl Host {
 
     /// What a read of an address gives, by what the registers say of every cycle: FF, where it is
     /// not decoded.
-    fn byte_aimed(&self, aim: Aim, address: u32, misc: u8) -> u8
+    pub(super) fn byte_aimed(&self, aim: Aim, address: u32, misc: u8) -> u8
         requires aim { IsAim aim self.now }
         requires small { aim.start + aim.len < 2 ^ 32 }
         ensures { result ≡ byte_where self.now misc address }
@@ -45,7 +45,7 @@ impl Host {
     }
 
     /// Loads the latches from an address where it is decoded, by what the registers say.
-    fn load_aimed(&mut self, aim: Aim, address: u32, misc: u8)
+    pub(super) fn load_aimed(&mut self, aim: Aim, address: u32, misc: u8)
         requires aim { IsAim aim self.old }
         requires small { aim.start + aim.len < 2 ^ 32 }
         ensures { self.new ≡ get_where self.old misc address }

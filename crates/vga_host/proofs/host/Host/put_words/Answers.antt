@@ -1,7 +1,8 @@
 use Rattle.std.proofs.Common.{◌+◌, ◌-◌, ◌%◌, ◌∙◌, ap, sym, refl, arith, ℕ, Bool}
 use Rattle.std.proofs.Math.Nat.{zero-mod}
 use Rattle.vga_host.specs.Words.{word_put}
-use Rattle.vga_host.proofs.FillLemmas.{fill_goes_on}
+use Rattle.vga_host.specs.Runs.{in_turn}
+use Rattle.vga_host.proofs.FillLemmas.{words_go_on}
 use Rattle.vga_host.proofs.host.Host.put_words.Goals as goal
 
 pub loop-done-init : goal.loop-done-init
@@ -19,7 +20,7 @@ loop-done-preserved c =
     let f = c.args.first - c.args.aim.start in
     let done = c.loop-done.done in
     let kept = c.loop-done.invariant in
-    fill_goes_on c.args.self.now s c.put_word.new.self c.args.per c.args.misc c.args.first c.args.n f c.args.even c.args.odd done c.args.word c.requires.words
+    words_go_on c.args.self.now s c.put_word.new.self c.args.per c.args.misc c.args.first c.args.n f done (in_turn c.args.even c.args.odd) (λ i. c.args.word) c.requires.words
     (omega arith) kept.0 kept.1 kept.2 kept.3
     (c.put_word.ensures ∙ ap (λ (reach : ℕ → Bool). word_put s reach ((f + done) % 65536) c.args.word) (λ j p. c.requires.aim.mask p j))
 

@@ -1,7 +1,7 @@
 use Rattle.std.proofs.Common.{arith, rules}
 use Rattle.std.proofs.lemmas.Grind.{common_steps}
 use Rattle.vga_crtc.specs.Raster.{dots_in_frame}
-use Rattle.vga_crtc.proofs.crtc.Crtc.dots_in_frame.Goals as goal
+use Rattle.vga_crtc.proofs.beam.Beam.dots_in_frame.Goals as goal
 
 pub returns-clause-value : goal.returns-clause-value
 unfolding dots_in_frame

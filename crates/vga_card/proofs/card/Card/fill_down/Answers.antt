@@ -1,0 +1,9 @@
+use Rattle.std.proofs.Common.{ap}
+use Rattle.vga_card.specs.Bus.{card_meaning}
+use Rattle.vga_card.proofs.TransferLemmas.{next_put_down}
+use Rattle.vga_card.proofs.card.Card.fill_down.Goals as goal
+
+pub loop-i-preserved : goal.loop-i-preserved
+loop-i-preserved c =
+    next_put_down card_meaning c.args.first (λ k. c.args.value) c.loop-i.i c.args.n c.loop-i.self c.put.new.self _ c.loop-i-test.true
+    (ap (λ p. p.0) c.put.ensures) c.loop-i.invariant

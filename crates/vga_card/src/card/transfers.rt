@@ -1,0 +1,117 @@
+//! Bytes that are written to addresses which follow one another, or read from them: the first
+//! address first, or, going down, the last one first.
+ghost use Rattle.std.specs.Prelude.{◌≡◌, ◌<◌, ◌≤◌, ◌+◌, ◌^◌, ℕ, length, slice_index};
+ghost use Rattle.vga_card.specs.Bus.{after_puts, card_meaning, AtAddress};
+ghost use Rattle.vga_card.specs.Transfers.{after_gets, after_puts_down, after_gets_down};
+ghost use Rattle.vga_card.specs.Transfers.{after_moves_down, byte_at, decoded_by, AreRead};
+
+use super::Card;
+
+/// What a refused read gives where it is moved, or read among others.
+const REFUSED: u8 = 0xFF;
+
+impl Card {
+    /// How many of n addresses from the first on the display memory has.
+    pub fn decoded_among(&self, first: u32, n: u32) -> u32
+        requires { first + n < 2 ^ 32 }
+        ensures value { result ≡ decoded_by self.now first n }
+        ensures few { result ≤ n }
+    {
+        self.host.decoded_among(first, n, self.misc)
+    }
+
+    /// Writes bytes to the addresses from the first on. A refused write does nothing.
+    #[tactic(auto, using(crate::proofs::CycleLemmas::card_puts))]
+    pub fn put_slice(&mut self, first: u32, bytes: &[u8])
+        requires { first + length bytes.now < 2 ^ 32 }
+        ensures { self.new ≡ after_puts card_meaning first (slice_index bytes.now)
+            (length bytes.now) 0 self.old }
+    {
+        self.host.put_slice(first, bytes, self.misc);
+    }
+
+    /// Writes bytes to the addresses from the first on, the last byte first. A refused write does
+    /// nothing.
+    pub fn put_slice_down(&mut self, first: u32, bytes: &[u8])
+        requires { first + length bytes.now < 2 ^ 32 }
+        ensures { self.new ≡ after_puts_down card_meaning first (slice_index bytes.now)
+            (length bytes.now) self.old }
+    {
+        let n = bytes.len();
+        for i in 0..n {
+            let at = n - 1 - i;
+            let _ = self.put(first + at as u32, bytes[at]);
+        }
+    }
+
+    /// Writes a byte to n addresses from the first on. A refused write does nothing.
+    #[tactic(auto, using(crate::proofs::TransferLemmas::one_in_turn))]
+    pub fn fill(&mut self, first: u32, n: u32, value: u8)
+        requires { first + n < 2 ^ 32 }
+        ensures { self.new ≡ after_puts card_meaning first (λ i. value) n 0 self.old }
+    {
+        self.put_in_turn(first, n, value, value);
+    }
+
+    /// Writes a byte to n addresses from the first on, the last address first. A refused write does
+    /// nothing.
+    pub fn fill_down(&mut self, first: u32, n: u32, value: u8)
+        requires { first + n < 2 ^ 32 }
+        ensures { self.new ≡ after_puts_down card_meaning first (λ i. value) n self.old }
+    {
+        for i in 0..n {
+            let _ = self.put(first + (n - 1 - i), value);
+        }
+    }
+
+    /// The byte that a read of an address answers: FF where it is refused.
+    fn get_or_refused(&mut self, address: u32) -> u8
+        ensures after { self.new ≡ (card_meaning.read self.old (AtAddress address)).0 }
+        ensures byte { result ≡ byte_at self.old address }
+    {
+        match self.get(address) {
+            Ok(byte) => byte,
+            Err(_) => REFUSED,
+        }
+    }
+
+    /// Reads the addresses from the first on into bytes of the caller's. A refused read gives FF,
+    /// and loads no latch.
+    #[tactic(auto, using(crate::proofs::TransferLemmas::card_gets))]
+    pub fn get_slice(&mut self, first: u32, bytes: &mut [u8])
+        requires { first + length bytes.old < 2 ^ 32 }
+        ensures after { self.new ≡ after_gets card_meaning first (length bytes.old) 0 self.old }
+        ensures bytes { AreRead self.old first bytes.old bytes.new }
+    {
+        self.host.get_slice(first, bytes, self.misc);
+    }
+
+    /// Reads the addresses from the first on into bytes of the caller's, the last address first. A
+    /// refused read gives FF, and loads no latch.
+    pub fn get_slice_down(&mut self, first: u32, bytes: &mut [u8])
+        requires { first + length bytes.old < 2 ^ 32 }
+        ensures after { self.new ≡ after_gets_down card_meaning first (length bytes.old)
+            self.old }
+        ensures bytes { AreRead self.old first bytes.old bytes.new }
+    {
+        let n = bytes.len();
+        for i in 0..n {
+            let at = n - 1 - i;
+            bytes[at] = self.get_or_refused(first + at as u32);
+        }
+    }
+
+    /// Moves n bytes, the last first: each is read at an address, and written at another. A refused
+    /// write does nothing, and a refused read gives FF.
+    pub fn move_bytes_down(&mut self, from: u32, to: u32, n: u32)
+        requires from { from + n < 2 ^ 32 }
+        requires to { to + n < 2 ^ 32 }
+        ensures { self.new ≡ after_moves_down card_meaning from to n self.old }
+    {
+        for i in 0..n {
+            let at = n - 1 - i;
+            let byte = self.get_or_refused(from + at);
+            let _ = self.put(to + at, byte);
+        }
+    }
+}

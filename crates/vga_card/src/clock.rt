@@ -1,0 +1,64 @@
+//! What the clock comes to next, and how fast it runs.
+ghost use Rattle.std.specs.Prelude.{◌≡◌, ◌≤◌, IfSome};
+ghost use Rattle.vga_card.specs.Clock.{clock_rate as clock_rate_of, IsClock};
+
+use crate::card::Card;
+
+/// What the clock comes to next, if no register is written meanwhile, in dots; and how fast dots
+/// come.
+#[derive(Clone, Copy, Debug, PartialEq, Eq)]
+pub struct Clock {
+    /// How many dots lead to the end of the frame under way.
+    pub to_frame: u32,
+    /// How many lead to the next change of bit 0 of input status 1, which is 0 at a display dot;
+    /// `None` if it never changes.
+    pub to_display: Option<u32>,
+    /// How many lead to the next change of bit 3 of input status 1, which is 1 in the vertical
+    /// retrace; `None` if it never changes.
+    pub to_retrace: Option<u32>,
+    /// How many dots a line has.
+    pub line_dots: u32,
+    /// How many dots a frame has.
+    pub frame_dots: u32,
+    /// How many lines a frame has.
+    pub lines: u16,
+    /// Dots a second, before the sequencer halves them: 25,175,000 or 28,322,000.
+    pub rate: u32,
+    /// Whether the sequencer halves the rate.
+    pub is_halved: bool,
+}
+
+/// Dots a second, as bits 3 and 2 of the miscellaneous output register select the clock.
+fn clock_rate(misc: u8) -> u32
+    ensures { result ≡ clock_rate_of misc }
+{
+    if misc / 4 % 4 == 1 {
+        28_322_000
+    } else {
+        25_175_000
+    }
+}
+
+impl Card {
+    /// What the clock comes to next, and how fast it runs, by the registers as they are.
+    pub fn clock(&self) -> Clock
+        ensures clock { IsClock self.now result }
+        ensures display { IfSome result.to_display (λ n. n ≤ 4800000) }
+        ensures retrace { IfSome result.to_retrace (λ n. n ≤ 4800000) }
+    {
+        let regs = self.regs();
+        let width = regs.host.character_width();
+        let line_dots = regs.crtc.fields().characters() as u32 * width as u32;
+        let lines = regs.crtc.fields().lines();
+        Clock {
+            to_frame: regs.crtc.dots_in_frame(width),
+            to_display: regs.crtc.dots_to_display_change(width),
+            to_retrace: regs.crtc.dots_to_retrace_change(width),
+            line_dots,
+            frame_dots: line_dots * lines as u32,
+            lines,
+            rate: clock_rate(regs.misc),
+            is_halved: regs.host.is_clock_halved(),
+        }
+    }
+}

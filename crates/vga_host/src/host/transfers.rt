@@ -1,0 +1,207 @@
+//! Bytes of the caller's that are written to addresses, or read from them, one after another; apart
+//! for speed alone. Plain writes put whole words of the planes.
+ghost use Rattle.std.specs.Prelude.{◌≡◌, ◌<◌, ◌≤◌, ◌⊎◌, ◌+◌, ◌-◌, ◌%◌, ◌^◌, ℕ, length};
+ghost use Rattle.std.specs.Prelude.{slice_index, false};
+ghost use Rattle.vga_host.specs.Fields.{is_read_compare};
+ghost use Rattle.vga_host.specs.MemoryRead.{picked_plane};
+ghost use Rattle.vga_host.specs.Aim.{IsAim};
+ghost use Rattle.vga_host.specs.Runs.{after_puts, after_gets, byte_where, with_memory};
+ghost use Rattle.vga_host.specs.Words.{grouped as grouped_of, ArePutWithin, PutsWords};
+
+use super::Host;
+use super::aim::Aim;
+use vga_planes::Latch;
+
+/// The bytes from number i on as a word: four of them, two that each go to two planes, or one that
+/// goes to all.
+#[inline(always)]
+fn grouped(per: u32, bytes: &[u8], i: usize) -> Latch
+    requires per { (per ≡ 1) ⊎ ((per ≡ 2) ⊎ (per ≡ 4)) }
+    requires room { i + per ≤ length bytes.now }
+    ensures { result ≡ grouped_of per (slice_index bytes.now) i }
+{
+    match per {
+        4 => Latch::new([bytes[i], bytes[i + 1], bytes[i + 2], bytes[i + 3]]),
+        2 => Latch::new([bytes[i], bytes[i + 1], bytes[i], bytes[i + 1]]),
+        _ => Latch::new([bytes[i], bytes[i], bytes[i], bytes[i]]),
+    }
+}
+
+impl Host {
+    /// How many of these bytes make a word of the planes, where writes are plain and begin at its
+    /// first place: 1, 2 or 4, or 0 where none do.
+    fn bytes_of_word(&self, aim: Aim, first: u32, bytes: &[u8], misc: u8) -> u32
+        requires aim { IsAim aim self.now }
+        requires start { aim.start ≤ first }
+        requires within { ArePutWithin self.now misc first (length bytes.now)
+            (first - aim.start) }
+        ensures known { 0 < result → (result ≡ 1) ⊎ ((result ≡ 2) ⊎ (result ≡ 4)) }
+        ensures words { 0 < result → PutsWords result self.now misc first (length bytes.now)
+            (first - aim.start) (slice_index bytes.now)
+            (grouped_of result (slice_index bytes.now)) }
+    {
+        let place = first - aim.start;
+        if !aim.plain {
+            0
+        } else if self.fills_planes(aim) {
+            1
+        } else if self.fills_fours(aim, place) {
+            4
+        } else if self.fills_pairs(aim, place) {
+            2
+        } else {
+            0
+        }
+    }
+
+    /// Puts words of `per` bytes each, as long as a whole one is left, and tells how many bytes
+    /// that were.
+    #[inline(always)]
+    fn put_groups(&mut self, aim: Aim, per: u32, first: u32, bytes: &[u8], misc: u8) -> u32
+        requires aim { IsAim aim self.old }
+        requires start { aim.start ≤ first }
+        requires few { first + length bytes.now < 2 ^ 32 }
+        requires per { (per ≡ 1) ⊎ ((per ≡ 2) ⊎ (per ≡ 4)) }
+        requires words { PutsWords per self.old misc first (length bytes.now) (first - aim.start)
+            (slice_index bytes.now) (grouped_of per (slice_index bytes.now)) }
+        ensures few { result ≤ length bytes.now }
+        ensures kept { with_memory self.old self.new.memory ≡ self.new }
+        ensures put { self.new ≡ after_puts misc first (slice_index bytes.now) result 0 self.old }
+    {
+        let start = first - aim.start;
+        let n = bytes.len() as u32;
+        let mut done = 0;
+        while n - done >= per {
+            let place = ((start + done) % 65_536) as u16;
+            self.put_word(place, grouped(per, bytes, done as usize), aim.mask);
+            done += per;
+        }
+        done
+    }
+
+    /// Puts words, where that is what writes of the first of these bytes do, and tells how many
+    /// bytes that were.
+    #[inline(never)]
+    fn put_whole_words(&mut self, aim: Aim, first: u32, bytes: &[u8], misc: u8) -> u32
+        requires aim { IsAim aim self.old }
+        requires small { aim.start + aim.len < 2 ^ 32 }
+        requires few { first + length bytes.now < 2 ^ 32 }
+        ensures few { result ≤ length bytes.now }
+        ensures kept { with_memory self.old self.new.memory ≡ self.new }
+        ensures put { self.new ≡ after_puts misc first (slice_index bytes.now) result 0 self.old }
+    {
+        if !self.is_put_within(aim, first, bytes.len() as u32, misc) {
+            return 0;
+        }
+        // Each number of bytes has a loop of its own.
+        match self.bytes_of_word(aim, first, bytes, misc) {
+            1 => self.put_groups(aim, 1, first, bytes, misc),
+            2 => self.put_groups(aim, 2, first, bytes, misc),
+            4 => self.put_groups(aim, 4, first, bytes, misc),
+            _ => 0,
+        }
+    }
+
+    /// Writes bytes to the addresses from the first on, in ascending order; a write that is not
+    /// decoded does nothing, and `misc` is the miscellaneous output register.
+    pub fn put_slice(&mut self, first: u32, bytes: &[u8], misc: u8)
+        requires { first + length bytes.now < 2 ^ 32 }
+        ensures { self.new ≡ after_puts misc first (slice_index bytes.now) (length bytes.now) 0
+            self.old }
+    {
+        let aim = self.aim();
+        let n = bytes.len() as u32;
+        let done = self.put_whole_words(aim, first, bytes, misc);
+        for i in done..n {
+            let word = self.written_as(aim.plain, bytes[i as usize]);
+            self.put_aimed(aim, word, first + i, misc);
+        }
+    }
+
+    /// Reads places of the window that follow one another, all of them decoded, where a read picks
+    /// plane `base` and one more for each unit of the place modulo `span`.
+    #[inline(always)]
+    fn read_picked(&self, aim: Aim, base: usize, span: u16, first: u32, bytes: &mut [u8], misc: u8)
+        requires aim { IsAim aim self.now }
+        requires start { aim.start ≤ first }
+        requires few { first + length bytes.old < 2 ^ 32 }
+        requires within { ArePutWithin self.now misc first (length bytes.old)
+            (first - aim.start) }
+        requires plain { is_read_compare self.now ≡ false }
+        requires span { 0 < span }
+        requires below { base + span ≤ 4 }
+        requires picked { (w : ℕ) → base + w % span ≡ picked_plane self.now w }
+        ensures bytes { (i : ℕ) → i < length bytes.old →
+            slice_index bytes.new i ≡ byte_where self.now misc (first + i) }
+        ensures size { length bytes.new ≡ length bytes.old }
+    {
+        let start = first - aim.start;
+        for i in 0..bytes.len() {
+            let place = ((start + i as u32) % 65_536) as u16;
+            let plane = base + (place % span) as usize;
+            bytes[i] = self.planes().byte(plane, aim.offset(place));
+        }
+    }
+
+    /// Reads addresses that are all decoded, in read mode 0. Each way to pick a plane has a loop of
+    /// its own.
+    #[inline(never)]
+    fn read_within(&self, aim: Aim, first: u32, bytes: &mut [u8], misc: u8)
+        requires aim { IsAim aim self.now }
+        requires start { aim.start ≤ first }
+        requires few { first + length bytes.old < 2 ^ 32 }
+        requires within { ArePutWithin self.now misc first (length bytes.old)
+            (first - aim.start) }
+        requires plain { is_read_compare self.now ≡ false }
+        ensures bytes { (i : ℕ) → i < length bytes.old →
+            slice_index bytes.new i ≡ byte_where self.now misc (first + i) }
+        ensures size { length bytes.new ≡ length bytes.old }
+    {
+        if self.is_chain_four() {
+            self.read_picked(aim, 0, 4, first, bytes, misc);
+        } else if self.is_odd_even_read() {
+            let base = 2 * self.read_map_pair() as usize;
+            self.read_picked(aim, base, 2, first, bytes, misc);
+        } else {
+            self.read_picked(aim, self.read_map_select() as usize, 1, first, bytes, misc);
+        }
+    }
+
+    /// Reads the addresses from the first on, one after the other.
+    fn read_each(&mut self, aim: Aim, first: u32, bytes: &mut [u8], misc: u8)
+        requires aim { IsAim aim self.old }
+        requires small { aim.start + aim.len < 2 ^ 32 }
+        requires few { first + length bytes.old < 2 ^ 32 }
+        ensures latches { self.new ≡ after_gets misc first (length bytes.old) 0 self.old }
+        ensures bytes { (i : ℕ) → i < length bytes.old →
+            slice_index bytes.new i ≡ byte_where self.old misc (first + i) }
+        ensures size { length bytes.new ≡ length bytes.old }
+    {
+        for i in 0..bytes.len() {
+            let address = first + i as u32;
+            bytes[i] = self.byte_aimed(aim, address, misc);
+            self.load_aimed(aim, address, misc);
+        }
+    }
+
+    /// Reads the addresses from the first on, in ascending order, into bytes of the caller's; a read
+    /// that is not decoded gives FF and loads no latch, and `misc` is the miscellaneous output
+    /// register.
+    pub fn get_slice(&mut self, first: u32, bytes: &mut [u8], misc: u8)
+        requires { first + length bytes.old < 2 ^ 32 }
+        ensures latches { self.new ≡ after_gets misc first (length bytes.old) 0 self.old }
+        ensures bytes { (i : ℕ) → i < length bytes.old →
+            slice_index bytes.new i ≡ byte_where self.old misc (first + i) }
+        ensures size { length bytes.new ≡ length bytes.old }
+    {
+        let aim = self.aim();
+        let n = bytes.len() as u32;
+        if n == 0 || self.is_read_compare() || !self.is_put_within(aim, first, n, misc) {
+            self.read_each(aim, first, bytes, misc);
+            return;
+        }
+        self.read_within(aim, first, bytes, misc);
+        // The latches are those of the last read.
+        self.load_aimed(aim, first + (n - 1), misc);
+    }
+}
