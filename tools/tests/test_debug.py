@@ -44,6 +44,7 @@ class Release(Files):
         ignored = shutil.ignore_patterns("__pycache__")
         shutil.copytree(TOOLS / "vga_report", self.top / "tools" / "vga_report", ignore=ignored)
         shutil.copy(TOOLS / "vga-report", self.top / "tools")
+        shutil.copytree(TOOLS.parent / "bindings", self.top / "bindings", ignore=ignored)
         self.built = self.top / "page" / "zaklimot.html"
         self.built.write_text(small_page(), "utf-8")
         self.script = self.write("script.vga", TEXT)

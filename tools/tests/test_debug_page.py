@@ -17,21 +17,22 @@ import unittest
 from pathlib import Path
 from unittest import mock
 
-from library_tests.compilers import Wrong
 from page_tests import built, node, scripts, suite
 from page_tests import command as tests_command
-from vga_library.header import HEADER, TOP, calls_of
-from vga_library.running import Failed, run
+from vga_library.header import calls_of
+from vga_report import TOP
+from vga_report.version import HEADER
+from vga_report.processes import Failed, run
 from vga_page import command, page, wasm
 from vga_page.bundling import joined
 from vga_page.page import DATA, SCRIPT, STYLE, Sources, about, data_of, examples, make_page, packed, page_text
 from vga_page.retargeting import LAYOUTS, TRIPLES, retargeted
 from vga_library.telling import Phases
 from vga_page.wasm import check_module, exports_of, kit_of, with_kit
-from vga_report.cli import TROUBLE
+from vga_report.trouble import TROUBLE
 from vga_report.debugging import page_data
 from vga_report.progress import Progress
-from vga_report.trouble import Trouble
+from vga_report.trouble import Trouble, Wrong
 
 FRAME = f"<!DOCTYPE html>\n{STYLE}\n{DATA}\n{SCRIPT}\n"
 
@@ -336,7 +337,7 @@ class Commands(unittest.TestCase):
             module.write_bytes(module_of(Modules.right))
             output = io.StringIO()
             with contextlib.redirect_stdout(output):
-                self.assertEqual(command.main(["make", str(made), "--module", str(module)]), command.DONE)
+                self.assertEqual(command.main(["make", str(made), "--module", str(module)]), 0)
             self.assertEqual(built.module_in(made.read_bytes()), module.read_bytes())
             self.assertIn(f"{made}: {made.stat().st_size:,} bytes; its module has", output.getvalue())
             self.assertIn("so it isn't written", self.said("make", str(module), "--module", str(module)))
@@ -462,7 +463,7 @@ class Tests(unittest.TestCase):
         self.assertEqual(told, "node: it is v18.19.0, and the tests need 20 or newer: the package nodejs")
         said = io.StringIO()
         with mock.patch("shutil.which", return_value=None), contextlib.redirect_stderr(said):
-            self.assertEqual(tests_command.main([]), tests_command.TROUBLE)
+            self.assertEqual(tests_command.main([]), TROUBLE)
         self.assertTrue(said.getvalue().startswith("vga-page-tests: node: "))
 
     def test_the_files_of_tests(self) -> None:

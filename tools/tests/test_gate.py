@@ -31,7 +31,7 @@ class Whole(unittest.TestCase):
         if not HAS: raise unittest.SkipTest({UNBUILT!r})
     def test_four(self): pass
 """
-RUN = "import sys, pathlib; from tests.discovering import main; sys.exit(main(sys.argv[2:], pathlib.Path(sys.argv[1])))"
+RUN = "import sys; from tests.discovering import main; sys.exit(main(['--folder', *sys.argv[1:]]))"
 
 
 class Again(Folder):

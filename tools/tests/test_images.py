@@ -9,8 +9,8 @@ from typing import Callable
 
 from vga_report.images import image_of
 from vga_report.timing import USUAL, Timing
-from vga_report.whole import Step, steps_and_blocks
 from vga_report.trouble import Trouble
+from zaklimot.format import parse_text
 
 from .making import BLACK, RED, WHITE, ppm
 from .test_command import PICTURE, Files, run
@@ -171,8 +171,7 @@ class Animations(Files):
         ]:
             with self.subTest(steps):
                 timing = Timing()
-                for step in steps_and_blocks(steps.replace(";", "\n").encode(), "t"):
-                    assert isinstance(step, Step)
+                for step in parse_text(steps.replace(";", "\n")).steps():
                     timing.take(step)
                 self.assertAlmostEqual(timing.frame(), seconds)
 

@@ -22,9 +22,9 @@ from vga_picture.command import main
 from vga_picture.mode import MODES
 from vga_picture.planes import best_numbers, planes_of, put_steps
 from vga_picture.word import MASKS, Bytes, Word, Write, least_writes
-from vga_report.picture import Picture
 from vga_report.png import Shape, write_png
 from vga_report.program import FONTS
+from zaklimot.format import Picture
 
 from .making import png_rows, ppm
 from .program import run_texts

@@ -9,12 +9,14 @@ import sys
 import unittest
 from concurrent.futures import ThreadPoolExecutor
 from pathlib import Path
+from unittest import mock
 
 from vga_report.expecting import answer_of, handed_in, is_as_expected, is_worth_telling
 from vga_report.listing import Choice, Row
-from vga_report.report import Report, Step
-from vga_report.script import blessed_line, count_in, expected_in, steps_of
+from vga_report.report import Report
+from vga_report.script import blessed_line, expected_in
 from vga_report.trouble import Trouble
+from zaklimot.format import Answer, count_in, steps_in
 
 from .making import BLACK, RED, ppm, stream
 from .program import run_texts
@@ -204,13 +206,13 @@ class Expectations(unittest.TestCase):
     def test_what_is_as_expected(self) -> None:
         picture = next(Report(stream(b"1 picture 37\n" + ppm(9, 1, BLACK * 9) + b"\n"), "r").steps())
         for step, name, good, bad in [
-            (Step(1, 1, "55"), "get", ["55", "*", "5..."], ["5", "54", ""]),
-            (Step(1, 1, "E6"), "get", ["E6", "e6"], ["E6 WrongKind"]),
-            (Step(1, 1, "E1 NotDecoded"), "get", ["E1 NotDecoded"], ["E1", "E2"]),
-            (Step(1, 1, "E6 WrongKind"), "int", ["E6", "E6 WrongKind"], ["E6 BadPage", "E7"]),
-            (Step(1, 1, "ax=0300 bx=0000 cx=0D0E dx=0102"), "int", ["cx=0D0E", "dx=0102 ax=0300"], ["cx=0D0F", "cx", "ex=0"]),
+            (Answer(1, 1, "55"), "get", ["55", "*", "5..."], ["5", "54", ""]),
+            (Answer(1, 1, "E6"), "get", ["E6", "e6"], ["E6 WrongKind"]),
+            (Answer(1, 1, "E1 NotDecoded"), "get", ["E1 NotDecoded"], ["E1", "E2"]),
+            (Answer(1, 1, "E6 WrongKind"), "int", ["E6", "E6 WrongKind"], ["E6 BadPage", "E7"]),
+            (Answer(1, 1, "ax=0300 bx=0000 cx=0D0E dx=0102"), "int", ["cx=0D0E", "dx=0102 ax=0300"], ["cx=0D0F", "cx", "ex=0"]),
             (picture, "frame", ["picture 9x1", "picture 9x1 8f4a...", answer_of(picture)], ["picture", "picture 9x2"]),
-            (Step(1, 1, "a", ("b",)), "show", ["2 lines dd8c6a395b5dd36c56d23275028f526c"], ["a", "a b", "2 lines"]),
+            (Answer(1, 1, "a", ("b",)), "show", ["2 lines dd8c6a395b5dd36c56d23275028f526c"], ["a", "a b", "2 lines"]),
         ]:
             for expected in good + bad:
                 with self.subTest((step.answer, expected)):
@@ -219,19 +221,20 @@ class Expectations(unittest.TestCase):
     def test_comments(self) -> None:
         for comment, expected in [("= 55", "55"), (" =55 ; more", "55"), ("55", None), ("= E6  WrongKind", "E6 WrongKind"), ("=", "")]:
             with self.subTest(comment):
-                self.assertEqual(expected_in(comment), expected)
-        self.assertEqual([line.number for line in steps_of(b"; a\n\nframe ; =\n \t\r\nframe")], [3, 5])
+                self.assertEqual(expected_in(comment.encode()), expected)
+        self.assertEqual([line.number for line in steps_in(io.BytesIO(b"; a\n\nframe ; =\n \t\r\nframe"))], [3, 5])
         self.assertEqual(blessed_line("frame", "ok"), "frame ; = ok")
 
     def test_blocks(self) -> None:
         def steps(text: str) -> list[tuple[int, str]]:
-            return [(line.number, line.words) for line in steps_of(text.encode())]
+            return [(line.number, line.words) for line in steps_in(io.BytesIO(text.encode()))]
 
         text = "; x\nVersion  2\nint\nrepeat 2 ; twice\nframe ; = *\nin 3DA\nEND\nrepeat 3\nend\nframe\n"
         twice = [(5, "frame"), (6, "in 3DA")] * 2
         self.assertEqual(steps(text), [(3, "int"), *twice, (10, "frame")])
         self.assertEqual(steps("version 2\nrepeat 65535\nframe\n"), [(3, "frame")])
-        self.assertEqual(len(steps("version 2\nrepeat 65535\n" + "frame\n" * 300 + "end")), 16_777_200)
+        with mock.patch("zaklimot.format.lines.MOST_STEPS", 1000):
+            self.assertEqual(len(steps("version 2\nrepeat 65535\n" + "frame\n" * 300 + "end")), 900)
         self.assertEqual(steps("frame\nrepeat 2\nend"), [(1, "frame"), (2, "repeat 2"), (3, "end")])
         long = "version 2\nrepeat 3\n" + "".join(f"in {at:X}\n" for at in range(5000)) + "end\nframe\n"
         once = [(at + 3, f"in {at:X}") for at in range(5000)]
@@ -245,10 +248,10 @@ class Expectations(unittest.TestCase):
             ("ok", "out 3C2 1", False), ("55", "get 0", True), ("ax=0003 bx=0000 cx=0000 dx=0000", "int ax=3", False),
             ("ax=0300 bx=0000 cx=0D0E dx=0000", "int ax=300", True),
         ]:
-            self.assertEqual(is_worth_telling(Step(1, 1, answer), words), is_worth)
+            self.assertEqual(is_worth_telling(Answer(1, 1, answer), words), is_worth)
 
     def test_choices(self) -> None:
-        self.assertTrue(Choice(None).has(Row(Step(1, 1, "ok"), "")))
+        self.assertTrue(Choice(None).has(Row(Answer(1, 1, "ok"), "")))
         for text in ("", "1-", "a-b", "1,,2"):
             with self.subTest(text), self.assertRaises(Trouble):
                 Choice(text)
@@ -262,15 +265,14 @@ class Examples(unittest.TestCase):
         self.assertGreater(len(texts), 12)
         for name, ran in run_texts(texts).items():
             self.assertEqual((ran.status, ran.said), (0, ""), name)
-            lines = steps_of(texts[name])
+            lines = list(steps_in(io.BytesIO(texts[name])))
             steps = list(Report(stream(ran.report), name).steps())
             self.assertEqual(len(steps), len(lines), name)
-            expected = [(step, line) for step, line in zip(steps, lines) if line.expected is not None]
+            expected = [(step, line, expected_in(line.comment)) for step, line in zip(steps, lines) if expected_in(line.comment)]
             self.assertTrue(expected, name)
-            for step, line in expected:
+            for step, line, wanted in expected:
                 with self.subTest(f"{name}:{line.number}"):
-                    assert line.expected is not None
-                    self.assertTrue(is_as_expected(step, line.expected, line.name), answer_of(step))
+                    self.assertTrue(is_as_expected(step, wanted or "", line.name), answer_of(step))
 
 
 if __name__ == "__main__":

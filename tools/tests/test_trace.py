@@ -16,7 +16,6 @@ from pathlib import Path
 from unittest import mock
 
 from vga_report.timing import Timing
-from vga_report.whole import Step as ScriptStep
 from vga_report.trouble import Trouble
 from vga_trace import converting
 from vga_trace.command import main
@@ -26,6 +25,7 @@ from vga_trace.kinds import count
 from vga_trace.passing import Flips, Pauses, with_frames_every
 from vga_trace.step import ADVANCE, FRAME, IN, NAMES, OUT, OUTW, PUT, Step, steps_of, without_polls
 from vga_trace.trace import Trace
+from zaklimot.format import Step as ScriptStep
 
 from .making import ppm, report
 from .program import run_texts

@@ -5,15 +5,14 @@ from __future__ import annotations
 import hashlib
 import re
 
-from .grammar import READING, REGISTERS
-from .report import Step
+from zaklimot.format import READING, REGISTERS, Answer
 
 ANY = "*"
 FRONT = "..."
 REFUSAL = re.compile(r"(E[1-9][0-9]?) [A-Za-z]+")
 
 
-def answer_of(step: Step) -> str:
+def answer_of(step: Answer) -> str:
     """An answer on one line: a picture by size and digest, a dump of several lines by their number and digest."""
     if step.picture is not None:
         return f"picture {step.picture.size} {step.picture.sum}"
@@ -23,7 +22,7 @@ def answer_of(step: Step) -> str:
     return step.answer
 
 
-def is_as_expected(step: Step, expected: str, name: str) -> bool:
+def is_as_expected(step: Answer, expected: str, name: str) -> bool:
     """Whether a step of this name answers what is expected of it."""
     answer = answer_of(step).lower()
     wanted = expected.lower()
@@ -51,6 +50,6 @@ def handed_in(words: str) -> str:
     return " ".join(f"{name}={given.get(name, '0'):0>4}" for name in REGISTERS)
 
 
-def is_worth_telling(step: Step, words: str) -> bool:
+def is_worth_telling(step: Answer, words: str) -> bool:
     """Whether `--bless` writes an answer in: not where it is `ok`, or the registers that were handed in."""
     return step.answer not in ("ok", "skipped") and step.answer.lower() != handed_in(words)

@@ -10,17 +10,18 @@ from itertools import islice, zip_longest
 from pathlib import Path
 from typing import BinaryIO, Iterator, NamedTuple, Optional, Union
 
+from zaklimot.format import STATE, Answer, Line, count_in, is_bytes, steps_in
+from zaklimot.format.report import REFUSAL, VALUE
+
 from .expecting import answer_of, is_as_expected
 from .faults import Files, explained
 from .processes import IS_POSIX
 from .program import Built, Tried
 from .progress import Progress
-from .report import REFUSAL, VALUE, Report, Step
-from .script import Line, count_in, is_bytes, steps_in
+from .report import Report
+from .script import expected_in
 from .trouble import Trouble
 
-# What a stopped run shows behind the last step.
-LOOKS = ("show regs", "show beam", "show latches", "show bda")
 HEADING = "step as understood"
 # Seconds between two looks whether there is an answer.
 PAUSE = 0.2
@@ -35,7 +36,7 @@ KINDS = ("refused", "read", "pictures", "dumps", "differs")
 class Row(NamedTuple):
     """A step with its answer."""
 
-    step: Step
+    step: Answer
     words: str
     line: Optional[int] = None
     expected: Optional[str] = None
@@ -121,7 +122,7 @@ class Script:
         printed = None if self._printed is None else steps_in(self._printed)
         if self._text is None:
             assert printed is not None
-            return ((line.words, Line(at, line.words, None)) for at, line in enumerate(printed, 1))
+            return ((line.words, Line(at, line.words)) for at, line in enumerate(printed, 1))
         lines = steps_in(self._text)
         if printed is None:
             return ((line.words, line) for line in lines)
@@ -131,7 +132,7 @@ class Script:
         self, program: Union[Built, Tried], fonts: str, until: Optional[int], progress: Progress
     ) -> Iterator[Row]:
         """The steps with their answers, as they come. A fault is told with its reason."""
-        lines, taken, looks = islice(self._lines(), until), 0, () if until is None else LOOKS
+        lines, taken, looks = islice(self._lines(), until), 0, () if until is None else STATE
         with program.running(self.path, fonts, until, self.is_bytes) as outcome:
             _wait_for(outcome.report, self.shown, progress)
             report = Report(outcome.report, "the report", progress)  # type: ignore[arg-type]
@@ -141,7 +142,7 @@ class Script:
                 words, line = next(lines, (None, None))
                 if words is not None and line is not None:
                     taken += 1
-                    yield Row(step, words, line.number, line.expected)
+                    yield Row(step, words, line.number, expected_in(line.comment))
                 elif step.number <= taken + len(looks):
                     # Behind the last there are the looks of a stopped run.
                     yield Row(step, looks[step.number - taken - 1])

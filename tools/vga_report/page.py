@@ -9,10 +9,11 @@ from html import escape
 from pathlib import Path
 from typing import NamedTuple, Optional, Sequence
 
+from zaklimot.format import Picture
+
 from .differences import Difference
 from .expecting import answer_of
 from .listing import Row
-from .picture import Picture
 from .png import Shape, write_marked_png, write_png
 from .trouble import Trouble
 

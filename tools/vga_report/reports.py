@@ -7,31 +7,34 @@ import os
 import sys
 from typing import Callable, Iterator, Optional, Sequence
 
+from zaklimot.format import Answer, Digest, Picture
+
 from .apng import Animation
 from .differences import Comparison, Difference
 from .expected import Expected
 from .output import AGREED, DIFFERED, name_of, refuse_twice, say, write, write_name
 from .page import Page, compare_page
-from .picture import Digest, Picture
 from .png import Shape, write_marked_png, write_png
 from .progress import Progress
-from .report import Report, Step
-from .script import read_script
+from .report import Report
+from .script import read_script, script_of
 from .streams import STANDARD, reading, write_file, writing
 from .timing import USUAL, Timing
 from .trouble import Trouble
-from .whole import steps_and_blocks, steps_meant
 
 
 def text(words: argparse.Namespace, progress: Progress) -> int:
     """Writes a report as text."""
+    if sys.stdout.isatty():
+        # Text on a terminal shows by itself how far the work has come.
+        progress = Progress(is_wanted=False)
     with reading(words.report) as stream, writing(STANDARD) as output:
         for step in Report(stream, name_of(words.report), progress).steps():
             output.write(step.text().encode("ascii"))
     return AGREED
 
 
-def wanted_pictures(steps: Iterator[Step], wanted: Sequence[int], name: str) -> Iterator[tuple[int, Picture]]:
+def wanted_pictures(steps: Iterator[Answer], wanted: Sequence[int], name: str) -> Iterator[tuple[int, Picture]]:
     """The pictures of the steps that are wanted, or all."""
     last, missing = 0, set(wanted)
     for step in steps:
@@ -96,7 +99,7 @@ def _delays(script: Optional[str]) -> Callable[[int], float]:
         return lambda number: USUAL
     timing, frames = Timing(), {}
     name = name_of(script)
-    for number, step in enumerate(steps_meant(steps_and_blocks(read_script(script), name)), 1):
+    for number, step in enumerate(script_of(read_script(script), name).steps(), 1):
         timing.take(step)
         if step.name == "frame":
             frames[number] = timing.frame()

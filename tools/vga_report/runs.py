@@ -11,20 +11,21 @@ from contextlib import ExitStack, contextmanager
 from pathlib import Path
 from typing import BinaryIO, Iterator, Union, cast
 
+from zaklimot.format import Picture
+
 from .blocks import block_lines
 from .debugging import debug_page, link_to
 from .expecting import answer_of, is_worth_telling
 from .listing import Choice, Row, Script, heading, listed
 from .output import AGREED, DIFFERED, name_of, write
 from .page import run_page
-from .picture import Picture
 from .png import Shape, write_png
 from .program import FONTS, Built, Tried, found_program
 from .progress import Progress
-from .script import blessed_line, read_script, text_of
+from .mistakes import text_of
+from .script import blessed_line, read_script
 from .streams import STANDARD, check_file, check_folder, write_file, write_over, writing
 from .trouble import Trouble
-
 
 # So many bytes of answers that differ stay in memory.
 MOST_TOLD = 1 << 20

@@ -4,7 +4,7 @@ from __future__ import annotations
 
 from typing import Optional
 
-from .whole import Step
+from zaklimot.format import Step
 
 # Dots a second, by bits 3 and 2 of miscellaneous output.
 CLOCKS = {0: 25_175_000, 1: 28_322_000}

@@ -4,9 +4,9 @@ from __future__ import annotations
 
 import argparse
 import math
-from pathlib import Path
 from typing import Callable
 
+from . import TOP, cli
 from .progress import Progress
 from .reports import check, compare, pictures, text
 from .shots import compare_picture
@@ -14,7 +14,7 @@ from .runs import DEFAULT_FONTS, run
 from .streams import to_read
 from .suite import scripts, suite
 
-SUITE = Path(__file__).resolve().parents[2] / "crates" / "vga_suite" / "data" / "list.txt"
+SUITE = TOP / "crates" / "vga_suite" / "data" / "list.txt"
 # The largest numbers of options: enlargements, commands at a time, MiB, steps, and a day of seconds.
 MOST_SCALE, MOST_JOBS, MOST_OUTPUT, MOST_STEP, MOST_SECONDS = 1000, 256, 1 << 20, 4_294_967_295, 86_400
 
@@ -121,10 +121,9 @@ def _add_pictures(parser: argparse.ArgumentParser) -> None:
 
 def parser() -> argparse.ArgumentParser:
     """The parser of the command line."""
-    made = argparse.ArgumentParser(
-        prog="vga-report",
-        description="Reads the reports of runs. `-` is standard input, or standard output, in the place of any file.",
-        epilog="Exit status: 0 done, and nothing differs; 1 something differs; 2 the work can't be done.",
+    made = cli.tool_parser(
+        "vga-report", "Runs scripts, and reads the reports of runs. `-` is standard input or output in the place of any file.",
+        "tools/vga-report run examples/text-screen.vga", "tools/README.md", cli.DIFFERS,
     )
     commands = made.add_subparsers(required=True, metavar="COMMAND")
 
