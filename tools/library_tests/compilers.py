@@ -8,7 +8,7 @@ from pathlib import Path
 from typing import Mapping, NamedTuple, Optional, Sequence
 
 from vga_report.processes import captured
-from vga_report.trouble import Trouble, Wrong
+from vga_report.trouble import Wrong
 
 STRICT = ("-Wall", "-Wextra", "-Wpedantic", "-Wconversion", "-Werror")
 SANITIZED = ("-g", "-fsanitize=address,undefined", "-fno-sanitize-recover=all")

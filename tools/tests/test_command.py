@@ -336,13 +336,15 @@ class Suite(Files):
         self.case("a/one", "; Memory.\nget A0000\n", "1 55\n")
         status, output, _ = self.run_suite("--json")
         self.assertEqual(status, 1)
+        (line,) = [line for line in output.splitlines() if '"name": "a/one"' in line]
+        self.assertEqual(json.loads(line.rstrip("]},") + "}")["rule"], "Memory.")
         self.assertEqual(json.loads(output), {
             "command": ADAPTER + " {fonts}",
             "cases": {"agrees": 0, "skipped": 0, "differs": 1, "failed": 0},
             "rules": [{
                 "rule": "Memory.", "folder": "a", "answer": "differs",
                 "cases": [{
-                    "name": "a/one", "answer": "differs", "steps": 1, "skipped": 0, "answers": 1,
+                    "name": "a/one", "rule": "Memory.", "answer": "differs", "steps": 1, "skipped": 0, "answers": 1,
                     "differing": 1, "step": 1, "answered": "FF", "expected": "55", "reason": "step 1: FF, not 55 (`get A0000`, a/one.vga:2)",
                 }],
             }],

@@ -14,7 +14,7 @@ from vga_report.trouble import Trouble
 from vga_report.words import SUITE
 from zaklimot import format
 from zaklimot.format import (
-    BLOCK_LINES, FAULT, FAULTS, FORMS, HEADERS, MOST_BYTES, MOST_COUNT, MOST_STEPS, OPCODES, REFUSALS, SHOWN,
+    BLOCK_LINES, FAULT, FAULTS, FORMS, HEADERS, MOST_BYTES, MOST_STEPS, OPCODES, REFUSALS, SHOWN,
     Answer, Block, Script, ScriptFault, Step, decode, encode, is_answer_to, parse_text, print_text, read,
 )
 from zaklimot.format.table import CODES

@@ -383,6 +383,10 @@ class Converting(Folder):
     def test_words_that_mean_nothing(self) -> None:
         for words in ((), ("convert", "a"), ("convert", "a", "b", "--frames", "0"), ("kinds", "a", "--to", "0")):
             self.assertEqual(run(*words)[0], 2)
+        path = self.trace(BEGIN)
+        for words in (("convert", path, "-"), ("kinds", path)):
+            said = run(*words, "--from", "300", "--to", "100")[2]
+            self.assertIn("--from 300 is behind --to 100: no cycle is both", said if isinstance(said, str) else said.decode())
 
     def test_the_program_takes_what_is_written(self) -> None:
         text = b"- w p 3C4 302 2\n- w p 3C4 204 2\n- w p 3CE 1005 2\n- w p 3CE E06 2\n- w p 3CE FF08 2\n"

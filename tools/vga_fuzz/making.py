@@ -5,7 +5,7 @@ from __future__ import annotations
 from random import Random
 from typing import Callable, NamedTuple, Sequence
 
-from zaklimot.format import END, FIRST_LINE, MAGIC, REPEAT, Block, Script, encode
+from zaklimot.format import END, FIRST_LINE, REPEAT, Block, Script, encode
 
 from .steps import block, spelled, step
 

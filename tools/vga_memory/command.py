@@ -3,7 +3,6 @@
 from __future__ import annotations
 
 import argparse
-from pathlib import Path
 from typing import NamedTuple, Optional, Sequence
 
 from vga_report import TOP, cli

@@ -80,6 +80,9 @@ class Difference(NamedTuple):
         """What messages tell of it."""
         answer, other = self.answers()
         text = self.dots() or f"{answer}, not {other}"
+        lines = ["" if step is None else step.answer for step in self]
+        if lines[0] != lines[1] == lines[0].upper():
+            text += ": digits are upper case in a report"
         return Told(self.number, answer, other, f"{self.place}: {text}")
 
 

@@ -51,7 +51,7 @@ def _in_line(line: str | None, wanted: str | None) -> Iterator[str]:
         return
     words, others = line.split(" "), wanted.split(" ")
     row = _ROW.match(line)
-    if len(words) != len(others) or bool(row) != bool(_ROW.match(wanted)):
+    if len(words) != len(others) or len(words) == 1 or bool(row) != bool(_ROW.match(wanted)):
         yield f"'{line}', not '{wanted}'"
         return
     front = len(row[0].split(" ")) if row else 0

@@ -78,6 +78,8 @@ class Page:
         text = escape(answer_of(row.step) if picture is not None else "\n".join(row.step.lines))
         if row.is_wrong:
             text += f"\nnot {escape(row.expected or '')}"
+        if row.why:
+            text += f"\n{escape(row.why)}"
         if isinstance(picture, Picture):
             name, image = self._image(picture)
             self._frames.append(Frame(row.step.number, f"step {row.step.number}, {picture.size}", [name]))

@@ -7,6 +7,7 @@ import os
 import shutil
 import subprocess
 import tempfile
+import time
 from contextlib import contextmanager
 from pathlib import Path
 from typing import Any, BinaryIO, Iterator, Optional, Sequence, cast
@@ -14,7 +15,8 @@ from typing import Any, BinaryIO, Iterator, Optional, Sequence, cast
 from zaklimot.format import FAULT
 
 from . import TOP
-from .processes import ENDING, started
+from .processes import ENDING, run, started
+from .progress import Progress
 from .streams import to_read
 from .trouble import Trouble
 
@@ -27,8 +29,7 @@ CHUNK = 1 << 16
 # So much of what the program says is looked at.
 MOST_SAID = 1 << 16
 NO_PROGRAM = (
-    "there is no program vga: `(cd crates/vga && rt run -- --help)` builds and proves it, --vga names another, "
-    "and --try runs it without its proofs"
+    "there is no program vga: --build proves and builds it, --vga names another, and --try runs it without its proofs"
 )
 
 
@@ -73,6 +74,23 @@ def _running(words: Sequence[str], asking: float = 0, **given: Any) -> Iterator[
             outcome.status = process.wait()
         said.seek(0)
         outcome.said = said.read(MOST_SAID).decode("utf-8", "replace")
+
+
+def build_program(progress: Progress) -> None:
+    """Proves and builds the program where it is lacking, and tells how far that is: it may take hours at first."""
+    if os.access(PROGRAM, os.X_OK):
+        return
+    begun = time.monotonic()
+
+    def hear(line: str) -> None:
+        if progress.is_due():
+            seconds = int(time.monotonic() - begun)
+            progress.tell(f"{seconds // 60}:{seconds % 60:02} proving and building the program{line and ': '}{line}")
+
+    try:
+        run(["rt", "run", "--", "--help"], CRATE, hear)
+    finally:
+        progress.clear()
 
 
 class Built:

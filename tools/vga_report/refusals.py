@@ -6,6 +6,7 @@ The state is what the steps that were done have left, as far as a script tells i
 
 from __future__ import annotations
 
+from functools import lru_cache
 from typing import Callable, NamedTuple, Optional
 
 from zaklimot.format import MOST_ADVANCE, REGISTERS, Step, parse_line
@@ -96,6 +97,7 @@ def why_refused(words: str, number: int, state: State) -> str:
     return told(dict(zip(REGISTERS, numbers)), state) if told else ""
 
 
+@lru_cache(4096)
 def step_of(words: str) -> Optional[Step]:
     """The step of a line's words; None where they are none."""
     try:

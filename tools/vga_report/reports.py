@@ -7,7 +7,7 @@ import os
 import sys
 from typing import Callable, Iterator, Optional, Sequence
 
-from zaklimot.format import Answer, Digest, Picture
+from zaklimot.format import MOST_ADVANCE, Answer, Digest, Picture
 
 from .apng import Animation
 from .differences import Comparison, Difference
@@ -18,7 +18,7 @@ from .png import Shape, write_marked_png, write_png
 from .progress import Progress
 from .report import Report
 from .script import read_script, script_of
-from .streams import STANDARD, reading, write_file, writing
+from .streams import STANDARD, check_folder, reading, write_file, writing
 from .timing import USUAL, Timing
 from .trouble import Trouble
 
@@ -61,6 +61,7 @@ def pictures(words: argparse.Namespace, progress: Progress) -> int:
     if words.apng is not None:
         return _animate(words, shape, progress)
     if words.folder != STANDARD:
+        check_folder(words.folder)
         os.makedirs(words.folder, exist_ok=True)
     count = 0
     with reading(words.report) as stream:
@@ -94,15 +95,19 @@ def _animate(words: argparse.Namespace, shape: Shape, progress: Progress) -> int
 
 
 def _delays(script: Optional[str]) -> Callable[[int], float]:
-    """How long the frame of a step lasts, as the script tells it, be it text or bytes."""
+    """How long the frame of a step lasts, with the whole frames that an advance passes over behind it, as a script tells it."""
     if script is None:
         return lambda number: USUAL
-    timing, frames = Timing(), {}
+    timing, frames, last, dots = Timing(), {}, 0, 0
     name = name_of(script)
     for number, step in enumerate(script_of(read_script(script), name).steps(), 1):
         timing.take(step)
+        if step.name == "advance" and step.numbers[0] <= MOST_ADVANCE:
+            dots += step.numbers[0]
         if step.name == "frame":
-            frames[number] = timing.frame()
+            if last:
+                frames[last] += timing.passed(dots)
+            frames[number], last, dots = timing.frame(), number, 0
 
     def delay(number: int) -> float:
         if number not in frames:

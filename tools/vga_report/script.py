@@ -37,15 +37,3 @@ def script_of(data: bytes, name: str) -> Script:
         reason = reason_of(fault.fault.name, fault.place, data)
         line = fault.place if fault.fault.place == "line" else None
         raise Trouble(f"{fault.answer}: {reason}", name, line) from fault
-
-
-def blessed_line(line: str, answer: str) -> str:
-    """A line with the answer that is expected written in, before the rest of its comment."""
-    ending = "\r" if line.endswith("\r") else ""
-    words, _, comment = line.rstrip("\r").partition(";")
-    rest = comment.strip()
-    if rest.startswith(MARK):
-        rest = rest.partition(";")[2].strip()
-    # Comments stand in the column where they stood.
-    front = words if words.endswith((" ", "\t")) else words + " "
-    return f"{front}; {MARK} {answer}" + (f" ; {rest}" if rest else "") + ending

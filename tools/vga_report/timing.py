@@ -63,6 +63,11 @@ class Timing:
         found = self.speed()
         return USUAL if found is None else found[0] / found[1]
 
+    def passed(self, dots: int) -> float:
+        """The seconds of the whole frames among so many dots that pass between two pictures; 0 where none is known."""
+        found = self.speed()
+        return 0.0 if found is None else dots // found[0] * found[0] / found[1]
+
     def speed(self) -> Optional[tuple[int, float]]:
         """The dots of a frame, and the dots that pass in a second; None where the script doesn't tell."""
         if self._misc is None or (self._misc >> 2 & 3) not in CLOCKS:

@@ -102,7 +102,18 @@ def _add_run(parser: argparse.ArgumentParser) -> None:
     parser.add_argument(
         "--debug", metavar="FILE", help="writes a page that runs the script in a browser, step by step; nothing is run here"
     )
-    parser.add_argument("--bless", action="store_true", help="writes the answers into the script, as `; = 55`")
+    parser.add_argument("--bless", action="store_true", help="writes answers that are not as expected into the script")
+    parser.add_argument("--dry-run", action="store_true", help="with --bless: lists its changes, and writes nothing")
+    parser.add_argument("--strict", action="store_true", help="a refusal that is not expected is a difference")
+    parser.add_argument("--quiet", action="store_true", help="shows the answers that differ, and the last line alone")
+    parser.add_argument("--diff", action="store_true", help="shows what differs as a unified diff of the script instead")
+    parser.add_argument("--json", metavar="FILE", help="writes steps, answers, digests and refusals as JSON")
+    parser.add_argument("--junit", metavar="FILE", help="writes the result of each script as XML for test runners")
+    parser.add_argument(
+        "--jobs", type=number_to(MOST_JOBS), default=1, metavar="N", help="of a folder so many scripts at a time; else 1"
+    )
+    parser.add_argument("--watch", action="store_true", help="runs again when the script or the font file changes")
+    parser.add_argument("--build", action="store_true", help="proves and builds the program first, where it is lacking")
     _add_shape(parser)
 
 

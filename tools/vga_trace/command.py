@@ -12,6 +12,7 @@ from vga_report.output import AGREED, DIFFERED, name_of, refuse_twice
 from vga_report.progress import Progress
 from vga_report.report import Report
 from vga_report.streams import STANDARD, reading, to_read, writing
+from vga_report.trouble import Trouble
 from vga_report.words import number_to, seconds
 
 from .checking import check
@@ -83,7 +84,14 @@ def _parser() -> argparse.ArgumentParser:
 
 
 def _wanted(words: argparse.Namespace) -> Wanted:
+    _check_range(words)
     return Wanted(words.polls == KEEP, words.time, words.frames, words.to, words.from_)
+
+
+def _check_range(words: argparse.Namespace) -> None:
+    """Ends the work where no cycle is from the first on that is wanted to the last."""
+    if words.to is not None and words.from_ > words.to:
+        raise Trouble(f"--from {words.from_} is behind --to {words.to}: no cycle is both")
 
 
 def _opened(words: argparse.Namespace) -> ContextManager[Trace]:
@@ -124,6 +132,7 @@ def _check(words: argparse.Namespace, _: Progress) -> int:
 
 def _kinds(words: argparse.Namespace, _: Progress) -> int:
     """Counts cycles."""
+    _check_range(words)
     with _opened(words) as trace:
         listing = Listing(trace, Wanted(most=words.to))
         found = count(islice(listing.cycles(), words.from_ - 1, None))

@@ -12,7 +12,7 @@ from .cycle import PORT, VBE, Cycle
 # The steps that cycles become, and those between them, by their opcodes.
 NAMES = {FORMS[name].opcode: name for name in ("out", "outw", "in", "inw", "put", "putw", "get", "getw", "advance", "frame")}
 OUT, OUTW, IN, INW, PUT, PUTW, GET, GETW, ADVANCE, FRAME = NAMES
-READS, WRITES = (IN, INW, GET, GETW), (OUT, OUTW, PUT, PUTW)
+READS = (IN, INW, GET, GETW)
 PORTS, WORDS = (OUT, OUTW, IN, INW), (OUTW, INW, PUTW, GETW)
 # Input status 1, with colour and without; bits 0 and 3 tell where the beam is.
 STATUS = (0x3DA, 0x3BA)

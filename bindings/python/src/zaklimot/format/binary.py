@@ -6,10 +6,10 @@ from typing import Iterator, Union
 
 from .script import Block, Item, Script, Step
 from .table import (
-    CODES, COUNT, DUMPED, END_CODE, FORMS, HEADERS, MAGIC, MOST_BYTES, MOST_STEPS, OPCODES, PLANE, REPEAT_CODE,
+    CODES, COUNT, DUMPED, END_CODE, FORMS, HEADERS, MAGIC, MOST_BYTES, MOST_STEPS, PLANE, REPEAT_CODE,
     ScriptFault,
 )
-from .text import is_in_plane, parse_text
+from .text import DUMP_OF_PLANE, is_in_plane, parse_text
 
 _HAS_KIND = {form.opcode for form in FORMS.values() if len(form.code) > 1}
 
@@ -107,15 +107,12 @@ class _Reader:
             if self._at > len(data):
                 raise ScriptFault("Truncated", begin)
             return Step(form.name, numbers[:-1], data[end:self._at])
-        if PLANE in form.fields and not self._is_dumped(form.name, numbers):
+        if form.name == DUMP_OF_PLANE and not self._is_dumped(numbers):
             raise ScriptFault("BadStep", begin)
         return Step(form.name, numbers)
 
     @staticmethod
-    def _is_dumped(name: str, numbers: tuple[int, ...]) -> bool:
+    def _is_dumped(numbers: tuple[int, ...]) -> bool:
         """Whether a plane's dump is in range; all other fields take whatever their bytes hold."""
         plane, _, count = numbers
-        return plane <= PLANE.most and DUMPED.least <= count <= DUMPED.most and is_in_plane(name, numbers)
-
-
-assert REPEAT_CODE in OPCODES and END_CODE in OPCODES
+        return plane <= PLANE.most and DUMPED.least <= count <= DUMPED.most and is_in_plane(numbers)

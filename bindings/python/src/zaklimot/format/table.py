@@ -51,17 +51,16 @@ class Field:
 
     def value(self, word: str) -> int:
         """The value that a word of a text spells; a ValueError where it spells none, or one out of range."""
-        if self.digits:
-            value = int(word, 16) if _HEXADECIMAL.fullmatch(word) and len(word) <= self.digits else -1
-        else:
-            digits = word.lstrip("0") or "0"
-            value = int(digits) if _DECIMAL.fullmatch(word) and len(digits) <= 10 else -1
+        # `int` itself would take signs, underscores, and digits of other scripts too.
+        digits = word if self.digits else word.lstrip("0") or "0"
+        if len(digits) > (self.digits or 10) or not (word.isascii() and word.isalnum()):
+            raise ValueError(word)
+        value = int(digits, 16 if self.digits else 10)
         if not self.least <= value <= self.most:
             raise ValueError(word)
         return value
 
 
-_HEXADECIMAL, _DECIMAL = re.compile("[0-9A-Fa-f]+"), re.compile("[0-9]+")
 _SIZES = {1: "B", 2: "H", 4: "I"}
 
 

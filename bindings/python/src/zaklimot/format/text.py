@@ -13,6 +13,7 @@ from .table import (
 
 _WORDS = re.compile(rb"[^ \t\r]+")
 _HEXADECIMAL = re.compile("[0-9A-Fa-f]+")
+DUMP_OF_PLANE = "show plane"
 # A byte that is no ASCII stands in no step.
 _NO_LETTER = "\xff"
 
@@ -88,14 +89,14 @@ def parse_line(words: Sequence[str]) -> Step:
     if name not in FORMS:
         raise ValueError(name)
     numbers = _numbers(rest, FORMS[name].fields)
-    if not is_in_plane(name, numbers):
+    if name == DUMP_OF_PLANE and not is_in_plane(numbers):
         raise ValueError(name)
     return Step(name, numbers)
 
 
-def is_in_plane(name: str, numbers: Sequence[int]) -> bool:
-    """Whether a step shows no byte past a plane's end; all but dumps of a plane do not."""
-    return name != "show plane" or numbers[1] + numbers[2] <= PLANE_BYTES
+def is_in_plane(numbers: Sequence[int]) -> bool:
+    """Whether a dump of a plane, by its numbers, shows no byte past the plane's end."""
+    return numbers[1] + numbers[2] <= PLANE_BYTES
 
 
 def _numbers(words: Sequence[str], fields: Sequence[Field]) -> tuple[int, ...]:

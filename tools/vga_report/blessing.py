@@ -1,0 +1,78 @@
+"""The answers of a run written into its script, and what a script would be with them."""
+
+from __future__ import annotations
+
+import difflib
+from typing import Iterator, NamedTuple
+
+from .expecting import DUMPED, answer_of, is_worth_telling
+from .listing import Row
+from .mistakes import text_of
+from .script import MARK, expected_in
+
+
+class Answered(NamedTuple):
+    """What a line's step answered: on one line, and the lines of a dump of several."""
+
+    answer: str
+    lines: tuple[str, ...] = ()
+
+
+class Blessing:
+    """The expectations of a script that are not met, and the answers that have none: by the numbers of the lines."""
+
+    def __init__(self, data: bytes) -> None:
+        self._lines = text_of(data).split("\n")
+        self._answers: dict[int, Answered] = {}
+        self._is_new: dict[int, bool] = {}
+
+    def take(self, row: Row) -> None:
+        """Takes a step's answer. That of a block's step may be another each time: then any will do."""
+        number = row.line
+        if number is None or not (row.expected is not None or is_worth_telling(row.step, row.words)):
+            return
+        answered = Answered(answer_of(row.step), row.step.lines if row.step.others else ())
+        if self._answers.setdefault(number, answered) != answered:
+            self._answers[number] = Answered("*")
+        self._is_new[number] = self._is_new.get(number, False) or row.expected is None or row.is_wrong
+
+    def changes(self, is_all: bool = True) -> Iterator[tuple[int, str, str]]:
+        """The lines that change: number, expectation before, and after; without those that had none, if they aren't wanted."""
+        for number, answered in self._answers.items():
+            before = expected_in(self._lines[number - 1].partition(";")[2].encode("utf-8", "surrogateescape"))
+            if self._is_new[number] and (is_all or before is not None) and before != answered.answer:
+                yield number, "" if before is None else before, answered.answer
+
+    def text(self, is_all: bool = True) -> str:
+        """The script with the answers in it."""
+        changed = {number for number, _, _ in self.changes(is_all)}
+        lines, is_dropped = [], False
+        for number, line in enumerate(self._lines, 1):
+            is_part = line.strip().startswith(DUMPED)
+            if not (is_part and is_dropped):
+                is_dropped = False
+                lines.append(line)
+            if number in changed:
+                answered = self._answers[number]
+                lines[-1] = blessed_line(line, answered.answer)
+                lines += [f"{DUMPED} {part}" for part in answered.lines]
+                is_dropped = True
+        return "\n".join(lines)
+
+    def difference(self, name: str) -> str:
+        """What differs from the expectations, as a unified diff of the script."""
+        others = self.text(is_all=False).split("\n")
+        lines = difflib.unified_diff(self._lines, others, name, f"{name} as answered", lineterm="")
+        return "".join(f"{line}\n" for line in lines)
+
+
+def blessed_line(line: str, answer: str) -> str:
+    """A line with the answer that is expected written in, before the rest of its comment."""
+    ending = "\r" if line.endswith("\r") else ""
+    words, _, comment = line.rstrip("\r").partition(";")
+    rest = comment.strip()
+    if rest.startswith(MARK):
+        rest = rest.partition(";")[2].strip()
+    # Comments stand in the column where they stood.
+    front = words if words.endswith((" ", "\t")) else words + " "
+    return f"{front}; {MARK} {answer}" + (f" ; {rest}" if rest else "") + ending
