@@ -246,13 +246,6 @@ class Closed(Files):
         message = b"vga-report: standard output: it is closed\n"
         self.assertEqual(self.shell(">&-", "text", self.report("r", "ok")), (2, b"", message))
 
-    def test_the_other_tools_tell_it_too(self) -> None:
-        for name in ("vga-fuzz", "vga-memory", "vga-trace"):
-            line = shlex.join([sys.executable, str(PROGRAM.parent / name)]) + " >&-"
-            done = subprocess.run(line, shell=True, capture_output=True)
-            message = f"{name}: standard output: it is closed\n"
-            self.assertEqual((done.returncode, done.stderr.decode()), (2, message))
-
     def test_a_closed_input_is_told(self) -> None:
         message = b"vga-report: standard input: it is closed\n"
         self.assertEqual(self.shell("<&-", "text", "-"), (2, b"", message))

@@ -369,11 +369,6 @@ class Commands(Folder):
             self.assertEqual(len(said.splitlines()), 3 if "BadLine" in said else 1)
         self.assertFalse(image.exists())
 
-    def test_an_input_is_never_an_output(self) -> None:
-        script = self.write("script.vga", "frame\n")
-        self.assertEqual(run("make", script, script)[0], 2)
-        self.assertEqual(Path(script).read_text(), "frame\n")
-
     def test_a_script_that_is_too_long_for_a_machine(self) -> None:
         for script, message in (
             (b"out 3C4 02\n" * 110_000, f"standard input: its steps take {440_004 + len(reset_steps()):,} bytes, and a machine has room for 423,920\n"),
@@ -390,21 +385,6 @@ class Commands(Folder):
         booted, _ = machine(b"in 3CC\n")
         (self.folder / "image").write_bytes(booted.run())
         self.assertEqual(run("read", self.folder / "image", "/dev/full"), (2, b"", message))
-
-    def test_a_closed_output_is_told(self) -> None:
-        words = ["sh", "-c", 'exec "$@" >&-', "sh", sys.executable, str(PROGRAM), "make", "-", "-"]
-        done = subprocess.run(words, input=b"frame\n", stderr=subprocess.PIPE, timeout=60)
-        self.assertEqual((done.returncode, done.stderr), (2, b"vga-floppy: standard output: it is closed\n"))
-
-    def test_a_closed_pipe_ends_it_silently(self) -> None:
-        process = subprocess.Popen([sys.executable, PROGRAM, "make", "-", "-"], stdin=subprocess.PIPE,
-                                   stdout=subprocess.PIPE, stderr=subprocess.PIPE)
-        assert process.stdin and process.stdout and process.stderr
-        with process, process.stdin, process.stdout, process.stderr:
-            process.stdout.close()
-            process.stdin.write(b"frame\n")
-            process.stdin.close()
-            self.assertEqual((process.stderr.read(), process.wait()), (b"", 141))
 
 
 @unittest.skipUnless(Path("/proc/self/stat").exists(), "processes are looked at as Linux shows them")

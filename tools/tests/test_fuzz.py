@@ -235,12 +235,6 @@ class Command(Files):
         self.assertEqual((process.returncode, said), (130, ""))
         self.assertRegex(output, r"(?s)^(?:input .*)?seed 1: [0-9,]+ inputs in .*[0-9]+ with something wrong\n$")
 
-    def test_an_output_that_takes_nothing(self) -> None:
-        words = [sys.executable, str(TOP / "tools" / "vga-fuzz"), self.program(), "--inputs", "1"]
-        with open("/dev/full", "wb") as full:
-            done = subprocess.run(words, stdout=full, stderr=subprocess.PIPE, text=True, timeout=60)
-        self.assertEqual((done.returncode, done.stderr), (2, "vga-fuzz: standard output: No space left on device\n"))
-
     def test_a_program_that_is_not_there(self) -> None:
         with contextlib.redirect_stderr(io.StringIO()):
             self.assertEqual(command.main([str(self.folder / "none")]), 2)

@@ -31,6 +31,12 @@ class Several(Fake):
             f"{b}: 2 steps, 1 refused, 0 pictures, 0 of 1 answers as expected\n2 scripts, 1 differs\n"
         ))
 
+    def test_a_name_that_looks_like_an_option(self) -> None:
+        (self.tests / "-c.vga").write_text("frame\n")
+        words = [sys.executable, PROGRAM, "run", ".", "--vga", self.program]
+        done = subprocess.run(words, cwd=self.tests, capture_output=True, text=True)
+        self.assertEqual((done.returncode, done.stdout.split("\n")[0]), (1, "-c.vga: 1 step, 1 picture"))
+
     def test_for_machines(self) -> None:
         (self.tests / "c.vga").write_text("move <&>\n")
         junit, told = self.folder / "junit.xml", self.folder / "told.json"

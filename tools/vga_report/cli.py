@@ -7,7 +7,7 @@ import os
 import signal
 import sys
 from contextlib import contextmanager
-from typing import Callable, Iterator, Optional, Sequence
+from typing import IO, Callable, Iterator, Optional, Sequence
 
 from .progress import Progress
 from .trouble import TROUBLE, Trouble
@@ -33,12 +33,21 @@ class _Version(argparse.Action):
         super().__init__(option_strings, dest, nargs=0, help="prints the release's number")
 
     def __call__(self, parser: argparse.ArgumentParser, *_: object) -> None:
-        parser.exit(0, f"{parser.prog} {version()}\n")
+        sys.stdout.write(f"{parser.prog} {version()}\n")
+        parser.exit()
+
+
+class _Parser(argparse.ArgumentParser):
+    """A parser that loses no trouble with what it prints, as a disk that is full."""
+
+    def _print_message(self, message: str, file: Optional[IO[str]] = None) -> None:
+        if message:
+            (file or sys.stderr).write(message)
 
 
 def tool_parser(name: str, does: str, example: str, page: str, statuses: str = DOES) -> argparse.ArgumentParser:
     """The parser of a tool, whose help has an example of its use and names the page that tells more."""
-    made = argparse.ArgumentParser(
+    made = _Parser(
         prog=name, description=does, formatter_class=argparse.RawDescriptionHelpFormatter,
         epilog=f"Example:\n  {example}\n\n{statuses}\n{page} tells more.",
     )
@@ -147,7 +156,11 @@ def main(made: Callable[[], argparse.ArgumentParser], words: Optional[Sequence[s
     progress, parser = Progress(), made()
 
     def work() -> int:
-        parsed = parser.parse_args(words)
+        try:
+            parsed = parser.parse_args(words)
+        except SystemExit as ended:
+            # The words ask for help, or mean nothing: the tool ends as ever.
+            return int(ended.code or 0)
         return parsed.job(parsed, progress) or 0
 
     return run(parser.prog, work, progress)

@@ -4,7 +4,6 @@ from __future__ import annotations
 
 import ctypes
 import os
-import selectors
 import shutil
 import signal
 import subprocess
@@ -22,8 +21,8 @@ from .trouble import Trouble
 IS_POSIX, IS_LINUX = os.name == "posix", sys.platform.startswith("linux")
 # Seconds between two looks whether a command has ended: the first of them, and the longest.
 FIRST_PAUSE, LONGEST_PAUSE = 0.0005, 0.05
-# Seconds for what stands in a pipe once all that could write into it has ended, and between two looks at one.
-DRAINING, PAUSE = 5, 0.5
+# Seconds for what stands in a pipe once all that could write into it has ended.
+DRAINING = 5
 # Seconds for a program to end what it has started in groups of its own, once it is asked to.
 ENDING = 5
 CHUNK = 1 << 16
@@ -131,28 +130,77 @@ class Outcome(NamedTuple):
     reason: str = ""
 
 
-class _Drain(Thread):
-    """Takes what a command writes into a file, up to a limit; what is more is dropped."""
+class _Tail:
+    """The last part of what came over a stream."""
 
-    def __init__(self, source: BinaryIO, path: Path, limit: int) -> None:
+    def __init__(self) -> None:
+        self.kept = bytearray()
+
+    def take(self, chunk: bytes) -> None:
+        """Takes what has come."""
+        self.kept += chunk
+        del self.kept[:-MOST_KEPT]
+
+    def last_line(self) -> str:
+        """The last whole line."""
+        lines = bytes(self.kept[-MOST_SAID:]).rpartition(b"\n")[0].splitlines()
+        return lines[-1].decode("utf-8", "replace").strip() if lines else ""
+
+
+class _Front:
+    """What came over a stream, in a file up to a limit; what is more is dropped."""
+
+    def __init__(self, file: BinaryIO, limit: int) -> None:
+        self._file = file
+        self._left = limit
+        self.is_full = False
+
+    def take(self, chunk: bytes) -> None:
+        """Takes what has come."""
+        self._file.write(chunk[:self._left])
+        self.is_full = self.is_full or len(chunk) > self._left
+        self._left -= min(self._left, len(chunk))
+
+
+class _Drain(Thread):
+    """Takes what a program writes, until all that could write it has ended."""
+
+    def __init__(self, source: BinaryIO, take: Callable[[bytes], None]) -> None:
         super().__init__(daemon=True)
         self._source = source
-        self._path = path
-        self._left = limit
-        self.is_full = Event()
+        self._take = take
         self.trouble: Optional[OSError] = None
 
     def run(self) -> None:
         try:
-            with self._source, open(self._path, "wb") as target:
+            with self._source:
                 for chunk in iter(lambda: os.read(self._source.fileno(), CHUNK), b""):
-                    target.write(chunk[:self._left])
-                    if len(chunk) > self._left:
-                        self.is_full.set()
-                    self._left -= min(self._left, len(chunk))
+                    self._take(chunk)
         except OSError as error:
             self.trouble = error
-            self.is_full.set()
+
+
+def _followed(
+    words: Words, takes: Sequence[Callable[[bytes], None]], heed: Callable[[], str], asking: float = 0, **given: Any
+) -> Outcome:
+    """Runs a program to its end, or until `heed` tells why it is to end; what it writes and says is taken meanwhile."""
+    with started(words, asking, stdout=subprocess.PIPE, stderr=subprocess.PIPE, **given) as process:
+        streams = process.stdout, process.stderr
+        # They are the drains' to close: what is left in them is read once the group has ended.
+        process.stdout = process.stderr = None
+        drains = [_Drain(stream, take) for stream, take in zip(streams, takes)]  # type: ignore[arg-type]
+        for drain in drains:
+            drain.start()
+        reason, pause = "", FIRST_PAUSE
+        while not (reason or _has_ended(process)):
+            time.sleep(pause)
+            pause = min(2 * pause, LONGEST_PAUSE)
+            reason = heed() or next((str(drain.trouble) for drain in drains if drain.trouble), "")
+    for drain in drains:
+        drain.join(DRAINING)
+        if drain.trouble:
+            raise Trouble(f"what it writes can't be kept: {drain.trouble}", str(words[0]))
+    return Outcome(process.returncode, reason)
 
 
 def run_command(words: Words, output: Path, messages: Path, limits: Limits, is_ended: Event) -> Outcome:
@@ -160,49 +208,20 @@ def run_command(words: Words, output: Path, messages: Path, limits: Limits, is_e
 
     Its whole process group has ended afterwards, however it ended itself.
     """
-    # The pipes are the drains' to close: what is left in them is read once the group has ended.
-    with _piped(words) as (process, report_stream, said_stream):
-        report = _Drain(report_stream, output, limits.output)
-        said = _Drain(said_stream, messages, MOST_MESSAGE)
-        report.start()
-        said.start()
-        reason = _wait(process, report, limits, is_ended)
-    for drain in (report, said):
-        drain.join(DRAINING)
-    if report.trouble or said.trouble:
-        trouble = report.trouble or said.trouble
-        raise Trouble(f"what it writes can't be kept: {trouble}", str(words[0]))
-    if not reason and report.is_full.is_set():
-        reason = _too_much(limits)
-    return Outcome(None if reason else process.returncode, reason)
+    until, too_much = time.monotonic() + limits.seconds, f"the command wrote more than {limits.output // MEBIBYTE} MiB"
+    with open(output, "wb") as written, open(messages, "wb") as told:
+        report, said = _Front(written, limits.output), _Front(told, MOST_MESSAGE)
 
+        def heed() -> str:
+            if report.is_full:
+                return too_much
+            if time.monotonic() >= until:
+                return "the command took too long"
+            return "the suite was ended" if is_ended.is_set() else ""
 
-@contextmanager
-def _piped(words: Words) -> Iterator[tuple[subprocess.Popen[bytes], BinaryIO, BinaryIO]]:
-    """A program with both its streams, which stay open behind its end."""
-    with started(words, stdout=subprocess.PIPE, stderr=subprocess.PIPE) as process:
-        streams = process.stdout, process.stderr
-        process.stdout = process.stderr = None
-        assert streams[0] is not None and streams[1] is not None
-        yield process, streams[0], streams[1]  # type: ignore[misc]
-
-
-def _too_much(limits: Limits) -> str:
-    return f"the command wrote more than {limits.output // MEBIBYTE} MiB"
-
-
-def _wait(process: subprocess.Popen[bytes], report: _Drain, limits: Limits, is_ended: Event) -> str:
-    """Waits for the end of a command; why it is to be ended, where it doesn't end."""
-    until, pause = time.monotonic() + limits.seconds, FIRST_PAUSE
-    while not _has_ended(process):
-        if report.is_full.is_set():
-            return _too_much(limits)
-        if time.monotonic() >= until:
-            return "the command took too long"
-        if is_ended.wait(pause):
-            return "the suite was ended"
-        pause = min(2 * pause, LONGEST_PAUSE)
-    return ""
+        outcome = _followed(words, (report.take, said.take), heed)
+    reason = outcome.reason or (too_much if report.is_full else "")
+    return Outcome(None if reason else outcome.status, reason)
 
 
 def _has_ended(process: subprocess.Popen[bytes]) -> bool:
@@ -228,30 +247,6 @@ class Done(NamedTuple):
         return (self.output + self.errors).decode("utf-8", "replace")[-MOST_SAID:]
 
 
-def _last_line(kept: bytearray) -> str:
-    lines = bytes(kept[-MOST_SAID:]).rpartition(b"\n")[0].splitlines()
-    return lines[-1].decode("utf-8", "replace").strip() if lines else ""
-
-
-def _listen(process: subprocess.Popen[bytes], kept: Sequence[bytearray], heard: Hearer) -> None:
-    """Takes what a program says on both streams until it closes them; of each the last part is kept."""
-    with selectors.DefaultSelector() as selector:
-        for source, part in zip((process.stdout, process.stderr), kept):
-            assert source is not None
-            selector.register(source, selectors.EVENT_READ, part)
-        line = ""
-        while selector.get_map():
-            for key, _ in selector.select(PAUSE):
-                chunk = os.read(key.fd, CHUNK)
-                if not chunk:
-                    selector.unregister(key.fileobj)
-                    continue
-                key.data.extend(chunk)
-                del key.data[:-MOST_KEPT]
-                line = _last_line(key.data) or line
-            heard(line)
-
-
 def captured(
     words: Words, folder: Optional[Path] = None, heard: Optional[Hearer] = None, seconds: Optional[float] = None,
     environment: Optional[Mapping[str, str]] = None, given: Optional[bytes] = None,
@@ -261,22 +256,26 @@ def captured(
     Its temporary files lie in a folder of their own, which goes with them.
     """
     name, until = str(words[0]), None if seconds is None else time.monotonic() + seconds
+    output, errors = _Tail(), _Tail()
 
-    def hear(line: str) -> None:
+    def heed() -> str:
         if until is not None and time.monotonic() > until:
             raise Failed(f"it had not ended after {seconds:.0f} seconds", name)
         if heard is not None:
-            heard(line)
+            heard(errors.last_line() or output.last_line())
+        return ""
 
-    kept = bytearray(), bytearray()
     with tempfile.TemporaryDirectory(prefix="vga-tool-") as temporary, tempfile.TemporaryFile() as file:
         file.write(given or b"")
         file.seek(0)
-        pipe, variables = subprocess.PIPE, {**os.environ, "TMPDIR": temporary, **(environment or {})}
-        with started(words, ENDING, cwd=folder, env=variables, stdin=file, stdout=pipe, stderr=pipe) as process:
-            _listen(process, kept, hear)
-            status = process.wait()
-    return Done(status, bytes(kept[0]), bytes(kept[1]))
+        variables = {**os.environ, "TMPDIR": temporary, **(environment or {})}
+        takes = output.take, errors.take
+        outcome = _followed(words, takes, heed, ENDING, cwd=folder, env=variables, stdin=file)
+    if heard is not None:
+        # What it said at last is heard of a program too that has ended at once.
+        heard(errors.last_line() or output.last_line())
+    assert outcome.status is not None
+    return Done(outcome.status, bytes(output.kept), bytes(errors.kept))
 
 
 def run(words: Words, folder: Optional[Path] = None, heard: Optional[Hearer] = None, **given: Any) -> str:

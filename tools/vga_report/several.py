@@ -4,6 +4,7 @@ from __future__ import annotations
 
 import argparse
 import os
+import shutil
 import sys
 import tempfile
 import time
@@ -17,13 +18,13 @@ from . import TOP
 from .output import AGREED, DIFFERED, name_of, write
 from .processes import captured
 from .progress import Progress
-from .streams import STANDARD, bytes_of, write_file, writing
+from .streams import STANDARD, write_file, writing
 from .trouble import TROUBLE, Trouble
 
 TOOL = TOP / "tools" / "vga-report"
 ENDINGS = (".vga", ".bin")
-# A script's answers as JSON, and what is said of it, have so many bytes at most.
-MOST_JSON, MOST_LINES = 1 << 30, 1 << 16
+# So much of what is told of a script is kept for a report of all.
+MOST_LINES = 1 << 16
 # Seconds between two looks whether a file has changed.
 LOOK = 0.2
 Work = Callable[[argparse.Namespace, Progress], int]
@@ -68,7 +69,7 @@ def _runs(words: argparse.Namespace, paths: list[Path], folder: Path, progress: 
 
     def run_one(number: int) -> Ran:
         begun, told = time.monotonic(), folder / str(number)
-        command = [sys.executable, TOOL, "run", paths[number], "--json", told, *options]
+        command = [sys.executable, TOOL, "run", "--json", told, *options, "--", paths[number]]
         done = captured(command, heard=heed)
         texts = (part.decode("utf-8", "replace") for part in (done.output, done.errors))
         return Ran(paths[number], done.status, *texts, time.monotonic() - begun, told)  # type: ignore[call-arg]
@@ -114,7 +115,11 @@ def _write_json(path: str, ran: list[Ran]) -> None:
     with writing(path) as stream:
         for number, one in enumerate(ran):
             stream.write(b",\n" if number else b"[\n")
-            stream.write(bytes_of(one.json, MOST_JSON).strip() if one.json.exists() else b"null")
+            if not one.json.exists():
+                stream.write(b"null")
+                continue
+            with open(one.json, "rb") as told:
+                shutil.copyfileobj(told, stream)
         stream.write(b"\n]\n")
 
 
