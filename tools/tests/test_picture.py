@@ -6,7 +6,6 @@ import contextlib
 import io
 import os
 import random
-import signal
 import subprocess
 import sys
 import tempfile
@@ -545,37 +544,6 @@ class Refusals(Folder):
         image.write_bytes(self.GOOD)
         said = "vga-picture: /dev/full: No space left on device\n"
         self.assertEqual(run("script", image, "/dev/full", "--mode", "13"), (2, b"", said))
-
-    def test_a_signal_and_a_closed_pipe(self) -> None:
-        script_path = self.folder / "s.vga"
-        script_path.write_bytes(b"old")
-        for number, status in ((signal.SIGTERM, 143), (signal.SIGINT, 130)):
-            process = subprocess.Popen(
-                [sys.executable, PROGRAM, "script", "-", script_path, "--mode", "13"],
-                stdin=subprocess.PIPE, stdout=subprocess.PIPE, stderr=subprocess.PIPE,
-                # A shell's background job ignores it.
-                preexec_fn=lambda: signal.signal(signal.SIGINT, signal.SIG_DFL),
-            )
-            assert process.stdin is not None
-            # More than a pipe holds: once it is written, the tool reads.
-            process.stdin.write(self.GOOD[:40] + bytes(200_000))
-            process.stdin.flush()
-            process.send_signal(number)
-            out, said = process.communicate()
-            self.assertEqual((process.returncode, out, said), (status, b"", b""))
-        self.assertEqual([path.name for path in self.folder.iterdir()], ["s.vga"])
-        self.assertEqual(script_path.read_bytes(), b"old")
-        image = self.folder / "i.png"
-        image.write_bytes(png_of(some_dots(320, 200, 200)))
-        process = subprocess.Popen(
-            [sys.executable, PROGRAM, "script", image, "-", "--mode", "13"], stdout=subprocess.PIPE, stderr=subprocess.PIPE
-        )
-        assert process.stdout is not None and process.stderr is not None
-        with process, process.stdout, process.stderr:
-            process.stdout.readline()
-            process.stdout.close()
-            self.assertEqual(process.stderr.read(), b"")
-        self.assertEqual(process.returncode, 141)
 
 
 class Examples(unittest.TestCase):
