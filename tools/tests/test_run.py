@@ -245,6 +245,12 @@ class Listings(Fake):
         status, output, _ = self.run_script("--diff", path=path)
         wanted = f"--- {path}\n+++ {path} as answered\n@@ -1,3 +1,3 @@\n-get 0 ; = 55 ; more\n+get 0 ; = E6 ; more\n in 3DA\n \n"
         self.assertEqual((status, output), (1, wanted))
+        self.assertIn("\n+in 3DA ; = E1 NotDecoded\n", self.run_script("--diff", "--strict", path=path)[1])
+        script = self.folder / "s.bin"
+        script.write_bytes(b"VGAS\x01\x0b")
+        for word in ("--diff", "--bless"):
+            message = f"vga-report: {script}: a script of bytes has no comments for answers\n"
+            self.assertEqual(self.run_script(word, path=str(script)), (2, "", message))
 
     def test_as_json(self) -> None:
         path = self.write("t.vga", "get 0 ; = 55\nframe\nin 60\nshow regs\n")

@@ -24,7 +24,9 @@ class Blessing:
     def __init__(self, data: bytes) -> None:
         self._lines = text_of(data).split("\n")
         self._answers: dict[int, Answered] = {}
-        self._is_new: dict[int, bool] = {}
+        # The lines that answer otherwise than expected, and those beside them for which nothing is expected.
+        self._wrong: set[int] = set()
+        self._new: set[int] = set()
 
     def take(self, row: Row) -> None:
         """Takes a step's answer. That of a block's step may be another each time: then any will do."""
@@ -34,13 +36,17 @@ class Blessing:
         answered = Answered(answer_of(row.step), row.step.lines if row.step.others else ())
         if self._answers.setdefault(number, answered) != answered:
             self._answers[number] = Answered("*")
-        self._is_new[number] = self._is_new.get(number, False) or row.expected is None or row.is_wrong
+        if row.is_wrong:
+            self._wrong.add(number)
+        elif row.expected is None:
+            self._new.add(number)
 
     def changes(self, is_all: bool = True) -> Iterator[tuple[int, str, str]]:
-        """The lines that change: number, expectation before, and after; without those that had none, if they aren't wanted."""
+        """The lines that change: number, expectation before, and after; those alone that are wrong, if not all are wanted."""
         for number, answered in self._answers.items():
             before = expected_in(self._lines[number - 1].partition(";")[2].encode("utf-8", "surrogateescape"))
-            if self._is_new[number] and (is_all or before is not None) and before != answered.answer:
+            is_wanted = number in self._wrong or is_all and number in self._new
+            if is_wanted and before != answered.answer:
                 yield number, "" if before is None else before, answered.answer
 
     def text(self, is_all: bool = True) -> str:

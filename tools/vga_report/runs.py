@@ -170,6 +170,8 @@ def _run_by(
         if words.debug is not None and os.path.isfile(path):
             _write_debug_page(words, data)
         script = Script(path, data, program, name_of(words.script), cast(BinaryIO, printed))
+        if script.is_bytes and (words.bless or words.diff):
+            raise Trouble("a script of bytes has no comments for answers", words.script)
         blessing = Blessing(data) if words.bless or words.diff else None
         for row in script.rows(program, fonts, words.until, progress):
             row = row._replace(is_strict=words.strict)
@@ -259,8 +261,7 @@ def _show(row: Row, width: int, words: argparse.Namespace, why: str) -> None:
 def _bless(words: argparse.Namespace, script: Script, blessing: Optional[Blessing]) -> int:
     """Writes the answers into the script that are not as expected, each behind its step, and lists them."""
     path = words.script
-    if script.is_bytes or blessing is None:
-        raise Trouble("a script of bytes has no comments to write answers in", path)
+    assert blessing is not None
     changes = list(blessing.changes())
     for number, before, after in changes:
         write(f"{path}:{number}: {before or 'nothing'} -> {after}\n")
