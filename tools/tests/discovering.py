@@ -8,7 +8,7 @@ import tempfile
 import unittest
 from contextlib import contextmanager
 from pathlib import Path
-from typing import Iterator, Optional, Sequence
+from typing import Any, Iterator, Optional, Sequence
 from unittest import mock
 
 from vga_report import cli
@@ -39,11 +39,20 @@ def skipped_in(result: unittest.TestResult) -> list[str]:
     return [name.partition("(")[2].rstrip(")") or name for name in names]
 
 
+class _Result(unittest.TextTestResult):
+    """A result that ends the tests where a signal came: unittest would take it for one test's error."""
+
+    def addError(self, test: unittest.TestCase, err: Any) -> None:
+        if isinstance(err[1], cli.Ended):
+            raise err[1]
+        super().addError(test, err)
+
+
 def run_tests(folder: Path, names: Optional[Sequence[str]] = None) -> unittest.TestResult:
     """Finds the tests below a folder, and runs all, or those that have these names or are in classes that do."""
     found = _each(unittest.defaultTestLoader.discover(str(folder), top_level_dir=str(folder.parent)))
     wanted = [test for test in found if names is None or {test.id(), _class_of(test)} & set(names)]
-    return unittest.TextTestRunner().run(unittest.TestSuite(wanted))
+    return unittest.TextTestRunner(resultclass=_Result).run(unittest.TestSuite(wanted))
 
 
 @contextmanager

@@ -58,6 +58,15 @@ class Again(Folder):
         self.assertEqual((self.folder / "program.three").read_text(), "3")
 
 
+    def test_a_signal_ends_them(self) -> None:
+        self.write("new/__init__.py", "")
+        lines = "import os, signal, unittest\nclass New(unittest.TestCase):\n"
+        lines += "    def test_one(self): os.kill(os.getpid(), signal.SIGTERM)\n    def test_two(self): print('two')\n"
+        self.write("new/test_new.py", lines)
+        status, said = self.run_tests()
+        self.assertEqual((status, "two" in said), (143, False))
+
+
 @unittest.skipIf(sys.platform == "win32", "a script is a program on POSIX")
 class Failing(Folder):
     def test_nothing_runs_on_where_a_test_fails(self) -> None:
