@@ -16,9 +16,9 @@ from pathlib import Path
 TOP = Path(__file__).resolve().parents[1]
 sys.path.insert(0, str(TOP / "tools"))
 
-from vga_report.picture import Picture  # noqa: E402
 from vga_report.png import Shape, write_png  # noqa: E402
 from vga_report.streams import writing  # noqa: E402
+from zaklimot.format import Picture  # noqa: E402
 
 Colour = tuple[int, int, int]
 BLACK, SLATE, GREY, WHITE = (0, 0, 0), (10, 12, 18), (34, 36, 42), (63, 63, 63)

@@ -1,6 +1,7 @@
 // What a fault of a script of bytes means, as tools/vga_report/faults.py tells it.
 import { MOST_BYTES, MOST_STEPS } from "./grammar.js";
 import { grouped, hex } from "./bytes.js";
+import { notAScript } from "./reasons.js";
 
 const OPCODE_NAMES = ["", "out", "outw", "in", "inw", "put", "putw", "get", "getw", "int", "advance",
   "frame", "show",
@@ -11,8 +12,7 @@ const UNKNOWN_FAULT = "refused, and I can't say why";
 export const FAULT_NAMES = { 102: "F2 BadMagic", 103: "F3 BadVersion", 104: "F4 BadStep", 105: "F5 Truncated",
   106: "F6 TooLong", 107: "F7 BadLine", 111: "F11 TooMany" };
 
-const isTextLike = bytes => bytes.length > 0 &&
-  bytes.subarray(0, 200).every(byte => byte >= 32 || byte === 9 || byte === 10 || byte === 13);
+const isTextLike = bytes => bytes.length > 0 && notAScript(bytes) === null;
 
 function badStep(bytes, place) {
   const opcode = bytes[place];
@@ -42,7 +42,8 @@ function truncated(bytes, place) {
 /** Why a script of bytes is no script, where the module answers this status and place. */
 export function reasonOfBytes(bytes, status, place) {
   if (status === 102) {
-    const looks = isTextLike(bytes) ? "this looks like a text, which `vga go` runs" : "this is no script";
+    const none = notAScript(bytes) ?? "this is no script";
+    const looks = isTextLike(bytes) ? "this looks like a text, which `vga go` runs" : none;
     const begins = Array.from(bytes.subarray(0, 4), byte => hex(byte, 2)).join(" ") || "nothing";
     return `a script of bytes begins with 56 47 41 53, VGAS, and not with ${begins}: ${looks}`;
   }

@@ -297,20 +297,48 @@ function lineOfText(text, number) {
 
 /** What is wrong with a text as a whole that its first line shows; null where nothing is found. */
 export function encodingTrouble(bytes) {
-  const starts = (...front) => front.every((byte, i) => bytes[i] === byte);
-  if (starts(0xff, 0xfe) || starts(0xfe, 0xff) || bytes[1] === 0 || bytes[0] === 0) {
-    return "the text is UTF-16, of two bytes a letter: save it as UTF-8 or ASCII";
-  }
-  if (starts(0xef, 0xbb,
-    0xbf)) return "the text begins with a byte order mark: save the text as UTF-8 without it";
-  if (starts(0x56, 0x47, 0x41, 0x53)) {
+  if (frontIs(bytes, [0x56, 0x47, 0x41, 0x53])) {
     return "this is a script of bytes: `vga run` runs it, and `vga dis` prints it as text";
   }
+  if (isUtf16(bytes)) return "the text is UTF-16, of two bytes a letter: save it as UTF-8 or ASCII";
+  if (frontIs(bytes, [0xef, 0xbb, 0xbf])) {
+    return "the text begins with a byte order mark: save the text as UTF-8 without it";
+  }
+  const none = notAScript(bytes);
+  if (none) return none;
   const last = bytes.findLastIndex(byte => byte > 32), carriage = bytes.indexOf(13);
   if (!bytes.includes(10) && carriage >= 0 && carriage < last) {
     return "lines end with a newline, and this text has carriage returns alone: it is one line";
   }
   return null;
+}
+
+// Files of other kinds, by what they begin with.
+const FOREIGN = [[[0x89, 0x50, 0x4e, 0x47], "a PNG image"], [[0x47, 0x49, 0x46, 0x38], "a GIF image"],
+  [[0xff, 0xd8, 0xff], "a JPEG image"], [[0x50, 0x36], "a PPM image"],
+  [[0x1f, 0x8b], "a file packed by gzip"], [[0x50, 0x4b, 3, 4], "a ZIP archive"],
+  [[0x7f, 0x45, 0x4c, 0x46], "a program"]];
+const FONT_BYTES = 9728, LOOKED_AT = 200;
+const frontIs = (bytes, front) => front.every((byte, i) => bytes[i] === byte);
+const isControl = byte => byte < 32 && (byte < 9 || byte > 13);
+
+/** What a file is that is neither a text nor bytes of a script; null where it may be one. */
+export function notAScript(bytes) {
+  const foreign = FOREIGN.find(([front]) => frontIs(bytes, front));
+  if (foreign) return `this is not a script, but ${foreign[1]}`;
+  if (!bytes.subarray(0, LOOKED_AT).some(isControl)) return null;
+  return bytes.length === FONT_BYTES ? "this is not a script, but a font file"
+    : "this is not a script: it has bytes that no text has";
+}
+
+/** Whether each other byte of a file's front is 0, as of letters of two bytes, and the others are a text. */
+function isUtf16(bytes) {
+  const begin = frontIs(bytes, [0xff, 0xfe]) || frontIs(bytes, [0xfe, 0xff]) ? 2 : 0;
+  const front = bytes.subarray(begin, begin + LOOKED_AT);
+  return [0, 1].some(place => {
+    const high = front.filter((_, i) => i % 2 === place), low = front.filter((_, i) => i % 2 !== place);
+    return high.length > 0 && low.length > 0 && high.every(byte => byte === 0) && !low.some(isControl);
+  });
 }
 
 /** Why a text is bad at the line of this number: { at, width, reason }. */

@@ -140,8 +140,8 @@ test("pictures that move are those that vga-report writes", async () => {
 import io, sys
 sys.path.insert(0, "tools")
 from vga_report.apng import Animation
-from vga_report.picture import Picture
 from vga_report.png import Shape
+from zaklimot.format import Picture
 animation = Animation(Shape())
 for seconds in (0.0142, 1.5):
     dots = bytes(11 * i % 64 for i in range(105))

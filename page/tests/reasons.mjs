@@ -53,14 +53,15 @@ test("the module refuses each line of the table, and takes the good ones", async
   for (const line of TABLE.good) assert.equal(judge(line), 0, line);
 });
 
-test("the grammar is that of tools/vga_report", () => {
+test("the grammar is that of the bindings for Python, which the tools go by", () => {
   const told = python(`
-from vga_report.grammar import *
-from vga_report.script import MOST_STEPS
+import vga_report
+from zaklimot.format import BLOCK_LINES, FORMS, MOST_STEPS, READING, REGISTERS, SHOWN
+from vga_report.mistakes import SHAPES
 def numbers(table):
-    return {name: [[n.name, getattr(n, "digits", 0), n.least, n.most] for n in shape] for name,
-      shape in table.items()}
-print(json.dumps([numbers(SHAPES), numbers(BLOCK_LINES), numbers(SHOWN), list(REGISTERS), list(READING),
+    return {name: [[n.name, n.digits, n.least, n.most] for n in shape] for name, shape in table.items()}
+shown = {name: form.fields for name, form in SHOWN.items()}
+print(json.dumps([numbers(SHAPES), numbers(BLOCK_LINES), numbers(shown), list(REGISTERS), list(READING),
   MOST_STEPS]))`);
   const numbers = table => Object.fromEntries(Object.entries(table).map(([name, shape]) =>
     [name, shape.map(number => [number.name, number.digits, number.least, number.most])]));

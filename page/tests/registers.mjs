@@ -1,6 +1,7 @@
 // The page's registers are those of docs/REGISTERS.md, and its links lead to places that are there.
 import assert from "node:assert/strict";
 import test from "node:test";
+import { execFileSync } from "node:child_process";
 import { readFileSync, readdirSync } from "node:fs";
 import { GROUPS, bitsOf, fieldValue } from "../registers.js";
 import { SERVICE_ANCHORS } from "../refusals.js";
@@ -61,6 +62,16 @@ test("miscellaneous output", () => {
   assert.equal(maskOfAll(register.fields), 0xef);
   assert.deepEqual(register.fields.map(field => [field.bits, field.name, field.isStored]),
     rows.map(([bits, name, effect]) => [bits, name, effect === "stored"]));
+});
+
+test("the names are those of tools/vga_report, which names what differs in a dump", () => {
+  const told = execFileSync("python3", ["-c", `import json, sys
+sys.path.insert(0, "tools")
+from vga_report.dumps import NAMES
+print(json.dumps(NAMES))`], { cwd: TOP });
+  const names = Object.fromEntries(GROUPS.filter(group => !["misc", "dac"].includes(group.id))
+    .map(group => [group.id, group.registers.map(register => register.name)]));
+  assert.deepEqual(names, JSON.parse(told));
 });
 
 test("values of fields", () => {

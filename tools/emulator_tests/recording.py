@@ -7,14 +7,16 @@ import json
 import os
 import shutil
 import socket
-import subprocess
 import tempfile
 import time
+from contextlib import ExitStack
 from dataclasses import dataclass
 from pathlib import Path
 from typing import Callable, Sequence
 
+from vga_report.processes import started
 from vga_report.streams import writing
+from vga_report.trouble import Trouble
 
 QEMU = "qemu-system-x86_64"
 EVENTS = "memory_region_ops_read\nmemory_region_ops_write\n"
@@ -48,7 +50,7 @@ class Monitor:
         until = time.monotonic() + LISTENING
         while self._socket.connect_ex(str(path)):
             if time.monotonic() > until:
-                raise RuntimeError("qemu's monitor doesn't listen")
+                raise Trouble("qemu's monitor doesn't listen")
             time.sleep(LOOK)
         self._lines = self._socket.makefile("rw")
         self._lines.readline()
@@ -61,10 +63,10 @@ class Monitor:
         for line in self._lines:
             answer = json.loads(line)
             if "error" in answer:
-                raise RuntimeError(answer["error"]["desc"])
+                raise Trouble(answer["error"]["desc"])
             if "return" in answer:
                 return
-        raise RuntimeError("qemu has ended")
+        raise Trouble("qemu has ended")
 
     def close(self) -> None:
         """Hangs up."""
@@ -124,14 +126,14 @@ def _use(monitor: Monitor, machine: Machine, kept: Path, base: Path, say: Callab
 
 def record(machine: Machine, base: Path, say: Callable[[str], None]) -> Path:
     """Leaves BASE.trace.gz and BASE.0.ppm and more beside it; answers the trace. `say` tells what may spoil it."""
-    folder = Path(tempfile.mkdtemp(prefix="vga-recording-"))
-    kept, log = folder / "kept", folder / "log"
-    os.mkfifo(log)
     words = [word for name in KEPT for word in ("-e", name)]
-    with kept.open("wb") as stream:
-        keeper = subprocess.Popen(["grep", "--line-buffered", "-F", *words, str(log)], stdout=stream)
-    qemu = subprocess.Popen(_qemu(machine, folder), stdin=subprocess.DEVNULL)
-    try:
+    with ExitStack() as stack:
+        folder = Path(stack.enter_context(tempfile.TemporaryDirectory(prefix="vga-recording-")))
+        kept, log = folder / "kept", folder / "log"
+        os.mkfifo(log)
+        lines = stack.enter_context(kept.open("wb"))
+        keeper = stack.enter_context(started(["grep", "--line-buffered", "-F", *words, log], stdout=lines))
+        qemu = stack.enter_context(started(_qemu(machine, folder)))
         monitor = Monitor(folder / "monitor")
         _use(monitor, machine, kept, base, say)
         monitor.do("quit")
@@ -142,9 +144,3 @@ def record(machine: Machine, base: Path, say: Callable[[str], None]) -> Path:
         with kept.open("rb") as source, writing(str(trace)) as stream, gzip.open(stream, "wb", 6) as target:
             shutil.copyfileobj(source, target)
         return trace
-    finally:
-        for process in (qemu, keeper):
-            if process.poll() is None:
-                process.kill()
-                process.wait()
-        shutil.rmtree(folder)

@@ -4,11 +4,12 @@ from __future__ import annotations
 
 import gzip
 import shutil
-import subprocess
 from dataclasses import dataclass
 from functools import partial
 from pathlib import Path
 from typing import Callable, Optional, Sequence
+
+from vga_report.processes import run
 
 from .calling import caller, screen
 from .recording import Machine
@@ -81,7 +82,7 @@ def _grub(is_graphics: bool, keys: Sequence[str], folder: Path, _: Optional[Path
     (root / "boot" / "grub").mkdir(parents=True, exist_ok=True)
     words = (GRUB_GRAPHICS if is_graphics else GRUB_TEXT) + GRUB_MENU
     (root / "boot" / "grub" / "grub.cfg").write_text(words, encoding="ascii")
-    subprocess.run(["grub-mkrescue", "-o", disc, root], check=True, capture_output=True)
+    run(["grub-mkrescue", "-o", disc, root])
     return Machine([*_card(SEA), "-cdrom", str(disc), "-boot", "d"], quiet=12, most=120, keys=keys)
 
 
@@ -90,7 +91,7 @@ def _calls(mode: int, rom: str, folder: Path, _: Optional[Path]) -> Machine:
     words = [*_card(rom), *_disc(mode, folder)]
     if mode == 0x13:
         plugin = folder / "chain4.so"
-        subprocess.run(["gcc", "-shared", "-fPIC", "-O2", "-o", plugin, PLUGIN], check=True)
+        run(["gcc", "-shared", "-fPIC", "-O2", "-o", plugin, PLUGIN])
         words += ["-plugin", str(plugin.resolve()), "-d", "plugin"]
     return Machine(words)
 

@@ -14,8 +14,6 @@ from __future__ import annotations
 
 import argparse
 import re
-import signal
-import subprocess
 import sys
 from pathlib import Path
 from typing import NamedTuple, Optional, Sequence
@@ -25,7 +23,11 @@ sys.path.insert(0, str(Path(__file__).resolve().parents[1]))
 # The tools beside this folder, and the recording here, are found by the line above.
 from emulator_tests.recording import SCREENS, record
 from emulator_tests.software import SOFTWARE, Software
+from vga_report import cli
+from vga_report.processes import captured, started
 from vga_report.program import FONTS, PROGRAM
+from vga_report.progress import Progress
+from vga_report.trouble import Trouble
 
 TOOLS = Path(__file__).resolve().parents[1]
 TRACE, REPORT = TOOLS / "vga-trace", TOOLS / "vga-report"
@@ -63,8 +65,9 @@ class Replayed(NamedTuple):
 
 def _out(*words: str | Path) -> tuple[int, str]:
     """Status and standard output of a command; its warnings pass."""
-    done = subprocess.run([sys.executable, *words], stdout=subprocess.PIPE, text=True, check=False)
-    return done.returncode, done.stdout
+    done = captured([sys.executable, *words])
+    sys.stderr.write(done.errors.decode("utf-8", "replace"))
+    return done.status, done.output.decode("utf-8", "replace")
 
 
 def _figures(pattern: re.Pattern[str], text: str) -> list[int]:
@@ -93,8 +96,9 @@ def replay(base: Path) -> Replayed:
     trace, script, report = (base.with_name(base.name + end) for end in (".trace.gz", ".bin", ".report"))
     *_, plain = _figures(CONVERTED, _out(TRACE, "convert", trace, script, "--no-repeat")[1])
     cycles, steps, length = _figures(CONVERTED, _out(TRACE, "convert", trace, script)[1])
-    with report.open("wb") as stream:
-        subprocess.run([PROGRAM, "run", script, "--fonts", FONTS], stdout=stream, check=True)
+    with report.open("wb") as stream, started([PROGRAM, "run", script, "--fonts", FONTS], stdout=stream) as process:
+        if process.wait():
+            raise Trouble(f"it ended with status {process.returncode}", str(PROGRAM))
     _, refused, reads, differing = _figures(CHECKED, _out(TRACE, "check", trace, report)[1])
     screens = [base.with_name(f"{base.name}.{number}.ppm") for number in range(SCREENS)]
     return Replayed(cycles, steps, length, plain, reads, differing, refused, _differing_dots(report, steps, screens))
@@ -104,22 +108,25 @@ def _say(text: str) -> None:
     print(text, file=sys.stderr, flush=True)
 
 
-def main() -> int:
-    """Runs a command line, and answers its exit status."""
-    parser = argparse.ArgumentParser(description="Software: " + ", ".join(SOFTWARE))
+def _parser() -> argparse.ArgumentParser:
+    parser = cli.tool_parser(
+        "traces.py", "Records software on qemu, and replays it: " + ", ".join(SOFTWARE),
+        "python3 tools/emulator_tests/traces.py recordings grub-text", "docs/TRACES.md", cli.JUDGES,
+    )
     parser.add_argument("folder", type=Path, metavar="FOLDER")
     parser.add_argument("names", nargs="*", metavar="NAME")
     parser.add_argument("--unpacked", type=Path, metavar="FOLDER", help="packages of Debian, unpacked")
-    words = parser.parse_args()
+    parser.set_defaults(job=_replay_all)
+    return parser
+
+
+def _replay_all(words: argparse.Namespace, _: Progress) -> int:
+    """Looks at the words, and replays what they name."""
     unknown = set(words.names) - set(SOFTWARE)
     if unknown:
-        parser.error(f"there is no software {', '.join(sorted(unknown))}")
-    try:
-        words.folder.mkdir(parents=True, exist_ok=True)
-        return 0 if _all_known(words) else 1
-    except (OSError, RuntimeError, subprocess.CalledProcessError) as error:
-        _say(f"traces.py: {error}")
-        return 2
+        raise Trouble(f"there is no software {', '.join(sorted(unknown))}")
+    words.folder.mkdir(parents=True, exist_ok=True)
+    return 0 if _all_known(words) else 1
 
 
 def _all_known(words: argparse.Namespace) -> bool:
@@ -140,6 +147,4 @@ def _all_known(words: argparse.Namespace) -> bool:
 
 
 if __name__ == "__main__":
-    # So that the machine that is recorded goes too.
-    signal.signal(signal.SIGTERM, lambda number, _: sys.exit(128 + number))
-    sys.exit(main())
+    sys.exit(cli.main(_parser))

@@ -4,7 +4,6 @@ from __future__ import annotations
 
 import argparse
 import shutil
-import sys
 import tempfile
 from contextlib import contextmanager
 from pathlib import Path
@@ -13,9 +12,11 @@ from typing import Callable, Iterator, Optional, Sequence
 from vga_library.gated import gated_archive
 from vga_library.making import MOVING, Place, make_library
 from vga_library.toolchain import BACKENDS, kit_archive, proved_archive
+from vga_report import cli
+from vga_report.progress import Progress
 from vga_report.trouble import Trouble
 
-from .compilers import Built, Wrong, lacking
+from .compilers import Built, lacking
 from .examples import check_examples
 from .header import check_header, check_names
 from .installing import check_installing
@@ -24,7 +25,6 @@ from .programs import check_clock, check_memory, check_misuse, check_state, chec
 from .scripts import check_scripts
 from .suite import check_joined, check_restored, check_sliced, check_suite
 
-RIGHT, WRONG, TROUBLE = 0, 1, 2
 Check = Callable[[Built, Path], str]
 # Those of the library of each compiler, and those of one alone.
 EACH: dict[str, Check] = {
@@ -47,10 +47,11 @@ ONCE: dict[str, Check] = {
 
 
 def _parser() -> argparse.ArgumentParser:
-    parser = argparse.ArgumentParser(
-        prog="vga-library-tests", description="Tests the library for C, as both compilers of Rattle build it.",
-        epilog="Exit status: 0 all is right; 1 something is wrong; 2 the tests can't be made.",
+    parser = cli.tool_parser(
+        "vga-library-tests", "Tests the library for C, as both compilers of Rattle build it.",
+        "tools/vga-library-tests --only header", "docs/LIBRARY.md", cli.JUDGES,
     )
+    parser.set_defaults(job=_run)
     parser.add_argument(
         "--archive", type=Path, metavar="FILE", help="an archive that was built already, in the place of both compilers'"
     )
@@ -88,8 +89,13 @@ def _libraries(words: argparse.Namespace) -> Iterator[list[Built]]:
         yield built
 
 
-def _run(words: argparse.Namespace) -> None:
+def _run(words: argparse.Namespace, _: Progress) -> None:
     """Makes each check that is wanted, and tells what came of it."""
+    if words.proof is not None and not words.gated:
+        raise Trouble("--proof keeps a proof of --gated")
+    missing = lacking()
+    if missing:
+        raise Trouble("this machine lacks\n" + "\n".join(f"  {line}" for line in missing))
     wanted = words.only or [*ONCE, *EACH]
     with _libraries(words) as libraries:
         for name, check in {**ONCE, **EACH}.items():
@@ -101,20 +107,6 @@ def _run(words: argparse.Namespace) -> None:
                 print(f"{name}, {built.name}: {told}" if name in EACH else f"{name}: {told}", flush=True)
 
 
-def main(given: Optional[Sequence[str]] = None) -> int:
+def main(words: Optional[Sequence[str]] = None) -> int:
     """Runs a command line, and answers its exit status."""
-    words = _parser().parse_args(given)
-    missing = lacking()
-    try:
-        if words.proof is not None and not words.gated:
-            raise Trouble("--proof keeps a proof of --gated")
-        if missing:
-            raise Trouble("this machine lacks\n" + "\n".join(f"  {line}" for line in missing))
-        _run(words)
-        return RIGHT
-    except Wrong as wrong:
-        print(f"vga-library-tests: {wrong}", file=sys.stderr)
-        return WRONG
-    except Trouble as trouble:
-        print(f"vga-library-tests: {trouble}", file=sys.stderr)
-        return TROUBLE
+    return cli.main(_parser, words)

@@ -3,22 +3,16 @@
 from __future__ import annotations
 
 import shutil
-import subprocess
 import tempfile
 from pathlib import Path
 from typing import Mapping, NamedTuple, Optional, Sequence
 
-from vga_report.trouble import Trouble
+from vga_report.processes import captured
+from vga_report.trouble import Wrong
 
 STRICT = ("-Wall", "-Wextra", "-Wpedantic", "-Wconversion", "-Werror")
 SANITIZED = ("-g", "-fsanitize=address,undefined", "-fno-sanitize-recover=all")
 NOTHING = "int main(void) { return 0; }\n"
-# So much of what a program says at last is told.
-MOST_SAID = 4000
-
-
-class Wrong(Exception):
-    """The library, or what is built with it, is otherwise than it should be."""
 
 
 class Compiler(NamedTuple):
@@ -76,20 +70,16 @@ def _has_sanitizers(compiler: Compiler) -> bool:
         source, made = Path(name) / "nothing.c", Path(name) / "nothing"
         source.write_text(NOTHING)
         words = [compiler.c, *SANITIZED, source, "-o", made]
-        return subprocess.run(words, capture_output=True).returncode == 0 and subprocess.run([made]).returncode == 0
+        return captured(words).status == 0 and captured([made]).status == 0
 
 
 def run(words: Sequence[str | Path], env: Optional[Mapping[str, str]] = None) -> str:
     """What a program writes that ends well. Else it is told how it ended."""
-    try:
-        done = subprocess.run(words, env=env, stdin=subprocess.DEVNULL, capture_output=True)
-    except OSError as error:
-        raise Trouble(error.strerror or str(error), str(words[0])) from error
-    if done.returncode:
+    done = captured(words, environment=env)
+    if done.status:
         line = " ".join(str(word) for word in words)
-        said = (done.stdout + done.stderr).decode("utf-8", "replace")
-        raise Wrong(f"{line}\n  ended with status {done.returncode}\n{said[-MOST_SAID:]}")
-    return done.stdout.decode("utf-8", "surrogateescape")
+        raise Wrong(f"{line}\n  ended with status {done.status}\n{done.said()}")
+    return done.output.decode("utf-8", "surrogateescape")
 
 
 def build(compiler: str, built: Built, sources: Sequence[Path], made: Path, *flags: str) -> None:

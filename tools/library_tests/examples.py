@@ -7,11 +7,12 @@ import sys
 from pathlib import Path
 from typing import Iterator
 
-from vga_library.header import TOP
+from vga_report import TOP
 from vga_library.making import fonts_file
-from vga_report.picture import Picture
+from zaklimot.format import Picture
+from vga_report.trouble import Wrong
 
-from .compilers import COMPILERS, Built, Wrong, build, run
+from .compilers import COMPILERS, Built, build, run
 from .suite import HARNESS
 
 EXAMPLES = TOP / "examples"

@@ -4,9 +4,11 @@ from __future__ import annotations
 
 from pathlib import Path
 
-from vga_library.header import HEADER, calls_of
+from vga_library.header import calls_of
+from vga_report.version import HEADER
+from vga_report.trouble import Wrong
 
-from .compilers import COMPILERS, STRICT, Built, Wrong, run
+from .compilers import COMPILERS, STRICT, Built, run
 
 LAYOUT = Path(__file__).resolve().parent / "c" / "layout.c"
 C_STANDARDS, CPP_STANDARDS = ("c99", "c11", "c17"), ("c++11", "c++14", "c++17", "c++20")

@@ -7,10 +7,12 @@ import shutil
 import sys
 from pathlib import Path
 
-from vga_library.header import TOP, version
+from vga_report import TOP
+from vga_report.version import version
 from vga_library.making import fonts_file
+from vga_report.trouble import Wrong
 
-from .compilers import COMPILERS, STRICT, Built, Wrong, run
+from .compilers import COMPILERS, STRICT, Built, run
 
 LIBRARIES = "lib/x86_64-linux-gnu"
 PICTURE = TOP / "examples" / "c" / "picture.c"

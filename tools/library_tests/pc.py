@@ -3,15 +3,16 @@
 from __future__ import annotations
 
 import shutil
-import subprocess
 import sys
 from pathlib import Path
 from typing import Optional
 
-from vga_library.header import TOP
+from vga_report import TOP
 from vga_library.making import fonts_file
+from vga_report.processes import captured
+from vga_report.trouble import Wrong
 
-from .compilers import COMPILERS, Built, Wrong, build, run
+from .compilers import COMPILERS, Built, build, run
 from .suite import HARNESS
 
 PC = TOP / "examples" / "pc"
@@ -27,8 +28,8 @@ def flags_of(*packages: str) -> Optional[list[str]]:
     """The words for a compiler; None where one of these is lacking."""
     if not shutil.which("pkg-config"):
         return None
-    done = subprocess.run(["pkg-config", "--cflags", "--libs", *packages], capture_output=True)
-    return done.stdout.decode().split() if done.returncode == 0 else None
+    done = captured(["pkg-config", "--cflags", "--libs", *packages])
+    return done.output.decode().split() if done.status == 0 else None
 
 
 def _build(built: Built, made: Path, sources: list[Path], flags: list[str]) -> None:

@@ -7,8 +7,9 @@ import re
 from pathlib import Path
 
 from vga_library.making import fonts_file
+from vga_report.trouble import Wrong
 
-from .compilers import COMPILERS, SANITIZED, Built, Wrong, build, run
+from .compilers import COMPILERS, SANITIZED, Built, build, run
 
 SOURCES = Path(__file__).resolve().parent / "c"
 # A line of misuse.txt that tells a call's status; functions of misuse.c make some.

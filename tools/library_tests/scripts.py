@@ -3,15 +3,16 @@
 from __future__ import annotations
 
 import shutil
-import subprocess
 import sys
 from pathlib import Path
 from typing import Iterator, Sequence
 
-from vga_library.header import TOP
+from vga_report import TOP
 from vga_library.making import fonts_file
+from vga_report.processes import captured
+from vga_report.trouble import Wrong
 
-from .compilers import COMPILERS, SANITIZED, Built, Wrong, build, run
+from .compilers import COMPILERS, SANITIZED, Built, build, run
 from .suite import HARNESS
 
 EXAMPLES = TOP / "examples"
@@ -53,19 +54,19 @@ def _check_slicer(name: str, words: Sequence[str | Path], folder: Path) -> None:
     one_by_one, at_once = (run([*words, fonts_file(), pictures, steps]) for steps in ("1", "21"))
     if one_by_one != at_once or len(at_once) <= MOST_PICTURE:
         raise Wrong(f"pictures in one slice are others from {name}")
-    done = subprocess.run([*words, fonts_file(), bad, "1"], capture_output=True)
-    if done.returncode != 1 or BAD_LINE not in done.stderr.decode("utf-8", "replace"):
-        raise Wrong(f"{name} does not tell a bad line: {done.stderr!r}")
+    done = captured([*words, fonts_file(), bad, "1"])
+    if done.status != 1 or BAD_LINE not in done.errors.decode("utf-8", "replace"):
+        raise Wrong(f"{name} does not tell a bad line: {done.errors!r}")
 
 
 def _session(debugger: Path, script: Path, commands: str) -> list[str]:
     """The lines that the debugger writes."""
     words = [debugger, fonts_file(), script]
-    done = subprocess.run(words, input=commands.encode("ascii"), capture_output=True)
-    if done.returncode:
-        said = done.stderr.decode("utf-8", "replace")
-        raise Wrong(f"the debugger ends with status {done.returncode}: {said}")
-    return done.stdout.decode("ascii").splitlines()
+    done = captured(words, given=commands.encode("ascii"))
+    if done.status:
+        said = done.errors.decode("utf-8", "replace")
+        raise Wrong(f"the debugger ends with status {done.status}: {said}")
+    return done.output.decode("ascii").splitlines()
 
 
 def _check_debugger(built: Built, folder: Path) -> None:

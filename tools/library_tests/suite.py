@@ -4,18 +4,19 @@ from __future__ import annotations
 
 import json
 import os
-import subprocess
 import sys
 from pathlib import Path
 from typing import Any
 
-from vga_library.header import TOP
+from vga_report import TOP
 from vga_report.cases import read_cases
 from vga_report.output import AGREED, DIFFERED
 from vga_report.running import AGREES, SKIPPED
 from vga_report.words import SUITE
+from vga_report.processes import captured
+from vga_report.trouble import Wrong
 
-from .compilers import COMPILERS, Built, Wrong, build
+from .compilers import COMPILERS, Built, build
 
 # So many cases are told that do not agree.
 MOST_TOLD = 20
@@ -44,10 +45,10 @@ def _answers(built: Built, folder: Path, texts: str, scripts: str, left_out: set
     build(COMPILERS[0].c, built, HARNESS, harness, "-O2")
     commands = [f"'{harness}' {texts}", "--bytes", f"'{harness}' {scripts}"]
     words = [sys.executable, TOP / "tools" / "vga-report", "suite", *commands, "--json"]
-    done = subprocess.run([*words, "--jobs", str(os.cpu_count() or 1)], capture_output=True)
-    if done.returncode not in (AGREED, DIFFERED):
-        raise Wrong(done.stderr.decode("utf-8", "replace"))
-    return judged(json.loads(done.stdout), left_out)
+    done = captured([*words, "--jobs", str(os.cpu_count() or 1)])
+    if done.status not in (AGREED, DIFFERED):
+        raise Wrong(done.errors.decode("utf-8", "replace"))
+    return judged(json.loads(done.output), left_out)
 
 
 def _stopped_bytes() -> set[str]:

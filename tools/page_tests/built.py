@@ -8,11 +8,10 @@ import io
 import zlib
 from typing import Any
 
-from library_tests.compilers import Wrong
 from vga_page.page import MOST_BYTES, data_of, page_text, read_sources
 from vga_page.wasm import MOST_MODULE, kit_of
 from vga_report.debugging import MOST_PAGE, PAGE, page_data, read_at_most
-from vga_report.trouble import Trouble
+from vga_report.trouble import Trouble, Wrong
 
 NAME = f"page/{PAGE.name}"
 PACKED = ("examples", "module")

@@ -3,19 +3,18 @@
 from __future__ import annotations
 
 import argparse
-import sys
 import tempfile
 import time
 from pathlib import Path
 from typing import Iterator, Optional, Sequence
 
-from library_tests.compilers import Wrong
 from vga_library.telling import phases
 from vga_page.making import kit_line, made_modules
 from vga_page.wasm import MOST_MODULE, check_module, kit_of
+from vga_report import cli
 from vga_report.debugging import read_at_most
 from vga_report.progress import Progress
-from vga_report.trouble import Trouble
+from vga_report.trouble import Trouble, Wrong
 
 from .built import built_page, check_built, module_in
 from .node import node_words
@@ -24,7 +23,6 @@ from .scripts import (
 )
 from .suite import check_suite
 
-RIGHT, WRONG, TROUBLE, INTERRUPTED = 0, 1, 2, 130
 MODULE, PAGE, SUITE, HEAP, SCRIPTS, OWN = CHECKS = ("module", "page", "suite", "heap", "scripts", "own")
 BROWSER = "browser"
 # A line of what was seen: the check, and what it tells.
@@ -32,10 +30,11 @@ Told = Iterator[tuple[str, str]]
 
 
 def _parser() -> argparse.ArgumentParser:
-    parser = argparse.ArgumentParser(
-        prog="vga-page-tests", description="Tests the page that runs scripts in a browser, and its module.",
-        epilog="Exit status: 0 all is right; 1 something is wrong; 2 the tests can't be made.",
+    parser = cli.tool_parser(
+        "vga-page-tests", "Tests the page that runs scripts in a browser, and its module.",
+        "tools/vga-page-tests --only page", "tools/README.md", cli.JUDGES,
     )
+    parser.set_defaults(job=_test)
     parser.add_argument(
         "--module", metavar="FILE", help="a module that was made already; else it is made"
     )
@@ -126,24 +125,15 @@ def _run(words: argparse.Namespace, progress: Progress) -> None:
             begun = time.monotonic()
 
 
-def main(given: Optional[Sequence[str]] = None) -> int:
+def _test(words: argparse.Namespace, progress: Progress) -> None:
+    """Looks at the words and at node, and makes the checks."""
+    if words.proof is not None and not words.gated:
+        raise Trouble("--proof keeps a proof of --gated")
+    node_words()
+    if not words.ready:
+        _run(words, progress)
+
+
+def main(words: Optional[Sequence[str]] = None) -> int:
     """Runs a command line, and answers its exit status."""
-    words, progress = _parser().parse_args(given), Progress()
-    try:
-        if words.proof is not None and not words.gated:
-            raise Trouble("--proof keeps a proof of --gated")
-        node_words()
-        if not words.ready:
-            _run(words, progress)
-        return RIGHT
-    except Wrong as wrong:
-        status, reason = WRONG, str(wrong)
-    except Trouble as trouble:
-        status, reason = TROUBLE, str(trouble)
-    except OSError as error:
-        status, reason = TROUBLE, f"{error.filename or 'standard output'}: {error.strerror}"
-    except KeyboardInterrupt:
-        return INTERRUPTED
-    progress.clear()
-    print(f"vga-page-tests: {reason}", file=sys.stderr)
-    return status
+    return cli.main(_parser, words)

@@ -4,13 +4,11 @@ from __future__ import annotations
 
 import re
 import shutil
-import subprocess
 from pathlib import Path
 from typing import Mapping, Optional, Sequence
 
-from library_tests.compilers import Wrong
-from vga_library.running import Failed, run
-from vga_report.trouble import Trouble
+from vga_report.processes import Failed, captured, run
+from vga_report.trouble import Trouble, Wrong
 
 NAME, PACKAGE = "node", "nodejs"
 # The first version that has memories of 64-bit addresses, by a flag where they are an experiment.
@@ -23,8 +21,8 @@ MOST_SECONDS = 110
 
 
 def _answer(words: Sequence[str]) -> str:
-    done = subprocess.run(words, stdin=subprocess.DEVNULL, capture_output=True, timeout=MOST_SECONDS)
-    return done.stdout.decode("utf-8", "replace").strip() if done.returncode == 0 else ""
+    done = captured(words, seconds=MOST_SECONDS)
+    return done.output.decode("utf-8", "replace").strip() if done.status == 0 else ""
 
 
 def node_words() -> list[str]:

@@ -8,10 +8,9 @@ import shutil
 from pathlib import Path
 from typing import Any, NamedTuple, Optional
 
-from library_tests.compilers import Wrong
 from vga_report.debugging import PAGE
 from vga_report.processes import MEBIBYTE
-from vga_report.trouble import Trouble
+from vga_report.trouble import Trouble, Wrong
 
 from .node import run_node
 

@@ -5,18 +5,16 @@ from __future__ import annotations
 import hashlib
 import json
 import os
-import subprocess
 from concurrent.futures import ThreadPoolExecutor
 from pathlib import Path
 from threading import Event
 from typing import Any
 
-from library_tests.compilers import Wrong
 from vga_report.cases import Case, read_cases
-from vga_report.processes import MEBIBYTE, Limits, run_command
+from vga_report.processes import MEBIBYTE, Limits, captured, output_of, run_command
 from vga_report.program import PROGRAM
 from vga_report.running import said_lines
-from vga_report.trouble import Trouble
+from vga_report.trouble import Trouble, Wrong
 from vga_report.words import SUITE
 
 from .node import run_node
@@ -60,10 +58,9 @@ def _native(case: Case, folder: Path) -> dict[str, Any]:
 def _assembled(text: Path) -> dict[str, str]:
     """The files of a text's bytes, and of the text that the program prints of these; none of a bad text."""
     made, printed = text.with_suffix(".bin"), text.with_suffix(".dis")
-    if subprocess.run([PROGRAM, "asm", text, made], capture_output=True).returncode:
+    if captured([PROGRAM, "asm", text, made]).status:
         return {}
-    with open(printed, "wb") as stream:
-        subprocess.run([PROGRAM, "dis", made], stdout=stream, check=True)
+    printed.write_bytes(output_of([PROGRAM, "dis", made]))
     return {"assembled": str(made), "printed": str(printed)}
 
 

@@ -246,13 +246,6 @@ class Closed(Files):
         message = b"vga-report: standard output: it is closed\n"
         self.assertEqual(self.shell(">&-", "text", self.report("r", "ok")), (2, b"", message))
 
-    def test_the_other_tools_tell_it_too(self) -> None:
-        for name in ("vga-fuzz", "vga-memory", "vga-trace"):
-            line = shlex.join([sys.executable, str(PROGRAM.parent / name)]) + " >&-"
-            done = subprocess.run(line, shell=True, capture_output=True)
-            message = f"{name}: standard output: it is closed\n"
-            self.assertEqual((done.returncode, done.stderr.decode()), (2, message))
-
     def test_a_closed_input_is_told(self) -> None:
         message = b"vga-report: standard input: it is closed\n"
         self.assertEqual(self.shell("<&-", "text", "-"), (2, b"", message))
@@ -336,13 +329,15 @@ class Suite(Files):
         self.case("a/one", "; Memory.\nget A0000\n", "1 55\n")
         status, output, _ = self.run_suite("--json")
         self.assertEqual(status, 1)
+        (line,) = [line for line in output.splitlines() if '"name": "a/one"' in line]
+        self.assertEqual(json.loads(line.rstrip("]},") + "}")["rule"], "Memory.")
         self.assertEqual(json.loads(output), {
             "command": ADAPTER + " {fonts}",
             "cases": {"agrees": 0, "skipped": 0, "differs": 1, "failed": 0},
             "rules": [{
                 "rule": "Memory.", "folder": "a", "answer": "differs",
                 "cases": [{
-                    "name": "a/one", "answer": "differs", "steps": 1, "skipped": 0, "answers": 1,
+                    "name": "a/one", "rule": "Memory.", "answer": "differs", "steps": 1, "skipped": 0, "answers": 1,
                     "differing": 1, "step": 1, "answered": "FF", "expected": "55", "reason": "step 1: FF, not 55 (`get A0000`, a/one.vga:2)",
                 }],
             }],

@@ -3,12 +3,9 @@
 from __future__ import annotations
 
 import base64
-import json
-import os
 import shutil
 import subprocess
 import sys
-import tempfile
 import unittest
 from pathlib import Path
 from typing import Any
@@ -44,6 +41,7 @@ class Release(Files):
         ignored = shutil.ignore_patterns("__pycache__")
         shutil.copytree(TOOLS / "vga_report", self.top / "tools" / "vga_report", ignore=ignored)
         shutil.copy(TOOLS / "vga-report", self.top / "tools")
+        shutil.copytree(TOOLS.parent / "bindings", self.top / "bindings", ignore=ignored)
         self.built = self.top / "page" / "zaklimot.html"
         self.built.write_text(small_page(), "utf-8")
         self.script = self.write("script.vga", TEXT)
@@ -155,7 +153,7 @@ class WithListing(Release, Fake, Alone):
                 words = ["--vga", str(self.program), "--html", str(html), "--debug", str(made)]
                 status, output, said = self.ran(path, *words, given=given)
                 self.assertEqual((status, said), (0, ""))
-                self.assertTrue(output.endswith("\n6 steps, 1 picture, 4 of 4 answers as expected\n"))
+                self.assertTrue(output.endswith("\n6 steps, 1 refused, 1 picture, 4 of 4 answers as expected\n"))
                 self.assertIn('<a href="x%20y/debug.html">Run it step by step</a>', html.read_text("utf-8"))
                 self.assertEqual(self.opened(made.read_text("utf-8"))["text"], Path(self.path).read_text())
 

@@ -7,31 +7,27 @@ import contextlib
 import gzip
 import io
 import json
-import os
-import signal
-import subprocess
 import sys
 import tempfile
-import time
 import unittest
 from pathlib import Path
 from unittest import mock
 
-from library_tests.compilers import Wrong
 from page_tests import built, node, scripts, suite
 from page_tests import command as tests_command
-from vga_library.header import HEADER, TOP, calls_of
-from vga_library.running import Failed, run
+from vga_library.header import calls_of
+from vga_report.version import HEADER
+from vga_report.processes import Failed, run
 from vga_page import command, page, wasm
 from vga_page.bundling import joined
 from vga_page.page import DATA, SCRIPT, STYLE, Sources, about, data_of, examples, make_page, packed, page_text
 from vga_page.retargeting import LAYOUTS, TRIPLES, retargeted
 from vga_library.telling import Phases
 from vga_page.wasm import check_module, exports_of, kit_of, with_kit
-from vga_report.cli import TROUBLE
+from vga_report.trouble import TROUBLE
 from vga_report.debugging import page_data
 from vga_report.progress import Progress
-from vga_report.trouble import Trouble
+from vga_report.trouble import Trouble, Wrong
 
 FRAME = f"<!DOCTYPE html>\n{STYLE}\n{DATA}\n{SCRIPT}\n"
 
@@ -336,66 +332,13 @@ class Commands(unittest.TestCase):
             module.write_bytes(module_of(Modules.right))
             output = io.StringIO()
             with contextlib.redirect_stdout(output):
-                self.assertEqual(command.main(["make", str(made), "--module", str(module)]), command.DONE)
+                self.assertEqual(command.main(["make", str(made), "--module", str(module)]), 0)
             self.assertEqual(built.module_in(made.read_bytes()), module.read_bytes())
             self.assertIn(f"{made}: {made.stat().st_size:,} bytes; its module has", output.getvalue())
             self.assertIn("so it isn't written", self.said("make", str(module), "--module", str(module)))
             module.write_bytes(b"no module")
             said = self.said("make", str(made), "--module", str(module))
             self.assertIn("it is no WebAssembly module", said)
-
-
-# A toolchain that takes long: it notes its number and starts a program that would outlive it.
-SLOW_RT = """#!/bin/sh
-if [ "$1" = doc ]; then echo "$PWD/kit/START-HERE.md"; exit; fi
-sleep 600 &
-echo $$ $! > "$STARTED"
-wait
-"""
-
-
-@unittest.skipIf(sys.platform == "win32", "a script is a program on POSIX")
-class Stopping(unittest.TestCase):
-    """What was begun ends with the command, and leaves nothing."""
-
-    def started(self, folder: Path) -> tuple[subprocess.Popen[bytes], list[int]]:
-        """The command with a slow toolchain, and the numbers of the programs that this has started."""
-        for name in ("bin", "tmp"):
-            (folder / name).mkdir()
-        rt = folder / "bin" / "rt"
-        rt.write_text(SLOW_RT)
-        rt.chmod(0o755)
-        path = f"{folder / 'bin'}{os.pathsep}{os.environ['PATH']}"
-        told = folder / "started"
-        environment = {**os.environ, "PATH": path, "TMPDIR": str(folder / "tmp"), "STARTED": str(told)}
-        process = subprocess.Popen(
-            [sys.executable, TOP / "tools" / "vga-page", "module", folder / "module"], env=environment,
-            stdout=subprocess.DEVNULL, stderr=subprocess.DEVNULL,
-        )
-        until = time.monotonic() + 60
-        while not (told.exists() and told.read_text().endswith("\n")) and time.monotonic() < until:
-            time.sleep(0.02)
-        return process, [int(number) for number in told.read_text().split()]
-
-    def assert_ended(self, number: int) -> None:
-        """That a program has ended, or is about to."""
-        status = Path(f"/proc/{number}/stat")
-        until = time.monotonic() + 10
-        while status.exists() and status.read_text().rpartition(")")[2].split()[0] != "Z":
-            self.assertLess(time.monotonic(), until, "a program is left")
-            time.sleep(0.02)
-
-    def test_each_signal_that_ends_it(self) -> None:
-        for number, status in ((signal.SIGINT, 130), (signal.SIGTERM, 143), (signal.SIGHUP, 129)):
-            with self.subTest(number), tempfile.TemporaryDirectory() as name:
-                process, started = self.started(Path(name))
-                self.assertTrue(list((Path(name) / "tmp").iterdir()))
-                process.send_signal(number)
-                self.assertEqual(process.wait(30), status)
-                for one in started:
-                    self.assert_ended(one)
-                self.assertEqual(list((Path(name) / "tmp").iterdir()), [])
-                self.assertFalse((Path(name) / "module").exists())
 
 
 class Tests(unittest.TestCase):
@@ -462,7 +405,7 @@ class Tests(unittest.TestCase):
         self.assertEqual(told, "node: it is v18.19.0, and the tests need 20 or newer: the package nodejs")
         said = io.StringIO()
         with mock.patch("shutil.which", return_value=None), contextlib.redirect_stderr(said):
-            self.assertEqual(tests_command.main([]), tests_command.TROUBLE)
+            self.assertEqual(tests_command.main([]), TROUBLE)
         self.assertTrue(said.getvalue().startswith("vga-page-tests: node: "))
 
     def test_the_files_of_tests(self) -> None:

@@ -103,7 +103,7 @@ class ExpectedReports(unittest.TestCase):
             (("ok", "E2 NotInProfile", "ok"), "1-3 ok\n", "step 2: E2 NotInProfile (refused), not ok"),
             (("ok", "ok"), "1-3 ok\n", "step 3: the end, not ok"),
             (("ok", "ok"), "1 ok\n", "step 2: ok, not the end"),
-            (("5f",), "1 5F\n", "step 1: 5f, not 5F (read)"),
+            (("5f",), "1 5F\n", "step 1: 5f, not 5F (read): digits are upper case in a report"),
             ((PICTURE,), "1 ok\n", "step 1: picture 28, not ok"),
             ((PICTURE,), "1 picture 28 3x2\n3F0000*3\n000000*3\n",
              "step 1: 1 of 6 dots differ, the first is dot 2 of row 0: 000000, not 3F0000"),

@@ -20,13 +20,14 @@ from vga_floppy.answers import report_lines
 from vga_floppy.command import main
 from vga_floppy.image import CODE, Run, image_for, read_image
 from vga_floppy.machines import DOSBOX, MACHINES
-from vga_report.whole import Block, Step, steps_and_blocks
 from vga_floppy.serial import read_record
 from vga_floppy.table import reset_steps, table_for
 from vga_floppy.table_page import FIRST_MARK, LAST_MARK
 from vga_report.cases import read_cases
+from vga_report.script import script_of
 from vga_report.trouble import Trouble
 from vga_report.words import SUITE
+from zaklimot.format import Script
 
 from .floppy import ANSWERS, MARK, Adapter, Machine
 from .test_cases import Folder
@@ -90,7 +91,7 @@ def run(*words: str | Path, given: bytes = b"", path: str | None = None) -> tupl
 def machine(script: bytes) -> tuple[Machine, Adapter]:
     """A machine with the image of a script, and its adapter."""
     adapter = Adapter()
-    return Machine(image_for({"": steps_and_blocks(script, "script")}, "script"), adapter), adapter
+    return Machine(image_for({"": script_of(script, "script")}, "script"), adapter), adapter
 
 
 def cycles(script: bytes) -> list[tuple[object, ...]]:
@@ -98,51 +99,6 @@ def cycles(script: bytes) -> list[tuple[object, ...]]:
     booted, adapter = machine(script)
     booted.run()
     return adapter.cycles[adapter.cycles.index(("begin",)) + 1:]
-
-
-class Scripts(unittest.TestCase):
-    def fault(self, data: bytes) -> str:
-        """The fault of a script."""
-        with self.assertRaises(Trouble) as caught:
-            steps_and_blocks(data, "it")
-        return str(caught.exception)
-
-    def test_a_text_and_its_bytes_are_one_script(self) -> None:
-        text = b"version 2\nOUT 3c4 2 ; a comment\r\n\nrepeat 03\nputw A0000 1234\n\tshow plane 1 FFFF 1\nend\n" \
-            b"int bx=0001 dx=ffff block 0aFf\nadvance 0000000004294967295\n"
-        data = b"VGAS\2\1\xc4\3\2\x0d\3\0\6\0\0\x0a\0\x34\x12\x0c\4\1\xff\xff\1\0\x0e" \
-            b"\x09\0\0\1\0\0\0\xff\xff\2\0\x0a\xff\x0a\xff\xff\xff\xff"
-        items = [
-            Step("out", (0x3C4, 2)), Block(3, (Step("putw", (0xA0000, 0x1234)), Step("show", (4, 1, 0xFFFF, 1)))),
-            Step("int", (0, 1, 0, 0xFFFF), b"\x0a\xff"), Step("advance", (0xFFFFFFFF,)),
-        ]
-        self.assertEqual(steps_and_blocks(text, "text"), items)
-        self.assertEqual(steps_and_blocks(data, "data"), items)
-        self.assertEqual(steps_and_blocks(b"", "nothing"), [])
-
-    def test_each_case_of_the_suite_has_its_fault_or_none(self) -> None:
-        seen = 0
-        for case in read_cases(str(SUITE)):
-            expected = FAULT.match(case.expected.read_text("ascii", "replace"))
-            # A font file is none of a script's, a file that doesn't begin as bytes do is a text, and one case is long.
-            if case.expected.stat().st_size > 100_000 or expected and expected[0] in ("F1 FontSize", "F2 BadMagic"):
-                continue
-            if case.source.stat().st_size < 1000 and "*65" in case.source.read_text("utf-8", "replace"):
-                continue
-            with self.subTest(case.name):
-                found = None
-                try:
-                    steps_and_blocks(case.script(), case.name)
-                except Trouble as trouble:
-                    found = FAULT.search(str(trouble))
-                self.assertEqual(found and found[0], expected and expected[0])
-                seen += expected is not None
-        self.assertGreater(seen, 100)
-
-    def test_why_a_line_is_bad(self) -> None:
-        self.assertTrue(self.fault(b"frame\nmove 3C4\n").startswith("it:2: F7 BadLine(2): there is no step 'move'"))
-        self.assertEqual(self.fault(b"version 2\nend\n"), "it:2: F7 BadLine(2): no block is open here")
-        self.assertEqual(self.fault(b"VGAS\1\1"), "it: F5 Truncated(5): what begins there is cut off")
 
 
 class Interpreting(unittest.TestCase):
@@ -154,7 +110,7 @@ class Interpreting(unittest.TestCase):
         self.assertEqual(b"".join(report_lines(read_record(record, "record"), "record")), REPORT)
 
     def test_the_bytes_of_the_table(self) -> None:
-        steps = table_for({"ab": steps_and_blocks(SCRIPT, "script")})[16:].partition(reset_steps())[2]
+        steps = table_for({"ab": script_of(SCRIPT, "script")})[16:].partition(reset_steps())[2]
         self.assertEqual(
             steps.hex(" "),
             "0f 03 02 61 62 02 c4 03 02 0f 03 cc 03 05 00 a0 00 00 5a 08 ff af 0f 00 0d 03 00 04 ce 03 0a 01 00 0e 0b da 03 00 "
@@ -226,7 +182,7 @@ class Interpreting(unittest.TestCase):
         self.assertIn(b"P 002000 20\r\n", booted.record)
 
     def test_blocks_are_interpreted_and_not_unrolled(self) -> None:
-        long, short = (table_for({"": steps_and_blocks(b"version 2\nrepeat %d\nout 3C4 2\nend\n" % count, "it")}) for count in (65535, 1))
+        long, short = (table_for({"": script_of(b"version 2\nrepeat %d\nout 3C4 2\nend\n" % count, "it")}) for count in (65535, 1))
         self.assertEqual(len(long), len(short))
 
     @unittest.skipUnless(shutil.which("nasm"), "nasm isn't installed")
@@ -287,7 +243,7 @@ class Several(Folder):
 
     def test_a_name_of_a_file_elsewhere(self) -> None:
         for name in ("../one", "/tmp/one"):
-            image = image_for({name: [], "two": []}, "it")
+            image = image_for({name: Script(), "two": Script()}, "it")
             path = self.folder / "image"
             path.write_bytes(Machine(image, Adapter()).run())
             status, _, said = run("read", path, self.folder / "reports")
@@ -323,7 +279,7 @@ class Left(Folder):
             (bytes(len(self.image)), "it: it is no image of vga-floppy"),
             (self.image[:ANSWERS], "it: its answers are damaged"),
             (self.image[:ANSWERS - 1], f"it: the image is cut off: it has {ANSWERS - 1:,} bytes of 1,474,560"),
-            (image_for({"": steps_and_blocks(SCRIPT, "script")}, "script"), "it: no run has ended: the machine has not written its mark"),
+            (image_for({"": script_of(SCRIPT, "script")}, "script"), "it: no run has ended: the machine has not written its mark"),
             (self.changed(MARK, 0), "it: no run has ended: the machine has not written its mark"),
             (self.changed(MARK + 12, self.image[MARK + 12] ^ 1), "it: its answers are those of another script"),
             (self.changed(ANSWERS + 3, self.image[ANSWERS + 3] ^ 1), "it: its answers are damaged"),
@@ -410,13 +366,8 @@ class Commands(Folder):
             status, output, said = run(*words)
             self.assertEqual((status, output), (2, b""))
             self.assertTrue(said.startswith("vga-floppy: " + message), said)
-            self.assertEqual(len(said.splitlines()), 1)
+            self.assertEqual(len(said.splitlines()), 3 if "BadLine" in said else 1)
         self.assertFalse(image.exists())
-
-    def test_an_input_is_never_an_output(self) -> None:
-        script = self.write("script.vga", "frame\n")
-        self.assertEqual(run("make", script, script)[0], 2)
-        self.assertEqual(Path(script).read_text(), "frame\n")
 
     def test_a_script_that_is_too_long_for_a_machine(self) -> None:
         for script, message in (
@@ -434,21 +385,6 @@ class Commands(Folder):
         booted, _ = machine(b"in 3CC\n")
         (self.folder / "image").write_bytes(booted.run())
         self.assertEqual(run("read", self.folder / "image", "/dev/full"), (2, b"", message))
-
-    def test_a_closed_output_is_told(self) -> None:
-        words = ["sh", "-c", 'exec "$@" >&-', "sh", sys.executable, str(PROGRAM), "make", "-", "-"]
-        done = subprocess.run(words, input=b"frame\n", stderr=subprocess.PIPE, timeout=60)
-        self.assertEqual((done.returncode, done.stderr), (2, b"vga-floppy: standard output: it is closed\n"))
-
-    def test_a_closed_pipe_ends_it_silently(self) -> None:
-        process = subprocess.Popen([sys.executable, PROGRAM, "make", "-", "-"], stdin=subprocess.PIPE,
-                                   stdout=subprocess.PIPE, stderr=subprocess.PIPE)
-        assert process.stdin and process.stdout and process.stderr
-        with process, process.stdin, process.stdout, process.stderr:
-            process.stdout.close()
-            process.stdin.write(b"frame\n")
-            process.stdin.close()
-            self.assertEqual((process.stderr.read(), process.wait()), (b"", 141))
 
 
 @unittest.skipUnless(Path("/proc/self/stat").exists(), "processes are looked at as Linux shows them")
@@ -567,7 +503,7 @@ class Pages(Folder):
 
     def test_all_that_a_machine_is_asked_fits_an_image(self) -> None:
         cases = [case for case in read_cases(str(SUITE)) if case.has_answers_of_machine()]
-        scripts = {case.name: steps_and_blocks(case.machine_script(), case.name) for case in cases}
+        scripts = {case.name: script_of(case.machine_script(), case.name) for case in cases}
         self.assertIn(f" {len(cases)} of them", (PROGRAM.parents[1] / "docs" / "REAL-MACHINES.md").read_text("utf-8"))
         self.assertEqual(len(image_for(scripts, "all")), images.IMAGE_SIZE)
 

@@ -4,7 +4,6 @@ from __future__ import annotations
 
 import contextlib
 import io
-import re
 import signal
 import subprocess
 import sys
@@ -17,22 +16,22 @@ from unittest import mock
 
 from vga_fuzz import command
 from vga_fuzz.command import TOP
-from vga_fuzz.answers import REFUSALS, is_right_form
 from vga_fuzz.feeding import Fed, Program
-from vga_fuzz.judging import FAULTS, meant_by, trouble_of
-from vga_fuzz.making import MAGIC, Input, make
+from vga_fuzz.judging import meant_by, trouble_of
+from vga_fuzz.making import Input, make
 from vga_fuzz.running import Limits, Outcome
-from vga_fuzz.steps import block, step
-from vga_report import report
-from vga_report.whole import Step, steps_and_blocks
+from vga_fuzz.steps import block, spelled, step
+from zaklimot.format import (
+    FORMS, HEADERS, MAGIC, MOST_COUNT, Block, Script, Step, decode, encoded, parse_text, print_text,
+)
 
-# A program that takes each text as its script, and answers each script alike.
+# A program that takes each text as the same script, prints bytes as they are, and answers each script alike.
 GOOD = """#!{python}
 import os, signal, sys, time
 command, file = sys.argv[1:3]
 data = open(file, "rb").read()
 if command == "asm":
-    open(sys.argv[3], "wb").write(data)
+    open(sys.argv[3], "wb").write(data if data[:4] == b"VGAS" else b"VGAS\\x01\\x03\\xda\\x03")
 elif command == "dis":
     sys.stdout.buffer.write(data)
 else:
@@ -140,57 +139,7 @@ class Judging(Files):
     def test_want_of_memory_behind_whole_lines(self) -> None:
         for written, trouble in ((b"", None), (b"1 55\n", None), (b"1 55", "report:1: the report ends within a line")):
             outcome = Outcome(1, written, b"vga: F10 OutOfMemory\n", False)
-            self.assertEqual(trouble_of(outcome, [Step("in", (0x3DA,))]), trouble)
-
-
-ROW = ":" + 80 * " 4107"
-# Right answers of steps, and the same with bytes of them changed.
-ANSWERS: dict[str, tuple[list[str], list[str]]] = {
-    "out 3C2 1": (["ok", "E1 NotDecoded", "E2 NotInProfile"], ["oK", "okk", "E3 NoMode", "E1 NotInProfile", "00"]),
-    "in 3DA": (["00", "FF", "E2 NotInProfile"], ["ok", "0G", "ff", "000", "0000", "E12 TooFar"]),
-    "getw A0000": (["0000", "FF00"], ["00", "00000", "FF0g"]),
-    "int ax=3": (
-        ["ax=0003 bx=0000 cx=0000 dx=0000", "E5 BadMode", "E13 BadHeight"],
-        ["ok", "ax=0003 bx=0000 cx=0000 dx=000", "ax=0003 bx=0000 cx=0000 dx=0000 block 00", "E1 NotDecoded", "E5 Badmode"],
-    ),
-    "int ax=1017 bx=0 cx=1": (
-        ["ax=1017 bx=0000 cx=0001 dx=0000 block 010203"],
-        ["ax=1017 bx=0000 cx=0001 dx=0000", "ax=1017 bx=0000 cx=0001 dx=0000 block 0102"],
-    ),
-    "advance 5": (["ok"], ["E12 TooFar", "05"]),
-    "advance 16777217": (["E12 TooFar"], ["ok"]),
-    "frame": (["ragged"], ["ok", "raggef", "E1 NotDecoded"]),
-    "show dac 01": (["entry 01: 00 2A 3F"], ["entry 02: 00 2A 3F", "entry 01: 00 2A 4F", "entry 01: 00 2A", "ok"]),
-    "show plane 2 0820 4": (["plane 2 0820: 00 18 3C 66"], ["plane 1 0820: 00 18 3C 66", "plane 2 0820: 00 18 3C"]),
-    "show latches": (["latches 00 55 00 00"], ["latches 00 55 00", "latches 00 55 00 0"]),
-    "show beam": (
-        ["beam frame 0 line 111 char 11 dot 1 base 01E0 scan 15 half 0 split 0 rows 112"],
-        ["beam frame 0 line 111 char 11 dot 1 base 01E0 scan 15 half 2 split 0 rows 112"],
-    ),
-    "show cells": (
-        ["E3 NoMode", "E6 WrongKind", "\n".join(f"row {row:02X}{ROW}" for row in range(25))],
-        ["row 00: 4107", "\n".join(f"row {row:02X}{ROW}" for row in range(24)), "E7 BadPage"],
-    ),
-}
-
-
-class Forms(unittest.TestCase):
-    def test_answers_of_steps(self) -> None:
-        for line, answers in ANSWERS.items():
-            (step,) = steps_and_blocks(line.encode(), "t")
-            assert isinstance(step, Step)
-            for is_right, some in zip((True, False), answers):
-                for answer in some:
-                    with self.subTest(line, answer=answer):
-                        first, *others = answer.split("\n")
-                        self.assertEqual(is_right_form(step, report.Step(1, 1, first, tuple(others))), is_right)
-
-    def test_the_refusals_and_faults_are_those_of_the_page(self) -> None:
-        page = (TOP / "docs" / "REPORT.md").read_text()
-        told = re.findall(r"^\| `E(\d+) (\w+)` \|", page, re.M)
-        self.assertEqual(told, [(str(number), name) for number, name in REFUSALS.items()])
-        faults = re.findall(r"^\| `(F\d+ \w+)(\(\w+\))?` \|", page, re.M)
-        self.assertEqual([(name, bool(place)) for name, place in faults], list(FAULTS))
+            self.assertEqual(trouble_of(outcome, Script((Step("in", (0x3DA,)),))), trouble)
 
 
 class Making(unittest.TestCase):
@@ -201,22 +150,21 @@ class Making(unittest.TestCase):
         self.assertEqual(len({given.made for given in made}), 8)
         self.assertGreater(len({given.data for given in made}), 250)
 
-    def test_cells_and_too_many_steps_are_made(self) -> None:
-        self.assertIn((b"\x0c\x06", "show cells"), [step(Random(number)) for number in range(4000)])
-        blocks = [b"VGAS\x02" + block(Random(number))[0] for number in range(300)]
-        self.assertIn("F11 TooMany(5)", {meant_by(data)[0] for data in blocks})
+    def test_each_step_and_too_many_of_them_are_made(self) -> None:
+        steps = [step(Random(number)) for number in range(4000)]
+        self.assertEqual({one.name for one in steps}, set(FORMS))
+        for one in steps:
+            self.assertEqual(parse_text(spelled(one, Random(1))).items, (one,))
+        blocks = [HEADERS[2] + encoded(block(Random(number))) for number in range(300)]
+        self.assertIn("F11 TooMany(5)", {meant_by(decode, data)[0] for data in blocks})
+        texts = {make(Random(f"5:{number}"), [b"frame\n"], [HEADERS[1]]).data[:9] for number in range(100)}
+        self.assertIn(b"version 2", texts)
 
-    def test_a_step_as_bytes_and_as_a_line(self) -> None:
-        steps = [step(Random(number)) for number in range(2000)]
-        self.assertIn((b"\x0b", "frame"), steps)
-        self.assertEqual({data[0] for data, _ in steps}, set(range(0x01, 0x0D)))
-        for data, line in steps:
-            words = line.split()
-            if words[0] == "outw":
-                numbers = [int(word, 16).to_bytes(2, "little") for word in words[1:]]
-                self.assertEqual(data, b"\x02" + b"".join(numbers))
-            if "block" in words:
-                self.assertTrue(data.endswith((len(words[-1]) // 2).to_bytes(2, "little") + bytes.fromhex(words[-1])))
+    def test_what_a_text_and_bytes_are_to_answer(self) -> None:
+        many = print_text(Script((Block(MOST_COUNT, (Step("frame"),) * 257),), 2)).encode()
+        self.assertEqual(meant_by(parse_text, many), ("F7 BadLine(2)", Script()))
+        self.assertEqual(meant_by(decode, b"frame\n"), ("F2 BadMagic", Script()))
+        self.assertEqual(meant_by(parse_text, HEADERS[1]), ("F7 BadLine(1)", Script()))
 
 
 class Command(Files):
@@ -286,12 +234,6 @@ class Command(Files):
                 break
         self.assertEqual((process.returncode, said), (130, ""))
         self.assertRegex(output, r"(?s)^(?:input .*)?seed 1: [0-9,]+ inputs in .*[0-9]+ with something wrong\n$")
-
-    def test_an_output_that_takes_nothing(self) -> None:
-        words = [sys.executable, str(TOP / "tools" / "vga-fuzz"), self.program(), "--inputs", "1"]
-        with open("/dev/full", "wb") as full:
-            done = subprocess.run(words, stdout=full, stderr=subprocess.PIPE, text=True, timeout=60)
-        self.assertEqual((done.returncode, done.stderr), (2, "vga-fuzz: standard output: No space left on device\n"))
 
     def test_a_program_that_is_not_there(self) -> None:
         with contextlib.redirect_stderr(io.StringIO()):

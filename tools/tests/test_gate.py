@@ -31,7 +31,7 @@ class Whole(unittest.TestCase):
         if not HAS: raise unittest.SkipTest({UNBUILT!r})
     def test_four(self): pass
 """
-RUN = "import sys, pathlib; from tests.discovering import main; sys.exit(main(sys.argv[2:], pathlib.Path(sys.argv[1])))"
+RUN = "import sys; from tests.discovering import main; sys.exit(main(['--folder', *sys.argv[1:]]))"
 
 
 class Again(Folder):
@@ -56,6 +56,15 @@ class Again(Folder):
         self.assertIn("Ran 2 tests", said)
         # What needs no program ran in the first run alone.
         self.assertEqual((self.folder / "program.three").read_text(), "3")
+
+
+    def test_a_signal_ends_them(self) -> None:
+        self.write("new/__init__.py", "")
+        lines = "import os, signal, unittest\nclass New(unittest.TestCase):\n"
+        lines += "    def test_one(self): os.kill(os.getpid(), signal.SIGTERM)\n    def test_two(self): print('two')\n"
+        self.write("new/test_new.py", lines)
+        status, said = self.run_tests()
+        self.assertEqual((status, "two" in said), (143, False))
 
 
 @unittest.skipIf(sys.platform == "win32", "a script is a program on POSIX")

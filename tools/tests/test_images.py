@@ -9,8 +9,8 @@ from typing import Callable
 
 from vga_report.images import image_of
 from vga_report.timing import USUAL, Timing
-from vga_report.whole import Step, steps_and_blocks
 from vga_report.trouble import Trouble
+from zaklimot.format import parse_text
 
 from .making import BLACK, RED, WHITE, ppm
 from .test_command import PICTURE, Files, run
@@ -132,6 +132,13 @@ class Animations(Files):
         self.assertEqual([time[5:7] for time in times], [(713, 50000), (834, 50000)])
         self.assertEqual(zlib.decompress(chunks[6][1][4:]), b"\0" + bytes(27))
 
+    def test_advances_pass_between_frames(self) -> None:
+        path, moving = self.report("r", "ok", PICTURE, "ok", PICTURE), str(self.folder / "m.png")
+        for dots, seconds in ((0, 0.029), (404_099, 0.029), (404_100, 0.043), (4_041_000, 0.171), (99_999_999, 0.029)):
+            script = self.write("s.vga", f"int ax=3\nframe\nadvance {dots}\nframe\n")
+            done = run("pictures", path, "--apng", moving, "--script", script)
+            self.assertEqual(done, (0, f"{moving}: 2 frames, {seconds:.3f} seconds\n".encode(), ""))
+
     def test_a_script_of_bytes_has_the_times_of_its_text(self) -> None:
         path, moving = self.report("r", "ok", PICTURE, "ok", ppm(9, 1, BLACK * 9)), str(self.folder / "m.png")
         script = self.folder / "s.bin"
@@ -160,6 +167,7 @@ class Animations(Files):
         self.assertEqual(run("pictures", path, "--apng", moving), (2, b"", message))
         self.assertEqual(run("pictures", path, "--apng", moving, "--step", "2")[0], 0)
         self.assertEqual(run("pictures", path)[0], 2)
+        self.assertEqual(run("pictures", path, path), (2, b"", f"vga-report: {path}: it is not a folder\n"))
         self.assertEqual(run("pictures", path, moving, "--apng", moving)[0], 2)
 
     def test_times_by_registers(self) -> None:
@@ -171,8 +179,7 @@ class Animations(Files):
         ]:
             with self.subTest(steps):
                 timing = Timing()
-                for step in steps_and_blocks(steps.replace(";", "\n").encode(), "t"):
-                    assert isinstance(step, Step)
+                for step in parse_text(steps.replace(";", "\n")).steps():
                     timing.take(step)
                 self.assertAlmostEqual(timing.frame(), seconds)
 

@@ -16,6 +16,8 @@ PROGRAM = "#!/bin/sh\n[ \"$1\" = go ] && echo '1 ok'\nexit 0\n"
 # Words of the tools, in which the file `in` is read, and `out`, which is the same file, would be written.
 READ_AND_WRITTEN = {
     "report run {s} --vga {p} --fonts {in} --html {out}": "font",
+    "report run {in} --vga {p} --json {out}": "frame\n",
+    "report run {in} --vga {p} --junit {out}": "frame\n",
     "report run {s} --vga {in} --html {out}": PROGRAM,
     "report run {s} --vga {in} --debug {out} --html {o}": PROGRAM,
     "report run {in} --vga {p} --html {out}": "frame\n",

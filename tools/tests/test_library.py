@@ -10,16 +10,18 @@ import unittest
 from pathlib import Path
 from unittest import mock
 
-from library_tests.compilers import COMPILERS, Wrong
+from library_tests.compilers import COMPILERS
 from library_tests.examples import SIXTEEN, bars, colours_script
 from library_tests.header import LAYOUT, names_in
 from library_tests.programs import expect
 from library_tests.suite import judged
 from vga_library import command, gated
-from vga_library.header import HEADER, TOP, Version, calls_of, version_of, without_comments
+from vga_library.header import calls_of
+from vga_report import TOP
+from vga_report.version import HEADER, Version, version_of, without_comments
 from vga_library.making import Place, package_text
-from vga_report.cli import TROUBLE
-from vga_report.trouble import Trouble
+from vga_report.trouble import TROUBLE
+from vga_report.trouble import Trouble, Wrong
 
 TEXT = HEADER.read_text("ascii")
 PAGE = TOP / "docs" / "LIBRARY.md"

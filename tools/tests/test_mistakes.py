@@ -6,6 +6,7 @@ import json
 import unittest
 from pathlib import Path
 
+from vga_report import TOP
 from vga_report.faults import Files, explained
 from vga_report.mistakes import mistake_in
 
@@ -70,6 +71,10 @@ class Faults(Folder):
         for text, reason in TEXTS:
             with self.subTest(reason):
                 self.assert_told("F7 BadLine(1)", "s:1", reason, text)
+
+    def test_a_font_file(self) -> None:
+        font = (TOP / "fonts" / "zaklimot.fnt").read_bytes()
+        self.assert_told("F7 BadLine(1)", "s:1", "this is not a script, but a font file", font)
 
     def test_a_line_with_a_mark_below_it(self) -> None:
         reason = "numbers are hexadecimal digits alone: write 3C4\n  out 0x3C4 02\n      ^^^^^"

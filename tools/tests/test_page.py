@@ -85,7 +85,7 @@ class Runs(Alone, Fake):
     def test_a_run(self) -> None:
         page = self.folder / "page.html"
         status, output, said = self.run_script("--html", str(page))
-        self.assertEqual((status, output, said), (0, "6 steps, 1 picture, 4 of 4 answers as expected\n", ""))
+        self.assertEqual((status, output, said), (0, "6 steps, 1 refused, 1 picture, 4 of 4 answers as expected\n", ""))
         text = page.read_text(encoding="utf-8")
         reader = self.assert_stands_alone(text)
         self.assertEqual(self.frames(text), [{"step": 4, "title": "step 4, 9x1", "images": ["p1"]}])
@@ -106,7 +106,7 @@ class Runs(Alone, Fake):
 
     def test_on_standard_output(self) -> None:
         status, output, said = self.run_script("--html", "-")
-        self.assertEqual((status, said), (0, "6 steps, 1 picture, 4 of 4 answers as expected\n"))
+        self.assertEqual((status, said), (0, "6 steps, 1 refused, 1 picture, 4 of 4 answers as expected\n"))
         self.assert_stands_alone(output)
         self.assertEqual(self.run_script("--html", "-", "--show")[0], 2)
         self.assertEqual(self.run_script("--html", self.path)[2],

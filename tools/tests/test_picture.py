@@ -6,7 +6,6 @@ import contextlib
 import io
 import os
 import random
-import signal
 import subprocess
 import sys
 import tempfile
@@ -22,9 +21,9 @@ from vga_picture.command import main
 from vga_picture.mode import MODES
 from vga_picture.planes import best_numbers, planes_of, put_steps
 from vga_picture.word import MASKS, Bytes, Word, Write, least_writes
-from vga_report.picture import Picture
 from vga_report.png import Shape, write_png
 from vga_report.program import FONTS
+from zaklimot.format import Picture
 
 from .making import png_rows, ppm
 from .program import run_texts
@@ -531,24 +530,9 @@ class Refusals(Folder):
         ):
             with self.subTest(words):
                 said = io.StringIO()
-                with contextlib.redirect_stderr(said), self.assertRaises(SystemExit) as ended:
-                    main(["script", "-", "-", *words])
-                self.assertEqual((ended.exception.code, said.getvalue()[:6]), (2, "usage:"))
-
-    def test_an_input_is_never_an_output(self) -> None:
-        image = self.folder / "i.png"
-        image.write_bytes(self.GOOD)
-        os.link(image, self.folder / "link")
-        for name in ("i.png", "link"):
-            said = f"vga-picture: {self.folder / name}: it is read as {image}, so it isn't written\n"
-            self.assertEqual(run("script", image, self.folder / name, "--mode", "13"), (2, b"", said))
-            done = run("script", image, "-", "--mode", "13", "--picture", self.folder / name)
-            self.assertEqual(done, (2, b"", said))
-        self.assertEqual(image.read_bytes(), self.GOOD)
-        twice = self.folder / "s"
-        said = f"vga-picture: {twice}: the script and its picture are to be two files\n"
-        self.assertEqual(run("script", image, twice, "--mode", "13", "--picture", twice), (2, b"", said))
-        self.assertFalse(twice.exists())
+                with contextlib.redirect_stderr(said):
+                    status = main(["script", "-", "-", *words])
+                self.assertEqual((status, said.getvalue()[:6]), (2, "usage:"))
 
     def test_a_file_that_is_not_there(self) -> None:
         path = self.folder / "none"
@@ -560,55 +544,6 @@ class Refusals(Folder):
         image.write_bytes(self.GOOD)
         said = "vga-picture: /dev/full: No space left on device\n"
         self.assertEqual(run("script", image, "/dev/full", "--mode", "13"), (2, b"", said))
-        for words in (["-"], [str(self.folder / "s")]):
-            with open("/dev/full", "wb") as full:
-                done = subprocess.run(
-                    [sys.executable, PROGRAM, "script", image, *words, "--mode", "13"], stdout=full, stderr=subprocess.PIPE
-                )
-            self.assertEqual((done.returncode, done.stderr), (2, b"vga-picture: standard output: No space left on device\n"))
-
-    @unittest.skipIf(sys.platform == "win32", "a shell of POSIX closes the output")
-    def test_closed_streams(self) -> None:
-        image, script_path = self.folder / "i.png", self.folder / "s"
-        image.write_bytes(self.GOOD)
-        for path in ("-", str(script_path)):
-            words = ["sh", "-c", 'exec "$@" >&-', "sh", sys.executable, str(PROGRAM), "script", str(image), path, "--mode", "13"]
-            done = subprocess.run(words, stderr=subprocess.PIPE)
-            self.assertEqual((done.returncode, done.stderr), (2, b"vga-picture: standard output: it is closed\n"))
-        self.assertFalse(script_path.exists())
-        words = ["sh", "-c", 'exec "$@" 2>&-', "sh", sys.executable, str(PROGRAM), "script", str(image), "-", "--mode", "13"]
-        self.assertEqual(subprocess.run(words, stdout=subprocess.PIPE).stdout, script(self.GOOD, "--mode", "13"))
-
-    def test_a_signal_and_a_closed_pipe(self) -> None:
-        script_path = self.folder / "s.vga"
-        script_path.write_bytes(b"old")
-        for number, status in ((signal.SIGTERM, 143), (signal.SIGINT, 130)):
-            process = subprocess.Popen(
-                [sys.executable, PROGRAM, "script", "-", script_path, "--mode", "13"],
-                stdin=subprocess.PIPE, stdout=subprocess.PIPE, stderr=subprocess.PIPE,
-                # A shell's background job ignores it.
-                preexec_fn=lambda: signal.signal(signal.SIGINT, signal.SIG_DFL),
-            )
-            assert process.stdin is not None
-            # More than a pipe holds: once it is written, the tool reads.
-            process.stdin.write(self.GOOD[:40] + bytes(200_000))
-            process.stdin.flush()
-            process.send_signal(number)
-            out, said = process.communicate()
-            self.assertEqual((process.returncode, out, said), (status, b"", b""))
-        self.assertEqual([path.name for path in self.folder.iterdir()], ["s.vga"])
-        self.assertEqual(script_path.read_bytes(), b"old")
-        image = self.folder / "i.png"
-        image.write_bytes(png_of(some_dots(320, 200, 200)))
-        process = subprocess.Popen(
-            [sys.executable, PROGRAM, "script", image, "-", "--mode", "13"], stdout=subprocess.PIPE, stderr=subprocess.PIPE
-        )
-        assert process.stdout is not None and process.stderr is not None
-        with process, process.stdout, process.stderr:
-            process.stdout.readline()
-            process.stdout.close()
-            self.assertEqual(process.stderr.read(), b"")
-        self.assertEqual(process.returncode, 141)
 
 
 class Examples(unittest.TestCase):

@@ -5,8 +5,8 @@ from __future__ import annotations
 import io
 import unittest
 
-from vga_report.picture import Picture
 from vga_report.png import MARK, Shape, write_marked_png, write_png
+from zaklimot.format import Picture
 
 from .making import BLACK, RED, WHITE, png_rows
 

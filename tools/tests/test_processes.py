@@ -6,7 +6,6 @@ import os
 import signal
 import subprocess
 import sys
-import tempfile
 import time
 import unittest
 from pathlib import Path
@@ -139,6 +138,7 @@ class Signals(Folder):
         script = self.write("s.vga", "frame\n")
         for words in (
             ["vga-memory"], ["vga-library", "make", str(self.folder / "kit")], ["vga-report", "run", script, "--try"],
+            ["vga-page", "module", str(self.folder / "module")],
         ):
             for number, status in ((signal.SIGTERM, 143), (signal.SIGHUP, 129)):
                 with self.subTest(words[0], number=number):
@@ -161,7 +161,7 @@ class Signals(Folder):
         self.assertEqual((process.returncode, output, said), (status, b"", b""))
         self.assertEqual([some for some in numbers if is_running(some)], [])
         self.assertEqual(list(temporary.iterdir()), [])
-        self.assertFalse((self.folder / "kit").exists())
+        self.assertFalse((self.folder / "kit").exists() or (self.folder / "module").exists())
 
     def test_the_fuzzer_ends_its_program_and_its_folder_goes(self) -> None:
         program, temporary = self.folder / "program", self.folder / "tmp"

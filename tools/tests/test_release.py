@@ -5,17 +5,18 @@ from __future__ import annotations
 import contextlib
 import io
 import re
-import subprocess
 import tarfile
 import unittest
 from unittest import mock
 
-from vga_library.header import TOP, version
+from vga_report import TOP
+from vga_report.version import version
 from vga_release import command
 from vga_release.commit import Commit, File, clean_commit
 from vga_release.gathering import MADE_OF, PAGE, PATHS, made_of, moved_up
 from vga_release.packing import Entry, pack
-from vga_report.cli import TROUBLE
+from vga_report.processes import Done
+from vga_report.trouble import TROUBLE
 from vga_report.trouble import Trouble
 
 ENTRIES: dict[str, Entry] = {
@@ -75,12 +76,12 @@ class Made(unittest.TestCase):
 
 class Commits(unittest.TestCase):
     def test_what_is_changed_is_no_release(self) -> None:
-        done = subprocess.CompletedProcess([], 0, b" M README.md\n", b"")
-        with mock.patch("vga_release.running.captured", return_value=done), self.assertRaises(Trouble) as raised:
+        done = Done(0, b" M README.md\n", b"")
+        with mock.patch("vga_report.processes.captured", return_value=done), self.assertRaises(Trouble) as raised:
             clean_commit()
         self.assertIn("M README.md", str(raised.exception))
         said = io.StringIO()
-        with mock.patch("vga_release.running.captured", return_value=done), contextlib.redirect_stderr(said):
+        with mock.patch("vga_report.processes.captured", return_value=done), contextlib.redirect_stderr(said):
             self.assertEqual(command.main(["release"]), TROUBLE)
         self.assertTrue(said.getvalue().startswith("vga-release: a release is made from a commit"))
 

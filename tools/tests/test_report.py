@@ -4,16 +4,16 @@ from __future__ import annotations
 
 import unittest
 
-from vga_report.picture import Picture
-from vga_report.report import Report, Step
+from vga_report.report import Report
 from vga_report.trouble import Trouble
+from zaklimot.format import Answer, Picture
 
 from .making import BLACK, ppm, report, stream
 
 REGISTERS = "misc 00\nseq 00: 00\ncrtc 00: 00\ngfx 00: 00\nattr 00 i: 00\ndac 00 r FF 00 00"
 
 
-def steps_of(data: bytes) -> list[Step]:
+def steps_of(data: bytes) -> list[Answer]:
     return list(Report(stream(data), "r").steps())
 
 

@@ -3,18 +3,22 @@
 from __future__ import annotations
 
 import io
+import json
 import os
 import subprocess
 import sys
 import unittest
 from concurrent.futures import ThreadPoolExecutor
 from pathlib import Path
+from unittest import mock
 
+from vga_report.blessing import blessed_line
 from vga_report.expecting import answer_of, handed_in, is_as_expected, is_worth_telling
 from vga_report.listing import Choice, Row
-from vga_report.report import Report, Step
-from vga_report.script import blessed_line, count_in, expected_in, steps_of
+from vga_report.report import Report
+from vga_report.script import expected_in
 from vga_report.trouble import Trouble
+from zaklimot.format import Answer, count_in, steps_in
 
 from .making import BLACK, RED, ppm, stream
 from .program import run_texts
@@ -75,7 +79,7 @@ class Listings(Fake):
             "     7      5  INT AX=3            ax=0003 bx=0000 cx=0000 dx=0000\n"
             "     8      6  SHOW REGS           a\n"
             "                                   b\n"
-            "6 steps, 1 picture, 4 of 4 answers as expected\n"
+            "6 steps, 1 refused, 1 picture, 4 of 4 answers as expected\n"
         ), ""))
         self.assertEqual(self.run_script(path="-", given=TEXT.encode())[1], self.run_script()[1])
 
@@ -186,13 +190,82 @@ class Listings(Fake):
 
     def test_answers_are_written_in(self) -> None:
         path = self.write("t.vga", "out 3C2 1\nget 0\r\nget 1 ; = 55 ; the byte\nget 2 ; = *\nint ax=3\nin 3DA  ; \u00e9\n")
-        self.assertEqual(self.run_script("--bless", path=path)[:2], (0, f"{path}: 4 answers, 3 of them new\n"))
+        before = (self.folder / "t.vga").read_bytes()
+        listed = f"{path}:2: nothing -> E6\n{path}:3: 55 -> E6\n{path}:6: nothing -> E1 NotDecoded\n{path}: 3 answers "
+        self.assertEqual(self.run_script("--bless", "--dry-run", path=path)[:2], (0, listed + "would be written\n"))
+        self.assertEqual((self.folder / "t.vga").read_bytes(), before)
+        self.assertEqual(self.run_script("--bless", path=path)[:2], (0, listed + "written\n"))
         self.assertEqual((self.folder / "t.vga").read_bytes().decode(), (
             "out 3C2 1\nget 0 ; = E6\r\nget 1 ; = E6 ; the byte\nget 2 ; = *\nint ax=3\n"
             "in 3DA  ; = E1 NotDecoded ; \u00e9\n"
         ))
-        self.assertEqual(self.run_script(path=path)[0], 0)
+        self.assertEqual(self.run_script("--bless", path=path)[:2], (0, f"{path}: 0 answers written\n"))
         self.assertEqual(self.run_script("--bless", path="-", given=b"")[0], 2)
+
+    def test_expectations_that_are_met_stay_as_they_are(self) -> None:
+        path = self.write("t.vga", "frame ; = picture 9x1\nin 3DA ; = e1 notdecoded\nshow regs ; = 2 lines...\nint ; = ax=0003\n")
+        before = (self.folder / "t.vga").read_bytes()
+        self.assertEqual(self.run_script("--bless", path=path)[:2], (0, f"{path}: 0 answers written\n"))
+        self.assertEqual((self.folder / "t.vga").read_bytes(), before)
+
+    def test_a_dump_that_stands_whole(self) -> None:
+        path = self.write("t.vga", "show regs ; more\n;| old\nget 0 ; = E6\n")
+        self.assertEqual(self.run_script("--bless", path=path)[0], 0)
+        blessed = "show regs ; = 2 lines dd8c6a395b5dd36c56d23275028f526c ; more\n;| a\n;| b\nget 0 ; = E6\n"
+        self.assertEqual((self.folder / "t.vga").read_text(), blessed)
+        self.assertEqual(self.run_script("--quiet", path=path)[:2], (0, f"{path}: 2 steps, 0 pictures, 2 of 2 answers as expected\n"))
+        self.write("t.vga", blessed.replace(";| b", ";| c"))
+        status, output, _ = self.run_script("--quiet", path=path)
+        self.assertEqual((status, output.split("6c: ")[1].splitlines()[0]), (1, "'b', not 'c'"))
+
+    def test_refusals_are_told_counted_and_expected(self) -> None:
+        path = self.write("t.vga", "in 60\nin 60\nin 61 ; = E1\n")
+        status, output, _ = self.run_script(path=path)
+        self.assertEqual((status, output.count("No part of the adapter decodes port 060."), output.count("port 061")), (1, 1, 1))
+        self.assertIn("IN 61 answers E1 NotDecoded, not E1: E1 is a byte that is read here; the refusal is written E1 NotDecoded\n", output)
+        self.assertTrue(output.endswith("\n3 steps, 3 refused, 0 pictures, 0 of 1 answers as expected\n"))
+        self.assertEqual(self.run_script("--html", "-", path=path)[1].count("No part of the adapter decodes port"), 3)
+        path = self.write("t.vga", "in 60\nin 61 ; = E1 NotDecoded\n")
+        self.assertEqual(self.run_script("--quiet", path=path)[0], 0)
+        status, output, _ = self.run_script("--quiet", "--strict", path=path)
+        self.assertEqual((status, output.splitlines()[0]), (
+            1, f"{path}:1: step 1: IN 60 answers E1 NotDecoded, and no refusal is expected"
+        ))
+
+    def test_an_answer_that_is_expected_of_no_step(self) -> None:
+        for text, line in (("frame\n; = 55\n", 2), ("version 2 ; = 1\n", 1), ("frame ; = *\n\t; =ok\n", 2)):
+            path = self.write("t.vga", text)
+            status, _, said = self.run_script(path=path)
+            self.assertEqual(status, 2)
+            self.assertTrue(said.startswith(f"vga-report: {path}:{line}: no step stands on this line, so nothing answers "), said)
+        self.assertEqual(self.run_script(path=self.write("t.vga", "; ======\n; = =\nout 3C2 1\n"))[0], 0)
+
+    def test_what_differs_as_a_diff(self) -> None:
+        path = self.write("t.vga", "get 0 ; = 55 ; more\nin 3DA\n")
+        status, output, _ = self.run_script("--diff", path=path)
+        wanted = f"--- {path}\n+++ {path} as answered\n@@ -1,3 +1,3 @@\n-get 0 ; = 55 ; more\n+get 0 ; = E6 ; more\n in 3DA\n \n"
+        self.assertEqual((status, output), (1, wanted))
+        self.assertIn("\n+in 3DA ; = E1 NotDecoded\n", self.run_script("--diff", "--strict", path=path)[1])
+        script = self.folder / "s.bin"
+        script.write_bytes(b"VGAS\x01\x0b")
+        for word in ("--diff", "--bless"):
+            message = f"vga-report: {script}: a script of bytes has no comments for answers\n"
+            self.assertEqual(self.run_script(word, path=str(script)), (2, "", message))
+
+    def test_as_json(self) -> None:
+        path = self.write("t.vga", "get 0 ; = 55\nframe\nin 60\nshow regs\n")
+        status, output, said = self.run_script("--json", "-", path=path)
+        told = json.loads(output)
+        self.assertEqual((status, told["script"], told["steps"], told["refused"], told["wrong"]), (1, path, 4, 1, 1))
+        get, frame, read, dump = told["answers"]
+        self.assertEqual((get["answer"], get["expected"], get["met"]), ("E6", "55", False))
+        self.assertEqual(frame["picture"], {"size": "9x1", "md5": "cc3cef99328e895f73a6088030faaab2"})
+        self.assertEqual((read["refused"], read["why"]), ("E1 NotDecoded", "No part of the adapter decodes port 060."))
+        self.assertEqual(dump["lines"], ["a", "b"])
+        self.assertTrue(said.endswith("4 steps, 1 refused, 1 picture, 0 of 1 answers as expected\n"))
+        status, output, _ = self.run_script("--json", "-", path=self.write("t.vga", "move\n"))
+        told = json.loads(output)
+        self.assertEqual((status, told["answers"], "F7 BadLine(1)" in told["trouble"]), (2, [], True))
 
     def test_a_picture_over_the_script(self) -> None:
         path = self.write("0001.png", "frame\n")
@@ -204,13 +277,13 @@ class Expectations(unittest.TestCase):
     def test_what_is_as_expected(self) -> None:
         picture = next(Report(stream(b"1 picture 37\n" + ppm(9, 1, BLACK * 9) + b"\n"), "r").steps())
         for step, name, good, bad in [
-            (Step(1, 1, "55"), "get", ["55", "*", "5..."], ["5", "54", ""]),
-            (Step(1, 1, "E6"), "get", ["E6", "e6"], ["E6 WrongKind"]),
-            (Step(1, 1, "E1 NotDecoded"), "get", ["E1 NotDecoded"], ["E1", "E2"]),
-            (Step(1, 1, "E6 WrongKind"), "int", ["E6", "E6 WrongKind"], ["E6 BadPage", "E7"]),
-            (Step(1, 1, "ax=0300 bx=0000 cx=0D0E dx=0102"), "int", ["cx=0D0E", "dx=0102 ax=0300"], ["cx=0D0F", "cx", "ex=0"]),
+            (Answer(1, 1, "55"), "get", ["55", "*", "5..."], ["5", "54", ""]),
+            (Answer(1, 1, "E6"), "get", ["E6", "e6"], ["E6 WrongKind"]),
+            (Answer(1, 1, "E1 NotDecoded"), "get", ["E1 NotDecoded"], ["E1", "E2"]),
+            (Answer(1, 1, "E6 WrongKind"), "int", ["E6", "E6 WrongKind"], ["E6 BadPage", "E7"]),
+            (Answer(1, 1, "ax=0300 bx=0000 cx=0D0E dx=0102"), "int", ["cx=0D0E", "dx=0102 ax=0300"], ["cx=0D0F", "cx", "ex=0"]),
             (picture, "frame", ["picture 9x1", "picture 9x1 8f4a...", answer_of(picture)], ["picture", "picture 9x2"]),
-            (Step(1, 1, "a", ("b",)), "show", ["2 lines dd8c6a395b5dd36c56d23275028f526c"], ["a", "a b", "2 lines"]),
+            (Answer(1, 1, "a", ("b",)), "show", ["2 lines dd8c6a395b5dd36c56d23275028f526c"], ["a", "a b", "2 lines"]),
         ]:
             for expected in good + bad:
                 with self.subTest((step.answer, expected)):
@@ -219,19 +292,20 @@ class Expectations(unittest.TestCase):
     def test_comments(self) -> None:
         for comment, expected in [("= 55", "55"), (" =55 ; more", "55"), ("55", None), ("= E6  WrongKind", "E6 WrongKind"), ("=", "")]:
             with self.subTest(comment):
-                self.assertEqual(expected_in(comment), expected)
-        self.assertEqual([line.number for line in steps_of(b"; a\n\nframe ; =\n \t\r\nframe")], [3, 5])
+                self.assertEqual(expected_in(comment.encode()), expected)
+        self.assertEqual([line.number for line in steps_in(io.BytesIO(b"; a\n\nframe ; =\n \t\r\nframe"))], [3, 5])
         self.assertEqual(blessed_line("frame", "ok"), "frame ; = ok")
 
     def test_blocks(self) -> None:
         def steps(text: str) -> list[tuple[int, str]]:
-            return [(line.number, line.words) for line in steps_of(text.encode())]
+            return [(line.number, line.words) for line in steps_in(io.BytesIO(text.encode()))]
 
         text = "; x\nVersion  2\nint\nrepeat 2 ; twice\nframe ; = *\nin 3DA\nEND\nrepeat 3\nend\nframe\n"
         twice = [(5, "frame"), (6, "in 3DA")] * 2
         self.assertEqual(steps(text), [(3, "int"), *twice, (10, "frame")])
         self.assertEqual(steps("version 2\nrepeat 65535\nframe\n"), [(3, "frame")])
-        self.assertEqual(len(steps("version 2\nrepeat 65535\n" + "frame\n" * 300 + "end")), 16_777_200)
+        with mock.patch("zaklimot.format.lines.MOST_STEPS", 1000):
+            self.assertEqual(len(steps("version 2\nrepeat 65535\n" + "frame\n" * 300 + "end")), 900)
         self.assertEqual(steps("frame\nrepeat 2\nend"), [(1, "frame"), (2, "repeat 2"), (3, "end")])
         long = "version 2\nrepeat 3\n" + "".join(f"in {at:X}\n" for at in range(5000)) + "end\nframe\n"
         once = [(at + 3, f"in {at:X}") for at in range(5000)]
@@ -245,11 +319,11 @@ class Expectations(unittest.TestCase):
             ("ok", "out 3C2 1", False), ("55", "get 0", True), ("ax=0003 bx=0000 cx=0000 dx=0000", "int ax=3", False),
             ("ax=0300 bx=0000 cx=0D0E dx=0000", "int ax=300", True),
         ]:
-            self.assertEqual(is_worth_telling(Step(1, 1, answer), words), is_worth)
+            self.assertEqual(is_worth_telling(Answer(1, 1, answer), words), is_worth)
 
     def test_choices(self) -> None:
-        self.assertTrue(Choice(None).has(Row(Step(1, 1, "ok"), "")))
-        for text in ("", "1-", "a-b", "1,,2"):
+        self.assertTrue(Choice(None).has(Row(Answer(1, 1, "ok"), "")))
+        for text in ("", "1-", "a-b", "1,,2", "0", "5-2", "0-3"):
             with self.subTest(text), self.assertRaises(Trouble):
                 Choice(text)
 
@@ -262,15 +336,14 @@ class Examples(unittest.TestCase):
         self.assertGreater(len(texts), 12)
         for name, ran in run_texts(texts).items():
             self.assertEqual((ran.status, ran.said), (0, ""), name)
-            lines = steps_of(texts[name])
+            lines = list(steps_in(io.BytesIO(texts[name])))
             steps = list(Report(stream(ran.report), name).steps())
             self.assertEqual(len(steps), len(lines), name)
-            expected = [(step, line) for step, line in zip(steps, lines) if line.expected is not None]
+            expected = [(step, line, expected_in(line.comment)) for step, line in zip(steps, lines) if expected_in(line.comment)]
             self.assertTrue(expected, name)
-            for step, line in expected:
+            for step, line, wanted in expected:
                 with self.subTest(f"{name}:{line.number}"):
-                    assert line.expected is not None
-                    self.assertTrue(is_as_expected(step, line.expected, line.name), answer_of(step))
+                    self.assertTrue(is_as_expected(step, wanted or "", line.name), answer_of(step))
 
 
 if __name__ == "__main__":

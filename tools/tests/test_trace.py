@@ -16,7 +16,6 @@ from pathlib import Path
 from unittest import mock
 
 from vga_report.timing import Timing
-from vga_report.whole import Step as ScriptStep
 from vga_report.trouble import Trouble
 from vga_trace import converting
 from vga_trace.command import main
@@ -26,6 +25,7 @@ from vga_trace.kinds import count
 from vga_trace.passing import Flips, Pauses, with_frames_every
 from vga_trace.step import ADVANCE, FRAME, IN, NAMES, OUT, OUTW, PUT, Step, steps_of, without_polls
 from vga_trace.trace import Trace
+from zaklimot.format import Step as ScriptStep
 
 from .making import ppm, report
 from .program import run_texts
@@ -358,11 +358,6 @@ class Converting(Folder):
         self.assertIn("trace:2: it is no cycle", said)
         self.assertEqual(sorted(file.name for file in self.folder.iterdir()), ["script", "trace"])
 
-    def test_a_trace_is_not_written_over(self) -> None:
-        path = self.trace(BEGIN)
-        self.assertEqual(run("convert", path, path)[0], 2)
-        self.assertEqual(Path(path).read_bytes(), BEGIN)
-
     def test_a_full_disk_and_a_file_that_is_not_there(self) -> None:
         self.assertEqual(run("convert", self.trace(BEGIN), "/dev/full")[::2], (2, "vga-trace: /dev/full: No space left on device\n"))
         none = self.folder / "none"
@@ -383,6 +378,10 @@ class Converting(Folder):
     def test_words_that_mean_nothing(self) -> None:
         for words in ((), ("convert", "a"), ("convert", "a", "b", "--frames", "0"), ("kinds", "a", "--to", "0")):
             self.assertEqual(run(*words)[0], 2)
+        path = self.trace(BEGIN)
+        for words in (("convert", path, "-"), ("kinds", path)):
+            said = run(*words, "--from", "300", "--to", "100")[2]
+            self.assertIn("--from 300 is behind --to 100: no cycle is both", said if isinstance(said, str) else said.decode())
 
     def test_the_program_takes_what_is_written(self) -> None:
         text = b"- w p 3C4 302 2\n- w p 3C4 204 2\n- w p 3CE 1005 2\n- w p 3CE E06 2\n- w p 3CE FF08 2\n"
@@ -451,16 +450,6 @@ class Endings(Folder):
                 self.assertEqual([file.name for file in self.folder.iterdir()], ["script"])
                 self.assertEqual(script.read_bytes(), b"old")
 
-    def test_a_reader_that_has_gone(self) -> None:
-        for words in (("kinds", "-"), ("convert", "-", "-", "--text")):
-            command = self.begun(*words)
-            assert command.stdin is not None and command.stdout is not None and command.stderr is not None
-            command.stdout.close()
-            command.stdin.write(BEGIN)
-            command.stdin.close()
-            self.assertEqual((command.wait(60), [line for line in command.stderr if b"Traceback" in line]), (141, []))
-            command.stdin = command.stdout = None
-
     def test_a_disk_that_is_full(self) -> None:
         path, script = self.folder / "trace", self.folder / "script"
         path.write_bytes(BEGIN + b"".join(b"- w m A%04X 1 1\n" % at for at in range(0, 30000, 3)))
@@ -470,9 +459,6 @@ class Endings(Folder):
         _, said = command.communicate(timeout=60)
         self.assertEqual((command.returncode, said.decode()), (2, f"vga-trace: {script}: File too large\n"))
         self.assertEqual((script.read_bytes(), len(list(self.folder.iterdir()))), (b"old", 2))
-        with open("/dev/full", "wb") as full:
-            done = subprocess.run([sys.executable, PROGRAM, "kinds", path], stdout=full, stderr=subprocess.PIPE)
-        self.assertEqual((done.returncode, done.stderr), (2, b"vga-trace: standard output: No space left on device\n"))
 
 
 class Kinds(unittest.TestCase):

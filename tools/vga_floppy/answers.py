@@ -5,13 +5,12 @@ from __future__ import annotations
 from itertools import chain, repeat
 from typing import Iterator
 
-from vga_report.grammar import REGISTERS
-from vga_report.report import SKIPPED as LEFT_OUT
 from vga_report.trouble import Trouble
+from zaklimot.format import REGISTERS
+from zaklimot.format.report import SKIPPED as LEFT_OUT
 
 from .image import Run
 from .table import BYTE, DONE, SKIPPED, WORD, Answer, Rounds, Script
-
 
 # The registers in which a service answers, by AH, and those of function 10 by AX; of services that are not here, all.
 AX, BX, CX, DX = range(4)

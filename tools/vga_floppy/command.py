@@ -9,13 +9,14 @@ from typing import Optional, Sequence
 from vga_report import cli
 from vga_report.images import Image
 from vga_report.output import AGREED, name_of, refuse_twice
+from vga_report.progress import Progress
 from vga_report.png import Shape, write_png
-from vga_report.script import MOST_BYTES
+from vga_report.script import script_of
 from vga_report.streams import STANDARD, read_at_most, reading, to_read, write_file, writing
 from vga_report.suite import LIST, empty_folder
 from vga_report.trouble import Trouble
-from vga_report.whole import Item, steps_and_blocks
 from vga_report.words import seconds
+from zaklimot.format import MOST_BYTES, Script
 
 from .answers import Reports, report_lines
 from .image import IMAGE_SIZE, Run, image_for, read_image
@@ -46,9 +47,9 @@ def _add_report(parser: argparse.ArgumentParser) -> None:
 
 
 def _parser() -> argparse.ArgumentParser:
-    parser = argparse.ArgumentParser(
-        prog="vga-floppy",
-        description="Runs scripts on machines: by a floppy on a PC, or on an emulator. docs/REAL-MACHINES.md tells how.",
+    parser = cli.tool_parser(
+        "vga-floppy", "Runs scripts on machines: by a floppy on a PC, or on an emulator.",
+        "tools/vga-floppy run --on dosbox examples/asked-of-machines.vga", "docs/REAL-MACHINES.md",
     )
     commands = parser.add_subparsers(required=True, metavar="COMMAND")
     command = commands.add_parser("make", help="makes a floppy's image that runs a script, or many")
@@ -76,20 +77,20 @@ def _parser() -> argparse.ArgumentParser:
     return parser
 
 
-def _items(path: str) -> list[Item]:
+def _script(path: str) -> Script:
     """The script of a file."""
     with reading(path) as stream:
-        return steps_and_blocks(stream.read(MOST_BYTES + 1), name_of(path))
+        return script_of(stream.read(MOST_BYTES + 1), name_of(path))
 
 
-def _scripts(path: str) -> dict[str, list[Item]]:
+def _scripts(path: str) -> dict[str, Script]:
     """The script of a file; or those of a folder, by the names that its list has."""
     if not os.path.isdir(path) or not os.path.exists(os.path.join(path, LIST)):
-        return {"": _items(path)}
+        return {"": _script(path)}
     listed = read_at_most(os.path.join(path, LIST), MOST_BYTES)
     names = [os.fsdecode(line.split(b" ")[0]) for line in listed.split(b"\n") if line]
     # The names in the list have the ends that tell text from bytes, and those of reports have none.
-    return {os.path.splitext(name)[0]: _items(os.path.join(path, name)) for name in names}
+    return {os.path.splitext(name)[0]: _script(os.path.join(path, name)) for name in names}
 
 
 def _write_report(words: argparse.Namespace, run: Run, name: str) -> None:
@@ -114,13 +115,13 @@ def _write_report(words: argparse.Namespace, run: Run, name: str) -> None:
     reports.check_end()
 
 
-def _make(words: argparse.Namespace) -> int:
+def _make(words: argparse.Namespace, _: Progress) -> int:
     """Makes an image."""
     write_file(words.image, image_for(_scripts(words.script), name_of(words.script)))
     return AGREED
 
 
-def _read(words: argparse.Namespace) -> int:
+def _read(words: argparse.Namespace, _: Progress) -> int:
     """Gives the report of an image or a record."""
     name = name_of(words.file)
     with reading(words.file) as stream:
@@ -134,7 +135,7 @@ def _read(words: argparse.Namespace) -> int:
     return AGREED
 
 
-def _run(words: argparse.Namespace) -> int:
+def _run(words: argparse.Namespace, _: Progress) -> int:
     """Runs a script on an emulator."""
     wanted = Wanted(words.bios, words.seconds, words.picture is not None)
     ran = run_on(MACHINES[words.on], _scripts(words.script), name_of(words.script), wanted)
@@ -150,7 +151,7 @@ def _write_picture(path: str, image: Image) -> None:
         write_png(stream, image.picture(2 if image.most == 255 else 0), Shape())
 
 
-def _table(words: argparse.Namespace) -> int:
+def _table(words: argparse.Namespace, _: Progress) -> int:
     """Writes tables of results into a page."""
     refuse_twice(words.page, *words.results)
     write_tables(words.page, words.results)
@@ -159,10 +160,4 @@ def _table(words: argparse.Namespace) -> int:
 
 def main(words: Optional[Sequence[str]] = None) -> int:
     """Runs a command line, and answers its exit status."""
-
-    def work() -> int:
-        parsed = _parser().parse_args(words)
-        status: int = parsed.job(parsed)
-        return status
-
-    return cli.run("vga-floppy", work)
+    return cli.main(_parser, words)

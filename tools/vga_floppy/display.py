@@ -12,9 +12,9 @@ from pathlib import Path
 from typing import Iterator, NamedTuple
 
 from vga_report.images import Image
+from vga_report.processes import end_with_parent, started
 from vga_report.trouble import Trouble
 
-from .processes import started
 
 SCREEN = "1280x1024x24"
 # Seconds until the display is there, or has answered.
@@ -39,7 +39,9 @@ def display(folder: Path) -> Iterator[str]:
     reader, writer = os.pipe()
     words = ["Xvfb", "-displayfd", str(writer), "-screen", "0", SCREEN, "-nocursor", "-noreset", "-nolisten", "tcp"]
     try:
-        with started(words, folder, "display", passed=(writer,)):
+        with open(folder / "display", "wb") as said, started(
+            words, cwd=folder, stdout=said, stderr=said, pass_fds=(writer,), preexec_fn=end_with_parent,
+        ):
             os.close(writer)
             writer = -1
             yield f":{_number_from(reader)}"

@@ -7,10 +7,10 @@ from __future__ import annotations
 
 import struct
 from pathlib import Path
-from typing import Mapping, NamedTuple, Optional, Sequence
+from typing import Mapping, NamedTuple, Optional
 
 from vga_report.trouble import Trouble
-from vga_report.whole import Item
+from zaklimot.format import Script
 
 from .table import HEADER, Table, table_for
 
@@ -40,7 +40,7 @@ class Run(NamedTuple):
     is_whole: bool = True
 
 
-def image_for(scripts: Mapping[str, Sequence[Item]], name: str, ending: int = WAIT_FOR_KEY) -> bytes:
+def image_for(scripts: Mapping[str, Script], name: str, ending: int = WAIT_FOR_KEY) -> bytes:
     """The image that runs scripts one after the other; a Trouble where a machine has no room for them."""
     table = table_for(scripts)
     code = bytearray(CODE.read_bytes())

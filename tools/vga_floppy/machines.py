@@ -5,11 +5,11 @@ from __future__ import annotations
 import os
 import re
 import shutil
-import subprocess
 from dataclasses import dataclass
 from pathlib import Path
 from typing import Callable, Mapping, Optional
 
+from vga_report.processes import captured
 from vga_report.trouble import Trouble
 
 from .image import LEAVE_EMULATOR, STAND_STILL
@@ -150,12 +150,10 @@ def _dosbox_words(folder: Path, _: str, __: bool) -> list[str]:
 def _said(*words: str) -> str:
     """What a command says of itself; nothing where there is none."""
     try:
-        done = subprocess.run(
-            words, stdin=subprocess.DEVNULL, stdout=subprocess.PIPE, stderr=subprocess.STDOUT, timeout=SECONDS
-        )
-    except (OSError, subprocess.TimeoutExpired):
+        done = captured(words, seconds=SECONDS)
+    except Trouble:
         return ""
-    return done.stdout.decode("utf-8", "replace")
+    return (done.output + done.errors).decode("utf-8", "replace")
 
 
 def _asked_version(pattern: str, *words: str) -> str:

@@ -9,16 +9,17 @@ from __future__ import annotations
 import struct
 import zlib
 from itertools import takewhile
-from typing import Iterable, Iterator, Mapping, NamedTuple, Optional, Sequence, Union
+from typing import Iterable, Iterator, Mapping, NamedTuple, Optional, Union
 
 from vga_report.trouble import Trouble
-from vga_report.whole import Block, Item, Step
-
+from zaklimot import format
+from zaklimot.format import Block, Step
+from zaklimot.format.script import Item
 
 # The opcodes; those of a script's steps have its numbers.
 FINISH, OUT, OUTW, IN, INW, PUT, PUTW, GET, GETW, INT = range(10)
 PASS_OVER, LOOK_AWAY, FILL, REPEAT, END, SCRIPT, END_OF_RESET = range(10, 17)
-STEPS = {"out": OUT, "outw": OUTW, "in": IN, "inw": INW, "put": PUT, "putw": PUTW, "get": GET, "getw": GETW}
+STEPS = {name: form.opcode for name, form in format.FORMS.items() if OUT <= form.opcode <= GETW}
 READS = (IN, INW, GET, GETW)
 FORMS = {
     OUT: struct.Struct("<HB"), OUTW: struct.Struct("<HH"), IN: struct.Struct("<H"), INW: struct.Struct("<H"),
@@ -90,10 +91,10 @@ def is_for_machine(step: Step) -> bool:
     return place in decoded and last in decoded
 
 
-def steps_for(items: Iterable[Item]) -> bytes:
+def steps_for(script: format.Script) -> bytes:
     """A script's steps and blocks as the interpreter's."""
     parts = []
-    for item in items:
+    for item in script.items:
         if isinstance(item, Block):
             inner = b"".join(map(_step_for, item.steps))
             parts.append(_packed(REPEAT, item.count) + inner + _packed(END))
@@ -163,18 +164,18 @@ def _has_call(item: Item) -> bool:
     return any(map(_has_call, item.steps)) if isinstance(item, Block) else item.name == "int"
 
 
-def table_for(scripts: Mapping[str, Sequence[Item]]) -> bytes:
+def table_for(scripts: Mapping[str, format.Script]) -> bytes:
     """The whole table of scripts by their names, with its header.
 
     A script that calls services finds 03 in miscellaneous output, any other 00: a BIOS may write the CRT controller
     at 3D4 before it says that it is there.
     """
     parts = [reset_steps()]
-    for name, items in scripts.items():
+    for name, script in scripts.items():
         named = name.encode("utf-8", "surrogateescape")
         if len(named) > MOST_NAME:
             raise Trouble(f"the name of a script has at most {MOST_NAME} bytes", name)
-        parts += [_packed(SCRIPT, 3 if any(map(_has_call, items)) else 0, len(named)), named, steps_for(items)]
+        parts += [_packed(SCRIPT, 3 if any(map(_has_call, script.items)) else 0, len(named)), named, steps_for(script)]
     steps = b"".join(parts) + _packed(FINISH)
     return HEADER.pack(NAME, VERSION, len(parts[0]), len(steps), zlib.crc32(steps)) + steps
 

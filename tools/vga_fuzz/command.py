@@ -11,17 +11,18 @@ from pathlib import Path
 from random import Random
 from typing import Any, Optional, Sequence
 
-from vga_report import cli
+from vga_report import TOP, cli
+from vga_report.progress import Progress
 from vga_report.streams import to_read, write_file
 from vga_report.suite import empty_folder
 from vga_report.trouble import Trouble
 from vga_report.words import number_to, seconds
+from zaklimot.format import HEADERS
 
 from .feeding import Fed, Program, Wrong
 from .making import Input, make
 from .running import Limits
 
-TOP = Path(__file__).resolve().parents[2]
 PROGRAM = TOP / "crates" / "vga" / "out" / "vga"
 FONTS = TOP / "fonts" / "zaklimot.fnt"
 # Where the texts are that are changed.
@@ -30,15 +31,18 @@ TEXTS = (TOP / "examples", TOP / "crates" / "vga_suite" / "data")
 MOST_TEXT = 1 << 14
 # One of the first texts is a script.
 FIRST_TEXTS = 3
-EMPTY = b"VGAS\x01"
+EMPTY = HEADERS[1]
 MEBIBYTE = 1 << 20
 # The largest numbers of options: MiB that a run may take, and inputs.
 MOST_MEBIBYTES, MOST_NUMBER = 1 << 16, 1 << 62
 NOTHING_WRONG, SOMETHING_WRONG = 0, 1
 
 
-def _words(words: Optional[Sequence[str]]) -> argparse.Namespace:
-    parser = argparse.ArgumentParser(prog="vga-fuzz", description="Feeds vga with scripts and texts made at random.")
+def _parser() -> argparse.ArgumentParser:
+    parser = cli.tool_parser(
+        "vga-fuzz", "Feeds vga with scripts and texts made at random.", "tools/vga-fuzz --seed 1 --seconds 3600 --keep kept",
+        "tools/README.md", cli.JUDGES,
+    )
     parser.add_argument(
         "program", nargs="?", type=to_read, default=str(PROGRAM), help="the program (default: the one that is built)"
     )
@@ -57,7 +61,8 @@ def _words(words: Optional[Sequence[str]]) -> argparse.Namespace:
             f"--{name}", type=seconds, default=default, metavar="SECONDS", help=f"{told}, in seconds (default: {default})"
         )
     parser.add_argument("--keep", metavar="FOLDER", help="where inputs are kept with which something is wrong")
-    return parser.parse_args(words)
+    parser.set_defaults(job=_run)
+    return parser
 
 
 def _texts() -> list[bytes]:
@@ -145,7 +150,7 @@ class Scripts(Sequence[bytes]):
         return self._made[at]
 
 
-def _run(words: argparse.Namespace) -> int:
+def _run(words: argparse.Namespace, _: Progress) -> int:
     """Looks at the words, and does the work."""
     if not os.path.isfile(words.program) or not os.access(words.program, os.X_OK):
         raise Trouble("it is no program; (cd crates/vga && rt run -- --help) builds it", words.program)
@@ -156,5 +161,5 @@ def _run(words: argparse.Namespace) -> int:
 
 
 def main(words: Optional[Sequence[str]] = None) -> int:
-    """Runs the command, and answers its exit status."""
-    return cli.run("vga-fuzz", lambda: _run(_words(words)))
+    """Runs a command line, and answers its exit status."""
+    return cli.main(_parser, words)

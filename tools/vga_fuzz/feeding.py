@@ -4,18 +4,13 @@ from __future__ import annotations
 
 from dataclasses import dataclass
 from pathlib import Path
-from typing import Optional, Sequence
+from typing import Optional
 
-from vga_report.script import is_bytes
-from vga_report.whole import Item
+from zaklimot.format import Script, decode, parse_text
 
 from .judging import DONE, DONE_ANSWER, OUT_OF_MEMORY, WRITE_FAULT, answer_of, meant_by, trouble_of
 from .making import Input
 from .running import Limits, Outcome, run
-
-
-# What the program answers to bytes that are no script.
-NO_SCRIPT = "F2 BadMagic"
 
 
 @dataclass(frozen=True)
@@ -63,17 +58,17 @@ class Program:
         script.unlink()
         return made
 
-    def _done(self, command: str, *words: str, items: Optional[Sequence[Item]] = None) -> Outcome:
-        """How a command ended, where nothing is wrong with it. What it writes is the report of steps, if they are given."""
+    def _done(self, command: str, *words: str, script: Optional[Script] = None) -> Outcome:
+        """How a command ended, where nothing is wrong with it. What it writes is the report of a script, if one is given."""
         outcome = run([self.path, command, *words], self._folder, self._limits)
-        trouble = trouble_of(outcome, items)
+        trouble = trouble_of(outcome, script)
         if trouble is not None:
             raise Wrong(f"vga {command}: {trouble}")
         return outcome
 
-    def _ran(self, command: str, file: str, wanted: str, items: Sequence[Item]) -> Outcome:
+    def _ran(self, command: str, file: str, wanted: str, meant: Script) -> Outcome:
         """How a script is run: twice, with the same answers, which are to end as it is wanted."""
-        once, again = (self._done(command, file, "--fonts", self._fonts, items=items) for _ in range(2))
+        once, again = (self._done(command, file, "--fonts", self._fonts, script=meant) for _ in range(2))
         _agree(command, once, f"{command} once more", again)
         if answer_of(once) not in (wanted, WRITE_FAULT, OUT_OF_MEMORY):
             raise Wrong(f"vga {command} answers {answer_of(once)}, and not {wanted}")
@@ -82,29 +77,26 @@ class Program:
     def _feed_text(self, text: str, data: bytes) -> str:
         """Runs a text, and its script: they answer the same."""
         script = str(self._folder / "script")
-        wanted, items = meant_by(data)
-        ran = self._ran("go", text, wanted, items)
+        wanted, meant = meant_by(parse_text, data)
+        ran = self._ran("go", text, wanted, meant)
         made = self._done("asm", text, script)
         if made.status != DONE:
             _agree("go", ran, "asm", made)
             return answer_of(ran)
-        if meant_by(Path(script).read_bytes())[1] != items:
+        if meant_by(decode, Path(script).read_bytes())[1] != meant:
             raise Wrong("vga asm: the script has other steps than the text")
-        _agree("go", ran, "run", self._ran("run", script, wanted, items))
-        self._print_again(script, Path(script).read_bytes(), ran, items)
+        _agree("go", ran, "run", self._ran("run", script, wanted, meant))
+        self._print_again(script, Path(script).read_bytes(), ran, meant)
         return answer_of(ran)
 
     def _feed_script(self, script: str, data: bytes) -> str:
         """Runs a script, and prints it: the printed text spells it again, and answers the same."""
-        wanted, items = meant_by(data)
-        if not is_bytes(data):
-            # A text is no script, whatever it means as one.
-            wanted, items = NO_SCRIPT, []
-        ran = self._ran("run", script, wanted, items)
-        self._print_again(script, data, ran, items)
+        wanted, meant = meant_by(decode, data)
+        ran = self._ran("run", script, wanted, meant)
+        self._print_again(script, data, ran, meant)
         return answer_of(ran)
 
-    def _print_again(self, script: str, data: bytes, ran: Outcome, items: Sequence[Item]) -> None:
+    def _print_again(self, script: str, data: bytes, ran: Outcome, meant: Script) -> None:
         """Prints a script: the printed text spells it again, and answers as the script did."""
         printed = self._done("dis", script)
         if printed.status != DONE:
@@ -114,7 +106,7 @@ class Program:
             raise Wrong("vga asm: what vga dis prints spells another script")
         text = self._folder / "text"
         text.write_bytes(printed.report)
-        _agree("run", ran, "go of what vga dis prints", self._ran("go", str(text), DONE_ANSWER, items))
+        _agree("run", ran, "go of what vga dis prints", self._ran("go", str(text), DONE_ANSWER, meant))
 
 
 def _agree(first: str, one: Outcome, second: str, other: Outcome) -> None:

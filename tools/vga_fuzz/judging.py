@@ -3,37 +3,17 @@
 from __future__ import annotations
 
 import io
-import re
-from typing import Optional, Sequence
+from typing import Callable, Optional
 
-from vga_report.faults import FAULT
 from vga_report.report import Report
 from vga_report.trouble import Trouble
-from vga_report.whole import Item, steps_and_blocks, steps_meant
+from zaklimot.format import LINE, Script, ScriptFault, is_answer_to
 
-from .answers import is_right_form
 from .running import Outcome
 
 DONE, FAULTY, WORDS = 0, 1, 2
 DONE_ANSWER = "done"
-# Each fault's name, and whether a place stands behind it.
-FAULTS = (
-    ("F1 FontSize", False),
-    ("F2 BadMagic", False),
-    ("F3 BadVersion", False),
-    ("F4 BadStep", True),
-    ("F5 Truncated", True),
-    ("F6 TooLong", False),
-    ("F7 BadLine", True),
-    ("F8 ReadFault", False),
-    ("F9 WriteFault", False),
-    ("F10 OutOfMemory", False),
-    ("F11 TooMany", True),
-)
 WRITE_FAULT, OUT_OF_MEMORY = "F9 WriteFault", "F10 OutOfMemory"
-LINE = re.compile(
-    "vga: ((?:%s))\n" % "|".join(name + (r"\([0-9]{1,20}\)" if has_place else "") for name, has_place in FAULTS)
-)
 
 
 def answer_of(outcome: Outcome) -> str:
@@ -46,10 +26,10 @@ def _shown(data: bytes) -> str:
     return repr(data[:100].decode("ascii", "backslashreplace"))
 
 
-def _trouble_of_report(report: bytes, items: Sequence[Item], is_whole: bool) -> Optional[str]:
-    """Why some bytes are no report of these steps, or not the whole lines of one's front."""
+def _trouble_of_report(report: bytes, script: Script, is_whole: bool) -> Optional[str]:
+    """Why some bytes are no report of a script, or not the whole lines of one's front."""
     stream = io.BufferedReader(io.BytesIO(report))  # type: ignore[arg-type]
-    meant = steps_meant(items)
+    meant = script.steps()
     try:
         for answered in Report(stream, "report").steps():
             if answered.number == 0:
@@ -57,24 +37,23 @@ def _trouble_of_report(report: bytes, items: Sequence[Item], is_whole: bool) -> 
             step = next(meant, None)
             if step is None:
                 return f"step {answered.number} is answered, and the script has none"
-            if not is_right_form(step, answered):
+            if not is_answer_to(step, answered):
                 return f"step {answered.number}, {step.name}, answers {answered.answer[:60]!r}"
     except Trouble as trouble:
         return str(trouble)
     return "the report ends before the script" if is_whole and next(meant, None) else None
 
 
-def meant_by(data: bytes) -> tuple[str, list[Item]]:
-    """What the program is to answer to a script or a text, a fault or `done`, and the steps that it means."""
+def meant_by(read: Callable[[bytes], Script], data: bytes) -> tuple[str, Script]:
+    """What the program is to answer to bytes or a text that are read so, a fault or `done`; and the script that they are."""
     try:
-        return DONE_ANSWER, steps_and_blocks(data, "input")
-    except Trouble as trouble:
-        found = FAULT.search(str(trouble))
-        return found[0] if found else str(trouble), []
+        return DONE_ANSWER, read(data)
+    except ScriptFault as fault:
+        return fault.answer, Script()
 
 
-def trouble_of(outcome: Outcome, items: Optional[Sequence[Item]]) -> Optional[str]:
-    """What is wrong with a run, if anything is. What it writes is the report of these steps, or has no form here."""
+def trouble_of(outcome: Outcome, script: Optional[Script]) -> Optional[str]:
+    """What is wrong with a run, if anything is. What it writes is the report of a script, or has no form here."""
     if outcome.status is None:
         return "it has not ended in time"
     if outcome.status < 0:
@@ -86,17 +65,17 @@ def trouble_of(outcome: Outcome, items: Optional[Sequence[Item]]) -> Optional[st
     if outcome.status == DONE:
         if outcome.said:
             return f"status 0, and it says {_shown(outcome.said)}"
-        return None if items is None else _trouble_of_report(outcome.report, items, is_whole=True)
-    return _trouble_of_fault(outcome, items)
+        return None if script is None else _trouble_of_report(outcome.report, script, is_whole=True)
+    return _trouble_of_fault(outcome, script)
 
 
-def _trouble_of_fault(outcome: Outcome, items: Optional[Sequence[Item]]) -> Optional[str]:
+def _trouble_of_fault(outcome: Outcome, script: Optional[Script]) -> Optional[str]:
     """What is wrong with a run that ended with status 1."""
     line = LINE.fullmatch(outcome.said.decode("ascii", "backslashreplace"))
     if line is None:
         return f"status 1, and no fault: {_shown(outcome.said)}"
     if line[1] == WRITE_FAULT:
         return None if outcome.is_report_full else "F9 WriteFault, and each write was taken"
-    if line[1] == OUT_OF_MEMORY and items is not None:
-        return _trouble_of_report(outcome.report, items, is_whole=False)
+    if line[1] == OUT_OF_MEMORY and script is not None:
+        return _trouble_of_report(outcome.report, script, is_whole=False)
     return f"{len(outcome.report)} bytes are written before {line[1]}" if outcome.report else None

@@ -5,9 +5,10 @@ from __future__ import annotations
 from random import Random
 from typing import Callable, NamedTuple, Sequence
 
-from .steps import block, step
+from zaklimot.format import END, FIRST_LINE, REPEAT, Block, Script, encode
 
-MAGIC = b"VGAS"
+from .steps import block, spelled, step
+
 # So many steps has a new script at most, and so many changes are made to one that is at hand.
 MOST_STEPS = 60
 MOST_CHANGES = 8
@@ -93,14 +94,22 @@ def _changed(random: Random, data: bytes, others: Sequence[bytes], changes: Sequ
 def _new(random: Random, is_text: bool) -> bytes:
     """A script of either version: steps at random, and in version 2 blocks of them."""
     version = random.choice((1, 2))
-    items = [
+    items = tuple(
         block(random) if version == 2 and random.random() < 0.2 else step(random)
         for _ in range(random.randint(1, MOST_STEPS))
-    ]
-    if is_text:
-        first = "version 2\n" if version == 2 else ""
-        return (first + "".join(lines + "\n" for _, lines in items)).encode("ascii")
-    return MAGIC + bytes([version]) + b"".join(data for data, _ in items)
+    )
+    return _text_of(Script(items, version), random) if is_text else encode(Script(items, version))
+
+
+def _text_of(script: Script, random: Random) -> bytes:
+    """A script as a text, not as `vga dis` prints it, but spelled as people may."""
+    lines = [FIRST_LINE] if script.version == 2 else []
+    for item in script.items:
+        if isinstance(item, Block):
+            lines += [f"{REPEAT} {item.count}", *(spelled(one, random) for one in item.steps), END]
+        else:
+            lines.append(spelled(item, random))
+    return "".join(f"{line}\n" for line in lines).encode("ascii")
 
 
 def make(random: Random, texts: Sequence[bytes], scripts: Sequence[bytes]) -> Input:

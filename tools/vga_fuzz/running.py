@@ -8,8 +8,7 @@ from dataclasses import dataclass
 from pathlib import Path
 from typing import Optional, Sequence
 
-from vga_report.processes import end
-from vga_report.trouble import Trouble
+from vga_report.processes import started
 
 # So much of what a program says on standard error is read.
 MOST_SAID = 4096
@@ -46,26 +45,12 @@ def run(words: Sequence[str], folder: Path, limits: Limits) -> Outcome:
     report, said = folder / "report", folder / "said"
     with open(report, "wb") as output, open(said, "wb") as errors:
         # Python ignores the signal of a file that has become too large, and the program shall too.
-        try:
-            process = subprocess.Popen(
-                words,
-                stdin=subprocess.DEVNULL,
-                stdout=output,
-                stderr=errors,
-                restore_signals=False,
-                start_new_session=True,
-                preexec_fn=lambda: _limit(limits),
-            )
-        except OSError as error:
-            raise Trouble(error.strerror or str(error), words[0]) from error
-        except subprocess.SubprocessError as error:
-            raise Trouble("the system doesn't set these limits for it", words[0]) from error
-        try:
-            status = process.wait(limits.seconds)
-        except subprocess.TimeoutExpired:
-            status = None
-        finally:
-            end(process)
+        given = {"restore_signals": False, "preexec_fn": lambda: _limit(limits)}
+        with started(words, stdout=output, stderr=errors, **given) as process:
+            try:
+                status = process.wait(limits.seconds)
+            except subprocess.TimeoutExpired:
+                status = None
     with open(said, "rb") as stream:
         message = stream.read(MOST_SAID)
     data = report.read_bytes()

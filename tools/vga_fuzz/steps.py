@@ -2,28 +2,17 @@
 
 from __future__ import annotations
 
-import struct
 from random import Random
+from typing import Optional
 
-# The steps of ports and memory: their names, opcodes and fields.
-CYCLES = (
-    ("out", 0x01, "HB"),
-    ("outw", 0x02, "HH"),
-    ("in", 0x03, "H"),
-    ("inw", 0x04, "H"),
-    ("put", 0x05, "IB"),
-    ("putw", 0x06, "IH"),
-    ("get", 0x07, "I"),
-    ("getw", 0x08, "I"),
-)
-INT, ADVANCE, FRAME, SHOW = 0x09, 0x0A, 0x0B, 0x0C
-# What a block of steps begins and ends with, and how often one that has steps is taken.
-REPEAT, END = 0x0D, 0x0E
-COUNTS = (1, 2, 3, 7)
-# A block of so many short steps means more than a script may, if it is taken as often as can be.
-MOST_COUNT, TOO_MANY = 0xFFFF, 257
-# What `show` may be followed by: its kind, and the fields that stand behind it.
-LOOKS = (("regs", ""), ("dac", "B"), ("beam", ""), ("latches", ""), ("plane", "BHH"), ("bda", ""), ("cells", ""))
+from zaklimot.format import FORMS, MOST_COUNT, PLANE_BYTES, REGISTERS, SHOWN, Block, Field, Step
+
+DUMPED = FORMS["show plane"].fields[-1]
+
+# The steps of ports and memory.
+CYCLES = [form for form in FORMS.values() if form.opcode < FORMS["int"].opcode]
+# How often a block that has steps is taken; and so many short steps mean more than a script may, taken as often as can be.
+COUNTS, TOO_MANY = (1, 2, 3, 7), 257
 
 BYTES = (0x00, 0xFF, 0x01, 0x80, 0x55, 0x20)
 PORTS = (0x3C0, 0x3C0, 0x3C2, 0x3C4, 0x3C5, 0x3C6, 0x3C7, 0x3C8, 0x3C9, 0x3CE, 0x3CF, 0x3D4, 0x3D5, 0x3DA, 0x3B4, 0x3BA)
@@ -46,17 +35,17 @@ def _number(random: Random, ends: tuple[int, ...], bits: int) -> int:
     return random.choice(ends) if random.random() < 0.7 else random.getrandbits(bits)
 
 
-def _field(random: Random, name: str, place: int, size: str) -> int:
-    """A field of a cycle."""
-    if place == 1:
-        return random.getrandbits(8) << 8 | random.randrange(0x20) if size == "H" else _number(random, BYTES, 8)
-    if size == "I":
+def _field(random: Random, field: Field, is_word: bool) -> int:
+    """A field of a cycle: a port, an address, or a value that is written."""
+    if field.name == "PORT":
+        return _number(random, PAIRS if is_word else PORTS, 16)
+    if field.name == "ADDRESS":
         return random.randrange(0xA0000, 0xC0000) if random.random() < 0.6 else _number(random, ADDRESSES, 32)
-    return _number(random, PAIRS if name.endswith("w") else PORTS, 16)
+    return random.getrandbits(8) << 8 | random.randrange(0x20) if field.size == 2 else _number(random, BYTES, 8)
 
 
-def _call(random: Random) -> tuple[tuple[int, int, int, int], bytes]:
-    """Registers and block of a call of the BIOS."""
+def _call(random: Random) -> Step:
+    """A call of the BIOS."""
     function = random.choice(FUNCTIONS) if random.random() < 0.95 else random.getrandbits(8)
     part = _number(random, {0: MODES, 0x10: PALETTE, 0x11: GLYPHS, 0x13: (0, 1, 2, 3)}.get(function, BYTES), 8)
     bx, dx = (random.getrandbits(16) & random.choice((0x0F0F, 0x7FF, 0xFFFF)) for _ in range(2))
@@ -68,50 +57,49 @@ def _call(random: Random) -> tuple[tuple[int, int, int, int], bytes]:
     takes_block = function in (0x10, 0x11, 0x13)
     length = needed if takes_block and needed <= 4096 else random.randrange(MOST_BLOCK)
     has_block = random.random() < (0.95 if takes_block else 0.05)
-    return (function << 8 | part, bx, cx, dx), random.randbytes(length) if has_block else b""
+    return Step("int", (function << 8 | part, bx, cx, dx), random.randbytes(length) if has_block else b"")
 
 
-def _look(random: Random) -> tuple[int, str, tuple[int, ...]]:
-    """Kind, name and fields of a look, all of them in range."""
-    kind = random.randrange(len(LOOKS))
-    name, fields = LOOKS[kind]
-    if fields == "BHH":
+def _dump(random: Random) -> Step:
+    """A dump, all its fields in range."""
+    form = random.choice(list(SHOWN.values()))
+    if DUMPED in form.fields:
         offset = random.getrandbits(16)
-        return kind, name, (random.randrange(4), offset, random.randint(1, min(256, 65536 - offset)))
-    return kind, name, tuple(random.getrandbits(8) for _ in fields)
+        return Step(form.name, (random.randrange(4), offset, random.randint(1, min(DUMPED.most, PLANE_BYTES - offset))))
+    return Step(form.name, tuple(random.randint(field.least, field.most) for field in form.fields))
 
 
-def _cycle(random: Random) -> tuple[bytes, str]:
-    name, opcode, fields = random.choice(CYCLES)
-    numbers = [_field(random, name, place, size) for place, size in enumerate(fields)]
-    return struct.pack("<B" + fields, opcode, *numbers), " ".join([name, *(f"{number:X}" for number in numbers)])
+def _cycle(random: Random) -> Step:
+    form = random.choice(CYCLES)
+    return Step(form.name, tuple(_field(random, field, form.name.endswith("w")) for field in form.fields))
 
 
-def step(random: Random) -> tuple[bytes, str]:
-    """A step as bytes, and the same as a line."""
+def step(random: Random) -> Step:
+    """A step."""
     kind = random.random()
     if kind < 0.6:
         return _cycle(random)
     if kind < 0.85:
-        registers, block = _call(random)
-        words = " ".join(f"{name}={value:X}" for name, value in zip(("ax", "bx", "cx", "dx"), registers))
-        tail = f" block {block.hex()}" if block else ""
-        return struct.pack("<B5H", INT, *registers, len(block)) + block, f"int {words}{tail}"
+        return _call(random)
     if kind < 0.92:
-        dots = _number(random, DOTS, 11)
-        return struct.pack("<BI", ADVANCE, dots), f"advance {dots}"
-    if kind < 0.95:
-        return bytes([FRAME]), "frame"
-    look, name, numbers = _look(random)
-    texts = [f"{number}" if place == 2 else f"{number:X}" for place, number in enumerate(numbers)]
-    return struct.pack("<BB" + LOOKS[look][1], SHOW, look, *numbers), " ".join(["show", name, *texts])
+        return Step("advance", (_number(random, DOTS, 11),))
+    return Step("frame") if kind < 0.95 else _dump(random)
 
 
-def block(random: Random) -> tuple[bytes, str]:
-    """A block of a few steps that is taken a few times, or of none that is taken often, as bytes and as lines."""
+def block(random: Random) -> Block:
+    """A block of a few steps that is taken a few times, or of none that is taken often."""
     steps = [step(random) for _ in range(random.randrange(5))]
     count = random.choice(COUNTS) if steps else random.randint(1, MOST_COUNT)
     if random.random() < 0.03:
-        steps, count = [(bytes([FRAME]), "frame")] * TOO_MANY, MOST_COUNT
-    data = struct.pack("<BH", REPEAT, count) + b"".join(data for data, _ in steps) + bytes([END])
-    return data, "\n".join([f"repeat {count}", *(line for _, line in steps), "end"])
+        steps, count = [Step("frame")] * TOO_MANY, MOST_COUNT
+    return Block(count, tuple(steps))
+
+
+def spelled(given: Step, random: Optional[Random] = None) -> str:
+    """A step as a line with as few digits as will do, where `vga dis` prints all; letters are of either case."""
+    texts = [field.shown(number) for field, number in zip(given.form.fields, given.numbers)]
+    if given.form.has_block:
+        texts = [f"{name}={text}" for name, text in zip(REGISTERS, texts)]
+        texts += ["block", given.block.hex()] if given.block else []
+    line = " ".join([given.name, *texts])
+    return line.lower() if random is not None and random.random() < 0.2 else line

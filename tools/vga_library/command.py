@@ -16,7 +16,6 @@ from .making import MOVING, Place, make_library
 from .telling import phases
 from .toolchain import ARCHIVE, BACKENDS, kit_archive, proved_archive
 
-DONE = 0
 # Where files go that a package names no other place for.
 USUAL_PREFIX = "/usr/local"
 
@@ -33,7 +32,7 @@ def _add_archive(parser: argparse.ArgumentParser) -> None:
 
 
 def _parser() -> argparse.ArgumentParser:
-    parser = argparse.ArgumentParser(prog="vga-library", description="Makes the library for C.")
+    parser = cli.tool_parser("vga-library", "Makes the library for C.", "tools/vga-library make kit", "docs/LIBRARY.md")
     commands = parser.add_subparsers(required=True, metavar="COMMAND")
     command = commands.add_parser("make", help="makes it in a folder, which may be moved")
     command.add_argument("folder", metavar="FOLDER", help="gets include/, lib/ and lib/pkgconfig/")
@@ -51,14 +50,13 @@ def _parser() -> argparse.ArgumentParser:
     return parser
 
 
-def _lay(words: argparse.Namespace, place: Place, prefix: str) -> None:
+def _lay(words: argparse.Namespace, place: Place, prefix: str, progress: Progress) -> None:
     """Makes the library, and tells its files."""
     if words.archive is not None and not os.path.isfile(words.archive):
         raise Trouble("there is no such file", words.archive)
     # What is wrong with the folders is told before the long work.
     for name in ("include", place.library_folder, "share"):
         check_folder(place.folder(name))
-    progress = Progress()
     heard = phases(progress)("proving and building the library")
     archive = proved_archive(words.backend, heard) if words.archive is None else Path(words.archive)
     progress.clear()
@@ -66,26 +64,20 @@ def _lay(words: argparse.Namespace, place: Place, prefix: str) -> None:
         print(path)
 
 
-def _make(words: argparse.Namespace) -> None:
-    _lay(words, Place(words.folder), MOVING)
+def _make(words: argparse.Namespace, progress: Progress) -> None:
+    _lay(words, Place(words.folder), MOVING, progress)
 
 
-def _install(words: argparse.Namespace) -> None:
+def _install(words: argparse.Namespace, progress: Progress) -> None:
     prefix = words.prefix or os.environ.get("PREFIX") or USUAL_PREFIX
     if not os.path.isabs(prefix):
         raise Trouble("a prefix begins with a slash", prefix)
     if os.path.isabs(words.libdir):
         raise Trouble("the folder of libraries is named from the prefix on", words.libdir)
     stage = words.destdir if words.destdir is not None else os.environ.get("DESTDIR", "")
-    _lay(words, Place(prefix, words.libdir, stage), prefix)
+    _lay(words, Place(prefix, words.libdir, stage), prefix, progress)
 
 
 def main(words: Optional[Sequence[str]] = None) -> int:
     """Runs a command line, and answers its exit status."""
-
-    def work() -> int:
-        parsed = _parser().parse_args(words)
-        parsed.job(parsed)
-        return DONE
-
-    return cli.run("vga-library", work)
+    return cli.main(_parser, words)

@@ -11,10 +11,10 @@ import os
 from functools import cache
 from pathlib import Path
 
+from vga_report.processes import run
 from vga_report.trouble import Trouble
 
-from .header import TOP
-from .running import run
+from vga_report import TOP
 from .toolchain import CRATE, kit_folder
 
 # What every crate stands on, unnamed.

@@ -7,10 +7,11 @@ import tempfile
 from pathlib import Path, PurePosixPath
 from typing import NamedTuple
 
+from vga_report.processes import run
 from vga_report.streams import refuse_input
 
-from .header import HEADER, TOP, Version, version
-from .running import run
+from vga_report import TOP
+from vga_report.version import HEADER, Version, version
 from .toolchain import compiler
 
 NAME = "zaklimot"

@@ -5,10 +5,10 @@ from __future__ import annotations
 import re
 import time
 
+from vga_report.processes import Hearer
 from vga_report.progress import Progress
 
 from .gated import below
-from .running import Hearer
 from .toolchain import CRATE
 
 # What Rattle says of a crate that is done.

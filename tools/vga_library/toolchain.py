@@ -6,8 +6,9 @@ import os
 from pathlib import Path
 from typing import Optional
 
-from .header import TOP
-from .running import Hearer, run
+from vga_report.processes import Hearer, run
+
+from vga_report import TOP
 
 CRATE = TOP / "crates" / "vga_c"
 ARCHIVE = CRATE / "out" / "libvga_c.a"

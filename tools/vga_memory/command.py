@@ -3,17 +3,15 @@
 from __future__ import annotations
 
 import argparse
-import sys
-from pathlib import Path
 from typing import NamedTuple, Optional, Sequence
 
-from vga_report import cli
+from vga_report import TOP, cli
+from vga_report.progress import Progress
 
-from .judging import Wrong, judge_calls, judge_program
-from .program import NoSuchMain, growing_program
-from .trying import Answer, Case, TryFailed, try_cases
+from .judging import judge_calls, judge_program
+from .program import growing_program
+from .trying import Answer, Case, try_cases
 
-TOP = Path(__file__).resolve().parents[2]
 CRATES = TOP / "crates"
 TABLE = CRATES / "vga_suite" / "data" / "examples" / "palette-and-dac-services"
 PATH_TEXT, PATH_SCRIPT = (TOP / "examples" / name for name in ("first-path.vga", "first-path.bin"))
@@ -33,7 +31,6 @@ REFUSED_WORD = (
 )
 # What `rt try` puts behind an output whose last line has no end.
 ENDING = b"\n"
-NOTHING_WRONG, SOMETHING_WRONG = 0, 1
 
 
 class Job(NamedTuple):
@@ -85,31 +82,21 @@ def refuse_program() -> str:
     return "growths of vga refused: " + ", ".join(f"{name} {count}" for name, count in counts.items())
 
 
-def _refuse() -> int:
+def _refuse(_: argparse.Namespace, __: Progress) -> None:
     """Runs both."""
-    try:
-        print(refuse_calls(), flush=True)
-        print(refuse_program())
-    except (Wrong, TryFailed, NoSuchMain) as wrong:
-        print(f"vga-memory: {wrong}", file=sys.stderr)
-        return SOMETHING_WRONG
-    return NOTHING_WRONG
+    print(refuse_calls(), flush=True)
+    print(refuse_program())
 
 
 def _parser() -> argparse.ArgumentParser:
-    return argparse.ArgumentParser(
-        prog="vga-memory",
-        description="Refuses each growth of memory in turn, and judges what the calls and the program then answer.",
-        epilog="It takes minutes, and needs `rt`. tools/README.md tells more. Exit status: 0 nothing is wrong; "
-        "1 something is; 2 the work can't be done.",
+    parser = cli.tool_parser(
+        "vga-memory", "Refuses each growth of memory in turn, and judges what the calls and the program then answer.\n"
+        "It takes minutes, and needs `rt`.", "tools/vga-memory", "tools/README.md", cli.JUDGES,
     )
+    parser.set_defaults(job=_refuse)
+    return parser
 
 
 def main(words: Optional[Sequence[str]] = None) -> int:
     """Runs a command line, and answers its exit status."""
-
-    def work() -> int:
-        _parser().parse_args(words)
-        return _refuse()
-
-    return cli.run("vga-memory", work)
+    return cli.main(_parser, words)

@@ -4,6 +4,8 @@ from __future__ import annotations
 
 from typing import Optional, Sequence
 
+from vga_report.trouble import Wrong
+
 from .trying import Answer
 
 CALLS = (
@@ -23,10 +25,6 @@ RIGHT, REFUSED, REFUSED_IN_STEP = "as in its example", "out of memory", "out of 
 FAULT = "vga: F10 OutOfMemory\n"
 # The growths that reading the words takes, at most. They are a run's first ones, so that the last runs meet them.
 IN_WORDS = 12
-
-
-class Wrong(Exception):
-    """Something is wrong with an answer."""
 
 
 def refused_call(answer: Answer) -> Optional[tuple[str, str]]:

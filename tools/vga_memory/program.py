@@ -8,6 +8,8 @@ from contextlib import contextmanager
 from pathlib import Path
 from typing import Iterator
 
+from vga_report.trouble import Wrong
+
 # The one line of its `main`, what stands before that line in the copy, and the function behind it.
 MAIN = "    ExitCode::from(status_of_job(&rt))\n"
 FIRST = "    let _ = grow(&rt);\n"
@@ -25,7 +27,7 @@ fn grow(rt: &HostRuntime) -> io::Result<()> {
 UNREAD = ("out", "data", "proofs", "must-fail")
 
 
-class NoSuchMain(Exception):
+class NoSuchMain(Wrong):
     """The `main` of the program is not the one that is known here."""
 
 

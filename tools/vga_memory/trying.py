@@ -8,7 +8,8 @@ from dataclasses import dataclass
 from pathlib import Path
 from typing import Mapping, NamedTuple, Sequence
 
-from vga_library.running import captured
+from vga_report.processes import captured
+from vga_report.trouble import Wrong
 
 # What stands before the output of a case, and what behind what it said.
 SECTION = re.compile(rb"^== (\S+)\n", re.M)
@@ -33,7 +34,7 @@ class Answer:
     said: str
 
 
-class TryFailed(Exception):
+class TryFailed(Wrong):
     """`rt try` did not run each case to its end."""
 
 
@@ -49,9 +50,9 @@ def try_cases(
         files = [word for file, path in data.items() for word in ("--data", f"{file}={path}")]
         command = ["rt", "try", "--fail-alloc", str(growth), *files, "--cases", str(folder), "--"]
         done = captured(command, crate)
-    answers = answers_of(done.stdout, done.stderr.decode("utf-8", "replace"))
+    answers = answers_of(done.output, done.errors.decode("utf-8", "replace"))
     if answers.keys() != cases.keys():
-        raise TryFailed(done.stderr.decode("utf-8", "replace")[-2000:])
+        raise TryFailed(done.errors.decode("utf-8", "replace")[-2000:])
     return answers
 
 

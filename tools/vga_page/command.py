@@ -18,7 +18,6 @@ from .making import made_modules
 from .page import MOST_BYTES, make_page, read_sources
 from .wasm import MOST_MODULE, check_module
 
-DONE = 0
 MOST_MEBIBYTES = 4096
 
 
@@ -39,9 +38,9 @@ def _mebibytes(word: str) -> int:
 
 
 def _parser() -> argparse.ArgumentParser:
-    parser = argparse.ArgumentParser(
-        prog="vga-page", description="Makes the page that runs scripts in a browser.",
-        epilog="Exit status: 0 done; 2 the work can't be done.",
+    parser = cli.tool_parser(
+        "vga-page", "Makes the page that runs scripts in a browser.", "tools/vga-page make page/zaklimot.html",
+        "tools/README.md",
     )
     commands = parser.add_subparsers(required=True, metavar="COMMAND")
     command = commands.add_parser(
@@ -94,6 +93,7 @@ def _write(path: str, data: bytes, told: str) -> None:
 
 
 def _make(words: argparse.Namespace, progress: Progress) -> None:
+    _check_words(words)
     # What is wrong with the sources is told before the long work.
     sources = read_sources()
     module = _made_module(words, progress)
@@ -102,6 +102,7 @@ def _make(words: argparse.Namespace, progress: Progress) -> None:
 
 
 def _module(words: argparse.Namespace, progress: Progress) -> None:
+    _check_words(words)
     module = _made_module(words, progress)
     _write(words.file, module, check_module(module))
 
@@ -115,14 +116,6 @@ def _check_words(words: argparse.Namespace) -> None:
     check_file(words.file)
 
 
-def main(given: Optional[Sequence[str]] = None) -> int:
+def main(words: Optional[Sequence[str]] = None) -> int:
     """Runs a command line, and answers its exit status."""
-    progress = Progress()
-
-    def work() -> int:
-        words = _parser().parse_args(given)
-        _check_words(words)
-        words.job(words, progress)
-        return DONE
-
-    return cli.run("vga-page", work, progress)
+    return cli.main(_parser, words)

@@ -8,8 +8,8 @@ from pathlib import Path
 from typing import Callable, Optional, Sequence
 
 from vga_library.gated import proving_words
-from vga_library.running import Hearer, run, run_both
 from vga_library.toolchain import CRATE, kit_folder
+from vga_report.processes import Hearer, run, run_both
 from vga_report.trouble import Trouble
 
 from .retargeting import CPU, WASM, retargeted

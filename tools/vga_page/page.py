@@ -10,7 +10,8 @@ from itertools import takewhile
 from pathlib import Path
 from typing import Any, NamedTuple
 
-from vga_library.header import TOP, version
+from vga_report import TOP
+from vga_report.version import version
 from vga_library.making import FONTS
 from vga_report.debugging import PAGE, data_element
 from vga_report.trouble import Trouble

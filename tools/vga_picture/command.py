@@ -8,14 +8,14 @@ import sys
 from typing import Optional, Sequence
 
 from vga_report import cli
-from vga_report.output import AGREED, name_of, refuse_twice
 from vga_report.images import image_bytes
+from vga_report.output import AGREED, name_of, refuse_twice
 from vga_report.png import Shape, write_png
 from vga_report.program import FONTS
 from vga_report.progress import Progress
-from vga_report.script import MOST_BYTES
 from vga_report.streams import STANDARD, read_at_most, refuse_input, to_read, writing
 from vga_report.trouble import Trouble
+from zaklimot.format import MOST_BYTES
 
 from .cells import font_of
 from .colours import Fewer, indexed, six_bits
@@ -30,8 +30,9 @@ WAYS = {
 
 
 def _parser() -> argparse.ArgumentParser:
-    parser = argparse.ArgumentParser(
-        prog="vga-picture", description="Makes scripts that draw an image. `-` is standard input, or standard output."
+    parser = cli.tool_parser(
+        "vga-picture", "Makes scripts that draw an image. `-` is standard input, or standard output.",
+        "tools/vga-picture script card.png card.vga --mode 12", "docs/PICTURES.md",
     )
     commands = parser.add_subparsers(required=True, metavar="COMMAND")
     command = commands.add_parser("script", help="makes a script that draws an image")
@@ -109,11 +110,4 @@ def _script(words: argparse.Namespace, progress: Progress) -> int:
 
 def main(words: Optional[Sequence[str]] = None) -> int:
     """Runs a command line, and answers its exit status."""
-    progress = Progress()
-
-    def work() -> int:
-        parsed = _parser().parse_args(words)
-        status: int = parsed.job(parsed, progress)
-        return status
-
-    return cli.run("vga-picture", work, progress)
+    return cli.main(_parser, words)

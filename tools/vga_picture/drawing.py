@@ -5,8 +5,8 @@ from __future__ import annotations
 from dataclasses import dataclass
 from typing import Callable, Iterator, Sequence
 
-from vga_report.picture import Picture
 from vga_trace.step import FRAME, Step
+from zaklimot.format import Picture
 
 from .areas import Areas
 from .cells import cells_of, put_cells, rows_of, typed_cells

@@ -2,20 +2,14 @@
 
 from __future__ import annotations
 
-import struct
 from collections import Counter
 from dataclasses import dataclass, field
 from typing import BinaryIO, Iterable, Sequence, Union
 
 from vga_report.trouble import Trouble
-from vga_trace.step import FRAME, HEADER, MOST_BYTES, NAMES, Step
-
-VERSION_2 = 2
-# Steps that a script may mean.
-MOST_STEPS = 1 << 24
-MOST_ROUNDS = 0xFFFF
-SERVICE = struct.Struct("<BHHHHH")
-INT, REPEAT, END = 0x09, 0x0D, 0x0E
+from vga_trace.step import Step
+from zaklimot import format
+from zaklimot.format import END, FIRST_LINE, HEADERS, MOST_BYTES, MOST_STEPS, REPEAT
 
 
 @dataclass(frozen=True)
@@ -29,15 +23,18 @@ class Service:
     dx: int = 0
     block: bytes = b""
 
+    @property
+    def step(self) -> format.Step:
+        """The step of a script."""
+        return format.Step("int", (self.ax, self.bx, self.cx, self.dx), self.block)
+
     def data(self) -> bytes:
         """The step as bytes of a script."""
-        return SERVICE.pack(INT, self.ax, self.bx, self.cx, self.dx, len(self.block)) + self.block
+        return format.encoded(self.step)
 
     def text(self) -> bytes:
         """The step as a line; registers that are 0 are left out."""
-        registers = {"ax": self.ax, "bx": self.bx, "cx": self.cx, "dx": self.dx}
-        words = ["int", *(f"{name}={value:X}" for name, value in registers.items() if value or name == "ax")]
-        return " ".join([*words, *(["block", self.block.hex().upper()] if self.block else [])]).encode() + b"\n"
+        return format.printed(self.step, is_short=True).encode() + b"\n"
 
 
 @dataclass(frozen=True)
@@ -49,11 +46,12 @@ class Repeat:
 
     def data(self) -> bytes:
         """The block as bytes of a script."""
-        return bytes([REPEAT, self.count & 0xFF, self.count >> 8]) + data_of(self.steps) + bytes([END])
+        return format.encoded(format.Block(self.count, tuple(step.step for step in self.steps)))
 
     def text(self) -> bytes:
         """The block as lines."""
-        return b"repeat %d\n" % self.count + b"".join(step.text() for step in self.steps) + b"end\n"
+        lines = b"".join(step.text() for step in self.steps)
+        return f"{REPEAT} {self.count}\n".encode() + lines + f"{END}\n".encode()
 
 
 Item = Union[Step, Service, Repeat]
@@ -88,11 +86,9 @@ class Figures:
             for step in item.steps:
                 self.add(step, item.count)
             return
-        self.kinds["int" if isinstance(item, Service) else NAMES[item.opcode]] += times
-        if isinstance(item, Service):
-            self.cycles += times * item.cycles
-        elif item.opcode != FRAME:
-            self.cycles += times
+        name = item.step.name
+        self.kinds[name] += times
+        self.cycles += times * (item.cycles if isinstance(item, Service) else name != "frame")
 
     def line(self) -> str:
         """The figures as they are told."""
@@ -104,7 +100,7 @@ class Figures:
 
 def _lines(parts: Sequence[Part], answer: str, is_version_2: bool) -> bytes:
     """A script as text. The answer is what its last step, the frame, is expected to give."""
-    lines = [b"; %s\n" % parts[0].note.encode(), b"version 2\n" if is_version_2 else b""]
+    lines = [b"; %s\n" % parts[0].note.encode(), f"{FIRST_LINE}\n".encode() if is_version_2 else b""]
     for number, part in enumerate(parts):
         lines.append(b"\n; %s\n" % part.note.encode() if number else b"")
         lines.extend(item.text() for item in part.items)
@@ -119,8 +115,7 @@ def write_script(stream: BinaryIO, parts: Sequence[Part], answer: str, is_text: 
         for item in part.items:
             figures.add(item)
     is_version_2 = figures.blocks > 0
-    data = bytes([*HEADER[:-1], VERSION_2 if is_version_2 else HEADER[-1]])
-    data += b"".join(data_of(part.items) for part in parts)
+    data = HEADERS[2 if is_version_2 else 1] + b"".join(data_of(part.items) for part in parts)
     lines = _lines(parts, answer, is_version_2) if is_text else b""
     if max(len(data), len(lines)) > MOST_BYTES or sum(figures.kinds.values()) > MOST_STEPS:
         raise Trouble(f"the script would be longer than {MOST_BYTES:,} bytes or steps")

@@ -7,11 +7,12 @@ import os
 from pathlib import Path
 from typing import Optional, Sequence
 
-from vga_library.header import TOP, version
-from vga_library.running import Hearer, run
+from vga_report import TOP
+from vga_report.version import version
 from vga_library.telling import phases
 from vga_library.toolchain import BACKENDS, proved_archive
 from vga_report import cli
+from vga_report.processes import Hearer, run
 from vga_report.progress import Progress
 from vga_report.streams import check_folder, to_read, writing
 from vga_report.trouble import Trouble
@@ -20,16 +21,18 @@ from .commit import clean_commit
 from .gathering import release_entries
 from .packing import pack
 
-DONE = 0
 PROGRAM = TOP / "crates" / "vga"
 MACHINE = "x86_64-linux"
 
 
 def _parser() -> argparse.ArgumentParser:
-    parser = argparse.ArgumentParser(prog="vga-release", description="Packs a release of what is checked out.")
+    parser = cli.tool_parser(
+        "vga-release", "Packs a release of what is checked out.", "tools/vga-release release", "docs/RELEASE.md"
+    )
     parser.add_argument("folder", type=Path, metavar="FOLDER", help="where the archive goes")
     parser.add_argument("--program", type=to_read, metavar="FILE", help="the program, built already; else `rt run` proves and builds it")
     parser.add_argument("--archive", type=to_read, metavar="FILE", help="the same of the library; else `rt lib` does")
+    parser.set_defaults(job=_release)
     return parser
 
 
@@ -63,13 +66,6 @@ def _release(words: argparse.Namespace, progress: Progress) -> None:
     print(path)
 
 
-def main(given: Optional[Sequence[str]] = None) -> int:
+def main(words: Optional[Sequence[str]] = None) -> int:
     """Runs a command line, and answers its exit status."""
-
-    progress = Progress()
-
-    def work() -> int:
-        _release(_parser().parse_args(given), progress)
-        return DONE
-
-    return cli.run("vga-release", work, progress)
+    return cli.main(_parser, words)

@@ -6,10 +6,10 @@ import io
 import tarfile
 from typing import NamedTuple, Sequence
 
-from vga_library.header import TOP
+from vga_report import TOP
+from vga_report.processes import output_of
 from vga_report.trouble import Trouble
 
-from .running import output_of
 
 EXECUTABLE = 0o100
 

@@ -9,17 +9,17 @@ import tempfile
 from pathlib import Path
 from typing import Mapping
 
-from vga_library.header import TOP
+from vga_report import TOP
 from vga_library.making import MOVING, Place, make_library
 from vga_library.toolchain import kit_archive
+from vga_report.processes import output_of
 
 from .commit import Commit, File, files_of
 from .packing import Entry
-from .running import output_of
 
 # What of the commit goes into a release, where it lies in the repository.
 PATHS = (
-    "LICENSE", "README.md", "crates/vga_suite/data", "docs", "examples", "fonts", "include",
+    "LICENSE", "README.md", "bindings/python/src", "crates/vga_suite/data", "docs", "examples", "fonts", "include",
     "page/zaklimot.html", "tools/README.md", "tools/vga-report", "tools/vga_report",
 )
 PAGE, COPY = "docs/RELEASE.md", "RELEASE.md"

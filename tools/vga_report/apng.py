@@ -6,7 +6,8 @@ import struct
 import zlib
 from typing import BinaryIO
 
-from .picture import Picture
+from zaklimot.format import Picture
+
 from .png import COMPRESSION, SIGNATURE, Shape, chunk, shaped_rows
 from .trouble import Trouble
 

@@ -4,7 +4,8 @@ from __future__ import annotations
 
 from typing import Iterator
 
-from .picture import Picture
+from zaklimot.format import Picture
+
 from .png import WIDENED
 
 UPPER_HALF = "\u2580"

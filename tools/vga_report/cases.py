@@ -4,13 +4,15 @@ from __future__ import annotations
 
 import re
 from dataclasses import dataclass
-from itertools import chain, islice, repeat, takewhile
+from io import BytesIO
+from itertools import islice, takewhile
 from pathlib import Path
-from typing import Iterable, Iterator, Optional, Sequence
+from typing import Iterator, Optional, Sequence
+
+from zaklimot.format import FAULT, MOST_BYTES, STATE, Answer, lines_in, steps_in
+from zaklimot.format.report import REFUSAL, VALUE
 
 from .expected import Expected
-from .report import FAULT, REFUSAL, VALUE, Step
-from .script import MOST_BYTES, steps_of
 from .streams import STANDARD, bytes_of, read_at_most, shown_name
 from .trouble import Trouble
 
@@ -18,10 +20,10 @@ CASE = re.compile(r"(?P<bytes>bytes )?(?P<name>[^ ]+)( until (?P<steps>[0-9]+))?
 HEX = re.compile(r"([0-9A-Fa-f]{2})(\*([1-9][0-9]{0,7}))?")
 # So much of a step is shown.
 MOST_WORDS = 60
-# What a run that stops after so many steps shows, as if these steps stood next.
 # How the registers of a call begin in its answer.
 CALLED = "ax="
-LOOKS = b"show regs\nshow beam\nshow latches\nshow bda\n"
+# What a run that stops after so many steps shows, as if these steps stood next.
+LOOKS = "".join(f"{step}\n" for step in STATE).encode()
 
 
 @dataclass(frozen=True)
@@ -77,7 +79,7 @@ class Case:
             return ""
         behind = number
         for file in (self.front, self.source):
-            steps = steps_of(bytes_of(file, MOST_BYTES)) if file else []
+            steps = list(steps_in(BytesIO(bytes_of(file, MOST_BYTES)))) if file else []
             if behind <= len(steps):
                 step = steps[behind - 1]
                 return printable(f"`{step.words[:MOST_WORDS]}`, {file.relative_to(self.folder)}:{step.number}")
@@ -109,13 +111,13 @@ class Case:
         taken = sum(1 for _ in takewhile(_is_taken, self._expected_steps()))
         return self.script() if self.is_bytes else _front_of(self.stopped_script(), taken)
 
-    def _expected_steps(self) -> Iterator[Step]:
+    def _expected_steps(self) -> Iterator[Answer]:
         """The steps of the report that is expected."""
         with open(self.expected, "rb") as stream:
             yield from Expected(stream, str(self.expected)).steps()
 
 
-def _is_taken(step: Step) -> bool:
+def _is_taken(step: Answer) -> bool:
     """Whether a step is not to be refused."""
     return step.kind != REFUSAL
 
@@ -137,39 +139,15 @@ def _bytes_of(source: bytes, path: Path) -> bytes:
     return b"".join(parts)
 
 
-def _words(line: bytes) -> list[bytes]:
-    """The words of a line, in lower case."""
-    return line.partition(b";")[0].lower().split()
-
-
-def _steps(lines: Iterable[bytes]) -> Iterator[bytes]:
-    """The lines of the steps that a script of version 2 means: those of a block so many times as it counts."""
-    count, block = 0, None
-    for line in lines:
-        words = _words(line)
-        if not words or words[0] == b"version":
-            continue
-        if words[0] == b"repeat":
-            count, block = int(words[1]), []
-        elif words[0] == b"end":
-            yield from chain.from_iterable(repeat(block or [], count))
-            block = None
-        elif block is None:
-            yield line
-        else:
-            block.append(line)
-
-
 def _front_of(text: bytes, steps: int) -> bytes:
     """The lines of a script up to so many steps, whole lines each; those of version 2 without blocks."""
-    lines = text.split(b"\n")
-    if next(filter(None, map(_words, lines)), [])[:1] == [b"version"]:
-        return b"".join(line + b"\n" for line in islice(_steps(lines), steps))
-    is_step = [bool(line.partition(b";")[0].strip(b" \t\r")) for line in lines]
-    places = [at for at, is_one in enumerate(is_step) if is_one]
-    if steps >= len(places):
+    first = next(lines_in(BytesIO(text)), None)
+    lines = list(islice(steps_in(BytesIO(text)), steps + 1))
+    if first is not None and first.has_blocks:
+        return "".join(f"{line.words}\n" for line in lines[:steps]).encode("utf-8", "surrogateescape")
+    if len(lines) <= steps:
         return text if text.endswith(b"\n") else text + b"\n"
-    return b"".join(line + b"\n" for line in lines[:places[steps]])
+    return b"".join(line + b"\n" for line in text.split(b"\n")[:lines[steps].number - 1])
 
 
 def read_cases(path: str) -> list[Case]:

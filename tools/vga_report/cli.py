@@ -1,23 +1,58 @@
-"""How a tool begins and ends, whatever it does: its streams, its signals, its exit status, and what it says at last."""
+"""How each tool begins and ends: its words and help, its streams, its signals, its exit status, and what it says at last."""
 
 from __future__ import annotations
 
+import argparse
 import os
 import signal
 import sys
 from contextlib import contextmanager
-from typing import Callable, Iterator, Optional
+from typing import IO, Callable, Iterator, Optional, Sequence
 
 from .progress import Progress
-from .trouble import Trouble
+from .trouble import TROUBLE, Trouble
+from .version import version
 
-# The exit status where the work can't be done.
-TROUBLE = 2
 # What a shell says of programs that a closed pipe, the user, or the system has ended.
 PIPE_CLOSED, INTERRUPTED, SIGNALLED = 141, 130, 128
 # The signals that end a tool, apart from the user's own.
 ENDING = ("SIGTERM", "SIGHUP")
 NO_MEMORY = "there is not enough memory for this"
+
+
+# How the exit status reads of a tool that tells differences, and of one that does a job or doesn't.
+DIFFERS = "Exit status: 0 done, and nothing differs; 1 something differs; 2 the work can't be done."
+DOES = "Exit status: 0 done; 2 the work can't be done."
+JUDGES = "Exit status: 0 all is right; 1 something is wrong; 2 the work can't be done."
+
+
+class _Version(argparse.Action):
+    """Prints the release's number, and ends the tool."""
+
+    def __init__(self, option_strings: Sequence[str], dest: str) -> None:
+        super().__init__(option_strings, dest, nargs=0, help="prints the release's number")
+
+    def __call__(self, parser: argparse.ArgumentParser, *_: object) -> None:
+        sys.stdout.write(f"{parser.prog} {version()}\n")
+        parser.exit()
+
+
+class _Parser(argparse.ArgumentParser):
+    """A parser that loses no trouble with what it prints, as a disk that is full."""
+
+    def _print_message(self, message: str, file: Optional[IO[str]] = None) -> None:
+        if message:
+            (file or sys.stderr).write(message)
+
+
+def tool_parser(name: str, does: str, example: str, page: str, statuses: str = DOES) -> argparse.ArgumentParser:
+    """The parser of a tool, whose help has an example of its use and names the page that tells more."""
+    made = _Parser(
+        prog=name, description=does, formatter_class=argparse.RawDescriptionHelpFormatter,
+        epilog=f"Example:\n  {example}\n\n{statuses}\n{page} tells more.",
+    )
+    made.add_argument("--version", action=_Version)
+    return made
 
 
 class Ended(BaseException):
@@ -71,16 +106,16 @@ def _done(name: str, work: Callable[[], int], progress: Optional[Progress]) -> i
     except BrokenPipeError:
         raise
     except Trouble as trouble:
-        reason = str(trouble)
+        status, reason = trouble.status, str(trouble)
     except OSError as error:
-        reason = _reason(error)
+        status, reason = TROUBLE, _reason(error)
     except MemoryError:
-        reason = NO_MEMORY
+        status, reason = TROUBLE, NO_MEMORY
     if progress is not None:
         progress.clear()
     sys.stdout.flush()
     sys.stderr.write(f"{name}: {reason}\n")
-    return TROUBLE
+    return status
 
 
 def _drop_output() -> None:
@@ -114,3 +149,18 @@ def run(name: str, work: Callable[[], int], progress: Optional[Progress] = None)
         progress.clear()
     _drop_output()
     return status
+
+
+def main(made: Callable[[], argparse.ArgumentParser], words: Optional[Sequence[str]] = None) -> int:
+    """Runs a tool by its words: its parser sets a `job`, which takes them and the progress, and answers a status or None."""
+    progress, parser = Progress(), made()
+
+    def work() -> int:
+        try:
+            parsed = parser.parse_args(words)
+        except SystemExit as ended:
+            # The words ask for help, or mean nothing: the tool ends as ever.
+            return int(ended.code or 0)
+        return parsed.job(parsed, progress) or 0
+
+    return run(parser.prog, work, progress)

@@ -10,9 +10,9 @@ from pathlib import Path
 from typing import Any, Optional
 from urllib.parse import quote
 
-from .faults import FONT_BYTES, MOST_BYTES
+from zaklimot.format import FONT_BYTES, MOST_BYTES, is_bytes
+
 from .program import TOP
-from .script import is_bytes
 from .streams import STANDARD, read_at_most
 from .trouble import Trouble
 

@@ -5,8 +5,9 @@ from __future__ import annotations
 from itertools import zip_longest
 from typing import Iterator, NamedTuple, Optional
 
-from .picture import Picture, different_dots
-from .report import REFUSAL, SKIPPED, Step
+from zaklimot.format import Answer, Picture
+from zaklimot.format.picture import different_dots
+from zaklimot.format.report import REFUSAL, SKIPPED
 
 END = "the end"
 DONE = "ok"
@@ -24,8 +25,8 @@ class Told(NamedTuple):
 class Difference(NamedTuple):
     """A step with two answers. Where one of the reports has ended, it has no step."""
 
-    step: Optional[Step]
-    other: Optional[Step]
+    step: Optional[Answer]
+    other: Optional[Answer]
 
     @property
     def number(self) -> int:
@@ -79,19 +80,22 @@ class Difference(NamedTuple):
         """What messages tell of it."""
         answer, other = self.answers()
         text = self.dots() or f"{answer}, not {other}"
+        lines = ["" if step is None else step.answer for step in self]
+        if lines[0] != lines[1] == lines[0].upper():
+            text += ": digits are upper case in a report"
         return Told(self.number, answer, other, f"{self.place}: {text}")
 
 
-def _first_line(step: Optional[Step]) -> str:
+def _first_line(step: Optional[Answer]) -> str:
     return END if step is None else step.answer
 
 
-def _with_kind(line: str, step: Step) -> str:
+def _with_kind(line: str, step: Answer) -> str:
     """A line that tells a refusal from a byte that was read."""
     return f"{line} ({step.kind})" if step.kind else line
 
 
-def _pictures(step: Step, other: Step) -> tuple[str, str]:
+def _pictures(step: Answer, other: Answer) -> tuple[str, str]:
     """Two pictures by what tells them apart: length and size, or else their sums."""
     assert step.picture is not None and other.picture is not None
     head, other_head = f"{step.answer} {step.picture.size}", f"{other.answer} {other.picture.size}"
@@ -118,7 +122,7 @@ class Comparison:
         self.answers = 0
         self.differing = 0
 
-    def differences(self, steps: Iterator[Step], others: Iterator[Step]) -> Iterator[Difference]:
+    def differences(self, steps: Iterator[Answer], others: Iterator[Answer]) -> Iterator[Difference]:
         """The steps that differ, up to the end of the shorter report. A step that was left out differs from none."""
         is_left = False
         for step, other in zip_longest(steps, others):
@@ -144,11 +148,11 @@ class Comparison:
                 yield Difference(step, other)
 
     @staticmethod
-    def _is_left_out(step: Step, other: Step) -> bool:
+    def _is_left_out(step: Answer, other: Answer) -> bool:
         """Whether one of two reports has no answer of a step."""
         return SKIPPED in (step.answer, other.answer)
 
-    def _must_agree(self, other: Step) -> bool:
+    def _must_agree(self, other: Answer) -> bool:
         """Whether not just any answer will do in the place of the other's."""
         return self._has_refusals or other.kind != REFUSAL
 
@@ -162,7 +166,7 @@ def _counted(count: int, what: str) -> str:
     return f"{count} {what}" if count == 1 else f"{count} {what}s"
 
 
-def _are_alike(step: Step, other: Step) -> bool:
+def _are_alike(step: Answer, other: Answer) -> bool:
     """Whether two steps answer the same."""
     if step.number != other.number or step.answer != other.answer or step.others != other.others:
         return False

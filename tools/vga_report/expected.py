@@ -5,8 +5,9 @@ from __future__ import annotations
 import re
 from typing import BinaryIO, Iterator, Optional
 
-from .picture import Digest, Picture
-from .report import FAULT, MOST_LINE, TEXT, Step
+from zaklimot.format import FAULT, Answer, Digest, Picture
+from zaklimot.format.report import MOST_LINE, TEXT
+
 from .trouble import Trouble
 
 OK_STEPS = re.compile(r"([1-9][0-9]*)-([1-9][0-9]*) ok")
@@ -26,7 +27,7 @@ class Expected:
         # The line that was read last and isn't used yet.
         self._waiting: Optional[str] = None
 
-    def steps(self) -> Iterator[Step]:
+    def steps(self) -> Iterator[Answer]:
         """The steps in their order."""
         text = self._next_line()
         while text is not None:
@@ -37,28 +38,28 @@ class Expected:
                 yield self._step(text)
             text = self._next_line()
 
-    def _ok_steps(self, first: int, last: int) -> Iterator[Step]:
+    def _ok_steps(self, first: int, last: int) -> Iterator[Answer]:
         """The steps that a line such as `1-35 ok` stands for."""
         if first > last:
             raise self._trouble(f"no steps lead from {first} to {last}")
         for number in range(first, last + 1):
-            yield Step(self._counted(number), self._line, "ok")
+            yield Answer(self._counted(number), self._line, "ok")
 
-    def _step(self, text: str) -> Step:
+    def _step(self, text: str) -> Answer:
         """The step that begins with a line."""
         if self._number == 0 and FAULT.fullmatch(text):
-            return Step(0, self._line, text)
+            return Answer(0, self._line, text)
         found = STEP.fullmatch(text)
         if found is None:
             raise self._trouble(f"no step: '{text[:40]}'")
         number, line = self._counted(int(found[1])), self._line
         picture = PICTURE.fullmatch(found[2])
         if picture is None:
-            return Step(number, line, found[2], tuple(self._other_lines()))
+            return Answer(number, line, found[2], tuple(self._other_lines()))
         length, size, width, height, digest = int(picture[2]), picture[3], int(picture[4]), int(picture[5]), picture[7]
         if digest is not None:
-            return Step(number, line, picture[1], (), Digest(length, size, digest))
-        return Step(number, line, picture[1], (), self._picture(length, width, height))
+            return Answer(number, line, picture[1], (), Digest(length, size, digest))
+        return Answer(number, line, picture[1], (), self._picture(length, width, height))
 
     def _counted(self, number: int) -> int:
         """A step's number, which is to be one more than the last."""

@@ -5,15 +5,21 @@ from __future__ import annotations
 import hashlib
 import re
 
-from .grammar import READING, REGISTERS
-from .report import Step
+from zaklimot.format import BLOCK_LINES, READING, REGISTERS, Answer
+
+from .dumps import differing
+from .mistakes import text_of
+from .script import expected_in
+from .trouble import Trouble
 
 ANY = "*"
+# What a line begins with that has a line of a dump, below the step that is to answer it.
+DUMPED = ";|"
 FRONT = "..."
 REFUSAL = re.compile(r"(E[1-9][0-9]?) [A-Za-z]+")
 
 
-def answer_of(step: Step) -> str:
+def answer_of(step: Answer) -> str:
     """An answer on one line: a picture by size and digest, a dump of several lines by their number and digest."""
     if step.picture is not None:
         return f"picture {step.picture.size} {step.picture.sum}"
@@ -23,7 +29,7 @@ def answer_of(step: Step) -> str:
     return step.answer
 
 
-def is_as_expected(step: Step, expected: str, name: str) -> bool:
+def is_as_expected(step: Answer, expected: str, name: str) -> bool:
     """Whether a step of this name answers what is expected of it."""
     answer = answer_of(step).lower()
     wanted = expected.lower()
@@ -51,6 +57,35 @@ def handed_in(words: str) -> str:
     return " ".join(f"{name}={given.get(name, '0'):0>4}" for name in REGISTERS)
 
 
-def is_worth_telling(step: Step, words: str) -> bool:
+def is_worth_telling(step: Answer, words: str) -> bool:
     """Whether `--bless` writes an answer in: not where it is `ok`, or the registers that were handed in."""
     return step.answer not in ("ok", "skipped") and step.answer.lower() != handed_in(words)
+
+
+def dumps_in(data: bytes, name: str) -> dict[int, tuple[str, ...]]:
+    """The dumps that stand whole in a text, by the lines of their steps; a Trouble where no step is to give an answer."""
+    dumps: dict[int, list[str]] = {}
+    step = 0
+    for number, line in enumerate(data.split(b"\n"), 1):
+        front, _, comment = line.partition(b";")
+        words = front.split()
+        if not words and comment[:1] == b"|" and step:
+            dumps.setdefault(step, []).append(text_of(comment[1:]).strip())
+            continue
+        has_step = bool(words) and words[0].lower().decode("latin-1") not in BLOCK_LINES
+        step = number if has_step else 0
+        if not has_step and expected_in(comment) and comment.strip(b" =\t\r"):
+            raise Trouble(f"no step stands on this line, so nothing answers {expected_in(comment)}", name, number)
+    return {number: tuple(lines) for number, lines in dumps.items()}
+
+
+def what_differs(step: Answer, expected: str, name: str, dump: tuple[str, ...]) -> list[str]:
+    """What of an answer is otherwise than expected, by name, as far as that is more than both answers tell."""
+    refusal = REFUSAL.fullmatch(step.answer)
+    if refusal is not None:
+        is_byte = name in READING and re.fullmatch("e[1-9a-f]", expected.lower()) is not None
+        return [f"{expected} is a byte that is read here; the refusal is written {step.answer}"] if is_byte else []
+    if dump:
+        return differing(step.lines, dump) or ["the lines below it agree, and its digest is that of others"]
+    is_whole = name == "show" and expected.split(" ")[0] == step.answer.split(" ")[0] and not expected.endswith(FRONT)
+    return differing([step.answer], [expected]) if is_whole and not step.others else []

@@ -2,25 +2,24 @@
 
 from __future__ import annotations
 
-import re
 from pathlib import Path
 from typing import NamedTuple, Optional
 
-from .mistakes import Mistake, marked_lines, mistake_among_lines, mistake_in
-from .script import MAGIC, MOST_STEPS, text_of
+from zaklimot.format import FAULT, FAULTS, FONT_BYTES, FORMS, HEADERS, MAGIC, MOST_BYTES, MOST_STEPS, OPCODES, SHOWN
+from zaklimot.format.table import END_CODE, REPEAT_CODE
 
-FAULT = re.compile(r"F([1-9][0-9]?) ([A-Za-z]+)(?:\(([0-9]+)\))?")
-FONT_BYTES = 9_728
-MOST_BYTES = 16_777_216
-VERSIONS = (1, 2)
-OPCODES = {
-    1: "out", 2: "outw", 3: "in", 4: "inw", 5: "put", 6: "putw", 7: "get", 8: "getw", 9: "int", 10: "advance",
-    11: "frame", 12: "show", 13: "repeat", 14: "end",
-}
+from .mistakes import Mistake, marked_lines, mistake_among_lines, mistake_in, text_of
+
 UNKNOWN = "refused, and I can't say why"
+NO_SCRIPT = "this is no script"
 WITHOUT_MARK = "save the text as UTF-8 without it"
-
-
+# Files of other kinds, by what they begin with; bytes that no text has; and how much of a file's front is looked at.
+FOREIGN = {
+    b"\x89PNG": "a PNG image", b"GIF8": "a GIF image", b"\xff\xd8\xff": "a JPEG image", b"P6": "a PPM image",
+    b"\x1f\x8b": "a file packed by gzip", b"PK\x03\x04": "a ZIP archive", b"\x7fELF": "a program",
+}
+CONTROLS, LOOKED_AT = set(range(32)) - set(b"\t\n\v\f\r"), 200
+SHOWS = FORMS["show regs"].opcode
 # The file, and the line of it, where a fault arose, and its reason.
 Told = tuple[str, str]
 
@@ -47,14 +46,15 @@ def _reason(name: str, place: Optional[int], files: Files) -> Optional[Told]:
     if name == "ReadFault":
         return _read_fault(files)
     if name == "FontSize":
-        return _font_size(files.fonts)
-    if name == "BadLine" and place is not None:
-        return _bad_line(files.script, place)
+        return _font_size(files.fonts, _read(files.fonts))
     if name == "WriteFault":
         return files.script, "what the program writes could not be written: the disk may be full"
     if name == "OutOfMemory":
         return files.script, "the system gave the program no more memory"
-    return _fault_of_script(name, place, files.script)
+    if name not in FAULTS:
+        return None
+    where = f"{files.script}:{place}" if FAULTS[name].place == "line" else files.script
+    return where, reason_of(name, place, _read(files.script))
 
 
 def _why_unread(path: str) -> Optional[str]:
@@ -90,8 +90,7 @@ def _read(path: str) -> bytes:
         return b""
 
 
-def _font_size(path: str) -> Optional[Told]:
-    data = _read(path)
+def _font_size(path: str, data: bytes) -> Optional[Told]:
     if len(data) == FONT_BYTES:
         return None
     hint = ""
@@ -103,81 +102,101 @@ def _font_size(path: str) -> Optional[Told]:
     return path, f"the font file has {count} bytes, and {FONT_BYTES:,} are right{hint}"
 
 
-def _bad_line(path: str, number: int) -> Optional[Told]:
+def reason_of(name: str, place: Optional[int], data: bytes) -> str:
+    """The reason of a fault of this name in the bytes of a script, as far as it is found."""
+    if name == "BadLine" and place is not None:
+        return _bad_line(data, place) or UNKNOWN
+    if name == "TooLong":
+        what = "file has" if len(data) > MOST_BYTES else "steps of the text have"
+        return f"the {what} more bytes, and {MOST_BYTES:,} bytes are the most"
+    if name == "BadMagic":
+        none = not_a_script(data)
+        looks = "this looks like a text, which `vga go` runs" if data and none is None else none or NO_SCRIPT
+        begins = " ".join(f"{byte:02X}" for byte in data[:4]) or "nothing"
+        return f"a script of bytes begins with 56 47 41 53, VGAS, and not with {begins}: {looks}"
+    if name == "BadVersion":
+        return f"the version, byte 4, is {data[4]:02X}, and there are {' and '.join(f'{version:02X}' for version in HEADERS)}"
+    if name == "TooMany":
+        at = "" if place is None else f" at {place}"
+        return f"with the block or step{at} the script means more than {MOST_STEPS:,} steps"
+    if name in ("BadStep", "Truncated") and place is not None:
+        return _bad_step(data, place) if name == "BadStep" else _truncated(data, place)
+    return UNKNOWN
+
+
+def _bad_line(data: bytes, number: int) -> Optional[str]:
     """The reason of a line that is no step, with the line and a mark below the word."""
-    data = _read(path)
     lines = data.split(b"\n")
     if not 1 <= number <= len(lines):
         return None
-    place = f"{path}:{number}"
-    whole = _encoding_of(data) if number == 1 else None
+    whole = _wrong_whole(data) if number == 1 else None
     if whole is not None:
-        return place, whole
+        return whole
     line = text_of(lines[number - 1])
     mistake = mistake_in(line)
     shown = list(marked_lines(line, mistake or Mistake(0, 0, "")))
-    reason, lines_shown = (UNKNOWN, shown[:1]) if mistake is None else (mistake.reason, shown)
     if mistake is None:
-        reason = mistake_among_lines(data, number) or reason
-    return place, "\n  ".join([reason, *lines_shown])
+        return "\n  ".join([mistake_among_lines(data, number) or UNKNOWN, shown[0]])
+    return "\n  ".join([mistake.reason, *shown])
 
 
-def _encoding_of(data: bytes) -> Optional[str]:
+def _wrong_whole(data: bytes) -> Optional[str]:
     """What is wrong with a text as a whole that its first line shows."""
-    if data.startswith((b"\xff\xfe", b"\xfe\xff")) or data[1:2] == b"\0" or data[:1] == b"\0":
+    if data.startswith(MAGIC):
+        return "this is a script of bytes: `vga run` runs it, and `vga dis` prints it as text"
+    if _is_utf_16(data):
         return "the text is UTF-16, of two bytes a letter: save it as UTF-8 or ASCII"
     if data.startswith(b"\xef\xbb\xbf"):
         return f"the text begins with a byte order mark: {WITHOUT_MARK}"
-    if data.startswith(MAGIC):
-        return "this is a script of bytes: `vga run` runs it, and `vga dis` prints it as text"
+    none = not_a_script(data)
+    if none is not None:
+        return none
     if b"\n" not in data and b"\r" in data.strip():
         return "lines end with a newline, and this text has carriage returns alone: it is one line"
     return None
 
 
-def _fault_of_script(name: str, place: Optional[int], path: str) -> Optional[Told]:
-    """The reason of a fault of a script of bytes, or of one that is too long."""
-    data = _read(path)
-    if name == "TooLong":
-        return path, _too_long(data)
-    if name == "BadMagic":
-        looks = "this looks like a text, which `vga go` runs" if _is_text(data) else "this is no script"
-        begins = " ".join(f"{byte:02X}" for byte in data[:4]) or "nothing"
-        return path, f"a script of bytes begins with 56 47 41 53, VGAS, and not with {begins}: {looks}"
-    if name == "BadVersion":
-        return path, f"the version, byte 4, is {data[4]:02X}, and there are {' and '.join(f'{version:02X}' for version in VERSIONS)}"
-    if name == "TooMany":
-        at = "" if place is None else f" at {place}"
-        return path, f"with the block or step{at} the script means more than {MOST_STEPS:,} steps"
-    if name in ("BadStep", "Truncated") and place is not None:
-        return path, _bad_step(data, place) if name == "BadStep" else _truncated(data, place)
-    return None
+def not_a_script(data: bytes) -> Optional[str]:
+    """What a file is that is neither a text nor bytes of a script; None where it may be one."""
+    for begin, what in FOREIGN.items():
+        if data.startswith(begin):
+            return f"this is not a script, but {what}"
+    if not data or not CONTROLS & set(data[:LOOKED_AT]):
+        return None
+    if len(data) == FONT_BYTES:
+        return "this is not a script, but a font file"
+    return "this is not a script: it has bytes that no text has"
 
 
-def _too_long(data: bytes) -> str:
-    most = f"{MOST_BYTES:,} bytes are the most"
-    if len(data) > MOST_BYTES:
-        return f"the file has more bytes, and {most}"
-    return f"the steps of the text have more bytes, and {most}"
+def _is_utf_16(data: bytes) -> bool:
+    """Whether each other byte of a file's front is 0, as of letters of two bytes, and the others are a text."""
+    begin = 2 if data.startswith((b"\xff\xfe", b"\xfe\xff")) else 0
+    pairs = data[begin:begin + LOOKED_AT // 2 * 2]
+    for low, high in ((pairs[0::2], pairs[1::2]), (pairs[1::2], pairs[0::2])):
+        if high and not any(high) and low and _is_text(low):
+            return True
+    return False
 
 
 def _is_text(data: bytes) -> bool:
-    return bool(data) and all(byte in b"\t\n\r" or byte >= 0x20 for byte in data[:200])
+    return bool(data) and not CONTROLS & set(data[:LOOKED_AT])
 
 
 def _bad_step(data: bytes, place: int) -> str:
     if place >= len(data):
         return UNKNOWN
-    opcode = data[place]
-    if opcode in (13, 14) and data[4:5] == b"\2":
-        wrong = "counts 0 or stands in another block" if opcode == 13 else "stands outside a block"
+    opcode, kind = data[place], data[place + 1:place + 2]
+    ends = (REPEAT_CODE, END_CODE)
+    if opcode in ends and data[4:5] == b"\2":
+        wrong = "counts 0 or stands in another block" if opcode == REPEAT_CODE else "stands outside a block"
         return f"the {OPCODES[opcode]} of a block at offset {place} {wrong}"
-    if opcode not in OPCODES or opcode in (13, 14):
+    if opcode not in OPCODES or opcode in ends:
         behind = "the bytes before it may be at fault"
-        return f"at offset {place} stands {opcode:02X}, which is no opcode: 01 to 0C are; {behind}"
-    if opcode == 12 and data[place + 1:place + 2] and data[place + 1] > 6:
-        return f"at offset {place} stands a show of kind {data[place + 1]:02X}, and the kinds are 00 to 06"
-    if opcode == 12:
+        return f"at offset {place} stands {opcode:02X}, which is no opcode: 01 to {SHOWS:02X} are; {behind}"
+    if opcode == SHOWS and kind and kind[0] >= len(SHOWN):
+        last = f"{len(SHOWN) - 1:02X}"
+        return f"at offset {place} stands a show of kind {kind[0]:02X}, and the kinds are 00 to {last}"
+    if opcode == SHOWS:
         wrong = "with a plane above 3, no bytes, more than 256, or past the plane's end"
         return f"at offset {place} stands a show plane {wrong}"
     return UNKNOWN

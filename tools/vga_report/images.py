@@ -8,7 +8,8 @@ import zlib
 from dataclasses import dataclass
 from typing import Iterator, Sequence
 
-from .picture import Picture
+from zaklimot.format import Picture
+
 from .png import MOST_DOTS, SIGNATURE
 from .streams import read_at_most
 from .trouble import Trouble

@@ -5,11 +5,12 @@ from __future__ import annotations
 from pathlib import Path
 from typing import Iterator, Optional
 
+from zaklimot.format import Answer, Picture
+
 from .cases import Case
 from .expected import Expected
-from .picture import Picture
 from .png import Shape, write_marked_png, write_png
-from .report import Report, Step
+from .report import Report
 from .streams import write_file, writing
 from .trouble import Trouble
 
@@ -41,7 +42,7 @@ def _write_pictures(stem: str, picture: Optional[Picture], expected: object) -> 
             write_marked_png(stream, picture, wanted, Shape())
 
 
-def _pictures_of(report: Path) -> Iterator[Step]:
+def _pictures_of(report: Path) -> Iterator[Answer]:
     """The steps of a report that have a picture, up to its damage if it is damaged."""
     with open(report, "rb") as stream:
         try:
@@ -50,7 +51,7 @@ def _pictures_of(report: Path) -> Iterator[Step]:
             return
 
 
-def expected_pictures(case: Case) -> Iterator[Step]:
+def expected_pictures(case: Case) -> Iterator[Answer]:
     """The steps of a case whose expected picture stands in the suite with all its dots."""
     with open(case.expected, "rb") as stream:
         steps = Expected(stream, str(case.expected)).steps()

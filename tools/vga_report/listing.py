@@ -10,17 +10,19 @@ from itertools import islice, zip_longest
 from pathlib import Path
 from typing import BinaryIO, Iterator, NamedTuple, Optional, Union
 
-from .expecting import answer_of, is_as_expected
+from zaklimot.format import STATE, Answer, Line, count_in, is_bytes, steps_in
+from zaklimot.format.report import REFUSAL, VALUE
+
+from .expecting import ANY, answer_of, dumps_in, is_as_expected, what_differs
 from .faults import Files, explained
 from .processes import IS_POSIX
 from .program import Built, Tried
 from .progress import Progress
-from .report import REFUSAL, VALUE, Report, Step
-from .script import Line, count_in, is_bytes, steps_in
+from .refusals import State, step_of, why_refused
+from .report import Report
+from .script import expected_in
 from .trouble import Trouble
 
-# What a stopped run shows behind the last step.
-LOOKS = ("show regs", "show beam", "show latches", "show bda")
 HEADING = "step as understood"
 # Seconds between two looks whether there is an answer.
 PAUSE = 0.2
@@ -29,16 +31,22 @@ EMPTY = 5
 # The widest column of steps; what is longer has its end cut off.
 MOST_WORDS = 47
 RANGE = re.compile(r"([0-9]{1,10})(?:-([0-9]{1,10}))?")
+# How the steps begin that refusals hang on: of ports, and calls.
+KNOWN = ("ou", "in")
 KINDS = ("refused", "read", "pictures", "dumps", "differs")
 
 
 class Row(NamedTuple):
     """A step with its answer."""
 
-    step: Step
+    step: Answer
     words: str
     line: Optional[int] = None
     expected: Optional[str] = None
+    # A dump that is expected, where it stands whole; why the step was refused; whether a refusal must be expected.
+    dump: tuple[str, ...] = ()
+    why: str = ""
+    is_strict: bool = False
 
     @property
     def name(self) -> str:
@@ -48,17 +56,32 @@ class Row(NamedTuple):
     @property
     def is_wrong(self) -> bool:
         """Whether another answer was expected."""
-        return self.expected is not None and not is_as_expected(self.step, self.expected, self.name)
+        if self.expected is None:
+            return self.is_strict and self.is_refused
+        is_other = bool(self.dump) and self.expected != ANY and self.dump != self.step.lines
+        return is_other or not is_as_expected(self.step, self.expected, self.name)
+
+    @property
+    def is_refused(self) -> bool:
+        """Whether the step was refused."""
+        return self.step.kind == REFUSAL
+
+    def mismatch(self) -> str:
+        """What an answer is in the place of the one that was expected."""
+        if self.expected is None:
+            return f"answers {self.step.answer}, and no refusal is expected"
+        named = what_differs(self.step, self.expected, self.name, self.dump)
+        return f"answers {answer_of(self.step)}, not {self.expected}" + (f": {'; '.join(named)}" if named else "")
 
     @property
     def kinds(self) -> set[str]:
         """What `--only` may call it."""
         step = self.step
         has = {
-            "refused": step.kind == REFUSAL,
+            "refused": self.is_refused,
             "read": step.kind == VALUE,
             "pictures": step.picture is not None or step.answer == "ragged",
-            "dumps": self.name == "show" and step.kind != REFUSAL,
+            "dumps": self.name == "show" and not self.is_refused,
             "differs": self.is_wrong,
         }
         return {kind for kind, is_so in has.items() if is_so}
@@ -74,7 +97,11 @@ class Choice:
         for word in () if text is None else text.split(","):
             found = RANGE.fullmatch(word)
             if found is not None:
-                self._ranges.append((int(found[1]), int(found[2] or found[1])))
+                first, last = int(found[1]), int(found[2] or found[1])
+                if not 1 <= first <= last:
+                    reason = "steps are counted from 1" if not first else f"the range ends before it begins: {last}-{first}?"
+                    raise Trouble(f"--only {word}: {reason}")
+                self._ranges.append((first, last))
             elif word in KINDS:
                 self._kinds.add(word)
             else:
@@ -99,6 +126,7 @@ class Script:
         self.shown = shown
         self.is_bytes = is_bytes(data)
         self._text = None if self.is_bytes else io.BytesIO(data)
+        self._dumps = {} if self.is_bytes else dumps_in(data, shown)
         program.print_steps(self.path, self.is_bytes, printed)
         count = count_in(printed)
         meant = count if self._text is None else count_in(self._text)
@@ -121,7 +149,7 @@ class Script:
         printed = None if self._printed is None else steps_in(self._printed)
         if self._text is None:
             assert printed is not None
-            return ((line.words, Line(at, line.words, None)) for at, line in enumerate(printed, 1))
+            return ((line.words, Line(at, line.words)) for at, line in enumerate(printed, 1))
         lines = steps_in(self._text)
         if printed is None:
             return ((line.words, line) for line in lines)
@@ -131,7 +159,8 @@ class Script:
         self, program: Union[Built, Tried], fonts: str, until: Optional[int], progress: Progress
     ) -> Iterator[Row]:
         """The steps with their answers, as they come. A fault is told with its reason."""
-        lines, taken, looks = islice(self._lines(), until), 0, () if until is None else LOOKS
+        lines, taken, looks = islice(self._lines(), until), 0, () if until is None else STATE
+        state = State()
         with program.running(self.path, fonts, until, self.is_bytes) as outcome:
             _wait_for(outcome.report, self.shown, progress)
             report = Report(outcome.report, "the report", progress)  # type: ignore[arg-type]
@@ -141,7 +170,8 @@ class Script:
                 words, line = next(lines, (None, None))
                 if words is not None and line is not None:
                     taken += 1
-                    yield Row(step, words, line.number, line.expected)
+                    why = _why(words, step, state)
+                    yield Row(step, words, line.number, expected_in(line.comment), self._dumps.get(line.number, ()), why)
                 elif step.number <= taken + len(looks):
                     # Behind the last there are the looks of a stopped run.
                     yield Row(step, looks[step.number - taken - 1])
@@ -163,6 +193,16 @@ class Script:
             raise Trouble(f"the report ends after {answered:,} of {wanted:,} steps", self.shown)
 
 
+def _why(words: str, answer: Answer, state: State) -> str:
+    """Why a step was refused, if it was; else the state takes it."""
+    if answer.refusal:
+        return why_refused(words, answer.refusal, state)
+    step = step_of(words) if words[:2].lower() in KNOWN else None
+    if step is not None:
+        state.take(step)
+    return ""
+
+
 def _wait_for(report: BinaryIO, shown: str, progress: Progress) -> None:
     """Tells how long the first answer takes, as of a program that is built first."""
     begun = time.monotonic()
@@ -171,19 +211,23 @@ def _wait_for(report: BinaryIO, shown: str, progress: Progress) -> None:
             progress.tell(f"{shown}: no answer yet after {time.monotonic() - begun:.0f} seconds")
 
 
-def listed(row: Row, width: int, more: str = "") -> Iterator[str]:
-    """The lines of a step in the listing."""
+def listed(row: Row, width: int, more: str = "", why: str = "") -> Iterator[str]:
+    """The lines of a step in the listing, and below them why it was refused."""
     words = row.words if len(row.words) <= width else row.words[:width - 2] + ".."
     place = "" if row.line is None else row.line
     if row.expected is None and row.step.picture is None and not row.step.others:
         yield f"{place:>6} {row.step.number:>6}  {words:{width}}  {row.step.answer}"
+        if why:
+            yield f"{'':15}{why}"
         return
     answers = [answer_of(row.step) + more] if row.step.picture is not None else list(row.step.lines)
     if row.is_wrong:
-        answers[-1] += f"   not {row.expected}"
+        answers[-1] += f"   not {row.expected or 'refused'}"
     front = f"{place:>6} {row.step.number:>6}  {words:{width}}  "
     for begin, answer in zip_longest([front], answers, fillvalue=" " * len(front)):
         yield (begin + answer).rstrip()
+    if why:
+        yield f"{'':15}{why}"
 
 
 def heading(width: int) -> str:

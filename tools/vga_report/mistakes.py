@@ -8,12 +8,13 @@ from __future__ import annotations
 
 import difflib
 import re
+from io import BytesIO
 from typing import Iterator, NamedTuple, Optional, Sequence
 
-from .grammar import (
-    BLOCK, BLOCK_LINES, END, REGISTERS, REPEAT, SHAPES, SHOWN, VERSION_TWO, DecimalNumber, Digits, Number,
+from zaklimot.format import (
+    BLOCK, BLOCK_LINES, END, FIRST_LINE, FORMS, MOST_BLOCK, MOST_STEPS, PLANE_BYTES, REGISTERS, REPEAT, SHOWN, Field,
+    Line, lines_in,
 )
-from .script import MOST_STEPS, Line, has_blocks, lines_of
 
 WORD = re.compile(r"[^ \t\r]+")
 HEX = re.compile(r"[0-9A-Fa-f]+")
@@ -25,8 +26,9 @@ COMMENT_WORDS = ("rem", "note")
 # Letters and signs that look like digits.
 LOOKALIKES = str.maketrans("OoIl", "0011")
 PUNCTUATION = ",;:."
-PLANE_BYTES = 65_536
-MOST_BLOCK_DIGITS = 131_070
+# The steps whose name is one word, with numbers alone behind it; and the first words of all lines.
+SHAPES = {name: form.fields for name, form in FORMS.items() if " " not in name and not form.has_block}
+NAMES = [*SHAPES, "int", "show", *BLOCK_LINES]
 
 
 class Word(NamedTuple):
@@ -48,6 +50,11 @@ def _wrong(word: Word, reason: str) -> Mistake:
     return Mistake(word.at, len(word.text), reason)
 
 
+def text_of(data: bytes) -> str:
+    """A script's text. Bytes that are none stand in it all the same, and can be given back."""
+    return data.decode("utf-8", "surrogateescape")
+
+
 def mistake_in(line: str) -> Optional[Mistake]:
     """Why a line is no step; None where nothing is found."""
     step = line.partition(";")[0]
@@ -60,14 +67,14 @@ def mistake_in(line: str) -> Optional[Mistake]:
 
 def mistake_among_lines(data: bytes, number: int) -> Optional[str]:
     """Why a good line is bad where it stands in a text, as the end of a block that none has begun."""
-    lines = lines_of(data)
+    lines = list(lines_in(BytesIO(data)))
     line = next((line for line in lines if line.number == number), None)
     if line is None:
         return None
     if line.name == "version":
-        return f"{VERSION_TWO} stands once, before every other line" if line is not lines[0] else None
-    if line.name in BLOCK_LINES and not has_blocks(lines):
-        return f"blocks are of version 2: write {VERSION_TWO} before every other line"
+        return f"{FIRST_LINE} stands once, before every other line" if line is not lines[0] else None
+    if line.name in BLOCK_LINES and not lines[0].has_blocks:
+        return f"blocks are of version 2: write {FIRST_LINE} before every other line"
     opened = None
     for other in lines[:lines.index(line)]:
         opened = other if other.name == REPEAT else None if other.name == END else opened
@@ -103,7 +110,7 @@ def _in_step(words: Sequence[Word], end: int) -> Optional[Mistake]:
     if name == "show":
         return _in_show(words, end)
     if name == "version" and [word.text for word in words[1:]] != ["2"]:
-        return _wrong(words[-1], f"there is no such version: write {VERSION_TWO}, or nothing for version 1")
+        return _wrong(words[-1], f"there is no such version: write {FIRST_LINE}, or nothing for version 1")
     if name in BLOCK_LINES:
         return _in_numbers(name, BLOCK_LINES[name], words[1:], end)
     if name not in SHAPES:
@@ -115,19 +122,18 @@ def _unknown_step(word: Word) -> Mistake:
     text = word.text.lower()
     if text.startswith(COMMENT_SIGNS) or text in COMMENT_WORDS:
         return _wrong(word, "comments begin with ;")
-    names = [*SHAPES, "int", "show", *BLOCK_LINES]
-    if text.rstrip(PUNCTUATION) in names:
+    if text.rstrip(PUNCTUATION) in NAMES:
         return _wrong(word, f"nothing stands behind the name of a step but blanks: write {text.rstrip(PUNCTUATION)}")
     longest = sorted((name for name, numbers in SHAPES.items() if numbers), key=len, reverse=True)
     glued = next((name for name in longest if text.startswith(name)), None)
     if glued and HEX.fullmatch(text[len(glued):]) and len(text) > len(glued) + 1:
         return _wrong(word, f"a blank stands between words: write {glued} {word.text[len(glued):]}")
-    near = difflib.get_close_matches(text, names, 1)
-    hint = f"did you mean {near[0]}?" if near else f"the steps are {', '.join(names)}"
+    near = difflib.get_close_matches(text, NAMES, 1)
+    hint = f"did you mean {near[0]}?" if near else f"the steps are {', '.join(NAMES)}"
     return _wrong(word, f"there is no step '{_short(word.text)}'; {hint}")
 
 
-def _in_numbers(form: str, numbers: Sequence[Number], words: Sequence[Word], end: int) -> Optional[Mistake]:
+def _in_numbers(form: str, numbers: Sequence[Field], words: Sequence[Word], end: int) -> Optional[Mistake]:
     """The mistake in words that are to be these numbers, behind what a step begins with."""
     usage = " ".join((form, *(number.name for number in numbers)))
     for number, word in zip(numbers, words):
@@ -144,14 +150,14 @@ def _in_numbers(form: str, numbers: Sequence[Number], words: Sequence[Word], end
 def _word_too_many(word: Word, usage: str) -> Mistake:
     if word.text.startswith(COMMENT_SIGNS):
         return _wrong(word, "comments begin with ;")
-    if word.text.lower() in (*SHAPES, "int", "show", *BLOCK_LINES):
+    if word.text.lower() in NAMES:
         return _wrong(word, "a word too many: one step stands on a line")
     return _wrong(word, f"a word too many: {usage}")
 
 
-def _in_number(number: Number, word: Word) -> Optional[Mistake]:
+def _in_number(number: Field, word: Word) -> Optional[Mistake]:
     """Why a word is not such a number."""
-    return _in_decimal(number, word) if isinstance(number, DecimalNumber) else _in_digits(number, word)
+    return _in_digits(number, word) if number.digits else _in_decimal(number, word)
 
 
 def _cleaned(text: str) -> Optional[str]:
@@ -164,7 +170,7 @@ def _cleaned(text: str) -> Optional[str]:
     return digits if HEX.fullmatch(digits) else None
 
 
-def _in_digits(number: Digits, word: Word, text: Optional[str] = None) -> Optional[Mistake]:
+def _in_digits(number: Field, word: Word, text: Optional[str] = None) -> Optional[Mistake]:
     """Why a word, or the part of it that is its number, is none of so many hexadecimal digits."""
     text = word.text if text is None else text
     if HEX.fullmatch(text):
@@ -185,14 +191,14 @@ def _in_digits(number: Digits, word: Word, text: Optional[str] = None) -> Option
     return _wrong(word, f"{number.name} is a hexadecimal number, and '{wrong}' is no digit of one")
 
 
-def _past(number: Number, word: Word, value: int) -> Optional[Mistake]:
+def _past(number: Field, word: Word, value: int) -> Optional[Mistake]:
     """Why a number is out of its range."""
     if number.least <= value <= number.most:
         return None
     return _wrong(word, f"{number.name} is from {number.shown(number.least)} to {number.shown(number.most)}")
 
 
-def _in_decimal(number: DecimalNumber, word: Word) -> Optional[Mistake]:
+def _in_decimal(number: Field, word: Word) -> Optional[Mistake]:
     text = word.text
     if text.isascii() and text.isdigit():
         return _past(number, word, int(text) if len(text) < 100 else number.most + 1)
@@ -217,7 +223,7 @@ def _in_show(words: Sequence[Word], end: int) -> Optional[Mistake]:
         near = difflib.get_close_matches(name, SHOWN, 1)
         hint = f"did you mean {near[0]}?" if near else f"there are {names}"
         return _wrong(words[1], f"nothing of the state has the name '{_short(words[1].text)}'; {hint}")
-    found = _in_numbers(f"show {name}", SHOWN[name], words[2:], end)
+    found = _in_numbers(f"show {name}", SHOWN[name].fields, words[2:], end)
     if found is None and name == "plane":
         offset, count = int(words[3].text, 16), int(words[4].text)
         if offset + count > PLANE_BYTES:
@@ -254,7 +260,7 @@ def _in_register(word: Word, behind: Sequence[Word], last: int) -> Mistake | int
         return _wrong(word, "registers stand in the order ax, bx, cx, dx")
     if not found[2] and behind and (HEX.match(behind[0].text) or FOREIGN_HEX.match(behind[0].text)):
         return _wrong(word, f"no blank stands around =: write {name}={behind[0].text}")
-    return _in_digits(Digits(name, 4), word, found[2]) or place
+    return _in_digits(FORMS["int"].fields[place], word, found[2]) or place
 
 
 def _no_register(word: Word, name: str, behind: Sequence[Word]) -> Mistake:
@@ -290,8 +296,8 @@ def _in_block(words: Sequence[Word]) -> Optional[Mistake]:
         return _word_too_many(words[2], "int ax=N bx=N cx=N dx=N block BYTES")
     if len(digits.text) % 2:
         return _wrong(digits, f"a block has two digits for each byte, and these are {len(digits.text)}")
-    if len(digits.text) > MOST_BLOCK_DIGITS:
-        return _wrong(digits, f"a block has at most {MOST_BLOCK_DIGITS // 2} bytes")
+    if len(digits.text) > 2 * MOST_BLOCK:
+        return _wrong(digits, f"a block has at most {MOST_BLOCK} bytes")
     return None
 
 

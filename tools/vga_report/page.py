@@ -9,10 +9,11 @@ from html import escape
 from pathlib import Path
 from typing import NamedTuple, Optional, Sequence
 
+from zaklimot.format import Picture
+
 from .differences import Difference
 from .expecting import answer_of
 from .listing import Row
-from .picture import Picture
 from .png import Shape, write_marked_png, write_png
 from .trouble import Trouble
 
@@ -77,6 +78,8 @@ class Page:
         text = escape(answer_of(row.step) if picture is not None else "\n".join(row.step.lines))
         if row.is_wrong:
             text += f"\nnot {escape(row.expected or '')}"
+        if row.why:
+            text += f"\n{escape(row.why)}"
         if isinstance(picture, Picture):
             name, image = self._image(picture)
             self._frames.append(Frame(row.step.number, f"step {row.step.number}, {picture.size}", [name]))

@@ -7,7 +7,9 @@ import zlib
 from dataclasses import dataclass
 from typing import BinaryIO, Iterable, Iterator
 
-from .picture import Picture, marks_in_row
+from zaklimot.format import Picture
+from zaklimot.format.picture import marks_in_row
+
 from .trouble import Trouble
 
 # Six bits widened to eight, so that 0 stays 0 and 3F is FF.

@@ -7,29 +7,29 @@ import os
 import shutil
 import subprocess
 import tempfile
+import time
 from contextlib import contextmanager
 from pathlib import Path
-from typing import BinaryIO, Iterator, Mapping, Optional, Sequence, cast
+from typing import Any, BinaryIO, Iterator, Optional, Sequence, cast
 
-from .faults import FAULT
-from .processes import IS_POSIX, end
+from zaklimot.format import FAULT
+
+from . import TOP
+from .processes import ENDING, run, started
+from .progress import Progress
 from .streams import to_read
 from .trouble import Trouble
 
-TOP = Path(__file__).resolve().parents[2]
 CRATE = TOP / "crates" / "vga"
 PROGRAM = CRATE / "out" / "vga"
 FONTS = TOP / "fonts" / "zaklimot.fnt"
 # No script is printed in more bytes: none of its steps has a line that is seven times as long as its bytes.
 MOST_PRINTED = 7 << 24
 CHUNK = 1 << 16
-# Seconds in which `rt` ends what it has started.
-ASKING = 5
 # So much of what the program says is looked at.
 MOST_SAID = 1 << 16
 NO_PROGRAM = (
-    "there is no program vga: `(cd crates/vga && rt run -- --help)` builds and proves it, --vga names another, "
-    "and --try runs it without its proofs"
+    "there is no program vga: --build proves and builds it, --vga names another, and --try runs it without its proofs"
 )
 
 
@@ -63,30 +63,34 @@ def found_program(named: Optional[str]) -> str:
 
 
 @contextmanager
-def _started(
-    words: Sequence[str], folder: Optional[Path] = None, environment: Optional[Mapping[str, str]] = None,
-    asking: float = 0,
-) -> Iterator[Outcome]:
+def _running(words: Sequence[str], asking: float = 0, **given: Any) -> Iterator[Outcome]:
     """A command that runs, with its report as it comes."""
     with tempfile.TemporaryFile() as said:
-        try:
-            process = subprocess.Popen(
-                words, cwd=folder, env=environment, stdin=subprocess.DEVNULL, stdout=subprocess.PIPE, stderr=said,
-                start_new_session=IS_POSIX,
-            )
-        except OSError as error:
-            raise Trouble(error.strerror or str(error), words[0]) from error
-        assert process.stdout is not None
-        outcome = Outcome(cast(BinaryIO, process.stdout))
-        try:
-            with process.stdout:
+        with started(words, asking, stdout=subprocess.PIPE, stderr=said, **given) as process:
+            outcome = Outcome(cast(BinaryIO, process.stdout))
+            with outcome.report:
                 yield outcome
             # What was not read is lost, and the program is told so.
             outcome.status = process.wait()
-            said.seek(0)
-            outcome.said = said.read(MOST_SAID).decode("utf-8", "replace")
-        finally:
-            end(process, asking)
+        said.seek(0)
+        outcome.said = said.read(MOST_SAID).decode("utf-8", "replace")
+
+
+def build_program(progress: Progress) -> None:
+    """Proves and builds the program where it is lacking, and tells how far that is: it may take hours at first."""
+    if os.access(PROGRAM, os.X_OK):
+        return
+    begun = time.monotonic()
+
+    def hear(line: str) -> None:
+        if progress.is_due():
+            seconds = int(time.monotonic() - begun)
+            progress.tell(f"{seconds // 60}:{seconds % 60:02} proving and building the program{line and ': '}{line}")
+
+    try:
+        run(["rt", "run", "--", "--help"], CRATE, hear)
+    finally:
+        progress.clear()
 
 
 class Built:
@@ -100,7 +104,7 @@ class Built:
         """A run of a script, as text or as bytes."""
         stop = [] if until is None else ["--until", str(until)]
         words = [self._path, "run" if is_bytes else "go", str(script), "--fonts", fonts, *stop]
-        with _started(words) as outcome:
+        with _running(words) as outcome:
             yield outcome
 
     def print_steps(self, script: Path, is_bytes: bool, printed: BinaryIO) -> None:
@@ -114,7 +118,7 @@ class Built:
     def _writes(self, words: Sequence[str], output: BinaryIO) -> bool:
         """Whether a command of the program ends well; what it writes goes into a file."""
         left = MOST_PRINTED
-        with _started([self._path, *words]) as outcome:
+        with _running([self._path, *words]) as outcome:
             while chunk := outcome.report.read(CHUNK):
                 left -= len(chunk)
                 if left < 0:
@@ -136,7 +140,7 @@ class Tried:
         words = ["rt", "try", *files, "--", "run" if is_bytes else "go", "script", "--fonts", "fonts", *stop]
         # What it leaves when it is ended goes with this folder.
         with tempfile.TemporaryDirectory(prefix="vga-report-") as temporary:
-            with _started(words, CRATE, {**os.environ, "TMPDIR": temporary}, ASKING) as outcome:
+            with _running(words, ENDING, cwd=CRATE, env={**os.environ, "TMPDIR": temporary}) as outcome:
                 yield outcome
         ended = outcome.said.rpartition(self.ENDED)[2].split()
         if self.ENDED not in outcome.said:

@@ -1,180 +1,44 @@
-"""A report, step by step."""
+"""A report that a tool reads: its troubles name the file and the line, and a terminal shows how far it was read."""
 
 from __future__ import annotations
 
 import io
-import re
-from typing import Iterator, NamedTuple, Optional, Union
+from typing import Iterator, Optional
 
-from .picture import Digest, Picture
+from zaklimot import format
+from zaklimot.format import Answer, ReportError
+
 from .progress import Progress
 from .streams import length_of
 from .trouble import Trouble
 
-# Longer lines than any answer has, a block of 65,535 bytes among them, and larger pictures than any adapter's.
-MOST_LINE = 1 << 18
-MOST_PICTURE = 1 << 26
-# So many lines are read between two looks at the clock.
-LINES_BETWEEN = 4096
-
-TEXT = re.compile(rb"[ -~]+\n")
-PICTURE = re.compile(r"picture ([1-9][0-9]{0,11})")
-# A picture as `text` shows it: its length, its size and its digest in the place of its bytes.
-SHOWN = re.compile(r"(picture ([1-9][0-9]{0,11})) ([1-9][0-9]{0,6}x[1-9][0-9]{0,6}) ([0-9a-f]{32})")
-READ = re.compile(r"[0-9A-F]{2}|[0-9A-F]{4}")
-REFUSED = re.compile(r"E[1-9][0-9]? [A-Z][A-Za-z]*")
-FAULT = re.compile(r"F[1-9][0-9]? [A-Z][A-Za-z]*(\([0-9]+\))?")
-SKIPPED = "skipped"
-# The kinds of answers that may look like one another.
-VALUE, REFUSAL, RUN_FAULT = "read", "refused", "fault"
-# The answers of most steps: they are found by a look, which makes long reports quick to read.
-PLAIN = {b"%s\n" % answer.encode(): answer for answer in ("ok", SKIPPED, *("%02X" % value for value in range(256)))}
-MOST_PLAIN = 1024
-# What may stand where the lines of an answer have ended.
-DIGITS_OR_END = (b"", *(b"%d" % digit for digit in range(10)))
-
-
-class Step(NamedTuple):
-    """What one step answered. A fault in the place of a report is a step with the number 0."""
-
-    number: int
-    line: int
-    answer: str
-    others: tuple[str, ...] = ()
-    picture: Union[Picture, Digest, None] = None
-
-    @property
-    def lines(self) -> tuple[str, ...]:
-        """The lines of the answer."""
-        return (self.answer, *self.others)
-
-    @property
-    def kind(self) -> str:
-        """What kind of answer it is, where another kind may look like it."""
-        if self.number == 0:
-            return RUN_FAULT
-        if READ.fullmatch(self.answer):
-            return VALUE
-        return REFUSAL if REFUSED.fullmatch(self.answer) else ""
-
-    def text(self) -> str:
-        """Its lines, with a picture as one line; it ends with a newline."""
-        if not (self.others or self.picture):
-            return f"{self.number} {self.answer}\n" if self.number else f"{self.answer}\n"
-        picture = "" if self.picture is None else f" {self.picture.size} {self.picture.sum}"
-        return f"{self.number} " + "\n".join(self.lines) + picture + "\n"
-
 
 class Report:
-    """The steps of a report that is read from a stream. Lines are counted as `text` shows them, a picture as one."""
+    """The answers of a report that is read from a stream. Lines are counted as `text` shows them, a picture as one."""
 
     def __init__(self, stream: io.BufferedReader, name: str, progress: Optional[Progress] = None) -> None:
         self._stream = stream
         self._name = name
-        self._progress = progress or Progress(is_wanted=False)
+        self._progress = progress
         self._length = length_of(stream)
-        # The answers of steps that a look finds, with the refusals that came.
-        self._plain = dict(PLAIN)
-        self._line = 0
-        # How many steps were read so far.
-        self.count = 0
+        self._report = format.Report(stream, None if progress is None else self._tell)
 
-    def steps(self) -> Iterator[Step]:
-        """The steps in their order; a Trouble where the report is damaged, behind the steps before that place."""
-        number = 1
+    @property
+    def count(self) -> int:
+        """How many steps were read so far."""
+        return self._report.count
+
+    def steps(self) -> Iterator[Answer]:
+        """The answers in their order; a Trouble where the report is damaged, behind those before that place."""
         try:
-            for line in iter(self._next_line, b""):
-                front = b"%d " % number
-                plain = self._plain.get(line[len(front):]) if line.startswith(front) else None
-                self.count = number
-                yield Step(number, self._line, plain) if plain is not None else self._step(number, line)
-                number += 1
+            yield from self._report.answers()
+        except ReportError as error:
+            raise Trouble(error.reason, self._name, error.line) from error
         except OSError as error:
-            raise self._trouble(error.strerror or str(error)) from error
+            raise Trouble(error.strerror or str(error), self._name, self._report.line) from error
 
-    def _step(self, number: int, line: bytes) -> Step:
-        """The step that begins with a line, and has this number if it is one."""
-        text = self._text_of(line)
-        place = self._line
-        if number == 1 and FAULT.fullmatch(text):
-            return self._fault(text)
-        front, _, answer = text.partition(" ")
-        if front != str(number) or not answer:
-            raise self._trouble(f"step {number} is to come, and not '{_front_of(text)}'")
-        if answer.split(" ")[0] == "picture":
-            return self._picture_step(number, answer)
-        if REFUSED.fullmatch(answer) or READ.fullmatch(answer):
-            if len(self._plain) < MOST_PLAIN:
-                self._plain[line[len(front) + 1:]] = answer
-            return Step(number, place, answer)
-        return Step(number, place, answer, tuple(self._other_lines()))
-
-    def _picture_step(self, number: int, answer: str) -> Step:
-        """The step of a picture, whose bytes stand next, or whose digest stands in their place."""
-        place = self._line
-        announced = PICTURE.fullmatch(answer)
-        if announced is not None:
-            return Step(number, place, answer, (), self._picture(number, int(announced[1])))
-        shown = SHOWN.fullmatch(answer)
-        if shown is None:
-            raise self._trouble(f"step {number} has a picture of no length: '{_front_of(answer)}'")
-        return Step(number, place, shown[1], (), Digest(int(shown[2]), shown[3], shown[4]))
-
-    def _fault(self, text: str) -> Step:
-        """The step of a fault in the place of a report, behind which nothing may stand."""
-        if self._next_line():
-            raise self._trouble("something stands behind a fault")
-        return Step(0, 1, text)
-
-    def _next_line(self) -> bytes:
-        """The next line with its newline, as far as there is one; nothing at the report's end."""
-        self._line += 1
-        if self._line % LINES_BETWEEN == 0:
-            self._tell_progress()
-        return self._stream.readline(MOST_LINE)
-
-    def _text_of(self, line: bytes) -> str:
-        """A line's text, without its newline."""
-        if len(line) == MOST_LINE:
-            raise self._trouble("the line is longer than any answer")
-        if not line.endswith(b"\n"):
-            raise self._trouble("the report ends within a line")
-        if line.endswith(b"\r\n"):
-            raise self._trouble("the line ends with a carriage return: a report is bytes, not a system's text")
-        if TEXT.fullmatch(line) is None:
-            raise self._trouble("the line is empty, or has bytes that no answer has")
-        return line[:-1].decode("ascii")
-
-    def _other_lines(self) -> Iterator[str]:
-        """The lines up to the next step's, as a dump has them: none of them begins with a digit."""
-        while self._stream.peek(1)[:1] not in DIGITS_OR_END:
-            yield self._text_of(self._next_line())
-
-    def _picture(self, number: int, length: int) -> Picture:
-        """The picture of so many bytes that stands next, and its newline."""
-        if length > MOST_PICTURE:
-            raise self._trouble(f"step {number} has a picture of {length} bytes, and {MOST_PICTURE} are the most")
-        ppm = self._stream.read(length)
-        newline = self._stream.read(1)
-        if len(ppm) < length:
-            raise self._trouble(f"the picture of step {number} is cut off: of {length} bytes there are {len(ppm)}")
-        if newline != b"\n":
-            raise self._trouble(f"no newline stands behind the {length} bytes of the picture of step {number}")
-        self._tell_progress()
-        try:
-            return Picture.of_ppm(ppm)
-        except ValueError as error:
-            raise self._trouble(f"step {number}: {error}") from error
-
-    def _tell_progress(self) -> None:
+    def _tell(self, line: int) -> None:
+        assert self._progress is not None
         if self._progress.is_due():
-            share = f"{100 * self._stream.tell() // self._length} %" if self._length else f"{self._line} lines"
+            share = f"{100 * self._stream.tell() // self._length} %" if self._length else f"{line} lines"
             self._progress.tell(f"{self._name}: {share}")
-
-    def _trouble(self, reason: str) -> Trouble:
-        return Trouble(reason, self._name, self._line)
-
-
-def _front_of(text: str) -> str:
-    """The front of a line, for messages."""
-    return text if len(text) <= 40 else text[:40] + ".."

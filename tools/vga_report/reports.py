@@ -7,31 +7,34 @@ import os
 import sys
 from typing import Callable, Iterator, Optional, Sequence
 
+from zaklimot.format import MOST_ADVANCE, Answer, Digest, Picture
+
 from .apng import Animation
 from .differences import Comparison, Difference
 from .expected import Expected
 from .output import AGREED, DIFFERED, name_of, refuse_twice, say, write, write_name
 from .page import Page, compare_page
-from .picture import Digest, Picture
 from .png import Shape, write_marked_png, write_png
 from .progress import Progress
-from .report import Report, Step
-from .script import read_script
-from .streams import STANDARD, reading, write_file, writing
+from .report import Report
+from .script import read_script, script_of
+from .streams import STANDARD, check_folder, reading, write_file, writing
 from .timing import USUAL, Timing
 from .trouble import Trouble
-from .whole import steps_and_blocks, steps_meant
 
 
 def text(words: argparse.Namespace, progress: Progress) -> int:
     """Writes a report as text."""
+    if sys.stdout.isatty():
+        # Text on a terminal shows by itself how far the work has come.
+        progress = Progress(is_wanted=False)
     with reading(words.report) as stream, writing(STANDARD) as output:
         for step in Report(stream, name_of(words.report), progress).steps():
             output.write(step.text().encode("ascii"))
     return AGREED
 
 
-def wanted_pictures(steps: Iterator[Step], wanted: Sequence[int], name: str) -> Iterator[tuple[int, Picture]]:
+def wanted_pictures(steps: Iterator[Answer], wanted: Sequence[int], name: str) -> Iterator[tuple[int, Picture]]:
     """The pictures of the steps that are wanted, or all."""
     last, missing = 0, set(wanted)
     for step in steps:
@@ -58,6 +61,7 @@ def pictures(words: argparse.Namespace, progress: Progress) -> int:
     if words.apng is not None:
         return _animate(words, shape, progress)
     if words.folder != STANDARD:
+        check_folder(words.folder)
         os.makedirs(words.folder, exist_ok=True)
     count = 0
     with reading(words.report) as stream:
@@ -91,15 +95,19 @@ def _animate(words: argparse.Namespace, shape: Shape, progress: Progress) -> int
 
 
 def _delays(script: Optional[str]) -> Callable[[int], float]:
-    """How long the frame of a step lasts, as the script tells it, be it text or bytes."""
+    """How long the frame of a step lasts, with the whole frames that an advance passes over behind it, as a script tells it."""
     if script is None:
         return lambda number: USUAL
-    timing, frames = Timing(), {}
+    timing, frames, last, dots = Timing(), {}, 0, 0
     name = name_of(script)
-    for number, step in enumerate(steps_meant(steps_and_blocks(read_script(script), name)), 1):
+    for number, step in enumerate(script_of(read_script(script), name).steps(), 1):
         timing.take(step)
+        if step.name == "advance" and step.numbers[0] <= MOST_ADVANCE:
+            dots += step.numbers[0]
         if step.name == "frame":
-            frames[number] = timing.frame()
+            if last:
+                frames[last] += timing.passed(dots)
+            frames[number], last, dots = timing.frame(), number, 0
 
     def delay(number: int) -> float:
         if number not in frames:

@@ -11,12 +11,14 @@ from pathlib import Path
 from threading import Event
 from typing import NamedTuple, Optional
 
+from zaklimot.format import FAULT
+
 from .cases import Case, printable
 from .differences import Comparison, Told
 from .expected import Expected
 from .keeping import keep_case
 from .processes import Limits, Outcome, run_command
-from .report import FAULT, Report
+from .report import Report
 from .trouble import Trouble
 
 AGREES, SKIPPED, DIFFERS, FAILED = "agrees", "skipped", "differs", "failed"

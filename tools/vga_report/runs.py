@@ -9,25 +9,27 @@ import sys
 import tempfile
 from contextlib import ExitStack, contextmanager
 from pathlib import Path
-from typing import BinaryIO, Iterator, Union, cast
+from typing import BinaryIO, Iterator, Optional, Union, cast
 
+from zaklimot.format import Picture
+
+from .blessing import Blessing
 from .blocks import block_lines
 from .debugging import debug_page, link_to
-from .expecting import answer_of, is_worth_telling
 from .listing import Choice, Row, Script, heading, listed
 from .output import AGREED, DIFFERED, name_of, write
 from .page import run_page
-from .picture import Picture
 from .png import Shape, write_png
-from .program import FONTS, Built, Tried, found_program
+from .program import FONTS, Built, Tried, build_program, found_program
 from .progress import Progress
-from .script import blessed_line, read_script, text_of
+from .script import read_script
+from .several import run_several, watched
 from .streams import STANDARD, check_file, check_folder, write_file, write_over, writing
+from .tally import Tally, Told
 from .trouble import Trouble
 
-
-# So many bytes of answers that differ stay in memory.
-MOST_TOLD = 1 << 20
+# So many reasons of refusals are told once each, and then again.
+MOST_WHYS = 1000
 
 
 @contextmanager
@@ -69,61 +71,44 @@ def _font_file(path: str) -> Iterator[str]:
         yield str(link)
 
 
-class Tally:
-    """What was seen of a run."""
-
-    def __init__(self, shown: str) -> None:
-        self._shown = shown
-        self.steps = self.pictures = self.expected = self.wrong = 0
-        # The answers that differ may be as many as the steps.
-        self._told = tempfile.SpooledTemporaryFile(MOST_TOLD)
-
-    def count(self, row: Row) -> None:
-        """Counts a step."""
-        self.steps += 1
-        self.pictures += row.step.picture is not None
-        if row.expected is None:
-            return
-        self.expected += 1
-        if row.is_wrong:
-            self.wrong += 1
-            place = f"{self._shown}:{row.line}: step {row.step.number}"
-            told = f"{place}: {row.words} answers {answer_of(row.step)}, not {row.expected}\n"
-            self._told.write(told.encode("utf-8", "surrogateescape"))
-
-    def differing(self) -> Iterator[str]:
-        """The answers that differ, a line each."""
-        self._told.seek(0)
-        return (line.decode("utf-8", "surrogateescape") for line in self._told)
-
-    def text(self) -> str:
-        """What was seen, as a line."""
-        parts = [f"{self.steps} step{'s' * (self.steps != 1)}", f"{self.pictures} picture{'s' * (self.pictures != 1)}"]
-        if self.expected:
-            parts.append(f"{self.expected - self.wrong} of {self.expected} answers as expected")
-        return ", ".join(parts)
+def _contradictions(words: argparse.Namespace) -> Iterator[tuple[object, str]]:
+    """What contradicts something else, and what is said then."""
+    is_folder, pictures = os.path.isdir(words.script), words.pictures or words.show
+    several = words.junit is not None or is_folder
+    yield words.bless and (words.script == STANDARD or words.until is not None), (
+        "--bless writes into the script, whole: it wants a file, and no --until"
+    )
+    yield words.dry_run and not words.bless, "--dry-run tells what --bless would write: it wants --bless"
+    yield words.html and (words.bless or pictures), (
+        "--html writes a page that has the pictures: without --bless, --pictures and --show"
+    )
+    yield several and (words.bless or pictures or words.html or words.debug or words.only), (
+        "a folder of scripts, and --junit, want none of --bless, --only, --pictures, --show, --html and --debug"
+    )
+    yield words.watch and words.script == STANDARD, "--watch wants a file that changes, and not standard input"
+    yield words.bless and (words.diff or words.json), "--bless lists its changes: without --diff and --json"
+    yield words.debug and (words.bless or pictures), (
+        "--debug writes a page that runs the script: without --bless, --pictures and --show"
+    )
+    yield words.debug and words.html is None and (words.only is not None or words.try_ or words.vga), (
+        "--debug runs nothing here: without --only, --try and --vga, unless --html is there too"
+    )
+    yield words.debug and words.html and STANDARD in (words.html, words.debug), (
+        "the page of --html links to that of --debug: both want files"
+    )
 
 
 def _refuse_words(words: argparse.Namespace) -> None:
     """Ends the work where words contradict one another."""
-    if words.bless and (words.script == STANDARD or words.until is not None):
-        raise Trouble("--bless writes into the script, whole: it wants a file, and no --until")
-    if words.html and (words.bless or words.pictures or words.show):
-        raise Trouble("--html writes a page that has the pictures: without --bless, --pictures and --show")
+    for is_so, reason in _contradictions(words):
+        if is_so:
+            raise Trouble(reason)
     if words.pictures is not None:
         check_folder(words.pictures)
-    for file in (words.html, words.debug):
+    for file in (words.html, words.debug, words.json, words.junit):
         if file is not None:
             check_file(file)
-    if words.debug is None:
-        return
-    if words.bless or words.pictures or words.show:
-        raise Trouble("--debug writes a page that runs the script: without --bless, --pictures and --show")
-    if words.html is None and (words.only is not None or words.try_ or words.vga):
-        raise Trouble("--debug runs nothing here: without --only, --try and --vga, unless --html is there too")
-    if words.html and STANDARD in (words.html, words.debug):
-        raise Trouble("the page of --html links to that of --debug: both want files")
-    if words.html and os.path.realpath(words.html) == os.path.realpath(words.debug):
+    if words.debug and words.html and os.path.realpath(words.html) == os.path.realpath(words.debug):
         raise Trouble("--html and --debug are two pages, and want two files", words.debug)
 
 
@@ -141,14 +126,43 @@ def _write_debug_page(words: argparse.Namespace, data: bytes) -> None:
 
 
 def run(words: argparse.Namespace, progress: Progress) -> int:
-    """Runs a script, and shows each step beside its line and its answer."""
+    """Runs a script, or each one of a folder, and shows each step beside its line and its answer."""
     _refuse_words(words)
+    if words.build:
+        build_program(progress)
+    is_several = words.junit is not None or os.path.isdir(words.script)
+    work = run_several if is_several else _run_script
+    return watched(words, work, progress) if words.watch else work(words, progress)
+
+
+def _run_script(words: argparse.Namespace, progress: Progress) -> int:
+    """Runs one script."""
     if words.debug is not None and words.html is None:
         _write_debug_page(words, read_script(words.script))
         return AGREED
     choice = Choice(words.only)
     program: Union[Built, Tried] = Tried() if words.try_ else Built(found_program(words.vga))
-    tally, blessed, page = Tally(name_of(words.script)), {}, run_page()
+    tally = Tally(name_of(words.script))
+    with ExitStack() as stack:
+        told = None
+        if words.json is not None:
+            told = Told(stack.enter_context(writing(words.json)), tally.shown)
+        try:
+            return _run_by(words, progress, program, choice, tally, told)
+        except Trouble as trouble:
+            if told is not None:
+                # What is written is whole, also of a script that can't be run to its end.
+                told.end(tally, str(trouble))
+                stack.close()
+            raise
+
+
+def _run_by(
+    words: argparse.Namespace, progress: Progress, program: Union[Built, Tried], choice: Choice, tally: Tally,
+    told: Optional[Told],
+) -> int:
+    """Runs a script by a program, and shows what was chosen of it."""
+    shower = _Shower(words, progress)
     with ExitStack() as stack:
         path, data = stack.enter_context(_script_file(words.script))
         fonts = stack.enter_context(_font_file(words.fonts))
@@ -156,46 +170,81 @@ def run(words: argparse.Namespace, progress: Progress) -> int:
         if words.debug is not None and os.path.isfile(path):
             _write_debug_page(words, data)
         script = Script(path, data, program, name_of(words.script), cast(BinaryIO, printed))
-        if words.pictures is not None:
-            os.makedirs(words.pictures, exist_ok=True)
+        if script.is_bytes and (words.bless or words.diff):
+            raise Trouble("a script of bytes has no comments for answers", words.script)
+        blessing = Blessing(data) if words.bless or words.diff else None
         for row in script.rows(program, fonts, words.until, progress):
-            if not (words.bless or words.html or tally.steps):
-                write(heading(script.width) + "\n")
+            row = row._replace(is_strict=words.strict)
+            if not tally.steps:
+                shower.begin(script)
             tally.count(row)
-            if words.bless and row.line is not None and _is_blessed(row):
-                # A step of a block may answer otherwise each time.
-                answer = "*" if row.expected == "*" else answer_of(row.step)
-                blessed[row.line] = answer if blessed.get(row.line, answer) == answer else "*"
-            if not words.bless and choice.has(row):
-                if words.html:
-                    page.add_row(row)
-                else:
-                    progress.clear()
-                    _show(row, script, words)
+            if blessing is not None:
+                blessing.take(row)
+            if told is not None:
+                told.add(row, row.why)
+            if choice.has(row):
+                shower.show(row)
         progress.clear()
         if words.bless:
-            return _bless(words.script, script, data, blessed)
-    if words.html:
-        link = None if words.debug is None else link_to(words.debug, words.html) + _fragment(words)
-        write_file(words.html, page.text(script.shown, tally.text(), link).encode("utf-8", "replace"))
-    _tell_tally(tally, words)
+            return _bless(words, script, blessing)
+    if told is not None:
+        told.end(tally)
+    shower.end(script, tally)
+    if blessing is not None and not words.bless:
+        write(blessing.difference(tally.shown))
+    else:
+        _tell_tally(tally, words)
     return DIFFERED if tally.wrong else AGREED
 
 
 def _tell_tally(tally: Tally, words: argparse.Namespace) -> None:
-    """Tells the answers that differ, and what was seen; on standard error where a page goes to standard output."""
-    tell = sys.stderr.write if words.html == STANDARD else write
+    """Tells the answers that differ, and what was seen; on standard error where something else goes to standard output."""
+    tell = sys.stderr.write if STANDARD in (words.html, words.json) else write
     for line in tally.differing():
         tell(line)
-    tell(tally.text() + "\n")
+    tell((f"{tally.shown}: " if words.quiet else "") + tally.text() + "\n")
 
 
-def _is_blessed(row: Row) -> bool:
-    """Whether the answer of a step is written into its line."""
-    return row.expected is not None or is_worth_telling(row.step, row.words)
+class _Shower:
+    """Shows the steps of a run, as the words want it: as a listing, as a page, or not at all."""
+
+    def __init__(self, words: argparse.Namespace, progress: Progress) -> None:
+        self._words = words
+        self._progress = progress
+        self._is_listed = not (words.bless or words.html or words.quiet or words.diff or words.json == STANDARD)
+        self._page = run_page()
+        self._whys: set[str] = set()
+        self._width = 0
+
+    def begin(self, script: Script) -> None:
+        """Shows what stands above the first step."""
+        self._width = script.width
+        if self._words.pictures is not None:
+            os.makedirs(self._words.pictures, exist_ok=True)
+        if self._is_listed:
+            write(heading(script.width) + "\n")
+
+    def show(self, row: Row) -> None:
+        """Shows a step; why it was refused is told once."""
+        if self._words.html:
+            self._page.add_row(row)
+        elif self._is_listed:
+            self._progress.clear()
+            why = "" if row.why in self._whys else row.why
+            if len(self._whys) < MOST_WHYS:
+                self._whys.add(row.why)
+            _show(row, self._width, self._words, why)
+
+    def end(self, script: Script, tally: Tally) -> None:
+        """Writes the page, where one is wanted."""
+        words = self._words
+        if words.html:
+            link = None if words.debug is None else link_to(words.debug, words.html) + _fragment(words)
+            text = self._page.text(script.shown, tally.text(), link)
+            write_file(words.html, text.encode("utf-8", "replace"))
 
 
-def _show(row: Row, script: Script, words: argparse.Namespace) -> None:
+def _show(row: Row, width: int, words: argparse.Namespace, why: str) -> None:
     """Writes a step's lines, and its picture where that is wanted."""
     picture, more = row.step.picture, ""
     if isinstance(picture, Picture) and words.pictures is not None:
@@ -203,24 +252,23 @@ def _show(row: Row, script: Script, words: argparse.Namespace) -> None:
         with writing(path) as stream:
             write_png(stream, picture, Shape(words.scale, words.aspect))
         more = f"  {path}"
-    write("\n".join(listed(row, script.width, more)) + "\n")
+    write("\n".join(listed(row, width, more, why)) + "\n")
     if isinstance(picture, Picture) and words.show:
         columns = shutil.get_terminal_size((80, 24)).columns
         write("".join(line + "\n" for line in block_lines(picture, columns)))
 
 
-def _bless(path: str, script: Script, data: bytes, blessed: dict[int, str]) -> int:
-    """Writes the answers into the script, each behind its step."""
-    if script.is_bytes:
-        raise Trouble("a script of bytes has no comments to write answers in", path)
-    lines = text_of(data).split("\n")
-    changed = 0
-    for number, answer in blessed.items():
-        line = blessed_line(lines[number - 1], answer)
-        changed += line != lines[number - 1]
-        lines[number - 1] = line
-    write_over(path, "\n".join(lines).encode("utf-8", "surrogateescape"))
-    write(f"{path}: {len(blessed)} answers, {changed} of them new\n")
+def _bless(words: argparse.Namespace, script: Script, blessing: Optional[Blessing]) -> int:
+    """Writes the answers into the script that are not as expected, each behind its step, and lists them."""
+    path = words.script
+    assert blessing is not None
+    changes = list(blessing.changes())
+    for number, before, after in changes:
+        write(f"{path}:{number}: {before or 'nothing'} -> {after}\n")
+    if not words.dry_run and changes:
+        write_over(path, blessing.text().encode("utf-8", "surrogateescape"))
+    count = f"{len(changes)} answer{'s' * (len(changes) != 1)}"
+    write(f"{path}: {count} {'would be written' if words.dry_run else 'written'}\n")
     return AGREED
 
 

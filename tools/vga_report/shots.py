@@ -5,9 +5,11 @@ from __future__ import annotations
 import argparse
 from typing import Optional
 
+from zaklimot.format import Picture
+from zaklimot.format.picture import DifferentDots, different_dots
+
 from .images import Image, image_bytes, image_of, image_of_picture
 from .output import AGREED, DIFFERED, name_of, refuse_twice, write
-from .picture import DifferentDots, Picture, different_dots
 from .png import Shape, write_marked_png
 from .progress import Progress
 from .report import Report

@@ -8,10 +8,11 @@ from pathlib import Path
 from threading import Event
 from typing import Optional
 
+from zaklimot.format import Picture
+
 from .cases import Case, chosen_cases, read_cases
 from .keeping import expected_pictures
 from .output import AGREED, DIFFERED, name_of, write, write_name
-from .picture import Picture
 from .png import Shape, write_png
 from .processes import MEBIBYTE, Limits
 from .progress import Progress

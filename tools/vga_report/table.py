@@ -65,6 +65,7 @@ def _case_of(result: Result) -> dict[str, object]:
     """A case for machines. The step is 0 where a fault stands in the place of steps."""
     case: dict[str, object] = {
         "name": result.case.name,
+        "rule": result.rule,
         "answer": result.answer,
         "steps": result.comparison.steps,
         "skipped": result.comparison.skipped,
@@ -80,14 +81,11 @@ def _case_of(result: Result) -> dict[str, object]:
 
 
 def json_text(command: str, results: list[Result]) -> str:
-    """The same for machines, as one JSON object."""
-    rules = [
-        {
-            "rule": rule.text,
-            "folder": rule.group,
-            "answer": rule.answer,
-            "cases": [_case_of(result) for result in rule.results],
-        }
-        for rule in rules_of(results)
-    ]
-    return json.dumps({"command": command, "cases": counts_of(results), "rules": rules}, indent=2) + "\n"
+    """The same for machines: one JSON object, in which each case is one line, with its rule."""
+    rules = []
+    for rule in rules_of(results):
+        head = json.dumps({"rule": rule.text, "folder": rule.group, "answer": rule.answer})
+        cases = ",\n".join(json.dumps(_case_of(result)) for result in rule.results)
+        rules.append(f'{head[:-1]}, "cases": [\n{cases}]}}')
+    head = json.dumps({"command": command, "cases": counts_of(results)})
+    return f'{head[:-1]}, "rules": [\n' + ",\n".join(rules) + "\n]}\n"

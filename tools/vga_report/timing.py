@@ -4,7 +4,7 @@ from __future__ import annotations
 
 from typing import Optional
 
-from .whole import Step
+from zaklimot.format import Step
 
 # Dots a second, by bits 3 and 2 of miscellaneous output.
 CLOCKS = {0: 25_175_000, 1: 28_322_000}
@@ -62,6 +62,11 @@ class Timing:
         """The seconds that a frame lasts; those of 70 a second where the script doesn't tell."""
         found = self.speed()
         return USUAL if found is None else found[0] / found[1]
+
+    def passed(self, dots: int) -> float:
+        """The seconds of the whole frames among so many dots that pass between two pictures; 0 where none is known."""
+        found = self.speed()
+        return 0.0 if found is None else dots // found[0] * found[0] / found[1]
 
     def speed(self) -> Optional[tuple[int, float]]:
         """The dots of a frame, and the dots that pass in a second; None where the script doesn't tell."""

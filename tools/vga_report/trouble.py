@@ -5,10 +5,22 @@ from __future__ import annotations
 from typing import Optional
 
 
+# The exit statuses of a tool: the work can't be done, and something is wrong or differs.
+TROUBLE, WRONG = 2, 1
+
+
 class Trouble(Exception):
     """A file that can't be read as what it should be, or a word of the command line that can't be meant."""
+
+    status = TROUBLE
 
     def __init__(self, reason: str, name: Optional[str] = None, line: Optional[int] = None) -> None:
         place = "" if name is None else f"{name}: " if line is None else f"{name}:{line}: "
         super().__init__(place + reason)
         self.name = name
+
+
+class Wrong(Trouble):
+    """What is tested is otherwise than it should be."""
+
+    status = WRONG

@@ -4,9 +4,9 @@ from __future__ import annotations
 
 import argparse
 import math
-from pathlib import Path
 from typing import Callable
 
+from . import TOP, cli
 from .progress import Progress
 from .reports import check, compare, pictures, text
 from .shots import compare_picture
@@ -14,7 +14,7 @@ from .runs import DEFAULT_FONTS, run
 from .streams import to_read
 from .suite import scripts, suite
 
-SUITE = Path(__file__).resolve().parents[2] / "crates" / "vga_suite" / "data" / "list.txt"
+SUITE = TOP / "crates" / "vga_suite" / "data" / "list.txt"
 # The largest numbers of options: enlargements, commands at a time, MiB, steps, and a day of seconds.
 MOST_SCALE, MOST_JOBS, MOST_OUTPUT, MOST_STEP, MOST_SECONDS = 1000, 256, 1 << 20, 4_294_967_295, 86_400
 
@@ -102,7 +102,18 @@ def _add_run(parser: argparse.ArgumentParser) -> None:
     parser.add_argument(
         "--debug", metavar="FILE", help="writes a page that runs the script in a browser, step by step; nothing is run here"
     )
-    parser.add_argument("--bless", action="store_true", help="writes the answers into the script, as `; = 55`")
+    parser.add_argument("--bless", action="store_true", help="writes answers that are not as expected into the script")
+    parser.add_argument("--dry-run", action="store_true", help="with --bless: lists its changes, and writes nothing")
+    parser.add_argument("--strict", action="store_true", help="a refusal that is not expected is a difference")
+    parser.add_argument("--quiet", action="store_true", help="shows the answers that differ, and the last line alone")
+    parser.add_argument("--diff", action="store_true", help="shows what differs as a unified diff of the script instead")
+    parser.add_argument("--json", metavar="FILE", help="writes steps, answers, digests and refusals as JSON")
+    parser.add_argument("--junit", metavar="FILE", help="writes the result of each script as XML for test runners")
+    parser.add_argument(
+        "--jobs", type=number_to(MOST_JOBS), default=1, metavar="N", help="of a folder so many scripts at a time; else 1"
+    )
+    parser.add_argument("--watch", action="store_true", help="runs again when the script or the font file changes")
+    parser.add_argument("--build", action="store_true", help="proves and builds the program first, where it is lacking")
     _add_shape(parser)
 
 
@@ -121,10 +132,9 @@ def _add_pictures(parser: argparse.ArgumentParser) -> None:
 
 def parser() -> argparse.ArgumentParser:
     """The parser of the command line."""
-    made = argparse.ArgumentParser(
-        prog="vga-report",
-        description="Reads the reports of runs. `-` is standard input, or standard output, in the place of any file.",
-        epilog="Exit status: 0 done, and nothing differs; 1 something differs; 2 the work can't be done.",
+    made = cli.tool_parser(
+        "vga-report", "Runs scripts, and reads the reports of runs. `-` is standard input or output in the place of any file.",
+        "tools/vga-report run examples/text-screen.vga", "tools/README.md", cli.DIFFERS,
     )
     commands = made.add_subparsers(required=True, metavar="COMMAND")
 

@@ -6,9 +6,9 @@ from collections import Counter
 from dataclasses import dataclass, field
 from typing import Iterable, Iterator, Optional
 
-from vga_report.report import READ, REFUSAL, SKIPPED, VALUE
-from vga_report.report import Step as Answer
 from vga_report.trouble import Trouble
+from zaklimot.format import Answer
+from zaklimot.format.report import READ, REFUSAL, SKIPPED, VALUE
 
 from .kinds import Indexes
 from .step import BEAM_BITS, FRAME, NAMES, READS, WORDS, Step

@@ -9,8 +9,10 @@ from typing import ContextManager, Optional, Sequence, TextIO
 
 from vga_report import cli
 from vga_report.output import AGREED, DIFFERED, name_of, refuse_twice
+from vga_report.progress import Progress
 from vga_report.report import Report
 from vga_report.streams import STANDARD, reading, to_read, writing
+from vga_report.trouble import Trouble
 from vga_report.words import number_to, seconds
 
 from .checking import check
@@ -52,8 +54,9 @@ def _add_listing(parser: argparse.ArgumentParser) -> None:
 
 
 def _parser() -> argparse.ArgumentParser:
-    parser = argparse.ArgumentParser(
-        prog="vga-trace", description="Makes scripts of what software did to a VGA. docs/TRACES.md tells how to record it."
+    parser = cli.tool_parser(
+        "vga-trace", "Makes scripts of what software did to a VGA.",
+        "tools/vga-trace convert examples/typed-line.trace script.bin", "docs/TRACES.md", cli.DIFFERS,
     )
     commands = parser.add_subparsers(required=True, metavar="COMMAND")
     command = commands.add_parser("convert", help="makes a script of a trace")
@@ -81,7 +84,14 @@ def _parser() -> argparse.ArgumentParser:
 
 
 def _wanted(words: argparse.Namespace) -> Wanted:
+    _check_range(words)
     return Wanted(words.polls == KEEP, words.time, words.frames, words.to, words.from_)
+
+
+def _check_range(words: argparse.Namespace) -> None:
+    """Ends the work where no cycle is from the first on that is wanted to the last."""
+    if words.to is not None and words.from_ > words.to:
+        raise Trouble(f"--from {words.from_} is behind --to {words.to}: no cycle is both")
 
 
 def _opened(words: argparse.Namespace) -> ContextManager[Trace]:
@@ -98,7 +108,7 @@ def _warn(lines: Sequence[str], name: str) -> None:
         _say(f"vga-trace: warning: {name}: {line}")
 
 
-def _convert(words: argparse.Namespace) -> int:
+def _convert(words: argparse.Namespace, _: Progress) -> int:
     """Makes a script, and says what it has and what the trace lacks."""
     with _opened(words) as trace, writing(words.script) as stream:
         listing = Listing(trace, _wanted(words))
@@ -108,7 +118,7 @@ def _convert(words: argparse.Namespace) -> int:
     return AGREED
 
 
-def _check(words: argparse.Namespace) -> int:
+def _check(words: argparse.Namespace, _: Progress) -> int:
     """Holds a report against a trace."""
     refuse_twice(words.trace, words.report)
     name = name_of(words.report)
@@ -120,8 +130,9 @@ def _check(words: argparse.Namespace) -> int:
     return AGREED if checked.agrees else DIFFERED
 
 
-def _kinds(words: argparse.Namespace) -> int:
+def _kinds(words: argparse.Namespace, _: Progress) -> int:
     """Counts cycles."""
+    _check_range(words)
     with _opened(words) as trace:
         listing = Listing(trace, Wanted(most=words.to))
         found = count(islice(listing.cycles(), words.from_ - 1, None))
@@ -132,10 +143,4 @@ def _kinds(words: argparse.Namespace) -> int:
 
 def main(words: Optional[Sequence[str]] = None) -> int:
     """Runs a command line, and answers its exit status."""
-
-    def work() -> int:
-        parsed = _parser().parse_args(words)
-        status: int = parsed.job(parsed)
-        return status
-
-    return cli.run("vga-trace", work)
+    return cli.main(_parser, words)

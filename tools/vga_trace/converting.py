@@ -7,13 +7,14 @@ from dataclasses import dataclass, field
 from typing import BinaryIO, Iterable, Iterator, Optional, Union
 
 from vga_report.trouble import Trouble
+from zaklimot.format import FIRST_LINE, HEADERS, MOST_BYTES, MOST_STEPS
 
 from .cycle import Cycle
 from .folding import Coded, Row, alone, folded
 from .passing import Flips, Pauses, with_frames_every
 from .rebuilding import rebuilt
 from .state import State
-from .step import FRAME, HEADER, HEADER_2, MOST_BYTES, MOST_STEPS, NAMES, TEXT_HEADER_2, Step, steps_of, without_polls
+from .step import FRAME, NAMES, Step, steps_of, without_polls
 from .trace import Trace
 from .watch import Watch
 
@@ -122,7 +123,7 @@ class Written:
     kinds: Counter[str] = field(default_factory=Counter)
     steps: int = 0
     blocks: int = 0
-    script_bytes: int = len(HEADER)
+    script_bytes: int = len(HEADERS[1])
     text_bytes: int = 0
     last_cycle: int = 0
 
@@ -145,8 +146,8 @@ class Written:
     def header(self) -> bytes:
         """What stands before the rows: version 2 alone has blocks."""
         if self.form.is_text:
-            return TEXT_HEADER_2 if self.blocks else b""
-        return HEADER_2 if self.blocks else HEADER
+            return f"{FIRST_LINE}\n".encode() if self.blocks else b""
+        return HEADERS[2 if self.blocks else 1]
 
     def line(self, listing: Listing) -> str:
         """The figures."""

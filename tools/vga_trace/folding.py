@@ -2,15 +2,13 @@
 
 from __future__ import annotations
 
-import struct
 from itertools import islice
 from typing import Iterable, Iterator, NamedTuple
 
-from .step import Step
+from .step import Step, format
 
-REPEAT, END = 0x0D, 0x0E
-# The bytes of a block but its steps, the most that it counts, and the most steps that are looked at as one group.
-BLOCK_BYTES, MOST_COUNT, MOST_GROUP = 4, 0xFFFF, 8
+# The bytes of a block but its steps, and the most steps that are looked at as one group.
+BLOCK_BYTES, MOST_GROUP = format.Block(1, ()).size, 8
 # Steps that are looked at ahead: as many as the shortest row that is worth a block may have. More are fetched at once.
 AHEAD, FETCHED = 64, 4096
 
@@ -61,7 +59,7 @@ def folded(coded: Iterable[Coded]) -> Iterator[Row]:
             yield Row(data, text, 1, step.cycle)
             continue
         group, keys, count = ahead.coded[at:at + size], ahead.keys[at:at + size], 0
-        while count < MOST_COUNT and ahead.keys[at:at + size] == keys:
+        while count < format.MOST_COUNT and ahead.keys[at:at + size] == keys:
             last = ahead.coded[at + size - 1].step
             at, count = at + size, count + 1
             if len(ahead.coded) - at < size:
@@ -98,6 +96,6 @@ class _Ahead:
 
 def _block(group: list[Coded], count: int, last: Step) -> Row:
     """A block of a group, which is taken so many times, and whose last step is this."""
-    data = struct.pack("<BH", REPEAT, count) + b"".join(coded.data for coded in group) + bytes([END])
+    data = format.encoded(format.Block(count, tuple(coded.step.step for coded in group)))
     text = b"".join(coded.text for coded in group)
-    return Row(data, b"repeat %d\n%send\n" % (count, text) if text else b"", count * len(group), last.cycle)
+    return Row(data, f"{format.REPEAT} {count}\n".encode() + text + f"{format.END}\n".encode() if text else b"", count * len(group), last.cycle)

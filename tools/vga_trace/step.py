@@ -2,31 +2,21 @@
 
 from __future__ import annotations
 
-import struct
 from typing import Iterable, Iterator, NamedTuple, Optional
+
+from vga_report import format
+from zaklimot.format import FORMS
 
 from .cycle import PORT, VBE, Cycle
 
-# What a script of version 1 begins with, and one of version 2, which may have blocks; as bytes and as text.
-HEADER, HEADER_2, TEXT_HEADER_2 = b"VGAS\x01", b"VGAS\x02", b"version 2\n"
-# The most bytes that a script may have, and a text too; and the most steps that a script may mean.
-MOST_BYTES = MOST_STEPS = 1 << 24
-OUT, OUTW, IN, INW, PUT, PUTW, GET, GETW = range(1, 9)
-ADVANCE, FRAME = 0x0A, 0x0B
-NAMES = {
-    OUT: "out", OUTW: "outw", IN: "in", INW: "inw", PUT: "put", PUTW: "putw", GET: "get", GETW: "getw",
-    ADVANCE: "advance", FRAME: "frame",
-}
-READS, WRITES = (IN, INW, GET, GETW), (OUT, OUTW, PUT, PUTW)
+# The steps that cycles become, and those between them, by their opcodes.
+NAMES = {FORMS[name].opcode: name for name in ("out", "outw", "in", "inw", "put", "putw", "get", "getw", "advance", "frame")}
+OUT, OUTW, IN, INW, PUT, PUTW, GET, GETW, ADVANCE, FRAME = NAMES
+READS = (IN, INW, GET, GETW)
 PORTS, WORDS = (OUT, OUTW, IN, INW), (OUTW, INW, PUTW, GETW)
 # Input status 1, with colour and without; bits 0 and 3 tell where the beam is.
 STATUS = (0x3DA, 0x3BA)
 BEAM_BITS = 0x09
-FORMS = {
-    OUT: struct.Struct("<BHB"), OUTW: struct.Struct("<BHH"), IN: struct.Struct("<BH"), INW: struct.Struct("<BH"),
-    PUT: struct.Struct("<BIB"), PUTW: struct.Struct("<BIH"), GET: struct.Struct("<BI"), GETW: struct.Struct("<BI"),
-    ADVANCE: struct.Struct("<BI"),
-}
 
 
 class Step(NamedTuple):
@@ -64,26 +54,22 @@ class Step(NamedTuple):
             return ((self.address, self.value & 0xFF), (self.address + 1, self.value >> 8))
         return ()
 
+    @property
+    def step(self) -> format.Step:
+        """The step of a script."""
+        numbers = (self.address, self.value)
+        return format.Step(NAMES[self.opcode], numbers[:len(FORMS[NAMES[self.opcode]].fields)])
+
     def data(self) -> bytes:
         """The step as bytes of a script."""
-        if self.opcode == FRAME:
-            return bytes([FRAME])
-        if self.opcode in WRITES:
-            return FORMS[self.opcode].pack(self.opcode, self.address, self.value)
-        return FORMS[self.opcode].pack(self.opcode, self.address)
+        return format.encoded(self.step)
 
     def text(self) -> bytes:
         """The step as a line, as `vga dis` prints it; behind a read, what was read is what is expected."""
-        name = NAMES[self.opcode]
-        if self.opcode == FRAME:
-            return b"frame\n"
-        if self.opcode == ADVANCE:
-            return f"advance {self.address}\n".encode()
-        place = f"{self.address:03X}" if self.is_port else f"{self.address:05X}"
-        value = f"{self.value:04X}" if self.opcode in WORDS else f"{self.value:02X}"
-        if self.opcode in READS:
-            value = "" if self.is_status else f"; = {value}"
-        return f"{name} {place} {value}".rstrip().encode() + b"\n"
+        line = format.printed(self.step)
+        if self.opcode in READS and not self.is_status:
+            line += f" ; = {self.value:0{4 if self.opcode in WORDS else 2}X}"
+        return line.encode() + b"\n"
 
 
 def _narrowed(number: int, cycle: Cycle) -> Iterator[Step]:

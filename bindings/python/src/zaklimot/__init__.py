@@ -1,0 +1,1 @@
+"""Zaklimot for Python."""

@@ -1,0 +1,107 @@
+"""What each step may answer, held against what it did answer. docs/REPORT.md tells the forms."""
+
+from __future__ import annotations
+
+import re
+from typing import Optional, Sequence
+
+from .picture import Picture
+from .report import REFUSED, Answer
+from .script import Step
+from .table import ADVANCE, CALLED, DUMP, MOST_ADVANCE, OK, PICTURE, READ_BYTE, READ_WORD, REFUSALS
+
+_BYTE, _WORD = "[0-9A-F]{2}", "[0-9A-F]{4}"
+_CALLED = re.compile(rf"ax={_WORD} bx={_WORD} cx={_WORD} dx={_WORD}(?: block ((?:{_BYTE})+))?")
+_READ = {READ_BYTE: re.compile(_BYTE), READ_WORD: re.compile(_WORD)}
+RAGGED = "ragged"
+# The calls that answer a block: of the palette, and of DAC registers, as many as CX counts.
+_PALETTE_BLOCK, _DAC_BLOCK, _PALETTE_BYTES = 0x1009, 0x1017, 17
+
+
+def _bytes(count: int) -> str:
+    return f"(?: {_BYTE}){{{count}}}"
+
+
+# The registers that `show regs` shows in rows: their name, and how many there are behind the index.
+GROUPS = {"seq": 5, "crtc": 25, "gfx": 9, "attr": 21}
+_DUMPS = {
+    "show regs": [
+        f"misc {_BYTE}", *(f"{name} {_BYTE}:{_bytes(count)}" for name, count in GROUPS.items() if name != "attr"),
+        f"attr {_BYTE} [id]:{_bytes(GROUPS['attr'])}", f"dac {_BYTE} [rgb]{_bytes(3)}",
+    ],
+    "show beam": [
+        "beam frame [0-9]{1,2} line [0-9]{1,4} char [0-9]{1,3} dot [0-9] "
+        f"base {_WORD} scan [0-9]{{1,2}} half [01] split [01] rows [0-9]{{1,4}}"
+    ],
+    "show latches": [f"latches{_bytes(4)}"],
+    "show bda": [
+        f"bda mode {_BYTE} cols {_WORD} size {_WORD} start {_WORD} at(?: {_WORD}){{8}} type {_WORD} page {_BYTE} "
+        f"crtc {_WORD} last {_BYTE} height {_WORD}"
+    ],
+}
+# The rows and columns that a screen of cells may have.
+_ROWS, _COLUMNS = (25, 28, 50), (40, 80)
+
+
+def _dump(step: Step) -> Optional[list[str]]:
+    """The forms of a dump's lines; None of the cells."""
+    if step.name == "show dac":
+        return [f"entry {step.numbers[0]:02X}:(?: [0-3][0-9A-F]){{3}}"]
+    if step.name == "show plane":
+        plane, offset, count = step.numbers
+        return [f"plane {plane} {offset:04X}:{_bytes(count)}"]
+    return _DUMPS.get(step.name)
+
+
+def _are_cells(lines: Sequence[str]) -> bool:
+    """Whether lines are a dump of the cells."""
+    return len(lines) in _ROWS and any(
+        all(re.fullmatch(f"row {row:02X}:(?: {_WORD}){{{columns}}}", line) for row, line in enumerate(lines))
+        for columns in _COLUMNS
+    )
+
+
+def _is_dump(step: Step, answer: Answer) -> bool:
+    forms, lines = _dump(step), answer.lines
+    if answer.picture is not None or forms is None:
+        return answer.picture is None and _are_cells(lines)
+    return len(forms) == len(lines) and all(map(re.fullmatch, forms, lines))
+
+
+def _is_call(step: Step, answer: str) -> bool:
+    """Whether a call answers registers, and its block where it has one."""
+    found = _CALLED.fullmatch(answer)
+    if found is None:
+        return False
+    ax, _, cx, _ = step.numbers
+    length = {_PALETTE_BLOCK: _PALETTE_BYTES, _DAC_BLOCK: 3 * cx}.get(ax, 0)
+    return len(found[1] or "") == 2 * length
+
+
+def _must_be_refused(step: Step) -> bool:
+    return step.name == ADVANCE and step.numbers[0] > MOST_ADVANCE
+
+
+def _is_refusal(step: Step, number: int, name: str) -> bool:
+    """Whether a step may be refused so."""
+    is_far = step.name != ADVANCE or _must_be_refused(step)
+    return is_far and number in step.form.refusals and REFUSALS[number] == name
+
+
+def is_answer_to(step: Step, answer: Answer) -> bool:
+    """Whether an answer has a form that this step's may have, and a refusal a number and a name that it may have."""
+    has_more = bool(answer.others) or answer.picture is not None
+    refused, kind = REFUSED.fullmatch(answer.answer), step.form.answer
+    if refused is not None:
+        return not has_more and _is_refusal(step, int(refused[1]), refused[2])
+    if _must_be_refused(step):
+        return False
+    if kind == DUMP:
+        return _is_dump(step, answer)
+    if kind == PICTURE:
+        return isinstance(answer.picture, Picture) or (answer.answer == RAGGED and not has_more)
+    if has_more:
+        return False
+    if kind == CALLED:
+        return _is_call(step, answer.answer)
+    return bool(_READ[kind].fullmatch(answer.answer)) if kind in _READ else answer.answer == OK

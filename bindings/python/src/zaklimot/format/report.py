@@ -1,0 +1,190 @@
+"""A report, answer by answer."""
+
+from __future__ import annotations
+
+import io
+import re
+from typing import Callable, Iterator, NamedTuple, Optional, Union
+
+from .picture import Digest, Picture
+from .table import FAULT, OK, REFUSALS
+
+# Longer lines than any answer has, a block of 65,535 bytes among them, and larger pictures than any adapter's.
+MOST_LINE, MOST_PICTURE = 1 << 18, 1 << 26
+# So many lines are read between two calls of what hears how far a report was read.
+_LINES_BETWEEN = 4096
+
+TEXT = re.compile(rb"[ -~]+\n")
+_PICTURE = re.compile(r"picture ([1-9][0-9]{0,11})")
+# A picture as a report that is kept as text shows it: its length, its size and its digest in the place of its bytes.
+_SHOWN = re.compile(r"(picture ([1-9][0-9]{0,11})) ([1-9][0-9]{0,6}x[1-9][0-9]{0,6}) ([0-9a-f]{32})")
+READ = re.compile(r"[0-9A-F]{2}|[0-9A-F]{4}")
+REFUSED = re.compile(r"E([1-9][0-9]?) ([A-Z][A-Za-z]*)")
+# What a harness answers that leaves a step out.
+SKIPPED = "skipped"
+# The kinds of answers that may look like one another.
+VALUE, REFUSAL, RUN_FAULT = "read", "refused", "fault"
+# The answers of most steps: they are found by a look, which makes long reports quick to read.
+_PLAIN = {b"%s\n" % answer.encode(): answer for answer in (OK, SKIPPED, *("%02X" % value for value in range(256)))}
+_MOST_PLAIN = 1024
+# What may stand where the lines of an answer have ended.
+_DIGITS_OR_END = (b"", *(b"%d" % digit for digit in range(10)))
+
+
+class ReportError(ValueError):
+    """A report is damaged: the reason, and the line from 1 where it is."""
+
+    def __init__(self, reason: str, line: int) -> None:
+        super().__init__(f"line {line}: {reason}")
+        self.reason = reason
+        self.line = line
+
+
+class Answer(NamedTuple):
+    """What one step answered: its number, its line in the report, and the lines of the answer.
+
+    A fault in the place of a report is an answer with the number 0.
+    """
+
+    number: int
+    line: int
+    answer: str
+    others: tuple[str, ...] = ()
+    picture: Union[Picture, Digest, None] = None
+
+    @property
+    def lines(self) -> tuple[str, ...]:
+        """The lines of the answer."""
+        return (self.answer, *self.others)
+
+    @property
+    def kind(self) -> str:
+        """What kind of answer it is, where another kind may look like it."""
+        if self.number == 0:
+            return RUN_FAULT
+        if READ.fullmatch(self.answer):
+            return VALUE
+        return REFUSAL if REFUSED.fullmatch(self.answer) else ""
+
+    @property
+    def refusal(self) -> int:
+        """The number of the refusal that it is, 1 to 13; else 0."""
+        found = REFUSED.fullmatch(self.answer)
+        number = int(found[1]) if found and self.number else 0
+        return number if found and REFUSALS.get(number) == found[2] else 0
+
+    def text(self) -> str:
+        """Its lines, with a picture as one line; it ends with a newline."""
+        if not (self.others or self.picture):
+            return f"{self.number} {self.answer}\n" if self.number else f"{self.answer}\n"
+        picture = "" if self.picture is None else f" {self.picture.size} {self.picture.sum}"
+        return f"{self.number} " + "\n".join(self.lines) + picture + "\n"
+
+
+class Report:
+    """A report that is read from a stream. Lines are counted from 1, and a picture with its line is one.
+
+    `heard` is called now and then while it is read, with the line.
+    """
+
+    def __init__(self, stream: io.BufferedReader, heard: Optional[Callable[[int], None]] = None) -> None:
+        self._stream = stream
+        self._heard = heard
+        # The answers of steps that a look finds, with the refusals that came.
+        self._plain = dict(_PLAIN)
+        self.line = 0
+        # How many steps were read so far.
+        self.count = 0
+
+    def answers(self) -> Iterator[Answer]:
+        """The answers in their order; a ReportError where the report is damaged, behind those before that place."""
+        number = 1
+        for line in iter(self._next_line, b""):
+            front = b"%d " % number
+            plain = self._plain.get(line[len(front):]) if line.startswith(front) else None
+            self.count = number
+            yield Answer(number, self.line, plain) if plain is not None else self._answer(number, line)
+            number += 1
+
+    def _answer(self, number: int, line: bytes) -> Answer:
+        """The answer that begins with a line, and has this number if it is one."""
+        text = self._text_of(line)
+        place = self.line
+        if number == 1 and FAULT.fullmatch(text):
+            return self._fault(text)
+        front, _, answer = text.partition(" ")
+        if front != str(number) or not answer:
+            raise self._error(f"step {number} is to come, and not '{_front_of(text)}'")
+        if answer.split(" ")[0] == "picture":
+            return self._picture_answer(number, answer)
+        if REFUSED.fullmatch(answer) or READ.fullmatch(answer):
+            if len(self._plain) < _MOST_PLAIN:
+                self._plain[line[len(front) + 1:]] = answer
+            return Answer(number, place, answer)
+        return Answer(number, place, answer, tuple(self._other_lines()))
+
+    def _picture_answer(self, number: int, answer: str) -> Answer:
+        """The answer of a picture, whose bytes stand next, or whose digest stands in their place."""
+        place = self.line
+        announced = _PICTURE.fullmatch(answer)
+        if announced is not None:
+            return Answer(number, place, answer, (), self._picture(number, int(announced[1])))
+        shown = _SHOWN.fullmatch(answer)
+        if shown is None:
+            raise self._error(f"step {number} has a picture of no length: '{_front_of(answer)}'")
+        return Answer(number, place, shown[1], (), Digest(int(shown[2]), shown[3], shown[4]))
+
+    def _fault(self, text: str) -> Answer:
+        """A fault in the place of a report, behind which nothing may stand."""
+        if self._next_line():
+            raise self._error("something stands behind a fault")
+        return Answer(0, 1, text)
+
+    def _next_line(self) -> bytes:
+        """The next line with its newline, as far as there is one; nothing at the report's end."""
+        self.line += 1
+        if self._heard is not None and self.line % _LINES_BETWEEN == 0:
+            self._heard(self.line)
+        return self._stream.readline(MOST_LINE)
+
+    def _text_of(self, line: bytes) -> str:
+        """A line's text, without its newline."""
+        if len(line) == MOST_LINE:
+            raise self._error("the line is longer than any answer")
+        if not line.endswith(b"\n"):
+            raise self._error("the report ends within a line")
+        if line.endswith(b"\r\n"):
+            raise self._error("the line ends with a carriage return: a report is bytes, not a system's text")
+        if TEXT.fullmatch(line) is None:
+            raise self._error("the line is empty, or has bytes that no answer has")
+        return line[:-1].decode("ascii")
+
+    def _other_lines(self) -> Iterator[str]:
+        """The lines up to the next step's, as a dump has them: none of them begins with a digit."""
+        while self._stream.peek(1)[:1] not in _DIGITS_OR_END:
+            yield self._text_of(self._next_line())
+
+    def _picture(self, number: int, length: int) -> Picture:
+        """The picture of so many bytes that stands next, and its newline."""
+        if length > MOST_PICTURE:
+            raise self._error(f"step {number} has a picture of {length} bytes, and {MOST_PICTURE} are the most")
+        ppm = self._stream.read(length)
+        newline = self._stream.read(1)
+        if len(ppm) < length:
+            raise self._error(f"the picture of step {number} is cut off: of {length} bytes there are {len(ppm)}")
+        if newline != b"\n":
+            raise self._error(f"no newline stands behind the {length} bytes of the picture of step {number}")
+        if self._heard is not None:
+            self._heard(self.line)
+        try:
+            return Picture.of_ppm(ppm)
+        except ValueError as error:
+            raise self._error(f"step {number}: {error}") from error
+
+    def _error(self, reason: str) -> ReportError:
+        return ReportError(reason, self.line)
+
+
+def _front_of(text: str) -> str:
+    """The front of a line, for messages."""
+    return text if len(text) <= 40 else text[:40] + ".."
