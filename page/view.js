@@ -190,6 +190,7 @@ export class View {
     if (error instanceof RangeError) return this.tell(`There is no memory left for this: ${error.message}.`);
     if (!(error instanceof WebAssembly.RuntimeError)) throw error;
     this.session = null;
+    this.forget();
     this.adapter = await Adapter.opened(this.module);
     return this.tell(
       `The module has stopped (${error.message}). It is opened anew: change the script, and it runs again.`);

@@ -123,7 +123,7 @@ test("what is seen of a step leaves the card after it", () => {
 /** A way to a state takes less, in milliseconds. */
 const MOST_WAY = 25;
 
-/** How long it takes to see a step from elsewhere: the least of some times, since others use the machine too. */
+/** How long it takes to see a step from elsewhere: the least of some times, since others work too. */
 function quickest(session, step) {
   let least = Infinity;
   for (let time = 0; time < 3 || (time < 10 && least >= MOST_WAY); time++) {
