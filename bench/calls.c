@@ -209,6 +209,16 @@ static void make_one(void) { make_script(1); }
 static void make_puts(void) { make_script(PUTS); }
 static void make_lines(void) { make_script(LINES); }
 
+/* The puts after an `int ax=13`, without which they are refused from power-on. */
+static void make_run(void)
+{
+    static const uint8_t mode[] = {9, 0x13, 0, 0, 0, 0, 0, 0, 0, 0, 0};
+    make_script(PUTS);
+    memmove(script + HEADER_BYTES + sizeof mode, script + HEADER_BYTES, script_len - HEADER_BYTES);
+    memcpy(script + HEADER_BYTES, mode, sizeof mode);
+    script_len += sizeof mode;
+}
+
 static zak_status take(uint32_t first, uint32_t most)
 {
     return zak_run_on(&card, script, script_len, first, most, report, sizeof report, &len, &taken,
@@ -218,6 +228,13 @@ static zak_status take(uint32_t first, uint32_t most)
 static zak_status do_run_on_first(uint32_t i) { return take(i & 0, 1); }
 static zak_status do_run_on_last(uint32_t i) { return take(PUTS - 1 + (i & 0), 1); }
 static zak_status do_run_on_all(uint32_t i) { return take(i & 0, PUTS); }
+
+/* A run of the whole script from power-on, on a card of its own. */
+static zak_status do_run_whole(uint32_t i)
+{
+    (void)i;
+    return zak_run(script, script_len, fonts, sizeof fonts, report, sizeof report, &len, &place);
+}
 
 /* As many calls as that takes steps. */
 static zak_status do_puts(uint32_t i)
@@ -280,6 +297,7 @@ static const struct call {
     {"run_on_first", do_run_on_first, make_puts},
     {"run_on_last", do_run_on_last, make_puts},
     {"run_on_all", do_run_on_all, make_puts},
+    {"run_whole", do_run_whole, make_run},
     {"puts", do_puts, NULL},
     {"assemble", do_assemble, make_lines},
     {"print", do_print, make_lines},

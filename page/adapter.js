@@ -6,7 +6,10 @@ import { grouped } from "./bytes.js";
 export const HIGHEST = 1024, WIDEST = 2304, FONTS_SIZE = 9728, FIRST_STATE = 265086, MOST_STATE = 7342974;
 /** Bytes of the largest picture, with its head and a newline. */
 export const MOST_PICTURE = 3 * WIDEST * HIGHEST + 32;
-const STATUS_MEMORY = 23, STATUS_NO_ROOM = 25, STATUS_BAD_LINE = 107, STATUS_TOO_LONG = 106;
+/** So many bytes before a state make its planes begin at multiples of four. */
+const AHEAD = 2;
+export const STATUS_NO_ROOM = 25;
+const STATUS_MEMORY = 23, STATUS_BAD_LINE = 107, STATUS_TOO_LONG = 106;
 const NO_MEMORY = "The module has no memory left for this.";
 
 /** The module, and rooms in its memory that calls write into. */
@@ -65,6 +68,18 @@ export class Adapter {
     return this.bytes.slice(room.place, room.place + length);
   }
 
+  /** Bytes in the module's memory, given in parts. */
+  givenParts(name, parts) {
+    const length = parts.reduce((sum, part) => sum + part.length, 0), room = this.room(name, length);
+    const { bytes } = this;
+    let { place } = room;
+    for (const part of parts) {
+      bytes.set(part, place);
+      place += part.length;
+    }
+    return { at: room.at, length: BigInt(length) };
+  }
+
   /** One of the lengths and places that calls tell. */
   number(at) {
     return Number(this.view.getBigUint64(this.told.place + 8 * at, true));
@@ -99,13 +114,25 @@ export class Adapter {
     return { status, place: status ? this.number(1) : 0, text: bytes };
   }
 
-  /** A whole run from power-on: { status, report, place }. */
-  run(script, fonts) {
+  /** A whole run from power-on, whose report has about so many bytes: { status, report, place }. */
+  run(script, fonts, size = 1 << 20) {
+    let told = this.runWithin(script, fonts, size);
+    if (told.status === STATUS_NO_ROOM) told = this.runWithin(script, fonts, told.length);
+    return { ...told, place: told.status ? this.number(1) : 0, report: told.report.slice() };
+  }
+
+  /**
+   * A whole run from power-on whose report may have so many bytes: { status, length, report }. The report is
+   * a view of the module's memory, which holds until the next call; its length is told where it has no room.
+   */
+  runWithin(script, fonts, size) {
     const given = this.given("script", script), font = this.given("fonts", fonts), told = this.told.at;
-    const { status, bytes } = this.written("report", 1 << 20, room =>
-      this.calls.zak_run(given.at, given.length, font.at, font.length, room.at, room.length, told,
-        told + 8n));
-    return { status, place: status ? this.number(1) : 0, report: bytes };
+    const room = this.room("report", Math.max(1, size));
+    const status = this.calls.zak_run(given.at, given.length, font.at, font.length, room.at, BigInt(size),
+      told, told + 8n);
+    if (status === STATUS_MEMORY) throw new Trouble(NO_MEMORY);
+    const isTold = !status || status === STATUS_NO_ROOM, length = isTold ? this.number(0) : 0;
+    return { status, length, report: this.bytes.subarray(room.place, room.place + (status ? 0 : length)) };
   }
 }
 
@@ -153,16 +180,24 @@ export class Card {
     return { taken: adapter.number(1), report: adapter.bytes.subarray(report.place, report.place + length) };
   }
 
-  /** The state as bytes (docs/STATE.md). */
-  save() {
+  /** The state as bytes (docs/STATE.md), in the module's memory: they hold until the next call. */
+  saved() {
     const adapter = this.adapter, room = adapter.room("state", MOST_STATE);
     const status = adapter.calls.zak_save(this.at, room.at, room.length, adapter.told.at);
     if (status) throw new Trouble(`The card is not saved: the module answers ${status}.`);
-    return adapter.copied(room, adapter.number(0));
+    return adapter.bytes.subarray(room.place, room.place + adapter.number(0));
   }
 
-  restore(state) {
-    const given = this.adapter.given("state", state);
+  /** A copy of the state's bytes, in which planes begin at multiples of four. */
+  save() {
+    const saved = this.saved(), bytes = new Uint8Array(new ArrayBuffer(saved.length + AHEAD), AHEAD);
+    bytes.set(saved);
+    return bytes;
+  }
+
+  /** Restores a state, whose bytes are given in parts. */
+  restore(parts) {
+    const given = this.adapter.givenParts("state", parts);
     const status = this.adapter.calls.zak_restore(this.at, given.at, given.length);
     if (status) throw new Trouble(`The card is not restored: the module answers ${status}.`);
   }

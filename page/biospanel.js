@@ -1,6 +1,6 @@
 // The BIOS data by name.
-import { element, pageLink } from "./dom.js";
-import { plainTable, rowsOfStates } from "./registerpanel.js";
+import { PlainTable, rowsOfStates } from "./registerpanel.js";
+import { element, pageLink, setText } from "./dom.js";
 import { hex } from "./bytes.js";
 
 function biosRows({ bda }) {
@@ -17,10 +17,18 @@ function biosRows({ bda }) {
 }
 
 /** The panel of BIOS data. */
-export function biosPanel(base, { before, after }) {
-  const said = after.hasMode ? "" : " No mode is set yet, so all of them are 0.";
-  return element("div", {}, element("p", { className: "hint" },
-    "Offsets are those of the data area at segment 0040. ",
-    pageLink(base, "SERVICES.md", "the-bios-data", "What changes them"), ".", said),
-  plainTable("BIOS data", rowsOfStates(before, after, biosRows)));
+export class BiosPanel {
+  constructor(base) {
+    Object.assign(this, { table: new PlainTable("BIOS data"), said: element("span") });
+    const link = pageLink(base, "SERVICES.md", "the-bios-data", "What changes them");
+    const hint = element("p", { className: "hint" },
+      "Offsets are those of the data area at segment 0040. ", link, ".", this.said);
+    this.root = element("div", {}, hint, this.table.made);
+  }
+
+  made({ before, after }) {
+    setText(this.said, after.hasMode ? "" : " No mode is set yet, so all of them are 0.");
+    this.table.fill(rowsOfStates(before, after, biosRows));
+    return this.root;
+  }
 }

@@ -64,3 +64,14 @@ export async function throughStream(bytes, stream, most = Infinity) {
     }
   }
 }
+
+/** The 32-bit words of bytes that begin at a multiple of four and are so many. */
+export function wordsOfBytes(bytes) {
+  return new Uint32Array(bytes.buffer, bytes.byteOffset, bytes.length >> 2);
+}
+
+/** Whether two lists of as many words are the same. */
+export function sameWords(one, other) {
+  for (let at = 0; at < one.length; at++) if (one[at] !== other[at]) return false;
+  return true;
+}

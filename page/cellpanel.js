@@ -1,11 +1,15 @@
 // The cells of text that the adapter shows, with their characters' glyphs in plane 2.
 import { LETTERS_437 } from "./codepage.js";
 import { characterWidth, dacEntry, displayedLines, fetchAddress, windowShape } from "./state.js";
-import { element } from "./dom.js";
-import { hex } from "./bytes.js";
+import { element, setAll, setText } from "./dom.js";
+import { hex, sameWords, wordsOfBytes } from "./bytes.js";
 import { widened } from "./png.js";
 
 const GLYPH_WIDTH = 8;
+/** Of more rows the first are shown. */
+const MOST_ROWS = 128;
+/** Bits of what a cell shows: the cursor, and a change by the last step. */
+const CURSOR = 1 << 16, CHANGED = 1 << 17;
 // The colours of a cell whose own are alike, so that its character can be read.
 const ALIKE = [0xff909090, 0xff303030];
 
@@ -61,57 +65,95 @@ function cellColours(state) {
     maps: [select & 3 | select >> 2 & 4, select >> 2 & 3 | select >> 3 & 4] };
 }
 
-function drawMarks(brush, rows, tops, before) {
-  rows.forEach(({ cells, lines }, row) => cells.forEach((cell, column) => {
-    const isChanged = before && [0, 1].some(plane => before.plane(plane)[cell.address] !== [cell.character,
-      cell.attribute][plane]);
-    if (!isChanged && !cell.isCursor) return;
-    brush.strokeStyle = isChanged ? "#f6c344" : "#4a90d9";
-    brush.lineWidth = 2;
-    brush.strokeRect(GLYPH_WIDTH * column + 1, tops[row] + 1, GLYPH_WIDTH - 2, Math.max(2, lines - 2));
-  }));
-}
-
-/** The panel of cells. */
-export function cellPanel({ before, after }) {
-  const { registers } = after;
-  if (registers.gfx[6] & 1) {
-    return element("p", { className: "hint" },
+/** The panel of cells, whose canvas is painted where a cell differs from what it shows. */
+export class CellPanel {
+  constructor() {
+    this.canvas = element("canvas", { className: "cells sharp", role: "img" });
+    this.told = element("output", { className: "told" });
+    this.hint = element("p", { className: "hint" },
       "The adapter shows graphics: bit 0 of miscellaneous, graphics controller 6, is 1.");
+    this.brush = this.canvas.getContext("2d", { alpha: false });
+    this.canvas.addEventListener("pointermove", event => this.tell(event));
+    this.root = element("div", { className: "cellbox" }, this.canvas, this.told);
   }
-  const rows = cellsOf(after).slice(0, 128), columns = rows[0]?.cells.length ?? 0;
-  const tops = rows.map((_, i) => rows.slice(0, i).reduce((sum, row) => sum + row.lines, 0));
-  const width = Math.max(1, GLYPH_WIDTH * columns),
-    height = Math.max(1, rows.reduce((sum, row) => sum + row.lines, 0));
-  const canvas = element("canvas", { width, height, className: "cells sharp", role: "img" }),
-    drawing = cellColours(after);
-  const image = new ImageData(width, height), words = new Uint32Array(image.data.buffer);
-  rows.forEach((row, i) => row.cells.forEach((cell, column) =>
-    drawCell(words, width, GLYPH_WIDTH * column, tops[i], row.lines, cell, drawing)));
-  const brush = canvas.getContext("2d");
-  brush.putImageData(image, 0, 0);
-  drawMarks(brush, rows, tops, before === after ? null : before);
-  const lines = rows.map(row => row.cells.map(cell => LETTERS_437[cell.character]).join("").trimEnd());
-  canvas.setAttribute("aria-label",
-    `${rows.length} rows of ${columns} cells: ${lines.filter(line => line).join(" / ").slice(0, 2000)}`);
-  return withReadout(canvas, rows, tops, characterWidth(registers));
-}
 
-/** The canvas with a line below it that tells the cell under the pointer. */
-function withReadout(canvas, rows, tops, width) {
-  const hint = `${rows.length} rows of ${rows[0]?.cells.length ?? 0} cells, ${width} dots wide. ` +
-    "Yellow: changed by the last step; blue: the cursor; grey: both colours are alike.";
-  const told = element("output", { className: "told" }, hint);
-  canvas.addEventListener("pointermove", event => {
-    const box = canvas.getBoundingClientRect(), y = (event.clientY - box.top) * canvas.height / box.height;
-    const row = tops.findLastIndex(top => top <= y),
-      column = Math.floor((event.clientX - box.left) * canvas.width / box.width / GLYPH_WIDTH);
+  made({ before, after }) {
+    if (after.registers.gfx[6] & 1) return this.hint;
+    const rows = cellsOf(after).slice(0, MOST_ROWS);
+    let high = 0;
+    for (const row of rows) [row.top, high] = [high, high + row.lines];
+    this.rows = rows;
+    this.shape(Math.max(1, GLYPH_WIDTH * (rows[0]?.cells.length ?? 0)), Math.max(1, high));
+    const drawing = cellColours(after), old = this.isOther(drawing) ? [] : this.keys;
+    this.keys = rows.map(row => keysOf(row, after, before === after ? null : before));
+    rows.forEach((row, i) => this.drawRow(row, drawing, this.keys[i], old[i]));
+    this.describe(after.registers);
+    return this.root;
+  }
+
+  shape(width, height) {
+    const { canvas } = this;
+    if (canvas.width === width && canvas.height === height && this.image) return;
+    Object.assign(canvas, { width, height });
+    this.image = new ImageData(width, height);
+    this.words = new Uint32Array(this.image.data.buffer);
+  }
+
+  /** Whether all cells are to be painted: rows, colours or glyphs are not those of what is painted. */
+  isOther(drawing) {
+    const { colours, hasBlink, maps, state } = drawing, { width, height } = this.canvas;
+    const look = [width, height, ...this.rows.map(row => row.lines), ...colours, hasBlink, ...maps].join();
+    const glyphs = wordsOfBytes(state.plane(2));
+    const isSame = look === this.look && sameWords(glyphs, this.glyphs);
+    Object.assign(this, { look, glyphs });
+    return !isSame;
+  }
+
+  /** Paints a row in which a cell differs from what stands on the canvas. */
+  drawRow({ cells, top, lines }, drawing, keys, old) {
+    if (old && cells.every((_, column) => keys[column] === old[column])) return;
+    const { image, brush } = this;
+    cells.forEach((cell, column) =>
+      drawCell(this.words, image.width, GLYPH_WIDTH * column, top, lines, cell, drawing));
+    brush.putImageData(image, 0, 0, 0, top, image.width, lines);
+    keys.forEach((key, column) => {
+      if (key < CURSOR) return;
+      brush.strokeStyle = key & CHANGED ? "#f6c344" : "#4a90d9";
+      brush.lineWidth = 2;
+      brush.strokeRect(GLYPH_WIDTH * column + 1, top + 1, GLYPH_WIDTH - 2, Math.max(2, lines - 2));
+    });
+  }
+
+  /** Tells what the panel shows, for who does not see it too. */
+  describe(registers) {
+    const { rows } = this, size = `${rows.length} rows of ${rows[0]?.cells.length ?? 0} cells`;
+    const lines = rows.map(row => row.cells.map(cell => LETTERS_437[cell.character]).join("").trimEnd());
+    const ariaLabel = `${size}: ${lines.filter(line => line).join(" / ").slice(0, 2000)}`;
+    setAll(this.canvas, { ariaLabel });
+    setText(this.told, `${size}, ${characterWidth(registers)} dots wide. ` +
+      "Yellow: changed by the last step; blue: the cursor; grey: both colours are alike.");
+  }
+
+  /** Tells the cell under the pointer. */
+  tell(event) {
+    const { canvas, rows } = this, box = canvas.getBoundingClientRect();
+    const y = (event.clientY - box.top) * canvas.height / box.height;
+    const row = rows.findLastIndex(({ top }) => top <= y);
+    const column = Math.floor((event.clientX - box.left) * canvas.width / box.width / GLYPH_WIDTH);
     const cell = rows[row]?.cells[column];
     if (!cell) return;
     const { character, attribute, address } = cell;
-    told.textContent =
+    setText(this.told,
       `row ${row}, column ${column}: character ${hex(character, 2)} ${LETTERS_437[character]}, ` +
-      `attribute ${hex(attribute, 2)}, at ${hex(address, 4)} of planes 0 and 1`;
+      `attribute ${hex(attribute, 2)}, at ${hex(address, 4)} of planes 0 and 1`);
+  }
+}
+
+/** What a row's cells show, but for colours and glyphs: a number each. */
+function keysOf({ cells }, after, before) {
+  return cells.map(({ character, attribute, address, isCursor }) => {
+    const isChanged = before !== null && [0, 1].some(plane =>
+      before.plane(plane)[address] !== after.plane(plane)[address]);
+    return character | attribute << 8 | (isCursor ? CURSOR : 0) | (isChanged ? CHANGED : 0);
   });
-  return element("div", { className: "cellbox" }, canvas, told);
 }

@@ -1,6 +1,6 @@
 // What a step has changed: the differences of the states before and after it.
 import { GROUPS, valuesOf } from "./registers.js";
-import { counted, hex } from "./bytes.js";
+import { counted, hex, wordsOfBytes } from "./bytes.js";
 
 const POINTERS = { seqIndex: "sequencer index", gfxIndex: "graphics index", crtcIndex: "CRT controller index",
   attrIndex: "attribute index", dacIndex: "DAC index", dacMask: "DAC mask" };
@@ -12,6 +12,16 @@ export function differingBytes(before, after) {
   return found;
 }
 
+/** The same of parts that are many words, most of which are alike. */
+function differingInWords(before, after) {
+  const found = [], old = wordsOfBytes(before), now = wordsOfBytes(after);
+  for (let word = 0; word < now.length; word++) {
+    if (old[word] === now[word]) continue;
+    for (let at = 4 * word; at < 4 * word + 4; at++) if (before[at] !== after[at]) found.push(at);
+  }
+  return found;
+}
+
 /** What was found of the changed bytes of planes, by the state after the step. */
 const CHANGED_PLANES = new WeakMap();
 
@@ -19,7 +29,7 @@ const CHANGED_PLANES = new WeakMap();
 export function changedPlanes(before, after) {
   const known = CHANGED_PLANES.get(after);
   if (known?.before === before) return known.found;
-  const found = [0, 1, 2, 3].map(plane => differingBytes(before.plane(plane), after.plane(plane)));
+  const found = [0, 1, 2, 3].map(plane => differingInWords(before.plane(plane), after.plane(plane)));
   CHANGED_PLANES.set(after, { before, found });
   return found;
 }

@@ -16,6 +16,24 @@ export function element(name, properties = {}, ...inside) {
   return made;
 }
 
+/** Gives an element a text, where it has another one. */
+export function setText(made, text) {
+  if (made.said === text) return;
+  made.said = text;
+  if (made.firstChild) made.firstChild.data = text;
+  else made.append(text);
+}
+
+/** Gives an element's properties values, where they have others. */
+export function setAll(made, properties) {
+  for (const [key, value] of Object.entries(properties)) if (made[key] !== value) made[key] = value;
+}
+
+/** The names of those classes that are to be had, in one text. */
+export function classesOf(...names) {
+  return names.filter(name => name).join(" ");
+}
+
 /** A link to a place of the documentation. */
 export function pageLink(base, page, anchor, title, properties = {}) {
   return element("a", { href: `${base}${page}#${anchor}`, target: "_blank", rel: "noopener",

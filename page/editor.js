@@ -1,6 +1,7 @@
 // The text, with line numbers, breakpoints and marks at its left, and the answers of its steps at its right.
 import { Scroller } from "./scroller.js";
-import { byId, element, rowsInSight } from "./dom.js";
+import { Rows } from "./rows.js";
+import { byId, classesOf, element, rowsInSight, setAll, setText } from "./dom.js";
 import { grouped } from "./bytes.js";
 import { isPlainAnswer, isRefusal, shortAnswer } from "./expecting.js";
 
@@ -16,6 +17,10 @@ export class Editor {
     Object.assign(this, { heard, area: byId("text"), gutter: byId("gutter"), told: byId("told"),
       why: byId("why") });
     Object.assign(this, { long: byId("long"), rows: byId("longrows"), starts: null, whole: "" });
+    this.numbers = new Rows(this.gutter, ROW,
+      () => element("button", { type: "button", tabIndex: -1, className: "number" }));
+    this.answers = new Rows(this.told, ROW, () => element("span", { className: "answer" }));
+    this.longLines = new Rows(this.rows, ROW, () => element("div", { className: "longrow" }));
     Object.assign(this, { mark: 0, bad: null, session: null, steps: 0, points: new Set(), count: 1 });
     this.area.addEventListener("input", () => {
       this.count = this.area.value.split("\n").length;
@@ -117,42 +122,37 @@ export class Editor {
 
   draw() {
     const { box, scrolled } = this, { first, last } = rowsInSight(scrolled, box.height, ROW, this.count);
-    const lines = Array.from({ length: Math.max(0, last - first) }, (_, i) => first + i + 1);
-    const place = (made, line, from = 0) => {
-      made.style.top = TOP + ROW * (line - 1) - scrolled + from + "px";
-      return made;
-    };
-    this.gutter.replaceChildren(...lines.map(line => place(this.number(line), line)));
-    this.told.replaceChildren(...lines.map(line => [line, this.answer(line)]).filter(([, made]) => made)
-      .map(([line, made]) => place(made, line)));
-    if (this.isLong) {
-      this.rows.replaceChildren(...lines.map(line => place(this.longLine(line), line, box.top)));
-    }
+    const count = Math.max(0, last - first), top = TOP + ROW * first - scrolled;
+    this.numbers.show(count, top, (made, i) => this.fillNumber(made, first + i + 1));
+    this.answers.show(count, top, (made, i) => this.fillAnswer(made, first + i + 1));
+    this.longLines.show(this.isLong ? count : 0, top + box.top,
+      (made, i) => this.fillLongLine(made, first + i + 1));
     const marked = this.bad?.line ?? this.mark, ribbon = byId("mark");
-    ribbon.hidden = !marked || this.isLong;
-    ribbon.classList.toggle("bad", this.bad !== null);
-    place(ribbon, marked);
+    setAll(ribbon, { hidden: !marked || this.isLong, className: this.bad ? "bad" : "" });
+    ribbon.style.top = TOP + ROW * (marked - 1) - scrolled + "px";
     this.drawWhy();
   }
 
   /** A line of a text that is shown alone. */
-  longLine(line) {
-    const made = element("div", {}, this.lineText(line).slice(0, WIDEST_LINE));
-    made.classList.toggle("here", line === (this.bad?.line ?? this.mark));
-    return made;
+  fillLongLine(made, line) {
+    setText(made, this.lineText(line).slice(0, WIDEST_LINE));
+    setAll(made, { className: classesOf("longrow", line === (this.bad?.line ?? this.mark) && "here") });
   }
 
-  number(line) {
-    const isPoint = this.points.has(line), isBad = this.bad?.line === line;
-    const made = element("button", { type: "button", tabIndex: -1, className: "number",
-      "aria-pressed": String(isPoint) }, String(line));
-    made.dataset.line = line;
-    made.title = isPoint ? `Line ${line}: remove the breakpoint` : `Line ${line}: set a breakpoint`;
-    made.classList.toggle("point", isPoint);
-    made.classList.toggle("here", this.mark === line && !this.bad);
-    made.classList.toggle("next", this.next === line && !this.bad);
-    made.classList.toggle("bad", isBad);
-    return made;
+  fillNumber(made, line) {
+    const { bad } = this, isPoint = this.points.has(line);
+    const className = classesOf("number", isPoint && "point", this.mark === line && !bad && "here",
+      this.next === line && !bad && "next", bad?.line === line && "bad");
+    setAll(made, { className, ariaPressed: String(isPoint),
+      title: isPoint ? `Line ${line}: remove the breakpoint` : `Line ${line}: set a breakpoint` });
+    setText(made, String(line));
+    if (made.line !== line) made.dataset.line = made.line = line;
+  }
+
+  fillAnswer(made, line) {
+    const { text, title, className } = this.answer(line) ?? { text: "", title: "", className: "answer" };
+    setText(made, text);
+    setAll(made, { title, className });
   }
 
   /** The last answer of a line's step so far, or its first one, pale. */
@@ -166,20 +166,14 @@ export class Editor {
     if (step < 0 || step >= answers.length) return null;
     const answer = answers.get(step), expected = outline.expectedOf(entry);
     const words = outline.wordsOf(entry), [first, ...more] = shortAnswer(answer, words).split("\n");
-    const made = element("span", { className: "answer" }, first + (more.length ? " …" : ""));
-    made.title = `step ${step + 1}: ${answer}`;
-    made.classList.toggle("later", taken < 0);
-    made.classList.toggle("refused", isRefusal(answer));
-    made.classList.toggle("plain", isPlainAnswer(answer, words));
-    if (expected !== null) this.judge(made, step, expected);
-    return made;
-  }
-
-  judge(made, step, expected) {
-    const isWrong = this.session.isWrong(step);
-    made.classList.add(isWrong ? "wrong" : "right");
-    made.prepend(isWrong ? "✗ " : "✓ ");
-    if (isWrong) made.title += `\nexpected: ${expected}`;
+    const isWrong = expected !== null && session.isWrong(step);
+    const sign = expected === null ? "" : isWrong ? "✗ " : "✓ ";
+    return {
+      text: sign + first + (more.length ? " …" : ""),
+      title: `step ${step + 1}: ${answer}` + (isWrong ? `\nexpected: ${expected}` : ""),
+      className: classesOf("answer", taken < 0 && "later", isRefusal(answer) && "refused",
+        isPlainAnswer(answer, words) && "plain", sign && (isWrong ? "wrong" : "right")),
+    };
   }
 
   /** The reason of a bad line, below the word where it stops being a step. */

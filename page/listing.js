@@ -1,5 +1,6 @@
 // The steps of a run one below the other, those of a block each time: number, line, words and answer.
-import { byId, element, rowsInSight } from "./dom.js";
+import { Rows } from "./rows.js";
+import { byId, classesOf, element, rowsInSight, setAll, setText } from "./dom.js";
 import { Scroller } from "./scroller.js";
 import { isRefusal } from "./expecting.js";
 
@@ -11,6 +12,8 @@ const HIGHEST_LIST = 8000000;
 export class Listing {
   constructor(go) {
     Object.assign(this, { go, rows: byId("rows"), session: null, steps: 0, height: 0 });
+    this.list = new Rows(this.rows, LIST_ROW, () => element("div", { className: "row", role: "option" },
+      element("span"), element("span"), element("span"), element("span")));
     this.box = new Scroller(byId("listing"), () => this.draw());
     this.rows.addEventListener("click", event => {
       const step = Number(event.target.closest("[data-step]")?.dataset.step);
@@ -39,28 +42,21 @@ export class Listing {
     if (!session) return;
     const scrolled = box.top * this.scale, count = Math.min(session.ran, session.answers.length);
     const { first, last } = rowsInSight(scrolled, box.height, LIST_ROW, count);
-    this.rows.replaceChildren(...Array.from({ length: Math.max(0, last - first) }, (_, i) => {
-      const made = this.row(first + i);
-      made.style.top = LIST_ROW * (first + i) - scrolled + box.top + "px";
-      return made;
-    }));
+    this.list.show(Math.max(0, last - first), LIST_ROW * first - scrolled + box.top,
+      (made, i) => this.fill(made, first + i));
   }
 
-  row(step) {
+  fill(made, step) {
     const { session } = this, { outline } = session, entry = outline.entryOf(step);
-    const answer = session.answers.get(step);
+    const answer = session.answers.get(step), isHere = step + 1 === this.steps;
     const lines = answer.split("\n"), words = outline.wordsOf(entry), expected = outline.expectedOf(entry);
-    const made = element("div", { className: "row", role: "option",
-      title: `${words.slice(0, 200)}\n${answer.slice(0, 600)}` },
-      element("span", {}, String(step + 1)), element("span", {}, String(outline.lineOf(entry))),
-      element("span", {}, words.slice(0, 200)),
-        element("span", {}, lines[0].slice(0, 200) + (lines.length > 1 ? " …" : "")));
-    made.dataset.step = step + 1;
-    made.setAttribute("aria-selected", String(step + 1 === this.steps));
-    made.classList.toggle("here", step + 1 === this.steps);
-    made.classList.toggle("later", step + 1 > this.steps);
-    made.classList.toggle("refused", isRefusal(answer));
-    if (expected !== null) made.classList.add(session.isWrong(step) ? "wrong" : "right");
-    return made;
+    const verdict = expected === null ? "" : session.isWrong(step) ? "wrong" : "right";
+    const texts = [String(step + 1), String(outline.lineOf(entry)), words.slice(0, 200),
+      lines[0].slice(0, 200) + (lines.length > 1 ? " …" : "")];
+    texts.forEach((text, i) => setText(made.children[i], text));
+    setAll(made, { title: `${words.slice(0, 200)}\n${answer.slice(0, 600)}`, ariaSelected: String(isHere),
+      className: classesOf("row", isHere && "here", step + 1 > this.steps && "later",
+        isRefusal(answer) && "refused", verdict) });
+    if (made.step !== step) made.dataset.step = (made.step = step) + 1;
   }
 }

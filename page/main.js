@@ -1,11 +1,12 @@
 // The page begins: it opens the module that stands in it, and shows a script. `#check` runs all examples
-// instead.
+// instead. In a worker, which has no document, the same script holds answers to those of zak_run.
 import { Adapter } from "./adapter.js";
 import { View } from "./view.js";
 import { byId, element } from "./dom.js";
 import { bytesOfBase64 } from "./bytes.js";
 import { checkedExamples } from "./checking.js";
 import { examplesOf, unzipped } from "./packed.js";
+import { serveComparison } from "./comparing.js";
 
 const NO_MEMORY64 = "This browser has no WebAssembly with 64-bit memory, and the adapter needs it. " +
   "Chromium 156 and Firefox 153 have it; Safari does not, as far as we know.";
@@ -26,9 +27,12 @@ async function begin() {
   return new View(adapter, module, data);
 }
 
-begin().catch(error => {
+function tellOf(error) {
   const notice = byId("notice"), isOld = error instanceof WebAssembly.CompileError;
   notice.hidden = false;
   notice.firstElementChild.textContent = isOld ? `${NO_MEMORY64} (${error.message})` : error.message;
   if (!isOld) throw error;
-});
+}
+
+if (typeof document === "undefined") serveComparison();
+else begin().catch(tellOf);

@@ -1,7 +1,7 @@
 // The four planes, as bitmaps at the pitch of the offset register and as hexadecimal.
-import { counted, grouped, hex } from "./bytes.js";
+import { classesOf, element, selectOf, setAll, setText } from "./dom.js";
+import { counted, grouped, hex, wordsOfBytes } from "./bytes.js";
 import { changedPlanes } from "./changes.js";
-import { element, selectOf } from "./dom.js";
 import { rowBytes, shownBytes } from "./state.js";
 
 const PLANE_LENGTH = 65536, HEX_ROWS = 16, HEX_COLUMNS = 16, USUAL_PITCH = 80;
@@ -21,23 +21,28 @@ class PlaneBitmap {
       const y = (event.clientY - box.top) * canvas.height / box.height;
       heard(plane, Math.floor(y) * pitch + Math.floor(x / 8));
     });
-    this.keys = new Uint16Array(PLANE_LENGTH);
+    this.brush = this.canvas.getContext("2d", { alpha: false });
+    const nothing = new Uint8Array(PLANE_LENGTH);
+    Object.assign(this, { painted: [nothing, nothing, nothing], isNew: true });
   }
 
+  /** Paints bytes; `shown` and `changed` have a 1 for each byte that is so. */
   paint(bytes, shown, changed, pitch) {
     if (pitch !== this.pitch) this.shape(pitch);
+    const parts = [bytes, shown, changed], [now, grounds, marks] = parts.map(wordsOfBytes);
+    const [oldNow, oldGrounds, oldMarks] = this.painted.map(wordsOfBytes);
     let first = PLANE_LENGTH, last = -1;
-    for (let at = 0; at < PLANE_LENGTH; at++) {
-      const key = bytes[at] | shown[at] << 8 | changed[at] << 9 | 1 << 10;
-      if (key === this.keys[at]) continue;
-      this.keys[at] = key;
-      this.paintByte(at, key);
-      if (at < first) first = at;
-      last = at;
+    for (let word = 0; word < now.length; word++) {
+      const isSame = now[word] === oldNow[word] && grounds[word] === oldGrounds[word];
+      if (isSame && marks[word] === oldMarks[word] && !this.isNew) continue;
+      for (let at = 4 * word; at < 4 * word + 4; at++) this.paintByte(at, bytes[at], shown[at], changed[at]);
+      if (last < 0) first = 4 * word;
+      last = 4 * word + 3;
     }
+    Object.assign(this, { painted: parts, isNew: false });
     if (last < 0) return;
     const top = Math.floor(first / pitch), height = Math.floor(last / pitch) + 1 - top;
-    this.canvas.getContext("2d").putImageData(this.image, 0, 0, 0, top, 8 * pitch, height);
+    this.brush.putImageData(this.image, 0, 0, 0, top, 8 * pitch, height);
   }
 
   shape(pitch) {
@@ -45,14 +50,60 @@ class PlaneBitmap {
     this.pitch = pitch;
     this.image = new ImageData(this.canvas.width, this.canvas.height);
     this.words = new Uint32Array(this.image.data.buffer);
-    this.keys.fill(0);
+    this.isNew = true;
   }
 
-  paintByte(at, key) {
-    const isChanged = key & 512, isShown = key & 256;
+  paintByte(at, byte, isShown, isChanged) {
     const on = isChanged ? COLOURS.changedOn : isShown ? COLOURS.on : COLOURS.hiddenOn;
     const off = isChanged ? COLOURS.changedOff : isShown ? COLOURS.shownOff : COLOURS.off;
-    for (let bit = 0; bit < 8; bit++) this.words[8 * at + bit] = key >> 7 - bit & 1 ? on : off;
+    for (let bit = 0; bit < 8; bit++) this.words[8 * at + bit] = byte >> 7 - bit & 1 ? on : off;
+  }
+}
+
+/** A plane's bitmap below what is said of it. */
+class PlaneFigure {
+  constructor(plane, heard) {
+    Object.assign(this, { plane, bitmap: new PlaneBitmap(plane, heard), said: element("figcaption") });
+    this.made = element("figure", {}, this.said,
+      element("div", { className: "scroll" }, this.bitmap.canvas));
+  }
+
+  show(bytes, shown, found, pitch) {
+    const changed = new Uint8Array(PLANE_LENGTH);
+    for (const at of found) changed[at] = 1;
+    this.bitmap.paint(bytes, shown, changed, pitch);
+    let used = 0;
+    for (let at = 0; at < PLANE_LENGTH; at++) if (bytes[at]) used++;
+    const said = `plane ${this.plane}: ${counted(used, "byte")} not 0, ${grouped(found.length)} changed`;
+    setText(this.said, said);
+    setAll(this.said, { title: said });
+  }
+}
+
+/** The table of bytes as hexadecimal. */
+class HexTable {
+  constructor() {
+    this.caption = element("caption");
+    this.rows = Array.from({ length: HEX_ROWS }, () => {
+      const head = element("th", { scope: "row" });
+      return { head, cells: Array.from({ length: HEX_COLUMNS }, () => element("td")) };
+    });
+    const rows = this.rows.map(({ head, cells }) => element("tr", {}, head, ...cells));
+    this.made = element("table", { className: "hex" }, this.caption, element("tbody", {}, ...rows));
+  }
+
+  show(plane, offset, bytes, before, shown) {
+    setText(this.caption, `Plane ${plane} from ${hex(offset, 4)}: bytes on blue are shown`);
+    this.rows.forEach(({ head, cells }, row) => {
+      const from = offset + HEX_COLUMNS * row;
+      setText(head, hex(from, 4));
+      cells.forEach((cell, i) => {
+        const byte = bytes[from + i], old = before[from + i], isChanged = byte !== old;
+        setText(cell, hex(byte, 2));
+        setAll(cell, { className: classesOf(!byte && "zero", shown[from + i] && "shown",
+          isChanged && "changed"), title: isChanged ? `${hex(old, 2)} before the last step` : "" });
+      });
+    });
   }
 }
 
@@ -60,14 +111,15 @@ class PlaneBitmap {
 export class MemoryPanel {
   constructor() {
     Object.assign(this, { plane: 0, offset: 0, zoom: "fit" });
-    this.bitmaps = [0, 1, 2, 3].map(plane => new PlaneBitmap(plane, (chosen, offset) => {
+    this.figures = [0, 1, 2, 3].map(plane => new PlaneFigure(plane, (chosen, offset) => {
       this.plane = chosen;
       this.look(offset);
     }));
     this.hint = element("p", { className: "hint" });
-    this.figures = element("div");
-    this.table = element("div", { className: "scroll" });
-    this.root = element("div", { className: "memory" }, this.controls(), this.hint, this.figures, this.table);
+    this.box = element("div", {}, ...this.figures.map(figure => figure.made));
+    this.table = new HexTable();
+    this.root = element("div", { className: "memory" }, this.controls(), this.hint, this.box,
+      element("div", { className: "scroll" }, this.table.made));
   }
 
   /** The panel for what is seen. */
@@ -79,18 +131,19 @@ export class MemoryPanel {
     this.changed = changedPlanes(seen.before, seen.after);
     const pitch = own ? `${own} bytes a row, as the offset register says`
       : `${USUAL_PITCH} bytes a row, since the offset register is 0`;
-    this.hint.textContent = `A dot for each bit, ${pitch}. Blue ground: shown by a frame with these ` +
-      "registers; yellow: changed by the last step. Click to see the bytes.";
+    setText(this.hint, `A dot for each bit, ${pitch}. Blue ground: shown by a frame with these ` +
+      "registers; yellow: changed by the last step. Click to see the bytes.");
     this.fill();
     return this.root;
   }
 
   fill() {
     this.jump.disabled = this.changed.every(found => !found.length);
-    this.planes.value = String(this.plane);
-    this.place.value = hex(this.offset, 4);
+    setAll(this.planes, { value: String(this.plane) });
+    setAll(this.place, { value: hex(this.offset, 4) });
     this.fillFigures();
-    this.table.replaceChildren(this.hexadecimal());
+    const { before, after } = this.seen, { plane, offset, shown } = this;
+    this.table.show(plane, offset, after.plane(plane), before.plane(plane), shown);
   }
 
   controls() {
@@ -128,43 +181,14 @@ export class MemoryPanel {
   }
 
   fillFigures() {
-    const isOne = this.zoom !== "fit", planes = isOne ? [this.plane] : [0, 1, 2, 3];
-    this.figures.className = isOne ? "planes one" : "planes";
-    const figures = planes.map(plane => this.figure(plane, isOne));
-    this.figures.replaceChildren(...figures);
-  }
-
-  figure(plane, isOne) {
-    const bytes = this.seen.after.plane(plane), { canvas } = this.bitmaps[plane];
-    const changed = new Uint8Array(PLANE_LENGTH);
-    for (const at of this.changed[plane]) changed[at] = 1;
-    this.bitmaps[plane].paint(bytes, this.shown, changed, this.pitch);
-    canvas.style.width = isOne ? canvas.width * Number(this.zoom) + "px" : "";
-    const used = bytes.reduce((sum, byte) => sum + (byte > 0), 0);
-    const count = grouped(this.changed[plane].length);
-    const said = `plane ${plane}: ${counted(used, "byte")} not 0, ${count} changed`;
-    const figure = element("figure", {}, element("figcaption", { title: said }, said),
-      element("div", { className: "scroll" }, canvas));
-    figure.classList.toggle("picked", plane === this.plane);
-    return figure;
-  }
-
-  hexadecimal() {
-    const bytes = this.seen.after.plane(this.plane), before = this.seen.before.plane(this.plane);
-    const rows = Array.from({ length: HEX_ROWS }, (_, row) => {
-      const from = this.offset + HEX_COLUMNS * row;
-      return element("tr", {}, element("th", { scope: "row" }, hex(from, 4)),
-        ...Array.from(bytes.subarray(from, from + HEX_COLUMNS), (byte, i) => {
-        const cell = element("td", {}, hex(byte, 2)), at = from + i;
-        cell.classList.toggle("zero", byte === 0);
-        cell.classList.toggle("shown", this.shown[at] === 1);
-        cell.classList.toggle("changed", byte !== before[at]);
-        if (byte !== before[at]) cell.title = `${hex(before[at], 2)} before the last step`;
-        return cell;
-      }));
+    const isOne = this.zoom !== "fit", zoom = Number(this.zoom);
+    setAll(this.box, { className: classesOf("planes", isOne && "one") });
+    this.figures.forEach((figure, plane) => {
+      const { made, bitmap: { canvas } } = figure, isPicked = plane === this.plane;
+      setAll(made, { hidden: isOne && !isPicked, className: isPicked ? "picked" : "" });
+      if (made.hidden) return;
+      figure.show(this.seen.after.plane(plane), this.shown, this.changed[plane], this.pitch);
+      setAll(canvas.style, { width: isOne ? canvas.width * zoom + "px" : "" });
     });
-    const caption = element("caption", {},
-      `Plane ${this.plane} from ${hex(this.offset, 4)}: bytes on blue are shown`);
-    return element("table", { className: "hex" }, caption, element("tbody", {}, ...rows));
   }
 }

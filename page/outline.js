@@ -152,6 +152,21 @@ export class Outline {
     return this.text.slice(begin, this.starts[last + 1] ?? this.text.length);
   }
 
+  /** A text of the first steps, so many of them. */
+  firstSteps(steps) {
+    const parts = this.runs.some(run => run.isBlock) ? ["version 2"] : [];
+    for (const { first, count, from, size } of this.runs) {
+      const left = Math.min(count * size, steps - first);
+      if (left <= 0) break;
+      const turns = Math.floor(left / size), rest = left % size;
+      if (turns > 1) parts.push(`repeat ${turns}`);
+      if (turns) parts.push(this.textOf(from, size));
+      if (turns > 1) parts.push("end");
+      if (rest) parts.push(this.textOf(from, rest));
+    }
+    return parts.join("\n");
+  }
+
   /** The first entry whose line is at or after this number; -1 where none is. */
   entryAtLine(number) {
     let low = 0, high = this.lines.length;

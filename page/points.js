@@ -118,7 +118,7 @@ export class Search {
 
   * back(to) {
     for (let end = to; end > 0;) {
-      const begin = Math.max(this.session.kept[this.session.keptBefore(end - 1)].at, end - CHUNK);
+      const begin = Math.max(this.session.keptBefore(end - 1).at, end - CHUNK);
       let last = 0;
       for (const met of this.scan(begin, end)) {
         if (met) last = met;

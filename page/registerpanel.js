@@ -1,48 +1,64 @@
 // The registers by name with their fields; what the last step has changed is marked.
 import { GROUPS, fieldValue, indexPort, valuesOf } from "./registers.js";
-import { element, pageLink } from "./dom.js";
+import { classesOf, element, pageLink, setAll, setText } from "./dom.js";
 import { hex } from "./bytes.js";
 
-/** A field with its value; one that has no effect is grey. */
-function fieldText(field, value) {
-  const now = fieldValue(field, value), made = element("span", { className: "field" },
-    `${field.name} ${hex(now, 1)}`);
+/** A field, whose value is to come; one that has no effect is grey. */
+function fieldOf(field) {
+  const value = element("b"), made = element("span", {}, `${field.name} `, value);
   made.title = `bits ${field.bits}${field.isStored ? ": kept without effect" : ""}`;
-  made.classList.toggle("stored", field.isStored);
-  made.classList.toggle("zero", now === 0);
-  return made;
+  return { field, made, value };
 }
 
-/** The eight bits of a register; those that it does not keep, or that have no effect, are grey. */
-function bitsText(register, value) {
-  const made = element("span", { className: "bits", "aria-hidden": "true" });
-  const stored = register.fields.filter(field => field.isStored).flatMap(field =>
+/** The numbers of the bits that are kept without effect. */
+function storedBits(register) {
+  return register.fields.filter(field => field.isStored).flatMap(field =>
     field.bits.split(",").flatMap(part => {
       const [high, low = high] = part.split("-").map(Number);
       return Array.from({ length: high - low + 1 }, (_, i) => low + i);
     }));
-  for (let bit = 7; bit >= 0; bit--) {
-    const isKept = register.kept >> bit & 1;
-    const one = element("i", {}, isKept ? String(value >> bit & 1) : "·");
-    one.classList.toggle("stored", !isKept || stored.includes(bit));
-    made.append(one, bit === 4 ? " " : "");
-  }
-  return made;
 }
 
-function registerRow(base, group, i, value, before, isPicked) {
-  const register = group.registers[i], fields = element("td", { className: "fields" });
-  if (register.fields.length > 1 || register.fields[0].isStored) {
-    fields.append(...register.fields.map(field => fieldText(field, value)));
+/** The eight bits of a register from bit 7 on; those that it doesn't keep, or without effect, are grey. */
+function bitRow(register) {
+  const stored = storedBits(register), made = element("span", { className: "bits", ariaHidden: "true" });
+  const bits = [7, 6, 5, 4, 3, 2, 1, 0].map(bit => {
+    const isGrey = !(register.kept >> bit & 1) || stored.includes(bit);
+    const one = element("i", { className: isGrey ? "stored" : "" });
+    made.append(one, bit === 4 ? " " : "");
+    return one;
+  });
+  return { made, bits };
+}
+
+/** The row of a register. Its values are written into it, and only those that are others than before. */
+class RegisterRow {
+  constructor(base, group, i) {
+    const register = group.registers[i], { made, bits } = bitRow(register);
+    const isOne = register.fields.length === 1 && !register.fields[0].isStored;
+    Object.assign(this, { register, bits, key: "", value: element("td", { className: "value" }) });
+    this.fields = isOne ? [] : register.fields.map(fieldOf);
+    const link = pageLink(base, "REGISTERS.md", group.anchor, register.name);
+    this.made = element("tr", {},
+      element("th", { scope: "row" }, group.registers.length > 1 ? hex(i, 2) : ""), this.value,
+      element("td", { className: "eight" }, made), element("td", { className: "name" }, link),
+      element("td", { className: "fields" }, ...this.fields.map(one => one.made)));
   }
-  const made = element("tr", {}, element("th", { scope: "row" }, group.registers.length > 1 ? hex(i, 2) : ""),
-    element("td", { className: "value" }, hex(value, 2)), element("td", {}, bitsText(register, value)),
-    element("td", { className: "name" }, pageLink(base, "REGISTERS.md", group.anchor, register.name)),
-      fields);
-  made.classList.toggle("changed", value !== before);
-  made.classList.toggle("picked", isPicked);
-  if (value !== before) made.title = `${hex(before, 2)} before the last step`;
-  return made;
+
+  fill(now, before, isPicked) {
+    const key = `${now} ${before} ${isPicked}`, isChanged = now !== before, { register } = this;
+    if (this.key === key) return;
+    this.key = key;
+    setText(this.value, hex(now, 2));
+    this.bits.forEach((one, i) => setText(one, register.kept >> 7 - i & 1 ? String(now >> 7 - i & 1) : "·"));
+    for (const { field, made, value } of this.fields) {
+      const part = fieldValue(field, now);
+      setText(value, hex(part, 1));
+      setAll(made, { className: classesOf("field", field.isStored && "stored", part === 0 && "zero") });
+    }
+    setAll(this.made, { className: classesOf(isChanged && "changed", isPicked && "picked"),
+      title: isChanged ? `${hex(before, 2)} before the last step` : "" });
+  }
 }
 
 /** The index that picks a register of a group; -1 where none does. */
@@ -63,15 +79,29 @@ function groupNote(group, registers) {
   return parts.length ? ` ${parts.join(", ")}` : "";
 }
 
-/** A table of names and values; each row is [name, value, the value before]. */
-export function plainTable(title, rows) {
-  return element("table", { className: "plain" }, element("caption", {}, title),
-    element("tbody", {}, ...rows.map(([name, now, old]) => {
-    const made = element("tr", {}, element("th", { scope: "row" }, name), element("td", {}, now));
-    made.classList.toggle("changed", now !== old);
-    if (now !== old) made.title = `${old} before the last step`;
+/** A table of names and values, whose names are the same each time. */
+export class PlainTable {
+  constructor(title) {
+    const body = element("tbody");
+    Object.assign(this, { body, rows: [] });
+    this.made = element("table", { className: "plain" }, element("caption", {}, title), body);
+  }
+
+  /** Writes the values; each row is [name, value, the value before]. */
+  fill(told) {
+    told.forEach(([name, now, old], i) => {
+      const row = this.rows[i] ??= this.row(name), isChanged = now !== old;
+      setText(row.lastChild, now);
+      setAll(row, { className: isChanged ? "changed" : "",
+        title: isChanged ? `${old} before the last step` : "" });
+    });
+  }
+
+  row(name) {
+    const made = element("tr", {}, element("th", { scope: "row" }, name), element("td"));
+    this.body.append(made);
     return made;
-  })));
+  }
 }
 
 /** The rows of a table of what two states tell by the same words. */
@@ -108,38 +138,37 @@ export function statusOne({ registers, beam }) {
     ? ": a display dot" : ": no display dot");
 }
 
-/** The panel of registers. Rows that stay as they are stay in the page. */
+/** The groups that stand in the first of two columns, where there is room for two. */
+const FIRST_COLUMN = ["misc", "seq", "gfx", "crtc"];
+
+/** The panel of registers. */
 export class RegisterPanel {
   constructor(base) {
-    Object.assign(this, { base, keys: new Map(), more: element("div") });
+    this.more = new PlainTable("Latches, beam and DAC");
     this.groups = GROUPS.map(group => {
-      const note = element("small"), rows = group.registers.map(() => element("tr"));
-      const caption = element("caption", {}, group.title, note), body = element("tbody", {}, ...rows);
-      return { group, note, rows, table: element("table", { className: `group ${group.id}` },
-        caption, body) };
+      const note = element("small"), rows = group.registers.map((_, i) => new RegisterRow(base, group, i));
+      const caption = element("caption", {}, group.title, note);
+      const table = element("table", { className: "group" }, caption,
+        element("tbody", {}, ...rows.map(row => row.made)));
+      return { group, note, rows, table };
     });
-    this.root = element("div", { className: "groups" }, ...this.groups.map(one => one.table), this.more);
+    const tables = isFirst => this.groups.filter(({ group }) => FIRST_COLUMN.includes(group.id) === isFirst)
+      .map(one => one.table);
+    this.root = element("div", { className: "groups" }, element("div", {}, ...tables(true)),
+      element("div", {}, ...tables(false), this.more.made));
   }
 
   made({ before, after }) {
     const [old, now] = [before.registers, after.registers];
     for (const one of this.groups) this.fill(one, now, old);
-    const rows = rowsOfStates(before, after, otherRows);
-    this.more.replaceChildren(plainTable("Latches, beam and DAC", rows));
+    this.more.fill(rowsOfStates(before, after, otherRows));
     return this.root;
   }
 
   fill({ group, note, rows }, now, old) {
     const [values, before] = [now, old].map(registers => valuesOf(registers, group.id));
     const picked = pickedIndex(group, now);
-    note.textContent = groupNote(group, now);
-    for (let i = 0; i < rows.length; i++) {
-      const key = `${values[i]} ${before[i]} ${i === picked}`, name = `${group.id} ${i}`;
-      if (this.keys.get(name) === key) continue;
-      this.keys.set(name, key);
-      const made = registerRow(this.base, group, i, values[i], before[i], i === picked);
-      rows[i].replaceWith(made);
-      rows[i] = made;
-    }
+    setText(note, groupNote(group, now));
+    rows.forEach((row, i) => row.fill(values[i], before[i], i === picked));
   }
 }

@@ -23,7 +23,7 @@ export function reportOf(session) {
   if (session.reported > MOST_SAVED) {
     throw new Trouble("The report has more than 256 MiB: run the script by `vga go`.");
   }
-  return session.adapter.run(session.script, session.fonts).report;
+  return session.adapter.run(session.script, session.fonts, session.reported).report;
 }
 
 /** The picture that is seen, as { width, height, rgb }; a Trouble where its lines differ in width. */

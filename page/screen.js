@@ -1,7 +1,7 @@
 // The picture as it is drawn so far. What is not drawn yet is dark, cross-hairs show the beam, a glass dots.
-import { byId, cssColour, element } from "./dom.js";
+import { byId, cssColour, element, setAll } from "./dom.js";
 import { characterWidth, displayedLines, fetchAddress } from "./state.js";
-import { hex } from "./bytes.js";
+import { hex, wordsOfBytes } from "./bytes.js";
 import { widened } from "./png.js";
 
 const DARK = 0.32, GLASS_DOTS = 15, GLASS_SCALE = 10;
@@ -35,6 +35,27 @@ function paintDots(words, to, rgb, from, count, [reds, greens, blues]) {
   }
 }
 
+/** Colours of dots as bytes, and as words, four bytes each, so that many are held to others quickly. */
+function dotsOf(rgb) {
+  const isEven = rgb.byteOffset % 4 === 0;
+  return { rgb, words: isEven ? wordsOfBytes(rgb) : null };
+}
+
+/** Whether dots have the same `length` bytes from a place on in each. */
+function sameDots(one, from, other, otherFrom, length) {
+  const isEven = one.words && other.words && (from | otherFrom | length) % 4 === 0;
+  const [now, old] = isEven ? [one.words, other.words] : [one.rgb, other.rgb], share = isEven ? 4 : 1;
+  const end = (from + length) / share, ahead = (otherFrom - from) / share;
+  for (let at = from / share; at < end; at++) if (now[at] !== old[at + ahead]) return false;
+  return true;
+}
+
+/** Whether a row of dots looks as another one that was painted in its place. */
+function isSameRow(row, dots, old, oldDots) {
+  return old.width === row.width && old.light === row.light &&
+    sameDots(dots, row.from, oldDots, old.from, 3 * row.width);
+}
+
 /** The picture on its stage. `heard` has `clicked(line, dot)`. */
 export class Screen {
   constructor(heard) {
@@ -44,13 +65,14 @@ export class Screen {
     for (const name of ["aspect", "sharp", "sofar", "hairs", "zoom"]) {
       byId(name).addEventListener("change", () => this.draw());
     }
-    this.canvas.addEventListener("pointermove", event => this.point(event));
+    this.brush = this.canvas.getContext("2d", { alpha: false });
+    this.canvas.addEventListener("pointermove", event => this.point(this.placeOf(event)));
     this.canvas.addEventListener("pointerleave", () => this.point(null));
     this.canvas.addEventListener("click", event => {
       // A click's place is rounded to a pixel, and the dot that is told was that of the pointer's own place.
       const { pointer } = this, { clientX, clientY } = event;
       const isNear = pointer && Math.hypot(pointer.clientX - clientX, pointer.clientY - clientY) < 2;
-      const found = this.dotAt(isNear ? pointer : event);
+      const found = this.dotAt(isNear ? pointer : this.placeOf(event));
       if (found) heard.clicked(found.row.line, found.x);
     });
     this.room = { width: 0, height: 0 };
@@ -68,26 +90,42 @@ export class Screen {
   draw() {
     if (!this.seen) return;
     const { picture } = this.seen, shape = linesOf(picture);
-    this.rows = shape.rows;
-    Object.assign(this.canvas, { width: shape.width, height: shape.height });
     this.isSoFar = byId("sofar").checked && !picture.isWhole && picture.isBegun;
-    this.canvas.getContext("2d").putImageData(this.image(shape), 0, 0);
+    for (const row of shape.rows) row.light = this.isSoFar ? Math.min(row.drawn, row.width) : row.width;
+    this.rows = shape.rows;
+    this.paint(shape, picture.rgb);
     this.canvas.classList.toggle("sharp", byId("sharp").checked);
-    this.canvas.setAttribute("aria-label", this.description());
+    setAll(this.canvas, { ariaLabel: this.description() });
     this.shape();
     this.drawHairs();
     this.point(this.pointer);
   }
 
-  image({ rows, width, height }) {
-    const image = new ImageData(width, height), words = new Uint32Array(image.data.buffer);
-    const { rgb } = this.seen.picture, { isSoFar } = this;
-    rows.forEach((row, y) => {
-      const light = isSoFar ? Math.min(row.drawn, row.width) : row.width;
-      paintDots(words, y * width, rgb, row.from, light, LIGHT);
-      paintDots(words, y * width + light, rgb, row.from + 3 * light, row.width - light, DIMMED);
-    });
-    return image;
+  /** Paints the rows that do not stand on the canvas yet. */
+  paint({ rows, width, height }, rgb) {
+    const { canvas } = this;
+    if (canvas.width !== width || canvas.height !== height || !this.image) {
+      Object.assign(canvas, { width, height });
+      this.image = new ImageData(width, height);
+      this.words = new Uint32Array(this.image.data.buffer);
+      this.painted = { rows: [], dots: null };
+    }
+    const { painted: old, words } = this, dots = dotsOf(rgb);
+    let first = height, last = -1;
+    for (let y = 0; y < rows.length; y++) {
+      if (old.rows[y] && isSameRow(rows[y], dots, old.rows[y], old.dots)) continue;
+      this.paintRow(words.subarray(y * width, (y + 1) * width), rows[y], rgb);
+      first = Math.min(first, y);
+      last = y;
+    }
+    this.painted = { rows, dots };
+    if (last >= 0) this.brush.putImageData(this.image, 0, 0, 0, first, width, last + 1 - first);
+  }
+
+  paintRow(words, { from, light, width }, rgb) {
+    paintDots(words, 0, rgb, from, light, LIGHT);
+    paintDots(words, light, rgb, from + 3 * light, width - light, DIMMED);
+    words.fill(0xff000000, width);
   }
 
   /** The picture in words, for who does not see it. */
@@ -100,9 +138,9 @@ export class Screen {
   /** How large the picture stands on its stage: as a monitor of 4:3 shows it, or with square dots. */
   shape() {
     const { canvas, room } = this, ratio = byId("aspect").checked ? 4 / 3 : canvas.width / canvas.height;
-    const width = Math.min(room.width, room.height * ratio), frame = byId("frame");
-    frame.style.width = Math.floor(width) + "px";
-    frame.style.height = Math.floor(width / ratio) + "px";
+    const wide = Math.min(room.width, room.height * ratio);
+    const width = Math.floor(wide) + "px", height = Math.floor(wide / ratio) + "px";
+    setAll(byId("frame").style, { width, height });
   }
 
   beamPlace() {
@@ -125,20 +163,26 @@ export class Screen {
     hairs[2].classList.toggle("outside", x >= canvas.width || y < 0);
   }
 
-  /** The dot under a pointer: { row, x, y, colour }; null outside. */
-  dotAt(event) {
+  /** Where a pointer is on the canvas: { clientX, clientY, right, down }, the last two as parts of it. */
+  placeOf({ clientX, clientY }) {
     const box = this.canvas.getBoundingClientRect();
-    const x = Math.floor((event.clientX - box.left) * this.canvas.width / box.width);
-    const y = Math.floor((event.clientY - box.top) * this.canvas.height / box.height), row = this.rows?.[y];
+    return { clientX, clientY, right: (clientX - box.left) / box.width,
+      down: (clientY - box.top) / box.height };
+  }
+
+  /** The dot under a pointer: { row, x, y, colour }; null outside. */
+  dotAt({ right, down }) {
+    const x = Math.floor(right * this.canvas.width), y = Math.floor(down * this.canvas.height);
+    const row = this.rows?.[y];
     if (!row || x < 0 || x >= row.width) return null;
     const at = row.from + 3 * x;
     return { row, x, y, colour: Array.from(this.seen.picture.rgb.subarray(at, at + 3)) };
   }
 
   /** Tells the dot under the pointer, and shows it in the glass. */
-  point(event) {
-    this.pointer = event;
-    const found = event && this.seen && this.dotAt(event), isOn = Boolean(found) && byId("zoom").checked;
+  point(pointer) {
+    this.pointer = pointer;
+    const found = pointer && this.seen && this.dotAt(pointer), isOn = Boolean(found) && byId("zoom").checked;
     this.glass.hidden = !isOn;
     if (isOn) this.drawGlass(found);
     const told = byId("dot");

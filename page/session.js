@@ -3,23 +3,25 @@
 import { Answers } from "./answers.js";
 import { Card } from "./adapter.js";
 import { KIND, Outline } from "./outline.js";
+import { Kept } from "./kept.js";
 import { MOST_BYTES } from "./grammar.js";
 import { Pieces } from "./pieces.js";
 import { State } from "./state.js";
 import { Trouble } from "./trouble.js";
 import { counted, grouped } from "./bytes.js";
+import { MOST_HELD, digitsTo, heldToRun, sumOfBytes, sumOfText } from "./comparing.js";
 import { encodingTrouble, reasonOfLine } from "./reasons.js";
 import { isAsExpected, isRefusal } from "./expecting.js";
 import { readReport } from "./report.js";
 
 /**
- * The answers of runs of at most so many steps, bytes of report and milliseconds are held to those of
- * zak_run.
+ * Where the page has no worker, the answers of runs of at most so many steps, bytes of report and
+ * milliseconds are held to those of zak_run.
  */
 const MOST_COMPARED = { steps: 100000, report: 1 << 27, time: 3000 };
 // Saved states have so many bytes at most, and stand so far apart as a card goes in so many milliseconds,
-// or further.
-const MOST_STATES = 1 << 28, APART = 12;
+// or further. On a longer way some more are kept, near the step that was asked for.
+const MOST_STATES = 1 << 28, MOST_NEAR = 1 << 26, APART = 4;
 const MOST_DIFFERING = 100000, SLICE = 8;
 
 /** The steps of a text as the module reads it; a Trouble with the line and the reason where it is bad. */
@@ -45,9 +47,11 @@ export class Session {
       this.runner.close();
       throw trouble;
     }
-    Object.assign(this, { ran: 0, at: 0, time: 0, sinceKept: 0, apart: APART, keptBytes: 0, kept: [] });
+    Object.assign(this, { ran: 0, at: 0, time: 0, sinceKept: 0, apart: APART, sinceNear: 0 });
+    Object.assign(this, { kept: new Kept(MOST_STATES), near: new Kept(MOST_NEAR) });
     Object.assign(this, { answers: new Answers(), expected: 0, differing: [], wrong: 0, refused: 0 });
-    Object.assign(this, { pictures: 0, sums: [], reported: 0 });
+    Object.assign(this, { pictures: 0, sums: [], reported: 0, mostHeld: MOST_HELD });
+    this.held = { steps: 0, reported: 0 };
     this.keep();
   }
 
@@ -70,6 +74,7 @@ export class Session {
       if (!taken) throw new Trouble(`The module takes no step after step ${this.ran}.`);
       this.note(taken, first, report);
       this.ran += taken;
+      if (this.reported <= this.mostHeld) this.held = { steps: this.ran, reported: this.reported };
       const spent = performance.now() - begun;
       this.time += spent;
       this.sinceKept += spent;
@@ -80,14 +85,16 @@ export class Session {
 
   notePicture(picture) {
     this.pictures++;
-    if (this.length <= MOST_COMPARED.steps) this.sums.push(sumOf(picture.ppm));
+    this.sums.push(sumOfBytes(picture.ppm));
   }
 
   /** Notes the answers of the steps that the runner has taken. */
   note(taken, first, report) {
-    this.reported += report.length;
+    const digits = (before, count) => digitsTo(before + count) - digitsTo(before);
+    // Steps have other numbers in the whole report than in that of a piece.
+    this.reported += report.length + digits(this.ran, taken) - digits(first - 1, taken);
     readReport(report, first, taken, (i, answer, picture) => {
-      this.answers.push(answer);
+      if (!this.answers.push(answer)) this.sums.push(sumOfText(answer));
       if (picture) this.notePicture(picture);
       if (answer.charCodeAt(0) === 69 && isRefusal(answer)) this.refused++;
       if (!this.outline.hasExpected) return;
@@ -103,25 +110,25 @@ export class Session {
 
   /** Keeps the runner's state. Where they become too many, every other one goes. */
   keep() {
-    const state = this.runner.save();
-    this.kept.push({ at: this.ran, state });
-    this.keptBytes += state.length;
+    this.kept.add(this.ran, this.runner.saved());
     this.sinceKept = 0;
-    if (this.keptBytes < MOST_STATES || this.kept.length < 4) return;
+    if (!this.kept.isFull) return;
     this.apart *= 2;
-    this.kept = this.kept.filter((_, i) => i % 2 === 0);
-    this.keptBytes = this.kept.reduce((sum, kept) => sum + kept.state.length, 0);
+    this.kept.thin();
   }
 
-  /** The number in `kept` of the last state that is not behind a step. */
+  /** Keeps the card's state, which is on its way to a step, where the last one kept is far behind. */
+  keepNear() {
+    if (this.sinceNear < APART) return;
+    if (this.near.isFull) this.near.clear();
+    this.near.add(this.at, this.card.saved());
+    this.sinceNear = 0;
+  }
+
+  /** The last kept state that is not behind a step. */
   keptBefore(step) {
-    let low = 0, high = this.kept.length - 1;
-    while (low < high) {
-      const middle = (low + high + 1) >> 1;
-      if (this.kept[middle].at <= step) low = middle;
-      else high = middle - 1;
-    }
-    return low;
+    const far = this.kept.before(step), near = this.near.before(step);
+    return near && near.at > far.at ? near : far;
   }
 
   /**
@@ -129,17 +136,24 @@ export class Session {
    * there.
    */
   approach(steps, milliseconds = Infinity) {
-    const from = this.kept[this.keptBefore(steps)];
+    const from = this.keptBefore(steps);
     if (this.at > steps || this.at < from.at) this.restore(from);
     const until = performance.now() + milliseconds;
-    while (this.at < steps && performance.now() < until) this.advance(steps - this.at);
+    for (let now = performance.now(); this.at < steps && now < until;) {
+      this.advance(steps - this.at);
+      const then = performance.now();
+      this.sinceNear += then - now;
+      this.keepNear();
+      now = then;
+    }
     return this.at === steps;
   }
 
-  restore(kept) {
+  restore({ at, parts }) {
     this.at = -1;
-    this.card.restore(kept.state);
-    this.at = kept.at;
+    this.card.restore(parts);
+    this.at = at;
+    this.sinceNear = 0;
   }
 
   /**
@@ -188,7 +202,7 @@ export class Session {
     const at = this.at;
     this.at = -1;
     const lines = this.card.frameLines();
-    this.card.restore(state.bytes);
+    this.card.restore([state.bytes]);
     this.at = at;
     return { isWhole: false, ...lines, drawn: state.drawn, isBegun: state.isBegun };
   }
@@ -209,7 +223,7 @@ export class Session {
     return this.differing[low] === step;
   }
 
-  /** Why the answers are not held to those of zak_run, which takes all steps at once; null where they are. */
+  /** Why the answers are not held to those of zak_run where the page has no worker; null where they are. */
   get whyNotCompared() {
     if (this.length > MOST_COMPARED.steps) return `more than ${grouped(MOST_COMPARED.steps)} steps`;
     const { report } = MOST_COMPARED;
@@ -218,22 +232,18 @@ export class Session {
     return null;
   }
 
-  /** Holds all answers, pictures too, to those of one run by zak_run: what differs, or an empty text. */
+  /** The run as it is held to one by zak_run: its first steps where the report of all would be too long. */
+  get whole() {
+    const { fonts, outline, length, answers, sums, held } = this, { steps, reported } = held;
+    const script = steps === length ? this.script
+      : this.adapter.assembled(new TextEncoder().encode(outline.firstSteps(steps))).bytes;
+    return { script, fonts, steps, reported, numbers: answers.numbers.slice(0, steps), texts: answers.texts,
+      cut: answers.cut, sums: Int32Array.from(sums) };
+  }
+
+  /** Holds the answers, pictures too, to those of one run by zak_run: what differs, or an empty text. */
   compared() {
-    const { status, report } = this.adapter.run(this.script, this.fonts);
-    if (status) return `zak_run answers ${status}`;
-    let differs = "", pictures = 0;
-    try {
-      readReport(report, 1, this.length, (i, answer, picture) => {
-        const isSame = answer === this.answers.get(i) &&
-          (!picture || sumOf(picture.ppm) === this.sums[pictures++]);
-        if (!isSame && !differs) differs = `step ${i + 1} answers otherwise`;
-      });
-    } catch (trouble) {
-      if (!(trouble instanceof Trouble)) throw trouble;
-      return trouble.message;
-    }
-    return differs;
+    return heldToRun(this.adapter, this.whole);
   }
 
   /** What came of the run so far, in a few words. */
@@ -246,11 +256,4 @@ export class Session {
     }
     return parts.join(", ");
   }
-}
-
-/** A number that tells pictures apart. */
-function sumOf(bytes) {
-  let sum = bytes.length;
-  for (let at = 0; at < bytes.length; at++) sum = Math.imul(sum ^ bytes[at], 16777619);
-  return sum;
 }

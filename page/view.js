@@ -1,5 +1,6 @@
 // The page: what is seen, and what its controls do.
 import { Adapter } from "./adapter.js";
+import { Comparer, MOST_HELD } from "./comparing.js";
 import { Editor } from "./editor.js";
 import { KEYS, keyName, keyTables } from "./keys.js";
 import { Listing } from "./listing.js";
@@ -11,9 +12,9 @@ import { Session, judgedText } from "./session.js";
 import { Trouble } from "./trouble.js";
 import { apngOfRun, pngOfSeen, reportOf, saveFile } from "./saving.js";
 import { bytesOfBase64, counted, grouped } from "./bytes.js";
-import { biosPanel } from "./biospanel.js";
+import { BiosPanel } from "./biospanel.js";
 import { byId, element, pageLink } from "./dom.js";
-import { cellPanel } from "./cellpanel.js";
+import { CellPanel } from "./cellpanel.js";
 import { changesOf } from "./changes.js";
 import { ColourPanel } from "./colourpanel.js";
 import { contentsOf, packed, printedText, unpacked } from "./share.js";
@@ -23,6 +24,7 @@ import { whyRefused } from "./refusals.js";
 
 const SLICE_TIME = 14, SHOWN_EVERY = 250, TYPED = 250, TYPED_MUCH = 1000, MUCH_TEXT = 100000;
 const MOST_LINK = 200000, MOST_WORDS = 160;
+const NOT_HELD = "The answers of this run are not held to those of zak_run";
 /** What the page shows first. */
 const FIRST_EXAMPLE = "text-by-services";
 const SAVED = ["text", "bytes", "report", "png", "apng"];
@@ -40,14 +42,21 @@ export class View {
       pointed: line => this.pointPanel.toggleLine(line) });
     this.listing = new Listing(steps => this.go(steps));
     this.screen = new Screen({ clicked: (line, dot) => this.toDot(line, dot) });
-    this.memoryPanel = new MemoryPanel();
-    this.registerPanel = new RegisterPanel(data.pages);
-    this.colourPanel = new ColourPanel();
     this.pointPanel = new PointPanel({ changed: points => this.pointsChanged(points) });
+    this.makePanels(data.pages);
+    this.comparer = new Comparer(module, document.querySelector("script[type=module]").textContent);
     this.channel = new MessageChannel();
     this.channel.port1.onmessage = () => this.turn();
     this.makeControls();
     this.follow();
+  }
+
+  /** What makes the panel of each tab for what is seen. */
+  makePanels(pages) {
+    const panels = { registers: new RegisterPanel(pages), memory: new MemoryPanel(), cells: new CellPanel(),
+      colours: new ColourPanel(), "BIOS data": new BiosPanel(pages) };
+    this.panels = { breakpoints: () => this.pointPanel.box };
+    for (const [tab, panel] of Object.entries(panels)) this.panels[tab] = () => panel.made(this.seen);
   }
 
   // What the controls do.
@@ -181,6 +190,7 @@ export class View {
     if (error instanceof RangeError) return this.tell(`There is no memory left for this: ${error.message}.`);
     if (!(error instanceof WebAssembly.RuntimeError)) throw error;
     this.session = null;
+    this.forget();
     this.adapter = await Adapter.opened(this.module);
     return this.tell(
       `The module has stopped (${error.message}). It is opened anew: change the script, and it runs again.`);
@@ -249,7 +259,7 @@ export class View {
   typed() {
     byId("examples").value = "";
     byId("about").textContent = "";
-    byId("compared").textContent = "";
+    this.forget();
     clearTimeout(this.timer);
     const wait = this.editor.text.length > MUCH_TEXT ? TYPED_MUCH : TYPED;
     this.timer = setTimeout(() => this.guarded(() => this.begin()), wait);
@@ -258,7 +268,7 @@ export class View {
   /** Runs the text, and shows what is asked for: so many steps, or as many as before, or all. */
   begin(asked = this.session && this.steps < this.session.length ? this.steps : Infinity) {
     clearTimeout(this.timer);
-    byId("compared").textContent = "";
+    this.forget();
     Object.assign(this, { search: null, coming: null, isHalted: false, asked, begun: performance.now(),
       shownAt: performance.now() });
     this.play(false);
@@ -274,7 +284,7 @@ export class View {
     this.editor.blame(null);
     this.editor.isStale = false;
     document.body.classList.remove("stale");
-    this.isCompared = false;
+    this.isFinished = false;
     return this.wake();
   }
 
@@ -311,11 +321,11 @@ export class View {
   work() {
     const { session } = this;
     if (!session.isDone && !this.isHalted) this.runOn();
-    else if (!this.isCompared && session.isDone) this.finish();
+    else if (!this.isFinished && session.isDone) this.finish();
     if (this.search) this.searchOn();
     else if (this.coming !== null) this.comeOn();
     this.buttons();
-    const isRunning = session.isDone ? !this.isCompared : !this.isHalted;
+    const isRunning = session.isDone ? !this.isFinished : !this.isHalted;
     return isRunning || this.search !== null || this.coming !== null;
   }
 
@@ -335,18 +345,53 @@ export class View {
   }
 
   finish() {
-    const { session } = this, why = session.whyNotCompared;
-    this.isCompared = true;
+    const { session } = this;
+    this.isFinished = true;
     this.saySummary();
-    const differs = why ? "" : session.compared(), box = byId("compared");
-    box.className = differs ? "wrong" : why ? "" : "right";
-    box.textContent = why ? `The answers of this run are not held to those of zak_run: it has ${why}.`
-      : differs ? `This run and one by zak_run are not the same: ${differs}. Please report it.`
-      : `✓ All ${grouped(session.length)} answers are those of one run by zak_run, of the whole script.`;
+    this.hold();
     if (!session.length) this.come(0);
     if (this.seen?.session !== session) return;
     this.listing.show(session, this.steps);
     this.editor.draw();
+  }
+
+  /** Holds the run to one by zak_run. */
+  hold() {
+    const { session } = this, steps = grouped(session.length);
+    this.sayCompared(`Holding the ${steps} answers of this run to those of one run by zak_run …`, "", true);
+    this.comparer.start(session.whole, told => {
+      if (this.session !== session) return;
+      if (told?.trouble) return this.sayCompared(`${NOT_HELD}. ${told.trouble}`);
+      const why = told ? null : session.whyNotCompared;
+      if (why) return this.sayCompared(`${NOT_HELD}: the page has no worker here, and the run has ${why}.`);
+      return this.sayHeld(told ? told.differs : session.compared());
+    });
+  }
+
+  sayHeld(differs) {
+    const { length, held } = this.session, count = grouped(length);
+    if (differs) {
+      this.sayCompared(`This run and one by zak_run are not the same: ${differs}. Please report it.`,
+        "wrong");
+    } else if (!length || held.steps === length) {
+      const all = length === 1 ? "The one answer is that" : `All ${count} answers are those`;
+      this.sayCompared(`✓ ${all} of one run by zak_run, of the whole script.`, "right");
+    } else {
+      this.sayCompared(`✓ The first ${grouped(held.steps)} of ${count} answers are those of one run by ` +
+        `zak_run. The others are not held: a report of more than ${MOST_HELD >> 20} MiB is too long for it.`,
+      "right");
+    }
+  }
+
+  /** Says at the foot how the run and one by zak_run compare. */
+  sayCompared(textContent, className = "", isBusy = false) {
+    Object.assign(byId("compared"), { textContent, className, ariaBusy: String(isBusy) });
+  }
+
+  /** Ends the comparison of a run, since another one comes. */
+  forget() {
+    this.comparer.stop();
+    this.sayCompared("");
   }
 
   /** Asks for the state after so many steps. */
@@ -425,7 +470,6 @@ export class View {
       return;
     }
     this.search = null;
-    this.isCompared = this.session.whyNotCompared !== null && this.isCompared;
     const steps = found.steps ?? (isBack ? 0 : this.session.length);
     this.come(steps);
     if (found.ended) this.play(false);
@@ -523,25 +567,21 @@ export class View {
   }
 
   open(tab) {
-    this.tab = tab;
+    if (this.opened !== tab) this.markTab(tab);
+    this.tab = this.opened = tab;
+    if (!this.seen) return;
+    const made = this.panels[tab](), panel = byId("panel");
+    if (panel.firstChild !== made) panel.replaceChildren(made);
+  }
+
+  /** Marks the tab that is open. */
+  markTab(tab) {
     TABS.forEach((name, i) => {
       const made = byId(`tab${i + 1}`);
       made.setAttribute("aria-selected", String(name === tab));
       made.tabIndex = name === tab ? 0 : -1;
     });
     byId("panel").setAttribute("aria-labelledby", `tab${TABS.indexOf(tab) + 1}`);
-    if (!this.seen) return;
-    const { pages } = this.data;
-    const makers = {
-      registers: () => this.registerPanel.made(this.seen),
-      memory: () => this.memoryPanel.made(this.seen),
-      cells: () => cellPanel(this.seen),
-      colours: () => this.colourPanel.made(this.seen),
-      "BIOS data": () => biosPanel(pages, this.seen),
-      breakpoints: () => this.pointPanel.box,
-    };
-    const made = makers[tab](), panel = byId("panel");
-    if (panel.firstChild !== made) panel.replaceChildren(made);
   }
 
   buttons() {

@@ -9,12 +9,11 @@ import { resolve } from "node:path";
 import { pathToFileURL } from "node:url";
 import { gunzipSync, gzipSync } from "node:zlib";
 import { KEYS } from "../keys.js";
-import { packed } from "../share.js";
 import { Browser } from "./driving.mjs";
+import { IDLE, LONG, figuresOf, figuresText, fragmentOf, isIdle, jumpTimes } from "./jumps.mjs";
 import { FONTS, PAGE, TOP, pageData, withMemory } from "./loading.mjs";
 
 const ADDRESS = pathToFileURL(resolve(PAGE)).href, SHOTS = process.argv[2];
-const IDLE = "document.getElementById('compared')?.textContent.length > 0";
 const WIDE = { width: 1280, height: 860 }, NARROW = { width: 390, height: 844, scale: 2 };
 const browser = await Browser.started(), folder = mkdtempSync(`${tmpdir()}/zaklimot-page-`), seen = [];
 
@@ -22,8 +21,7 @@ const text = id => browser.value(`document.getElementById(${JSON.stringify(id)})
 const step = async () => Number((await text("laststep")).match(/After step ([\d,]+)/)?.[1].replaceAll(
   ",", "") ?? 0);
 const key = (...more) => browser.press(...more);
-const fragment = async (script, more = "") =>
-  `#script=${await packed(new TextEncoder().encode(script))}${more}`;
+const fragment = async (script, more = "") => await fragmentOf(script) + more;
 
 async function open(hash = "", address = ADDRESS) {
   await browser.open(address + hash);
@@ -450,12 +448,10 @@ await check("a script of 16 MiB", async () => {
   await browser.until(`document.getElementById("state").textContent.startsWith("1,290,555 steps")`, 120000);
   await browser.until(IDLE);
   assert.equal(count, 1290555);
-  assert.match(await text("compared"), /more than 100,000 steps/);
+  assert.match(await text("compared"), /All 1,290,555 answers are those of one run by zak_run/);
   for (const wanted of [700000, 699999, 1290555, 1]) {
-    const begun = await browser.value("performance.now()");
     await goTo("step", String(wanted));
     await stepIs(wanted);
-    assert.ok(await browser.value("performance.now()") - begun < 2000);
   }
   await choose("bytes.bin", Buffer.concat([Buffer.from("VGAS\x01"), Buffer.alloc((1 << 24) - 5, 0xff)]));
   await browser.until("document.getElementById('notice').textContent.includes('which is no opcode')");
@@ -500,6 +496,80 @@ await check("want of memory in the module", async () => {
     await choose("small.vga", "int ax=3\nframe\n");
     await browser.until("document.getElementById('state').textContent.startsWith('2 steps')");
   }
+});
+
+/** Opens a script in a page in which some JavaScript has run first. */
+async function openAfter(source, script) {
+  const { identifier } = await browser.send("Page.addScriptToEvaluateOnNewDocument", { source });
+  await browser.open(ADDRESS + await fragment(script));
+  await browser.send("Page.removeScriptToEvaluateOnNewDocument", { identifier });
+}
+
+await check("answers that are not those of zak_run are told", async () => {
+  const source = `{
+    const post = Worker.prototype.postMessage;
+    Worker.prototype.postMessage = function (message) {
+      message.run.sums[0]++;
+      post.call(this, message);
+    };
+  }`;
+  await openAfter(source, SCRIPT);
+  await says("#compared", "are not the same: step 12 answers otherwise. Please report it.");
+});
+
+await check("while a long run is held, the page goes on; another script ends it", async () => {
+  const source = `{
+    window.ended = 0;
+    const end = Worker.prototype.terminate;
+    Worker.prototype.terminate = function () { window.ended++; end.call(this); };
+  }`;
+  await openAfter(source, "version 2\nint ax=3\nrepeat 500\nint ax=E41\nframe\nend\n");
+  await says("#compared", "Holding the 1,001 answers of this run to those of one run by zak_run");
+  await browser.click("#back");
+  await stepIs(1000);
+  assert.equal(await browser.value("document.getElementById('compared').ariaBusy"), "true");
+  await set("text", SCRIPT, "input");
+  await browser.until("window.ended === 1");
+  await browser.until(IDLE);
+  assert.match(await text("compared"), /All 14 answers are those of one run by zak_run/);
+});
+
+await check("a report that is too long is held as far as it goes", async () => {
+  await browser.open(ADDRESS + await fragment("version 2\nint ax=3\nrepeat 700\nint ax=E41\nframe\nend\n"));
+  await browser.until(IDLE, 120000);
+  assert.match(await text("compared"),
+    /^✓ The first 1,2\d\d of 1,401 answers are those of one run by zak_run\..* more than 512 MiB/);
+});
+
+await check("where no worker is to be had, short runs are held by the page itself", async () => {
+  for (const source of ["window.Worker = class { constructor() { throw new Error('none'); } }",
+    "window.Worker = class { postMessage() { this.onerror(new Event('error')); } terminate() {} }"]) {
+    await openAfter(source, SCRIPT);
+    await browser.until(IDLE);
+    assert.match(await text("compared"), /All 14 answers are those of one run by zak_run/);
+    await openAfter(source, "get 0\n".repeat(100001));
+    await browser.until(IDLE);
+    await says("#compared", "the page has no worker here, and the run has more than 100,000 steps");
+  }
+});
+
+/** Tells times of jumps; on an idle machine each is held to 50 milliseconds. */
+async function holdJumps(name, hashes, count) {
+  const isHeld = await isIdle(), times = [];
+  for (const hash of hashes) times.push(...(await jumpTimes(browser, PAGE, hash, count)).flat());
+  const figures = figuresOf(times), told = `${times.length} jumps in ${name}: ${figuresText(figures)}`;
+  seen.push(isHeld ? told : `${told}, on a machine that had other work`);
+  assert.ok(figures.most < (isHeld ? 50 : 1000), told);
+}
+
+await check("any step of three million is shown within 50 milliseconds", async () => {
+  await browser.look(WIDE);
+  await holdJumps("3,000,001 steps", [await fragment(LONG)], 200);
+});
+
+await check("any step of an example is shown within 50 milliseconds", async () => {
+  const names = ["text-by-services", "planar-screen", "colours-of-mode-13", "raster-bands"];
+  await holdJumps("examples", names.map(name => `#example=${name}`), 48);
 });
 
 // A module whose next step traps, as one would whose memory was overwritten.

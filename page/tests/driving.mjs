@@ -143,7 +143,8 @@ export class Browser {
   }
 }
 
-function hasProgram(name) {
+/** Whether a program is in the path. */
+export function hasProgram(name) {
   return (process.env.PATH ?? "").split(":").some(folder => {
     try {
       return folder && statSync(`${folder}/${name}`);

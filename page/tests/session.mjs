@@ -2,6 +2,7 @@
 import assert from "node:assert/strict";
 import test from "node:test";
 import { Adapter } from "../adapter.js";
+import { Answers } from "../answers.js";
 import { Session, judgedText } from "../session.js";
 import { FONTS, examples, loadAdapter, moduleBytes, runWhole, withMemory } from "./loading.mjs";
 
@@ -13,7 +14,7 @@ function sessionOf(text) {
 
 /** The state after so many steps, by steps from power-on and nothing else. */
 function stateFromPowerOn(session, steps) {
-  session.restore(session.kept[0]);
+  session.restore(session.kept.before(0));
   while (session.at < steps) session.advance(steps - session.at);
   return session.card.save();
 }
@@ -37,6 +38,58 @@ test("an answer that differs from that of zak_run is found, and a picture too", 
   session.answers.texts[session.answers.numbers[2]] = "68";
   assert.equal(session.compared(), "step 3 answers otherwise");
   session.close();
+});
+
+test("the length of the whole report is known without it", () => {
+  const block = "version 2\nint ax=3\nrepeat 999\nin 3CC\nshow bda\nend\nframe";
+  for (const text of ["", "in 3CC\n".repeat(12345), block]) {
+    const session = sessionOf(text), { report } = adapter.run(session.script, FONTS);
+    assert.equal(session.reported, report.length);
+    assert.equal(session.held.reported, report.length);
+    assert.equal(session.compared(), "");
+    session.held.reported++;
+    assert.match(session.compared(), /^its report has [\d,]+ bytes, and this run's [\d,]+$/);
+    session.close();
+  }
+});
+
+test("answers of which only the first words are kept are held all the same", () => {
+  const session = new Session(adapter, FONTS, "int ax=3\nshow regs\nint ax=F00\nint ax=3\nshow beam\n");
+  session.answers = new Answers(20);
+  runWhole(session);
+  assert.ok(session.answers.cut.size > 0);
+  assert.equal(session.compared(), "");
+  session.sums[1]++;
+  assert.match(session.compared(), /^step \d answers otherwise$/);
+  session.close();
+});
+
+test("a text of the first steps has these steps", () => {
+  const text = "version 2\nint ax=3\nrepeat 3\nin 3CC ; = 67\nget 0\nframe\nend\n" +
+    "out 3C4 2\nrepeat 2\nin 3DA\nend";
+  const { outline } = judgedText(adapter, text);
+  const words = one => Array.from({ length: one.length }, (_, step) => one.wordsOf(one.entryOf(step)));
+  for (let steps = 0; steps <= outline.length; steps++) {
+    const found = judgedText(adapter, outline.firstSteps(steps)).outline;
+    assert.deepEqual(words(found), words(outline).slice(0, steps));
+  }
+});
+
+test("where the report of all is too long, the first steps are held", () => {
+  const text = "version 2\nint ax=3\nrepeat 40\nframe ; = picture 720x400\nin 3CC\nend\nput B8000 41\n";
+  for (const [frames, steps] of [[10, 19], [39, 77]]) {
+    const session = new Session(adapter, FONTS, text);
+    session.mostHeld = 864040 * (frames - 0.5);
+    runWhole(session);
+    assert.equal(session.held.steps, steps);
+    const { steps: held, script } = session.whole;
+    assert.equal(judgedText(adapter, session.outline.firstSteps(held)).outline.length, held);
+    assert.notDeepEqual(script, session.script);
+    assert.equal(session.compared(), "");
+    session.sums[frames - 3]++;
+    assert.match(session.compared(), /^step \d+ answers otherwise$/);
+    session.close();
+  }
 });
 
 test("a step's state is the same by whichever way one comes there", () => {
@@ -67,33 +120,60 @@ test("what is seen of a step leaves the card after it", () => {
   session.close();
 });
 
-/** How long it takes to see a step from elsewhere: the least of three, since others use the machine too. */
+/** A way to a state takes less, in milliseconds. */
+const MOST_WAY = 25;
+
+/** How long it takes to see a step from elsewhere: the least of some times, since others work too. */
 function quickest(session, step) {
-  return Math.min(...[0, 1, 2].map(() => {
+  let least = Infinity;
+  for (let time = 0; time < 3 || (time < 10 && least >= MOST_WAY); time++) {
     session.approach(step < session.length / 2 ? session.length : 0);
+    session.near.clear();
     const begun = performance.now();
     session.approach(step);
     session.seen(step + 1);
-    return performance.now() - begun;
-  }));
+    least = Math.min(least, performance.now() - begun);
+  }
+  return least;
 }
 
-test("long scripts: any step of three million within 50 milliseconds, back as quick as forward", () => {
+test("long scripts: any step of three million within 25 milliseconds, back as quick as forward", () => {
   const shapes = {
     "in blocks": "version 2\nint ax=13\n" +
       "repeat 60000\nput A0001 12\nget A0002\nout 3C8 3\nput A1234 77\nin 3DA\nend\n".repeat(10),
     "in lines": "int ax=13\n" + "get A0001\nin 3CC\nput A0000 1\n".repeat(400000),
+    "with dots": "version 2\nint ax=3\n" +
+      "repeat 60000\nput B8000 41\nadvance 33\nin 3DA\nend\n".repeat(7),
   };
   for (const [shape, text] of Object.entries(shapes)) {
     const session = sessionOf(text);
     assert.ok(session.length >= 1200001, shape);
     const times = [0.5, 0.999, 0.001, 0.3, 0.7, 0.2].flatMap(part =>
       [0, 1, 2].map(back => quickest(session, Math.floor(session.length * part) - back)));
-    const most = Math.max(...times), run = session.time.toFixed(0);
-    console.log(`${shape}: ${session.length} steps in ${run} ms; to a step ${most.toFixed(1)} ms at most`);
-    assert.ok(most < 50, `${shape}: ${times.map(time => time.toFixed(1))}`);
+    const most = Math.max(...times), run = session.time.toFixed(0), states = session.kept.length;
+    console.log(`${shape}: ${session.length} steps in ${run} ms, ${states} states; to a step ` +
+      `${most.toFixed(1)} ms at most`);
+    assert.ok(most < MOST_WAY, `${shape}: ${times.map(time => time.toFixed(1))}`);
     session.close();
   }
+});
+
+test("on a longer way states are kept near the step that was asked for", () => {
+  const session = new Session(adapter, FONTS, "version 2\nint ax=3\nrepeat 900\nint ax=E41\nframe\nend\n");
+  session.kept.most = 1 << 18;
+  runWhole(session);
+  const { apart, kept } = session;
+  assert.ok(apart > 100 && kept.length < 16, `${apart} ms, ${kept.length} states`);
+  const steps = session.length - 1, far = session.kept.before(steps).at;
+  assert.ok(session.approach(steps));
+  const near = session.keptBefore(steps - 1).at;
+  assert.ok(near > far && steps - near < (steps - far) / 2, `${steps} from ${near}, not ${far}`);
+  for (const back of [1, 2, 9, 60]) {
+    assert.ok(session.approach(steps - back));
+    const found = session.card.save();
+    assert.deepEqual(found, stateFromPowerOn(session, steps - back), `${back} back`);
+  }
+  session.close();
 });
 
 test("bad lines are told with their line and reason", () => {

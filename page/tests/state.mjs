@@ -2,6 +2,7 @@
 import assert from "node:assert/strict";
 import test from "node:test";
 import { Session } from "../session.js";
+import { changedPlanes } from "../changes.js";
 import { statusOne } from "../registerpanel.js";
 import { State, characterWidth, dacEntry, fetchAddress, frameShape, shownBytes,
   windowShape } from "../state.js";
@@ -86,7 +87,7 @@ for (const [mode, [width, height, dots, lines]] of Object.entries(SHAPES)) {
 /** The picture that a frame shows from here on, without the card's going on. */
 function nextFrame(card) {
   const state = card.save(), { rgb } = card.frameLines();
-  card.restore(state);
+  card.restore([state]);
   return rgb;
 }
 
@@ -101,7 +102,7 @@ for (const mode of ["3", "D", "12", "13"]) {
       for (const plane of mode === "3" ? [1] : [0, 1, 2, 3]) {
         other[874 + 20 + 65536 * plane + offset] = mode === "3" ? 0x17 : 0xff;
       }
-      card.restore(other);
+      card.restore([other]);
       const isSame = Buffer.compare(nextFrame(card), plain) === 0;
       assert.equal(!isSame, shown[offset] === 1, `offset ${offset}`);
     }
@@ -152,4 +153,19 @@ test("input status 1 is what would be read", () => {
     assert.equal(count, 170);
     session.close();
   }
+});
+
+test("the bytes of planes that a step changes are found, each of a word", () => {
+  const puts = Array.from({ length: 9 }, (_, i) => `put A000${i} FF`).join("\n");
+  const session = runWhole(new Session(adapter, FONTS, `int ax=12\n${puts}\nint ax=3`));
+  for (let steps = 1; steps <= session.length; steps++) {
+    session.approach(steps - 1);
+    const { before, after } = session.seen(steps);
+    changedPlanes(before, after).forEach((found, plane) => {
+      const [old, now] = [before, after].map(state => state.plane(plane));
+      assert.deepEqual(found, Array.from(now.keys()).filter(at => old[at] !== now[at]), `step ${steps}`);
+    });
+  }
+  assert.deepEqual(changedPlanes(session.state(), session.state()), [[], [], [], []]);
+  session.close();
 });

@@ -41,9 +41,12 @@ def node_words() -> list[str]:
     raise Trouble(f"it is {version}, and takes no memory of 64-bit addresses", NAME)
 
 
-def run_node(words: Sequence[str | Path], environment: Optional[Mapping[str, str]] = None) -> str:
-    """What a script writes that ends well; else a Wrong tells what it said."""
+def run_node(
+    words: Sequence[str | Path], environment: Optional[Mapping[str, str]] = None,
+    seconds: int = MOST_SECONDS,
+) -> str:
+    """What a script writes that ends well within so many seconds; else a Wrong tells what it said."""
     try:
-        return run([*node_words(), *words], seconds=MOST_SECONDS, environment=environment)
+        return run([*node_words(), *words], seconds=seconds, environment=environment)
     except Failed as failed:
         raise Wrong(str(failed)) from failed

@@ -22,6 +22,8 @@ IS_TEST = 'from "node:test"'
 SCRIPT = re.compile(r'<script type="module">\n(.*?)</script>', re.S)
 # What node tells of its tests.
 COUNT = re.compile(r"^# (pass|fail|skipped|todo|cancelled) ([0-9]+)$", re.M)
+# Seconds that the check in a browser may take.
+BROWSER_SECONDS = 400
 CHROMIUM = ("chromium", "chromium-browser", "google-chrome")
 # Where the tests find the module, the page as built, and a module whose memory doesn't grow.
 MODULE, BUILT, SMALL = "ZAKLIMOT_MODULE", "ZAKLIMOT_PAGE", "ZAKLIMOT_SMALL_MODULE"
@@ -102,4 +104,4 @@ def check_browser() -> str:
         raise Trouble("it is not there", str(BROWSER))
     if not any(map(shutil.which, CHROMIUM)):
         raise Trouble(f"it is not in the path: install the package {CHROMIUM[0]}", CHROMIUM[0])
-    return run_node([BROWSER], {BUILT: str(PAGE)}).strip().replace("\n", "; ")
+    return run_node([BROWSER], {BUILT: str(PAGE)}, BROWSER_SECONDS).strip().replace("\n", "; ")
