@@ -76,7 +76,7 @@ class Several(Fake):
         for name in ("tools/vga_report", "bindings", "include"):
             (top / name).parent.mkdir(parents=True, exist_ok=True)
             (top / name).symlink_to(PROGRAM.parents[1] / name)
-        (top / "crates" / "vga").mkdir(parents=True)
+        (top / "crates" / "vga" / "src").mkdir(parents=True)
         code = f"import sys; sys.path.insert(0, {str(top / 'tools')!r}); from vga_report import program, progress\n"
         code += f"program.CRATE = program.Path({str(top / 'crates' / 'vga')!r}); program.PROGRAM = program.CRATE / 'out'\n"
         code += "try: program.build_program(progress.Progress())\nexcept Exception as error: print(error)"
@@ -89,8 +89,16 @@ class Several(Fake):
 class Watching(Fake):
     def test_it_runs_again_when_the_script_changes(self) -> None:
         words = [sys.executable, PROGRAM, "run", self.path, "--vga", self.program, "--quiet", "--watch"]
-        with subprocess.Popen(words, stdout=subprocess.PIPE, stderr=subprocess.PIPE, text=True) as process:
-            assert process.stdout is not None and process.stderr is not None
+        # A run in the background of a shell has the signal ignored.
+        process = subprocess.Popen(
+            words, stdout=subprocess.PIPE, stderr=subprocess.PIPE, text=True,
+            preexec_fn=lambda: signal.signal(signal.SIGINT, signal.SIG_DFL),
+        )
+        assert process.stdout is not None and process.stderr is not None
+        with process.stdout, process.stderr:
+            # What is not as it should be ends the watching all the same.
+            self.addCleanup(process.wait)
+            self.addCleanup(process.kill)
             self.assertIn("6 steps", process.stdout.readline())
             self.write("s.vga", "move\n")
             self.assertEqual(process.stdout.readline(), f"{self.path} has changed\n")

@@ -23,6 +23,8 @@ STARTING = """
 import os, signal, sys
 sys.path.insert(0, {tools!r})
 from vga_report.processes import started
+# A run in the background of a shell has the signal ignored.
+signal.signal(signal.SIGINT, signal.default_int_handler)
 os.register_at_fork(after_in_parent=lambda: os.kill(os.getpid(), signal.SIGINT))
 try:
     with started(["true"], preexec_fn=lambda: None) as process:
