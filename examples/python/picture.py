@@ -1,29 +1,31 @@
-"""Sets mode 13, draws its 256 colours, and writes a picture: picture.py LIBRARY.so FONTS PICTURE.ppm"""
+"""Sets mode 13, draws its 256 colours, and writes a picture: picture.py PICTURE.ppm (or PICTURE.png)"""
 
 from __future__ import annotations
 
 import sys
 from pathlib import Path
 
-from zaklimot import Card, Picture, Regs
+import zaklimot
 
 
-def draw(card: Card) -> Picture:
-    card.int10(Regs(0x0013))
-    for at in range(64_000):
-        x, y = at % 320, at // 320
-        card.put(0xA0000 + at, x // 20 + 16 * (2 * y // 25))
+def draw(card: zaklimot.Card) -> zaklimot.Picture:
+    card.int10(ax=0x0013)
+    card.put_bytes(0xA0000, bytes(x // 20 + 16 * (2 * y // 25) for y in range(200) for x in range(320)))
     return card.frame()
 
 
 def main() -> int:
-    if len(sys.argv) != 4:
+    if len(sys.argv) != 2:
         print(__doc__, file=sys.stderr)
         return 2
-    library, fonts, path = sys.argv[1:]
-    with Card(library, Path(fonts).read_bytes()) as card:
+    path = Path(sys.argv[1])
+    with zaklimot.Card() as card:
         picture = draw(card)
-    Path(path).write_bytes(b"P6\n%d %d\n63\n" % (picture.width, picture.height) + picture.rgb)
+        try:
+            path.write_bytes(picture.png() if path.suffix == ".png" else picture.ppm())
+        except OSError as error:
+            print(f"{path}: {error.strerror}", file=sys.stderr)
+            return 1
     return 0
 
 

@@ -1,4 +1,4 @@
-"""Takes the steps of a script slice by slice: slices.py LIBRARY.so FONTS SCRIPT STEPS
+"""Takes the steps of a script slice by slice: slices.py SCRIPT STEPS
 
 Writes the printed text, and then the report of each slice of so many steps. After every slice it goes
 back and takes it once more, as a debugger does.
@@ -10,10 +10,10 @@ import sys
 from pathlib import Path
 from typing import Iterator
 
-from zaklimot import Card, Refused, Slice, assemble, printed
+import zaklimot
 
 
-def slices(card: Card, script: bytes, steps: int) -> Iterator[Slice]:
+def slices(card: zaklimot.Card, script: bytes, steps: int) -> Iterator[zaklimot.Report]:
     """Takes all steps, so many at a time, and each slice twice."""
     first = 0
     while True:
@@ -21,7 +21,7 @@ def slices(card: Card, script: bytes, steps: int) -> Iterator[Slice]:
         once = card.run_on(script, first, steps)
         card.restore(state)
         again = card.run_on(script, first, steps)
-        assert once == again
+        assert once.raw == again.raw
         yield again
         first += again.taken
         if again.taken < steps:
@@ -29,18 +29,28 @@ def slices(card: Card, script: bytes, steps: int) -> Iterator[Slice]:
 
 
 def main() -> int:
-    if len(sys.argv) != 5:
+    if len(sys.argv) != 3:
         print(__doc__, file=sys.stderr)
         return 2
-    library, fonts, path, steps = sys.argv[1:]
+    path, steps = sys.argv[1:]
+    # Slices of no step would never come to the script's end.
+    if not steps.isdecimal() or int(steps) == 0:
+        print(f"{steps}: a slice has one step or more", file=sys.stderr)
+        return 2
     try:
-        script = assemble(library, Path(path).read_bytes())
-        sys.stdout.buffer.write(printed(library, script))
-        with Card(library, Path(fonts).read_bytes()) as card:
-            for one in slices(card, script, int(steps)):
-                sys.stdout.buffer.write(one.report)
-    except Refused as refused:
-        print(f"{path}: {refused}", file=sys.stderr)
+        text = Path(path).read_bytes()
+    except OSError as error:
+        print(f"{path}: {error.strerror}", file=sys.stderr)
+        return 1
+    try:
+        script = zaklimot.assemble(text)
+        sys.stdout.write(zaklimot.disassemble(script))
+        sys.stdout.flush()
+        with zaklimot.Card() as card:
+            for report in slices(card, script, int(steps)):
+                sys.stdout.buffer.write(report.raw)
+    except zaklimot.ScriptError as fault:
+        print(f"{path}: {fault}", file=sys.stderr)
         return 1
     return 0
 

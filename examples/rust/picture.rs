@@ -1,32 +1,24 @@
 //! Sets mode 13, draws its 256 colours in another thread, and writes a picture:
-//! `picture FONTS PICTURE.ppm`.
-
-#[allow(dead_code)]
-mod zaklimot;
+//! `picture PICTURE.ppm`.
 
 use std::error::Error;
 use std::{env, fs, thread};
-use zaklimot::{Card, Picture, Regs, Status};
 
-fn draw(card: &mut Card) -> Result<Picture, Status> {
-    card.int10(Regs { ax: 0x0013, ..Regs::default() }, &[])?;
-    for at in 0..64_000u32 {
-        let (x, y) = (at % 320, at / 320);
-        card.put(0xA0000 + at, (x / 20 + 16 * (2 * y / 25)) as u8)?;
-    }
-    card.frame()
+use zaklimot::{Card, Direction::Up, Regs};
+
+fn draw(mut card: Card) -> Result<Vec<u8>, zaklimot::Error> {
+    card.int10(Regs::ax(0x0013), &[])?;
+    let pixel = |at: u32| (at % 320 / 20 + 16 * (2 * (at / 320) / 25)) as u8;
+    let screen: Vec<u8> = (0..64_000).map(pixel).collect();
+    card.put_bytes(0xA0000, &screen, Up)?;
+    Ok(card.frame()?.ppm())
 }
 
 fn main() -> Result<(), Box<dyn Error>> {
     let words: Vec<String> = env::args().collect();
-    let (fonts, path) = match words.as_slice() {
-        [_, fonts, path] => (fonts, path),
-        _ => return Err("picture FONTS PICTURE.ppm".into()),
-    };
-    let mut card = Card::open(&fs::read(fonts)?)?;
-    let picture = thread::spawn(move || draw(&mut card)).join().expect("the thread ends")?;
-    let mut ppm = format!("P6\n{} {}\n63\n", picture.width, picture.height).into_bytes();
-    ppm.extend(picture.rgb);
+    let path = words.get(1).ok_or("picture PICTURE.ppm")?;
+    let card = Card::new()?;
+    let ppm = thread::spawn(move || draw(card)).join().expect("the thread ends")?;
     fs::write(path, ppm)?;
     Ok(())
 }

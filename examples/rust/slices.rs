@@ -1,16 +1,15 @@
-//! Takes the steps of a script slice by slice: `slices FONTS SCRIPT STEPS`.
+//! Takes the steps of a script slice by slice: `slices SCRIPT STEPS`.
 //!
 //! Writes the printed text, and then the report of each slice of so many steps. After every
 //! slice it goes back and takes it once more, as a debugger does.
 
-#[allow(dead_code)]
-mod zaklimot;
-
 use std::error::Error;
 use std::io::{stdout, Write};
+use std::num::NonZeroU32;
 use std::process::ExitCode;
 use std::{env, fs};
-use zaklimot::{assemble, printed, Card, Fault};
+
+use zaklimot::{assemble, disassemble, Card};
 
 /// Takes all steps, so many at a time and each slice twice, and hands over their reports.
 fn slices(
@@ -18,14 +17,14 @@ fn slices(
     script: &[u8],
     steps: u32,
     mut write: impl FnMut(&[u8]),
-) -> Result<(), Fault> {
+) -> Result<(), zaklimot::Error> {
     let mut first = 0;
     loop {
         let state = card.save()?;
         let once = card.run_on(script, first, steps)?;
         card.restore(&state)?;
         let again = card.run_on(script, first, steps)?;
-        assert!(once.report == again.report && once.taken == again.taken);
+        assert!(once == again);
         write(&again.report);
         first += again.taken as u32;
         if again.taken < steps as usize {
@@ -34,22 +33,33 @@ fn slices(
     }
 }
 
-fn run(fonts: &str, path: &str, steps: &str) -> Result<(), Box<dyn Error>> {
-    let script = assemble(&fs::read(path)?)?;
-    let mut out = printed(&script)?;
-    let mut card = Card::open(&fs::read(fonts)?)?;
-    slices(&mut card, &script, steps.parse()?, |report| out.extend_from_slice(report))?;
+fn run(path: &str, steps: NonZeroU32) -> Result<(), Box<dyn Error>> {
+    let script = assemble(fs::read(path)?)?;
+    let mut out = disassemble(&script)?.into_bytes();
+    let mut card = Card::new()?;
+    slices(&mut card, &script, steps.get(), |report| out.extend_from_slice(report))?;
     stdout().write_all(&out)?;
     Ok(())
 }
 
 fn main() -> ExitCode {
     let words: Vec<String> = env::args().collect();
-    let [_, fonts, path, steps] = words.as_slice() else {
-        eprintln!("slices FONTS SCRIPT STEPS");
-        return ExitCode::from(2);
+    let (path, steps) = match words.as_slice() {
+        [_, path, steps] => (path, steps),
+        _ => {
+            eprintln!("slices SCRIPT STEPS");
+            return ExitCode::from(2);
+        }
     };
-    match run(fonts, path, steps) {
+    // Slices of no step would never come to the script's end.
+    let steps = match steps.parse() {
+        Ok(steps) => steps,
+        Err(_) => {
+            eprintln!("{steps}: a slice has one step or more");
+            return ExitCode::from(2);
+        }
+    };
+    match run(path, steps) {
         Ok(()) => ExitCode::SUCCESS,
         Err(error) => {
             eprintln!("{path}: {error}");

@@ -29,7 +29,7 @@ COMPILERS = (
     Compiler("clang", "clang++", ("clang", "clang"), "libclang-rt-dev"),
 )
 # Other programs that are run, and their packages.
-OTHERS = {"ld": "binutils", "objcopy": "binutils", "ar": "binutils", "nm": "binutils"}
+OTHERS = {name: "binutils" for name in ("ld", "objcopy", "objdump", "ar", "nm", "readelf")}
 
 
 class Built(NamedTuple):

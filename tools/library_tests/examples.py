@@ -1,11 +1,8 @@
-"""The examples: each is built and run, and its picture looked at."""
+"""The examples in C: each is built and run, and its picture looked at."""
 
 from __future__ import annotations
 
-import shutil
-import sys
 from pathlib import Path
-from typing import Iterator
 
 from vga_report import TOP
 from vga_library.making import fonts_file
@@ -44,34 +41,18 @@ def _scripted_picture(built: Built, folder: Path) -> bytes:
     return report[report.index(b"P6\n"):-1]
 
 
-def _pictures(built: Built, folder: Path) -> Iterator[tuple[str, Path]]:
-    """The pictures that the first program draws, in each of its languages."""
-    made, ppm = folder / "picture", folder / "picture.ppm"
+def check_examples(built: Built, folder: Path) -> str:
+    """The first program draws what the script draws, and the core draws its bars."""
+    wanted, made, ppm = _scripted_picture(built, folder), folder / "picture", folder / "picture.ppm"
     for compiler in COMPILERS:
         build(compiler.c, built, [EXAMPLES / "c" / "picture.c"], made, "-O2")
         run([made, fonts_file(), ppm])
-        yield f"C by {compiler.c}", ppm
-    run([sys.executable, "-B", EXAMPLES / "python" / "picture.py", built.shared, fonts_file(), ppm])
-    yield "Python", ppm
-    if shutil.which("rustc"):
-        libraries = ["-L", built.static.parent, "-l", "static=zaklimot"]
-        run(["rustc", "--edition", "2021", "-O", EXAMPLES / "rust" / "picture.rs", *libraries, "-o", made])
-        run([made, fonts_file(), ppm])
-        yield "Rust", ppm
-
-
-def check_examples(built: Built, folder: Path) -> str:
-    """The first program draws in each language what the script draws, and the core draws its bars."""
-    wanted, drawn = _scripted_picture(built, folder), []
-    for name, path in _pictures(built, folder):
-        if path.read_bytes() != wanted:
-            raise Wrong(f"the picture of {name} is not the script's")
-        path.unlink()
-        drawn.append(name)
+        if ppm.read_bytes() != wanted:
+            raise Wrong(f"the picture of C by {compiler.c} is not the script's")
+        ppm.unlink()
     core, ppm = folder / "core", folder / "core.ppm"
     build(COMPILERS[0].c, built, [EXAMPLES / "c" / "core.c"], core, "-O2")
     run([core, fonts_file(), ppm])
     if Picture.of_ppm(ppm.read_bytes()) != Picture.of_dots(640, 480, bars()):
         raise Wrong("the core in miniature draws other bars")
-    left_out = [] if "Rust" in drawn else ["Rust is left out: install the package rustc"]
-    return "; ".join([f"pictures from {', '.join(drawn)}, and a core's", *left_out])
+    return f"pictures from C by {', '.join(compiler.c for compiler in COMPILERS)}, and a core's"

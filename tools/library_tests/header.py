@@ -5,13 +5,17 @@ from __future__ import annotations
 from pathlib import Path
 
 from vga_library.header import calls_of
-from vga_report.version import HEADER
+from vga_library.making import fonts_file
+from vga_report.version import HEADER, version
 from vga_report.trouble import Wrong
 
-from .compilers import COMPILERS, STRICT, Built, run
+from .compilers import COMPILERS, SANITIZED, STRICT, Built, run
 
 LAYOUT = Path(__file__).resolve().parent / "c" / "layout.c"
+OBJECTS = LAYOUT.with_name("objects.cpp")
 C_STANDARDS, CPP_STANDARDS = ("c99", "c11", "c17"), ("c++11", "c++14", "c++17", "c++20")
+# Those that the C++ header is for.
+OBJECT_STANDARDS = ("c++17", "c++20")
 # The form of C that has static asserts.
 ASSERTING = ("c11", "c17")
 # What the library may take of the C library.
@@ -38,7 +42,18 @@ def check_header(built: Built, folder: Path) -> str:
             if language == "c++" or standard in ASSERTING:
                 _compile(name, language, standard, LAYOUT, built.include)
             count += 1
+        count += _check_objects(compiler.cpp, built, folder)
     return f"taken in {count} ways by {', '.join(compiler.c for compiler in COMPILERS)}"
+
+
+def _check_objects(compiler: str, built: Built, folder: Path) -> int:
+    """The C++ header: it is taken, and a card by it answers, throws, moves and closes, with sanitizers."""
+    made = folder / "objects"
+    for standard in OBJECT_STANDARDS:
+        words = [compiler, f"-std={standard}", *STRICT, *SANITIZED, "-I", built.include]
+        run([*words, OBJECTS, built.static, "-o", made])
+        run([made, fonts_file()])
+    return len(OBJECT_STANDARDS)
 
 
 def names_in(table: str) -> tuple[set[str], set[str]]:
@@ -63,4 +78,8 @@ def check_names(built: Built) -> str:
                         f"in the header and not seen: {sorted(calls - defined)}")
         if not wanted - WEAK <= OUTSIDE:
             raise Wrong(f"{path.name} wants {sorted(wanted - WEAK - OUTSIDE)}")
+    told = run(["readelf", "--wide", "--dynamic", "--segments", built.shared])
+    for word in (f"Library soname: [libzaklimot.so.{version().major}]", "Flags: NOW", "GNU_RELRO"):
+        if word not in told:
+            raise Wrong(f"{built.shared.name} has not {word}")
     return f"{len(calls)} names are seen, the header's"

@@ -9,21 +9,25 @@ from pathlib import Path
 
 from vga_report import TOP
 from vga_report.version import version
-from vga_library.making import fonts_file
+from vga_library.making import MOVING, Place, fonts_file, make_library
+from vga_library.toolchain import kit_archive
 from vga_report.trouble import Wrong
 
 from .compilers import COMPILERS, STRICT, Built, run
 
 LIBRARIES = "lib/x86_64-linux-gnu"
 PICTURE = TOP / "examples" / "c" / "picture.c"
+# A project that builds it with both libraries.
+PROJECT = Path(__file__).resolve().parent / "cmake"
 
 
 def laid_files() -> list[str]:
     """What is laid below the prefix."""
     told = version()
     names = ("libzaklimot.a", "libzaklimot.so", f"libzaklimot.so.{told.major}", f"libzaklimot.so.{told}")
-    packages = [f"{LIBRARIES}/{name}" for name in (*names, "pkgconfig/zaklimot.pc")]
-    return sorted(["include/zaklimot.h", "share/zaklimot/zaklimot.fnt", *packages])
+    cmake = [f"cmake/Zaklimot/Zaklimot{name}.cmake" for name in ("Config", "ConfigVersion")]
+    packages = [f"{LIBRARIES}/{name}" for name in (*names, "pkgconfig/zaklimot.pc", *cmake)]
+    return sorted(["include/zaklimot.h", "include/zaklimot.hpp", "share/zaklimot/zaklimot.fnt", *packages])
 
 
 def _install(built: Built, stage: Path) -> Path:
@@ -49,7 +53,44 @@ def check_installing(built: Built, folder: Path) -> str:
     run([made, fonts_file(), ppm], env={**os.environ, "LD_LIBRARY_PATH": str(prefix / LIBRARIES)})
     if not ppm.read_bytes().startswith(b"P6\n640 400\n63\n"):
         raise Wrong("the program that was built with the installed files draws no picture")
-    return f"{len(found)} files, and a program that is linked with the shared library"
+    ways = [_check_pkg_config(built, folder), _check_cmake(prefix, folder)]
+    return "; ".join([f"{len(found)} files, and a program that is linked with the shared library", *filter(None, ways)])
+
+
+def _check_pkg_config(built: Built, folder: Path) -> str:
+    """A folder that was moved, with its libraries at a place of its own, is found from there."""
+    if not shutil.which("pkg-config"):
+        return "pkg-config is left out: install the package pkg-config"
+    moved = folder / "moved" / "kit"
+    make_library(built.archive, kit_archive(), Place(str(folder / "first"), LIBRARIES), MOVING)
+    moved.parent.mkdir()
+    (folder / "first").rename(moved)
+    environment = {**os.environ, "PKG_CONFIG_PATH": str(moved / LIBRARIES / "pkgconfig")}
+    for name, place in (("prefix", ""), ("libdir", LIBRARIES), ("includedir", "include"), ("fonts", "share/zaklimot/zaklimot.fnt")):
+        told = Path(run(["pkg-config", f"--variable={name}", "zaklimot"], env=environment).strip())
+        if told.resolve() != (moved / place).resolve() or not told.exists():
+            raise Wrong(f"from a folder that was moved, pkg-config tells {name} as {told}")
+    return ""
+
+
+def _check_cmake(prefix: Path, folder: Path) -> str:
+    """A project of CMake finds the installed files, builds with either library, and its programs draw."""
+    if not shutil.which("cmake"):
+        return "CMake is left out: install the package cmake"
+    made, ppm = folder / "cmake", folder / "cmake.ppm"
+    # A packager's folder is no prefix of CMake's own.
+    words = ["cmake", "-S", PROJECT, "-B", made, f"-DPICTURE={PICTURE}", "-DCMAKE_BUILD_TYPE=Release"]
+    run([*words, f"-DCMAKE_PREFIX_PATH={prefix}"])
+    run(["cmake", "--build", made])
+    for name in ("picture", "picture_static"):
+        run([made / name, fonts_file(), ppm])
+        if not ppm.read_bytes().startswith(b"P6\n640 400\n63\n"):
+            raise Wrong(f"{name}, built by CMake, draws no picture")
+        ppm.unlink()
+    needed = run(["objdump", "-p", made / "picture"])
+    if f"NEEDED               libzaklimot.so.{version().major}\n" not in needed:
+        raise Wrong("the program that CMake has linked doesn't want the library by its soname")
+    return "a project of CMake"
 
 
 def _flags(prefix: Path) -> list[str]:

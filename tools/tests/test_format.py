@@ -3,7 +3,10 @@
 from __future__ import annotations
 
 import doctest
+import io
 import re
+import subprocess
+import sys
 import unittest
 from unittest import mock
 
@@ -15,7 +18,8 @@ from vga_report.words import SUITE
 from zaklimot import format
 from zaklimot.format import (
     BLOCK_LINES, FAULT, FAULTS, FORMS, HEADERS, MOST_BYTES, MOST_STEPS, OPCODES, REFUSALS, SHOWN,
-    Answer, Block, Script, ScriptFault, Step, decode, encode, is_answer_to, parse_text, print_text, read,
+    Answer, Block, Report, ReportError, Script, ScriptFault, Step, decode, encode, is_answer_to, parse_text,
+    print_text, read,
 )
 from zaklimot.format.table import CODES
 
@@ -258,6 +262,34 @@ class Answers(unittest.TestCase):
                 assert isinstance(step, Step)
                 self.assertTrue(is_answer_to(step, Answer(1, 1, answer)), line)
         self.assertGreaterEqual(len(rows), 5)
+
+
+class Reports(unittest.TestCase):
+    def test_one_of_a_slice_begins_behind_the_first_step(self) -> None:
+        def numbers(first: int) -> list[int]:
+            stream = io.BufferedReader(io.BytesIO(b"7 ok\n8 E1 NotDecoded\n9 00\n"))  # type: ignore[arg-type]
+            report = Report(stream, first=first)
+            found = [answer.number for answer in report.answers()]
+            self.assertEqual(report.count, len(found))
+            return found
+
+        self.assertEqual(numbers(7), [7, 8, 9])
+        for first in (1, 8):
+            with self.assertRaises(ReportError):
+                numbers(first)
+
+
+class Importing(unittest.TestCase):
+    """The tools import the package of the bindings: they need no library for it, and start no slower for it."""
+
+    def test_the_tools_take_the_formats_alone(self) -> None:
+        program = f"import sys; sys.path.insert(0, {str(TOP / 'tools')!r}); import vga_report.cli\n"
+        program += "print(*sorted(name for name in sys.modules if name.startswith('zaklimot') and '.format' not in name))\n"
+        program += "print('zaklimot.format.table' in sys.modules, 'mmap' in sys.modules, 'fractions' in sys.modules)"
+        words = [sys.executable, "-I", "-S", "-B", "-c", program]
+        # A library that can't be found would be told where it is wanted.
+        done = subprocess.run(words, env={"ZAKLIMOT_LIBRARY": "/no-such-file"}, capture_output=True, text=True, timeout=60)
+        self.assertEqual((done.stdout, done.stderr), ("zaklimot\nTrue False False\n", ""))
 
 
 if __name__ == "__main__":

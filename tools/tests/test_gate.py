@@ -76,6 +76,7 @@ class Failing(Folder):
         number = self.folder / "number"
         fakes = {
             "vga-page-tests": "#!/bin/sh\n",
+            "vga-bindings-tests": "#!/bin/sh\n",
             "vga-memory": f"import os, time\nopen({str(number)!r}, 'w').write(str(os.getpid()))\ntime.sleep(600)\n",
             "tests-of-tools": f"#!/bin/sh\nwhile ! [ -s {number} ]; do sleep 0.05; done\nexit 1\n",
         }

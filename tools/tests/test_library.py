@@ -12,16 +12,15 @@ from unittest import mock
 
 from library_tests.compilers import COMPILERS
 from library_tests.examples import SIXTEEN, bars, colours_script
-from library_tests.header import LAYOUT, names_in
+from library_tests.header import LAYOUT, OBJECTS, names_in
 from library_tests.programs import expect
 from library_tests.suite import judged
-from vga_library import command, gated
+from vga_library import command, gated, made
 from vga_library.header import calls_of
 from vga_report import TOP
 from vga_report.version import HEADER, Version, version_of, without_comments
-from vga_library.making import Place, package_text
-from vga_report.trouble import TROUBLE
-from vga_report.trouble import Trouble, Wrong
+from vga_library.making import MOVING, Place, cmake_text, cmake_version_text, package_text
+from vga_report.trouble import TROUBLE, Trouble, Wrong
 
 TEXT = HEADER.read_text("ascii")
 PAGE = TOP / "docs" / "LIBRARY.md"
@@ -67,6 +66,17 @@ class Places(unittest.TestCase):
         self.assertIn("prefix=/usr\nlibdir=${prefix}/lib/x\n", text)
         self.assertIn("fonts=${prefix}/share/zaklimot/zaklimot.fnt\n", text)
         self.assertIn("Version: 1.2\n", text)
+        self.assertIn("prefix=${pcfiledir}/../..\n", package_text(MOVING, "lib", Version(1, 2)))
+        self.assertIn("prefix=${pcfiledir}/../../..\n", package_text(MOVING, "lib/x", Version(1, 2)))
+
+    def test_what_cmake_reads(self) -> None:
+        text = cmake_text("lib/x", Version(1, 2))
+        self.assertIn('"${CMAKE_CURRENT_LIST_DIR}/../../../.." ABSOLUTE', text)
+        self.assertIn('"${_zaklimot_prefix}/lib/x/libzaklimot.so.1.2"\n    IMPORTED_SONAME "libzaklimot.so.1"', text)
+        told = cmake_version_text(Version(1, 2))
+        self.assertIn('set(PACKAGE_VERSION "1.2")', told)
+        for whole in (text, told):
+            self.assertNotIn("@", whole)
 
     def test_words_that_cannot_be_meant(self) -> None:
         for words in (
@@ -77,6 +87,51 @@ class Places(unittest.TestCase):
             with self.subTest(words), contextlib.redirect_stderr(said):
                 self.assertEqual(command.main(words), TROUBLE)
             self.assertTrue(said.getvalue().startswith("vga-library: "))
+
+
+class Made(unittest.TestCase):
+    """What `install` takes of what `make` has made."""
+
+    def setUp(self) -> None:
+        folder = tempfile.TemporaryDirectory()
+        self.addCleanup(folder.cleanup)
+        top, names = Path(folder.name), ["low", "vga_c"]
+        for name in names:
+            (top / "crates" / name / "src").mkdir(parents=True)
+            (top / "crates" / name / "src" / "lib.rt").write_text(name)
+        (top / "crates.txt").write_text("vga_c: low\n")
+        self.low, self.parts = top / "crates" / "low" / "src" / "lib.rt", (top / "one.a", top / "two.a")
+        for path in self.parts:
+            path.write_text(path.name)
+        for name, value in (
+            ("TOP", top), ("FOLDER", top / "crates" / "vga_c" / "out" / "made"), ("below", lambda _: ["low"]),
+        ):
+            patch = mock.patch.object(made, name, value)
+            patch.start()
+            self.addCleanup(patch.stop)
+
+    def test_the_same_sources(self) -> None:
+        self.assertIsNone(made.kept("llvm"))
+        kept = made.keep("llvm", *self.parts)
+        self.assertEqual([path.read_text() for path in kept], ["one.a", "two.a"])
+        self.assertEqual(made.kept("llvm"), kept)
+        self.assertIsNone(made.kept("rattle"))
+
+    def test_other_sources_or_archives(self) -> None:
+        kept = made.keep("llvm", *self.parts)
+        self.low.write_text("changed")
+        self.assertIsNone(made.kept("llvm"))
+        self.low.write_text("low")
+        self.assertEqual(made.kept("llvm"), kept)
+        kept[0].write_text("changed")
+        self.assertIsNone(made.kept("llvm"))
+        kept[0].unlink()
+        self.assertIsNone(made.kept("llvm"))
+
+    def test_a_new_source(self) -> None:
+        made.keep("llvm", *self.parts)
+        self.low.with_name("more.rt").write_text("")
+        self.assertIsNone(made.kept("llvm"))
 
 
 class Gated(unittest.TestCase):
@@ -110,11 +165,24 @@ class Page(unittest.TestCase):
             function = source[source.index(begins):]
             self.assertIn(function[:function.index("\n}\n") + 3], PAGE.read_text("utf-8"), begins)
 
+    def test_its_lines_of_cpp_are_those_that_are_tried(self) -> None:
+        found = re.search(r"^  ```cpp\n(.*?)^  ```$", PAGE.read_text("utf-8"), re.M | re.S)
+        assert found is not None
+        tried = [line.strip() for line in OBJECTS.read_text("ascii").splitlines()]
+        self.assertEqual([line for line in found[1].splitlines() if line.strip() not in tried], [])
+
     def test_its_version_is_the_header_s(self) -> None:
         told = version_of(TEXT)
         self.assertIn(f"this is version {told}.", PAGE.read_text("utf-8"))
         for page in (PAGE, PAGE.with_name("RELEASE.md")):
             self.assertEqual(set(re.findall(r"zaklimot-(\d+\.\d+)-", page.read_text("utf-8"))), {str(told)}, page.name)
+
+    def test_each_call_has_its_function_in_cpp(self) -> None:
+        # Dumps, slices, lines and the print of a script are the C header's alone.
+        lacking = {name for name in calls_of(TEXT) if not re.search(rf"\b{name}\b", HEADER.with_suffix(".hpp").read_text("ascii"))}
+        self.assertEqual({name.partition("_show_")[0] for name in lacking}, {
+            "zak", "zak_version", "zak_frame_lines", "zak_run_on", "zak_print",
+        })
 
     def test_each_call_is_named(self) -> None:
         page = PAGE.read_text("utf-8")

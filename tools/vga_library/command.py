@@ -14,6 +14,7 @@ from vga_report.trouble import Trouble
 
 from .making import MOVING, Place, make_library
 from .telling import phases
+from .made import keep, kept
 from .toolchain import ARCHIVE, BACKENDS, kit_archive, proved_archive
 
 # Where files go that a package names no other place for.
@@ -39,7 +40,7 @@ def _parser() -> argparse.ArgumentParser:
     _add_archive(command)
     command.set_defaults(job=_make)
     command = commands.add_parser(
-        "install", help="lays it below a prefix, as packagers do",
+        "install", help="lays it below a prefix, as packagers do; what `make` has made is taken as it is",
         epilog="PREFIX and DESTDIR of the environment stand for --prefix and --destdir where these are left out.",
     )
     command.add_argument("--prefix", metavar="FOLDER", help=f"where it is used; else {USUAL_PREFIX}")
@@ -50,17 +51,29 @@ def _parser() -> argparse.ArgumentParser:
     return parser
 
 
-def _lay(words: argparse.Namespace, place: Place, prefix: str, progress: Progress) -> None:
+def _parts(words: argparse.Namespace, takes_made: bool, progress: Progress) -> tuple[Path, Path]:
+    """The crate's archive and the kit's: given, made before from the same sources, or proved and built now."""
+    if words.archive is not None:
+        return Path(words.archive), kit_archive()
+    found = kept(words.backend) if takes_made else None
+    if found is not None:
+        return found
+    heard = phases(progress)("proving and building the library")
+    parts = proved_archive(words.backend, heard), kit_archive()
+    progress.clear()
+    return keep(words.backend, *parts)
+
+
+def _lay(
+    words: argparse.Namespace, place: Place, prefix: str, progress: Progress, takes_made: bool = False
+) -> None:
     """Makes the library, and tells its files."""
     if words.archive is not None and not os.path.isfile(words.archive):
         raise Trouble("there is no such file", words.archive)
     # What is wrong with the folders is told before the long work.
     for name in ("include", place.library_folder, "share"):
         check_folder(place.folder(name))
-    heard = phases(progress)("proving and building the library")
-    archive = proved_archive(words.backend, heard) if words.archive is None else Path(words.archive)
-    progress.clear()
-    for path in make_library(archive, kit_archive(), place, prefix):
+    for path in make_library(*_parts(words, takes_made, progress), place, prefix):
         print(path)
 
 
@@ -75,7 +88,7 @@ def _install(words: argparse.Namespace, progress: Progress) -> None:
     if os.path.isabs(words.libdir):
         raise Trouble("the folder of libraries is named from the prefix on", words.libdir)
     stage = words.destdir if words.destdir is not None else os.environ.get("DESTDIR", "")
-    _lay(words, Place(prefix, words.libdir, stage), prefix, progress)
+    _lay(words, Place(prefix, words.libdir, stage), prefix, progress, takes_made=True)
 
 
 def main(words: Optional[Sequence[str]] = None) -> int:

@@ -15,11 +15,16 @@ from vga_report.version import HEADER, Version, version
 from .toolchain import compiler
 
 NAME = "zaklimot"
+# The name by which CMake finds it, and the files that it reads, with places for what is made.
+CMAKE_NAME = "Zaklimot"
+CMAKE = Path(__file__).resolve().parent / "cmake"
 # The names that are seen of the library.
 SEEN = "zak_*"
 FONTS = TOP / "fonts" / f"{NAME}.fnt"
-# A prefix that goes with the folder wherever it is moved, from lib/pkgconfig in it.
-MOVING = "${pcfiledir}/../.."
+# The C++ header, which stands on the C one.
+CPP_HEADER = HEADER.with_suffix(".hpp")
+# In the place of a prefix: one that goes with the folder wherever it is moved.
+MOVING = ""
 
 
 class Place(NamedTuple):
@@ -36,10 +41,16 @@ class Place(NamedTuple):
         return Path(self.stage) / PurePosixPath(self.prefix).relative_to("/") / name
 
 
+def _upwards(library_folder: str, below: str) -> str:
+    """The way from a folder below that of the libraries to the prefix."""
+    return "/".join([".."] * len(PurePosixPath(library_folder, below).parts))
+
+
 def package_text(prefix: str, library_folder: str, told: Version) -> str:
     """What `pkg-config` reads."""
+    moving = "${pcfiledir}/" + _upwards(library_folder, "pkgconfig")
     return (
-        f"prefix={prefix}\n"
+        f"prefix={prefix or moving}\n"
         f"libdir=${{prefix}}/{library_folder}\n"
         "includedir=${prefix}/include\n"
         f"fonts=${{prefix}}/share/{NAME}/{FONTS.name}\n"
@@ -50,6 +61,19 @@ def package_text(prefix: str, library_folder: str, told: Version) -> str:
         f"Libs: -L${{libdir}} -l{NAME}\n"
         "Cflags: -I${includedir}\n"
     )
+
+
+def cmake_text(library_folder: str, told: Version) -> str:
+    """What CMake's `find_package` reads. It finds the files from its own place, wherever that is."""
+    upwards = _upwards(library_folder, f"cmake/{CMAKE_NAME}")
+    return (CMAKE / "config.cmake.in").read_text("ascii").replace("@UPWARDS@", upwards).replace(
+        "@LIBRARY_FOLDER@", library_folder).replace("@VERSION@", str(told)).replace("@MAJOR@", str(told.major))
+
+
+def cmake_version_text(told: Version) -> str:
+    """What `find_package` asks for the version: equal major numbers fit, and a minor one that is not lower."""
+    text = (CMAKE / "version.cmake.in").read_text("ascii")
+    return text.replace("@VERSION@", str(told)).replace("@MAJOR@", str(told.major))
 
 
 def joined_object(archive: Path, kit: Path, folder: Path) -> Path:
@@ -70,6 +94,8 @@ def make_shared(whole: Path, folder: Path, told: Version) -> None:
     """The shared library under its version, with the names by which programs and linkers look for it."""
     soname, file = f"lib{NAME}.so.{told.major}", f"lib{NAME}.so.{told}"
     options = ["-shared", f"-Wl,-soname,{soname}", "-Wl,-z,noexecstack", "-Wl,-z,defs", "-Wl,--build-id=none"]
+    # Names are looked for once, when a program starts; what holds their places is only read then.
+    options += ["-Wl,-z,relro", "-Wl,-z,now"]
     run([compiler(), *options, "-o", folder / file, whole])
     for link in (soname, f"lib{NAME}.so"):
         (folder / link).unlink(missing_ok=True)
@@ -82,22 +108,36 @@ def _lay(source: Path, place: Path) -> None:
     shutil.copyfile(source, place, follow_symlinks=False)
 
 
+def _written(path: Path, text: str) -> Path:
+    path.write_text(text, "ascii")
+    return path
+
+
 def make_library(archive: Path, kit: Path, place: Place, prefix: str) -> list[Path]:
-    """Lays header, libraries, fonts, and the file for `pkg-config`, which names this prefix. Answers what was laid."""
+    """Lays headers, libraries, fonts, and what `pkg-config` and CMake read. Answers what was laid.
+
+    The file for `pkg-config` names this prefix, or one that goes with the folder where it is MOVING.
+    """
     told = version()
     include, libraries = place.folder("include"), place.folder(place.library_folder)
     packages, share = libraries / "pkgconfig", place.folder(f"share/{NAME}")
+    cmake = libraries / "cmake" / CMAKE_NAME
+    texts = {
+        packages / f"{NAME}.pc": package_text(prefix, place.library_folder, told),
+        cmake / f"{CMAKE_NAME}Config.cmake": cmake_text(place.library_folder, told),
+        cmake / f"{CMAKE_NAME}ConfigVersion.cmake": cmake_version_text(told),
+    }
     with tempfile.TemporaryDirectory(prefix="vga-library-") as name:
         made = Path(name) / "lib"
         made.mkdir()
         whole = joined_object(archive, kit, Path(name))
         make_archive(whole, made / f"lib{NAME}.a")
         make_shared(whole, made, told)
-        package = Path(name) / f"{NAME}.pc"
-        package.write_text(package_text(prefix, place.library_folder, told), "ascii")
         laid = {
-            include / HEADER.name: HEADER, **{libraries / path.name: path for path in sorted(made.iterdir())},
-            packages / package.name: package, share / FONTS.name: FONTS,
+            include / HEADER.name: HEADER, include / CPP_HEADER.name: CPP_HEADER,
+            **{libraries / path.name: path for path in sorted(made.iterdir())},
+            **{path: _written(Path(name) / path.name, text) for path, text in texts.items()},
+            share / FONTS.name: FONTS,
         }
         for path in laid:
             refuse_input(str(path))

@@ -84,12 +84,16 @@ class Answer(NamedTuple):
 class Report:
     """A report that is read from a stream. Lines are counted from 1, and a picture with its line is one.
 
-    `heard` is called now and then while it is read, with the line.
+    `heard` is called now and then while it is read, with the line. `first` is the number of its first step: a slice of
+    a script has a report that begins behind the first.
     """
 
-    def __init__(self, stream: io.BufferedReader, heard: Optional[Callable[[int], None]] = None) -> None:
+    def __init__(
+        self, stream: io.BufferedReader, heard: Optional[Callable[[int], None]] = None, first: int = 1
+    ) -> None:
         self._stream = stream
         self._heard = heard
+        self._first = first
         # The answers of steps that a look finds, with the refusals that came.
         self._plain = dict(_PLAIN)
         self.line = 0
@@ -98,11 +102,11 @@ class Report:
 
     def answers(self) -> Iterator[Answer]:
         """The answers in their order; a ReportError where the report is damaged, behind those before that place."""
-        number = 1
+        number = self._first
         for line in iter(self._next_line, b""):
             front = b"%d " % number
             plain = self._plain.get(line[len(front):]) if line.startswith(front) else None
-            self.count = number
+            self.count = number - self._first + 1
             yield Answer(number, self.line, plain) if plain is not None else self._answer(number, line)
             number += 1
 
@@ -110,7 +114,7 @@ class Report:
         """The answer that begins with a line, and has this number if it is one."""
         text = self._text_of(line)
         place = self.line
-        if number == 1 and FAULT.fullmatch(text):
+        if number == self._first and FAULT.fullmatch(text):
             return self._fault(text)
         front, _, answer = text.partition(" ")
         if front != str(number) or not answer:

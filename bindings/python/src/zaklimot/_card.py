@@ -1,0 +1,586 @@
+"""A card as an object."""
+
+from __future__ import annotations
+
+import ctypes
+import os
+import weakref
+from fractions import Fraction
+from functools import lru_cache
+from operator import index
+from typing import Any, Callable, NoReturn, Optional, Union, overload
+
+from . import _structs as s
+from ._calls import Call
+from ._errors import BadArgument, Closed, error_of
+from ._library import default_fonts, library, read_fonts
+from ._memory import Room
+from ._numbers import BYTE, LONG, WORD, in_range
+from ._pictures import Colour, Lines, Picture, XrgbPicture
+from ._report import Report
+from ._scripts import script_bytes
+from ._state import Answer, Beam, BiosData, Cell, Position, ReadBytes, Registers, Screen, Timing
+
+Bytes = Union[bytes, bytearray, memoryview]
+Fonts = Union[Bytes, str, "os.PathLike[str]", None]
+
+NO_ROOM = 25
+# The report of one step fits into this.
+STEP_ROOM = s.MOST_RGB + 100
+_byref, _U8, _U16 = ctypes.byref, s.U8, s.U16
+# Code page 437 shows characters below 20 (hexadecimal) as these.
+_LOW = "\0☺☻♥♦♣♠•◘○◙♂♀♪♫☼►◄↕‼¶§▬↨↑↓→←∟↔▲▼"
+_GLYPHS = str.maketrans({code: glyph for code, glyph in enumerate(_LOW) if code})
+
+
+def font_bytes(fonts: Fonts) -> bytes:
+    """The bytes of a font file that is given as bytes or by its path; None is the project's font."""
+    if fonts is None:
+        return default_fonts()
+    if isinstance(fonts, (str, os.PathLike)):
+        return read_fonts(fonts)  # type: ignore[arg-type]
+    return bytes(memoryview(fonts))
+
+
+def _writable(buffer: Any, size: int) -> memoryview:
+    """A buffer of the caller's as bytes. TypeError where it can't be written, ValueError by its places."""
+    view = memoryview(buffer)
+    if view.readonly or not view.c_contiguous:
+        raise TypeError("a buffer is to be writable and contiguous")
+    bytes_of = view.cast("B") if view.format != "B" or view.ndim != 1 else view
+    address = ctypes.addressof(ctypes.c_uint8.from_buffer(bytes_of)) if len(bytes_of) else 0
+    if address % size:
+        raise ValueError(f"a buffer is to begin at an address divisible by {size}")
+    return bytes_of
+
+
+@lru_cache(maxsize=8)
+def _rate(dots: int, divisor: int) -> Fraction:
+    """Dots a second, of which there are few: a Fraction takes longer to make than the call."""
+    return Fraction(dots, divisor)
+
+
+def _unless_never(dots: int) -> Optional[int]:
+    return None if dots == s.NEVER else dots
+
+
+class Card:
+    """A VGA adapter with its video BIOS, at power-on.
+
+        with zaklimot.Card() as card:
+            card.int10(ax=0x0013)            # mode 13: 320 by 200, a byte a pixel
+            card.put(0xA0000, 0x0F)          # white, top left
+            picture = card.frame()
+            assert picture[0, 0] == (63, 63, 63)
+
+    `fonts` are the glyphs of the text modes: the bytes of a font file, or its path; None is the
+    project's font. Cycles take no time on the card: its clock runs by `advance`, `frame`,
+    `frame_xrgb` and `lines` alone.
+
+    A call that the adapter refuses raises a `Refusal` and changes nothing. A number out of range is
+    a ValueError and one that is no int a TypeError, before anything is done. A closed card raises
+    `Closed`. `with` closes it at its end; else `close`, or the end of the object, does.
+
+    A card may go from one thread to another. Calls of two threads come one after the other, but in
+    no order that you can rely on, and what a card lends, as a picture, is written anew by either.
+    """
+
+    def __init__(self, fonts: Fonts = None) -> None:
+        calls = library().calls
+        self._calls = calls
+        self._struct = s.zak_card()
+        self._card = _byref(self._struct)
+        glyphs = font_bytes(fonts)
+        status = calls["open"](self._card, glyphs, len(glyphs))
+        if status:
+            raise error_of(status)
+        # The struct is closed once: here, or by close.
+        self._end: Callable[[], Any] = weakref.finalize(self, calls["close"], self._card)
+        self._put, self._put_word = calls["put"], calls["put_word"]
+        self._get, self._get_word = calls["get"], calls["get_word"]
+        self._out, self._out_word = calls["out"], calls["out_word"]
+        self._in, self._in_word = calls["in"], calls["in_word"]
+        self._advance = calls["advance"]
+        self._rooms: dict[str, Room] = {}
+
+    # How calls are made.
+
+    def _call(self, name: str, *values: Any) -> None:
+        status = self._calls[name](self._card, *values)
+        if status:
+            raise error_of(status)
+
+    def _cycle(self, call: Call, *values: tuple[str, int, int]) -> None:
+        """The slow way of a cycle: it looks at each number, and raises what is wrong."""
+        status = call(self._card, *(in_range(name, value, most) for name, value, most in values))
+        if status:
+            raise error_of(status)
+
+    def _read(self, name: str, kind: Any, *places: int) -> Any:
+        """What a call writes into a struct or a number."""
+        value = kind()
+        self._call(name, *places, _byref(value))
+        return value
+
+    def _room(self, size: int, name: str) -> Room:
+        """Memory that the card keeps for calls of a kind."""
+        room = self._rooms.get(name)
+        if room is None:
+            room = self._rooms[name] = Room(size)
+        return room
+
+    def _transfer(self, name: str, *values: Any) -> int:
+        """Makes a call for many bytes, and tells how many addresses the adapter decodes."""
+        decoded = s.SIZE()
+        self._call(name, *values, _byref(decoded))
+        return decoded.value
+
+    def _text(self, name: str, *places: int) -> str:
+        text, length = (s.U8 * s.MOST_TEXT)(), s.SIZE()
+        self._call(name, *places, text, s.MOST_TEXT, _byref(length))
+        return bytes(memoryview(text)[:length.value]).decode("ascii")
+
+    # Opening and closing.
+
+    def close(self) -> None:
+        """Frees the card. A second close raises Closed, as every call does from here on."""
+        if not self._struct.is_open:
+            raise Closed("the card is closed")
+        self._end()
+
+    @property
+    def is_open(self) -> bool:
+        """Whether the card is open."""
+        return bool(self._struct.is_open)
+
+    def __enter__(self) -> Card:
+        if not self._struct.is_open:
+            raise Closed("the card is closed")
+        return self
+
+    def __exit__(self, *_: object) -> None:
+        if self._struct.is_open:
+            self._end()
+
+    def __reduce_ex__(self, _: object) -> NoReturn:
+        raise TypeError("a card can't be copied or pickled: save() it, and restore() the bytes into another")
+
+    def __repr__(self) -> str:
+        return f"<Card, {'open' if self._struct.is_open else 'closed'}>"
+
+    # Cycles of ports and of display memory. What is in range goes the quick way: the call itself
+    # refuses what is no number.
+
+    def out(self, port: int, value: int) -> None:
+        """Writes a byte, 0 to FF, to a port, 0 to FFFF (hexadecimal).
+
+        Raises NotDecoded and NotInProfile.
+        """
+        try:
+            if 0 <= port <= WORD and 0 <= value <= BYTE and not self._out(self._card, port, value):
+                return
+        except (ctypes.ArgumentError, TypeError):
+            pass
+        self._cycle(self._out, ("port", port, WORD), ("value", value, BYTE))
+
+    def out_word(self, port: int, value: int) -> None:
+        """Writes a word, 0 to FFFF (hexadecimal): its low byte to the port, its high byte to the next."""
+        try:
+            if 0 <= port <= WORD and 0 <= value <= WORD and not self._out_word(self._card, port, value):
+                return
+        except (ctypes.ArgumentError, TypeError):
+            pass
+        self._cycle(self._out_word, ("port", port, WORD), ("value", value, WORD))
+
+    def inp(self, port: int) -> int:
+        """Reads a byte from a port, 0 to FFFF (hexadecimal). `in` is a word of Python's own.
+
+        Raises NotDecoded and NotInProfile.
+        """
+        value = _U8()
+        try:
+            if 0 <= port <= WORD and not self._in(self._card, port, _byref(value)):
+                return value.value
+        except (ctypes.ArgumentError, TypeError):
+            pass
+        return int(self._read("in", s.U8, in_range("port", port, WORD)).value)
+
+    def inp_word(self, port: int) -> int:
+        """Reads a word: the low byte from the port, the high byte from the next."""
+        value = _U16()
+        try:
+            if 0 <= port <= WORD and not self._in_word(self._card, port, _byref(value)):
+                return value.value
+        except (ctypes.ArgumentError, TypeError):
+            pass
+        return int(self._read("in_word", s.U16, in_range("port", port, WORD)).value)
+
+    def put(self, address: int, value: int) -> None:
+        """Writes a byte, 0 to FF, to display memory at one of the processor's addresses.
+
+        The registers say which of A0000 to BFFFF (hexadecimal) are decoded. Raises NotDecoded and
+        NotInProfile.
+        """
+        try:
+            if 0 <= address <= LONG and 0 <= value <= BYTE and not self._put(self._card, address, value):
+                return
+        except (ctypes.ArgumentError, TypeError):
+            pass
+        self._cycle(self._put, ("address", address, LONG), ("value", value, BYTE))
+
+    def put_word(self, address: int, value: int) -> None:
+        """Writes a word, 0 to FFFF (hexadecimal): its low byte to the address, its high byte to the next."""
+        try:
+            if 0 <= address <= LONG and 0 <= value <= WORD and not self._put_word(self._card, address, value):
+                return
+        except (ctypes.ArgumentError, TypeError):
+            pass
+        self._cycle(self._put_word, ("address", address, LONG), ("value", value, WORD))
+
+    def get(self, address: int) -> int:
+        """Reads a byte of display memory, which loads the latches. Raises NotDecoded and NotInProfile."""
+        value = _U8()
+        try:
+            if 0 <= address <= LONG and not self._get(self._card, address, _byref(value)):
+                return value.value
+        except (ctypes.ArgumentError, TypeError):
+            pass
+        return int(self._read("get", s.U8, in_range("address", address, LONG)).value)
+
+    def get_word(self, address: int) -> int:
+        """Reads a word: the low byte at the address, the high byte at the next."""
+        value = _U16()
+        try:
+            if 0 <= address <= LONG and not self._get_word(self._card, address, _byref(value)):
+                return value.value
+        except (ctypes.ArgumentError, TypeError):
+            pass
+        return int(self._read("get_word", s.U16, in_range("address", address, LONG)).value)
+
+    # Cycles of many bytes at once. What the adapter doesn't decode is not refused: a write there
+    # changes nothing, and a read gives FF.
+
+    def put_bytes(self, address: int, data: Bytes, down: bool = False) -> int:
+        """Writes bytes to the addresses from one on, and tells how many of these the adapter decodes.
+
+            screen = bytes(y // 8 for y in range(200) for x in range(320))
+            decoded = card.put_bytes(0xA0000, screen)     # 64000 in mode 13
+
+        Each does what `put` does. `data[i]` goes to `address + i`: the first byte first, or, if `down`
+        is true, the last one first, as a processor's `rep movsb` with its direction flag set. Raises
+        BadArgument where `address + len(data)` is above FFFFFFFF (hexadecimal).
+        """
+        begin, given = in_range("address", address, LONG), bytes(memoryview(data))
+        return self._transfer("put_bytes", begin, given, len(given), bool(down))
+
+    def fill(self, address: int, value: int, count: int, down: bool = False) -> int:
+        """Writes a byte, 0 to FF, to so many addresses, and tells how many of these the adapter decodes.
+
+        As `put_bytes` with `count` times the same byte, and a processor's `rep stosb`.
+        """
+        begin, byte = in_range("address", address, LONG), in_range("value", value, BYTE)
+        return self._transfer("fill_bytes", begin, byte, in_range("count", count, LONG), bool(down))
+
+    @overload
+    def get_bytes(self, address: int, count_or_buffer: int, down: bool = False) -> ReadBytes: ...
+
+    @overload
+    def get_bytes(self, address: int, count_or_buffer: Union[bytearray, memoryview], down: bool = False) -> int: ...
+
+    def get_bytes(self, address: int, count_or_buffer: Any, down: bool = False) -> Any:
+        """Reads the addresses from one on: so many bytes, or as many as a writable buffer of yours has.
+
+            row = card.get_bytes(0xA0000, 320)            # bytes
+            row.decoded                                   # 320 in mode 13
+            decoded = card.get_bytes(0xA0000, buffer)     # the same into a bytearray
+
+        Each does what `get` does, and loads the latches; one that the adapter doesn't decode reads as
+        FF. Of a count you get the bytes, whose `decoded` tells how many addresses the adapter decodes;
+        of a buffer that number. Byte i is that of `address + i`, in whichever order they are read: the
+        last one first if `down` is true. Raises BadArgument where they go past FFFFFFFF (hexadecimal).
+        """
+        begin = in_range("address", address, LONG)
+        try:
+            count = index(count_or_buffer)
+        except TypeError:
+            view = _writable(count_or_buffer, 1)
+            read = (s.U8 * len(view)).from_buffer(view)
+            return self._transfer("get_bytes", begin, read, len(view), bool(down))
+        if not self._struct.is_open:
+            raise Closed("the card is closed")
+        if begin + in_range("count", count, LONG) > LONG:
+            # The library would refuse it too, once there were memory for so many bytes.
+            raise error_of(BadArgument.number)
+        read = (s.U8 * max(1, count))()
+        decoded = self._transfer("get_bytes", begin, read, count, bool(down))
+        return ReadBytes(memoryview(read)[:count], decoded)
+
+    def move(self, source: int, target: int, count: int, down: bool = False) -> int:
+        """Reads so many addresses from `source` on, and writes each byte at `target`, one after the other.
+
+        Each read loads the latches, so in write mode 1 all four planes are copied. The first byte goes
+        first, or, if `down` is true, the last one. Tells how many of the reads and the writes together
+        the adapter decodes: 2 * count where it decodes all. Raises BadArgument where `source + count`
+        or `target + count` is above FFFFFFFF (hexadecimal).
+        """
+        places = (("source", source), ("target", target), ("count", count))
+        return self._transfer("move_bytes", *(in_range(name, value, LONG) for name, value in places), bool(down))
+
+    # The clock, and frames.
+
+    def advance(self, dots: int) -> None:
+        """Lets the clock run for so many dots, 0 to 16,777,216. Raises TooFar for more."""
+        try:
+            if 0 <= dots <= LONG and not self._advance(self._card, dots):
+                return
+        except (ctypes.ArgumentError, TypeError):
+            pass
+        self._cycle(self._advance, ("dots", dots, LONG))
+
+    def clock(self) -> Timing:
+        """What the clock comes to next, if no register is written meanwhile; nothing changes.
+
+            card.advance(card.clock().to_frame)           # to the first dot of the next frame
+            retrace = card.clock().to_retrace             # None where there is none
+
+        A program that polls input status 1 waits for `to_display` or `to_retrace` dots.
+        """
+        read = self._read("clock", s.zak_timing)
+        return Timing(
+            read.to_frame, _unless_never(read.to_display), _unless_never(read.to_retrace),
+            read.line_dots, read.frame_dots, read.lines, _rate(read.rate, read.rate_divisor),
+        )
+
+    def frame(self, into: Optional[Any] = None) -> Picture:
+        """Lets the clock run to the end of the frame under way, and gives its picture.
+
+        The picture lies in memory that the card keeps, until its next `frame` or `lines`; or in
+        `into`, a writable buffer of at least 3 * width * height bytes. Raises Ragged where two rows
+        differ in width, and NoRoom where `into` is too short; with either the frame has passed.
+        """
+        size = s.zak_size()
+        view, pointer, room = self._target(into, "rgb", s.MOST_RGB, s.U8)
+        self._call("frame", _byref(size), pointer, room)
+        width, height = size.width, size.height
+        return Picture(width, height, view[:3 * width * height])
+
+    def frame_xrgb(self, into: Optional[Any] = None, pitch: int = s.WIDEST) -> XrgbPicture:
+        """Lets the clock run to the end of the frame, and gives a word 00RRGGBB a dot.
+
+        Row y begins at word `pitch * y`. The words lie in memory that the card keeps, until its next
+        `frame_xrgb`; or in `into`, a writable buffer of at least 4 * pitch * height bytes, in which
+        words beside the picture stay. Raises Ragged, and NoRoom where `into` is too short or the
+        pitch below the width; with either the frame has passed.
+        """
+        size = s.zak_size()
+        in_range("pitch", pitch, s.WIDEST if into is None else LONG)
+        view, pointer, room = self._target(into, "xrgb", 4 * s.WIDEST * s.HIGHEST, s.U32)
+        self._call("frame_xrgb", _byref(size), pointer, room // 4, pitch)
+        return XrgbPicture(size.width, size.height, pitch, view[:room // 4 * 4].cast("I"))
+
+    def lines(self) -> Lines:
+        """Lets the clock run to the end of the frame, and gives its dots line by line.
+
+        It does so also where lines differ in width, and `frame` would raise Ragged. The dots lie in
+        memory that the card keeps, until its next `frame` or `lines`.
+        """
+        room, widths, used = self._room(s.MOST_RGB, "rgb"), (s.U32 * s.HIGHEST)(), s.SIZE()
+        self._call("frame_lines", widths, room.pointer, room.size, _byref(used))
+        # A memoryview hands over all numbers at once, which ctypes does one by one.
+        return Lines(tuple(memoryview(widths).cast("B").cast("I").tolist()), room.view[:used.value])
+
+    def _target(self, into: Optional[Any], name: str, size: int, kind: Any) -> tuple[memoryview, Any, int]:
+        """Where a picture goes: the memory as bytes, a pointer to it, and how many bytes it has."""
+        if into is None:
+            room = self._room(size, name)
+            return room.view, ctypes.cast(room.pointer, ctypes.POINTER(kind)), room.size
+        view = _writable(into, ctypes.sizeof(kind))
+        pointer = (kind * (len(view) // ctypes.sizeof(kind))).from_buffer(view)
+        return view, pointer, len(view)
+
+    # The video BIOS.
+
+    def int10(self, ax: int, bx: int = 0, cx: int = 0, dx: int = 0, block: Bytes = b"") -> Answer:
+        """Calls the video BIOS, interrupt 10 (hexadecimal), with these registers, 0 to FFFF each.
+
+        `block` is what memory has at ES:BP or ES:DX, for functions that read some. The answer has the
+        registers afterwards, and as `table` what a function writes at ES:DX. docs/SERVICES.md has the
+        functions. Raises NoMode to BadBlock, and BadHeight.
+        """
+        names = (("ax", ax), ("bx", bx), ("cx", cx), ("dx", dx))
+        regs = s.zak_regs(*(in_range(name, value, WORD) for name, value in names))
+        given, table, length = bytes(memoryview(block)), (s.U8 * s.MOST_TABLE)(), s.SIZE()
+        self._call("int10", _byref(regs), given, len(given), table, s.MOST_TABLE, _byref(length))
+        return Answer(regs.ax, regs.bx, regs.cx, regs.dx, bytes(table[:length.value]))
+
+    # The state. Nothing of it changes, also no index, latch or flip-flop.
+
+    def registers(self) -> Registers:
+        """All registers, as they are."""
+        read = self._read("read_registers", s.zak_registers)
+        values = {name: getattr(read, name) for name in Registers._fields}
+        for name in ("seq", "crtc", "gfx", "attr"):
+            values[name] = bytes(values[name])
+        return Registers(**{**values, "attr_is_data": bool(read.attr_is_data)})
+
+    def beam(self) -> Beam:
+        """Where the next dot is."""
+        read = self._read("read_beam", s.zak_beam)
+        values = {name: getattr(read, name) for name in Beam._fields}
+        return Beam(**{**values, "half": bool(read.half), "split": bool(read.split)})
+
+    def colour(self, entry: int) -> Colour:
+        """The colour of an entry of the DAC, 0 to 255: six bits a component."""
+        read = self._read("read_colour", s.zak_colour, in_range("entry", entry, BYTE))
+        return Colour(read.red, read.green, read.blue)
+
+    def palette(self) -> list[Colour]:
+        """The colours of all 256 entries of the DAC."""
+        return [self.colour(entry) for entry in range(256)]
+
+    def latches(self) -> bytes:
+        """The latches of planes 0 to 3, four bytes."""
+        return bytes(self._read("read_latches", s.zak_latches).plane)
+
+    def plane(self, plane: int, offset: int = 0, count: Optional[int] = None) -> bytes:
+        """Bytes of a plane, 0 to 3, from an offset on: `count` of them, or all up to the plane's end at 65,536.
+
+        Raises BadArgument where they go past the end.
+        """
+        begin = in_range("offset", offset, WORD)
+        room = in_range("count", 65_536 - begin if count is None else count, 65_536)
+        read = (s.U8 * max(1, room))()
+        self._call("read_plane", in_range("plane", plane, 3), begin, read, room)
+        return bytes(read)[:room]
+
+    def bios_data(self) -> BiosData:
+        """The data of the video BIOS; all 0 until a mode is set."""
+        read = self._read("read_bda", s.zak_bda)
+        values = {name: getattr(read, name) for name in BiosData._fields if name != "cursors"}
+        return BiosData(**values, cursors=tuple(Position(*divmod(place, 256)) for place in read.cursor_places))
+
+    # The plain screen, as programs see it that use the video BIOS alone.
+
+    def screen(self) -> Screen:
+        """The plain screen that the adapter shows. Raises NoScreen where it shows none."""
+        read = self._read("screen_read", s.zak_screen)
+        values = {name: getattr(read, name) for name in Screen._fields}
+        return Screen(**{**values, "is_text": bool(read.is_text)})
+
+    def cell(self, row: int, column: int, page: int = 0) -> Cell:
+        """A cell of text. Raises NoScreen, and BadArgument where there is no such page, row or column.
+
+        A call reads the whole screen; `cells` gives all of them at once.
+        """
+        places = (("page", page), ("row", row), ("column", column))
+        read = self._read("screen_cell", s.zak_cell, *(in_range(name, value, BYTE) for name, value in places))
+        return Cell(read.character, read.attribute)
+
+    def pixel(self, x: int, y: int, page: int = 0) -> int:
+        """The number of a pixel's colour in a graphics mode: x from the left, y from the top.
+
+        Raises NoScreen, and BadArgument where there is no such page, x or y.
+        """
+        numbers = (in_range("page", page, BYTE), in_range("x", x, WORD), in_range("y", y, WORD))
+        return int(self._read("screen_pixel", s.U8, *numbers).value)
+
+    def cursor(self, page: int = 0) -> Position:
+        """The cursor position of a page, 0 to 7. Raises NoScreen and BadArgument."""
+        read = self._read("screen_cursor", s.zak_place, in_range("page", page, BYTE))
+        return Position(read.row, read.column)
+
+    def cells(self) -> list[list[Cell]]:
+        """The cells of the active page, row by row, as they stand in display memory.
+
+        Raises NoMode before a mode is set, and WrongKind in a graphics mode.
+        """
+        lines = (line.partition(": ")[2] for line in self.show_cells().splitlines())
+        return [[Cell(*bytes.fromhex(word)) for word in line.split()] for line in lines]
+
+    def text(self) -> list[str]:
+        """The characters of the active page as lines of text, by code page 437; 0 is a blank.
+
+        Blanks at a line's end are left out. Raises as `cells` does.
+        """
+        rows = (bytes(cell.character or 0x20 for cell in row) for row in self.cells())
+        return [row.decode("cp437").translate(_GLYPHS).rstrip(" ") for row in rows]
+
+    # Dumps: the text of a script's step `show`, with a newline at its end (docs/REPORT.md).
+
+    def show_regs(self) -> str:
+        """The registers, in six lines."""
+        return self._text("show_regs")
+
+    def show_beam(self) -> str:
+        """Where the next dot is."""
+        return self._text("show_beam")
+
+    def show_latches(self) -> str:
+        """The latches."""
+        return self._text("show_latches")
+
+    def show_bda(self) -> str:
+        """The data of the video BIOS."""
+        return self._text("show_bda")
+
+    def show_cells(self) -> str:
+        """The cells of the active page, a line a row. Raises NoMode, and WrongKind in a graphics mode."""
+        return self._text("show_cells")
+
+    def show_dac(self, entry: int) -> str:
+        """An entry of the DAC, 0 to 255."""
+        return self._text("show_dac", in_range("entry", entry, BYTE))
+
+    def show_plane(self, plane: int, offset: int, count: int) -> str:
+        """So many bytes, 1 to 256, of plane 0 to 3 from an offset on. Raises BadArgument past the plane's end."""
+        numbers = (("plane", plane, 3, 0), ("offset", offset, WORD, 0), ("count", count, 256, 1))
+        return self._text("show_plane", *(in_range(*number) for number in numbers))
+
+    # Snapshots, and steps of a script.
+
+    def save(self) -> bytes:
+        """The state of the card, from which this card or another goes on as if nothing had been.
+
+        265,086 bytes at the first dot of a frame, and three more for each dot drawn since
+        (docs/STATE.md). The fonts are not among them.
+        """
+        room, length = self._room(s.MOST_STATE, "state"), s.SIZE()
+        self._call("save", room.pointer, room.size, _byref(length))
+        return bytes(room.view[:length.value])
+
+    def save_size(self) -> int:
+        """How many bytes `save` would give now."""
+        length = s.SIZE()
+        self._call("save_size", _byref(length))
+        return length.value
+
+    def restore(self, state: Bytes) -> None:
+        """Goes on from a state that was saved. Raises a StateError for other bytes, and stays as it was."""
+        given = bytes(memoryview(state))
+        self._call("restore", given, len(given))
+
+    def run_on(self, script: Any, first: int = 0, most: int = LONG) -> Report:
+        """Takes at most `most` steps of a script, after the first `first`, which are passed over.
+
+        `script` is as for `zaklimot.run`. The steps are numbered from first + 1 on; fewer than
+        `most` are taken only where the script ends. Raises a ScriptError before any step is taken.
+        After OutOfMemory the card is as it was, but with `most` 1, where its step may have been taken.
+        """
+        code = script_bytes(script)
+        numbers = (in_range("first", first, LONG), in_range("most", most, LONG))
+        if numbers[1] == 1:
+            return self._slice(code, numbers, self._room(STEP_ROOM, "report"), None)
+        return self._slice(code, numbers, self._room(STEP_ROOM, "report"), self.save())
+
+    def _slice(self, code: bytes, numbers: tuple[int, int], room: Room, state: Optional[bytes]) -> Report:
+        """The report of a slice. Where its room is too small, the card takes the steps again from its state."""
+        length, taken, place = s.SIZE(), s.SIZE(), s.SIZE()
+        told = (_byref(length), _byref(taken), _byref(place))
+        status = self._calls["run_on"](self._card, code, len(code), *numbers, room.pointer, room.size, *told)
+        if not status:
+            return Report(bytes(room.view[:length.value]))
+        if state is not None and self._struct.is_open:
+            self.restore(state)
+        if status == NO_ROOM and state is not None:
+            return self._slice(code, numbers, Room(length.value), state)
+        raise error_of(status, place.value)

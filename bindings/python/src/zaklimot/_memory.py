@@ -1,0 +1,21 @@
+"""Memory for what calls write."""
+
+from __future__ import annotations
+
+import ctypes
+import mmap
+
+from ._errors import OutOfMemory
+
+
+class Room:
+    """So many bytes, which cost nothing until they are written. A process that forks has its own."""
+
+    def __init__(self, size: int) -> None:
+        try:
+            self._memory = mmap.mmap(-1, size, flags=mmap.MAP_PRIVATE | mmap.MAP_ANONYMOUS)
+        except (OSError, OverflowError, ValueError) as error:
+            raise OutOfMemory(f"there is no memory for {size:,} bytes") from error
+        self.size = size
+        self.view = memoryview(self._memory)
+        self.pointer = (ctypes.c_uint8 * size).from_buffer(self._memory)

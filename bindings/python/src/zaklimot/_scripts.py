@@ -1,0 +1,78 @@
+"""Scripts with no card: their two forms, and whole runs."""
+
+from __future__ import annotations
+
+import ctypes
+from typing import Any, Union
+
+from . import _structs as s
+from ._errors import error_of
+from ._library import library
+from ._memory import Room
+
+NO_ROOM = 25
+# Room for a run's report, of which the system gives what is written. A longer one is made again.
+FIRST_ROOM = 1 << 25
+# What a script may be given as: its text, its bytes, or an object that spells itself as text.
+AnyScript = Union[str, bytes, bytearray, memoryview, Any]
+
+
+def script_bytes(script: AnyScript) -> bytes:
+    """The bytes of a script: a str is its text, bytes are its bytes, and a Script spells itself."""
+    text = getattr(script, "text", None)
+    if isinstance(script, str):
+        return assemble(script)
+    if callable(text):
+        return assemble(text())
+    return bytes(memoryview(script))
+
+
+def _other_form(name: str, given: bytes) -> bytes:
+    """What a call makes of a text, or of a script. The first time it tells how long that is."""
+    call, length, place = library().calls[name], s.SIZE(), s.SIZE()
+    told = (ctypes.byref(length), ctypes.byref(place))
+    made = (s.U8 * 1)()
+    status = call(given, len(given), made, 0, *told)
+    if status == NO_ROOM:
+        made = (s.U8 * length.value)()
+        status = call(given, len(given), made, length.value, *told)
+    if status:
+        raise error_of(status, place.value)
+    return bytes(made)[:length.value]
+
+
+def assemble(text: Union[str, bytes]) -> bytes:
+    """The bytes of the script that a text spells (docs/SCRIPT.md).
+
+        zaklimot.assemble("frame")          # b"VGAS\\x01\\x0b"
+
+    `text` is a str, or the text's bytes. Raises BadLine, whose `place` is the line's number from 1,
+    and TooLong.
+    """
+    given = text.encode("utf-8") if isinstance(text, str) else bytes(memoryview(text))
+    return _other_form("assemble", given)
+
+
+def disassemble(script: Union[bytes, bytearray, memoryview]) -> str:
+    """The text that spells a script's bytes: a line for each step, every number at full width.
+
+    Raises a ScriptError for bytes that are no script.
+    """
+    return _other_form("print", bytes(memoryview(script))).decode("ascii")
+
+
+def run_script(script: AnyScript, fonts: bytes) -> bytes:
+    """The report of a whole run, on a card of its own."""
+    code, size = script_bytes(script), FIRST_ROOM
+    # The library takes no two pointers into the same bytes.
+    glyphs = bytes(bytearray(fonts)) if fonts is code else fonts
+    length, place = s.SIZE(), s.SIZE()
+    told = (ctypes.byref(length), ctypes.byref(place))
+    while True:
+        room = Room(size)
+        status = library().calls["run"](code, len(code), glyphs, len(glyphs), room.pointer, size, *told)
+        if not status:
+            return bytes(room.view[:length.value])
+        if status != NO_ROOM:
+            raise error_of(status, place.value)
+        size = length.value

@@ -1,0 +1,660 @@
+//! A card that can be called in no wrong way.
+
+use std::cell::Cell as Unshared;
+use std::marker::PhantomData;
+use std::ptr::null_mut;
+
+use zaklimot_sys as sys;
+
+use crate::error::{done, done_at, Error};
+use crate::picture::{Lines, Picture, Size, XrgbPicture};
+use crate::state::{
+    Answer, Beam, BiosData, Cell, Colour, Direction, Latches, Position, Registers, Regs, Screen,
+    Timing,
+};
+use crate::{fonts, HIGHEST, WIDEST};
+
+const MOST_RGB: usize = sys::ZAK_MOST_RGB as usize;
+const MOST_TABLE: usize = sys::ZAK_MOST_TABLE as usize;
+const MOST_TEXT: usize = sys::ZAK_MOST_TEXT as usize;
+/// The report of one step fits into this.
+const STEP_ROOM: usize = MOST_RGB + 100;
+
+/// What came of steps of a script: their report, and how many were taken.
+#[derive(Clone, Debug, PartialEq, Eq)]
+pub struct Slice {
+    /// The lines of the report for these steps (`docs/REPORT.md`).
+    pub report: Vec<u8>,
+    /// How many steps it tells of.
+    pub taken: usize,
+}
+
+/// A VGA adapter with its video BIOS, open as long as it lives.
+///
+/// ```
+/// let mut card = zaklimot::Card::new()?;
+/// card.int10(zaklimot::Regs::ax(0x0013), &[])?; // mode 13: 320 by 200, a byte a pixel
+/// card.put(0xA0000, 0x0F)?; // white, top left
+/// assert_eq!(card.frame()?.dot(0, 0), [63, 63, 63]);
+/// assert_eq!(card.inp(0x60), Err(zaklimot::Error::NotDecoded));
+/// # Ok::<(), zaklimot::Error>(())
+/// ```
+///
+/// A card may go to another thread, and takes one call at a time:
+///
+/// ```
+/// fn goes<T: Send>() {}
+/// goes::<zaklimot::Card>();
+/// ```
+///
+/// ```compile_fail
+/// fn is_shared<T: Sync>() {}
+/// is_shared::<zaklimot::Card>();
+/// ```
+#[derive(Debug)]
+pub struct Card {
+    raw: sys::zak_card,
+    // Memory for frames, taken at the first one.
+    rgb: Vec<u8>,
+    xrgb: Vec<u32>,
+    widths: Vec<u32>,
+    _not_sync: PhantomData<Unshared<()>>,
+}
+
+// SAFETY: all that a card has lies behind its pointer and is its own, and the library keeps no
+// state; so it may go to another thread, as the header says.
+unsafe impl Send for Card {}
+
+/// A slice of so many elements, made at the first call. The system gives its memory as it is written.
+fn kept<T: Clone + Default>(room: &mut Vec<T>, len: usize) -> &mut [T] {
+    if room.is_empty() {
+        *room = vec![T::default(); len];
+    }
+    room
+}
+
+fn size_of(raw: sys::zak_size) -> Size {
+    Size { width: raw.width as usize, height: raw.height as usize }
+}
+
+/// Makes a call that reads a byte, a word or a struct.
+macro_rules! read {
+    ($card:expr, $call:ident $(, $place:expr)*) => {{
+        let mut value = Default::default();
+        // SAFETY: the card is the caller's alone, and `value` is of the type that the call writes.
+        done(unsafe { sys::$call(&mut $card.raw $(, $place)*, &mut value) })?;
+        Ok(value.into())
+    }};
+}
+
+/// Makes a call that writes a dump.
+macro_rules! text {
+    ($card:expr, $call:ident $(, $place:expr)*) => {{
+        let (mut text, mut len) = (vec![0; MOST_TEXT], 0);
+        // SAFETY: `text` has as many bytes as is said.
+        done(unsafe {
+            sys::$call(&mut $card.raw $(, $place)*, text.as_mut_ptr(), text.len(), &mut len)
+        })?;
+        text.truncate(len);
+        Ok(String::from_utf8_lossy(&text).into_owned())
+    }};
+}
+
+impl Card {
+    /// A card at power-on, with the project's font.
+    ///
+    /// # Errors
+    ///
+    /// [`Error::OutOfMemory`].
+    pub fn new() -> Result<Card, Error> {
+        Card::open(fonts())
+    }
+
+    /// A card at power-on, with the glyphs of a font file.
+    ///
+    /// # Errors
+    ///
+    /// [`Error::FontSize`], [`Error::OutOfMemory`].
+    pub fn open(fonts: &[u8]) -> Result<Card, Error> {
+        let mut raw = sys::zak_card { is_open: false, machine: null_mut() };
+        // SAFETY: a card whose bytes are 0 is one that is not open.
+        done(unsafe { sys::zak_open(&mut raw, fonts.as_ptr(), fonts.len()) })?;
+        let (rgb, xrgb, widths) = (Vec::new(), Vec::new(), Vec::new());
+        Ok(Card { raw, rgb, xrgb, widths, _not_sync: PhantomData })
+    }
+
+    /// Writes a byte to a port.
+    ///
+    /// # Errors
+    ///
+    /// [`Error::NotDecoded`], [`Error::NotInProfile`].
+    pub fn out(&mut self, port: u16, value: u8) -> Result<(), Error> {
+        // SAFETY: here and below the card is borrowed by this call alone.
+        done(unsafe { sys::zak_out(&mut self.raw, port, value) })
+    }
+
+    /// Writes a word: its low byte to the port, its high byte to the next.
+    ///
+    /// # Errors
+    ///
+    /// [`Error::NotDecoded`], [`Error::NotInProfile`].
+    pub fn out_word(&mut self, port: u16, value: u16) -> Result<(), Error> {
+        done(unsafe { sys::zak_out_word(&mut self.raw, port, value) })
+    }
+
+    /// Reads a byte from a port. `in` is a word of Rust's own.
+    ///
+    /// # Errors
+    ///
+    /// [`Error::NotDecoded`], [`Error::NotInProfile`].
+    pub fn inp(&mut self, port: u16) -> Result<u8, Error> {
+        read!(self, zak_in, port)
+    }
+
+    /// Reads a word: the low byte from the port, the high byte from the next.
+    ///
+    /// # Errors
+    ///
+    /// [`Error::NotDecoded`], [`Error::NotInProfile`].
+    pub fn inp_word(&mut self, port: u16) -> Result<u16, Error> {
+        read!(self, zak_in_word, port)
+    }
+
+    /// Writes a byte to display memory, at one of the processor's addresses.
+    ///
+    /// # Errors
+    ///
+    /// [`Error::NotDecoded`], [`Error::NotInProfile`].
+    pub fn put(&mut self, address: u32, value: u8) -> Result<(), Error> {
+        done(unsafe { sys::zak_put(&mut self.raw, address, value) })
+    }
+
+    /// Writes a word: its low byte to the address, its high byte to the next.
+    ///
+    /// # Errors
+    ///
+    /// [`Error::NotDecoded`], [`Error::NotInProfile`].
+    pub fn put_word(&mut self, address: u32, value: u16) -> Result<(), Error> {
+        done(unsafe { sys::zak_put_word(&mut self.raw, address, value) })
+    }
+
+    /// Reads a byte of display memory, which loads the latches.
+    ///
+    /// # Errors
+    ///
+    /// [`Error::NotDecoded`], [`Error::NotInProfile`].
+    pub fn get(&mut self, address: u32) -> Result<u8, Error> {
+        read!(self, zak_get, address)
+    }
+
+    /// Reads a word: the low byte at the address, the high byte at the next.
+    ///
+    /// # Errors
+    ///
+    /// [`Error::NotDecoded`], [`Error::NotInProfile`].
+    pub fn get_word(&mut self, address: u32) -> Result<u16, Error> {
+        read!(self, zak_get_word, address)
+    }
+
+    /// Writes bytes to the addresses from one on, and tells how many of these the adapter decodes; a
+    /// write to another changes nothing. `bytes[i]` goes to `address + i`, in either direction.
+    ///
+    /// ```
+    /// use zaklimot::{Card, Direction::Up, Regs};
+    ///
+    /// let mut card = Card::new()?;
+    /// card.int10(Regs::ax(0x0013), &[])?;
+    /// assert_eq!(card.put_bytes(0xA0000, &[0x0F; 64_000], Up)?, 64_000);
+    /// # Ok::<(), zaklimot::Error>(())
+    /// ```
+    ///
+    /// # Errors
+    ///
+    /// [`Error::BadArgument`] where `address` and the length together are above FFFFFFFF
+    /// (hexadecimal).
+    pub fn put_bytes(
+        &mut self,
+        address: u32,
+        bytes: &[u8],
+        direction: Direction,
+    ) -> Result<usize, Error> {
+        let (from, len, down, mut decoded) = (bytes.as_ptr(), bytes.len(), direction.is_down(), 0);
+        // SAFETY: `bytes` has as many bytes as is said.
+        done(unsafe { sys::zak_put_bytes(&mut self.raw, address, from, len, down, &mut decoded) })?;
+        Ok(decoded)
+    }
+
+    /// Writes a byte to so many addresses from one on, and tells how many of these the adapter
+    /// decodes.
+    ///
+    /// # Errors
+    ///
+    /// As [`put_bytes`](Card::put_bytes).
+    pub fn fill(
+        &mut self,
+        address: u32,
+        value: u8,
+        count: usize,
+        direction: Direction,
+    ) -> Result<usize, Error> {
+        let (down, mut decoded) = (direction.is_down(), 0);
+        done(unsafe {
+            sys::zak_fill_bytes(&mut self.raw, address, value, count, down, &mut decoded)
+        })?;
+        Ok(decoded)
+    }
+
+    /// Reads as many addresses from one on as `bytes` has bytes, which loads the latches, and tells
+    /// how many of these the adapter decodes; another reads as FF. `bytes[i]` is the byte of
+    /// `address + i`, in either direction.
+    ///
+    /// # Errors
+    ///
+    /// As [`put_bytes`](Card::put_bytes).
+    pub fn get_bytes(
+        &mut self,
+        address: u32,
+        bytes: &mut [u8],
+        direction: Direction,
+    ) -> Result<usize, Error> {
+        let (to, len, down, mut decoded) =
+            (bytes.as_mut_ptr(), bytes.len(), direction.is_down(), 0);
+        // SAFETY: `bytes` has as many bytes as is said.
+        done(unsafe { sys::zak_get_bytes(&mut self.raw, address, to, len, down, &mut decoded) })?;
+        Ok(decoded)
+    }
+
+    /// Reads so many addresses from one on, and writes each byte at another, one after the other. Each
+    /// read loads the latches, so in write mode 1 all four planes are copied. Tells how many of the
+    /// reads and the writes together the adapter decodes: `2 * count` where it decodes all.
+    ///
+    /// # Errors
+    ///
+    /// As [`put_bytes`](Card::put_bytes), for either address.
+    pub fn move_bytes(
+        &mut self,
+        from: u32,
+        to: u32,
+        count: usize,
+        direction: Direction,
+    ) -> Result<usize, Error> {
+        let (down, mut decoded) = (direction.is_down(), 0);
+        done(unsafe { sys::zak_move_bytes(&mut self.raw, from, to, count, down, &mut decoded) })?;
+        Ok(decoded)
+    }
+
+    /// What the clock comes to next, if no register is written meanwhile. Nothing changes.
+    ///
+    /// ```
+    /// let mut card = zaklimot::Card::new()?;
+    /// card.int10(zaklimot::Regs::ax(0x0013), &[])?;
+    /// let dots = card.clock()?.to_retrace.expect("mode 13 has a vertical retrace");
+    /// card.advance(dots)?;
+    /// assert_eq!(card.inp(0x3DA)? & 0x08, 0x08);
+    /// # Ok::<(), zaklimot::Error>(())
+    /// ```
+    ///
+    /// # Errors
+    ///
+    /// None that a card of this crate answers.
+    pub fn clock(&mut self) -> Result<Timing, Error> {
+        read!(self, zak_clock)
+    }
+
+    /// Lets the clock run for so many dots, at most [`MOST_DOTS`](crate::MOST_DOTS).
+    ///
+    /// # Errors
+    ///
+    /// [`Error::TooFar`].
+    pub fn advance(&mut self, dots: u32) -> Result<(), Error> {
+        done(unsafe { sys::zak_advance(&mut self.raw, dots) })
+    }
+
+    /// Lets the clock run to the end of the frame under way, and lends its picture, which lies in
+    /// memory that the card keeps.
+    ///
+    /// # Errors
+    ///
+    /// [`Error::Ragged`] where two rows differ in width; the frame has passed.
+    pub fn frame(&mut self) -> Result<Picture<'_>, Error> {
+        let rgb = kept(&mut self.rgb, MOST_RGB);
+        let size = frame_into(&mut self.raw, rgb)?;
+        Ok(Picture::new(size, rgb))
+    }
+
+    /// The same, into the caller's bytes: three a dot, rows from the top, each from the left.
+    ///
+    /// # Errors
+    ///
+    /// [`Error::Ragged`], and [`Error::NoRoom`] where they are too few; the frame has passed.
+    pub fn frame_into(&mut self, rgb: &mut [u8]) -> Result<Size, Error> {
+        frame_into(&mut self.raw, rgb)
+    }
+
+    /// Lets the clock run to the end of the frame under way, and lends its picture of a word
+    /// `00RRGGBB` a dot, eight bits a component.
+    ///
+    /// # Errors
+    ///
+    /// [`Error::Ragged`] where two rows differ in width; the frame has passed.
+    pub fn frame_xrgb(&mut self) -> Result<XrgbPicture<'_>, Error> {
+        let pixels = kept(&mut self.xrgb, WIDEST * HIGHEST);
+        let size = frame_xrgb_into(&mut self.raw, pixels, WIDEST)?;
+        Ok(XrgbPicture::new(size, pixels))
+    }
+
+    /// The same, into the caller's words: row y begins at `pixels[pitch * y]`, and words beside the
+    /// picture stay.
+    ///
+    /// # Errors
+    ///
+    /// [`Error::Ragged`], and [`Error::NoRoom`] where there are too few or the pitch is below the
+    /// width; the frame has passed.
+    pub fn frame_xrgb_into(&mut self, pixels: &mut [u32], pitch: usize) -> Result<Size, Error> {
+        frame_xrgb_into(&mut self.raw, pixels, pitch)
+    }
+
+    /// Lets the clock run to the end of the frame under way, and lends its dots line by line, also
+    /// where lines differ in width.
+    ///
+    /// # Errors
+    ///
+    /// None that a card of this crate answers.
+    pub fn lines(&mut self) -> Result<Lines<'_>, Error> {
+        let rgb = kept(&mut self.rgb, MOST_RGB);
+        let (widths, mut used) = (kept(&mut self.widths, HIGHEST), 0);
+        // SAFETY: there are ZAK_HIGHEST widths, and as many bytes as is said.
+        done(unsafe {
+            sys::zak_frame_lines(
+                &mut self.raw,
+                widths.as_mut_ptr(),
+                rgb.as_mut_ptr(),
+                rgb.len(),
+                &mut used,
+            )
+        })?;
+        Ok(Lines::new(widths, &rgb[..used]))
+    }
+
+    /// Calls the video BIOS, interrupt 10 (hexadecimal). `block` is what memory has at ES:BP or
+    /// ES:DX, for functions that read some (`docs/SERVICES.md`).
+    ///
+    /// # Errors
+    ///
+    /// [`Error::NoMode`] to [`Error::BadBlock`], [`Error::BadHeight`], [`Error::OutOfMemory`].
+    pub fn int10(&mut self, regs: Regs, block: &[u8]) -> Result<Answer, Error> {
+        let (mut regs, mut table, mut len) = (regs.into(), [0; MOST_TABLE], 0);
+        // SAFETY: each pointer is to as many elements as is said.
+        done(unsafe {
+            sys::zak_int10(
+                &mut self.raw,
+                &mut regs,
+                block.as_ptr(),
+                block.len(),
+                table.as_mut_ptr(),
+                table.len(),
+                &mut len,
+            )
+        })?;
+        Ok(Answer { regs: regs.into(), table: table[..len].to_vec() })
+    }
+
+    /// All registers, as they are. Nothing changes here or in what is read below, also no latch or
+    /// flip-flop.
+    ///
+    /// # Errors
+    ///
+    /// None that a card of this crate answers; so it is with the next four.
+    pub fn registers(&mut self) -> Result<Registers, Error> {
+        read!(self, zak_read_registers)
+    }
+
+    /// The colour of an entry of the DAC: six bits a component.
+    ///
+    /// # Errors
+    ///
+    /// As [`registers`](Card::registers).
+    pub fn colour(&mut self, entry: u8) -> Result<Colour, Error> {
+        read!(self, zak_read_colour, entry)
+    }
+
+    /// Where the next dot is.
+    ///
+    /// # Errors
+    ///
+    /// As [`registers`](Card::registers).
+    pub fn beam(&mut self) -> Result<Beam, Error> {
+        read!(self, zak_read_beam)
+    }
+
+    /// The latches of planes 0 to 3.
+    ///
+    /// # Errors
+    ///
+    /// As [`registers`](Card::registers).
+    pub fn latches(&mut self) -> Result<Latches, Error> {
+        read!(self, zak_read_latches)
+    }
+
+    /// The data of the video BIOS; all 0 until a mode is set.
+    ///
+    /// # Errors
+    ///
+    /// As [`registers`](Card::registers).
+    pub fn bios_data(&mut self) -> Result<BiosData, Error> {
+        read!(self, zak_read_bda)
+    }
+
+    /// Reads as many bytes as `bytes` has, of plane 0 to 3 from an offset on.
+    ///
+    /// # Errors
+    ///
+    /// [`Error::BadArgument`] where they go past the plane's end at 65,536, or there is no such plane.
+    pub fn plane(&mut self, plane: u8, offset: u16, bytes: &mut [u8]) -> Result<(), Error> {
+        let (to, len) = (bytes.as_mut_ptr(), bytes.len());
+        // SAFETY: `bytes` has as many bytes as is said.
+        done(unsafe { sys::zak_read_plane(&mut self.raw, plane, offset, to, len) })
+    }
+
+    /// The plain screen that the adapter shows.
+    ///
+    /// # Errors
+    ///
+    /// [`Error::NoScreen`] where it shows none, [`Error::OutOfMemory`].
+    pub fn screen(&mut self) -> Result<Screen, Error> {
+        read!(self, zak_screen_read)
+    }
+
+    /// A cell of text. A call reads the whole screen.
+    ///
+    /// # Errors
+    ///
+    /// [`Error::NoScreen`], [`Error::BadArgument`] where there is no such page, row or column,
+    /// [`Error::OutOfMemory`].
+    pub fn cell(&mut self, page: u8, row: u8, column: u8) -> Result<Cell, Error> {
+        read!(self, zak_screen_cell, page, row, column)
+    }
+
+    /// The number of a pixel's colour in a graphics mode. A call reads the whole screen.
+    ///
+    /// # Errors
+    ///
+    /// [`Error::NoScreen`], [`Error::BadArgument`] where there is no such page, x or y,
+    /// [`Error::OutOfMemory`].
+    pub fn pixel(&mut self, page: u8, x: u16, y: u16) -> Result<u8, Error> {
+        read!(self, zak_screen_pixel, page, x, y)
+    }
+
+    /// The cursor position of a page, 0 to 7.
+    ///
+    /// # Errors
+    ///
+    /// [`Error::NoScreen`], [`Error::BadArgument`], [`Error::OutOfMemory`].
+    pub fn cursor(&mut self, page: u8) -> Result<Position, Error> {
+        read!(self, zak_screen_cursor, page)
+    }
+
+    /// The registers as the text of the step `show regs` (`docs/REPORT.md`).
+    ///
+    /// # Errors
+    ///
+    /// [`Error::OutOfMemory`]; so it is with the dumps below.
+    pub fn show_regs(&mut self) -> Result<String, Error> {
+        text!(self, zak_show_regs)
+    }
+
+    /// Where the next dot is, as text.
+    ///
+    /// # Errors
+    ///
+    /// As [`show_regs`](Card::show_regs).
+    pub fn show_beam(&mut self) -> Result<String, Error> {
+        text!(self, zak_show_beam)
+    }
+
+    /// The latches as text.
+    ///
+    /// # Errors
+    ///
+    /// As [`show_regs`](Card::show_regs).
+    pub fn show_latches(&mut self) -> Result<String, Error> {
+        text!(self, zak_show_latches)
+    }
+
+    /// The data of the video BIOS as text.
+    ///
+    /// # Errors
+    ///
+    /// As [`show_regs`](Card::show_regs).
+    pub fn show_bda(&mut self) -> Result<String, Error> {
+        text!(self, zak_show_bda)
+    }
+
+    /// The cells of the active page as text, a line a row.
+    ///
+    /// # Errors
+    ///
+    /// [`Error::NoMode`], [`Error::WrongKind`] in a graphics mode.
+    pub fn show_cells(&mut self) -> Result<String, Error> {
+        text!(self, zak_show_cells)
+    }
+
+    /// An entry of the DAC as text.
+    ///
+    /// # Errors
+    ///
+    /// As [`show_regs`](Card::show_regs).
+    pub fn show_dac(&mut self, entry: u8) -> Result<String, Error> {
+        text!(self, zak_show_dac, entry)
+    }
+
+    /// So many bytes, 1 to 256, of plane 0 to 3 from an offset on, as text.
+    ///
+    /// # Errors
+    ///
+    /// [`Error::BadArgument`].
+    pub fn show_plane(&mut self, plane: u8, offset: u16, count: u16) -> Result<String, Error> {
+        text!(self, zak_show_plane, plane, offset, count)
+    }
+
+    /// The state of the card, from which this card or another goes on as if nothing had been
+    /// (`docs/STATE.md`). The fonts are not in it.
+    ///
+    /// # Errors
+    ///
+    /// None that a card of this crate answers.
+    pub fn save(&mut self) -> Result<Vec<u8>, Error> {
+        let mut len = 0;
+        done(unsafe { sys::zak_save_size(&mut self.raw, &mut len) })?;
+        let mut state = vec![0; len];
+        // SAFETY: `state` has as many bytes as is said.
+        done(unsafe { sys::zak_save(&mut self.raw, state.as_mut_ptr(), state.len(), &mut len) })?;
+        Ok(state)
+    }
+
+    /// Goes on from a state that was saved.
+    ///
+    /// # Errors
+    ///
+    /// [`Error::StateMagic`] to [`Error::StatePart`] for other bytes; the card is as it was.
+    pub fn restore(&mut self, state: &[u8]) -> Result<(), Error> {
+        done(unsafe { sys::zak_restore(&mut self.raw, state.as_ptr(), state.len()) })
+    }
+
+    /// Takes at most `most` steps of a script's bytes, after the first `first`, which are passed
+    /// over. Fewer are taken only where the script ends.
+    ///
+    /// # Errors
+    ///
+    /// The faults of a script, before any step is taken. [`Error::OutOfMemory`]: the card is as it
+    /// was.
+    pub fn run_on(&mut self, script: &[u8], first: u32, most: u32) -> Result<Slice, Error> {
+        // Where there is too little room, the steps are taken all the same: so they are taken again.
+        let (state, mut report) = (self.save()?, vec![0; STEP_ROOM]);
+        loop {
+            let (len, taken, status) = self.slice(script, first, most, &mut report);
+            if status.is_ok() {
+                report.truncate(len);
+                return Ok(Slice { report, taken });
+            }
+            self.restore(&state)?;
+            match status {
+                Err(Error::NoRoom) => report = vec![0; len],
+                _ => status?,
+            }
+        }
+    }
+
+    /// One call of `zak_run_on`: the length of the report, how many steps were taken, and the status.
+    fn slice(
+        &mut self,
+        script: &[u8],
+        first: u32,
+        most: u32,
+        report: &mut [u8],
+    ) -> (usize, usize, Result<(), Error>) {
+        let (mut len, mut taken, mut place) = (0, 0, 0);
+        // SAFETY: each pointer is to as many elements as is said, and `report` is borrowed alone.
+        let status = unsafe {
+            sys::zak_run_on(
+                &mut self.raw,
+                script.as_ptr(),
+                script.len(),
+                first,
+                most,
+                report.as_mut_ptr(),
+                report.len(),
+                &mut len,
+                &mut taken,
+                &mut place,
+            )
+        };
+        (len, taken, done_at(status, place))
+    }
+}
+
+fn frame_into(raw: &mut sys::zak_card, rgb: &mut [u8]) -> Result<Size, Error> {
+    let mut size = sys::zak_size::default();
+    // SAFETY: `rgb` has as many bytes as is said.
+    done(unsafe { sys::zak_frame(raw, &mut size, rgb.as_mut_ptr(), rgb.len()) })?;
+    Ok(size_of(size))
+}
+
+fn frame_xrgb_into(
+    raw: &mut sys::zak_card,
+    pixels: &mut [u32],
+    pitch: usize,
+) -> Result<Size, Error> {
+    let mut size = sys::zak_size::default();
+    let (to, len) = (pixels.as_mut_ptr(), pixels.len());
+    // SAFETY: `pixels` has as many words as is said.
+    done(unsafe { sys::zak_frame_xrgb(raw, &mut size, to, len, pitch) })?;
+    Ok(size_of(size))
+}
+
+impl Drop for Card {
+    fn drop(&mut self) {
+        // SAFETY: it is open, and closed once.
+        unsafe { sys::zak_close(&mut self.raw) };
+    }
+}

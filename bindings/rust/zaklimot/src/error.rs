@@ -1,0 +1,195 @@
+//! Why a call is not done.
+
+use std::fmt;
+
+use zaklimot_sys as sys;
+
+/// Why a call is not done. The card is as it was before, unless the variant says otherwise.
+#[derive(Clone, Copy, Debug, PartialEq, Eq, Hash)]
+#[non_exhaustive]
+pub enum Error {
+    /// No part of the adapter decodes the port or the address.
+    NotDecoded,
+    /// A register, value or port that `docs/PROFILE.md` leaves out.
+    NotInProfile,
+    /// No mode is set yet.
+    NoMode,
+    /// The video BIOS has no such function, or not this part of it.
+    BadFunction,
+    /// There is no such mode.
+    BadMode,
+    /// A call of text in a graphics mode, or of pixels in a text mode.
+    WrongKind,
+    /// The mode has no such page.
+    BadPage,
+    /// A pixel or a cursor position outside the screen.
+    Outside,
+    /// A count of characters past the page's last cell, or of glyphs past the last character.
+    CountPast,
+    /// There is no such palette or DAC register.
+    BadRegister,
+    /// A block of another length than the function takes.
+    BadBlock,
+    /// An advance by more than [`MOST_DOTS`](crate::MOST_DOTS).
+    TooFar,
+    /// Glyphs of another height than 8, 14 or 16 scan lines.
+    BadHeight,
+    /// The card is not open. No call of [`Card`](crate::Card) answers it.
+    NoCard,
+    /// The card is open already. No call of [`Card`](crate::Card) answers it.
+    OpenAlready,
+    /// The font file has not [`FONTS_SIZE`](crate::FONTS_SIZE) bytes.
+    FontSize,
+    /// There is not enough memory. After [`Card::run_on`](crate::Card::run_on) see there.
+    OutOfMemory,
+    /// Two rows of the frame differ in width: it has no picture, and has passed.
+    Ragged,
+    /// The buffer is too short. Nothing was written there; a frame has passed all the same.
+    NoRoom,
+    /// There is no such page, row, column, x, y or plane; or bytes go past the plane's end, or past the
+    /// last address.
+    BadArgument,
+    /// Corrupt BIOS data: the card's memory was overwritten.
+    BadCard,
+    /// The adapter shows no plain screen (`docs/SCREENS.md`).
+    NoScreen,
+    /// The bytes are no saved state.
+    StateMagic,
+    /// A saved state of another version of the format.
+    StateVersion,
+    /// A saved state that is cut off or too long.
+    StateLength,
+    /// A saved state with a part out of its bounds.
+    StatePart,
+    /// The bytes are no script: they don't begin with `VGAS`.
+    BadMagic,
+    /// A script of another version.
+    BadVersion,
+    /// At this offset of the script there is no step, or one out of range.
+    BadStep(usize),
+    /// The step at this offset of the script is cut off.
+    Truncated(usize),
+    /// The text or the script has more than 16,777,216 bytes.
+    TooLong,
+    /// This line of the text, counted from 1, is bad.
+    BadLine(usize),
+    /// With the block or the step at this offset the script means more than 16,777,216 steps.
+    TooMany(usize),
+    /// A status that this crate doesn't know.
+    Unknown(u32),
+}
+
+/// What each status is, by its name in the header; those of scripts take a place.
+macro_rules! statuses {
+    ($($status:ident $name:ident $(($place:ident))?),* $(,)?) => {
+        impl Error {
+            pub(crate) fn at(status: u32, place: usize) -> Error {
+                let _ = place;
+                match status {
+                    $(sys::$status => Error::$name $(({ let $place = place; $place }))?,)*
+                    other => Error::Unknown(other),
+                }
+            }
+
+            /// The number of the status in `zaklimot.h`.
+            pub fn number(self) -> u32 {
+                match self {
+                    $(Error::$name $(($place))? => { $(let _ = $place;)? sys::$status })*
+                    Error::Unknown(status) => status,
+                }
+            }
+        }
+
+        #[cfg(test)]
+        pub(crate) const NAMES: &[(&str, u32)] = &[$((stringify!($name), sys::$status)),*];
+    };
+}
+
+statuses! {
+    ZAK_NOT_DECODED NotDecoded, ZAK_NOT_IN_PROFILE NotInProfile, ZAK_NO_MODE NoMode,
+    ZAK_BAD_FUNCTION BadFunction, ZAK_BAD_MODE BadMode, ZAK_WRONG_KIND WrongKind,
+    ZAK_BAD_PAGE BadPage, ZAK_OUTSIDE Outside, ZAK_COUNT_PAST CountPast,
+    ZAK_BAD_REGISTER BadRegister, ZAK_BAD_BLOCK BadBlock, ZAK_TOO_FAR TooFar,
+    ZAK_BAD_HEIGHT BadHeight, ZAK_NO_CARD NoCard, ZAK_OPEN_ALREADY OpenAlready,
+    ZAK_FONT_SIZE FontSize, ZAK_OUT_OF_MEMORY OutOfMemory, ZAK_RAGGED Ragged,
+    ZAK_NO_ROOM NoRoom, ZAK_BAD_ARGUMENT BadArgument, ZAK_BAD_CARD BadCard,
+    ZAK_NO_SCREEN NoScreen, ZAK_STATE_MAGIC StateMagic, ZAK_STATE_VERSION StateVersion,
+    ZAK_STATE_LENGTH StateLength, ZAK_STATE_PART StatePart, ZAK_BAD_MAGIC BadMagic,
+    ZAK_BAD_VERSION BadVersion, ZAK_BAD_STEP BadStep(place), ZAK_TRUNCATED Truncated(place),
+    ZAK_TOO_LONG TooLong, ZAK_BAD_LINE BadLine(place), ZAK_TOO_MANY TooMany(place),
+}
+
+impl Error {
+    /// Whether the adapter refused the call, and nothing changed: `E1` to `E13` of `docs/REPORT.md`.
+    pub fn is_refusal(self) -> bool {
+        (sys::ZAK_NOT_DECODED..=sys::ZAK_BAD_HEIGHT).contains(&self.number())
+    }
+}
+
+impl fmt::Display for Error {
+    fn fmt(&self, f: &mut fmt::Formatter<'_>) -> fmt::Result {
+        let number = self.number();
+        match self {
+            Error::BadLine(line) => write!(f, "line {line} of the script is bad"),
+            Error::BadStep(place) | Error::Truncated(place) | Error::TooMany(place) => {
+                let name = format!("{self:?}");
+                let name = name.split('(').next().unwrap_or_default();
+                write!(f, "{name}, at the offset {place} of the script")
+            }
+            _ if self.is_refusal() => write!(f, "the adapter refuses it: E{number} {self:?}"),
+            _ => write!(f, "{self:?}, status {number}"),
+        }
+    }
+}
+
+impl std::error::Error for Error {}
+
+/// What a status says: done, or why not.
+pub(crate) fn done(status: u32) -> Result<(), Error> {
+    done_at(status, 0)
+}
+
+/// The same, where a call tells the place of a fault.
+pub(crate) fn done_at(status: u32, place: usize) -> Result<(), Error> {
+    if status == sys::ZAK_OK {
+        Ok(())
+    } else {
+        Err(Error::at(status, place))
+    }
+}
+
+#[cfg(test)]
+mod tests {
+    use super::*;
+
+    const HEADER: &str = include_str!("../../../../include/zaklimot.h");
+
+    /// A status's name in the header as a name of Rust.
+    fn camel(name: &str) -> String {
+        let parts = name.split('_').map(|part| {
+            let (first, rest) = part.split_at(1);
+            first.to_string() + &rest.to_lowercase()
+        });
+        parts.collect()
+    }
+
+    #[test]
+    fn each_status_of_the_header_has_its_variant() {
+        let (_, rest) = HEADER.split_once("enum {").unwrap();
+        let (body, _) = rest.split_once("};").unwrap();
+        let mut count = 0;
+        for line in body.lines().filter_map(|line| line.trim().strip_prefix("ZAK_")) {
+            let (name, value) = line.split_once(" = ").unwrap();
+            let digits: String = value.chars().take_while(char::is_ascii_digit).collect();
+            let (name, status) = (camel(name), digits.parse().unwrap());
+            if status != sys::ZAK_OK {
+                assert!(NAMES.contains(&(name.as_str(), status)), "{name} {status}");
+                assert_eq!(Error::at(status, 7).number(), status);
+                count += 1;
+            }
+        }
+        assert_eq!(count, NAMES.len());
+        assert_eq!(Error::at(107, 3), Error::BadLine(3));
+        assert_eq!(Error::at(999, 3), Error::Unknown(999));
+    }
+}

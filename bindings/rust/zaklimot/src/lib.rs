@@ -1,0 +1,74 @@
+//! A VGA display adapter with its video BIOS, proved: its library for C, made safe.
+//!
+//! A card is opened, called, and closed where it is dropped. Ports, addresses and registers are
+//! those of a VGA:
+//!
+//! ```
+//! use zaklimot::{Card, Error, Regs};
+//!
+//! let mut card = Card::new()?;
+//! card.int10(Regs::ax(0x0003), &[])?; // mode 3: 80 by 25 cells of text
+//! for letter in *b"HELLO" {
+//!     card.int10(Regs::ax(0x0E00 + u16::from(letter)), &[])?; // the teletype function
+//! }
+//! assert_eq!(card.cell(0, 0, 4)?.character, b'O');
+//! let picture = card.frame()?; // lets the clock run to the frame's end
+//! assert_eq!((picture.width(), picture.height()), (720, 400));
+//! for row in picture.rows() {
+//!     assert_eq!(row.len(), 3 * 720);
+//! }
+//! # Ok::<(), Error>(())
+//! ```
+//!
+//! Cycles take no time on the card: the clock runs by [`Card::advance`] and by frames alone. What
+//! the adapter refuses is an [`Error`], and changes nothing. `docs/RUST.md` of the repository is the
+//! guide, and `docs/LIBRARY.md` tells what is proved.
+#![warn(missing_docs)]
+
+mod card;
+mod error;
+mod picture;
+mod script;
+mod state;
+
+pub use card::{Card, Slice};
+pub use error::Error;
+pub use picture::{Lines, Picture, Size, XrgbPicture};
+pub use script::{assemble, disassemble, run};
+pub use state::{
+    Answer, Beam, BiosData, Cell, Colour, Direction, Latches, Position, Registers, Regs, Screen,
+    Timing,
+};
+
+use zaklimot_sys as sys;
+
+/// Bytes of a font file.
+pub const FONTS_SIZE: usize = sys::ZAK_FONTS_SIZE as usize;
+/// Dots of one [`Card::advance`].
+pub const MOST_DOTS: u32 = sys::ZAK_MOST_DOTS;
+/// Dots in a row of a picture, at most.
+pub const WIDEST: usize = sys::ZAK_WIDEST as usize;
+/// Rows of a picture, at most.
+pub const HIGHEST: usize = sys::ZAK_HIGHEST as usize;
+
+/// The project's font, [`FONTS_SIZE`] bytes: the glyphs of the text modes in 8, 14 and 16 scan
+/// lines. It lay beside the library when the crate was built.
+pub fn fonts() -> &'static [u8] {
+    FONTS
+}
+
+#[cfg(not(docsrs))]
+const FONTS: &[u8] = include_bytes!(env!("ZAKLIMOT_FONTS"));
+#[cfg(docsrs)]
+const FONTS: &[u8] = &[];
+
+/// The version of the library that is linked: its major and its minor number.
+///
+/// ```
+/// assert_eq!(zaklimot::version().0, 1);
+/// ```
+pub fn version() -> (u32, u32) {
+    // SAFETY: it takes nothing.
+    let version = unsafe { sys::zak_version() };
+    (version >> 16, version & 0xFFFF)
+}

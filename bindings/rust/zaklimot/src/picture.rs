@@ -1,0 +1,138 @@
+//! The pictures of frames, in memory that the card keeps.
+
+use std::slice::ChunksExact;
+
+use crate::WIDEST;
+
+/// How large a picture is: dots of a row, and rows.
+#[derive(Clone, Copy, Debug, Default, PartialEq, Eq)]
+pub struct Size {
+    /// Dots of a row.
+    pub width: usize,
+    /// Rows.
+    pub height: usize,
+}
+
+/// A picture that the card lends: three bytes a dot, red, green and blue, 0 to 63 each.
+#[derive(Clone, Copy, Debug, PartialEq, Eq)]
+pub struct Picture<'a> {
+    size: Size,
+    rgb: &'a [u8],
+}
+
+impl<'a> Picture<'a> {
+    pub(crate) fn new(size: Size, rgb: &'a [u8]) -> Picture<'a> {
+        Picture { size, rgb: &rgb[..3 * size.width * size.height] }
+    }
+
+    /// Dots of a row.
+    pub fn width(&self) -> usize {
+        self.size.width
+    }
+
+    /// Rows.
+    pub fn height(&self) -> usize {
+        self.size.height
+    }
+
+    /// All bytes: rows from the top, dots from the left.
+    pub fn rgb(&self) -> &'a [u8] {
+        self.rgb
+    }
+
+    /// The rows from the top, three bytes a dot.
+    pub fn rows(&self) -> ChunksExact<'a, u8> {
+        self.rgb.chunks_exact(3 * self.size.width.max(1))
+    }
+
+    /// The colour of a dot, x from the left and y from the top.
+    ///
+    /// # Panics
+    ///
+    /// Where the dot is outside the picture.
+    pub fn dot(&self, x: usize, y: usize) -> [u8; 3] {
+        assert!(x < self.size.width && y < self.size.height, "({x}, {y}) is outside the picture");
+        let at = 3 * (self.size.width * y + x);
+        [self.rgb[at], self.rgb[at + 1], self.rgb[at + 2]]
+    }
+
+    /// The picture as a Netpbm PPM (P6, at most 63), as reports have it.
+    pub fn ppm(&self) -> Vec<u8> {
+        let mut ppm = format!("P6\n{} {}\n63\n", self.size.width, self.size.height).into_bytes();
+        ppm.extend_from_slice(self.rgb);
+        ppm
+    }
+}
+
+/// A picture that the card lends: a word `00RRGGBB` a dot, eight bits a component.
+#[derive(Clone, Copy, Debug, PartialEq, Eq)]
+pub struct XrgbPicture<'a> {
+    size: Size,
+    pixels: &'a [u32],
+}
+
+impl<'a> XrgbPicture<'a> {
+    pub(crate) fn new(size: Size, pixels: &'a [u32]) -> XrgbPicture<'a> {
+        XrgbPicture { size, pixels: &pixels[..WIDEST * size.height] }
+    }
+
+    /// Dots of a row.
+    pub fn width(&self) -> usize {
+        self.size.width
+    }
+
+    /// Rows.
+    pub fn height(&self) -> usize {
+        self.size.height
+    }
+
+    /// Words from the beginning of a row to that of the next.
+    pub fn pitch(&self) -> usize {
+        WIDEST
+    }
+
+    /// The words of all rows, each of [`pitch`](XrgbPicture::pitch) words of which the first
+    /// `width` are the picture's.
+    pub fn pixels(&self) -> &'a [u32] {
+        self.pixels
+    }
+
+    /// The rows from the top.
+    pub fn rows(&self) -> impl Iterator<Item = &'a [u32]> + 'a {
+        let width = self.size.width;
+        self.pixels.chunks_exact(WIDEST).map(move |row| &row[..width])
+    }
+}
+
+/// The dots of a frame line by line, also of one whose lines differ in width.
+#[derive(Clone, Copy, Debug, PartialEq, Eq)]
+pub struct Lines<'a> {
+    widths: &'a [u32],
+    rgb: &'a [u8],
+}
+
+impl<'a> Lines<'a> {
+    pub(crate) fn new(widths: &'a [u32], rgb: &'a [u8]) -> Lines<'a> {
+        Lines { widths, rgb }
+    }
+
+    /// How many dots each of 1,024 lines has, 0 to 2,304.
+    pub fn widths(&self) -> &'a [u32] {
+        self.widths
+    }
+
+    /// All dots, those of line 0 first.
+    pub fn rgb(&self) -> &'a [u8] {
+        self.rgb
+    }
+
+    /// The dots of all 1,024 lines, in their order; none for a line without dots.
+    pub fn iter(&self) -> impl Iterator<Item = &'a [u8]> + 'a {
+        let mut rest = self.rgb;
+        self.widths.iter().map(move |width| {
+            let (line, behind) = rest.split_at(3 * *width as usize);
+            rest = behind;
+            line
+        })
+    }
+}

@@ -1,0 +1,229 @@
+/* zaklimot.hpp: a card of zaklimot.h as an object of C++17.
+ *
+ * SPDX-License-Identifier: MIT
+ *
+ * Each function is the call of the same name; zaklimot.h tells what it does. Where a call is not
+ * done it throws zaklimot::error, whose status() is one of zaklimot.h. What the header says of
+ * pointers and lengths holds by itself: buffers are vectors, or a zaklimot::span.
+ */
+#ifndef ZAKLIMOT_HPP
+#define ZAKLIMOT_HPP
+
+#include <cstddef>
+#include <cstdint>
+#include <stdexcept>
+#include <string>
+#include <type_traits>
+#include <utility>
+#include <vector>
+
+#include "zaklimot.h"
+
+namespace zaklimot {
+
+/* A call that is not done, with its status; and with the place where a script is bad, or 0. */
+class error : public std::runtime_error {
+public:
+    error(zak_status status, std::size_t place = 0)
+        : std::runtime_error("zaklimot: status " + std::to_string(status) +
+                             (place ? ", at " + std::to_string(place) : std::string())),
+          status_(status), place_(place) {}
+    zak_status status() const noexcept { return status_; }
+    std::size_t place() const noexcept { return place_; }
+
+private:
+    zak_status status_;
+    std::size_t place_;
+};
+
+inline void check(zak_status status, std::size_t place = 0)
+{
+    if (status != ZAK_OK)
+        throw error(status, place);
+}
+
+/* So many elements of somebody else's memory. A vector, a string and an array become one. */
+template <typename T> class span {
+public:
+    span() noexcept : data_(&nothing()), size_(0) {}
+    span(T *data, std::size_t size) noexcept : data_(data ? data : &nothing()), size_(data ? size : 0) {}
+    template <typename C, typename = decltype(std::declval<C &>().data())>
+    span(C &&from) noexcept : span(from.data(), from.size()) {}
+    T *data() const noexcept { return data_; }
+    std::size_t size() const noexcept { return size_; }
+    T *begin() const noexcept { return data_; }
+    T *end() const noexcept { return data_ + size_; }
+    T &operator[](std::size_t at) const { return data_[at]; }
+
+private:
+    /* No pointer of a call is NULL. */
+    static T &nothing() noexcept
+    {
+        static std::remove_const_t<T> one{};
+        return one;
+    }
+    T *data_;
+    std::size_t size_;
+};
+
+using bytes = span<const std::uint8_t>;
+
+/* A picture: three bytes a dot, red, green and blue, 0 to 63 each, rows from the top. */
+struct picture {
+    std::uint32_t width, height;
+    span<const std::uint8_t> rgb;
+};
+
+/* A VGA adapter with its video BIOS, open as long as it lives. It moves, and is not copied. */
+class card {
+public:
+    explicit card(bytes fonts) { check(zak_open(&raw_, fonts.data(), fonts.size())); }
+    card(card &&other) noexcept : raw_(other.raw_), rgb_(std::move(other.rgb_)) { other.raw_ = zak_card(); }
+    card &operator=(card &&other) noexcept
+    {
+        std::swap(raw_, other.raw_);
+        rgb_.swap(other.rgb_);
+        return *this;
+    }
+    card(const card &) = delete;
+    card &operator=(const card &) = delete;
+    ~card()
+    {
+        if (raw_.is_open)
+            zak_close(&raw_);
+    }
+
+    void out(std::uint16_t port, std::uint8_t value) { check(zak_out(&raw_, port, value)); }
+    void out_word(std::uint16_t port, std::uint16_t value) { check(zak_out_word(&raw_, port, value)); }
+    std::uint8_t in(std::uint16_t port) { return read<std::uint8_t>(zak_in, port); }
+    std::uint16_t in_word(std::uint16_t port) { return read<std::uint16_t>(zak_in_word, port); }
+    void put(std::uint32_t address, std::uint8_t value) { check(zak_put(&raw_, address, value)); }
+    void put_word(std::uint32_t address, std::uint16_t value) { check(zak_put_word(&raw_, address, value)); }
+    std::uint8_t get(std::uint32_t address) { return read<std::uint8_t>(zak_get, address); }
+    std::uint16_t get_word(std::uint32_t address) { return read<std::uint16_t>(zak_get_word, address); }
+
+    /* Each answers how many addresses are decoded. */
+    std::size_t put_bytes(std::uint32_t address, bytes data, bool down = false)
+    {
+        return decoded(zak_put_bytes, address, data.data(), data.size(), down);
+    }
+    std::size_t fill_bytes(std::uint32_t address, std::uint8_t value, std::size_t count, bool down = false)
+    {
+        return decoded(zak_fill_bytes, address, value, count, down);
+    }
+    std::size_t get_bytes(std::uint32_t address, span<std::uint8_t> into, bool down = false)
+    {
+        return decoded(zak_get_bytes, address, into.data(), into.size(), down);
+    }
+    std::size_t move_bytes(std::uint32_t from, std::uint32_t to, std::size_t count, bool down = false)
+    {
+        return decoded(zak_move_bytes, from, to, count, down);
+    }
+
+    void advance(std::uint32_t dots) { check(zak_advance(&raw_, dots)); }
+    zak_timing clock() { return read<zak_timing>(zak_clock); }
+
+    /* The picture lies in memory that the card keeps, until its next frame. */
+    picture frame()
+    {
+        zak_size size;
+        rgb_.resize(ZAK_MOST_RGB);
+        check(zak_frame(&raw_, &size, rgb_.data(), rgb_.size()));
+        return {size.width, size.height, {rgb_.data(), std::size_t(3) * size.width * size.height}};
+    }
+    zak_size frame_xrgb(span<std::uint32_t> pixels, std::size_t pitch)
+    {
+        zak_size size;
+        check(zak_frame_xrgb(&raw_, &size, pixels.data(), pixels.size(), pitch));
+        return size;
+    }
+
+    /* Answers what a function writes at ES:DX; regs are afterwards what it answers. */
+    std::vector<std::uint8_t> int10(zak_regs &regs, bytes block = bytes())
+    {
+        std::uint8_t table[ZAK_MOST_TABLE];
+        std::size_t len = 0;
+        check(zak_int10(&raw_, &regs, block.data(), block.size(), table, sizeof table, &len));
+        return std::vector<std::uint8_t>(table, table + len);
+    }
+
+    zak_registers registers() { return read<zak_registers>(zak_read_registers); }
+    zak_colour colour(std::uint8_t entry) { return read<zak_colour>(zak_read_colour, entry); }
+    zak_beam beam() { return read<zak_beam>(zak_read_beam); }
+    zak_latches latches() { return read<zak_latches>(zak_read_latches); }
+    zak_bda bios_data() { return read<zak_bda>(zak_read_bda); }
+    zak_screen screen() { return read<zak_screen>(zak_screen_read); }
+    zak_cell cell(std::uint8_t page, std::uint8_t row, std::uint8_t column)
+    {
+        return read<zak_cell>(zak_screen_cell, page, row, column);
+    }
+    std::uint8_t pixel(std::uint8_t page, std::uint16_t x, std::uint16_t y)
+    {
+        return read<std::uint8_t>(zak_screen_pixel, page, x, y);
+    }
+    zak_place cursor(std::uint8_t page) { return read<zak_place>(zak_screen_cursor, page); }
+    void plane(std::uint8_t number, std::uint16_t offset, span<std::uint8_t> into)
+    {
+        check(zak_read_plane(&raw_, number, offset, into.data(), into.size()));
+    }
+
+    std::vector<std::uint8_t> save()
+    {
+        std::size_t len = 0;
+        check(zak_save_size(&raw_, &len));
+        std::vector<std::uint8_t> state(len);
+        check(zak_save(&raw_, state.data(), state.size(), &len));
+        return state;
+    }
+    void restore(bytes state) { check(zak_restore(&raw_, state.data(), state.size())); }
+
+    /* For the calls that this header lacks. */
+    zak_card *raw() noexcept { return &raw_; }
+
+private:
+    template <typename T, typename Call, typename... Place> T read(Call call, Place... place)
+    {
+        T value;
+        check(call(&raw_, place..., &value));
+        return value;
+    }
+    template <typename Call, typename... Given> std::size_t decoded(Call call, Given... given)
+    {
+        return read<std::size_t>(call, given...);
+    }
+    zak_card raw_ = ZAK_CARD_INIT;
+    std::vector<std::uint8_t> rgb_;
+};
+
+/* The bytes of the script that a text spells. Where a line is bad, the error's place is its number. */
+inline std::vector<std::uint8_t> assemble(const std::string &text)
+{
+    std::vector<std::uint8_t> script(1);
+    std::size_t len = 0, line = 0;
+    const std::uint8_t *from = reinterpret_cast<const std::uint8_t *>(text.data());
+    zak_status status = zak_assemble(from, text.size(), script.data(), 0, &len, &line);
+    if (status == ZAK_NO_ROOM) {
+        script.resize(len);
+        status = zak_assemble(from, text.size(), script.data(), script.size(), &len, &line);
+    }
+    check(status, line);
+    return script;
+}
+
+/* The report of a whole run. */
+inline std::vector<std::uint8_t> run(bytes script, bytes fonts)
+{
+    std::vector<std::uint8_t> report(std::size_t(1) << 20);
+    std::size_t len = 0, place = 0;
+    zak_status status;
+    while ((status = zak_run(script.data(), script.size(), fonts.data(), fonts.size(), report.data(),
+                             report.size(), &len, &place)) == ZAK_NO_ROOM)
+        report.resize(len);
+    check(status, place);
+    report.resize(len);
+    return report;
+}
+
+} // namespace zaklimot
+
+#endif

@@ -1,0 +1,1 @@
+"""Tests of the packages for Python and Rust, with the library as it is built."""

@@ -1,0 +1,93 @@
+"""The words of the command line, and the checks one after the other."""
+
+from __future__ import annotations
+
+import argparse
+import tempfile
+import time
+from pathlib import Path
+from typing import Callable, Optional, Sequence
+
+from vga_library.gated import gated_archive
+from vga_library.making import MOVING, Place, make_library
+from vga_library.telling import phases
+from vga_library.toolchain import BACKENDS, kit_archive, proved_archive
+from vga_report import cli
+from vga_report.progress import Progress
+from vga_report.trouble import Trouble
+
+from .needs import lacking
+from .python import check_python
+from .rust import check_lints, check_pages, check_rust, check_rust_examples
+
+# Each check gets the folder of the library, and one for what it makes.
+CHECKS: dict[str, Callable[[Path, Path], str]] = {
+    "python": check_python, "rust": check_rust, "rust-examples": check_rust_examples,
+    "lints": check_lints, "pages": check_pages,
+}
+
+
+def _parser() -> argparse.ArgumentParser:
+    parser = cli.tool_parser(
+        "vga-bindings-tests", "Tests the packages for Python and Rust.",
+        "tools/vga-bindings-tests --library kit --only python", "docs/LIBRARY.md", cli.JUDGES,
+    )
+    parser.set_defaults(job=_run)
+    given = parser.add_mutually_exclusive_group()
+    given.add_argument(
+        "--library", type=Path, metavar="FOLDER", help="one that `vga-library make` has made; else it is made"
+    )
+    given.add_argument(
+        "--gated", action="store_true", help="over the libraries that `rt ci` left, which must have run just before"
+    )
+    parser.add_argument(
+        "--proof", type=Path, metavar="FOLDER", help="with --gated: keeps the crate's proof there, or takes it from there"
+    )
+    parser.add_argument("--ready", action="store_true", help="tests nothing, and tells what this machine lacks")
+    parser.add_argument(
+        "--only", action="append", default=[], choices=CHECKS, help="this check alone; again and again"
+    )
+    return parser
+
+
+def _archive(words: argparse.Namespace, folder: Path, progress: Progress) -> Path:
+    """The crate's archive: over what the gate left, or proved and built now."""
+    if words.gated:
+        return gated_archive(BACKENDS[0], words.proof or folder / "proof", folder / "crates.a")
+    archive = proved_archive(BACKENDS[0], phases(progress)("proving and building the library"))
+    progress.clear()
+    return archive
+
+
+def _library(words: argparse.Namespace, folder: Path, progress: Progress) -> Path:
+    """The folder of the library that is tested."""
+    if words.library is not None:
+        if not (words.library / "lib").is_dir():
+            raise Trouble("it is no folder of `vga-library make`", str(words.library))
+        return Path(words.library).absolute()
+    made = folder / "library"
+    make_library(_archive(words, folder, progress), kit_archive(), Place(str(made)), MOVING)
+    return made
+
+
+def _run(words: argparse.Namespace, progress: Progress) -> None:
+    """Makes each check that is wanted, and tells a line for it."""
+    if words.proof is not None and not words.gated:
+        raise Trouble("--proof keeps a proof of --gated")
+    missing = lacking()
+    if missing:
+        raise Trouble("this machine lacks\n" + "\n".join(f"  {line}" for line in missing))
+    if words.ready:
+        return
+    with tempfile.TemporaryDirectory(prefix="vga-bindings-tests-") as name:
+        library = _library(words, Path(name), progress)
+        for check in words.only or CHECKS:
+            begun = time.monotonic()
+            # What one of Rust's checks has built, the next takes.
+            told = CHECKS[check](library, Path(name))
+            print(f"{check}: {told} ({time.monotonic() - begun:.0f} s)", flush=True)
+
+
+def main(words: Optional[Sequence[str]] = None) -> int:
+    """Runs a command line, and answers its exit status."""
+    return cli.main(_parser, words)

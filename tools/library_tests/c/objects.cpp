@@ -1,0 +1,139 @@
+/* Calls a card by zaklimot.hpp: objects FONTS. Ends with status 0 where all is as it should be, and
+ * else names the line. */
+#include <cstdio>
+#include <cstring>
+#include <fstream>
+#include <iterator>
+#include <type_traits>
+
+#include "zaklimot.hpp"
+
+#define HOLDS(what) \
+    do { \
+        if (!(what)) { \
+            std::fprintf(stderr, "line %d: %s\n", __LINE__, #what); \
+            return 1; \
+        } \
+    } while (0)
+
+using zaklimot::card;
+
+static_assert(!std::is_copy_constructible<card>::value && !std::is_copy_assignable<card>::value, "it is one card");
+static_assert(std::is_nothrow_move_constructible<card>::value && std::is_nothrow_move_assignable<card>::value, "it moves");
+
+/* The status that a call throws, or 0. */
+template <typename Call> static zak_status thrown(Call call)
+{
+    try {
+        call();
+    } catch (const zaklimot::error &error) {
+        return error.status();
+    }
+    return ZAK_OK;
+}
+
+static int draw(card &vga)
+{
+    zak_regs regs = {0x0013, 0, 0, 0};
+    HOLDS(vga.int10(regs).empty());
+    vga.put(0xA0000, 0x0F);
+    vga.put_word(0xA0001, 0x0102);
+    HOLDS(vga.get(0xA0001) == 0x02 && vga.get_word(0xA0000) == 0x020F);
+    vga.out(0x3C4, 2);
+    HOLDS(vga.in(0x3C4) == 2 && vga.registers().seq_index == 2);
+    vga.advance(801);
+    HOLDS(vga.beam().line == 1 && vga.latches().plane[0] == 0x0F);
+    HOLDS(vga.pixel(0, 0, 0) == 0x0F && vga.screen().pages == 1 && vga.bios_data().mode == 0x13);
+    zaklimot::picture picture = vga.frame();
+    HOLDS(picture.width == 640 && picture.height == 400 && picture.rgb.size() == 768000);
+    picture = vga.frame();
+    HOLDS(picture.rgb[0] == 63);
+    std::vector<std::uint32_t> pixels(641 * 400, 7);
+    HOLDS(vga.frame_xrgb(pixels, 641).width == 640 && pixels[0] == 0xFFFFFF && pixels[640] == 7);
+    HOLDS(thrown([&] { vga.frame_xrgb(pixels, 639); }) == ZAK_NO_ROOM);
+    std::vector<std::uint8_t> bytes(2);
+    vga.plane(1, 0, bytes);
+    HOLDS(bytes[0] == 2 && thrown([&] { vga.plane(1, 0xFFFF, bytes); }) == ZAK_BAD_ARGUMENT);
+    HOLDS(thrown([&] { vga.in(0x60); }) == ZAK_NOT_DECODED);
+    HOLDS(thrown([&] { vga.frame_xrgb({}, 0); }) == ZAK_NO_ROOM);
+    return 0;
+}
+
+static int transfer(card &vga)
+{
+    zak_regs regs = {0x0013, 0, 0, 0};
+    vga.int10(regs);
+    std::vector<std::uint8_t> screen(64000), read(64000);
+    for (std::size_t at = 0; at < screen.size(); at++)
+        screen[at] = static_cast<std::uint8_t>(at * 7 / 3);
+    HOLDS(vga.put_bytes(0xA0000, screen) == 64000 && vga.get(0xA0000 + 63999) == screen[63999]);
+    HOLDS(vga.get_bytes(0xA0000, read, true) == 64000 && read == screen && vga.latches().plane[3] == screen[3]);
+    HOLDS(vga.fill_bytes(0xA0000, 9, 3) == 3 && vga.move_bytes(0xA0000, 0xAFFFE, 3, true) == 5);
+    HOLDS(vga.get_word(0xAFFFE) == 0x0909 && vga.fill_bytes(0xC0000, 9, 3, true) == 0);
+    HOLDS(vga.put_bytes(0xA0000, {}) == 0 && vga.get_bytes(0xA0000, {}) == 0);
+    /* A0000 and B0000 are one byte of memory now: the last write stays. */
+    vga.out_word(0x3CE, 0x0106);
+    screen.assign(0x10001, 2);
+    screen[0] = 1;
+    HOLDS(vga.put_bytes(0xA0000, screen) == screen.size() && vga.get(0xA0000) == 2);
+    HOLDS(vga.put_bytes(0xA0000, screen, true) == screen.size() && vga.get(0xA0000) == 1);
+    HOLDS(thrown([&] { vga.put_bytes(0xFFFFFFFF, {screen.data(), 1}); }) == ZAK_BAD_ARGUMENT);
+    HOLDS(thrown([&] { vga.get_bytes(0xFFFFFFFF, {read.data(), 1}); }) == ZAK_BAD_ARGUMENT);
+    HOLDS(thrown([&] { vga.fill_bytes(0, 1, SIZE_MAX); }) == ZAK_BAD_ARGUMENT);
+    HOLDS(thrown([&] { vga.move_bytes(0xA0000, 0xFFFFFFFE, 2); }) == ZAK_BAD_ARGUMENT);
+    return 0;
+}
+
+/* The lines of docs/LIBRARY.md, and what they do. */
+static int example(zaklimot::bytes fonts)
+{
+    const std::vector<std::uint8_t> screen(64000, 0x0F);
+    zaklimot::card vga(fonts);
+    HOLDS(vga.clock().to_retrace == ZAK_NEVER);
+    zak_regs regs = {0x0013, 0, 0, 0};
+    vga.int10(regs);
+    vga.put_bytes(0xA0000, screen);      // a screen of mode 13, a byte a pixel
+    vga.advance(vga.clock().to_retrace); // to where the vertical retrace begins
+    HOLDS((vga.in(0x3DA) & 8) == 8 && vga.beam().line == 412 && vga.pixel(0, 319, 199) == 0x0F);
+    HOLDS(vga.clock().frame_dots == 359200 && vga.clock().rate / vga.clock().rate_divisor == 25175000);
+    vga.advance(vga.clock().to_frame);
+    HOLDS(vga.beam().line == 0 && vga.beam().frame == 1);
+    return 0;
+}
+
+static int scripts(zaklimot::bytes fonts)
+{
+    std::vector<std::uint8_t> script = zaklimot::assemble("int ax=3\nin 3CC");
+    std::vector<std::uint8_t> report = zaklimot::run(script, fonts);
+    HOLDS(std::string(report.end() - 5, report.end()) == "2 67\n");
+    bool is_thrown = false;
+    try {
+        zaklimot::assemble("frame\nmove");
+    } catch (const zaklimot::error &error) {
+        is_thrown = error.status() == ZAK_BAD_LINE && error.place() == 2;
+    }
+    HOLDS(is_thrown);
+    return 0;
+}
+
+int main(int argc, char **argv)
+{
+    HOLDS(argc == 2);
+    std::ifstream file(argv[1], std::ios::binary);
+    const std::string fonts((std::istreambuf_iterator<char>(file)), std::istreambuf_iterator<char>());
+    const std::vector<std::uint8_t> glyphs(fonts.begin(), fonts.end());
+    HOLDS(thrown([] { card none{zaklimot::bytes()}; }) == ZAK_FONT_SIZE);
+    card first(glyphs), another(glyphs);
+    if (draw(first) || scripts(glyphs) || example(glyphs) || transfer(another))
+        return 1;
+    std::vector<std::uint8_t> state = first.save();
+    card second(std::move(first));
+    HOLDS(thrown([&] { first.in(0x3CC); }) == ZAK_NO_CARD && second.save() == state);
+    card third(glyphs);
+    third.restore(state);
+    HOLDS(third.save() == state && thrown([&] { third.restore({}); }) == ZAK_STATE_MAGIC);
+    first = std::move(third);
+    HOLDS(first.get(0xA0000) == 0x0F && thrown([&] { third.in(0x3CC); }) == ZAK_NO_CARD);
+    HOLDS(zak_version() >= ZAK_API_VERSION && second.raw()->is_open);
+    return 0;
+}
