@@ -1,4 +1,4 @@
-/* The adapter as a PC's display. docs/LIBRARY.md tells why dots are added up.
+/* The adapter as a PC's display. docs/LIBRARY.md tells why time is added up.
  *
  * SPDX-License-Identifier: MIT
  */
@@ -9,6 +9,10 @@
 #include "window.h"
 
 #define ALL_BITS 0xFFFFFFFFu
+#define NANOSECONDS 1000000000u
+/* Time between two frames that are shown. Frames of the modes end every 14.3 or 16.7 milliseconds;
+ * but before the first mode is set they are of 90 dots. */
+#define SHOWN_EVERY 14000000u
 
 zak_status display_open(struct display *display, const uint8_t *fonts, size_t fonts_len)
 {
@@ -26,48 +30,55 @@ bool display_has_port(uint16_t port)
     return port >= 0x3B0 && port <= 0x3DF;
 }
 
-/* Asks how many dots are left of the frame. */
+/* Asks the clock how fast it is, and how many dots are left of the frame. */
 static void look(struct display *display)
 {
     zak_timing timing;
     zak_clock(&display->card, &timing);
+    display->rate = timing.rate;
+    display->dot = (uint64_t)NANOSECONDS * timing.rate_divisor;
     display->left = timing.to_frame;
     display->is_looked_at = true;
 }
 
-void display_spend(struct display *display, uint32_t dots)
+void display_spend(struct display *display, uint32_t nanoseconds)
 {
-    display->dots += dots;
-    display->owed += dots;
     if (!display->is_looked_at)
         look(display);
-    if (display->owed >= display->left)
+    display->time += nanoseconds;
+    display->owed += (uint64_t)nanoseconds * display->rate;
+    if (display->owed >= display->left * display->dot)
         display_settle(display);
 }
 
-static void show_frame(struct display *display)
+/* The frame ends. It is drawn only where it is shown. */
+static void end_frame(struct display *display)
 {
     zak_size size;
-    zak_status status = zak_frame_xrgb(&display->card, &size, display->pixels,
-                                       sizeof display->pixels / 4, ZAK_WIDEST);
+    if (display->time < display->next_shown) {
+        zak_advance(&display->card, display->left);
+        return;
+    }
+    display->next_shown = display->time + SHOWN_EVERY;
     display->frames++;
-    if (status == ZAK_OK)
-        window_show(display->pixels, size.width, size.height, ZAK_WIDEST);
+    if (zak_frame_xrgb(&display->card, &size, display->pixels, sizeof display->pixels / 4,
+                       ZAK_WIDEST) == ZAK_OK)
+        window_show(display->pixels, size.width, size.height, ZAK_WIDEST, display->time);
 }
 
 void display_settle(struct display *display)
 {
     if (!display->is_looked_at)
         look(display);
-    while (display->owed >= display->left) {
-        display->owed -= display->left;
-        show_frame(display);
+    while (display->owed >= display->left * display->dot) {
+        display->owed -= display->left * display->dot;
+        end_frame(display);
         look(display);
     }
-    if (display->owed)
-        zak_advance(&display->card, display->owed);
-    display->left -= display->owed;
-    display->owed = 0;
+    uint32_t dots = (uint32_t)(display->owed / display->dot);
+    zak_advance(&display->card, dots);
+    display->owed -= dots * display->dot;
+    display->left -= dots;
 }
 
 void display_look(struct display *display)
@@ -109,21 +120,31 @@ uint32_t display_in(struct display *display, uint16_t port, int bytes)
 void display_put(struct display *display, uint32_t address, unsigned bytes, uint64_t value)
 {
     uint8_t parts[sizeof value];
-    size_t decoded;
     for (unsigned i = 0; i < bytes; i++)
         parts[i] = (uint8_t)(value >> 8 * i);
-    display_settle(display);
-    zak_put_bytes(&display->card, address, parts, bytes, false, &decoded);
+    display_put_bytes(display, address, parts, bytes);
 }
 
 uint64_t display_get(struct display *display, uint32_t address, unsigned bytes)
 {
     uint64_t value = 0;
     uint8_t parts[sizeof value];
-    size_t decoded;
-    display_settle(display);
-    zak_get_bytes(&display->card, address, parts, bytes, false, &decoded);
+    display_get_bytes(display, address, parts, bytes);
     for (unsigned i = 0; i < bytes; i++)
         value |= (uint64_t)parts[i] << 8 * i;
     return value;
+}
+
+void display_put_bytes(struct display *display, uint32_t address, const uint8_t *bytes, size_t len)
+{
+    size_t decoded;
+    display_settle(display);
+    zak_put_bytes(&display->card, address, bytes, len, false, &decoded);
+}
+
+void display_get_bytes(struct display *display, uint32_t address, uint8_t *bytes, size_t len)
+{
+    size_t decoded;
+    display_settle(display);
+    zak_get_bytes(&display->card, address, bytes, len, false, &decoded);
 }

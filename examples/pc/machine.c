@@ -29,10 +29,12 @@
 #define SECTOR_SIZE 512u
 #define IRET 0xCF
 
-/* An instruction takes four dots: at 25 MHz these are six million a second. */
-#define DOTS_OF_INSTRUCTION 4u
-/* The timer's interrupt comes 18.2 times a second. */
-#define DOTS_OF_TICK 1382642u
+/* Nanoseconds of an instruction: the processor has six million a second. */
+#define INSTRUCTION 160u
+/* Nanoseconds between two interrupts of the timer, 65,536 of its clocks of 1,193,182 a second. */
+#define TICK 54925402u
+/* Nanoseconds that a processor which halts lets pass at once. */
+#define PAUSE 100000u
 
 /* Of the processor's flags: whether interrupts are taken. */
 #define INTERRUPT_FLAG 0x0200u
@@ -57,25 +59,50 @@ void machine_set_register(struct machine *machine, int which, uint16_t value)
     uc_reg_write(machine->engine, which, &value);
 }
 
+static bool is_in_window(uint32_t address)
+{
+    return address >= WINDOW && address - WINDOW < WINDOW_SIZE;
+}
+
+/* How many of so many bytes lie in the same memory as the first. */
+static size_t bytes_alike(uint32_t address, size_t len)
+{
+    static const uint32_t ENDS[] = {WINDOW, ROM, ROM + HIGH_SIZE};
+    for (size_t i = 0; i < sizeof ENDS / sizeof *ENDS; i++)
+        if (address < ENDS[i])
+            return len < ENDS[i] - address ? len : ENDS[i] - address;
+    return len;
+}
+
 void machine_read(struct machine *machine, uint32_t address, void *bytes, size_t len)
 {
     uint8_t *target = bytes;
     memset(target, 0xFF, len);
-    for (size_t i = 0; i < len; i++)
-        if (address + i >= WINDOW && address + i < WINDOW + WINDOW_SIZE)
-            target[i] = (uint8_t)display_get(&machine->display, (uint32_t)(address + i), 1);
+    while (len) {
+        size_t part = bytes_alike(address, len);
+        if (is_in_window(address))
+            display_get_bytes(&machine->display, address, target, part);
         else
-            uc_mem_read(machine->engine, address + i, target + i, 1);
+            uc_mem_read(machine->engine, address, target, part);
+        address += (uint32_t)part;
+        target += part;
+        len -= part;
+    }
 }
 
 void machine_write(struct machine *machine, uint32_t address, const void *bytes, size_t len)
 {
     const uint8_t *source = bytes;
-    for (size_t i = 0; i < len; i++)
-        if (address + i >= WINDOW && address + i < WINDOW + WINDOW_SIZE)
-            display_put(&machine->display, (uint32_t)(address + i), 1, source[i]);
+    while (len) {
+        size_t part = bytes_alike(address, len);
+        if (is_in_window(address))
+            display_put_bytes(&machine->display, address, source, part);
         else
-            uc_mem_write(machine->engine, address + i, source + i, 1);
+            uc_mem_write(machine->engine, address, source, part);
+        address += (uint32_t)part;
+        source += part;
+        len -= part;
+    }
 }
 
 void machine_write_word(struct machine *machine, uint32_t address, uint16_t value)
@@ -150,9 +177,21 @@ static void serve(struct machine *machine, uint32_t stub)
         bios_serve(machine, stub);
 }
 
-static bool has_ended(const struct machine *machine)
+/* Lets time pass, and sees what comes with it. */
+static void spend(struct machine *machine, uint32_t nanoseconds)
 {
-    return window_is_closed() || machine->display.dots >= machine->end;
+    display_spend(&machine->display, nanoseconds);
+    if (machine->display.time >= machine->next_tick) {
+        machine->next_tick += TICK;
+        machine->is_tick_due = true;
+    }
+    if (window_is_closed() || machine->display.time >= machine->end)
+        machine->is_off = true;
+}
+
+static bool takes_interrupts(struct machine *machine)
+{
+    return flags_of(machine) & INTERRUPT_FLAG;
 }
 
 static void on_instruction(uc_engine *engine, uint64_t address, uint32_t size, void *given)
@@ -160,17 +199,13 @@ static void on_instruction(uc_engine *engine, uint64_t address, uint32_t size, v
     struct machine *machine = given;
     (void)size;
     machine->instructions++;
-    display_spend(&machine->display, DOTS_OF_INSTRUCTION);
-    if (machine->display.dots >= machine->next_tick) {
-        machine->next_tick += DOTS_OF_TICK;
-        machine->is_tick_due = true;
-    }
+    spend(machine, INSTRUCTION);
     if (address >= STUBS && address < STUBS + BOOT_STUB)
         serve(machine, (uint32_t)(address - STUBS));
-    if (has_ended(machine))
-        machine->is_off = true;
-    if (machine->is_off || (machine->is_tick_due && flags_of(machine) & INTERRUPT_FLAG))
+    if (machine->is_off || (machine->is_tick_due && takes_interrupts(machine))) {
+        machine->is_stopped = true;
         uc_emu_stop(engine);
+    }
 }
 
 static void on_out(uc_engine *engine, uint32_t port, int size, uint32_t value, void *given)
@@ -254,7 +289,7 @@ static void write_stubs(struct machine *machine)
 
 bool machine_open(struct machine *machine, const uint8_t *rom, size_t rom_len)
 {
-    machine->next_tick = DOTS_OF_TICK;
+    machine->next_tick = TICK;
     machine->end = UINT64_MAX;
     if (uc_open(UC_ARCH_X86, UC_MODE_16, &machine->engine) != UC_ERR_OK)
         return false;
@@ -273,38 +308,42 @@ void machine_close(struct machine *machine)
     uc_close(machine->engine);
 }
 
-/* Time passes until the timer's interrupt is due, as it does for a processor that halts. */
+/* The processor halts until the timer's interrupt comes. Where it takes none, nothing wakes it. */
 static void halt(struct machine *machine)
 {
-    if (!(flags_of(machine) & INTERRUPT_FLAG)) {
+    if (!takes_interrupts(machine))
         machine->is_off = true;
-        return;
+    while (!machine->is_off && !machine->is_tick_due) {
+        uint64_t rest = machine->next_tick - machine->display.time;
+        spend(machine, rest < PAUSE ? (uint32_t)rest : PAUSE);
     }
-    while (!machine->is_off && machine->display.dots < machine->next_tick) {
-        display_spend(&machine->display, DOTS_OF_INSTRUCTION);
-        machine->is_off = has_ended(machine);
-    }
-    machine->next_tick += DOTS_OF_TICK;
-    machine->is_tick_due = true;
+}
+
+static void begin(struct machine *machine, const uint8_t *boot_sector)
+{
+    uint32_t flags = flags_of(machine) | INTERRUPT_FLAG;
+    machine_write(machine, BOOT_SECTOR, boot_sector, SECTOR_SIZE);
+    uc_reg_write(machine->engine, UC_X86_REG_EFLAGS, &flags);
+    machine_set_register(machine, UC_X86_REG_SP, BOOT_SECTOR);
+    machine_set_register(machine, UC_X86_REG_CS, machine->has_rom ? STUB_SEGMENT : 0);
+    machine_set_register(machine, UC_X86_REG_IP, machine->has_rom ? BOOT_STUB : BOOT_SECTOR);
 }
 
 void machine_run(struct machine *machine, const uint8_t *boot_sector)
 {
-    machine_write(machine, BOOT_SECTOR, boot_sector, SECTOR_SIZE);
-    machine_set_register(machine, UC_X86_REG_SP, BOOT_SECTOR);
-    machine_set_register(machine, UC_X86_REG_CS, machine->has_rom ? STUB_SEGMENT : 0);
-    machine_set_register(machine, UC_X86_REG_IP, machine->has_rom ? BOOT_STUB : BOOT_SECTOR);
+    begin(machine, boot_sector);
     while (!machine->is_off) {
         uint32_t from = machine_address(machine_register(machine, UC_X86_REG_CS),
                                         machine_register(machine, UC_X86_REG_IP));
+        machine->is_stopped = false;
         uc_err error = uc_emu_start(machine->engine, from, (uint64_t)-1, 0, 0);
         if (error != UC_ERR_OK) {
             fprintf(stderr, "pc: at %05X: %s\n", (unsigned)from, uc_strerror(error));
             return;
         }
-        if (!machine->is_tick_due && !machine->is_off)
+        if (!machine->is_stopped)
             halt(machine);
-        if (machine->is_tick_due && flags_of(machine) & INTERRUPT_FLAG) {
+        if (machine->is_tick_due && takes_interrupts(machine)) {
             machine->is_tick_due = false;
             interrupt(machine, BIOS_TIMER);
         }

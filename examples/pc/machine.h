@@ -17,9 +17,10 @@ struct machine {
     struct display display;
     bool has_rom;       /* a ROM serves interrupt 10, and not the library */
     bool is_off;
+    bool is_stopped;    /* the machine stopped the processor, which did not halt */
     bool is_tick_due;   /* the timer's interrupt is to come */
-    uint64_t next_tick; /* in dots since the machine was switched on */
-    uint64_t end;       /* when it is switched off, in dots too */
+    uint64_t next_tick; /* in nanoseconds since the machine was switched on */
+    uint64_t end;       /* when it is switched off, in nanoseconds too */
     uint64_t instructions;
 };
 

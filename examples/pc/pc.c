@@ -12,16 +12,25 @@
 #include "window.h"
 
 #define MOST_ROM 0x10000u
-#define DOTS_OF_SECOND 25175000u
+#define NANOSECONDS 1000000000u
 
 static const char USAGE[] =
     "pc FLOPPY FONTS [--rom FILE] [--keys TEXT] [--seconds N] [--pictures FOLDER]\n";
 
 struct words {
     const char *floppy, *fonts, *rom;
-    unsigned long seconds; /* of the machine's time; 0 for no end */
+    uint32_t seconds; /* of the machine's time; 0 for no end */
     struct wishes wishes;
 };
+
+/* Reads a whole number of seconds. */
+static bool read_seconds(const char *word, uint32_t *seconds)
+{
+    char *end;
+    unsigned long number = strtoul(word, &end, 10);
+    *seconds = (uint32_t)number;
+    return *word >= '0' && *word <= '9' && *end == '\0' && number <= UINT32_MAX;
+}
 
 static bool read_words(int argc, char **argv, struct words *words)
 {
@@ -34,11 +43,9 @@ static bool read_words(int argc, char **argv, struct words *words)
             words->rom = value;
         else if (strcmp(name, "--keys") == 0)
             words->wishes.keys = value;
-        else if (strcmp(name, "--seconds") == 0)
-            words->seconds = strtoul(value, NULL, 10);
         else if (strcmp(name, "--pictures") == 0)
             words->wishes.pictures = value;
-        else
+        else if (strcmp(name, "--seconds") != 0 || !read_seconds(value, &words->seconds))
             return false;
     }
     return true;
@@ -77,9 +84,9 @@ static int run(struct machine *machine, const struct words *words)
     if (!machine_open(machine, words->rom ? rom : NULL, rom_len))
         return fail("the processor can't be made", words->floppy);
     if (words->seconds)
-        machine->end = (uint64_t)words->seconds * DOTS_OF_SECOND;
+        machine->end = (uint64_t)words->seconds * NANOSECONDS;
     machine_run(machine, sector);
-    printf("%llu instructions, %u frames\n", (unsigned long long)machine->instructions,
+    printf("%llu instructions, %u frames were shown\n", (unsigned long long)machine->instructions,
            machine->display.frames);
     machine_close(machine);
     display_close(&machine->display);

@@ -1,4 +1,6 @@
-/* No window: frames go into files, and keys come from the command line.
+/* No window: frames go into files, and keys come from the command line. A key comes two frames
+ * after it is asked for, so that what is seen then is in a file. Where the machine waits for a key
+ * that will not come, it is switched off once its picture has come to rest.
  *
  * SPDX-License-Identifier: MIT
  */
@@ -11,11 +13,14 @@
 #include "zaklimot.h"
 
 #define MOST_PATH 4096
+#define FRAMES_OF_KEY 2
 
 static struct wishes wanted;
 static unsigned shown;
 static uint32_t *last;
 static uint32_t last_width, last_height;
+static bool is_asked, is_waited_for, is_closed;
+static unsigned key_comes; /* with this frame, where a key is asked for */
 
 bool window_open(const struct wishes *wishes)
 {
@@ -61,24 +66,37 @@ static void write_frame(void)
     fclose(file);
 }
 
-void window_show(const uint32_t *pixels, uint32_t width, uint32_t height, uint32_t pitch)
+void window_show(const uint32_t *pixels, uint32_t width, uint32_t height, uint32_t pitch,
+                 uint64_t time)
 {
+    (void)time;
+    bool differs = is_new(pixels, width, height, pitch);
     shown++;
-    if (is_new(pixels, width, height, pitch) && wanted.pictures)
+    if (differs && wanted.pictures)
         write_frame();
+    is_closed = is_waited_for && !differs;
 }
 
 bool window_is_closed(void)
 {
-    return false;
+    return is_closed;
 }
 
 uint16_t window_key(bool is_taken)
 {
-    if (!wanted.keys || !*wanted.keys)
+    if (!wanted.keys || !*wanted.keys) {
+        is_waited_for = is_waited_for || is_taken;
+        return 0;
+    }
+    if (!is_asked)
+        key_comes = shown + FRAMES_OF_KEY;
+    is_asked = true;
+    if (shown < key_comes)
         return 0;
     uint16_t key = key_of_character(*wanted.keys);
-    if (is_taken)
+    if (is_taken) {
         wanted.keys++;
+        is_asked = false;
+    }
     return key;
 }

@@ -10,7 +10,7 @@
 
 #define WINDOW_WIDTH 960
 #define WINDOW_HEIGHT 720
-#define FRAME_MILLISECONDS 14 /* seventy frames a second */
+#define MILLISECOND 1000000u /* in nanoseconds */
 #define MOST_KEYS 64
 
 static SDL_Window *window;
@@ -78,19 +78,19 @@ static void take_events(void)
     }
 }
 
-/* Waits until the frame's time has passed, so that the machine runs no faster than it should. */
-static void wait_for_frame(void)
+/* Waits until the machine's time has passed here too, so that it runs no faster than it should. */
+static void wait_until(uint64_t time)
 {
-    static Uint32 due;
-    Uint32 now = SDL_GetTicks();
-    if (due > now)
-        SDL_Delay(due - now);
+    static uint64_t behind; /* how much more time has passed here */
+    uint64_t now = (uint64_t)SDL_GetTicks() * MILLISECOND;
+    if (now < time + behind)
+        SDL_Delay((Uint32)((time + behind - now) / MILLISECOND));
     else
-        due = now;
-    due += FRAME_MILLISECONDS;
+        behind = now - time;
 }
 
-void window_show(const uint32_t *pixels, uint32_t width, uint32_t height, uint32_t pitch)
+void window_show(const uint32_t *pixels, uint32_t width, uint32_t height, uint32_t pitch,
+                 uint64_t time)
 {
     SDL_Rect part = {0, 0, (int)width, (int)height};
     SDL_UpdateTexture(texture, &part, pixels, (int)(4 * pitch));
@@ -98,7 +98,7 @@ void window_show(const uint32_t *pixels, uint32_t width, uint32_t height, uint32
     SDL_RenderCopy(renderer, texture, &part, NULL);
     SDL_RenderPresent(renderer);
     take_events();
-    wait_for_frame();
+    wait_until(time);
 }
 
 bool window_is_closed(void)

@@ -17,8 +17,10 @@ struct wishes {
 bool window_open(const struct wishes *wishes);
 void window_close(void);
 
-/* Shows a frame; rows are `pitch` words apart. */
-void window_show(const uint32_t *pixels, uint32_t width, uint32_t height, uint32_t pitch);
+/* Shows a frame, whose rows are `pitch` words apart. It ends at this time of the machine, in
+ * nanoseconds. */
+void window_show(const uint32_t *pixels, uint32_t width, uint32_t height, uint32_t pitch,
+                 uint64_t time);
 
 /* Whether the user has closed it. */
 bool window_is_closed(void);

@@ -2,6 +2,7 @@
 
 from __future__ import annotations
 
+import re
 import shutil
 import sys
 from pathlib import Path
@@ -20,8 +21,18 @@ SOURCES = [PC / f"{name}.c" for name in ("pc", "machine", "bios", "display", "fl
 # Scripts whose answers hang on nothing but the adapter, so that the PC gives those of the harness.
 SCRIPTS = ("text-by-services", "asked-of-machines")
 PACKAGES = {"unicorn": "libunicorn-dev", "sdl2": "libsdl2-dev"}
+# Boot sectors. One sets a mode and then loops; one halts with interrupts off, and a tick that waits.
+LOOPS, HALTS = "B8{mode:02X}00 CD10 EBFE", "FA BA0600 B9FFFF E2FE 4A 75F8 F4 EBFE"
+# What the second one runs until it halts: six times 65,535 rounds of a loop are longer than a tick.
+TO_HALT = 2 + 6 * (0xFFFF + 3) + 1
+SECTOR, FLOPPY, BOOTS = 512, 1_474_560, b"\x55\xaa"
+# Each of these modes has 70.1 frames a second, and so has the mode that the BIOS begins with.
+MODES, SECONDS, FRAMES = (0x03, 0x0D, 0x13), 3, range(209, 212)
+TOLD = re.compile(r"^(\d+) instructions, (\d+) frames were shown$")
 # A white bar at the end of mode 12, the first screen of the floppy, and its size.
 BAR, SIZE = 640 * 30 * b"\xff\xff\xff", b"P6\n640 480\n255\n"
+# The sizes of its screens: mode 12, 13 and 3.
+SCREENS = [SIZE, b"P6\n640 400\n255\n", b"P6\n720 400\n255\n"]
 
 
 def flags_of(*packages: str) -> Optional[list[str]]:
@@ -73,6 +84,38 @@ def _check_demo(pc: Path, folder: Path, *rom: str | Path) -> None:
         raise Wrong(f"the PC's floppy shows another first screen{' with ' + str(rom[1]) if rom else ''}")
 
 
+def _told(pc: Path, folder: Path, code: str, *words: str) -> tuple[int, int]:
+    """How many instructions a boot sector runs, and how many frames are shown."""
+    image, sector = folder / "boot.img", bytes.fromhex(code)
+    image.write_bytes(sector.ljust(SECTOR - len(BOOTS), b"\0") + BOOTS + bytes(FLOPPY - SECTOR))
+    told = TOLD.match(run([pc, image, fonts_file(), *words]).strip())
+    if told is None:
+        raise Wrong("the PC does not tell what it ran")
+    return int(told[1]), int(told[2])
+
+
+def _check_time(pc: Path, folder: Path) -> None:
+    """Frames come at their rate whatever the adapter's clock is, and what nothing can wake is switched off."""
+    for mode in MODES:
+        _, frames = _told(pc, folder, LOOPS.format(mode=mode), "--seconds", str(SECONDS))
+        if frames not in FRAMES:
+            raise Wrong(f"in {SECONDS} seconds of mode {mode:02X} the PC shows {frames} frames")
+    instructions, _ = _told(pc, folder, HALTS)
+    if instructions != TO_HALT:
+        raise Wrong(f"the PC runs {instructions} instructions, and not to the halt")
+
+
+def _check_keys(pc: Path, folder: Path) -> None:
+    """The machine ends by itself where it waits for a key that will not come; each screen is in a picture."""
+    pictures = folder / "screens"
+    pictures.mkdir()
+    shutil.copyfile(PC / "demo.img", folder / "demo.img")
+    run([pc, folder / "demo.img", fonts_file(), "--keys", "  ", "--pictures", pictures])
+    sizes = [path.read_bytes()[:len(SIZE)] for path in sorted(pictures.iterdir())]
+    if list(dict.fromkeys(sizes)) != SCREENS:
+        raise Wrong(f"of the floppy's screens the PC shows {sizes}")
+
+
 def _roms() -> list[Path]:
     places = ("vgabios/vgabios.bin", "seabios/vgabios-stdvga.bin")
     return [path for path in (Path("/usr/share") / place for place in places) if path.is_file()]
@@ -88,6 +131,8 @@ def check_pc(built: Built, folder: Path) -> str:
     for name in SCRIPTS:
         _check_script(built, pc, folder, name)
     _check_demo(pc, folder)
+    _check_time(pc, folder)
+    _check_keys(pc, folder)
     roms = _roms()
     for rom in roms:
         _check_demo(pc, folder, "--rom", rom)
