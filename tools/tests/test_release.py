@@ -3,18 +3,29 @@
 from __future__ import annotations
 
 import contextlib
+import hashlib
 import io
+import os
+import posixpath
 import re
+import shutil
+import subprocess
 import tarfile
+import tempfile
 import unittest
+import zipfile
+from pathlib import Path
+from typing import Iterator
 from unittest import mock
 
 from vga_report import TOP
 from vga_report.version import version
 from vga_release import command
 from vga_release.commit import Commit, File, clean_commit
-from vga_release.gathering import MADE_OF, PAGE, PATHS, made_of, moved_up
+from vga_release.gathering import FRONT, INSTALL, LINKS, MADE_OF, PAGE, PATHS, made_of, settled
 from vga_release.packing import Entry, pack
+from vga_release.pages import Pages
+from vga_release.wheel import wheel_of
 from vga_report.processes import Done
 from vga_report.trouble import TROUBLE
 from vga_report.trouble import Trouble
@@ -58,20 +69,189 @@ class Made(unittest.TestCase):
         self.assertTrue(text.startswith("commit 0123abcd\ntoolchain kit\nsha256 "))
         self.assertEqual(re.findall(r"^sha256 [0-9a-f]{64} (\S+)$", text, re.M), ["z/a", "z/bin/vga", "z/lib/b.so.1"])
 
-    def test_links_of_the_page_from_the_top(self) -> None:
-        page = File(b"[a](../README.md) [b](PROOFS.md#c) [d](#e) [f](https://g.h/)")
-        wanted = b"[a](README.md) [b](docs/PROOFS.md#c) [d](#e) [f](https://g.h/)"
-        self.assertEqual(moved_up(page).content, wanted)
-        text = moved_up(File((TOP / PAGE).read_bytes())).content.decode("utf-8")
-        for link in re.findall(r"\]\(([^)#:]+)", text):
-            self.assertTrue((TOP / link).exists(), link)
-
     def test_its_page_tells_all_of_it(self) -> None:
         page = (TOP / PAGE).read_text("utf-8")
         self.assertIn(f"zaklimot-{version()}-x86_64-linux.tar.gz", page)
-        self.assertIn(MADE_OF, page)
+        self.assertIn(f"zaklimot-{version()}-py3-none-linux_x86_64.whl", page)
+        self.assertIn(f"## {version()}\n", (TOP / "CHANGELOG.md").read_text("utf-8"))
         self.assertEqual([path for path in PATHS if not (TOP / path).exists()], [])
         self.assertEqual(command.release_name(), f"zaklimot-{version()}-x86_64-linux")
+
+
+class Settling(unittest.TestCase):
+    def setUp(self) -> None:
+        self.pages = Pages(["docs/A.md", "README.md", "src/low/x.rs"], {"docs/B.md": "README.md"})
+
+    def test_links_to_what_is_there(self) -> None:
+        self.assertEqual(self.pages.settled("[a](A.md#c) ![b](../src/low)", "docs/C.md"), "[a](A.md#c) ![b](../src/low)")
+
+    def test_links_to_what_is_not_there_are_words(self) -> None:
+        self.assertEqual(self.pages.settled("[of\ntwo](../src/high/) and `x`", "docs/C.md"), "of\ntwo and `x`")
+
+    def test_links_of_and_to_pages_that_lie_elsewhere(self) -> None:
+        self.assertEqual(self.pages.settled("[b](B.md#d)", "docs/C.md"), "[b](../README.md#d)")
+        self.assertEqual(self.pages.settled("[a](A.md) [c](#e) [f](https://g.h/)", "docs/B.md"), "[a](docs/A.md) [c](#e) [f](https://g.h/)")
+
+    def test_what_stands_between_fences_stays(self) -> None:
+        text = "```\n[a](Z.md)\n```\n[b](Z.md)\n```\n[c](Z.md)\n```\n"
+        self.assertEqual(self.pages.settled(text, "docs/C.md"), "```\n[a](Z.md)\n```\nb\n```\n[c](Z.md)\n```\n")
+
+
+def sources() -> dict[str, Entry]:
+    """What goes into a release of the files as they lie here, with nothing in the place of what is built."""
+    entries: dict[str, Entry] = {
+        name: File(b"") for name in ("bin/vga", INSTALL, MADE_OF, "lib/libzaklimot.a", "share/zaklimot/zaklimot.fnt", "scripts/list.txt")
+    }
+    for name in PATHS:
+        below = [TOP / name] if (TOP / name).is_file() else sorted((TOP / name).rglob("*"))
+        for path in below:
+            place = path.relative_to(TOP)
+            if path.is_file() and not {"out", "target", "__pycache__"} & set(place.parts):
+                entries[str(place)] = File(path.read_bytes(), os.access(path, os.X_OK))
+    return {**entries, **LINKS}
+
+
+class Whole(unittest.TestCase):
+    """All pages of a release, as who has unpacked it reads them."""
+
+    @classmethod
+    def setUpClass(cls) -> None:
+        cls.entries = settled(sources())
+        cls.places = {"."} | {str(path) for place in cls.entries for path in (Path(place), *Path(place).parents)}
+        cls.pages = {
+            place: entry.content.decode("utf-8")
+            for place, entry in cls.entries.items() if place.endswith(".md") and isinstance(entry, File)
+        }
+
+    def test_the_front_page(self) -> None:
+        self.assertTrue(self.pages[FRONT].startswith("# Zaklimot: a release\n"))
+        self.assertTrue(self.pages[f"docs/{FRONT}"].startswith("# Zaklimot\n"))
+        self.assertNotIn(PAGE, self.pages)
+        self.assertGreater(len(self.pages), 30)
+
+    def test_each_link_leads_to_what_is_there(self) -> None:
+        dead = [
+            f"{page}: {link}" for page, text in self.pages.items()
+            for link in re.findall(r"\]\((?!https?:|#)([^()\s#]+)", re.sub(r"^```.*?^```$", "", text, flags=re.M | re.S))
+            if posixpath.normpath(posixpath.join(posixpath.dirname(page), link)) not in self.places
+        ]
+        self.assertEqual(dead, [])
+
+    def test_each_command_is_there_or_told_to_be_elsewhere(self) -> None:
+        elsewhere = re.findall(r"`([^`]+)`", self.pages[FRONT].partition("These prove, build or test")[2].partition("\n\n")[0])
+        self.assertIn("tools/vga-library", elsewhere)
+        for page, text in self.pages.items():
+            # What a page's own commands make is there then.
+            made = {Path(name).name for name in re.findall(r" -o (\S+)", text)}
+            for name in commands_of(text):
+                with self.subTest(page=page, command=name):
+                    is_there = name in self.places or Path(name).name in made
+                    self.assertTrue(is_there or any(name.startswith(told) for told in elsewhere))
+
+    def test_what_is_told_to_be_elsewhere_is_not_here(self) -> None:
+        told = self.pages[FRONT].partition("These prove, build or test")[2].partition("\n\n")[0]
+        for name in re.findall(r"`(tools/[^`]+)`", told):
+            self.assertNotIn(name, self.places)
+            self.assertTrue((TOP / name).exists(), name)
+
+
+# What may stand before a program of the repository, or before the folder of its tests.
+STARTING = r"(?:(?:\S*/)?python3? |python3 -m unittest discover --start-directory |node (?:--\S+ )*)?"
+
+
+def commands_of(text: str) -> Iterator[str]:
+    """The programs of the repository that a page's commands name, by their place."""
+    for line in re.findall(r"^(?: {4,}|\s*\$ )(?:\$ )?(.+)$", text, re.M):
+        found = re.match(STARTING + r"((?:tools|crates|bin|bench|\.ci|examples|fonts|page|bindings)/[\w./-]+)( |$)", line)
+        if found:
+            yield found[1]
+        elif re.match(r"\(cd crates/|rt ", line):
+            yield line.strip("(")
+
+
+class Wheels(unittest.TestCase):
+    def test_the_wheel_has_the_library(self) -> None:
+        files = {place: entry for place, entry in sources().items() if isinstance(entry, File)}
+        with tempfile.TemporaryDirectory() as name:
+            library = Path(name) / "library"
+            for place in ("lib/libzaklimot.so", "share/zaklimot/zaklimot.fnt"):
+                (library / place).parent.mkdir(parents=True)
+                (library / place).write_bytes(place.encode())
+            made = []
+            for number in "12":
+                folder = Path(name) / number
+                folder.mkdir()
+                made.append(wheel_of(files, library, folder))
+            self.assertEqual(made[0].read_bytes(), made[1].read_bytes())
+            self.assertEqual(made[0].name, f"zaklimot-{version()}-py3-none-linux_x86_64.whl")
+            with zipfile.ZipFile(made[0]) as wheel:
+                self.assertEqual(wheel.read("zaklimot/carried/libzaklimot.so"), b"lib/libzaklimot.so")
+                self.assertIn("zaklimot/format/table.py", wheel.namelist())
+
+
+class Installing(unittest.TestCase):
+    """The command that lays a release below a prefix."""
+
+    def setUp(self) -> None:
+        folder = tempfile.TemporaryDirectory()
+        self.addCleanup(folder.cleanup)
+        self.folder = Path(folder.name)
+        self.release = self.folder / "a release"
+        for place, text in (("bin/vga", "program"), ("include/z.h", "header"), ("lib/z.so.1", "library"), ("share/z/f.fnt", "font")):
+            (self.release / place).parent.mkdir(parents=True)
+            (self.release / place).write_text(text)
+        (self.release / "bin/vga").chmod(0o755)
+        (self.release / "lib/z.so").symlink_to("z.so.1")
+        shutil.copy(TOP / "tools" / "vga_release" / INSTALL, self.release / INSTALL)
+
+    def install(self, *words: str) -> "subprocess.CompletedProcess[str]":
+        return subprocess.run(["sh", self.release / INSTALL, *words], cwd=self.folder, capture_output=True, text=True)
+
+    def test_all_is_laid_and_told(self) -> None:
+        prefix = self.folder / "in here"
+        for _ in "12":
+            done = self.install("--prefix", str(prefix))
+            self.assertEqual((done.returncode, done.stderr), (0, ""))
+            wanted = [f"{prefix}/{place}" for place in ("bin/vga", "include/z.h", "lib/z.so", "lib/z.so.1", "share/z/f.fnt")]
+            self.assertEqual(done.stdout.splitlines(), wanted)
+        self.assertTrue(os.access(prefix / "bin/vga", os.X_OK))
+        self.assertEqual(os.readlink(prefix / "lib/z.so"), "z.so.1")
+        self.assertEqual((prefix / "share/z/f.fnt").read_text(), "font")
+
+    def test_a_stage_stands_before_the_prefix(self) -> None:
+        self.assertEqual(self.install("--destdir=stage", "--prefix=/usr").returncode, 0)
+        self.assertEqual((self.folder / "stage/usr/bin/vga").read_text(), "program")
+
+    def test_what_it_refuses(self) -> None:
+        (self.folder / "full" / "bin" / "vga").mkdir(parents=True)
+        (self.release / "kit").mkdir()
+        (self.release / "kit" / "bin").symlink_to("../bin")
+        wanted = {
+            ("--prefix", "here"): "begins with a slash", ("--prefix",): "wants a folder", ("--other",): "there is no option",
+            ("--prefix", str(self.release)): "the release's own", ("--prefix", str(self.release / "kit")): "the release's own",
+            ("--prefix", str(self.folder / "full")): "is a folder", ("--prefix", "/proc/none"): "there can be no folder",
+        }
+        for words, told in wanted.items():
+            with self.subTest(words=words):
+                done = self.install(*words)
+                self.assertEqual((done.returncode, done.stdout), (2, ""))
+                self.assertIn(told, done.stderr.splitlines()[-1])
+        self.assertEqual((self.release / "bin/vga").read_text(), "program")
+
+
+class Packed(unittest.TestCase):
+    def test_the_archive_and_its_checksum(self) -> None:
+        with tempfile.TemporaryDirectory() as name, contextlib.redirect_stdout(io.StringIO()) as told:
+            given = Path(name) / "given"
+            given.write_bytes(b"built")
+            with mock.patch.object(command, "clean_commit", return_value=COMMIT), mock.patch.object(
+                command, "release_entries", return_value=ENTRIES
+            ):
+                words = [name, "--program", str(given), "--archive", str(given)]
+                self.assertEqual(command.main(words), 0)
+            archive, sums = (Path(line) for line in told.getvalue().splitlines())
+            number = hashlib.sha256(archive.read_bytes()).hexdigest()
+            self.assertEqual(sums.read_text("ascii"), f"{number}  {archive.name}\n")
 
 
 class Commits(unittest.TestCase):

@@ -3,6 +3,7 @@
 from __future__ import annotations
 
 import argparse
+import hashlib
 import os
 from pathlib import Path
 from typing import Optional, Sequence
@@ -14,7 +15,7 @@ from vga_library.toolchain import BACKENDS, proved_archive
 from vga_report import cli
 from vga_report.processes import Hearer, run
 from vga_report.progress import Progress
-from vga_report.streams import check_folder, to_read, writing
+from vga_report.streams import check_folder, to_read, write_file, writing
 from vga_report.trouble import Trouble
 
 from .commit import clean_commit
@@ -23,6 +24,8 @@ from .packing import pack
 
 PROGRAM = TOP / "crates" / "vga"
 MACHINE = "x86_64-linux"
+# The file beside the archive, which `sha256sum --check` reads.
+SUM = "sha256"
 
 
 def _parser() -> argparse.ArgumentParser:
@@ -48,7 +51,7 @@ def _proved_program(heard: Hearer) -> Path:
 
 
 def _release(words: argparse.Namespace, progress: Progress) -> None:
-    """Makes the archive, and tells its name."""
+    """Makes the archive and the file of its checksum, and tells their names."""
     for given in (words.program, words.archive):
         if given is not None and not os.path.isfile(given):
             raise Trouble("there is no such file", given)
@@ -63,7 +66,9 @@ def _release(words: argparse.Namespace, progress: Progress) -> None:
     path = words.folder / f"{name}.tar.gz"
     with writing(str(path)) as stream:
         pack(stream, {f"{name}/{place}": entry for place, entry in entries.items()}, commit.time)
-    print(path)
+    sums = path.with_name(f"{path.name}.{SUM}")
+    write_file(str(sums), f"{hashlib.sha256(path.read_bytes()).hexdigest()}  {path.name}\n".encode("ascii"))
+    print(path, sums, sep="\n")
 
 
 def main(words: Optional[Sequence[str]] = None) -> int:

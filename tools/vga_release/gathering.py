@@ -3,7 +3,6 @@
 from __future__ import annotations
 
 import hashlib
-import re
 import sys
 import tempfile
 from pathlib import Path
@@ -12,53 +11,75 @@ from typing import Mapping
 from vga_report import TOP
 from vga_library.making import MOVING, Place, make_library
 from vga_library.toolchain import kit_archive
+from vga_manual.making import manual_files
 from vga_report.processes import output_of
 
 from .commit import Commit, File, files_of
 from .packing import Entry
+from .pages import Pages
+from .wheel import wheel_of
 
+# The tools that need no toolchain: the command of each, and its package.
+TOOLS = tuple(f"tools/vga{mark}{name}" for name in ("floppy", "fuzz", "picture", "report", "trace") for mark in "-_")
 # What of the commit goes into a release, where it lies in the repository.
 PATHS = (
-    "LICENSE", "README.md", "bindings/python/src", "crates/vga_suite/data", "docs", "examples", "fonts", "include",
-    "page/zaklimot.html", "tools/README.md", "tools/vga-report", "tools/vga_report",
+    "CHANGELOG.md", "LICENSE", "README.md", "bindings", "crates/vga_suite/data", "docs", "examples", "fonts", "include",
+    "page/zaklimot.html", "tools/README.md", *TOOLS,
 )
-PAGE, COPY = "docs/RELEASE.md", "RELEASE.md"
+# The front page of a release is this one of its pages, and the repository's lies beside the others.
+PAGE, FRONT = "docs/RELEASE.md", "README.md"
+MOVED = {PAGE: FRONT, FRONT: f"docs/{FRONT}"}
+INSTALL = "install.sh"
+# Other names of what is built, so that the commands of all pages run in a release as they stand.
+LINKS: Mapping[str, Entry] = {
+    "crates/vga/out/vga": "../../../bin/vga",
+    "kit/include": "../include", "kit/lib": "../lib", "kit/share": "../share",
+}
 MADE_OF = "MADE-OF"
 # What this file tells of the commit, of the toolchain, and of what was built.
 HEAD = "commit {number}\ntoolchain {toolchain}\n"
 SCRIPTS = "scripts"
-# How a link within the repository begins, from a page of docs/.
-LINK = re.compile(r"\]\((?!#|https?:)(\.\./)?")
 
 
-def built_files(program: Path, archive: Path) -> dict[str, Entry]:
-    """The program, and the library as it is laid into a folder."""
-    with tempfile.TemporaryDirectory(prefix="vga-release-") as name:
-        folder = Path(name)
-        make_library(archive, kit_archive(), Place(name), MOVING)
-        entries: dict[str, Entry] = {"bin/vga": File(program.read_bytes(), True)}
-        for path in sorted(folder.rglob("*")):
-            place = str(path.relative_to(folder))
-            if path.is_symlink():
-                entries[place] = str(path.readlink())
-            elif path.is_file():
-                entries[place] = File(path.read_bytes())
+def laid_files(folder: Path) -> dict[str, Entry]:
+    """The files and the links below a folder, by their places in it."""
+    entries: dict[str, Entry] = {}
+    for path in sorted(folder.rglob("*")):
+        if path.is_symlink():
+            entries[str(path.relative_to(folder))] = str(path.readlink())
+        elif path.is_file():
+            entries[str(path.relative_to(folder))] = File(path.read_bytes())
     return entries
+
+
+def built_files(files: Mapping[str, File], program: Path, archive: Path) -> dict[str, Entry]:
+    """The program with its manual, the library as it is laid into a folder, and the wheel with that library."""
+    with tempfile.TemporaryDirectory(prefix="vga-release-") as name:
+        library, making = Path(name) / "library", Path(name) / "wheel"
+        make_library(archive, kit_archive(), Place(str(library)), MOVING)
+        making.mkdir()
+        wheel = wheel_of(files, library, making)
+        manual = {place: File(page) for place, page in manual_files(str(program)).items()}
+        own = {"bin/vga": File(program.read_bytes(), True), wheel.name: File(wheel.read_bytes())}
+        return {**own, **manual, **laid_files(library)}
 
 
 def suite_scripts() -> dict[str, Entry]:
     """The suite's scripts, each whole, as `vga-report scripts` writes them."""
     with tempfile.TemporaryDirectory(prefix="vga-release-") as name:
-        folder = Path(name) / SCRIPTS
-        output_of([sys.executable, TOP / "tools" / "vga-report", "scripts", folder])
-        files = sorted(path for path in folder.rglob("*") if path.is_file())
-        return {f"{SCRIPTS}/{path.relative_to(folder)}": File(path.read_bytes()) for path in files}
+        output_of([sys.executable, TOP / "tools" / "vga-report", "scripts", Path(name) / SCRIPTS])
+        return laid_files(Path(name))
 
 
-def moved_up(page: File) -> File:
-    """A page of docs/ with its links as they are from the top."""
-    text = LINK.sub(lambda link: "](" + ("" if link[1] else "docs/"), page.content.decode("utf-8"))
-    return File(text.encode("utf-8"))
+def settled(entries: Mapping[str, Entry]) -> dict[str, Entry]:
+    """All that is in a release, by its place there: pages lead to no more than that."""
+    pages = Pages([MOVED.get(place, place) for place in entries], MOVED)
+    done: dict[str, Entry] = {}
+    for place, entry in entries.items():
+        if place.endswith(".md") and isinstance(entry, File):
+            entry = File(pages.settled(entry.content.decode("utf-8"), place).encode("utf-8"))
+        done[MOVED.get(place, place)] = entry
+    return done
 
 
 def made_of(commit: Commit, toolchain: str, built: Mapping[str, Entry]) -> File:
@@ -74,8 +95,8 @@ def made_of(commit: Commit, toolchain: str, built: Mapping[str, Entry]) -> File:
 def release_entries(commit: Commit, program: Path, archive: Path) -> dict[str, Entry]:
     """All files of a release."""
     toolchain = output_of(["rt", "version"]).decode("ascii").strip()
-    files, built = files_of(commit, PATHS), built_files(program, archive)
-    entries: dict[str, Entry] = {**files, **suite_scripts(), **built}
-    entries[COPY] = moved_up(files[PAGE])
-    entries[MADE_OF] = made_of(commit, toolchain, built)
-    return entries
+    files = files_of(commit, PATHS)
+    built = built_files(files, program, archive)
+    install = File((Path(__file__).parent / INSTALL).read_bytes(), True)
+    entries = {**files, **suite_scripts(), **built, **LINKS, INSTALL: install}
+    return settled({**entries, MADE_OF: made_of(commit, toolchain, built)})
