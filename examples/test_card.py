@@ -18,6 +18,7 @@ sys.path.insert(0, str(TOP / "tools"))
 
 from vga_report.png import Shape, write_png  # noqa: E402
 from vga_report.streams import writing  # noqa: E402
+from vga_report.trouble import Trouble  # noqa: E402
 from zaklimot.format import Picture  # noqa: E402
 
 Colour = tuple[int, int, int]
@@ -120,8 +121,12 @@ def main(words: list[str]) -> int:
         print("usage: test_card.py 640x480|320x200 FILE", file=sys.stderr)
         return 2
     width, height = (int(number) for number in words[0].split("x"))
-    with writing(words[1]) as stream:
-        write_png(stream, drawn(width, height).picture(), Shape())
+    try:
+        with writing(words[1]) as stream:
+            write_png(stream, drawn(width, height).picture(), Shape())
+    except Trouble as trouble:
+        print(f"test_card.py: {trouble}", file=sys.stderr)
+        return 2
     return 0
 
 

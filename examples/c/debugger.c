@@ -120,7 +120,8 @@ static void obey(const char *command)
 {
     char word[8] = "";
     unsigned count = 1;
-    sscanf(command, "%7s %u", word, &count);
+    /* No script has a step that nine digits can't count, so no more of them are read. */
+    sscanf(command, "%7s %9u", word, &count);
     if (strcmp(word, "step") == 0)
         step(count);
     else if (strcmp(word, "back") == 0)

@@ -189,6 +189,12 @@ class Command(Files):
         self.assertTrue(lines[0].startswith("seed 3: 4 inputs in "))
         self.assertIn("        4 done", lines)
 
+    def test_one_input(self) -> None:
+        self.assertTrue(command.Tally().lines(1, 2)[0].startswith("seed 1: 0 inputs in "))
+        tally = command.Tally()
+        tally.count(TEXT, Fed("done"))
+        self.assertEqual(tally.lines(1, 2), ["seed 1: 1 input in 2 seconds", f"        1 {TEXT.made}", "        1 done", "0 with something wrong"])
+
     def test_inputs_are_kept_with_which_something_is_wrong(self) -> None:
         keep = self.folder / "kept"
         status, lines = self.run_command(self.program("sys.exit(3)"), "--keep", str(keep))
@@ -233,7 +239,7 @@ class Command(Files):
                 output, said = process.communicate(timeout=10)
                 break
         self.assertEqual((process.returncode, said), (130, ""))
-        self.assertRegex(output, r"(?s)^(?:input .*)?seed 1: [0-9,]+ inputs in .*[0-9]+ with something wrong\n$")
+        self.assertRegex(output, r"(?s)^(?:input .*)?seed 1: [0-9,]+ inputs? in .*[0-9]+ with something wrong\n$")
 
     def test_a_program_that_is_not_there(self) -> None:
         with contextlib.redirect_stderr(io.StringIO()):

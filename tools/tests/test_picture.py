@@ -142,6 +142,14 @@ def all_scripts() -> dict[str, tuple[bytes, bytes]]:
     return made
 
 
+class Cards(unittest.TestCase):
+    def test_a_card_that_can_not_be_written(self) -> None:
+        words = [sys.executable, EXAMPLES / "test_card.py", "320x200", "/no-such-folder/card.png"]
+        done = subprocess.run(words, capture_output=True, text=True, timeout=60)
+        told = "test_card.py: /no-such-folder/card.png: No such file or directory\n"
+        self.assertEqual((done.returncode, done.stdout, done.stderr), (2, "", told))
+
+
 class Drawing(Folder):
     """Each mode's script draws the image, dot for dot."""
 

@@ -15,6 +15,8 @@ from unittest import mock
 from vga_report.blessing import blessed_line
 from vga_report.expecting import answer_of, handed_in, is_as_expected, is_worth_telling
 from vga_report.listing import Choice, Row
+from vga_report.program import Tried, build_program
+from vga_report.progress import Progress
 from vga_report.report import Report
 from vga_report.script import expected_in
 from vga_report.trouble import Trouble
@@ -141,6 +143,14 @@ class Listings(Fake):
     def test_no_program(self) -> None:
         status, _, said = run("run", self.path, "--vga", str(self.folder / "none"))
         self.assertEqual((status, said), (2, f"vga-report: {self.folder / 'none'}: No such file or directory\n"))
+
+    def test_a_release_has_no_sources(self) -> None:
+        with mock.patch("vga_report.program.CRATE", self.folder), mock.patch("vga_report.program.PROGRAM", self.folder / "none"):
+            with self.assertRaisesRegex(Trouble, "^the program's sources in Rattle are not here"):
+                with Tried().running(Path(self.path), self.path, None, False):
+                    self.fail("there is nothing to run")
+            with self.assertRaisesRegex(Trouble, "^the program's sources in Rattle are not here"):
+                build_program(Progress())
 
     def test_a_report_that_ends_before_its_script(self) -> None:
         self.program.write_text(self.program.read_text().replace("in enumerate(numbered[:stop], 1)", "in enumerate(numbered[:2], 1)"))

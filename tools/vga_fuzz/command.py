@@ -90,7 +90,7 @@ class Tally:
         total = sum(self.made.values())
         counts = [*sorted(self.made.items()), *sorted(self.answers.items())]
         return [
-            f"seed {seed}: {total:,} inputs in {seconds:,.0f} seconds",
+            f"seed {seed}: {total:,} input{'s' * (total != 1)} in {seconds:,.0f} seconds",
             *(f"{count:9,} {name}" for name, count in counts),
             f"{self.wrong:,} with something wrong",
         ]

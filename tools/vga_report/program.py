@@ -28,6 +28,7 @@ MOST_PRINTED = 7 << 24
 CHUNK = 1 << 16
 # So much of what the program says is looked at.
 MOST_SAID = 1 << 16
+NO_SOURCES = "the program's sources in Rattle are not here: they lie in the repository, and not in a release"
 NO_PROGRAM = (
     "there is no program vga: --build proves and builds it, --vga names another, and --try runs it without its proofs"
 )
@@ -49,8 +50,11 @@ class Outcome:
         return found[0] if found else lines[-1] if lines else ""
 
 
-def found_program(named: Optional[str]) -> str:
-    """Where the program is: as it is named, or as this repository has built it, or in the path."""
+def found_program(named: Optional[str], lacking: str = NO_PROGRAM) -> str:
+    """Where the program is: as it is named, or as this repository has built it, or in the path.
+
+    Where there is none, a Trouble says how it is had.
+    """
     if named is not None:
         # A name without a folder is looked for in the path.
         return to_read(shutil.which(named) or named)
@@ -58,7 +62,7 @@ def found_program(named: Optional[str]) -> str:
         return to_read(str(PROGRAM))
     in_path = shutil.which("vga")
     if in_path is None:
-        raise Trouble(NO_PROGRAM)
+        raise Trouble(lacking)
     return to_read(in_path)
 
 
@@ -76,6 +80,13 @@ def _running(words: Sequence[str], asking: float = 0, **given: Any) -> Iterator[
         outcome.said = said.read(MOST_SAID).decode("utf-8", "replace")
 
 
+def _crate() -> Path:
+    """The folder of the program's crate; a Trouble where its sources are lacking, as in a release."""
+    if not (CRATE / "src").is_dir():
+        raise Trouble(NO_SOURCES)
+    return CRATE
+
+
 def build_program(progress: Progress) -> None:
     """Proves and builds the program where it is lacking, and tells how far that is: it may take hours at first."""
     if os.access(PROGRAM, os.X_OK):
@@ -88,7 +99,7 @@ def build_program(progress: Progress) -> None:
             progress.tell(f"{seconds // 60}:{seconds % 60:02} proving and building the program{line and ': '}{line}")
 
     try:
-        run(["rt", "run", "--", "--help"], CRATE, hear)
+        run(["rt", "run", "--", "--help"], _crate(), hear)
     finally:
         progress.clear()
 
@@ -140,7 +151,7 @@ class Tried:
         words = ["rt", "try", *files, "--", "run" if is_bytes else "go", "script", "--fonts", "fonts", *stop]
         # What it leaves when it is ended goes with this folder.
         with tempfile.TemporaryDirectory(prefix="vga-report-") as temporary:
-            with _running(words, ENDING, cwd=CRATE, env={**os.environ, "TMPDIR": temporary}) as outcome:
+            with _running(words, ENDING, cwd=_crate(), env={**os.environ, "TMPDIR": temporary}) as outcome:
                 yield outcome
         ended = outcome.said.rpartition(self.ENDED)[2].split()
         if self.ENDED not in outcome.said:
