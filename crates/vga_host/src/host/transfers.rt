@@ -1,9 +1,11 @@
 //! Bytes of the caller's that are written to addresses, or read from them, one after another; apart
 //! for speed alone. Plain writes put whole words of the planes.
-ghost use Rattle.std.specs.Prelude.{◌≡◌, ◌<◌, ◌≤◌, ◌⊎◌, ◌+◌, ◌-◌, ◌%◌, ◌^◌, ℕ, length};
+ghost use Rattle.std.specs.Prelude.{◌≡◌, ◌<◌, ◌≤◌, ◌⊎◌, ◌+◌, ◌-◌, ◌*◌, ◌/◌, ◌%◌, ◌^◌, ℕ};
+ghost use Rattle.std.specs.Prelude.{length};
 ghost use Rattle.std.specs.Prelude.{slice_index, false};
 ghost use Rattle.vga_host.specs.Fields.{is_read_compare};
 ghost use Rattle.vga_host.specs.MemoryRead.{picked_plane};
+ghost use Rattle.vga_host.specs.Address.{plane_offset};
 ghost use Rattle.vga_host.specs.Aim.{IsAim};
 ghost use Rattle.vga_host.specs.Runs.{after_puts, after_gets, byte_where, with_memory};
 ghost use Rattle.vga_host.specs.Words.{grouped as grouped_of, ArePutWithin, PutsWords};
@@ -119,9 +121,19 @@ impl Host {
     }
 
     /// Reads places of the window that follow one another, all of them decoded, where a read picks
-    /// plane `base` and one more for each unit of the place modulo `span`.
+    /// plane `base`, and one more for each step of the place modulo `span`, at the place rounded
+    /// down to a multiple of `unit`.
     #[inline(always)]
-    fn read_picked(&self, aim: Aim, base: usize, span: u16, first: u32, bytes: &mut [u8], misc: u8)
+    fn read_picked(
+        &self,
+        aim: Aim,
+        base: usize,
+        span: u16,
+        unit: u16,
+        first: u32,
+        bytes: &mut [u8],
+        misc: u8,
+    )
         requires aim { IsAim aim self.now }
         requires start { aim.start ≤ first }
         requires few { first + length bytes.old < 2 ^ 32 }
@@ -131,6 +143,8 @@ impl Host {
         requires span { 0 < span }
         requires below { base + span ≤ 4 }
         requires picked { (w : ℕ) → base + w % span ≡ picked_plane self.now w }
+        requires unit { 0 < unit }
+        requires offset { (w : ℕ) → w / unit * unit ≡ plane_offset self.now w }
         ensures bytes { (i : ℕ) → i < length bytes.old →
             slice_index bytes.new i ≡ byte_where self.now misc (first + i) }
         ensures size { length bytes.new ≡ length bytes.old }
@@ -139,12 +153,12 @@ impl Host {
         for i in 0..bytes.len() {
             let place = ((start + i as u32) % 65_536) as u16;
             let plane = base + (place % span) as usize;
-            bytes[i] = self.planes().byte(plane, aim.offset(place));
+            bytes[i] = self.planes().byte(plane, place / unit * unit);
         }
     }
 
-    /// Reads addresses that are all decoded, in read mode 0. Each way to pick a plane has a loop of
-    /// its own.
+    /// Reads addresses that are all decoded, in read mode 0. Each way to pick a plane and an offset
+    /// has a loop of its own.
     #[inline(never)]
     fn read_within(&self, aim: Aim, first: u32, bytes: &mut [u8], misc: u8)
         requires aim { IsAim aim self.now }
@@ -158,12 +172,16 @@ impl Host {
         ensures size { length bytes.new ≡ length bytes.old }
     {
         if self.is_chain_four() {
-            self.read_picked(aim, 0, 4, first, bytes, misc);
-        } else if self.is_odd_even_read() {
-            let base = 2 * self.read_map_pair() as usize;
-            self.read_picked(aim, base, 2, first, bytes, misc);
-        } else {
-            self.read_picked(aim, self.read_map_select() as usize, 1, first, bytes, misc);
+            self.read_picked(aim, 0, 4, 4, first, bytes, misc);
+            return;
+        }
+        let pair = 2 * self.read_map_pair() as usize;
+        let plane = self.read_map_select() as usize;
+        match (self.is_odd_even_read(), aim.pairs) {
+            (true, true) => self.read_picked(aim, pair, 2, 2, first, bytes, misc),
+            (true, false) => self.read_picked(aim, pair, 2, 1, first, bytes, misc),
+            (false, true) => self.read_picked(aim, plane, 1, 2, first, bytes, misc),
+            (false, false) => self.read_picked(aim, plane, 1, 1, first, bytes, misc),
         }
     }
 

@@ -1,8 +1,7 @@
-use Rattle.std.proofs.Common.{rules, arith, ◌≡◌, ◌<◌, ◌∙◌, ◌+◌, ◌-◌, ◌*◌, ◌/◌, ◌%◌, ℕ, List, ap, subst, if◌then◌else◌}
+use Rattle.std.proofs.Common.{rules, arith, ◌≡◌, ◌<◌, ◌∙◌, ◌+◌, ◌-◌, ◌*◌, ◌/◌, ◌%◌, ℕ, List, ap, subst}
 use Rattle.std.proofs.lemmas.Nat.{mod_below}
 use Rattle.vga_bits.specs.Four.{Four}
 use Rattle.vga_planes.specs.Planes.{byte_at}
-use Rattle.vga_host.specs.Address.{plane_offset}
 use Rattle.vga_host.specs.Runs.{byte_where}
 use Rattle.vga_host.proofs.RunLemmas.{byte_there, byte_set}
 use Rattle.vga_host.proofs.host.Host.read_picked.Goals as goal
@@ -13,16 +12,14 @@ loop-i-preserved c =
     let i = c.loop-i.i in
     let w = (c.args.first - c.args.aim.start + i) % 65536 in
     let k = c.args.base + w % c.args.span in
-    let o = c.offset.result in
-    let aim = c.requires.aim in
+    let o = w / c.args.unit * c.args.unit in
     let kept = c.loop-i.invariant in
     let below : w % c.args.span < c.args.span = mod_below w c.args.span c.requires.span in
     let low : k < 4 = omega (arith, below, c.requires.below) in
-    let at : o ≡ plane_offset h w = c.offset.ensures ∙ (λ j. if aim.four j then w / 4 * 4 else if aim.pairs j then w / 2 * 2 else w) in
     let byte : c.byte.result ≡ byte_at h.memory k o = c.byte.ensures ∙ ap (λ (m : Four (List ℕ)). byte_at m k o) c.planes.ensures in
     let small : byte_at h.memory k o < 256 = subst (λ v. v < 256) byte c.byte.type_inv in
     let read = byte ∙ byte_there h c.args.misc (c.args.first + i) w k o (c.requires.within.written i c.loop-i-test.true)
-    (c.requires.within.place i c.loop-i-test.true) c.requires.plain (c.requires.picked w) low at small in (
+    (c.requires.within.place i c.loop-i-test.true) c.requires.plain (c.requires.picked w) low (c.requires.offset w) small in (
       search rules,
       λ n few. byte_set c.loop-i.bytes i n c.byte.result (λ n. byte_where h c.args.misc (c.args.first + n)) (omega (arith, c.loop-i-test.true, kept.0)) few
           kept.1 read,
