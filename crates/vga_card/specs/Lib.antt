@@ -8,6 +8,7 @@ pub mod Words
 pub mod Dots
 pub mod Frames
 pub mod Clock
+pub mod Pixels
 pub mod Valid
 pub mod Bounds
 pub mod Bus
