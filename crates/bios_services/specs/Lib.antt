@@ -26,3 +26,4 @@ pub mod GlyphLoads
 pub mod Calls
 pub mod Refusals
 pub mod Service
+pub mod Blocks

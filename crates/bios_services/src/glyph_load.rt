@@ -72,7 +72,7 @@ impl GlyphLoad {
     }
 
     /// How many bytes the glyphs of a block have.
-    fn block_len(self) -> usize
+    pub(crate) fn block_len(self) -> usize
         ensures { result ≡ glyphs_len self }
     {
         self.height as usize * self.count as usize

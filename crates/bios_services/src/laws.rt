@@ -10,12 +10,20 @@ ghost use Rattle.bios_services.specs.declared.regs.Regs.{Regs};
 ghost use Rattle.bios_services.specs.Data.{AreData};
 ghost use Rattle.bios_services.specs.Plan.{run};
 ghost use Rattle.bios_services.specs.Service.{service, RefusedDoNothing};
+ghost use Rattle.bios_services.specs.Blocks.{BlocksFit, OthersAreRefused};
 
 use vga_card::Bus;
 
 /// A refused service leaves the bus, whichever it is, and the BIOS data.
 pub fn refused_services_do_nothing<B: Bus>()
     ensures { RefusedDoNothing B.meaning }
+{}
+
+/// A call is never refused for a block of as many bytes as it reads; and each that reads some is
+/// refused where its block has another length.
+pub fn blocks_fit<B: Bus>()
+    ensures fit { BlocksFit B.meaning }
+    ensures others { OthersAreRefused B.meaning }
 {}
 
 /// BIOS data are valid, with words as places of the cursor, at power-on and after every call; and

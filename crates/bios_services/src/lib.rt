@@ -2,6 +2,7 @@
 #![tactic(auto)]
 
 mod band;
+mod block;
 mod call;
 mod cell_run;
 mod cells;
@@ -31,6 +32,7 @@ mod tables;
 mod teletype;
 mod video_registers;
 
+pub use block::Block;
 pub use interrupt::int10;
 pub use regs::Regs;
 pub use reply::{Reply, ServiceError, Table};
