@@ -7,6 +7,9 @@ use Rattle.vga_card.specs.declared.shape.Shape.{Shape}
 use Rattle.vga_run.specs.Answer.{Reply, Picture, of_drawn, of_frame, of_shape}
 use Rattle.vga_c.specs.declared.frames.Size.{Size}
 use Rattle.vga_c.specs.Frames.{HasBytes, HasWords}
+use Rattle.vga_c.specs.Forms.{HasForm}
+use Rattle.vga_c.specs.declared.forms.Form.{Form}
+use Rattle.vga_c.specs.declared.forms.WordPicture.{WordPicture}
 
 -- what is said of the answer of a lent picture is said of that of its dots
 of_dots : (P : Reply → Type 0) (dots : List Dot) (lent : Drawn) → IsPictureOf dots lent → P (of_drawn lent) → P (of_frame dots)
@@ -24,3 +27,9 @@ pub words_of_frame : (dots : List Dot) (lent : Drawn) (pitch : ℕ) (size_old si
     HasWords (of_drawn lent) pitch size_old size old new status → HasWords (of_frame dots) pitch size_old size old new status
 words_of_frame dots lent pitch size_old size old new status is told =
     of_dots (λ (reply : Reply). HasWords reply pitch size_old size old new status) dots lent is told
+
+pub form_of_frame : (dots : List Dot) (lent : Drawn) (form : Form) (pitch : ℕ) (told_old told : WordPicture) (old new : List ℕ) (status : ℕ) →
+    IsPictureOf dots lent → HasForm form (of_drawn lent) pitch told_old told old new status →
+    HasForm form (of_frame dots) pitch told_old told old new status
+form_of_frame dots lent form pitch told_old told old new status is has =
+    of_dots (λ (reply : Reply). HasForm form reply pitch told_old told old new status) dots lent is has

@@ -1,8 +1,11 @@
--- The rows of a picture, each written behind the one before.
-use Rattle.std.proofs.Common.{◌≡◌, ◌+◌, ◌*◌, ◌<◌, ◌≤◌, ◌⊎◌, inl, inr, ◌∙◌, ℕ, List, length, sym, subst, arith, eq-or-lt_of_le}
+-- The rows of a picture, each written behind the one before, in any form.
+use Rattle.std.proofs.Common.{◌≡◌, ◌+◌, ◌-◌, ◌*◌, ◌<◌, ◌≤◌, ◌⊎◌, inl, inr, ◌∙◌, ℕ, List, length, sym, ap, subst, arith, eq-or-lt_of_le}
+use Rattle.std.proofs.Math.Nat.{mul-div-le}
 use Rattle.std.proofs.lemmas.Nat.{mul-add-lt}
 use Rattle.std.specs.Prelude.{slice_index}
-use Rattle.vga_c.specs.Frames.{IsWordPicture, dot_word}
+use Rattle.std.specs.Int.Bits.{or_zero_l}
+use Rattle.vga_c.specs.Forms.{AreRows, IsForm, every, form_word, dot_word}
+use Rattle.vga_c.specs.declared.forms.Form.{Form}
 
 -- a place of an earlier row is before the row
 before_row : (p x y z : ℕ) → x < p → z < y → p * z + x < p * y
@@ -12,14 +15,14 @@ before_row p x y z within earlier = omega (arith, mul-add-lt z p x y earlier wit
 row_or_earlier : (y z : ℕ) → z < y + 1 → (z ≡ y) ⊎ (z < y)
 row_or_earlier y z within = eq-or-lt_of_le (omega (arith, within))
 
-module _ (w y p : ℕ) (bytes old mid new : List ℕ) (fits : w ≤ p) (so_far : IsWordPicture w y p bytes old mid)
-    (dots : (x : ℕ) → x < w → slice_index new (p * y + x) ≡ dot_word bytes (w * y + x))
+module _ (w y p : ℕ) (word : ℕ → ℕ → ℕ) (old mid new : List ℕ) (fits : w ≤ p) (so_far : AreRows w y p word old mid)
+    (words : (x : ℕ) → x < w → slice_index new (p * y + x) ≡ word x y)
     (before : (i : ℕ) → i < p * y → slice_index new i ≡ slice_index mid i)
     (behind : (i : ℕ) → p * y + w ≤ i → slice_index new i ≡ slice_index mid i) where
-  dot_of : (x z : ℕ) → x < w → (z ≡ y) ⊎ (z < y) → slice_index new (p * z + x) ≡ dot_word bytes (w * z + x)
-  dot_of x z within (inl is) = subst (λ (r : ℕ). slice_index new (p * r + x) ≡ dot_word bytes (w * r + x)) (sym is) (dots x within)
-  dot_of x z within (inr earlier) =
-      before (p * z + x) (before_row p x y z (omega (arith, within, fits)) earlier) ∙ so_far.dots x z within earlier
+  word_of : (x z : ℕ) → x < w → (z ≡ y) ⊎ (z < y) → slice_index new (p * z + x) ≡ word x z
+  word_of x z within (inl is) = subst (λ (r : ℕ). slice_index new (p * r + x) ≡ word x r) (sym is) (words x within)
+  word_of x z within (inr earlier) =
+      before (p * z + x) (before_row p x y z (omega (arith, within, fits)) earlier) ∙ so_far.words x z within earlier
 
   beside_of : (x z : ℕ) → w ≤ x → x < p → (z ≡ y) ⊎ (z < y) → slice_index new (p * z + x) ≡ slice_index old (p * z + x)
   beside_of x z past within (inl is) =
@@ -29,10 +32,54 @@ module _ (w y p : ℕ) (bytes old mid new : List ℕ) (fits : w ≤ p) (so_far :
       before (p * z + x) (before_row p x y z within earlier) ∙ so_far.beside x z past within earlier
 
   -- with one row more, what is written is the picture with one row more
-  pub next_row : length new ≡ length mid → IsWordPicture w (y + 1) p bytes old new
+  pub next_row : length new ≡ length mid → AreRows w (y + 1) p word old new
   next_row size = record {
-    dots = λ x z a b. dot_of x z a (row_or_earlier y z b);
+    words = λ x z a b. word_of x z a (row_or_earlier y z b);
     beside = λ x z a b c. beside_of x z a b (row_or_earlier y z c);
     behind = λ i a. behind i (omega (arith, a, fits)) ∙ so_far.behind i (omega (arith, a));
     size = size ∙ so_far.size;
   }
+
+-- ---- every so many dots of every so many lines
+
+-- the dot that is taken is one of those that there are
+pub every_below : (m n i : ℕ) → 0 < m → i < every m n → m * i < n
+every_below m n i some within =
+    omega (arith, mul-add-lt i m (m - 1) (every m n) within (omega (arith, some)), mul-div-le (n + (m - 1)) m)
+
+-- the three bytes of a dot that is taken are bytes of the picture
+pub dot_within : (width height : ℕ) (form : Form) → IsForm form → (x y : ℕ) → x < every form.across width → y < every form.down height →
+    3 * (width * (form.down * y) + form.across * x) + 2 < 3 * (width * height)
+dot_within width height form is x y a b =
+    omega (
+      arith,
+      mul-add-lt (form.down * y) width (form.across * x) height (every_below form.down height y is.some_down b)
+          (every_below form.across width x is.some_across a),
+    )
+
+-- ---- each dot of each line
+
+every_one : (n : ℕ) → every 1 n ≡ n
+every_one n = omega arith
+
+abbrev plain : Form
+plain = record { across = 1; down = 1; above = 0 }
+
+plain_word : (w : ℕ) (bytes : List ℕ) (x y : ℕ) → form_word plain w bytes x y ≡ dot_word bytes (w * y + x)
+plain_word w bytes x y = or_zero_l (dot_word bytes (w * (1 * y) + 1 * x)) ∙ ap (dot_word bytes) (ap (λ z. w * z + 1 * x) one ∙ omega arith)
+  where
+    one : 1 * y ≡ y
+    one = omega arith
+
+pub plain_rows : (w h p : ℕ) (bytes old new : List ℕ) → AreRows (every 1 w) (every 1 h) p (form_word plain w bytes) old new →
+    AreRows w h p (λ x y. dot_word bytes (w * y + x)) old new
+plain_rows w h p bytes old new rows =
+    let sized : AreRows w h p (form_word plain w bytes) old new =
+    subst (λ n. AreRows n h p (form_word plain w bytes) old new) (every_one w)
+    (subst (λ n. AreRows (every 1 w) n p (form_word plain w bytes) old new) (every_one h) rows) in
+    record {
+      words = λ x y a b. sized.words x y a b ∙ plain_word w bytes x y;
+      beside = sized.beside;
+      behind = sized.behind;
+      size = sized.size;
+    }

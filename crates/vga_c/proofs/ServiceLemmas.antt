@@ -1,5 +1,5 @@
 -- What was told of an outcome is the answer of the step that calls the service.
-use Rattle.std.proofs.Common.{◌≡◌, true, inl, inr, ℕ, List, refl, sym, subst, Result, Ok, Err}
+use Rattle.std.proofs.Common.{◌≡◌, ◌∙◌, length, true, inl, inr, ℕ, List, refl, sym, subst, Result, Ok, Err}
 use Rattle.vga_card.specs.Card.{CardState}
 use Rattle.vga_card.specs.Bus.{card_meaning}
 use Rattle.bios_modes.specs.Bda.{BiosData}
@@ -10,9 +10,16 @@ use Rattle.bios_services.specs.declared.reply.Reply.{Reply}
 use Rattle.bios_services.specs.declared.reply.ServiceError.{ServiceError}
 use Rattle.bios_services.specs.declared.reply.ServiceError.TheVariants.{Refused, OutOfMemory}
 use Rattle.vga_run.specs.declared.machine.Machine.{Machine}
-use Rattle.vga_run.specs.Answer.{of_service}
+use Rattle.vga_run.specs.declared.answer.Answer.TheVariants as answer
+use Rattle.vga_run.specs.Answer.{Plain, of_service}
 use Rattle.vga_run.specs.Step.{after_step, answer_to, called}
+use Rattle.vga_c.specs.Blocks.{IsEnough, regs_of as named_regs}
 use Rattle.vga_c.specs.Services.{HasAnswer, HasOutcome, IsCalled, Told, call_step}
+use Rattle.vga_c.specs.declared.services.CallRegisters.{CallRegisters}
+use Rattle.vga_bits.specs.declared.refusal.Refusal.{Refusal}
+use Rattle.vga_bits.specs.declared.refusal.Refusal.TheVariants.{BadBlock}
+use Rattle.bios_services.specs.Plan.{run}
+use Rattle.bios_services.specs.Blocks.{BlocksFit, block_len}
 
 abbrev with : Machine → CardState → BiosData → Machine
 with m c d = record m { card = c; bda = d }
@@ -33,3 +40,13 @@ told_service m c d block before after status (Ok reply) e takes told = inr (subs
 told_service m c d block before after status (Err (Refused why)) e takes told = inr (subst (Known m c d before after status) e (refl, told))
 told_service m c d block before after status (Err OutOfMemory) e takes told =
     inl (told.0, (takes refl, (told.1, subst (λ (x : CardState). with m x d ≡ m) (sym e.0) (subst (λ (x : BiosData). with m m.card x ≡ m) (sym e.1) refl))))
+
+-- with a block of as many bytes as it reads no call is refused for it
+pub enough : BlocksFit card_meaning → (m : Machine) (r : CallRegisters) (len : ℕ) → len ≡ block_len (call_of (named_regs r)) → IsEnough m r len
+unfolding called answer_to
+enough fits m r len is block same refused =
+    fits m.fonts m.bda (named_regs r) block m.card (same ∙ is) (of_refused (run card_meaning (service m.fonts m.bda (named_regs r) block) m.card).1.0 refused)
+  where
+    of_refused : (x : Result Reply Refusal) → of_service x ≡ Plain (answer.Refused BadBlock) → x ≡ Err BadBlock
+    of_refused (Ok reply) e = absurd (cc)
+    of_refused (Err why) e = cc

@@ -10,6 +10,7 @@ use Rattle.vga_run.specs.Answer.{Reply, Picture, Ragged}
 use Rattle.vga_run.specs.Step.{after_step, answer_to}
 use Rattle.vga_c.specs.declared.frames.Size.{Size}
 use Rattle.vga_c.specs.Handle.{HandleState, machine_of}
+use Rattle.vga_c.specs.Forms.{AreInRows, dot_word}
 use Rattle.vga_c.specs.Buffers.{IsCopied, room_status, with_front}
 use Rattle.vga_c.specs.Cards.{Holds}
 use Rattle.vga_c.specs.Status.{no_room, ragged}
@@ -41,42 +42,12 @@ DrawsBytes card size_old size old new status = card.is_open ≡ true →
 
 -- ---- a word a dot
 
--- eight bits of a component of six: its two highest bits stand again below it
-abbrev pub eight_bits : ℕ → ℕ
-eight_bits six = 4 * six + six / 16
-
--- the word 00RRGGBB of dot i of a picture
-abbrev pub dot_word : List ℕ → ℕ → ℕ
-dot_word bytes i = 0x1_0000 * eight_bits (slice_index bytes (3 * i))
-    + (0x100 * eight_bits (slice_index bytes (3 * i + 1))
-    + eight_bits (slice_index bytes (3 * i + 2)))
-
--- The words of a picture, of which row y begins at pitch * y, each word for its dot; what stands
--- beside the picture and behind it stays.
-pub record IsWordPicture (width height pitch : ℕ) (bytes old new : List ℕ) : Type 0 where
-  pub dots : (x y : ℕ) → x < width → y < height →
-      slice_index new (pitch * y + x) ≡ dot_word bytes (width * y + x)
-  pub beside : (x y : ℕ) → width ≤ x → x < pitch → y < height →
-      slice_index new (pitch * y + x) ≡ slice_index old (pitch * y + x)
-  pub behind : (i : ℕ) → pitch * height ≤ i → slice_index new i ≡ slice_index old i
-  pub size : length new ≡ length old
-
--- whether a buffer of so many words has room for the rows at their pitch
-abbrev pub has_room : ℕ → ℕ → ℕ → ℕ → Bool
-has_room width height pitch len = nat_le width pitch && nat_le (pitch * height) len
-
--- the words are there, where they have room
-abbrev pub IsInWords : ℕ → ℕ → ℕ → List ℕ → List ℕ → List ℕ → ℕ → Type 0
-IsInWords width height pitch bytes old new status =
-    (has_room width height pitch (length old) ≡ true →
-    IsWordPicture width height pitch bytes old new × (status ≡ 0))
-    × (has_room width height pitch (length old) ≡ false → (new ≡ old) × (status ≡ no_room))
-
 -- the caller has size and words of a picture, or only its size where there was no room; or it is
 -- told that rows differ in width, and has what it had
 abbrev pub HasWords : Reply → ℕ → Size → Size → List ℕ → List ℕ → ℕ → Type 0
 HasWords (Picture width height bytes) pitch size_old size old new status =
-    (size ≡ size_of width height) × IsInWords width height pitch bytes old new status
+    (size ≡ size_of width height) × AreInRows width height pitch
+    (λ x y. dot_word bytes (width * y + x)) old new status
 HasWords Ragged pitch size_old size old new status =
     (size ≡ size_old) × ((new ≡ old) × (status ≡ ragged))
 HasWords reply pitch size_old size old new status = ⊥

@@ -5,6 +5,8 @@ pub mod Cards
 pub mod Buffers
 pub mod Opening
 pub mod Services
+pub mod Blocks
+pub mod Forms
 pub mod Frames
 pub mod Dumps
 pub mod State

@@ -10,15 +10,21 @@ ghost use Rattle.vga_card.specs.Picture.{bytes_of};
 ghost use Rattle.vga_c.specs.Buffers.{IsCopied};
 ghost use Rattle.vga_c.specs.Frames.{CopiesDots, CountsLines, frame_dots};
 ghost use Rattle.vga_c.specs.Frames.{DrawsBytes, DrawsWords, EndsFrame, HasBytes, HasWords};
-ghost use Rattle.vga_c.specs.Frames.{IsWordPicture, dot_word as dot_word_of};
-ghost use Rattle.vga_c.specs.Frames.{eight_bits as eight_bits_of, has_room as has_room_of};
 
 use crate::buffer::{copy_front, write_front};
+use crate::forms::{Form, has_room, write_rows};
 use crate::handle::{Handle, on_open_card};
 use crate::status::{DONE, NO_ROOM, RAGGED};
 use std::alloc::Global;
 use vga_card::Drawn;
 use vga_run::machine::Machine;
+
+/// Each dot of each line, and nothing above its colour.
+const PLAIN: Form = Form {
+    across: 1,
+    down: 1,
+    above: 0,
+};
 
 /// How large a picture is, in dots.
 #[repr(C)]
@@ -69,65 +75,8 @@ pub extern "C" fn zak_frame(
     on_open_card!(alloc, card, machine => frame(machine, size, rgb))
 }
 
-/// Eight bits of a component of six.
-fn eight_bits(six: u8) -> u32
-    ensures { result ≡ eight_bits_of six }
-{
-    4 * six as u32 + six as u32 / 16
-}
-
-/// The word of dot i of a picture.
-fn dot_word(bytes: &[u8], i: usize) -> u32
-    requires { 3 * i + 2 < length bytes.now }
-    ensures { result ≡ dot_word_of bytes.now i }
-{
-    let red = eight_bits(bytes[3 * i]);
-    let green = eight_bits(bytes[3 * i + 1]);
-    let blue = eight_bits(bytes[3 * i + 2]);
-    0x1_0000 * red + (0x100 * green + blue)
-}
-
-/// Writes the words of so many dots of a picture, from dot `first` on, to the caller's, from `at`
-/// on.
-fn write_row(bytes: &[u8], first: usize, width: usize, pixels: &mut [u32], at: usize)
-    requires dots { 3 * (first + width) ≤ length bytes.now }
-    requires room { at + width ≤ length pixels.old }
-    ensures dots { (x : ℕ) → x < width →
-        slice_index pixels.new (at + x) ≡ dot_word_of bytes.now (first + x) }
-    ensures before { (i : ℕ) → i < at → slice_index pixels.new i ≡ slice_index pixels.old i }
-    ensures behind { (i : ℕ) → at + width ≤ i → slice_index pixels.new i ≡ slice_index pixels.old
-        i }
-    ensures size { length pixels.new ≡ length pixels.old }
-{
-    for x in 0..width {
-        pixels[at + x] = dot_word(bytes, first + x);
-    }
-}
-
-/// Writes the words of a picture to the caller's, of which each row begins so many behind the one
-/// before.
-fn write_rows(bytes: &[u8], width: usize, height: usize, pixels: &mut [u32], pitch: usize)
-    requires dots { length bytes.now ≡ 3 * (width * height) }
-    requires width { width ≤ pitch }
-    requires room { pitch * height ≤ length pixels.old }
-    ensures { IsWordPicture width height pitch bytes.now pixels.old pixels.new }
-{
-    for y in 0..height {
-        write_row(bytes, width * y, width, pixels, pitch * y);
-    }
-}
-
-/// Whether so many words have room for the rows of a picture at their pitch.
-fn has_room(width: usize, height: usize, pitch: usize, len: usize) -> bool
-    ensures { result ≡ has_room_of width height pitch len }
-{
-    match pitch.checked_mul(height) {
-        Some(words) => width <= pitch && words <= len,
-        None => false,
-    }
-}
-
 /// Gives the caller a picture as a word of each dot.
+#[tactic(auto, using(crate::proofs::RowLemmas::plain_rows))]
 fn tell_words(drawn: Drawn<'_>, size: &mut Size, pixels: &mut [u32], pitch: usize) -> u32
     requires { IsSmall drawn }
     ensures { HasWords (of_drawn drawn.entry) pitch size.old size.new pixels.old pixels.new result }
@@ -138,7 +87,7 @@ fn tell_words(drawn: Drawn<'_>, size: &mut Size, pixels: &mut [u32], pitch: usiz
             if !has_room(width as usize, height as usize, pitch, pixels.len()) {
                 return NO_ROOM;
             }
-            write_rows(bytes, width as usize, height as usize, pixels, pitch);
+            write_rows(bytes, width, height, PLAIN, pixels, pitch);
             DONE
         }
         Drawn::Ragged => RAGGED,

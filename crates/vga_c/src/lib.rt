@@ -7,10 +7,12 @@
 //! open changes nothing, and says so.
 #![tactic(auto)]
 
+mod blocks;
 mod buffer;
 mod clock;
 mod cycles;
 mod dumps;
+mod forms;
 mod frames;
 mod handle;
 mod opening;

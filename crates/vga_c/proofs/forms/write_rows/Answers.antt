@@ -1,9 +1,24 @@
-use Rattle.vga_c.proofs.RowLemmas.{next_row}
-use Rattle.vga_c.proofs.frames.write_rows.Goals as goal
+use Rattle.std.proofs.Common.{ℕ, ◌+◌, ◌*◌, ◌<◌, ◌≤◌, subst, sym}
+use Rattle.vga_c.specs.Forms.{every, form_word}
+use Rattle.vga_c.proofs.RowLemmas.{dot_within, next_row}
+use Rattle.vga_c.proofs.forms.write_rows.Goals as goal
+
+-- the three bytes of each dot are there
+pub write_row-requires-clause-dots : goal.write_row-requires-clause-dots
+write_row-requires-clause-dots c x within =
+    let f = c.args.form in
+    let y = c.loop-y.y in
+    let column : x < every f.across c.args.width = subst (λ n. x < n) c.every-count.ensures within in
+    let row : y < every f.down c.args.height = subst (λ n. y < n) c.every-y-end.ensures c.loop-y-test.true in
+    subst (λ n. 3 * (c.args.width * (f.down * y) + f.across * x) + 2 < n) (sym c.requires.dots)
+    (dot_within c.args.width c.args.height f c.requires.form x y column row)
 
 -- one row more
 pub loop-y-preserved : goal.loop-y-preserved
 loop-y-preserved c =
     let done = c.write_row.ensures in
-    next_row c.args.width c.loop-y.y c.args.pitch c.args.bytes.now c.args.pixels.now c.loop-y.pixels c.write_row.new.pixels c.requires.width c.loop-y.invariant
-    done.dots done.before done.behind done.size
+    let w = every c.args.form.across c.args.width in
+    let same = c.every-count.ensures in
+    next_row w c.loop-y.y c.args.pitch (form_word c.args.form c.args.width c.args.bytes.now) c.args.pixels.now c.loop-y.pixels c.write_row.new.pixels
+    c.requires.pitch c.loop-y.invariant (λ x within. done.words x (subst (λ n. x < n) (sym same) within)) done.before
+    (λ i past. done.behind i (subst (λ n. c.args.pitch * c.loop-y.y + n ≤ i) (sym same) past)) done.size

@@ -1,0 +1,114 @@
+-- A picture as words in rows, in the form that the caller asks for.
+use Rattle.std.specs.Prelude.{◌≡◌, ◌+◌, ◌-◌, ◌*◌, ◌/◌, ◌%◌, ◌==◌, ◌<◌, ◌≤◌, ◌&&◌, ℕ, true, false}
+use Rattle.std.specs.Prelude.{nat_le, Bool, if◌then◌else◌, List, length, slice_index, bit_or}
+use Rattle.vga_card.specs.Card.{CardState}
+use Rattle.vga_card.specs.Pixels.{pixel_height, pixel_width}
+use Rattle.vga_script.specs.declared.step.Step.TheVariants.{Frame}
+use Rattle.vga_run.specs.declared.machine.Machine.{Machine}
+use Rattle.vga_run.specs.Answer.{Reply, Picture, Ragged}
+use Rattle.vga_run.specs.Step.{after_step, answer_to}
+use Rattle.vga_c.specs.declared.forms.Form.{Form}
+use Rattle.vga_c.specs.declared.forms.WordPicture.{WordPicture}
+use Rattle.vga_c.specs.Handle.{HandleState, machine_of}
+use Rattle.vga_c.specs.Status.{bad_argument, no_room, ragged}
+
+-- eight bits of a component of six: its two highest bits stand again below it
+abbrev pub eight_bits : ℕ → ℕ
+eight_bits six = 4 * six + six / 16
+
+-- the word 00RRGGBB of dot i of a picture
+abbrev pub dot_word : List ℕ → ℕ → ℕ
+dot_word bytes i = 0x1_0000 * eight_bits (slice_index bytes (3 * i))
+    + (0x100 * eight_bits (slice_index bytes (3 * i + 1))
+    + eight_bits (slice_index bytes (3 * i + 2)))
+
+-- Words in rows, of which row y begins at pitch * y: word x of row y is `word x y`; what stands
+-- beside the rows and behind them stays.
+pub record AreRows (width height pitch : ℕ) (word : ℕ → ℕ → ℕ) (old new : List ℕ) : Type 0 where
+  pub words : (x y : ℕ) → x < width → y < height → slice_index new (pitch * y + x) ≡ word x y
+  pub beside : (x y : ℕ) → width ≤ x → x < pitch → y < height →
+      slice_index new (pitch * y + x) ≡ slice_index old (pitch * y + x)
+  pub behind : (i : ℕ) → pitch * height ≤ i → slice_index new i ≡ slice_index old i
+  pub size : length new ≡ length old
+
+-- whether a buffer of so many words has room for the rows at their pitch
+abbrev pub has_room : ℕ → ℕ → ℕ → ℕ → Bool
+has_room width height pitch len = nat_le width pitch && nat_le (pitch * height) len
+
+-- the words are there, where they have room
+abbrev pub AreInRows : ℕ → ℕ → ℕ → (ℕ → ℕ → ℕ) → List ℕ → List ℕ → ℕ → Type 0
+AreInRows width height pitch word old new status =
+    (has_room width height pitch (length old) ≡ true →
+    AreRows width height pitch word old new × (status ≡ 0))
+    × (has_room width height pitch (length old) ≡ false → (new ≡ old) × (status ≡ no_room))
+
+-- ---- forms
+
+-- how many of n there are where every m-th is taken, from the first on
+abbrev pub every : ℕ → ℕ → ℕ
+every m n = (n + (m - 1)) / m
+
+-- whether flags ask for words without a transparent byte, and for dots and lines once
+abbrev pub is_opaque : ℕ → Bool
+is_opaque flags = flags % 2 == 1
+
+abbrev pub is_once : ℕ → Bool
+is_once flags = flags / 2 % 2 == 1
+
+-- the form that flags ask for
+abbrev pub form_of : ℕ → CardState → Form
+form_of flags c = record {
+  across = if is_once flags then pixel_width c else 1;
+  down = if is_once flags then pixel_height c else 1;
+  above = if is_opaque flags then 0xFF00_0000 else 0;
+}
+
+-- a form that flags can ask for
+pub record IsForm (form : Form) : Type 0 where
+  pub some_across : 0 < form.across
+  pub across : form.across ≤ 2
+  pub some_down : 0 < form.down
+  pub down : form.down ≤ 64
+
+-- ---- the words of a picture
+
+-- word x of row y of a picture of so many dots a line
+abbrev pub form_word : Form → ℕ → List ℕ → ℕ → ℕ → ℕ
+form_word form width bytes x y =
+    bit_or form.above (dot_word bytes (width * (form.down * y) + form.across * x))
+
+-- what the caller is told of a picture in a form: words in a row, rows, and what each stands for
+abbrev pub picture_of : Form → ℕ → ℕ → WordPicture
+picture_of form width height = record {
+  width = every form.across width;
+  height = every form.down height;
+  across = form.across;
+  down = form.down;
+}
+
+-- the caller has a picture in this form, or only what is told of it where there was no room; or it
+-- is told that rows differ in width, and has what it had
+abbrev pub HasForm : Form → Reply → ℕ → WordPicture → WordPicture → List ℕ → List ℕ → ℕ → Type 0
+HasForm form (Picture width height bytes) pitch told_old told old new status =
+    (told ≡ picture_of form width height) × AreInRows (every form.across width)
+    (every form.down height) pitch (form_word form width bytes) old new status
+HasForm form Ragged pitch told_old told old new status =
+    (told ≡ told_old) × ((new ≡ old) × (status ≡ ragged))
+HasForm form reply pitch told_old told old new status = ⊥
+
+-- flags that there are: an open card comes to the end of the frame under way, whose picture the
+-- caller has in their form; with others it has what it had, and the card stays
+abbrev pub DrawsForm : ℕ → Machine → Machine → ℕ → WordPicture → WordPicture → List ℕ → List ℕ →
+    ℕ → Type 0
+DrawsForm flags old_machine new_machine pitch told_old told old new status =
+    (flags < 4 → (new_machine ≡ after_step old_machine Frame) × HasForm (form_of flags
+    old_machine.card) (answer_to old_machine Frame) pitch told_old told old new status)
+    × (4 ≤ flags → (new_machine ≡ old_machine) × ((told ≡ told_old) × ((new ≡ old)
+    × (status ≡ bad_argument))))
+
+-- that is so of an open card
+abbrev pub DrawsFormOf : ℕ → HandleState → HandleState → ℕ → WordPicture → WordPicture → List ℕ →
+    List ℕ → ℕ → Type 0
+DrawsFormOf flags card_old card pitch told_old told old new status = card_old.is_open ≡ true →
+    (card.is_open ≡ true) × DrawsForm flags (machine_of card_old) (machine_of card) pitch told_old
+    told old new status

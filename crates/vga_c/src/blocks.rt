@@ -1,0 +1,57 @@
+//! What a call of interrupt 10 reads of the caller's memory.
+ghost use Rattle.std.specs.Prelude.{◌≡◌};
+ghost use Rattle.vga_c.specs.Blocks.{IsBlock, IsEnough, TellsBlock};
+ghost use Rattle.vga_c.specs.Cards.{Keeps, LeavesClosed, Spares};
+
+use crate::handle::{Handle, on_open_card};
+use crate::services::CallRegisters;
+use crate::status::DONE;
+use bios_services::laws::blocks_fit;
+use bios_services::{Block, Regs};
+use std::alloc::Global;
+use vga_card::Card;
+use vga_run::machine::Machine;
+
+/// The bytes that a call of interrupt 10 reads of the caller's memory: how many, and whether they
+/// lie at ES:DX. Else they lie at ES:BP.
+#[repr(C)]
+#[derive(Clone, Copy)]
+pub struct BlockPlace {
+    pub len: usize,
+    pub is_at_dx: bool,
+}
+
+/// What a call with these registers reads, which is never refused for a block of so many bytes.
+fn block_of(machine: &Machine, registers: &CallRegisters) -> BlockPlace
+    ensures block { IsBlock registers.now result }
+    ensures enough { IsEnough machine.now registers.now result.len }
+{
+    blocks_fit::<Card>();
+    let Block { len, is_at_dx } = Block::of(Regs {
+        ax: registers.ax,
+        bx: registers.bx,
+        cx: registers.cx,
+        dx: registers.dx,
+    });
+    BlockPlace { len, is_at_dx }
+}
+
+/// Tells how many bytes a call of interrupt 10 with these registers reads of the caller's memory,
+/// and where.
+#[unsafe(no_mangle)]
+pub extern "C" fn zak_block(
+    alloc: Global,
+    card: &mut Handle,
+    registers: &CallRegisters,
+    block: &mut BlockPlace,
+) -> u32
+    ensures card { Keeps card.old card.new }
+    ensures block { TellsBlock card.old registers.now block.new result }
+    ensures closed { LeavesClosed card.old card.new result }
+    ensures spared { Spares card.old block.old block.new }
+{
+    on_open_card!(alloc, card, machine => {
+        *block = block_of(machine, registers);
+        DONE
+    })
+}

@@ -1,0 +1,221 @@
+//! Pictures as words in rows, in the form that the caller asks for.
+ghost use Rattle.std.specs.Prelude.{◌≡◌, ◌+◌, ◌*◌, ◌<◌, ◌≤◌, ℕ, length, slice_index, bit_or};
+ghost use Rattle.vga_card.specs.Frames.{IsSmall};
+ghost use Rattle.vga_card.specs.Picture.{widest, highest};
+ghost use Rattle.vga_run.specs.Answer.{of_drawn};
+ghost use Rattle.vga_run.specs.Step.{after_step, answer_to};
+ghost use Rattle.vga_script.specs.declared.step.Step.TheVariants.{Frame};
+ghost use Rattle.vga_c.specs.Cards.{LeavesClosed, Spares};
+ghost use Rattle.vga_c.specs.Forms.{AreRows, IsForm, every as every_of};
+ghost use Rattle.vga_c.specs.Forms.{dot_word as dot_word_of, eight_bits as eight_bits_of};
+ghost use Rattle.vga_c.specs.Forms.{form_of as form_of_flags, form_word, DrawsForm, DrawsFormOf};
+ghost use Rattle.vga_c.specs.Forms.{HasForm, has_room as has_room_of};
+
+use crate::handle::{Handle, on_open_card};
+use crate::status::{BAD_ARGUMENT, DONE, NO_ROOM, RAGGED};
+use std::alloc::Global;
+use vga_card::{Card, Drawn, PixelSize};
+use vga_run::machine::Machine;
+
+/// A picture as it is given: so many words in a row, and rows; and how many dots and scan lines of
+/// the screen each word stands for.
+#[repr(C)]
+#[derive(Clone, Copy)]
+pub struct WordPicture {
+    pub width: u32,
+    pub height: u32,
+    pub across: u32,
+    pub down: u32,
+}
+
+/// How a picture is given: every so many dots of every so many lines, and what each word has above
+/// its colour.
+#[derive(Clone, Copy)]
+pub struct Form {
+    pub across: u32,
+    pub down: u32,
+    pub above: u32,
+}
+
+/// Eight bits of a component of six.
+fn eight_bits(six: u8) -> u32
+    ensures { result ≡ eight_bits_of six }
+{
+    4 * six as u32 + six as u32 / 16
+}
+
+/// The word of dot i of a picture.
+fn dot_word(bytes: &[u8], i: usize) -> u32
+    requires { 3 * i + 2 < length bytes.now }
+    ensures { result ≡ dot_word_of bytes.now i }
+{
+    let red = eight_bits(bytes[3 * i]);
+    let green = eight_bits(bytes[3 * i + 1]);
+    let blue = eight_bits(bytes[3 * i + 2]);
+    0x1_0000 * red + (0x100 * green + blue)
+}
+
+/// Writes a word of every so many dots of a picture, from dot `first` on, to the caller's, from
+/// `at` on.
+#[inline(always)]
+fn write_row(bytes: &[u8], first: usize, form: Form, count: usize, pixels: &mut [u32], at: usize)
+    requires dots { (x : ℕ) → x < count → 3 * (first + form.across * x) + 2 < length bytes.now }
+    requires room { at + count ≤ length pixels.old }
+    ensures words { (x : ℕ) → x < count → slice_index pixels.new (at + x)
+        ≡ bit_or form.above (dot_word_of bytes.now (first + form.across * x)) }
+    ensures before { (i : ℕ) → i < at → slice_index pixels.new i ≡ slice_index pixels.old i }
+    ensures behind { (i : ℕ) → at + count ≤ i → slice_index pixels.new i ≡ slice_index pixels.old
+        i }
+    ensures size { length pixels.new ≡ length pixels.old }
+{
+    for x in 0..count {
+        pixels[at + x] = form.above | dot_word(bytes, first + form.across as usize * x);
+    }
+}
+
+/// How many of n there are where every m-th is taken, from the first on.
+fn every(m: u32, n: u32) -> u32
+    requires some { 0 < m }
+    requires few { n + m ≤ 0x1_0000_0000 }
+    ensures { result ≡ every_of m n }
+{
+    (n + (m - 1)) / m
+}
+
+/// Whether so many words have room for rows at their pitch.
+pub(crate) fn has_room(width: usize, height: usize, pitch: usize, len: usize) -> bool
+    ensures { result ≡ has_room_of width height pitch len }
+{
+    match pitch.checked_mul(height) {
+        Some(words) => width <= pitch && words <= len,
+        None => false,
+    }
+}
+
+/// Writes the words of a picture in a form to the caller's, of which each row begins so many behind
+/// the one before.
+#[inline(always)]
+pub(crate) fn write_rows(
+    bytes: &[u8],
+    width: u32,
+    height: u32,
+    form: Form,
+    pixels: &mut [u32],
+    pitch: usize,
+)
+    requires form { IsForm form }
+    requires width { width ≤ widest }
+    requires height { height ≤ highest }
+    requires dots { length bytes.now ≡ 3 * (width * height) }
+    requires pitch { every_of form.across width ≤ pitch }
+    requires room { pitch * every_of form.down height ≤ length pixels.old }
+    ensures { AreRows (every_of form.across width) (every_of form.down height) pitch
+        (form_word form width bytes.now) pixels.old pixels.new }
+{
+    let count = every(form.across, width) as usize;
+    for y in 0..every(form.down, height) as usize {
+        let first = width as usize * (form.down as usize * y);
+        write_row(bytes, first, form, count, pixels, pitch * y);
+    }
+}
+
+/// The form that flags ask for.
+fn form_of(flags: u32, card: &Card) -> Form
+    ensures value { result ≡ form_of_flags flags card.now }
+    ensures form { IsForm result }
+{
+    let PixelSize { width, height } = card.pixel_size();
+    let is_once = flags / 2 % 2 == 1;
+    Form {
+        across: if is_once { width } else { 1 },
+        down: if is_once { height } else { 1 },
+        above: if flags % 2 == 1 { 0xFF00_0000 } else { 0 },
+    }
+}
+
+/// Gives the caller a picture as words in a form.
+fn tell_form(
+    drawn: Drawn<'_>,
+    form: Form,
+    picture: &mut WordPicture,
+    pixels: &mut [u32],
+    pitch: usize,
+) -> u32
+    requires small { IsSmall drawn }
+    requires form { IsForm form }
+    ensures { HasForm form (of_drawn drawn.entry) pitch picture.old picture.new pixels.old
+        pixels.new result }
+{
+    match drawn {
+        Drawn::Picture(width, height, bytes) => {
+            *picture = WordPicture {
+                width: every(form.across, width),
+                height: every(form.down, height),
+                across: form.across,
+                down: form.down,
+            };
+            let rows = picture.height as usize;
+            if !has_room(picture.width as usize, rows, pitch, pixels.len()) {
+                return NO_ROOM;
+            }
+            write_rows(bytes, width, height, form, pixels, pitch);
+            DONE
+        }
+        Drawn::Ragged => RAGGED,
+    }
+}
+
+/// Lets the clock of a machine run to the end of the frame under way.
+#[tactic(auto, using(crate::proofs::FrameLemmas::form_of_frame), unfolding(vga_run::specs::Step::after_step, vga_run::specs::Step::answer_to))]
+fn frame_form(
+    machine: &mut Machine,
+    form: Form,
+    picture: &mut WordPicture,
+    pixels: &mut [u32],
+    pitch: usize,
+) -> u32
+    requires { IsForm form }
+    ensures after { machine.new ≡ after_step machine.old Frame }
+    ensures picture { HasForm form (answer_to machine.old Frame) pitch picture.old picture.new
+        pixels.old pixels.new result }
+{
+    tell_form(machine.card.frame(), form, picture, pixels, pitch)
+}
+
+/// Lets the clock of a machine run to the end of the frame under way, if the flags are some.
+fn frame_words(
+    machine: &mut Machine,
+    flags: u32,
+    picture: &mut WordPicture,
+    pixels: &mut [u32],
+    pitch: usize,
+) -> u32
+    ensures { DrawsForm flags machine.old machine.new pitch picture.old picture.new pixels.old
+        pixels.new result }
+{
+    if flags >= 4 {
+        return BAD_ARGUMENT;
+    }
+    let form = form_of(flags, &machine.card);
+    frame_form(machine, form, picture, pixels, pitch)
+}
+
+/// Lets the clock run to the end of the frame under way, and writes its picture as words, of which
+/// each row begins so many behind the one before, in the form that the flags ask for.
+#[unsafe(no_mangle)]
+pub extern "C" fn zak_frame_words(
+    alloc: Global,
+    card: &mut Handle,
+    flags: u32,
+    picture: &mut WordPicture,
+    pixels: &mut [u32],
+    pitch: usize,
+) -> u32
+    ensures picture { DrawsFormOf flags card.old card.new pitch picture.old picture.new pixels.old
+        pixels.new result }
+    ensures closed { LeavesClosed card.old card.new result }
+    ensures spared { Spares card.old picture.old picture.new }
+    ensures pixels { Spares card.old pixels.old pixels.new }
+{
+    on_open_card!(alloc, card, machine => frame_words(machine, flags, picture, pixels, pitch))
+}
