@@ -27,3 +27,27 @@ returns-in-Err-OutOfMemory-clause-text c = search rules
 pub returns-in-Err-OutOfMemory-clause-after : goal.returns-in-Err-OutOfMemory-clause-after
 unfolding called answer_to after_step
 returns-in-Err-OutOfMemory-clause-after c = search rules
+
+pub returns-in-Ok-clause-valid : goal.returns-in-Ok-clause-valid
+unfolding called answer_to after_step
+returns-in-Ok-clause-valid c = search rules
+
+pub returns-in-Err-Refused-clause-after : goal.returns-in-Err-Refused-clause-after
+unfolding called answer_to after_step
+returns-in-Err-Refused-clause-after c = search rules
+
+pub returns-in-Err-Refused-clause-either : goal.returns-in-Err-Refused-clause-either
+unfolding called answer_to after_step
+returns-in-Err-Refused-clause-either c = search rules
+
+pub returns-in-Err-Refused-clause-valid : goal.returns-in-Err-Refused-clause-valid
+unfolding called answer_to after_step
+returns-in-Err-Refused-clause-valid c = search rules
+
+pub returns-in-Err-OutOfMemory-clause-either : goal.returns-in-Err-OutOfMemory-clause-either
+unfolding called answer_to after_step
+returns-in-Err-OutOfMemory-clause-either c = search rules
+
+pub returns-in-Err-OutOfMemory-clause-valid : goal.returns-in-Err-OutOfMemory-clause-valid
+unfolding called answer_to after_step
+returns-in-Err-OutOfMemory-clause-valid c = search rules

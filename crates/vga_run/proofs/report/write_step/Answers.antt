@@ -9,3 +9,75 @@ returns-in-None-clause-text c = search rules
 pub returns-in-None-clause-after : goal.returns-in-None-clause-after
 unfolding answer_to after_step
 returns-in-None-clause-after c = search rules
+
+pub returns-in-Int-clause-text : goal.returns-in-Int-clause-text
+unfolding answer_to after_step
+returns-in-Int-clause-text c = search rules
+
+pub returns-in-Int-clause-number : goal.returns-in-Int-clause-number
+unfolding answer_to after_step
+returns-in-Int-clause-number c = search rules
+
+pub returns-in-Int-clause-after : goal.returns-in-Int-clause-after
+unfolding answer_to after_step
+returns-in-Int-clause-after c = search rules
+
+pub returns-in-Int-clause-either : goal.returns-in-Int-clause-either
+unfolding answer_to after_step
+returns-in-Int-clause-either c = search rules
+
+pub returns-in-Int-clause-valid : goal.returns-in-Int-clause-valid
+unfolding answer_to after_step
+returns-in-Int-clause-valid c = search rules
+
+pub returns-in-Frame-clause-text : goal.returns-in-Frame-clause-text
+unfolding answer_to after_step
+returns-in-Frame-clause-text c = search rules
+
+pub returns-in-Frame-clause-number : goal.returns-in-Frame-clause-number
+unfolding answer_to after_step
+returns-in-Frame-clause-number c = search rules
+
+pub returns-in-Frame-clause-after : goal.returns-in-Frame-clause-after
+unfolding answer_to after_step
+returns-in-Frame-clause-after c = search rules
+
+pub returns-in-Frame-clause-either : goal.returns-in-Frame-clause-either
+unfolding answer_to after_step
+returns-in-Frame-clause-either c = search rules
+
+pub returns-in-Frame-clause-valid : goal.returns-in-Frame-clause-valid
+unfolding answer_to after_step
+returns-in-Frame-clause-valid c = search rules
+
+pub returns-in-None-clause-number : goal.returns-in-None-clause-number
+unfolding answer_to after_step
+returns-in-None-clause-number c = search rules
+
+pub returns-in-None-clause-either : goal.returns-in-None-clause-either
+unfolding answer_to after_step
+returns-in-None-clause-either c = search rules
+
+pub returns-in-None-clause-valid : goal.returns-in-None-clause-valid
+unfolding answer_to after_step
+returns-in-None-clause-valid c = search rules
+
+pub returns-clause-text : goal.returns-clause-text
+unfolding answer_to after_step
+returns-clause-text c = search rules
+
+pub returns-clause-number : goal.returns-clause-number
+unfolding answer_to after_step
+returns-clause-number c = search rules
+
+pub returns-clause-after : goal.returns-clause-after
+unfolding answer_to after_step
+returns-clause-after c = search rules
+
+pub returns-clause-either : goal.returns-clause-either
+unfolding answer_to after_step
+returns-clause-either c = search rules
+
+pub returns-clause-valid : goal.returns-clause-valid
+unfolding answer_to after_step
+returns-clause-valid c = search rules

@@ -72,3 +72,57 @@ returns-in_err-bytes-clause-unread c = search rules
 
 pub returns-clause-stopped : goal.returns-clause-stopped
 returns-clause-stopped c = grind (arith, input_answers, input_stops, font_answers, unread_answers)
+
+pub returns-in_err-fonts-clause-answer : goal.returns-in_err-fonts-clause-answer
+returns-in_err-fonts-clause-answer c = search rules
+
+pub returns-in_err-fonts-clause-runs : goal.returns-in_err-fonts-clause-runs
+returns-in_err-fonts-clause-runs c = search rules
+
+pub returns-in_err-fonts-clause-screens : goal.returns-in_err-fonts-clause-screens
+returns-in_err-fonts-clause-screens c = search rules
+
+pub returns-in_err-fonts-clause-dots : goal.returns-in_err-fonts-clause-dots
+returns-in_err-fonts-clause-dots c = search rules
+
+pub returns-in_err-fonts-clause-reading : goal.returns-in_err-fonts-clause-reading
+returns-in_err-fonts-clause-reading c = search rules
+
+pub returns-in_err-fonts-clause-write_failed : goal.returns-in_err-fonts-clause-write_failed
+returns-in_err-fonts-clause-write_failed c = search rules
+
+pub returns-in_err-fonts-clause-unwritten : goal.returns-in_err-fonts-clause-unwritten
+returns-in_err-fonts-clause-unwritten c = search rules
+
+pub returns-in_err-fonts-clause-stopped : goal.returns-in_err-fonts-clause-stopped
+returns-in_err-fonts-clause-stopped c = search rules
+
+pub returns-in_err-bytes-clause-runs : goal.returns-in_err-bytes-clause-runs
+returns-in_err-bytes-clause-runs c = search rules
+
+pub returns-in_err-bytes-clause-reading : goal.returns-in_err-bytes-clause-reading
+returns-in_err-bytes-clause-reading c = search rules
+
+pub returns-in_err-bytes-clause-write_failed : goal.returns-in_err-bytes-clause-write_failed
+returns-in_err-bytes-clause-write_failed c = search rules
+
+pub returns-in_err-bytes-clause-unwritten : goal.returns-in_err-bytes-clause-unwritten
+returns-in_err-bytes-clause-unwritten c = search rules
+
+pub returns-in_err-bytes-clause-stopped : goal.returns-in_err-bytes-clause-stopped
+returns-in_err-bytes-clause-stopped c = search rules
+
+pub returns-clause-answer : goal.returns-clause-answer
+returns-clause-answer c = search rules
+
+pub returns-clause-reading : goal.returns-clause-reading
+returns-clause-reading c = search rules
+
+pub returns-clause-write_failed : goal.returns-clause-write_failed
+returns-clause-write_failed c = search rules
+
+pub returns-clause-unread : goal.returns-clause-unread
+returns-clause-unread c = search rules
+
+pub returns-clause-unwritten : goal.returns-clause-unwritten
+returns-clause-unwritten c = search rules

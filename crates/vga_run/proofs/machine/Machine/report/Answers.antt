@@ -7,3 +7,15 @@ returns-in_err-write_steps-clause-text c = search rules
 
 pub returns-clause-text : goal.returns-clause-text
 returns-clause-text c = grind (arith, report_is_flushed)
+
+pub returns-in_err-write_steps-clause-after : goal.returns-in_err-write_steps-clause-after
+returns-in_err-write_steps-clause-after c = search rules
+
+pub returns-in_err-write_steps-clause-valid : goal.returns-in_err-write_steps-clause-valid
+returns-in_err-write_steps-clause-valid c = search rules
+
+pub returns-clause-after : goal.returns-clause-after
+returns-clause-after c = search rules
+
+pub returns-clause-valid : goal.returns-clause-valid
+returns-clause-valid c = search rules

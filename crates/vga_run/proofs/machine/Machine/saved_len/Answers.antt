@@ -1,6 +1,9 @@
-use Rattle.std.proofs.Common.{arith}
+use Rattle.std.proofs.Common.{rules, arith}
 use Rattle.vga_run.proofs.SavedLemmas.{machine_len}
 use Rattle.vga_run.proofs.machine.Machine.saved_len.Goals as goal
 
 pub returns-clause-value : goal.returns-clause-value
 returns-clause-value c = omega (arith, machine_len c.args.self.now c.saves_whole.ensures.len, c.saved_len.ensures.value)
+
+pub returns-clause-few : goal.returns-clause-few
+returns-clause-few c = search rules

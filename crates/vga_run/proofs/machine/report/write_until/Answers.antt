@@ -1,5 +1,5 @@
 -- The steps that are taken are the first ones, all if there are fewer.
-use Rattle.std.proofs.Common.{◌≡◌, ◌+◌, ◌∙◌, length, take}
+use Rattle.std.proofs.Common.{rules, ◌≡◌, ◌+◌, ◌∙◌, length, take}
 use Rattle.std.proofs.lemmas.Result.{err_from_is_err_and}
 use Rattle.vga_run.specs.Report.{last_dumps}
 use Rattle.vga_run.proofs.ReportLemmas.{writes_others, err_of_more, others_after}
@@ -22,3 +22,12 @@ returns-clause-text g c =
 pub returns-clause-after : goal.returns-clause-after
 returns-clause-after g c =
     others_after _ c.args.machine.now _ _ (take c.args.most c.args.steps) last_dumps c.in_ok-write_first.ensures.after c.write_last_dumps.ensures.after
+
+pub returns-in_err-write_first-clause-after : goal.returns-in_err-write_first-clause-after
+returns-in_err-write_first-clause-after c = search rules
+
+pub returns-in_err-write_first-clause-valid : goal.returns-in_err-write_first-clause-valid
+returns-in_err-write_first-clause-valid c = search rules
+
+pub returns-clause-valid : goal.returns-clause-valid
+returns-clause-valid c = search rules

@@ -1,0 +1,32 @@
+use Rattle.std.proofs.Common.{rules}
+use Rattle.vga_run.proofs.machine.Machine.take_steps.Goals as goal
+
+pub returns-in_err-write_first-clause-text : goal.returns-in_err-write_first-clause-text
+returns-in_err-write_first-clause-text c = search rules
+
+pub returns-in_err-write_first-clause-number : goal.returns-in_err-write_first-clause-number
+returns-in_err-write_first-clause-number c = search rules
+
+pub returns-in_err-write_first-clause-after : goal.returns-in_err-write_first-clause-after
+returns-in_err-write_first-clause-after c = search rules
+
+pub returns-in_err-write_first-clause-way : goal.returns-in_err-write_first-clause-way
+returns-in_err-write_first-clause-way c = search rules
+
+pub returns-in_err-write_first-clause-valid : goal.returns-in_err-write_first-clause-valid
+returns-in_err-write_first-clause-valid c = search rules
+
+pub returns-clause-text : goal.returns-clause-text
+returns-clause-text c = search rules
+
+pub returns-clause-number : goal.returns-clause-number
+returns-clause-number c = search rules
+
+pub returns-clause-after : goal.returns-clause-after
+returns-clause-after c = search rules
+
+pub returns-clause-way : goal.returns-clause-way
+returns-clause-way c = search rules
+
+pub returns-clause-valid : goal.returns-clause-valid
+returns-clause-valid c = search rules
