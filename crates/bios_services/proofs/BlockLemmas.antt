@@ -33,8 +33,8 @@ use Rattle.bios_services.specs.Cursor.{cursor_cell, place_of, row_of, column_of}
 use Rattle.bios_services.specs.Pixels.{dots_across, dots_down}
 use Rattle.bios_services.specs.Strings.{string_len}
 use Rattle.bios_services.specs.Plan.{Plan, Done, ◌>>=◌, run}
-use Rattle.bios_services.specs.Reasons.{◌or◌, refuse_unless, wrong_block, no_page, no_pixels, outside_cells, outside_page, outside_pixels, past_cells}
-use Rattle.bios_services.specs.Colours.{colour_refusal, no_register, no_entry, no_entries, has_entries}
+use Rattle.bios_services.specs.Reasons.{◌or◌, refuse_unless, wrong_block, no_page, no_pixels, outside_cells, outside_page, outside_pixels}
+use Rattle.bios_services.specs.Colours.{colour_refusal, no_entries, has_entries}
 use Rattle.bios_services.specs.Calls.{call_of}
 use Rattle.bios_services.specs.ModeSet.{mode_set_plan}
 use Rattle.bios_services.specs.GlyphLoads.{load_refusal, load_plan, glyphs_len}

@@ -2,8 +2,7 @@
 -- From the IBM PS/2 and PC BIOS Interface Technical Reference, "Interrupt 10H - Video", (AH) = 10H,
 -- (AH) = 11H and (AH) = 13H.
 use Rattle.std.specs.Prelude.{◌≡◌, ◌<◌, ℕ, ◌*◌, ◌==◌, Bool, if◌then◌else◌, Option, Some, List, length}
-use Rattle.std.specs.Prelude.{Result, Ok, Err}
-use Rattle.vga_bits.specs.declared.refusal.Refusal.{Refusal}
+use Rattle.std.specs.Prelude.{Ok, Err}
 use Rattle.vga_bits.specs.declared.refusal.Refusal.TheVariants.{BadBlock}
 use Rattle.vga_card.specs.Bus.{Meaning}
 use Rattle.bios_modes.specs.Bda.{BiosData}
@@ -12,7 +11,6 @@ use Rattle.bios_services.specs.declared.regs.Regs.{Regs}
 use Rattle.bios_services.specs.declared.reply.Reply.{Reply}
 use Rattle.bios_services.specs.declared.colours.ColourService.{ColourService}
 use Rattle.bios_services.specs.declared.colours.ColourService.TheVariants.{SetPalette, SetEntries}
-use Rattle.bios_services.specs.declared.glyph_load.GlyphLoad.{GlyphLoad}
 use Rattle.bios_services.specs.declared.call.Call.{Call}
 use Rattle.bios_services.specs.declared.call.Call.TheVariants.{LoadGlyphs, InMode}
 use Rattle.bios_services.specs.declared.call.Service.{Service}

@@ -1,5 +1,5 @@
 -- What was told of an outcome is the answer of the step that calls the service.
-use Rattle.std.proofs.Common.{◌≡◌, ◌∙◌, length, true, inl, inr, ℕ, List, refl, sym, subst, Result, Ok, Err}
+use Rattle.std.proofs.Common.{◌≡◌, ◌∙◌, true, inl, inr, ℕ, List, refl, sym, subst, Result, Ok, Err}
 use Rattle.vga_card.specs.Card.{CardState}
 use Rattle.vga_card.specs.Bus.{card_meaning}
 use Rattle.bios_modes.specs.Bda.{BiosData}

@@ -1,6 +1,6 @@
 -- A frame's picture, as the caller has it.
-use Rattle.std.specs.Prelude.{◌≡◌, ◌+◌, ◌*◌, ◌/◌, ◌<◌, ◌≤◌, ◌&&◌, ℕ, true, false, nat_le, Bool}
-use Rattle.std.specs.Prelude.{List, length, slice_index}
+use Rattle.std.specs.Prelude.{◌≡◌, ◌+◌, ◌*◌, ℕ, true}
+use Rattle.std.specs.Prelude.{List, length}
 use Rattle.vga_card.specs.Frames.{frame}
 use Rattle.vga_card.specs.Lines.{line_widths}
 use Rattle.vga_card.specs.Picture.{Dot, bytes_of}
@@ -13,7 +13,7 @@ use Rattle.vga_c.specs.Handle.{HandleState, machine_of}
 use Rattle.vga_c.specs.Forms.{AreInRows, dot_word}
 use Rattle.vga_c.specs.Buffers.{IsCopied, room_status, with_front}
 use Rattle.vga_c.specs.Cards.{Holds}
-use Rattle.vga_c.specs.Status.{no_room, ragged}
+use Rattle.vga_c.specs.Status.{ragged}
 
 -- an open card comes to the end of the frame under way
 abbrev pub EndsFrame : HandleState → HandleState → Type 0

@@ -1,5 +1,9 @@
+use Rattle.std.proofs.Common.{rules}
 use Rattle.vga_c.proofs.ServiceLemmas.{enough}
 use Rattle.vga_c.proofs.blocks.block_of.Goals as goal
 
 pub returns-clause-enough : goal.returns-clause-enough
 returns-clause-enough c = enough c.blocks_fit.ensures.fit c.args.machine.now c.args.registers.now c.of-len.result.len c.of-len.ensures.len
+
+pub returns-clause-block : goal.returns-clause-block
+returns-clause-block c = search rules

@@ -1,4 +1,4 @@
-use Rattle.std.proofs.Common.{ℕ, ◌+◌, ◌*◌, ◌<◌, ◌≤◌, subst, sym}
+use Rattle.std.proofs.Common.{◌+◌, ◌*◌, ◌<◌, ◌≤◌, subst, sym}
 use Rattle.vga_c.specs.Forms.{every, form_word}
 use Rattle.vga_c.proofs.RowLemmas.{dot_within, next_row}
 use Rattle.vga_c.proofs.forms.write_rows.Goals as goal
