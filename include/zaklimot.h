@@ -29,7 +29,7 @@ extern "C" {
 /* The interface that this header describes. The major number changes when a call, a struct or a
  * status is no longer what it was; the minor one grows when some are added. */
 #define ZAK_API_MAJOR 1
-#define ZAK_API_MINOR 2
+#define ZAK_API_MINOR 3
 #define ZAK_API_VERSION (65536u * ZAK_API_MAJOR + ZAK_API_MINOR) /* as zak_version() tells it */
 
 /* What a call answers. 1 to 13 are the refusals E1 to E13 of docs/REPORT.md; 102 and up are the
@@ -80,6 +80,8 @@ enum {
 #define ZAK_MOST_RGB (3u * ZAK_WIDEST * ZAK_HIGHEST)   /* bytes of a picture */
 #define ZAK_MOST_TABLE 768u                            /* bytes that an int10 answers */
 #define ZAK_MOST_TEXT 32768u                           /* bytes of a zak_show_.. */
+#define ZAK_OPAQUE 1u                                  /* zak_frame_words: words FFRRGGBB */
+#define ZAK_ONCE 2u                                    /* zak_frame_words: each pixel once */
 #define ZAK_FIRST_STATE 265086u                        /* bytes of a state at a frame's first dot */
 #define ZAK_MOST_STATE 7342974u                        /* bytes of a state at any dot */
 
@@ -162,6 +164,23 @@ zak_status zak_frame(zak_card *card, zak_size *size, uint8_t *rgb, size_t rgb_le
 zak_status zak_frame_xrgb(zak_card *card, zak_size *size, uint32_t *pixels, size_t pixels_len,
                           size_t pitch);
 
+typedef struct zak_picture {
+    uint32_t width, height; /* words in a row, and rows */
+    uint32_t across, down;  /* dots of a line, and scan lines, that a word stands for */
+} zak_picture;
+
+/* As zak_frame_xrgb, in the form that flags ask for, a sum of ZAK_OPAQUE and ZAK_ONCE or 0. With
+ * ZAK_ONCE a pixel that the screen shows several times stands once. The screen of mode 13
+ * (hexadecimal) then has 320 by 200 words, each for 2 dots on 2 lines, and that of mode D has 320 by
+ * 200, each for 1 dot on 2 lines. Of the picture that zak_frame gives, these are every across-th
+ * dot of every down-th line, from the first on. across is 2 in 256 colours with characters of eight
+ * dots, and else 1. down counts the scan lines of a row of characters in graphics, twice if the CRT
+ * controller shows each twice, and is 1 or 2 in text. Both are told by the registers as they are at
+ * the call. ZAK_NO_ROOM and ZAK_RAGGED are those of zak_frame_xrgb. ZAK_BAD_ARGUMENT: flags are
+ * above 3, and no dot has passed. */
+zak_status zak_frame_words(zak_card *card, uint32_t flags, zak_picture *picture, uint32_t *pixels,
+                           size_t pixels_len, size_t pitch);
+
 /* To the end of the frame under way too, and its dots line by line, also where it is ragged.
  * widths[y], of ZAK_HIGHEST, is how many dots line y has, at most ZAK_WIDEST, and 0 for a line with
  * none. rgb has three bytes a dot, those of line 0 from the left, then those of line 1, and so on;
@@ -179,6 +198,16 @@ typedef struct zak_regs { uint16_t ax, bx, cx, dx; } zak_regs;
  * done, *regs and *table_len are written, and the table is not. */
 zak_status zak_int10(zak_card *card, zak_regs *regs, const uint8_t *block, size_t block_len,
                      uint8_t *table, size_t table_cap, size_t *table_len);
+
+/* What a call of zak_int10 with these registers reads of the caller's memory: len bytes, 0 for none,
+ * at ES:DX if is_at_dx is true, and else at ES:BP. With a block of just so many bytes zak_int10
+ * never answers ZAK_BAD_BLOCK; with another number it is refused, if len is not 0. */
+typedef struct zak_source {
+    size_t len; /* 0 to 16,711,425 */
+    bool is_at_dx;
+} zak_source;
+
+zak_status zak_block(zak_card *card, const zak_regs *regs, zak_source *source);
 
 /* The state as the text of the script's step `show` (docs/REPORT.md), with a newline and no 0
  * behind it. ZAK_MOST_TEXT bytes are always enough; with ZAK_NO_ROOM *text_len tells how many it

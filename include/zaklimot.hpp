@@ -138,6 +138,17 @@ public:
         return size;
     }
 
+    /* Each pixel once, or in another form: the flags are those of zak_frame_words. */
+    zak_picture frame_words(span<std::uint32_t> pixels, std::size_t pitch, std::uint32_t flags = ZAK_ONCE)
+    {
+        zak_picture picture;
+        check(zak_frame_words(&raw_, flags, &picture, pixels.data(), pixels.size(), pitch));
+        return picture;
+    }
+
+    /* What int10 reads of the caller's memory with these registers. */
+    zak_source block(const zak_regs &regs) { return read<zak_source>(zak_block, &regs); }
+
     /* Answers what a function writes at ES:DX; regs are afterwards what it answers. */
     std::vector<std::uint8_t> int10(zak_regs &regs, bytes block = bytes())
     {

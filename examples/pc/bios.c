@@ -38,31 +38,6 @@ static uint32_t place_at(struct machine *machine, int offset)
                            machine_register(machine, offset));
 }
 
-/* How many bytes a function of interrupt 10 reads at ES:BP or ES:DX, and where; 0 for none. */
-static size_t block_of(struct machine *machine, const zak_regs *regs, uint32_t *place)
-{
-    *place = place_at(machine, UC_X86_REG_BP);
-    switch (regs->ax) {
-    case 0x1300:
-    case 0x1301:
-        return regs->cx;
-    case 0x1302:
-    case 0x1303:
-        return 2u * regs->cx;
-    case 0x1100:
-    case 0x1110:
-        return (size_t)regs->cx * high(regs->bx);
-    case 0x1002:
-        *place = place_at(machine, UC_X86_REG_DX);
-        return 17;
-    case 0x1012:
-        *place = place_at(machine, UC_X86_REG_DX);
-        return 3u * regs->cx;
-    default:
-        return 0;
-    }
-}
-
 /* Writes the data of the library's video BIOS where software looks for them. */
 static void write_video_data(struct machine *machine)
 {
@@ -85,14 +60,16 @@ static void write_video_data(struct machine *machine)
 /* Interrupt 10 by the library. What it refuses leaves the registers, as a BIOS that lacks it. */
 static void serve_video(struct machine *machine)
 {
-    static uint8_t block[0x10000], table[ZAK_MOST_TABLE];
+    static uint8_t block[0x20000], table[ZAK_MOST_TABLE];
     zak_regs regs = {AX(machine), BX(machine), CX(machine), DX(machine)};
-    uint32_t place;
-    size_t len = block_of(machine, &regs, &place), table_len = 0;
-    len = len < sizeof block ? len : sizeof block;
-    machine_read(machine, place, block, len);
+    zak_source source;
+    size_t table_len = 0;
+    if (zak_block(&machine->display.card, &regs, &source) != ZAK_OK || source.len > sizeof block)
+        return;
+    machine_read(machine, place_at(machine, source.is_at_dx ? UC_X86_REG_DX : UC_X86_REG_BP), block,
+                 source.len);
     display_settle(&machine->display);
-    if (zak_int10(&machine->display.card, &regs, block, len, table, sizeof table, &table_len) !=
+    if (zak_int10(&machine->display.card, &regs, block, source.len, table, sizeof table, &table_len) !=
         ZAK_OK)
         return;
     machine_write(machine, place_at(machine, UC_X86_REG_DX), table, table_len);

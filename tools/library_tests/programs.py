@@ -16,6 +16,8 @@ SOURCES = Path(__file__).resolve().parent / "c"
 CALL = re.compile(r"^(?:zak_\w+|restore_with|assemble|print|take)\(", re.M)
 # How many settings of registers have an event of theirs waited for, and how many transfers are compared.
 SETTINGS, TRANSFERS = 100_000, 20_000
+# How many settings of registers have their pictures compared, and how many calls of interrupt 10 their blocks.
+PICTURES, BLOCKS = 200, 20_011
 WRAPPED = "-Wl,--wrap=malloc,--wrap=realloc,--wrap=free"
 
 
@@ -59,6 +61,22 @@ def check_transfers(built: Built, folder: Path) -> str:
     build(COMPILERS[0].c, built, [SOURCES / "transfers.c"], made, *SANITIZED)
     count = int(run([made, fonts_file(), str(TRANSFERS)]))
     return f"{count} transfers, each the same as its cycles"
+
+
+def check_pictures(built: Built, folder: Path) -> str:
+    """Pictures in words are those in bytes, in each form, over pseudo-random registers."""
+    made = folder / "pictures"
+    build(COMPILERS[0].c, built, [SOURCES / "pictures.c"], made, *SANITIZED)
+    count = int(run([made, fonts_file(), str(PICTURES)]))
+    return f"{count} pictures in words, each that of the bytes"
+
+
+def check_blocks(built: Built, folder: Path) -> str:
+    """What zak_block tells is what interrupt 10 takes, over pseudo-random calls."""
+    made = folder / "blocks"
+    build(COMPILERS[0].c, built, [SOURCES / "blocks.c"], made, *SANITIZED)
+    count = int(run([made, fonts_file(), str(BLOCKS)]))
+    return f"{count} calls of interrupt 10, each with its block or another"
 
 
 def check_threads(built: Built, folder: Path) -> str:

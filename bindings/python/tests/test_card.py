@@ -313,6 +313,25 @@ class Frames(unittest.TestCase):
             with self.assertRaises(zaklimot.NoRoom):
                 self.card.frame_xrgb(into=buffer, pitch=pitch)
 
+    def test_words_of_pixels_that_stand_once(self) -> None:
+        whole = self.card.frame_xrgb()
+        known = [whole[x, y] for y in range(0, 400, 2) for x in range(0, 640, 2)]
+        for opaque, above in ((False, 0), (True, 0xFF00_0000)):
+            picture = self.card.frame_words(opaque=opaque)
+            self.assertEqual((picture.width, picture.height, picture.across, picture.down), (320, 200, 2, 2))
+            self.assertEqual([word for row in picture.rows() for word in row], [above + word for word in known])
+        picture = self.card.frame_words(once=False)
+        self.assertEqual((picture.width, picture.height, picture.across, picture.down), (640, 400, 1, 1))
+
+    def test_words_of_pixels_in_a_buffer_of_the_callers(self) -> None:
+        buffer = bytearray(b"\xee" * (4 * 321 * 200))
+        self.card.frame_words(into=buffer, pitch=321, opaque=True)
+        words = memoryview(buffer).cast("I")
+        self.assertEqual((words[319], words[320], words[-1]), (0xFF00_0000, 0xEEEE_EEEE, 0xEEEE_EEEE))
+        for pitch in (319, 322):
+            with self.assertRaises(zaklimot.NoRoom):
+                self.card.frame_words(into=buffer, pitch=pitch)
+
     def test_lines(self) -> None:
         whole = bytes(self.card.frame().data)
         lines = self.card.lines()
@@ -370,6 +389,14 @@ class Bios(unittest.TestCase):
     def setUp(self) -> None:
         self.card = card_in(0x03)
         self.addCleanup(self.card.__exit__)
+
+    def test_what_a_call_reads(self) -> None:
+        self.assertEqual(self.card.block(0x1301, cx=5), (5, False))
+        self.assertEqual(self.card.block(ax=0x1012, bx=3, cx=5), (15, True))
+        self.assertEqual(self.card.block(0x0003).len, 0)
+        self.card.int10(0x1301, bx=7, cx=5, block=b"HELLO")
+        with self.assertRaises(zaklimot.BadBlock):
+            self.card.int10(0x1301, bx=7, cx=5, block=b"HELLO!")
 
     def test_registers_and_tables(self) -> None:
         answer = self.card.int10(ax=0x1017, bx=7, cx=2)

@@ -18,6 +18,14 @@ LIES(zak_card, machine, 8);
 TAKES(zak_size, 8);
 LIES(zak_size, height, 4);
 
+TAKES(zak_picture, 16);
+LIES(zak_picture, height, 4);
+LIES(zak_picture, across, 8);
+LIES(zak_picture, down, 12);
+
+TAKES(zak_source, 16);
+LIES(zak_source, is_at_dx, 8);
+
 TAKES(zak_regs, 8);
 LIES(zak_regs, bx, 2);
 LIES(zak_regs, cx, 4);

@@ -326,6 +326,9 @@ static zak_status other_calls(void)
     zak_latches latches;
     zak_bda bda;
     zak_timing timing;
+    zak_picture picture;
+    zak_source source;
+    zak_regs regs = {0x1300, 0, 5, 0};
     zak_status status = zak_out(&card, 0x3C4, 2) | zak_out_word(&card, 0x3C4, 0x0F02);
     status |= zak_in(&card, 0x3CC, &byte) | zak_in_word(&card, 0x3C4, &word);
     status |= zak_put(&card, 0xA0000, 1) | zak_put_word(&card, 0xA0000, 1);
@@ -334,9 +337,10 @@ static zak_status other_calls(void)
     status |= zak_fill_bytes(&card, 0xA0000, 1, 100, true, &len);
     status |= zak_get_bytes(&card, 0xA0000, rgb, 100, false, &len);
     status |= zak_move_bytes(&card, 0xA0000, 0xA0100, 100, true, &len);
-    status |= zak_clock(&card, &timing);
+    status |= zak_clock(&card, &timing) | zak_block(&card, &regs, &source);
     status |= zak_advance(&card, 100) | zak_frame(&card, &size, rgb, sizeof rgb);
     status |= zak_frame_xrgb(&card, &size, pixels, sizeof pixels / 4, 640);
+    status |= zak_frame_words(&card, ZAK_ONCE, &picture, pixels, sizeof pixels / 4, 640);
     status |= zak_frame_lines(&card, widths, rgb, sizeof rgb, &len);
     status |= zak_save_size(&card, &len) | zak_save(&card, rgb, sizeof rgb, &len);
     status |= zak_restore(&card, rgb, len);

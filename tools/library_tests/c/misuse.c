@@ -70,15 +70,19 @@ static void transfers_of_closed(void)
 static void calls_of_closed(void)
 {
     zak_size size = {7, 7};
+    zak_picture picture = {7, 7, 7, 7};
     zak_regs regs = {3, 0, 0, 0};
+    zak_source source = {7, true};
     uint32_t pixel = 7, widths[ZAK_HIGHEST] = {7};
     size_t len = 999;
     uint8_t *bytes = buffer(1);
     SHOW(zak_close(&card));
     SHOW(zak_frame(&card, &size, bytes, 1));
     SHOW(zak_frame_xrgb(&card, &size, &pixel, 1, 1));
+    SHOW(zak_frame_words(&card, ZAK_ONCE, &picture, &pixel, 1, 1));
     SHOW(zak_frame_lines(&card, widths, bytes, 1, &len));
     SHOW(zak_int10(&card, &regs, none, 0, bytes, 1, &len));
+    SHOW(zak_block(&card, &regs, &source));
     SHOW(zak_save_size(&card, &len));
     SHOW(zak_save(&card, bytes, 1, &len));
     SHOW(zak_restore(&card, bytes, 1));
@@ -92,6 +96,7 @@ static void calls_of_closed(void)
     SHOW(zak_show_plane(&card, 4, 0, 1, bytes, 1, &len));
     SHOW(size.width == 7 && pixel == 7 && len == 999 && *bytes == UNTOUCHED);
     SHOW(widths[0] == 7 && widths[1] == 0);
+    SHOW(picture.width == 7 && picture.down == 7 && source.len == 7 && source.is_at_dx);
     free(bytes);
 }
 
@@ -242,6 +247,31 @@ static void little_pixels(void)
     SHOW(zak_frame_xrgb(&card, &size, pixels, room, 641));
     SHOW(pixels[0] == 0 && pixels[639] == 0 && pixels[640] == 0xEEEEEEEE);
     SHOW(pixels[641] == 0 && pixels[room - 1] == 0xEEEEEEEE);
+    free(pixels);
+}
+
+static void pixels_once(void)
+{
+    zak_picture picture = {7, 7, 7, 7};
+    zak_beam before, after;
+    size_t room = 321u * 200;
+    uint32_t *pixels = malloc(4 * room);
+    if (!pixels)
+        exit(2);
+    memset(pixels, UNTOUCHED, 4 * room);
+    zak_read_beam(&card, &before);
+    SHOW(zak_frame_words(&card, 4, &picture, pixels, room, 321));
+    SHOW(zak_frame_words(&card, 0xFFFFFFFF, &picture, pixels, room, 321));
+    zak_read_beam(&card, &after);
+    SHOW(memcmp(&before, &after, sizeof before) == 0 && picture.width == 7 && pixels[0] == 0xEEEEEEEE);
+    SHOW(zak_frame_words(&card, ZAK_ONCE, &picture, pixels, room, 319));
+    SHOW(zak_frame_words(&card, ZAK_ONCE, &picture, pixels, room - 1, 321));
+    SHOW(zak_frame_words(&card, 0, &picture, pixels, room, 640));
+    SHOW(picture.width == 640 && picture.down == 1 && pixels[0] == 0xEEEEEEEE);
+    SHOW(zak_frame_words(&card, ZAK_ONCE + ZAK_OPAQUE, &picture, pixels, room, 321));
+    SHOW(picture.width == 320 && picture.height == 200 && picture.across == 2 && picture.down == 2);
+    SHOW(pixels[0] == 0xFF000000 && pixels[319] == 0xFF000000 && pixels[320] == 0xEEEEEEEE);
+    SHOW(pixels[321] == 0xFF000000 && pixels[room - 1] == 0xEEEEEEEE);
     free(pixels);
 }
 
@@ -625,6 +655,7 @@ int main(int argc, char **argv)
     refused_services();
     little_pictures();
     little_pixels();
+    pixels_once();
     little_texts();
     reads_out_of_range();
     pixels_out_of_range();

@@ -15,7 +15,7 @@ from ._pictures import Colour, Lines, Picture, XrgbPicture
 from ._report import Report, Step
 from ._script import Script
 from ._scripts import AnyScript, assemble, disassemble, run_script
-from ._state import Answer, Beam, BiosData, Cell, Position, ReadBytes, Registers, Screen, Timing
+from ._state import Answer, Beam, BiosData, Cell, Position, ReadBytes, Registers, Screen, Source, Timing
 from ._structs import FONTS_SIZE, HIGHEST, MOST_DOTS, WIDEST
 from ._version import VERSION
 
@@ -51,7 +51,7 @@ __all__ = [
     "Closed", "Colour", "CountPast", "Error", "FONTS_SIZE", "FontSize", "GFX", "HIGHEST", "Indexed",
     "LibraryMissing", "Lines", "MOST_DOTS", "NoMode", "NoRoom", "NoScreen", "NotDecoded", "NotInProfile",
     "OpenAlready", "OutOfMemory", "Outside", "Picture", "Position", "Ragged", "ReadBytes", "Refusal",
-    "Registers", "Report", "SEQ", "Screen", "Script", "ScriptError", "StateError", "StateLength", "StateMagic",
+    "Registers", "Report", "SEQ", "Screen", "Script", "ScriptError", "Source", "StateError", "StateLength", "StateMagic",
     "StatePart", "StateVersion", "Step", "Timing", "TooFar", "TooLong", "TooMany", "Truncated", "WIDEST",
     "WrongKind", "XrgbPicture",
     "assemble", "default_fonts", "disassemble", "library_path", "run", "version",

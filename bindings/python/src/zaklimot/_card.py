@@ -19,7 +19,7 @@ from ._numbers import BYTE, LONG, WORD, in_range
 from ._pictures import Colour, Lines, Picture, XrgbPicture
 from ._report import Report
 from ._scripts import script_bytes
-from ._state import Answer, Beam, BiosData, Cell, Position, ReadBytes, Registers, Screen, Timing
+from ._state import Answer, Beam, BiosData, Cell, Position, ReadBytes, Registers, Screen, Source, Timing
 
 Bytes = Union[bytes, bytearray, memoryview]
 Fonts = Union[Bytes, str, "os.PathLike[str]", None]
@@ -62,6 +62,12 @@ def _rate(dots: int, divisor: int) -> Fraction:
 
 def _unless_never(dots: int) -> Optional[int]:
     return None if dots == s.NEVER else dots
+
+
+def _registers(ax: int, bx: int, cx: int, dx: int) -> s.zak_regs:
+    """The registers of a call, 0 to FFFF each."""
+    names = (("ax", ax), ("bx", bx), ("cx", cx), ("dx", dx))
+    return s.zak_regs(*(in_range(name, value, WORD) for name, value in names))
 
 
 class Card:
@@ -116,7 +122,7 @@ class Card:
         if status:
             raise error_of(status)
 
-    def _read(self, name: str, kind: Any, *places: int) -> Any:
+    def _read(self, name: str, kind: Any, *places: Any) -> Any:
         """What a call writes into a struct or a number."""
         value = kind()
         self._call(name, *places, _byref(value))
@@ -378,6 +384,25 @@ class Card:
         self._call("frame_xrgb", _byref(size), pointer, room // 4, pitch)
         return XrgbPicture(size.width, size.height, pitch, view[:room // 4 * 4].cast("I"))
 
+    def frame_words(self, into: Optional[Any] = None, pitch: int = s.WIDEST, *, once: bool = True,
+                    opaque: bool = False) -> XrgbPicture:
+        """Lets the clock run to the end of the frame, and gives a word a pixel.
+
+            picture = card.frame_words()                  # in mode 13 (hexadecimal) 320 by 200
+            picture.across, picture.down                  # 2, 2: each is 2 dots wide on 2 lines
+
+        With `once` a pixel that the screen shows on several dots or lines stands once: every
+        `across`-th dot of every `down`-th line. With `opaque` the words are FFRRGGBB, and else
+        00RRGGBB. Memory, pitch and refusals are those of `frame_xrgb`.
+        """
+        told = s.zak_picture()
+        in_range("pitch", pitch, s.WIDEST if into is None else LONG)
+        view, pointer, room = self._target(into, "xrgb", 4 * s.WIDEST * s.HIGHEST, s.U32)
+        flags = s.ONCE * bool(once) + s.OPAQUE * bool(opaque)
+        self._call("frame_words", flags, _byref(told), pointer, room // 4, pitch)
+        words = view[:room // 4 * 4].cast("I")
+        return XrgbPicture(told.width, told.height, pitch, words, told.across, told.down)
+
     def lines(self) -> Lines:
         """Lets the clock run to the end of the frame, and gives its dots line by line.
 
@@ -400,6 +425,16 @@ class Card:
 
     # The video BIOS.
 
+    def block(self, ax: int, bx: int = 0, cx: int = 0, dx: int = 0) -> Source:
+        """What `int10` with these registers reads of the caller's memory; nothing changes.
+
+            card.block(0x1301, cx=5)                      # Source(len=5, is_at_dx=False)
+
+        With a block of just `len` bytes `int10` never raises BadBlock.
+        """
+        read = self._read("block", s.zak_source, _byref(_registers(ax, bx, cx, dx)))
+        return Source(read.len, read.is_at_dx)
+
     def int10(self, ax: int, bx: int = 0, cx: int = 0, dx: int = 0, block: Bytes = b"") -> Answer:
         """Calls the video BIOS, interrupt 10 (hexadecimal), with these registers, 0 to FFFF each.
 
@@ -407,8 +442,7 @@ class Card:
         registers afterwards, and as `table` what a function writes at ES:DX. docs/SERVICES.md has the
         functions. Raises NoMode to BadBlock, and BadHeight.
         """
-        names = (("ax", ax), ("bx", bx), ("cx", cx), ("dx", dx))
-        regs = s.zak_regs(*(in_range(name, value, WORD) for name, value in names))
+        regs = _registers(ax, bx, cx, dx)
         given, table, length = bytes(memoryview(block)), (s.U8 * s.MOST_TABLE)(), s.SIZE()
         self._call("int10", _byref(regs), given, len(given), table, s.MOST_TABLE, _byref(length))
         return Answer(regs.ax, regs.bx, regs.cx, regs.dx, bytes(table[:length.value]))

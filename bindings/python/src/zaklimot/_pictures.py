@@ -95,16 +95,20 @@ class Picture:
 
 
 class XrgbPicture:
-    """The picture of a frame: a word 00RRGGBB a dot, eight bits a component.
+    """The picture of a frame: a word 00RRGGBB or FFRRGGBB a pixel, eight bits a component.
+
+    Each stands for `across` dots of a line and `down` scan lines, which are 1 in `frame_xrgb`.
 
     `words` is a memoryview of 32-bit numbers; row y begins at `words[pitch * y]` and has `width` of
     them. With numpy, `numpy.asarray(picture)` has the shape (height, width), without a copy.
 
-    A picture in the card's own memory is valid until its next `frame_xrgb`.
+    A picture in the card's own memory is valid until its next `frame_xrgb` or `frame_words`.
     """
 
-    def __init__(self, width: int, height: int, pitch: int, words: memoryview) -> None:
+    def __init__(self, width: int, height: int, pitch: int, words: memoryview, across: int = 1,
+                 down: int = 1) -> None:
         self.width, self.height, self.pitch, self.words = width, height, pitch, words
+        self.across, self.down = across, down
 
     @property
     def __array_interface__(self) -> dict[str, Any]:

@@ -80,6 +80,15 @@ class Timing(NamedTuple):
     """25,175,000 or 28,322,000; half of that where the sequencer halves the clock"""
 
 
+class Source(NamedTuple):
+    """What a call of the video BIOS reads of the caller's memory."""
+
+    len: int
+    """how many bytes; 0 where it reads none"""
+    is_at_dx: bool
+    """whether they lie at ES:DX; else they lie at ES:BP"""
+
+
 class ReadBytes(bytes):
     """Bytes of display memory. `decoded` is how many of their addresses the adapter decodes; others read as FF."""
 

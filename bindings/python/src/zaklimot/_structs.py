@@ -9,6 +9,9 @@ import ctypes
 from ctypes import Structure
 
 U8, U16, U32, SIZE = ctypes.c_uint8, ctypes.c_uint16, ctypes.c_uint32, ctypes.c_size_t
+BOOL = ctypes.c_bool
+
+OPAQUE, ONCE = 1, 2
 
 FONTS_SIZE = 9728
 MOST_DOTS = 16_777_216
@@ -21,7 +24,7 @@ FIRST_STATE, MOST_STATE = 265_086, 7_342_974
 
 
 class zak_card(Structure):
-    _fields_ = [("is_open", ctypes.c_bool), ("machine", ctypes.c_void_p)]
+    _fields_ = [("is_open", BOOL), ("machine", ctypes.c_void_p)]
 
 
 class zak_timing(Structure):
@@ -33,6 +36,14 @@ class zak_timing(Structure):
 
 class zak_size(Structure):
     _fields_ = [("width", U32), ("height", U32)]
+
+
+class zak_picture(Structure):
+    _fields_ = [("width", U32), ("height", U32), ("across", U32), ("down", U32)]
+
+
+class zak_source(Structure):
+    _fields_ = [("len", SIZE), ("is_at_dx", BOOL)]
 
 
 class zak_regs(Structure):

@@ -1,4 +1,4 @@
 """The interface of include/zaklimot.h that this package is written for."""
 
-API_MAJOR, API_MINOR = 1, 2
+API_MAJOR, API_MINOR = 1, 3
 VERSION = f"{API_MAJOR}.{API_MINOR}"

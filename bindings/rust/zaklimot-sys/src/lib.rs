@@ -33,6 +33,24 @@ pub struct zak_timing {
     pub rate_divisor: u32,
 }
 
+/// `zak_picture` of the header.
+#[repr(C)]
+#[derive(Clone, Copy, Debug, Default, PartialEq, Eq)]
+pub struct zak_picture {
+    pub width: u32,
+    pub height: u32,
+    pub across: u32,
+    pub down: u32,
+}
+
+/// `zak_source` of the header.
+#[repr(C)]
+#[derive(Clone, Copy, Debug, Default, PartialEq, Eq)]
+pub struct zak_source {
+    pub len: usize,
+    pub is_at_dx: bool,
+}
+
 /// `zak_size` of the header.
 #[repr(C)]
 #[derive(Clone, Copy, Debug, Default, PartialEq, Eq)]
@@ -184,14 +202,16 @@ pub const ZAK_TOO_LONG: zak_status = 106;
 pub const ZAK_BAD_LINE: zak_status = 107;
 pub const ZAK_TOO_MANY: zak_status = 111;
 pub const ZAK_API_MAJOR: u32 = 1;
-pub const ZAK_API_MINOR: u32 = 2;
-pub const ZAK_API_VERSION: u32 = 65538;
+pub const ZAK_API_MINOR: u32 = 3;
+pub const ZAK_API_VERSION: u32 = 65539;
 pub const ZAK_FONTS_SIZE: u32 = 9728;
 pub const ZAK_MOST_DOTS: u32 = 16777216;
 pub const ZAK_NEVER: u32 = 4294967295;
 pub const ZAK_WIDEST: u32 = 2304;
 pub const ZAK_HIGHEST: u32 = 1024;
 pub const ZAK_MOST_RGB: u32 = 7077888;
+pub const ZAK_OPAQUE: u32 = 1;
+pub const ZAK_ONCE: u32 = 2;
 pub const ZAK_MOST_TABLE: u32 = 768;
 pub const ZAK_MOST_TEXT: u32 = 32768;
 pub const ZAK_FIRST_STATE: u32 = 265086;
@@ -255,12 +275,25 @@ extern "C" {
         pixels_len: usize,
         pitch: usize,
     ) -> zak_status;
+    pub fn zak_frame_words(
+        card: *mut zak_card,
+        flags: u32,
+        picture: *mut zak_picture,
+        pixels: *mut u32,
+        pixels_len: usize,
+        pitch: usize,
+    ) -> zak_status;
     pub fn zak_frame_lines(
         card: *mut zak_card,
         widths: *mut u32,
         rgb: *mut u8,
         rgb_len: usize,
         rgb_used: *mut usize,
+    ) -> zak_status;
+    pub fn zak_block(
+        card: *mut zak_card,
+        regs: *const zak_regs,
+        source: *mut zak_source,
     ) -> zak_status;
     pub fn zak_int10(
         card: *mut zak_card,

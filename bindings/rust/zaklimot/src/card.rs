@@ -7,10 +7,10 @@ use std::ptr::null_mut;
 use zaklimot_sys as sys;
 
 use crate::error::{done, done_at, Error};
-use crate::picture::{Lines, Picture, Size, XrgbPicture};
+use crate::picture::{Form, Lines, Picture, Size, WordSize, XrgbPicture};
 use crate::state::{
     Answer, Beam, BiosData, Cell, Colour, Direction, Latches, Position, Registers, Regs, Screen,
-    Timing,
+    Source, Timing,
 };
 use crate::{fonts, HIGHEST, WIDEST};
 
@@ -340,7 +340,7 @@ impl Card {
     pub fn frame_xrgb(&mut self) -> Result<XrgbPicture<'_>, Error> {
         let pixels = kept(&mut self.xrgb, WIDEST * HIGHEST);
         let size = frame_xrgb_into(&mut self.raw, pixels, WIDEST)?;
-        Ok(XrgbPicture::new(size, pixels))
+        Ok(XrgbPicture::new(WordSize { size, across: 1, down: 1 }, pixels))
     }
 
     /// The same, into the caller's words: row y begins at `pixels[pitch * y]`, and words beside the
@@ -352,6 +352,45 @@ impl Card {
     /// width; the frame has passed.
     pub fn frame_xrgb_into(&mut self, pixels: &mut [u32], pitch: usize) -> Result<Size, Error> {
         frame_xrgb_into(&mut self.raw, pixels, pitch)
+    }
+
+    /// Lets the clock run to the end of the frame under way, and lends its picture of a word a
+    /// pixel, in a form.
+    ///
+    /// ```
+    /// use zaklimot::{Card, Form, Regs};
+    ///
+    /// let mut card = Card::new()?;
+    /// card.int10(Regs::ax(0x0013), &[])?;
+    /// let picture = card.frame_words(Form { once: true, opaque: true })?;
+    /// assert_eq!((picture.width(), picture.height()), (320, 200));
+    /// assert_eq!((picture.across(), picture.down()), (2, 2));
+    /// assert_eq!(picture.pixels()[0], 0xFF00_0000);
+    /// # Ok::<(), zaklimot::Error>(())
+    /// ```
+    ///
+    /// # Errors
+    ///
+    /// [`Error::Ragged`] where two rows differ in width; the frame has passed.
+    pub fn frame_words(&mut self, form: Form) -> Result<XrgbPicture<'_>, Error> {
+        let pixels = kept(&mut self.xrgb, WIDEST * HIGHEST);
+        let words = frame_words_into(&mut self.raw, form, pixels, WIDEST)?;
+        Ok(XrgbPicture::new(words, pixels))
+    }
+
+    /// The same, into the caller's words, as [`frame_xrgb_into`](Card::frame_xrgb_into) has it.
+    ///
+    /// # Errors
+    ///
+    /// [`Error::Ragged`], and [`Error::NoRoom`] where there are too few or the pitch is below the
+    /// width; the frame has passed.
+    pub fn frame_words_into(
+        &mut self,
+        form: Form,
+        pixels: &mut [u32],
+        pitch: usize,
+    ) -> Result<WordSize, Error> {
+        frame_words_into(&mut self.raw, form, pixels, pitch)
     }
 
     /// Lets the clock run to the end of the frame under way, and lends its dots line by line, also
@@ -374,6 +413,24 @@ impl Card {
             )
         })?;
         Ok(Lines::new(widths, &rgb[..used]))
+    }
+
+    /// What [`int10`](Card::int10) reads of the caller's memory with these registers. With a block
+    /// of just `len` bytes it never answers [`Error::BadBlock`].
+    ///
+    /// ```
+    /// use zaklimot::{Card, Regs, Source};
+    ///
+    /// let five = Regs { cx: 5, ..Regs::ax(0x1301) };
+    /// assert_eq!(Card::new()?.block(five), Ok(Source { len: 5, is_at_dx: false }));
+    /// # Ok::<(), zaklimot::Error>(())
+    /// ```
+    ///
+    /// # Errors
+    ///
+    /// None that a card of this crate answers.
+    pub fn block(&mut self, regs: Regs) -> Result<Source, Error> {
+        read!(self, zak_block, &regs.into())
     }
 
     /// Calls the video BIOS, interrupt 10 (hexadecimal). `block` is what memory has at ES:BP or
@@ -650,6 +707,23 @@ fn frame_xrgb_into(
     // SAFETY: `pixels` has as many words as is said.
     done(unsafe { sys::zak_frame_xrgb(raw, &mut size, to, len, pitch) })?;
     Ok(size_of(size))
+}
+
+fn frame_words_into(
+    raw: &mut sys::zak_card,
+    form: Form,
+    pixels: &mut [u32],
+    pitch: usize,
+) -> Result<WordSize, Error> {
+    let mut picture = sys::zak_picture::default();
+    let once = if form.once { sys::ZAK_ONCE } else { 0 };
+    let flags = once + if form.opaque { sys::ZAK_OPAQUE } else { 0 };
+    let (to, len) = (pixels.as_mut_ptr(), pixels.len());
+    // SAFETY: `pixels` has as many words as is said.
+    done(unsafe { sys::zak_frame_words(raw, flags, &mut picture, to, len, pitch) })?;
+    let sys::zak_picture { width, height, across, down } = picture;
+    let size = size_of(sys::zak_size { width, height });
+    Ok(WordSize { size, across: across as usize, down: down as usize })
 }
 
 impl Drop for Card {

@@ -33,11 +33,11 @@ mod state;
 
 pub use card::{Card, Slice};
 pub use error::Error;
-pub use picture::{Lines, Picture, Size, XrgbPicture};
+pub use picture::{Form, Lines, Picture, Size, WordSize, XrgbPicture};
 pub use script::{assemble, disassemble, run};
 pub use state::{
     Answer, Beam, BiosData, Cell, Colour, Direction, Latches, Position, Registers, Regs, Screen,
-    Timing,
+    Source, Timing,
 };
 
 use zaklimot_sys as sys;

@@ -13,6 +13,27 @@ pub struct Size {
     pub height: usize,
 }
 
+/// How [`Card::frame_words`](crate::Card::frame_words) gives a picture.
+#[derive(Clone, Copy, Debug, Default, PartialEq, Eq)]
+pub struct Form {
+    /// Whether a pixel that the screen shows on several dots or lines stands once.
+    pub once: bool,
+    /// Whether words are `FFRRGGBB`, and not `00RRGGBB`.
+    pub opaque: bool,
+}
+
+/// A picture in words: how large it is, and how many dots of a line, 1 or 2, and scan lines, 1 to
+/// 64, each word stands for.
+#[derive(Clone, Copy, Debug, PartialEq, Eq)]
+pub struct WordSize {
+    /// Words in a row, and rows.
+    pub size: Size,
+    /// Dots of a line that a word stands for.
+    pub across: usize,
+    /// Scan lines that a word stands for.
+    pub down: usize,
+}
+
 /// A picture that the card lends: three bytes a dot, red, green and blue, 0 to 63 each.
 #[derive(Clone, Copy, Debug, PartialEq, Eq)]
 pub struct Picture<'a> {
@@ -64,16 +85,29 @@ impl<'a> Picture<'a> {
     }
 }
 
-/// A picture that the card lends: a word `00RRGGBB` a dot, eight bits a component.
+/// A picture that the card lends: a word `00RRGGBB` or `FFRRGGBB` a pixel, eight bits a component.
 #[derive(Clone, Copy, Debug, PartialEq, Eq)]
 pub struct XrgbPicture<'a> {
     size: Size,
+    across: usize,
+    down: usize,
     pixels: &'a [u32],
 }
 
 impl<'a> XrgbPicture<'a> {
-    pub(crate) fn new(size: Size, pixels: &'a [u32]) -> XrgbPicture<'a> {
-        XrgbPicture { size, pixels: &pixels[..WIDEST * size.height] }
+    pub(crate) fn new(words: WordSize, pixels: &'a [u32]) -> XrgbPicture<'a> {
+        let WordSize { size, across, down } = words;
+        XrgbPicture { size, across, down, pixels: &pixels[..WIDEST * size.height] }
+    }
+
+    /// Dots of a line that a word stands for: 1, or 2.
+    pub fn across(&self) -> usize {
+        self.across
+    }
+
+    /// Scan lines that a word stands for, 1 to 64.
+    pub fn down(&self) -> usize {
+        self.down
     }
 
     /// Dots of a row.

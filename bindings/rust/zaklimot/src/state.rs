@@ -271,6 +271,21 @@ impl From<Regs> for sys::zak_regs {
     }
 }
 
+/// What a call of the video BIOS reads of the caller's memory.
+#[derive(Clone, Copy, Debug, Default, PartialEq, Eq)]
+pub struct Source {
+    /// How many bytes; 0 where it reads none.
+    pub len: usize,
+    /// Whether they lie at ES:DX. Else they lie at ES:BP.
+    pub is_at_dx: bool,
+}
+
+impl From<sys::zak_source> for Source {
+    fn from(source: sys::zak_source) -> Source {
+        Source { len: source.len, is_at_dx: source.is_at_dx }
+    }
+}
+
 /// What the video BIOS answers.
 #[derive(Clone, Debug, PartialEq, Eq)]
 pub struct Answer {

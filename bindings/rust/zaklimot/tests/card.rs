@@ -3,7 +3,8 @@
 use std::thread;
 
 use zaklimot::Direction::{Down, Up};
-use zaklimot::{assemble, fonts, run, Card, Cell, Error, Position, Regs, FONTS_SIZE, MOST_DOTS};
+use zaklimot::{assemble, fonts, run, Card, Cell, Error, Form, Position, Regs, Source};
+use zaklimot::{FONTS_SIZE, MOST_DOTS};
 
 fn card_in(mode: u16) -> Card {
     let mut card = Card::new().unwrap();
@@ -28,6 +29,39 @@ fn cycles_reach_the_adapter() {
     let mut bytes = [9; 3];
     card.plane(2, 0, &mut bytes).unwrap();
     assert_eq!(bytes, [0x56, 0, 0]);
+}
+
+#[test]
+fn pixels_stand_once() {
+    let mut card = card_in(0x0013);
+    card.out(0x3C8, 1).unwrap();
+    for component in [63, 0, 21] {
+        card.out(0x3C9, component).unwrap();
+    }
+    card.put(0xA0000 + 320, 1).unwrap();
+    let whole: Vec<u32> = card.frame_xrgb().unwrap().rows().flatten().copied().collect();
+    let once = card.frame_words(Form { once: true, opaque: false }).unwrap();
+    assert_eq!((once.width(), once.height(), once.across(), once.down()), (320, 200, 2, 2));
+    for (y, row) in once.rows().enumerate() {
+        for (x, &word) in row.iter().enumerate() {
+            assert_eq!(word, whole[640 * (2 * y) + 2 * x]);
+        }
+    }
+    let mut words = vec![9; 321 * 200];
+    let form = Form { once: true, opaque: true };
+    assert_eq!(card.frame_words_into(form, &mut words, 319), Err(Error::NoRoom));
+    let told = card.frame_words_into(form, &mut words, 321).unwrap();
+    assert_eq!((told.size.width, told.across), (320, 2));
+    assert_eq!((words[321], words[320], words[0]), (0xFFFF_0055, 9, 0xFF00_0000));
+}
+
+#[test]
+fn blocks_are_told() {
+    let mut card = card_in(0x0003);
+    let colours = Regs { bx: 3, cx: 5, ..Regs::ax(0x1012) };
+    assert_eq!(card.block(colours), Ok(Source { len: 15, is_at_dx: true }));
+    assert!(card.int10(colours, &[0; 15]).is_ok());
+    assert_eq!(card.int10(colours, &[0; 16]), Err(Error::BadBlock));
 }
 
 #[test]
