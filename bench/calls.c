@@ -156,6 +156,20 @@ static zak_status do_frame_xrgb(uint32_t i)
     return zak_frame_xrgb(&card, &size, pixels, sizeof pixels / 4, ZAK_WIDEST);
 }
 
+static zak_status do_frame_once(uint32_t i)
+{
+    zak_picture picture;
+    (void)i;
+    return zak_frame_words(&card, ZAK_ONCE, &picture, pixels, sizeof pixels / 4, ZAK_WIDEST);
+}
+
+static zak_status do_block(uint32_t i)
+{
+    zak_regs regs = {0x1301, 0, (uint16_t)i, 0};
+    zak_source source;
+    return zak_block(&card, &regs, &source);
+}
+
 static zak_status do_frame_lines(uint32_t i)
 {
     (void)i;
@@ -286,6 +300,8 @@ static const struct call {
     {"clock", do_clock, NULL},
     {"frame", do_frame, NULL},
     {"frame_xrgb", do_frame_xrgb, NULL},
+    {"frame_once", do_frame_once, NULL},
+    {"block", do_block, NULL},
     {"frame_lines", do_frame_lines, NULL},
     {"teletype", do_teletype, NULL},
     {"read_registers", do_read_registers, NULL},
