@@ -88,10 +88,11 @@ enum {
 /* A card. Everything that it keeps lies behind `machine`, so the struct stays as large as it is. */
 typedef struct zak_card {
     bool is_open;  /* not to be written */
+    uint32_t owed; /* not to be used */
     void *machine; /* not to be used */
 } zak_card;
 
-#define ZAK_CARD_INIT { false, NULL }
+#define ZAK_CARD_INIT { false, 0, NULL }
 
 /* The interface of the library that is linked: 65,536 times its major number, and its minor one.
  * Equal major numbers, and a minor one not below the header's, fit. */
@@ -134,7 +135,8 @@ zak_status zak_move_bytes(zak_card *card, uint32_t from, uint32_t to, size_t cou
                           size_t *decoded);
 
 /* So many dots of the clock, 0 to ZAK_MOST_DOTS; more are refused with ZAK_TOO_FAR. Dots may be
- * added up until the next other call: n and then m dots are n + m dots. */
+ * added up until the next other call: n and then m dots are n + m dots. The library does so itself,
+ * so a call of a few dots costs little, and the next other call draws them all. */
 zak_status zak_advance(zak_card *card, uint32_t dots);
 
 /* What the clock comes to next, if no register is written meanwhile. The dots of to_frame end the

@@ -21,7 +21,7 @@ from .examples import check_examples
 from .header import check_header, check_names
 from .installing import check_installing
 from .pc import check_pc
-from .programs import check_blocks, check_clock, check_memory, check_misuse, check_pictures, check_state
+from .programs import check_advances, check_blocks, check_clock, check_memory, check_misuse, check_pictures, check_state
 from .programs import check_threads, check_transfers
 from .scripts import check_scripts
 from .suite import check_joined, check_restored, check_sliced, check_suite
@@ -36,6 +36,7 @@ EACH: dict[str, Check] = {
     "joined": check_joined,
     "state": check_state,
     "clock": check_clock,
+    "advances": check_advances,
     "transfers": check_transfers,
     "pictures": check_pictures,
     "blocks": check_blocks,

@@ -18,6 +18,8 @@ CALL = re.compile(r"^(?:zak_\w+|restore_with|assemble|print|take)\(", re.M)
 SETTINGS, TRANSFERS = 100_000, 20_000
 # How many settings of registers have their pictures compared, and how many calls of interrupt 10 their blocks.
 PICTURES, BLOCKS = 200, 20_011
+# How many rounds of advances are compared.
+ADVANCES = 400
 WRAPPED = "-Wl,--wrap=malloc,--wrap=realloc,--wrap=free"
 
 
@@ -61,6 +63,14 @@ def check_transfers(built: Built, folder: Path) -> str:
     build(COMPILERS[0].c, built, [SOURCES / "transfers.c"], made, *SANITIZED)
     count = int(run([made, fonts_file(), str(TRANSFERS)]))
     return f"{count} transfers, each the same as its cycles"
+
+
+def check_advances(built: Built, folder: Path) -> str:
+    """Dots that are added up are those that are drawn one call after the other."""
+    made = folder / "advances"
+    build(COMPILERS[0].c, built, [SOURCES / "advances.c"], made, *SANITIZED)
+    count = int(run([made, fonts_file(), str(ADVANCES)]))
+    return f"{count} advances, each the same with a look behind it"
 
 
 def check_pictures(built: Built, folder: Path) -> str:

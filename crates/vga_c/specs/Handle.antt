@@ -1,13 +1,16 @@
 -- A card in the memory of a C program.
-use Rattle.std.specs.Prelude.{Bool}
+use Rattle.std.specs.Prelude.{Bool, ℕ}
+use Rattle.vga_script.specs.declared.step.Step.TheVariants.{Advance}
 use Rattle.vga_run.specs.declared.machine.Machine.{Machine}
+use Rattle.vga_run.specs.Step.{after_step}
 use Rattle.vga_c.specs.declared.sealed.Sealed.{Sealed}
 
--- whether the card is open, and what it keeps
+-- whether the card is open, how many dots of the clock it owes, and what it keeps
 pub record HandleState : Type 0 where
   pub is_open : Bool
+  pub owed : ℕ
   pub kept : Sealed
 
--- the machine that an open card keeps
-abbrev pub machine_of : HandleState → Machine
-machine_of card = card.kept.machine
+-- the machine of an open card: the one that it keeps, after the dots that it owes
+unfoldable pub machine_of : HandleState → Machine
+machine_of card = after_step card.kept.machine (Advance card.owed)

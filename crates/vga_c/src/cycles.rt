@@ -7,7 +7,7 @@ ghost use Rattle.vga_c.specs.Status.{status_of, value_of};
 ghost use Rattle.vga_c.specs.Cards.{LeavesClosed, Reads, Spares, Takes};
 
 use crate::handle::{Handle, on_open_card};
-use crate::status::{byte_status, word_status, write_status};
+use crate::status::{DONE, byte_status, word_status, write_status};
 use std::alloc::Global;
 use vga_run::machine::Machine;
 
@@ -174,18 +174,21 @@ pub extern "C" fn zak_get_word(
 
 /// Lets the clock run for so many dots.
 #[tactic(auto, unfolding(vga_run::specs::Step::after_step, vga_run::specs::Step::answer_to))]
-fn advance(machine: &mut Machine, dots: u32) -> u32
+pub(crate) fn advance(machine: &mut Machine, dots: u32) -> u32
     ensures after { machine.new ≡ after_step machine.old (Advance dots) }
     ensures status { result ≡ status_of (answer_to machine.old (Advance dots)) }
 {
     write_status(machine.card.advance(dots))
 }
 
-/// Lets the clock run for so many dots.
+/// Lets the clock run for so many dots. They are drawn before the next call that is no advance.
 #[unsafe(no_mangle)]
 pub extern "C" fn zak_advance(alloc: Global, card: &mut Handle, dots: u32) -> u32
     ensures step { Takes (Advance dots) card.old card.new result }
     ensures closed { LeavesClosed card.old card.new result }
 {
+    if card.is_open() && card.owe(dots) {
+        return DONE;
+    }
     on_open_card!(alloc, card, machine => advance(machine, dots))
 }

@@ -1,20 +1,31 @@
 //! A card in the memory of a C program.
-ghost use Rattle.std.specs.Prelude.{◌≡◌, true, false};
+ghost use Rattle.std.specs.Prelude.{◌≡◌, ◌≤◌, true, false};
+ghost use Rattle.vga_card.specs.Dots.{most_dots};
+ghost use Rattle.vga_run.specs.Step.{after_step};
+ghost use Rattle.vga_script.specs.declared.step.Step.TheVariants.{Advance};
 ghost use Rattle.vga_c.specs.Handle.{machine_of};
 
+use crate::cycles::advance;
 use crate::parts::Parts;
 use crate::sealed::Sealed;
 use std::alloc::Global;
 use std::marker::Model;
+use vga_card::laws::dots_split;
 use vga_run::machine::Machine;
+
+/// The most dots of one advance.
+const MOST_DOTS: u32 = 16_777_216;
 
 /// A card, open or not. All bytes 0 are one that is not open.
 ///
-/// Contracts see whether it is open, and the machine that it then has.
+/// Dots of the clock that follow one another are added up, and drawn together before the next call
+/// that is no advance. Contracts see whether the card is open, and the machine that it then has,
+/// these dots later.
 #[repr(C)]
 #[derive(Drop)]
 pub struct Handle {
     is_open: bool,
+    owed: u32,
     sealed: Sealed,
 }
 
@@ -24,9 +35,9 @@ impl Model for Handle {
 
     ghost Value = { HandleState };
 
-    ghost view = { λ h. record { is_open = h.is_open; kept = h.sealed } };
+    ghost view = { λ h. record { is_open = h.is_open; owed = h.owed; kept = h.sealed } };
 
-    ghost inverse = { λ d. record { is_open = d.is_open; sealed = d.kept } };
+    ghost inverse = { λ d. record { is_open = d.is_open; owed = d.owed; sealed = d.kept } };
 
     ghost invariant = { λ h. h.is_open ≡ h.sealed.full };
 }
@@ -37,6 +48,25 @@ impl Handle {
         ensures { result ≡ self.now.is_open }
     {
         self.is_open
+    }
+
+    /// Adds dots to those that are owed, unless they are too many together, and answers whether it
+    /// did.
+    pub(crate) fn owe(&mut self, dots: u32) -> bool
+        ensures owed { result ≡ true → self.new.is_open ≡ self.old.is_open }
+        ensures machine { result ≡ true → machine_of self.new
+            ≡ after_step (machine_of self.old) (Advance dots) }
+        ensures few { result ≡ true → dots ≤ most_dots }
+        ensures left { result ≡ false → self.new ≡ self.old }
+    {
+        dots_split();
+        match self.owed.checked_add(dots) {
+            Some(owed) if owed <= MOST_DOTS => {
+                self.owed = owed;
+                true
+            }
+            _ => false,
+        }
     }
 }
 
@@ -60,27 +90,58 @@ macro_rules! on_open_card {
 
 pub(crate) use on_open_card;
 
+/// The machine that an open card keeps, whose handle is empty from then on.
+fn unseal(alloc: Global, card: &mut Handle) -> Box<Machine>
+    requires { card.old.is_open ≡ true }
+    ensures machine { result.value ≡ card.old.kept.machine }
+    ensures closed { card.new.is_open ≡ false }
+{
+    let empty = Handle {
+        is_open: false,
+        owed: 0,
+        sealed: Sealed::empty(alloc),
+    };
+    let Handle { sealed, .. } = std::mem::replace(card, empty);
+    sealed.into_parts().into_box()
+}
+
+/// Lets the clock of an open card run for the dots that it owes.
+#[inline(never)]
+fn settle(alloc: Global, card: &mut Handle)
+    requires { card.old.is_open ≡ true }
+    ensures open { card.new.is_open ≡ true }
+    ensures machine { machine_of card.new ≡ machine_of card.old }
+    ensures owed { card.new.owed ≡ 0 }
+{
+    let owed = card.owed;
+    let mut held = unseal(alloc, card);
+    advance(held.as_mut(), owed);
+    give(card, held);
+}
+
 /// The machine of an open card, whose handle is empty from then on.
 pub(crate) fn take(alloc: Global, card: &mut Handle) -> Box<Machine>
     requires { card.old.is_open ≡ true }
     ensures machine { result.value ≡ machine_of card.old }
     ensures closed { card.new.is_open ≡ false }
 {
-    let empty = Handle {
-        is_open: false,
-        sealed: Sealed::empty(alloc),
-    };
-    let Handle { is_open: _, sealed } = std::mem::replace(card, empty);
-    sealed.into_parts().into_box()
+    dots_split();
+    if card.owed > 0 {
+        settle(alloc, card);
+    }
+    unseal(alloc, card)
 }
 
 /// Gives a machine to a handle, which is open from then on.
 pub(crate) fn give(card: &mut Handle, machine: Box<Machine>)
     ensures open { card.new.is_open ≡ true }
     ensures machine { machine_of card.new ≡ machine.value }
+    ensures owed { card.new.owed ≡ 0 }
 {
+    dots_split();
     *card = Handle {
         is_open: true,
+        owed: 0,
         sealed: Sealed::of_parts(Parts::of(machine)),
     };
 }

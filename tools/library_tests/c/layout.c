@@ -13,6 +13,7 @@ TAKES(zak_status, 4);
 
 TAKES(zak_card, 16);
 LIES(zak_card, is_open, 0);
+LIES(zak_card, owed, 4);
 LIES(zak_card, machine, 8);
 
 TAKES(zak_size, 8);

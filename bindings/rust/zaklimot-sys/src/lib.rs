@@ -16,6 +16,7 @@ pub type zak_status = u32;
 #[derive(Debug)]
 pub struct zak_card {
     pub is_open: bool,
+    pub owed: u32,
     pub machine: *mut c_void,
 }
 

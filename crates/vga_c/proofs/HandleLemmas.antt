@@ -1,0 +1,53 @@
+-- Dots that a card owes: they are added up, and are the dots of one advance.
+use Rattle.std.proofs.Common.{◌≡◌, ◌+◌, ◌≤◌, ◌∙◌, ℕ, Bool, true, false, nat_le, if◌then◌else◌, Ok, Err, refl, ap, sym, arith}
+use Rattle.std.proofs.lemmas.Bool.Decides.{nat_tests}
+use Rattle.vga_bits.specs.declared.refusal.Refusal.TheVariants.{TooFar}
+use Rattle.vga_card.specs.Card.{CardState}
+use Rattle.vga_card.specs.Cycles.{Written}
+use Rattle.vga_card.specs.Dots.{dots, most_dots}
+use Rattle.vga_script.specs.declared.step.Step.TheVariants.{Advance}
+use Rattle.vga_run.specs.declared.machine.Machine.{Machine}
+use Rattle.vga_run.specs.Answer.{of_write, Plain}
+use Rattle.vga_run.specs.Step.{advance_cycle, after_step, answer_to}
+use Rattle.vga_c.specs.Handle.{HandleState, machine_of}
+use Rattle.vga_c.specs.Status.{status_of}
+
+-- so many dots are few enough
+few_are : (n : ℕ) → n ≤ most_dots → nat_le n most_dots ≡ true
+few_are n few = grind (arith, nat_tests)
+
+-- few enough dots are taken, and not refused
+cycle_is : (c : CardState) (n : ℕ) → n ≤ most_dots → advance_cycle c n ≡ (dots n c, Ok tt)
+cycle_is c n few = chosen (nat_le n most_dots) (dots n c, Ok tt) (c, Err TooFar) (few_are n few)
+  where
+    chosen : (t : Bool) (x y : Written) → t ≡ true → (if t then x else y) ≡ x
+    chosen true x y e = refl
+    chosen false x y e = absurd (cc)
+
+taken : (c : CardState) (n : ℕ) → n ≤ most_dots → (advance_cycle c n).0 ≡ dots n c
+taken c n few = ap (λ (r : Written). r.0) (cycle_is c n few)
+
+-- no dots leave a machine
+pub none_owed : ((c : CardState) → dots 0 c ≡ c) → (m : Machine) → after_step m (Advance 0) ≡ m
+unfolding after_step
+none_owed none m = ap (λ (c : CardState). record m { card = c }) (taken m.card 0 (omega arith) ∙ none m.card)
+
+-- dots that are added to those that are owed come after these
+pub owed_both : ((a b : ℕ) (c : CardState) → dots (a + b) c ≡ dots b (dots a c)) → (m : Machine) (a b : ℕ) → a + b ≤ most_dots →
+    after_step m (Advance (a + b)) ≡ after_step (after_step m (Advance a)) (Advance b)
+unfolding after_step
+owed_both split m a b few =
+    let first = taken m.card a (omega (arith, few)) in
+    let later = taken (advance_cycle m.card a).0 b (omega (arith, few)) in
+    ap (λ (c : CardState). record m { card = c })
+    (taken m.card (a + b) few ∙ split a b m.card ∙ sym (later ∙ ap (dots b) first))
+
+-- few enough dots are not refused
+pub advance_is_done : (m : Machine) (n : ℕ) → n ≤ most_dots → 0 ≡ status_of (answer_to m (Advance n))
+unfolding answer_to
+advance_is_done m n few = sym (ap (λ (r : Written). status_of (Plain (of_write r.1))) (cycle_is m.card n few))
+
+-- a card that owes no dots has the machine that it keeps
+pub settled : ((c : CardState) → dots 0 c ≡ c) → (h : HandleState) → h.owed ≡ 0 → h.kept.machine ≡ machine_of h
+unfolding machine_of
+settled none h owes = sym (none_owed none h.kept.machine) ∙ ap (λ (n : ℕ). after_step h.kept.machine (Advance n)) (sym owes)

@@ -1,0 +1,114 @@
+/* zak_advance in any pieces: one card whose dots follow one another with no other call between
+ * them, and one that is looked at after each. Prints how many advances were compared, or what was
+ * wrong.
+ *
+ *     advances FONTS ROUNDS */
+#include <stdio.h>
+#include <stdlib.h>
+#include <string.h>
+
+#include "zaklimot.h"
+
+/* A round has at most so many advances, most of them of a few dots. */
+#define MOST_ADVANCES 40u
+#define FEW_DOTS 64u
+
+static uint8_t fonts[ZAK_FONTS_SIZE], states[2][ZAK_MOST_STATE];
+static zak_card card = ZAK_CARD_INIT, other = ZAK_CARD_INIT;
+static uint32_t random_state = 1;
+static unsigned long advances;
+
+static uint32_t random_below(uint32_t limit)
+{
+    random_state = 1664525u * random_state + 1013904223u;
+    return (random_state >> 8) % limit;
+}
+
+static void require(bool holds, const char *what)
+{
+    if (holds)
+        return;
+    printf("after advance %lu: %s\n", advances, what);
+    exit(1);
+}
+
+static void set_mode(zak_card *each, uint16_t mode)
+{
+    static const uint8_t none[1];
+    uint8_t table[1];
+    size_t len;
+    zak_regs regs = {mode, 0, 0, 0};
+    require(zak_int10(each, &regs, none, 0, table, sizeof table, &len) == ZAK_OK, "mode set");
+}
+
+/* Mostly a few dots; now and then a line, frames, the most that there may be, and one more. */
+static uint32_t random_dots(void)
+{
+    switch (random_below(64)) {
+    case 0:
+        return random_below(3000);
+    case 1:
+        return random_below(1000000);
+    case 2:
+        return random_below(8) == 0 ? ZAK_MOST_DOTS : 0;
+    case 3:
+        return ZAK_MOST_DOTS + 1 + random_below(3);
+    default:
+        return random_below(FEW_DOTS);
+    }
+}
+
+static void advance_both(void)
+{
+    zak_beam beam;
+    uint32_t dots = random_dots();
+    zak_status wanted = dots > ZAK_MOST_DOTS ? ZAK_TOO_FAR : ZAK_OK;
+    require(zak_advance(&card, dots) == wanted, "another status");
+    require(zak_advance(&other, dots) == wanted, "another status");
+    require(zak_read_beam(&other, &beam) == ZAK_OK, "the beam can't be read");
+    advances++;
+}
+
+/* A cycle, so that the dots before it and after it differ. */
+static void write_both(void)
+{
+    uint32_t address = 0xA0000 + random_below(0x10000);
+    uint8_t value = (uint8_t)random_below(256);
+    require(zak_put(&card, address, value) == zak_put(&other, address, value), "a put differs");
+    if (random_below(4) == 0)
+        require(zak_out(&card, 0x3C8, value) == zak_out(&other, 0x3C8, value), "an out differs");
+}
+
+static void compare_states(void)
+{
+    size_t used[2];
+    require(zak_save(&card, states[0], ZAK_MOST_STATE, &used[0]) == ZAK_OK, "save");
+    require(zak_save(&other, states[1], ZAK_MOST_STATE, &used[1]) == ZAK_OK, "save");
+    require(used[0] == used[1] && memcmp(states[0], states[1], used[0]) == 0, "the states differ");
+}
+
+int main(int argc, char **argv)
+{
+    static const uint16_t modes[] = {0x03, 0x07, 0x0D, 0x12, 0x13};
+    FILE *file = argc == 3 ? fopen(argv[1], "rb") : NULL;
+    if (!file || fread(fonts, 1, sizeof fonts, file) != sizeof fonts)
+        return 2;
+    fclose(file);
+    require(zak_open(&card, fonts, sizeof fonts) == ZAK_OK, "open");
+    require(zak_open(&other, fonts, sizeof fonts) == ZAK_OK, "open");
+    for (int round = atoi(argv[2]); round > 0; round--) {
+        if (random_below(16) == 0) {
+            uint16_t mode = modes[random_below(sizeof modes / sizeof *modes)];
+            set_mode(&card, mode);
+            set_mode(&other, mode);
+        }
+        for (uint32_t n = random_below(MOST_ADVANCES); n > 0; n--)
+            advance_both();
+        write_both();
+        compare_states();
+    }
+    zak_close(&card);
+    zak_close(&other);
+    printf("%lu\n", advances);
+    return 0;
+}
