@@ -317,7 +317,7 @@ class Completions(Fakes):
         for text in (fonts, until, "'(-s --sound)-s+[Writes", "'(-s --sound)--sound=[Writes"):
             self.assertIn(text, made[ZSH])
         for text in (
-            " run' -l fonts -x -k -a '(__fish_complete_suffix .fnt)' -d ", " run' -l until -x -d ",
+            " run' -l fonts -x -k -a '(__vga_files .fnt)' -d ", " run' -l until -x -d ",
             " run' -l sound -r -F -d ", " try' -s s -l sound -r -F -d ", " try' -s q -l quiet -d ",
         ):
             self.assertIn(text, made[FISH])

@@ -33,7 +33,7 @@ def _value(offer: Offer, manual: Manual) -> str:
     if not offer.ending:
         return " -r -F"
     # Files with the ending come first, and the order is kept.
-    return f" -x -k -a {_quoted(f'(__fish_complete_suffix {offer.ending})')}"
+    return f" -x -k -a {_quoted(f'(__vga_files {offer.ending})')}"
 
 
 def _option(option: Option, front: str, manual: Manual) -> str:

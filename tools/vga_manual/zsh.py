@@ -50,7 +50,7 @@ def _option(option: Option, manual: Manual) -> str:
     if option.value:
         value = f":{_plain(option.value)}:{_action(for_option(option, manual))}"
     if HELP & {*option.names}:
-        front = "(- *)"
+        front = "(- : *)"
     told = f"[{_plain(option.text)}]{value}"
     signed = (name + (_sign(name) if option.value else "") for name in option.names)
     return " ".join(_quoted(front + name + told) for name in signed)
@@ -61,7 +61,8 @@ def _case(command: str, told: Help, manual: Manual) -> str:
     words = [_option(option, manual) for option in told.options]
     words += [_argument(argument, place) for place, argument in enumerate(told.arguments, 1)]
     lines = "".join(f" \\\n                {word}" for word in words)
-    return f"        {command})\n            _arguments{lines} ;;"
+    # With -S no option is offered after `--`.
+    return f"        {command})\n            _arguments -S{lines} ;;"
 
 
 def zsh_completion(manual: Manual) -> str:
