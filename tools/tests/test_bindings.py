@@ -4,13 +4,20 @@ from __future__ import annotations
 
 import contextlib
 import io
+import os
+import shutil
+import subprocess
 import sys
+import tempfile
 import unittest
+from pathlib import Path
 from unittest import mock
 
 from bindings_tests import command, needs, python, running, rust
+from vga_library.making import package_text
 from vga_report import TOP
 from vga_report.trouble import TROUBLE, Wrong
+from vga_report.version import version
 
 
 def ended(*words: str) -> tuple[int, str]:
@@ -73,6 +80,56 @@ class Judging(unittest.TestCase):
 
     def test_the_page_has_its_programs(self) -> None:
         self.assertEqual(list(rust.programs_of_page()), ["src/main.rs", "src/bin/program_1.rs", "src/bin/program_2.rs"])
+
+
+@unittest.skipUnless(shutil.which("rustc"), "rustc isn't installed")
+class Finding(unittest.TestCase):
+    """What the build of the crate for Rust finds, and what it says where there is no library."""
+
+    @classmethod
+    def setUpClass(cls) -> None:
+        folder = tempfile.TemporaryDirectory()
+        cls.addClassCleanup(folder.cleanup)
+        cls.folder = Path(folder.name)
+        source = TOP / "bindings" / "rust" / "zaklimot-sys" / "build.rs"
+        words = ["rustc", "--edition", "2021", "-D", "warnings", "-o", cls.folder / "build", source]
+        subprocess.run(words, check=True, timeout=120)
+        # Each of them has its library in lib, and a file for pkg-config; the library of `empty` is not there.
+        for name in ("full", "empty"):
+            packages = cls.folder / name / "lib" / "pkgconfig"
+            packages.mkdir(parents=True)
+            (packages / "zaklimot.pc").write_text(package_text("", "lib", version()), "ascii")
+        (cls.folder / "full" / "lib" / "libzaklimot.a").touch()
+
+    def built(self, **names: str) -> tuple[int, str, str]:
+        """How the build ends, what it tells cargo, and what it says."""
+        environment = {"PATH": os.environ["PATH"], **names}
+        done = subprocess.run([self.folder / "build"], env=environment, capture_output=True, text=True, timeout=60)
+        return done.returncode, done.stdout, done.stderr
+
+    def test_what_is_found(self) -> None:
+        full = self.folder / "full"
+        for names in ({"ZAKLIMOT_DIR": str(full)}, {"PKG_CONFIG_PATH": f"/no-such-folder:{full}/lib/pkgconfig"}):
+            with self.subTest(names):
+                status, told, said = self.built(**names)
+                self.assertEqual((status, said), (0, ""))
+                self.assertIn("cargo:rustc-link-lib=static=zaklimot\n", told)
+                folders = dict(line.partition("=")[::2] for line in told.splitlines())
+                self.assertTrue(os.path.samefile(folders["cargo:rustc-link-search"].partition("=")[2], full / "lib"))
+
+    def test_without_a_library_each_way_to_one_is_told(self) -> None:
+        empty, ways = str(self.folder / "empty"), ("a release", "./install.sh", "tools/vga-library install", "PKG_CONFIG_PATH")
+        for names, begins in (
+            ({"PKG_CONFIG_PATH": f"{empty}/lib/pkgconfig"}, "there is no library libzaklimot.\n"),
+            ({"ZAKLIMOT_DIR": empty}, f"ZAKLIMOT_DIR is {empty}, and there is no lib/libzaklimot.a or .so.\n"),
+            ({"ZAKLIMOT_DIR": "kit"}, "ZAKLIMOT_DIR is kit, and a path is to begin with a slash.\n"),
+        ):
+            with self.subTest(names):
+                status, told, said = self.built(**names)
+                self.assertEqual((status, said[:len(begins)]), (1, begins))
+                self.assertNotIn("rustc-link", told)
+                for way in (*ways, "tools/vga-library make kit", "set ZAKLIMOT_DIR"):
+                    self.assertIn(way, said)
 
 
 if __name__ == "__main__":

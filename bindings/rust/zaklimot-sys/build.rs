@@ -1,20 +1,17 @@
-//! Finds the library: by `ZAKLIMOT_DIR`, a folder that `tools/vga-library make` has made, or by the
-//! file that `tools/vga-library install` lays for `pkg-config`.
+//! Finds the library: by `ZAKLIMOT_DIR`, which names a folder of `tools/vga-library make` or of a
+//! release, or by the file for `pkg-config` that is laid where the library is installed.
 
 use std::env;
 use std::path::{Path, PathBuf};
 
-const HOW: &str = "Type `tools/vga-library make kit` at the top of the repository, and set \
-ZAKLIMOT_DIR to that folder; or type `tools/vga-library install`.";
-/// Where files for `pkg-config` lie that a package installs.
-const USUAL: [&str; 6] = [
-    "/usr/local/lib/pkgconfig",
-    "/usr/local/lib/x86_64-linux-gnu/pkgconfig",
-    "/usr/lib/pkgconfig",
-    "/usr/lib/x86_64-linux-gnu/pkgconfig",
-    "/usr/local/share/pkgconfig",
-    "/usr/share/pkgconfig",
-];
+const HOW: &str = "\
+Do one of these:
+- Unpack a release, and set ZAKLIMOT_DIR to its folder.
+- Install the library: type `./install.sh` in a release, or `tools/vga-library install` in the
+  repository. If its prefix is neither /usr/local nor /usr, set ZAKLIMOT_DIR to the prefix, or
+  PKG_CONFIG_PATH to the folder of zaklimot.pc.
+- Type `tools/vga-library make kit` in the repository, and set ZAKLIMOT_DIR to the folder kit.
+ZAKLIMOT_DIR begins with a slash.";
 
 /// Where the library and its font lie.
 struct Found {
@@ -24,11 +21,11 @@ struct Found {
 
 /// Ends the build with a reason, as cargo shows it.
 fn fail(reason: &str) -> ! {
-    eprintln!("{reason}. {HOW}");
+    eprintln!("{reason}.\n{HOW}");
     std::process::exit(1);
 }
 
-/// What a folder of `tools/vga-library make` has.
+/// What the folder has that ZAKLIMOT_DIR names.
 fn in_folder(folder: &Path) -> Found {
     // Cargo builds each crate in its own folder, so a path from here on would name another one.
     if folder.is_relative() {
@@ -65,10 +62,18 @@ fn variable(text: &str, folder: &Path, name: &str) -> Option<String> {
     known.into_iter().rev().find(|(key, _)| key == name).map(|(_, value)| value)
 }
 
+/// Where files for `pkg-config` lie that a package installs.
+fn usual() -> impl Iterator<Item = PathBuf> {
+    let machine = env::var("CARGO_CFG_TARGET_ARCH").unwrap_or_else(|_| env::consts::ARCH.into());
+    let folders = ["lib".into(), format!("lib/{machine}-linux-gnu"), "share".into()];
+    let below = |prefix| folders.clone().map(|name| Path::new(prefix).join(name).join("pkgconfig"));
+    [below("/usr/local"), below("/usr")].into_iter().flatten()
+}
+
 /// What the first file for `pkg-config` says that is there.
 fn in_packages() -> Option<Found> {
     let named = env::var_os("PKG_CONFIG_PATH").unwrap_or_default();
-    let folders = env::split_paths(&named).chain(USUAL.iter().map(PathBuf::from));
+    let folders = env::split_paths(&named).chain(usual());
     for folder in folders.filter(|folder| !folder.as_os_str().is_empty()) {
         let text = match std::fs::read_to_string(folder.join("zaklimot.pc")) {
             Ok(text) => text,
