@@ -11,7 +11,8 @@ from typing import Callable, Optional, Sequence
 from vga_library.gated import gated_archive
 from vga_library.making import MOVING, Place, make_library
 from vga_library.telling import phases
-from vga_library.toolchain import BACKENDS, kit_archive, proved_archive
+from vga_library.targets import BACKENDS
+from vga_library.toolchain import kit_archive, proved_archive
 from vga_report import cli
 from vga_report.progress import Progress
 from vga_report.trouble import Trouble

@@ -9,9 +9,10 @@ from contextlib import contextmanager
 from pathlib import Path
 from typing import Callable, Iterator, Optional, Sequence
 
+from vga_library.building import built_archive, memory_part
 from vga_library.gated import gated_archive
 from vga_library.making import MOVING, Place, make_library
-from vga_library.toolchain import BACKENDS, kit_archive, proved_archive
+from vga_library.targets import TARGETS, X86_64, Target
 from vga_report import cli
 from vga_report.progress import Progress
 from vga_report.trouble import Trouble
@@ -48,6 +49,8 @@ ONCE: dict[str, Check] = {
     "header": check_header, "examples": check_examples, "scripts": check_scripts,
     "installing": check_installing, "pc": check_pc,
 }
+# Those that build programs by the words of other tools, which name this machine's own libraries.
+OWN = ("installing", "pc")
 
 
 def _parser() -> argparse.ArgumentParser:
@@ -56,6 +59,10 @@ def _parser() -> argparse.ArgumentParser:
         "tools/vga-library-tests --only header", "docs/LIBRARY.md", cli.JUDGES,
     )
     parser.set_defaults(job=_run)
+    parser.add_argument(
+        "--target", choices=[*TARGETS], default=X86_64.name,
+        help=f"the processor; programs of another one than {X86_64.name} run in QEMU",
+    )
     parser.add_argument(
         "--archive", type=Path, metavar="FILE", help="an archive that was built already, in the place of both compilers'"
     )
@@ -71,37 +78,46 @@ def _parser() -> argparse.ArgumentParser:
     return parser
 
 
-def _archive(words: argparse.Namespace, backend: str, folder: Path) -> Path:
+def _archive(words: argparse.Namespace, backend: str, target: Target, folder: Path) -> Path:
     """Lays the archive of a compiler, or the one that is given, into a file of the folder."""
     kept = folder / f"{backend}.a"
     if words.gated:
         # One proof is enough for both compilers.
-        return gated_archive(backend, words.proof or folder / "proof", kept)
+        return gated_archive(backend, words.proof or folder / "proof", kept, target)
     # The next compiler's archive takes the place of this one.
-    return Path(shutil.copyfile(words.archive or proved_archive(backend), kept))
+    return Path(shutil.copyfile(words.archive or built_archive(backend, target), kept))
 
 
 @contextmanager
-def _libraries(words: argparse.Namespace) -> Iterator[list[Built]]:
+def _libraries(words: argparse.Namespace, target: Target) -> Iterator[list[Built]]:
     """The libraries that are tested, in folders that are there as long as this lasts."""
     with tempfile.TemporaryDirectory(prefix="vga-library-tests-") as name:
         built = []
-        for backend in BACKENDS if words.archive is None else ["given"]:
-            folder, kept = Path(name) / backend, _archive(words, backend, Path(name))
-            make_library(kept, kit_archive(), Place(str(folder)), MOVING)
-            built.append(Built(backend, folder, kept))
+        for backend in target.backends if words.archive is None else ["given"]:
+            folder, kept = Path(name) / backend, _archive(words, backend, target, Path(name))
+            make_library(kept, memory_part(target, Path(name)), Place(str(folder)), MOVING, target)
+            built.append(Built(backend, folder, kept, target))
         yield built
+
+
+def _wanted(words: argparse.Namespace, target: Target) -> list[str]:
+    """The checks that are wanted: those that are named, or all that there are for the processor."""
+    own = OWN if target != X86_64 else ()
+    for name in words.only:
+        if name in own:
+            raise Trouble(f"there is no such check for {target.name}", name)
+    return words.only or [name for name in (*ONCE, *EACH) if name not in own]
 
 
 def _run(words: argparse.Namespace, _: Progress) -> None:
     """Makes each check that is wanted, and tells what came of it."""
     if words.proof is not None and not words.gated:
         raise Trouble("--proof keeps a proof of --gated")
-    missing = lacking()
+    target = TARGETS[words.target]
+    wanted, missing = _wanted(words, target), lacking(target)
     if missing:
         raise Trouble("this machine lacks\n" + "\n".join(f"  {line}" for line in missing))
-    wanted = words.only or [*ONCE, *EACH]
-    with _libraries(words) as libraries:
+    with _libraries(words, target) as libraries:
         for name, check in {**ONCE, **EACH}.items():
             for built in libraries if name in EACH else libraries[:1]:
                 if name not in wanted:

@@ -7,6 +7,7 @@ import tempfile
 from pathlib import Path
 from typing import Mapping, NamedTuple, Optional, Sequence
 
+from vga_library.targets import AARCH64, X86_64, Target
 from vga_report.processes import captured
 from vga_report.trouble import Wrong
 
@@ -24,12 +25,34 @@ class Compiler(NamedTuple):
     sanitizers: str
 
 
+class Machine(NamedTuple):
+    """What programs for a processor are built by, with the package of its binutils, and what runs them here.
+
+    The runner's words stand before a program; its package is that of the first of them.
+    """
+
+    compilers: tuple[Compiler, ...]
+    binutils: str
+    runner: tuple[str, ...] = ()
+    runner_package: str = ""
+
+
 COMPILERS = (
     Compiler("gcc", "g++", ("gcc", "g++"), "libgcc-12-dev"),
     Compiler("clang", "clang++", ("clang", "clang"), "libclang-rt-dev"),
 )
-# Other programs that are run, and their packages.
-OTHERS = {name: "binutils" for name in ("ld", "objcopy", "objdump", "ar", "nm", "readelf")}
+_CROSS = Compiler(
+    "aarch64-linux-gnu-gcc", "aarch64-linux-gnu-g++", ("gcc-aarch64-linux-gnu", "g++-aarch64-linux-gnu"),
+    "libgcc-12-dev-arm64-cross",
+)
+# The emulator takes the C library of the cross compiler. It can't look for leaks, but for all else.
+_EMULATOR = ("qemu-aarch64", "-E", "ASAN_OPTIONS=detect_leaks=0", "-L", "/usr/aarch64-linux-gnu")
+MACHINES = {
+    X86_64: Machine(COMPILERS, "binutils"),
+    AARCH64: Machine((_CROSS,), "binutils-aarch64-linux-gnu", _EMULATOR, "qemu-user"),
+}
+# Other programs that are run.
+OTHERS = ("ld", "objcopy", "objdump", "ar", "nm", "readelf")
 
 
 class Built(NamedTuple):
@@ -38,6 +61,17 @@ class Built(NamedTuple):
     name: str
     folder: Path
     archive: Path
+    target: Target = X86_64
+
+    @property
+    def compilers(self) -> tuple[Compiler, ...]:
+        """Those that build programs with it."""
+        return MACHINES[self.target].compilers
+
+    @property
+    def runner(self) -> tuple[str, ...]:
+        """The words that stand before such a program."""
+        return MACHINES[self.target].runner
 
     @property
     def include(self) -> Path:
@@ -52,25 +86,28 @@ class Built(NamedTuple):
         return self.folder / "lib" / "libzaklimot.so"
 
 
-def lacking() -> list[str]:
-    """What this machine lacks, each with the package to install."""
-    programs = dict(OTHERS)
-    for compiler in COMPILERS:
+def lacking(target: Target) -> list[str]:
+    """What this machine lacks to test the library for a processor, each with the package to install."""
+    machine = MACHINES[target]
+    programs = {target.tool(name): machine.binutils for name in OTHERS}
+    programs.update({name: machine.runner_package for name in machine.runner[:1]})
+    for compiler in machine.compilers:
         programs.update(zip((compiler.c, compiler.cpp), compiler.packages))
     told = [f"{name}: install the package {package}" for name, package in programs.items() if not shutil.which(name)]
-    for compiler in COMPILERS:
-        if shutil.which(compiler.c) and not _has_sanitizers(compiler):
+    for compiler in machine.compilers:
+        runs = all(map(shutil.which, (compiler.c, *machine.runner[:1])))
+        if runs and not _has_sanitizers(compiler, machine.runner):
             told.append(f"the sanitizers of {compiler.c}: install the package {compiler.sanitizers}")
     return told
 
 
-def _has_sanitizers(compiler: Compiler) -> bool:
+def _has_sanitizers(compiler: Compiler, runner: Sequence[str]) -> bool:
     """Whether a program that is built with them runs."""
     with tempfile.TemporaryDirectory(prefix="vga-library-tests-") as name:
         source, made = Path(name) / "nothing.c", Path(name) / "nothing"
         source.write_text(NOTHING)
         words = [compiler.c, *SANITIZED, source, "-o", made]
-        return captured(words).status == 0 and captured([made]).status == 0
+        return captured(words).status == 0 and captured([*runner, made]).status == 0
 
 
 def run(words: Sequence[str | Path], env: Optional[Mapping[str, str]] = None) -> str:

@@ -9,7 +9,7 @@ from vga_library.making import fonts_file
 from zaklimot.format import Picture
 from vga_report.trouble import Wrong
 
-from .compilers import COMPILERS, Built, build, run
+from .compilers import Built, build, run
 from .suite import HARNESS
 
 EXAMPLES = TOP / "examples"
@@ -35,24 +35,24 @@ def bars() -> bytes:
 def _scripted_picture(built: Built, folder: Path) -> bytes:
     """The PPM that the harness draws by the script."""
     harness, script = folder / "harness", folder / "colours.vga"
-    build(COMPILERS[0].c, built, HARNESS, harness, "-O2")
+    build(built.compilers[0].c, built, HARNESS, harness, "-O2")
     script.write_text(colours_script())
-    report = run([harness, script, fonts_file()]).encode("utf-8", "surrogateescape")
+    report = run([*built.runner, harness, script, fonts_file()]).encode("utf-8", "surrogateescape")
     return report[report.index(b"P6\n"):-1]
 
 
 def check_examples(built: Built, folder: Path) -> str:
     """The first program draws what the script draws, and the core draws its bars."""
     wanted, made, ppm = _scripted_picture(built, folder), folder / "picture", folder / "picture.ppm"
-    for compiler in COMPILERS:
+    for compiler in built.compilers:
         build(compiler.c, built, [EXAMPLES / "c" / "picture.c"], made, "-O2")
-        run([made, fonts_file(), ppm])
+        run([*built.runner, made, fonts_file(), ppm])
         if ppm.read_bytes() != wanted:
             raise Wrong(f"the picture of C by {compiler.c} is not the script's")
         ppm.unlink()
     core, ppm = folder / "core", folder / "core.ppm"
-    build(COMPILERS[0].c, built, [EXAMPLES / "c" / "core.c"], core, "-O2")
-    run([core, fonts_file(), ppm])
+    build(built.compilers[0].c, built, [EXAMPLES / "c" / "core.c"], core, "-O2")
+    run([*built.runner, core, fonts_file(), ppm])
     if Picture.of_ppm(ppm.read_bytes()) != Picture.of_dots(640, 480, bars()):
         raise Wrong("the core in miniature draws other bars")
-    return f"pictures from C by {', '.join(compiler.c for compiler in COMPILERS)}, and a core's"
+    return f"pictures from C by {', '.join(compiler.c for compiler in built.compilers)}, and a core's"

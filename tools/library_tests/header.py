@@ -9,7 +9,7 @@ from vga_library.making import fonts_file
 from vga_report.version import HEADER, version
 from vga_report.trouble import Wrong
 
-from .compilers import COMPILERS, SANITIZED, STRICT, Built, run
+from .compilers import SANITIZED, STRICT, Built, run
 
 LAYOUT = Path(__file__).resolve().parent / "c" / "layout.c"
 OBJECTS = LAYOUT.with_name("objects.cpp")
@@ -34,7 +34,7 @@ def check_header(built: Built, folder: Path) -> str:
     # Twice, so that its guard is tried too.
     alone.write_text(2 * '#include "zaklimot.h"\n' + "int unused;\n")
     count = 0
-    for compiler in COMPILERS:
+    for compiler in built.compilers:
         tries = [(compiler.c, "c", standard) for standard in C_STANDARDS]
         tries += [(compiler.cpp, "c++", standard) for standard in CPP_STANDARDS]
         for name, language, standard in tries:
@@ -43,7 +43,7 @@ def check_header(built: Built, folder: Path) -> str:
                 _compile(name, language, standard, LAYOUT, built.include)
             count += 1
         count += _check_objects(compiler.cpp, built, folder)
-    return f"taken in {count} ways by {', '.join(compiler.c for compiler in COMPILERS)}"
+    return f"taken in {count} ways by {', '.join(compiler.c for compiler in built.compilers)}"
 
 
 def _check_objects(compiler: str, built: Built, folder: Path) -> int:
@@ -52,7 +52,7 @@ def _check_objects(compiler: str, built: Built, folder: Path) -> int:
     for standard in OBJECT_STANDARDS:
         words = [compiler, f"-std={standard}", *STRICT, *SANITIZED, "-I", built.include]
         run([*words, OBJECTS, built.static, "-o", made])
-        run([made, fonts_file()])
+        run([*built.runner, made, fonts_file()])
     return len(OBJECT_STANDARDS)
 
 
@@ -71,14 +71,14 @@ def names_in(table: str) -> tuple[set[str], set[str]]:
 def check_names(built: Built) -> str:
     """The names that are seen of both libraries are the header's calls, and they want few of the C library."""
     calls = set(calls_of(HEADER.read_text("ascii")))
-    for path, words in ((built.static, ["nm", "-g"]), (built.shared, ["nm", "-D"])):
-        defined, wanted = names_in(run([*words, path]))
+    for path, word in ((built.static, "-g"), (built.shared, "-D")):
+        defined, wanted = names_in(run([built.target.tool("nm"), word, path]))
         if defined != calls:
             raise Wrong(f"{path.name}: seen and not in the header: {sorted(defined - calls)}; "
                         f"in the header and not seen: {sorted(calls - defined)}")
         if not wanted - WEAK <= OUTSIDE:
             raise Wrong(f"{path.name} wants {sorted(wanted - WEAK - OUTSIDE)}")
-    told = run(["readelf", "--wide", "--dynamic", "--segments", built.shared])
+    told = run([built.target.tool("readelf"), "--wide", "--dynamic", "--segments", built.shared])
     for word in (f"Library soname: [libzaklimot.so.{version().major}]", "Flags: NOW", "GNU_RELRO"):
         if word not in told:
             raise Wrong(f"{built.shared.name} has not {word}")

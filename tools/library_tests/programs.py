@@ -9,7 +9,7 @@ from pathlib import Path
 from vga_library.making import fonts_file
 from vga_report.trouble import Wrong
 
-from .compilers import COMPILERS, SANITIZED, Built, build, run
+from .compilers import SANITIZED, Built, build, run
 
 SOURCES = Path(__file__).resolve().parent / "c"
 # A line of misuse.txt that tells a call's status; functions of misuse.c make some.
@@ -33,10 +33,10 @@ def expect(name: str, written: str) -> None:
 
 def check_misuse(built: Built, folder: Path) -> str:
     """Calls that are wrong are answered by their statuses, and the sanitizers find nothing."""
-    for compiler in COMPILERS:
+    for compiler in built.compilers:
         made = folder / f"misuse-{compiler.c}"
         build(compiler.c, built, [SOURCES / "misuse.c"], made, *SANITIZED)
-        expect("misuse", run([made, fonts_file()]))
+        expect("misuse", run([*built.runner, made, fonts_file()]))
     count = len(CALL.findall((SOURCES / "misuse.txt").read_text("ascii")))
     return f"{count} calls answered as they should be, with sanitizers"
 
@@ -44,24 +44,24 @@ def check_misuse(built: Built, folder: Path) -> str:
 def check_state(built: Built, folder: Path) -> str:
     """What is read of the state and of the screen says what the dumps say, so that structs are the proved side's."""
     made = folder / "state"
-    build(COMPILERS[0].c, built, [SOURCES / "state.c"], made, *SANITIZED)
-    count = int(run([made, fonts_file()]))
+    build(built.compilers[0].c, built, [SOURCES / "state.c"], made, *SANITIZED)
+    count = int(run([*built.runner, made, fonts_file()]))
     return f"{count} readings are those of dumps and screens"
 
 
 def check_clock(built: Built, folder: Path) -> str:
     """What zak_clock tells comes after just so many dots, over pseudo-random registers."""
     made = folder / "clock"
-    build(COMPILERS[0].c, built, [SOURCES / "clock.c"], made, "-O2")
-    count = int(run([made, fonts_file(), str(SETTINGS)]))
+    build(built.compilers[0].c, built, [SOURCES / "clock.c"], made, "-O2")
+    count = int(run([*built.runner, made, fonts_file(), str(SETTINGS)]))
     return f"{count} settings of registers, each with an event that comes when it is told"
 
 
 def check_transfers(built: Built, folder: Path) -> str:
     """Calls for many bytes leave and answer what their single cycles do, over pseudo-random registers."""
     made = folder / "transfers"
-    build(COMPILERS[0].c, built, [SOURCES / "transfers.c"], made, *SANITIZED)
-    count = int(run([made, fonts_file(), str(TRANSFERS)]))
+    build(built.compilers[0].c, built, [SOURCES / "transfers.c"], made, *SANITIZED)
+    count = int(run([*built.runner, made, fonts_file(), str(TRANSFERS)]))
     return f"{count} transfers, each the same as its cycles"
 
 
@@ -92,14 +92,14 @@ def check_blocks(built: Built, folder: Path) -> str:
 def check_threads(built: Built, folder: Path) -> str:
     """Cards in two threads, and one that moves, draw what one draws alone."""
     made = folder / "threads"
-    build(COMPILERS[0].c, built, [SOURCES / "threads.c"], made, "-O2", "-pthread")
-    expect("threads", run([made, fonts_file()]))
+    build(built.compilers[0].c, built, [SOURCES / "threads.c"], made, "-O2", "-pthread")
+    expect("threads", run([*built.runner, made, fonts_file()]))
     return "two cards in two threads, by cycles and by slices of scripts, and one that moves"
 
 
 def check_memory(built: Built, folder: Path) -> str:
     """Each growth of memory is refused in turn."""
     made = folder / "memory"
-    build(COMPILERS[0].c, built, [SOURCES / "memory.c"], made, "-g", WRAPPED)
-    counts = [line.split() for line in run([made, fonts_file()]).splitlines()]
+    build(built.compilers[0].c, built, [SOURCES / "memory.c"], made, "-g", WRAPPED)
+    counts = [line.split() for line in run([*built.runner, made, fonts_file()]).splitlines()]
     return "growths refused: " + ", ".join(f"{name} {count}" for name, count in counts)

@@ -9,7 +9,7 @@ from vga_library.making import fonts_file
 from vga_report.processes import captured
 from vga_report.trouble import Wrong
 
-from .compilers import COMPILERS, SANITIZED, Built, build, run
+from .compilers import SANITIZED, Built, build, run
 from .suite import HARNESS
 
 EXAMPLES = TOP / "examples"
@@ -23,9 +23,9 @@ LONG = "version 2\nint ax=13\nrepeat 90\nadvance 12345\nshow beam\nin 3DA\nend\n
 LONG_STEPS, FROM, BACK = 272, 150, 45
 
 
-def _session(debugger: Path, script: Path, commands: str) -> list[str]:
+def _session(built: Built, debugger: Path, script: Path, commands: str) -> list[str]:
     """The lines that the debugger writes."""
-    words = [debugger, fonts_file(), script]
+    words = [*built.runner, debugger, fonts_file(), script]
     done = captured(words, given=commands.encode("ascii"))
     if done.status:
         said = done.errors.decode("utf-8", "replace")
@@ -36,16 +36,16 @@ def _session(debugger: Path, script: Path, commands: str) -> list[str]:
 def _check_debugger(built: Built, folder: Path) -> None:
     """What it writes forward and back are lines of the report that the harness writes."""
     debugger, harness, script = folder / "debugger", folder / "harness", folder / "long.vga"
-    build(COMPILERS[0].c, built, STEPPING, debugger, *SANITIZED)
-    build(COMPILERS[0].c, built, HARNESS, harness, "-O2")
-    told = _session(debugger, folder / "few.vga", "list\nstep 3\nback\nstep 4294967299\nback 9\nbeam\n")
+    build(built.compilers[0].c, built, STEPPING, debugger, *SANITIZED)
+    build(built.compilers[0].c, built, HARNESS, harness, "-O2")
+    told = _session(built, debugger, folder / "few.vga", "list\nstep 3\nback\nstep 4294967299\nback 9\nbeam\n")
     few = REPORT.splitlines()
     wanted = [*PRINTED.splitlines(), *few[:3], "after step 2", *few[2:], "after step 0"]
     if told != [*wanted, "line 0, character 0, dot 0"]:
         raise Wrong(f"the debugger writes {told}")
     script.write_text(LONG, "ascii")
-    lines = run([harness, script, fonts_file()]).splitlines()
-    told = _session(debugger, script, f"step {FROM}\nback {BACK}\nstep 1000\nback 1000\nstep {FROM}\n")
+    lines = run([*built.runner, harness, script, fonts_file()]).splitlines()
+    told = _session(built, debugger, script, f"step {FROM}\nback {BACK}\nstep 1000\nback 1000\nstep {FROM}\n")
     again = [f"after step {FROM - BACK}", *lines[FROM - BACK:LONG_STEPS]]
     if told != [*lines[:FROM], *again, "after step 0", *lines[:FROM]]:
         raise Wrong("the debugger's answers are not the harness's")

@@ -4,6 +4,7 @@ from __future__ import annotations
 
 import json
 import os
+import shlex
 import sys
 from pathlib import Path
 from typing import Any
@@ -16,7 +17,7 @@ from vga_report.words import SUITE
 from vga_report.processes import captured
 from vga_report.trouble import Wrong
 
-from .compilers import COMPILERS, Built, build
+from .compilers import Built, build
 
 # So many cases are told that do not agree.
 MOST_TOLD = 20
@@ -42,8 +43,9 @@ def judged(told: dict[str, Any], left_out: set[str]) -> str:
 def _answers(built: Built, folder: Path, texts: str, scripts: str, left_out: set[str]) -> str:
     """What comes of all cases by the harness, with these words for texts and for bytes."""
     harness = folder / f"harness-{built.name}"
-    build(COMPILERS[0].c, built, HARNESS, harness, "-O2")
-    commands = [f"'{harness}' {texts}", "--bytes", f"'{harness}' {scripts}"]
+    build(built.compilers[0].c, built, HARNESS, harness, "-O2")
+    command = shlex.join([*built.runner, str(harness)])
+    commands = [f"{command} {texts}", "--bytes", f"{command} {scripts}"]
     words = [sys.executable, TOP / "tools" / "vga-report", "suite", *commands, "--json"]
     done = captured([*words, "--jobs", str(os.cpu_count() or 1)])
     if done.status not in (AGREED, DIFFERED):

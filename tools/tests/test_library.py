@@ -17,6 +17,7 @@ from library_tests.programs import expect
 from library_tests.suite import judged
 from vga_library import command, gated, made
 from vga_library.header import calls_of
+from vga_library.targets import X86_64
 from vga_report import TOP
 from vga_report.version import HEADER, Version, version_of, without_comments
 from vga_library.making import MOVING, Place, cmake_text, cmake_version_text, package_text
@@ -111,27 +112,27 @@ class Made(unittest.TestCase):
             self.addCleanup(patch.stop)
 
     def test_the_same_sources(self) -> None:
-        self.assertIsNone(made.kept("llvm"))
-        kept = made.keep("llvm", *self.parts)
+        self.assertIsNone(made.kept("llvm", X86_64))
+        kept = made.keep("llvm", X86_64, *self.parts)
         self.assertEqual([path.read_text() for path in kept], ["one.a", "two.a"])
-        self.assertEqual(made.kept("llvm"), kept)
-        self.assertIsNone(made.kept("rattle"))
+        self.assertEqual(made.kept("llvm", X86_64), kept)
+        self.assertIsNone(made.kept("rattle", X86_64))
 
     def test_other_sources_or_archives(self) -> None:
-        kept = made.keep("llvm", *self.parts)
+        kept = made.keep("llvm", X86_64, *self.parts)
         self.low.write_text("changed")
-        self.assertIsNone(made.kept("llvm"))
+        self.assertIsNone(made.kept("llvm", X86_64))
         self.low.write_text("low")
-        self.assertEqual(made.kept("llvm"), kept)
+        self.assertEqual(made.kept("llvm", X86_64), kept)
         kept[0].write_text("changed")
-        self.assertIsNone(made.kept("llvm"))
+        self.assertIsNone(made.kept("llvm", X86_64))
         kept[0].unlink()
-        self.assertIsNone(made.kept("llvm"))
+        self.assertIsNone(made.kept("llvm", X86_64))
 
     def test_a_new_source(self) -> None:
-        made.keep("llvm", *self.parts)
+        made.keep("llvm", X86_64, *self.parts)
         self.low.with_name("more.rt").write_text("")
-        self.assertIsNone(made.kept("llvm"))
+        self.assertIsNone(made.kept("llvm", X86_64))
 
 
 class Gated(unittest.TestCase):
@@ -214,11 +215,11 @@ class Checks(unittest.TestCase):
         from library_tests import compilers
 
         with mock.patch("shutil.which", return_value=None):
-            told = compilers.lacking()
+            told = compilers.lacking(X86_64)
         for name in (*(compiler.c for compiler in COMPILERS), "nm", "objcopy"):
             self.assertTrue(any(line.startswith(f"{name}: install the package ") for line in told), name)
         with mock.patch.object(compilers, "_has_sanitizers", return_value=False):
-            told = compilers.lacking()
+            told = compilers.lacking(X86_64)
         self.assertTrue(all("install the package" in line for line in told) and told)
 
     def test_what_the_first_program_and_the_core_draw(self) -> None:

@@ -20,6 +20,7 @@ from unittest import mock
 
 from vga_report import TOP
 from vga_report.version import version
+from vga_library.targets import X86_64
 from vga_release import command
 from vga_release.commit import Commit, File, clean_commit
 from vga_release.gathering import FRONT, INSTALL, LINKS, MADE_OF, PAGE, PATHS, made_of, settled
@@ -181,7 +182,7 @@ class Wheels(unittest.TestCase):
             for number in "12":
                 folder = Path(name) / number
                 folder.mkdir()
-                made.append(wheel_of(files, library, folder))
+                made.append(wheel_of(files, library, folder, X86_64))
             self.assertEqual(made[0].read_bytes(), made[1].read_bytes())
             self.assertEqual(made[0].name, f"zaklimot-{version()}-py3-none-linux_x86_64.whl")
             with zipfile.ZipFile(made[0]) as wheel:
@@ -246,8 +247,8 @@ class Packed(unittest.TestCase):
             given.write_bytes(b"built")
             with mock.patch.object(command, "clean_commit", return_value=COMMIT), mock.patch.object(
                 command, "release_entries", return_value=ENTRIES
-            ):
-                words = [name, "--program", str(given), "--archive", str(given)]
+            ), mock.patch.object(command, "want"):
+                words = [name, "--program", str(given), "--archive", str(given), "--archive-aarch64", str(given)]
                 self.assertEqual(command.main(words), 0)
             archive, sums = (Path(line) for line in told.getvalue().splitlines())
             number = hashlib.sha256(archive.read_bytes()).hexdigest()

@@ -4,24 +4,31 @@ from __future__ import annotations
 
 import argparse
 import os
+import tempfile
 from pathlib import Path
 from typing import Optional, Sequence
 
 from vga_report import cli
+from vga_report.processes import want
 from vga_report.progress import Progress
 from vga_report.streams import check_folder, to_read
 from vga_report.trouble import Trouble
 
-from .making import MOVING, Place, make_library
-from .telling import phases
+from .building import built_archive, memory_part
 from .made import keep, kept
-from .toolchain import ARCHIVE, BACKENDS, kit_archive, proved_archive
+from .making import MOVING, Place, make_library
+from .targets import BACKENDS, TARGETS, X86_64, Target
+from .telling import phases
+from .toolchain import ARCHIVE
 
 # Where files go that a package names no other place for.
 USUAL_PREFIX = "/usr/local"
 
 
 def _add_archive(parser: argparse.ArgumentParser) -> None:
+    parser.add_argument(
+        "--target", choices=[*TARGETS], default=X86_64.name, help="the processor, with Linux; else x86_64"
+    )
     parser.add_argument(
         "--backend", choices=BACKENDS, default=BACKENDS[0],
         help="the compiler: llvm, or rattle, which is written in Rattle; else llvm",
@@ -51,17 +58,32 @@ def _parser() -> argparse.ArgumentParser:
     return parser
 
 
-def _parts(words: argparse.Namespace, takes_made: bool, progress: Progress) -> tuple[Path, Path]:
-    """The crate's archive and the kit's: given, made before from the same sources, or proved and built now."""
+def _parts(
+    words: argparse.Namespace, target: Target, takes_made: bool, progress: Progress, folder: Path
+) -> tuple[Path, Path]:
+    """The crate's archive, given or made before of the same sources, or proved and built now; and its memory's part.
+
+    What goes once the library is laid lies in the folder.
+    """
     if words.archive is not None:
-        return Path(words.archive), kit_archive()
-    found = kept(words.backend) if takes_made else None
+        return Path(words.archive), memory_part(target, folder)
+    found = kept(words.backend, target) if takes_made else None
     if found is not None:
         return found
     heard = phases(progress)("proving and building the library")
-    parts = proved_archive(words.backend, heard), kit_archive()
+    parts = built_archive(words.backend, target, heard), memory_part(target, folder)
     progress.clear()
-    return keep(words.backend, *parts)
+    return keep(words.backend, target, *parts)
+
+
+def _wanted_target(words: argparse.Namespace) -> Target:
+    """The processor that is named, once all is there that makes the library for it."""
+    target = TARGETS[words.target]
+    if words.archive is None and words.backend not in target.backends:
+        raise Trouble(f"the toolchain has no compiler {words.backend} for it", target.name)
+    for name in target.programs():
+        want(name)
+    return target
 
 
 def _lay(
@@ -70,11 +92,14 @@ def _lay(
     """Makes the library, and tells its files."""
     if words.archive is not None and not os.path.isfile(words.archive):
         raise Trouble("there is no such file", words.archive)
-    # What is wrong with the folders is told before the long work.
+    # What is wrong with words, programs and folders is told before the long work.
+    target = _wanted_target(words)
     for name in ("include", place.library_folder, "share"):
         check_folder(place.folder(name))
-    for path in make_library(*_parts(words, takes_made, progress), place, prefix):
-        print(path)
+    with tempfile.TemporaryDirectory(prefix="vga-library-") as folder:
+        parts = _parts(words, target, takes_made, progress, Path(folder))
+        for path in make_library(*parts, place, prefix, target):
+            print(path)
 
 
 def _make(words: argparse.Namespace, progress: Progress) -> None:

@@ -15,6 +15,7 @@ from vga_report.processes import run
 from vga_report.trouble import Trouble
 
 from vga_report import TOP
+from .targets import X86_64, Target
 from .toolchain import CRATE, kit_folder
 
 # What every crate stands on, unnamed.
@@ -76,12 +77,12 @@ def proving_words(kit: Path, kept: str | Path) -> list[str | Path]:
     return [*words, "--incremental", kept]
 
 
-def gated_archive(backend: str, kept: Path, made: Path) -> Path:
-    """Proves the crate, keeps its proof in a folder, and builds the archive by one of the compilers.
+def gated_archive(backend: str, kept: Path, made: Path, target: Target = X86_64) -> Path:
+    """Proves the crate, keeps its proof in a folder, and builds the archive for a processor by one of the compilers.
 
     Where the folder has the proof already, it is not made again.
     """
     kit = kit_folder()
     words = [*proving_words(kit, kept.absolute()), "--toolchain", kit / "toolchain", "--backend", backend]
-    run([kit / "bin" / "rattle", "build", *words, "-o", made], CRATE)
+    run([kit / "bin" / "rattle", "build", *words, "--target", target.triple, "-o", made], CRATE)
     return made

@@ -12,12 +12,15 @@ from typing import Iterator, Optional
 
 from vga_report import TOP
 
+from .building import HEAP
 from .gated import below
+from .targets import X86_64, Target
 from .toolchain import CRATE
 
+# In it each processor has a folder.
 FOLDER = CRATE / "out" / "made"
-# The crate's archive and the kit's, and what they were made of.
-CRATES, KIT, MADE_OF = "crates.a", "kit.a", "made-of"
+# The crate's archive, the functions that take its memory, and what they were made of.
+CRATES, MEMORY, MADE_OF = "crates.a", "memory.a", "made-of"
 
 
 def _digest(data: bytes) -> str:
@@ -34,30 +37,37 @@ def _sources() -> Iterator[Path]:
                 yield from sorted(path for path in (entry.rglob("*") if entry.is_dir() else [entry]) if path.is_file())
 
 
-def made_of(backend: str) -> str:
+def made_of(backend: str, target: Target) -> str:
     """A line for the compiler and for each source, with its digest."""
-    lines = (f"{_digest(path.read_bytes())} {path.relative_to(TOP)}\n" for path in _sources())
+    lines = [f"{_digest(path.read_bytes())} {path.relative_to(TOP)}\n" for path in _sources()]
+    if target != X86_64:
+        lines.append(f"{_digest(HEAP.read_bytes())} {HEAP.name}\n")
     return f"backend {backend}\n" + "".join(lines)
 
 
-def keep(backend: str, crates: Path, kit: Path) -> tuple[Path, Path]:
-    """Keeps both archives, and answers where."""
-    FOLDER.mkdir(parents=True, exist_ok=True)
-    told = FOLDER / MADE_OF
+def _parts(target: Target) -> tuple[Path, Path]:
+    """Where both parts are kept."""
+    return FOLDER / target.name / CRATES, FOLDER / target.name / MEMORY
+
+
+def keep(backend: str, target: Target, crates: Path, memory: Path) -> tuple[Path, Path]:
+    """Keeps both parts, and answers where."""
+    parts = _parts(target)
+    told = parts[0].with_name(MADE_OF)
+    told.parent.mkdir(parents=True, exist_ok=True)
     told.unlink(missing_ok=True)
-    parts = FOLDER / CRATES, FOLDER / KIT
-    for source, place in zip((crates, kit), parts):
+    for source, place in zip((crates, memory), parts):
         shutil.copyfile(source, place)
-    told.write_text(made_of(backend) + "".join(f"{_digest(path.read_bytes())} {path.name}\n" for path in parts), "utf-8")
+    told.write_text(made_of(backend, target) + "".join(f"{_digest(path.read_bytes())} {path.name}\n" for path in parts), "utf-8")
     return parts
 
 
-def kept(backend: str) -> Optional[tuple[Path, Path]]:
-    """Both archives, where they were made by this compiler of these sources; else None."""
-    parts = FOLDER / CRATES, FOLDER / KIT
+def kept(backend: str, target: Target) -> Optional[tuple[Path, Path]]:
+    """Both parts, where they were made by this compiler of these sources; else None."""
+    parts = _parts(target)
     try:
-        told = (FOLDER / MADE_OF).read_text("utf-8")
+        told = parts[0].with_name(MADE_OF).read_text("utf-8")
         own = "".join(f"{_digest(path.read_bytes())} {path.name}\n" for path in parts)
     except FileNotFoundError:
         return None
-    return parts if told == made_of(backend) + own else None
+    return parts if told == made_of(backend, target) + own else None

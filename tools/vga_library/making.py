@@ -12,7 +12,7 @@ from vga_report.streams import refuse_input
 
 from vga_report import TOP
 from vga_report.version import HEADER, Version, version
-from .toolchain import compiler
+from .targets import X86_64, Target
 
 NAME = "zaklimot"
 # The name by which CMake finds it, and the files that it reads, with places for what is made.
@@ -76,27 +76,27 @@ def cmake_version_text(told: Version) -> str:
     return text.replace("@VERSION@", str(told)).replace("@MAJOR@", str(told.major))
 
 
-def joined_object(archive: Path, kit: Path, folder: Path) -> Path:
-    """One object of the crate's archive and the kit's, of which the names of the header alone are seen."""
+def joined_object(archive: Path, memory: Path, folder: Path, target: Target) -> Path:
+    """One object of the crate's archive and of the functions that take its memory, of which the names of the header alone are seen."""
     made = folder / f"{NAME}.o"
-    run(["ld", "-r", "-z", "noexecstack", "-o", made, "--whole-archive", archive, kit])
-    run(["objcopy", "--wildcard", f"--keep-global-symbol={SEEN}", made])
+    run([target.tool("ld"), "-r", "-z", "noexecstack", "-o", made, "--whole-archive", archive, memory])
+    run([target.tool("objcopy"), "--wildcard", f"--keep-global-symbol={SEEN}", made])
     return made
 
 
-def make_archive(whole: Path, made: Path) -> None:
+def make_archive(whole: Path, made: Path, target: Target) -> None:
     """The static library. It has no times and no owners, so that it is the same each time."""
     made.unlink(missing_ok=True)
-    run(["ar", "rcsD", made, whole])
+    run([target.tool("ar"), "rcsD", made, whole])
 
 
-def make_shared(whole: Path, folder: Path, told: Version) -> None:
+def make_shared(whole: Path, folder: Path, told: Version, target: Target) -> None:
     """The shared library under its version, with the names by which programs and linkers look for it."""
     soname, file = f"lib{NAME}.so.{told.major}", f"lib{NAME}.so.{told}"
     options = ["-shared", f"-Wl,-soname,{soname}", "-Wl,-z,noexecstack", "-Wl,-z,defs", "-Wl,--build-id=none"]
     # Names are looked for once, when a program starts; what holds their places is only read then.
     options += ["-Wl,-z,relro", "-Wl,-z,now"]
-    run([compiler(), *options, "-o", folder / file, whole])
+    run([target.compiler(), *options, "-o", folder / file, whole])
     for link in (soname, f"lib{NAME}.so"):
         (folder / link).unlink(missing_ok=True)
         (folder / link).symlink_to(file)
@@ -113,10 +113,13 @@ def _written(path: Path, text: str) -> Path:
     return path
 
 
-def make_library(archive: Path, kit: Path, place: Place, prefix: str) -> list[Path]:
+def make_library(
+    archive: Path, memory: Path, place: Place, prefix: str, target: Target = X86_64
+) -> list[Path]:
     """Lays headers, libraries, fonts, and what `pkg-config` and CMake read. Answers what was laid.
 
-    The file for `pkg-config` names this prefix, or one that goes with the folder where it is MOVING.
+    The archive and the functions that take its memory are for this processor. The file for `pkg-config`
+    names this prefix, or one that goes with the folder where it is MOVING.
     """
     told = version()
     include, libraries = place.folder("include"), place.folder(place.library_folder)
@@ -130,9 +133,9 @@ def make_library(archive: Path, kit: Path, place: Place, prefix: str) -> list[Pa
     with tempfile.TemporaryDirectory(prefix="vga-library-") as name:
         made = Path(name) / "lib"
         made.mkdir()
-        whole = joined_object(archive, kit, Path(name))
-        make_archive(whole, made / f"lib{NAME}.a")
-        make_shared(whole, made, told)
+        whole = joined_object(archive, memory, Path(name), target)
+        make_archive(whole, made / f"lib{NAME}.a", target)
+        make_shared(whole, made, told, target)
         laid = {
             include / HEADER.name: HEADER, include / CPP_HEADER.name: CPP_HEADER,
             **{libraries / path.name: path for path in sorted(made.iterdir())},

@@ -2,7 +2,6 @@
 
 from __future__ import annotations
 
-import os
 from pathlib import Path
 from typing import Optional
 
@@ -10,14 +9,10 @@ from vga_report.processes import Hearer, run
 
 from vga_report import TOP
 
+from .targets import BACKENDS
+
 CRATE = TOP / "crates" / "vga_c"
 ARCHIVE = CRATE / "out" / "libvga_c.a"
-BACKENDS = ("llvm", "rattle")
-
-
-def compiler() -> str:
-    """The C compiler, as packagers name one."""
-    return os.environ.get("CC") or "cc"
 
 
 def kit_folder() -> Path:

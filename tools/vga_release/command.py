@@ -10,10 +10,11 @@ from typing import Optional, Sequence
 
 from vga_report import TOP
 from vga_report.version import version
+from vga_library.building import built_archive
+from vga_library.targets import AARCH64, BACKENDS, X86_64, Target
 from vga_library.telling import phases
-from vga_library.toolchain import BACKENDS, proved_archive
 from vga_report import cli
-from vga_report.processes import Hearer, run
+from vga_report.processes import Hearer, run, want
 from vga_report.progress import Progress
 from vga_report.streams import check_folder, to_read, write_file, writing
 from vga_report.trouble import Trouble
@@ -35,6 +36,9 @@ def _parser() -> argparse.ArgumentParser:
     parser.add_argument("folder", type=Path, metavar="FOLDER", help="where the archive goes")
     parser.add_argument("--program", type=to_read, metavar="FILE", help="the program, built already; else `rt run` proves and builds it")
     parser.add_argument("--archive", type=to_read, metavar="FILE", help="the same of the library; else `rt lib` does")
+    parser.add_argument(
+        f"--archive-{AARCH64.name}", type=to_read, metavar="FILE", help=f"the same of the library for {AARCH64.name}"
+    )
     parser.set_defaults(job=_release)
     return parser
 
@@ -50,18 +54,33 @@ def _proved_program(heard: Hearer) -> Path:
     return PROGRAM / "out" / "vga"
 
 
-def _release(words: argparse.Namespace, progress: Progress) -> None:
-    """Makes the archive and the file of its checksum, and tells their names."""
-    for given in (words.program, words.archive):
+def _check_words(words: argparse.Namespace) -> None:
+    """What is wrong with the words is told before the long work."""
+    for given in (words.program, words.archive, words.archive_aarch64):
         if given is not None and not os.path.isfile(given):
             raise Trouble("there is no such file", given)
     check_folder(words.folder)
-    commit, name = clean_commit(), release_name()
+
+
+def _built(words: argparse.Namespace, progress: Progress) -> tuple[Path, dict[Target, Path]]:
+    """The program, and the crate's archive for each processor: given, or proved and built now."""
     tell = phases(progress)
     program = Path(words.program or _proved_program(tell("proving and building the program")))
-    archive = Path(words.archive or proved_archive(BACKENDS[0], tell("proving and building the library")))
+    archives = {}
+    for target, given in ((X86_64, words.archive), (AARCH64, words.archive_aarch64)):
+        heard = tell(f"proving and building the library for {target.name}")
+        archives[target] = Path(given or built_archive(BACKENDS[0], target, heard))
     progress.clear()
-    entries = release_entries(commit, program, archive)
+    return program, archives
+
+
+def _release(words: argparse.Namespace, progress: Progress) -> None:
+    """Makes the archive and the file of its checksum, and tells their names."""
+    _check_words(words)
+    commit, name = clean_commit(), release_name()
+    for program in (*X86_64.programs(), *AARCH64.programs()):
+        want(program)
+    entries = release_entries(commit, *_built(words, progress))
     words.folder.mkdir(parents=True, exist_ok=True)
     path = words.folder / f"{name}.tar.gz"
     with writing(str(path)) as stream:

@@ -9,8 +9,9 @@ from pathlib import Path
 from typing import Mapping
 
 from vga_report import TOP
+from vga_library.building import memory_part
 from vga_library.making import MOVING, Place, make_library
-from vga_library.toolchain import kit_archive
+from vga_library.targets import X86_64, Target
 from vga_manual.making import manual_files
 from vga_report.processes import output_of
 
@@ -52,16 +53,27 @@ def laid_files(folder: Path) -> dict[str, Entry]:
     return entries
 
 
-def built_files(files: Mapping[str, File], program: Path, archive: Path) -> dict[str, Entry]:
-    """The program with its manual, the library as it is laid into a folder, and the wheel with that library."""
+def library_files(files: Mapping[str, File], target: Target, archive: Path) -> dict[str, Entry]:
+    """The library for a processor as it is laid into a folder, and the wheel with it.
+
+    They lie in a folder of the processor's name, but for those of the program's own processor.
+    """
     with tempfile.TemporaryDirectory(prefix="vga-release-") as name:
         library, making = Path(name) / "library", Path(name) / "wheel"
-        make_library(archive, kit_archive(), Place(str(library)), MOVING)
         making.mkdir()
-        wheel = wheel_of(files, library, making)
-        manual = {place: File(page) for place, page in manual_files(str(program)).items()}
-        own = {"bin/vga": File(program.read_bytes(), True), wheel.name: File(wheel.read_bytes())}
-        return {**own, **manual, **laid_files(library)}
+        make_library(archive, memory_part(target, Path(name)), Place(str(library)), MOVING, target)
+        wheel = wheel_of(files, library, making, target)
+        made = {wheel.name: File(wheel.read_bytes()), **laid_files(library)}
+    return made if target == X86_64 else {f"{target.name}/{place}": entry for place, entry in made.items()}
+
+
+def built_files(files: Mapping[str, File], program: Path, archives: Mapping[Target, Path]) -> dict[str, Entry]:
+    """The program with its manual, and for each processor the library and the wheel with it."""
+    entries: dict[str, Entry] = {"bin/vga": File(program.read_bytes(), True)}
+    entries.update({place: File(page) for place, page in manual_files(str(program)).items()})
+    for target, archive in archives.items():
+        entries.update(library_files(files, target, archive))
+    return entries
 
 
 def suite_scripts() -> dict[str, Entry]:
@@ -92,11 +104,11 @@ def made_of(commit: Commit, toolchain: str, built: Mapping[str, Entry]) -> File:
     return File((head + "".join(sums)).encode("ascii"))
 
 
-def release_entries(commit: Commit, program: Path, archive: Path) -> dict[str, Entry]:
+def release_entries(commit: Commit, program: Path, archives: Mapping[Target, Path]) -> dict[str, Entry]:
     """All files of a release."""
     toolchain = output_of(["rt", "version"]).decode("ascii").strip()
     files = files_of(commit, PATHS)
-    built = built_files(files, program, archive)
+    built = built_files(files, program, archives)
     install = File((Path(__file__).parent / INSTALL).read_bytes(), True)
     entries = {**files, **suite_scripts(), **built, **LINKS, INSTALL: install}
     return settled({**entries, MADE_OF: made_of(commit, toolchain, built)})

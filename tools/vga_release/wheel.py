@@ -6,6 +6,7 @@ import sys
 from pathlib import Path
 from typing import Mapping
 
+from vga_library.targets import Target
 from vga_report.processes import run
 
 from .commit import File
@@ -17,8 +18,8 @@ SOURCES = (PACKAGE, "fonts")
 MAKING = "import sys, building; building.build_wheel(sys.argv[1])"
 
 
-def wheel_of(files: Mapping[str, File], library: Path, folder: Path) -> Path:
-    """Makes the wheel in a folder, which is empty, of these files of the repository and a folder of the library's."""
+def wheel_of(files: Mapping[str, File], library: Path, folder: Path, target: Target) -> Path:
+    """Makes the wheel for a processor in a folder, of these files of the repository and a folder of the library's."""
     for place, file in files.items():
         if place.startswith(tuple(f"{source}/" for source in SOURCES)):
             laid = folder / "sources" / place
@@ -28,5 +29,7 @@ def wheel_of(files: Mapping[str, File], library: Path, folder: Path) -> Path:
     made.mkdir()
     # With -B Python leaves nothing beside the sources, which would go into the wheel.
     words = [sys.executable, "-B", "-c", MAKING, made]
-    run(words, folder / "sources" / PACKAGE, environment={"ZAKLIMOT_DIR": str(library)})
+    # As where Python itself is built for another processor.
+    environment = {"ZAKLIMOT_DIR": str(library), "_PYTHON_HOST_PLATFORM": f"linux-{target.name}"}
+    run(words, folder / "sources" / PACKAGE, environment=environment)
     return next(made.iterdir())

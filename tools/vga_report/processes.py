@@ -34,6 +34,8 @@ MOST_SAID, MOST_KEPT = 2000, 1 << 24
 # The package of Debian for each program that may be lacking.
 PACKAGES = {
     "ld": "binutils", "objcopy": "binutils", "ar": "binutils", "nm": "binutils", "cc": "gcc", "node": "nodejs",
+    **{f"aarch64-linux-gnu-{name}": "binutils-aarch64-linux-gnu" for name in ("ld", "objcopy", "ar")},
+    "aarch64-linux-gnu-gcc": "gcc-aarch64-linux-gnu",
 }
 # Linux' prctl: the signal that a process gets when the one that has started it ends.
 SET_PARENT_DEATH_SIGNAL = 1
@@ -296,11 +298,16 @@ def output_of(words: Words, folder: Optional[Path] = None) -> bytes:
     return _ended_well(words, folder, None).output
 
 
-def _ended_well(words: Words, folder: Optional[Path], heard: Optional[Hearer], **given: Any) -> Done:
-    name = str(words[0])
+def want(name: str) -> None:
+    """A program that isn't there is a Trouble, which names its package."""
     if shutil.which(name) is None:
         package = PACKAGES.get(name)
         raise Trouble("it is not in the path" + (f": install the package {package}" if package else ""), name)
+
+
+def _ended_well(words: Words, folder: Optional[Path], heard: Optional[Hearer], **given: Any) -> Done:
+    name = str(words[0])
+    want(name)
     done = captured(words, folder, heard, **given)
     if done.status:
         line = " ".join(str(word) for word in words)

@@ -1,0 +1,229 @@
+"""The library for another processor: which programs make it, in which order, and what is told where one is lacking."""
+
+from __future__ import annotations
+
+import contextlib
+import io
+import os
+import shutil
+import stat
+import subprocess
+import tempfile
+import unittest
+import zipfile
+from pathlib import Path
+from unittest import mock
+
+from library_tests import command as tests, compilers, suite
+from library_tests.compilers import MACHINES, Built
+from vga_library import building, command, gated, made, toolchain
+from vga_library.building import HEAP, HEAP_OPTIONS
+from vga_library.targets import AARCH64, TARGETS, X86_64
+from vga_release import gathering
+from vga_report.processes import PACKAGES, Done, captured
+from vga_report.streams import write_file
+from vga_report.trouble import TROUBLE
+from vga_report.version import version
+
+from .test_release import sources
+
+# A program that notes its words, and writes a file where -o or -c names one, or its fourth word.
+FAKE = """\
+#!/bin/sh
+printf '%s' "${0##*/}" >> "$NOTES"
+printf ' %s' "$@" >> "$NOTES"
+echo >> "$NOTES"
+case "${0##*/} $1" in "rt doc") echo "$KIT/START-HERE.md" ;; *-ar*) echo archive > "$2" ;; esac
+while [ $# -gt 1 ]; do
+    [ "$1" != -o ] || echo made > "$2"
+    shift
+done
+"""
+# Blocks of no byte, blocks that grow, and requests that the C library refuses.
+TAKING = """\
+#include <stddef.h>
+#include <stdint.h>
+struct tried { size_t ok; unsigned char *p; };
+struct tried rattle_alloc(size_t, size_t), rattle_realloc(void *, size_t, size_t, size_t);
+void rattle_dealloc(void *);
+int main(void)
+{
+    struct tried none = rattle_alloc(0, 16), some = rattle_alloc(40, 8), most = rattle_alloc(PTRDIFF_MAX, 8);
+    if (none.ok != 1 || some.ok != 1 || none.p == some.p || most.ok || !most.p || (uintptr_t)some.p % 16)
+        return 1;
+    for (int i = 0; i < 40; i++)
+        some.p[i] = (unsigned char)i;
+    struct tried more = rattle_realloc(some.p, 40, 1 << 20, 8);
+    struct tried lost = rattle_realloc(more.p, 40, PTRDIFF_MAX, 8);
+    if (more.ok != 1 || lost.ok || !lost.p)
+        return 2;
+    for (int i = 0; i < 40; i++)
+        if (more.p[i] != i)
+            return 3;
+    struct tried small = rattle_realloc(more.p, 0, 0, 8);
+    if (small.ok != 1 || !small.p)
+        return 4;
+    rattle_dealloc(small.p);
+    rattle_dealloc(none.p);
+    return 0;
+}
+"""
+
+
+class Fakes(unittest.TestCase):
+    """Programs of the cross compiler and of the toolchain that note how they are called."""
+
+    def setUp(self) -> None:
+        folder = tempfile.TemporaryDirectory()
+        self.addCleanup(folder.cleanup)
+        self.folder = Path(folder.name)
+        self.notes, kit = self.folder / "notes", self.folder / "kit"
+        names = [f"bin/{name}" for name in ("rt", *AARCH64.programs())]
+        for name in (*names, "kit/bin/rattle"):
+            path = self.folder / name
+            path.parent.mkdir(parents=True, exist_ok=True)
+            write_file(str(path), FAKE.encode("ascii"))
+            path.chmod(path.stat().st_mode | stat.S_IXUSR)
+        path = f"{self.folder / 'bin'}:{os.environ['PATH']}"
+        self.patch(mock.patch.dict(os.environ, {"PATH": path, "NOTES": str(self.notes), "KIT": str(kit)}))
+        crate = self.folder / "crates" / "vga_c"
+        (crate / "out").mkdir(parents=True)
+        for module in (building, gated, toolchain):
+            self.patch(mock.patch.object(module, "CRATE", crate))
+        self.patch(mock.patch.object(building, "KEPT", crate / "out" / "incremental"))
+        self.patch(mock.patch.object(gated, "rlib", lambda name: Path(f"{name}.rlib")))
+        self.patch(mock.patch.object(made, "FOLDER", crate / "out" / "made"))
+        self.crate = crate
+
+    def patch(self, patch: mock._patch) -> None:  # type: ignore[type-arg]
+        patch.start()
+        self.addCleanup(patch.stop)
+
+    def noted(self) -> list[list[str]]:
+        return [line.split(" ") for line in self.notes.read_text("utf-8").splitlines()]
+
+    def run_tool(self, *words: str) -> tuple[int, str, str]:
+        output, said = io.StringIO(), io.StringIO()
+        with contextlib.redirect_stdout(output), contextlib.redirect_stderr(said):
+            status = command.main(words)
+        return status, output.getvalue(), said.getvalue()
+
+
+class Making(Fakes):
+    KIT = str(Path("made") / "lib")
+
+    def test_what_is_run_and_what_is_laid(self) -> None:
+        place = self.folder / "kit-for-arm"
+        status, told, said = self.run_tool("make", str(place), "--target", "aarch64")
+        self.assertEqual((status, said), (0, ""))
+        self.assertIn(f"{place / 'lib' / f'libzaklimot.so.{version()}'}\n", told)
+        calls = [words for words in self.noted() if words != ["rt", "doc"]]
+        front = "aarch64-linux-gnu-"
+        self.assertEqual([words[0] for words in calls], [
+            "rt", "rattle", f"{front}gcc", f"{front}ld", f"{front}objcopy", f"{front}ar", f"{front}gcc",
+        ])
+        self.assertEqual(calls[0], ["rt", "check"])
+        building_words = " ".join(calls[1])
+        for word in (" build ", " --target aarch64-unknown-linux-gnu ", " --backend llvm ", " --crate-type staticlib "):
+            self.assertIn(word, f"{building_words} ")
+        self.assertEqual(Path(calls[1][-1]), self.crate / "out" / "libvga_c-aarch64.a")
+        # Both the crate's archive and the memory's functions are joined.
+        self.assertEqual([Path(word).name for word in calls[3][-2:]], ["crates.a", "memory.a"])
+        self.assertIn(str(HEAP), calls[2])
+
+    def test_install_takes_what_was_made_for_the_same_processor(self) -> None:
+        self.assertEqual(self.run_tool("make", str(self.folder / "first"), "--target", "aarch64")[0], 0)
+        self.notes.unlink()
+        words = ["install", "--prefix", "/usr", "--destdir", str(self.folder / "stage")]
+        self.assertEqual(self.run_tool(*words, "--target", "aarch64")[0], 0)
+        self.assertEqual({words[0] for words in self.noted()}, set(AARCH64.programs()))
+        self.assertIsNone(made.kept("llvm", X86_64))
+        with mock.patch.object(made, "HEAP", Path(__file__)):
+            self.assertIsNone(made.kept("llvm", AARCH64))
+        self.assertIsNotNone(made.kept("llvm", AARCH64))
+
+    def test_what_cannot_be_made_is_told_before_the_long_work(self) -> None:
+        place = str(self.folder / "none")
+        self.assertEqual(self.run_tool("make", place, "--target", "aarch64", "--backend", "rattle"), (
+            TROUBLE, "", "vga-library: aarch64: the toolchain has no compiler rattle for it\n",
+        ))
+        for program in AARCH64.programs():
+            path = self.folder / "bin" / program
+            path.rename(self.folder / "away")
+            with self.subTest(program), mock.patch.dict(os.environ, {"PATH": str(self.folder / "bin")}):
+                self.assertEqual(self.run_tool("make", place, "--target", "aarch64"), (
+                    TROUBLE, "", f"vga-library: {program}: it is not in the path: install the package {PACKAGES[program]}\n",
+                ))
+            (self.folder / "away").rename(path)
+        self.assertFalse(self.notes.exists())
+
+    def test_the_machine_s_own(self) -> None:
+        with mock.patch.dict(os.environ, {"CC": "some-cc"}):
+            self.assertEqual(X86_64.programs(), ["some-cc", "ld", "objcopy", "ar"])
+            self.assertEqual(AARCH64.compiler(), "aarch64-linux-gnu-gcc")
+
+    def test_what_a_release_has_of_it(self) -> None:
+        files = {place: entry for place, entry in sources().items() if isinstance(entry, gathering.File)}
+        archive = self.folder / "crates.a"
+        archive.touch()
+        entries = gathering.library_files(files, AARCH64, archive)
+        name = f"aarch64/zaklimot-{version()}-py3-none-linux_aarch64.whl"
+        self.assertEqual({place.partition("/")[0] for place in entries}, {"aarch64"})
+        self.assertEqual(entries["aarch64/lib/libzaklimot.so"], f"libzaklimot.so.{version()}")
+        wheel = entries[name]
+        assert isinstance(wheel, gathering.File)
+        with zipfile.ZipFile(io.BytesIO(wheel.content)) as opened:
+            self.assertEqual(opened.read("zaklimot/carried/libzaklimot.so"), b"made\n")
+        text = gathering.made_of(gathering.Commit("0123", 0), "kit", entries).content.decode("ascii")
+        self.assertRegex(text, r"(?m)^sha256 [0-9a-f]{64} aarch64/lib/libzaklimot\.a$")
+
+
+@unittest.skipUnless(shutil.which("cc"), "there is no C compiler")
+class Heap(unittest.TestCase):
+    def test_what_it_answers(self) -> None:
+        with tempfile.TemporaryDirectory() as name:
+            source, program = Path(name) / "taking.c", Path(name) / "taking"
+            source.write_text(TAKING, "ascii")
+            # A compiler that knows malloc would warn of so large a request.
+            words = ["cc", *HEAP_OPTIONS, "-fno-builtin", source, HEAP, "-o", program]
+            subprocess.run(words, check=True, timeout=60)
+            self.assertEqual(subprocess.run([program], timeout=60).returncode, 0)
+
+
+class Testing(unittest.TestCase):
+    """The tests of the library for another processor run its programs in an emulator."""
+
+    def test_each_processor_has_its_programs(self) -> None:
+        self.assertEqual(set(MACHINES), {*TARGETS.values()})
+        with mock.patch("shutil.which", return_value=None):
+            told = compilers.lacking(AARCH64)
+        for name, package in (
+            ("aarch64-linux-gnu-gcc", "gcc-aarch64-linux-gnu"), ("aarch64-linux-gnu-nm", "binutils-aarch64-linux-gnu"),
+            ("qemu-aarch64", "qemu-user"),
+        ):
+            self.assertIn(f"{name}: install the package {package}", told)
+
+    def test_the_suite_is_run_in_the_emulator(self) -> None:
+        called: list[list[str]] = []
+
+        def noting(words: list[str], *_: object, **__: object) -> Done:
+            called.append([str(word) for word in words])
+            return Done(0, b'{"rules": [{"cases": [{"name": "a", "answer": "agrees"}]}]}', b"")
+
+        built = Built("given", Path("kit"), Path("crates.a"), AARCH64)
+        with mock.patch.object(compilers, "captured", noting), mock.patch.object(suite, "captured", noting):
+            self.assertEqual(suite.check_suite(built, Path("made")), "1 cases agree")
+        self.assertEqual(called[0][0], "aarch64-linux-gnu-gcc")
+        front = "qemu-aarch64 -E ASAN_OPTIONS=detect_leaks=0 -L /usr/aarch64-linux-gnu made/harness-given "
+        texts, scripts = (word for word in called[1] if "harness" in word)
+        self.assertEqual((texts, scripts), (f"{front}{{script}} {{fonts}} {{until}}", f"{front}--bytes {{script}} {{fonts}}"))
+
+    def test_checks_of_this_machine_alone(self) -> None:
+        said = io.StringIO()
+        with contextlib.redirect_stderr(said):
+            self.assertEqual(tests.main(["--target", "aarch64", "--only", "pc"]), TROUBLE)
+        self.assertEqual(said.getvalue(), "vga-library-tests: pc: there is no such check for aarch64\n")
+
+
+if __name__ == "__main__":
+    unittest.main()
