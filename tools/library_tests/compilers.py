@@ -28,13 +28,13 @@ class Compiler(NamedTuple):
 class Machine(NamedTuple):
     """What programs for a processor are built by, with the package of its binutils, and what runs them here.
 
-    The runner's words stand before a program; its package is that of the first of them.
+    The runner's words stand before a program; the emulators that they name have their packages.
     """
 
     compilers: tuple[Compiler, ...]
     binutils: str
     runner: tuple[str, ...] = ()
-    runner_package: str = ""
+    emulators: Mapping[str, str] = {}
 
 
 COMPILERS = (
@@ -45,11 +45,12 @@ _CROSS = Compiler(
     "aarch64-linux-gnu-gcc", "aarch64-linux-gnu-g++", ("gcc-aarch64-linux-gnu", "g++-aarch64-linux-gnu"),
     "libgcc-12-dev-arm64-cross",
 )
-# The emulator takes the C library of the cross compiler. It can't look for leaks, but for all else.
-_EMULATOR = ("qemu-aarch64", "-E", "ASAN_OPTIONS=detect_leaks=0", "-L", "/usr/aarch64-linux-gnu")
+# The emulator takes the C library of the cross compiler. The sanitizers can't look for leaks in it, but for all
+# else. They read their options where the system has those of the emulator.
+_EMULATOR = ("env", "ASAN_OPTIONS=detect_leaks=0", "qemu-aarch64", "-L", "/usr/aarch64-linux-gnu")
 MACHINES = {
     X86_64: Machine(COMPILERS, "binutils"),
-    AARCH64: Machine((_CROSS,), "binutils-aarch64-linux-gnu", _EMULATOR, "qemu-user"),
+    AARCH64: Machine((_CROSS,), "binutils-aarch64-linux-gnu", _EMULATOR, {"qemu-aarch64": "qemu-user"}),
 }
 # Other programs that are run.
 OTHERS = ("ld", "objcopy", "objdump", "ar", "nm", "readelf")
@@ -90,12 +91,12 @@ def lacking(target: Target) -> list[str]:
     """What this machine lacks to test the library for a processor, each with the package to install."""
     machine = MACHINES[target]
     programs = {target.tool(name): machine.binutils for name in OTHERS}
-    programs.update({name: machine.runner_package for name in machine.runner[:1]})
+    programs.update(machine.emulators)
     for compiler in machine.compilers:
         programs.update(zip((compiler.c, compiler.cpp), compiler.packages))
     told = [f"{name}: install the package {package}" for name, package in programs.items() if not shutil.which(name)]
     for compiler in machine.compilers:
-        runs = all(map(shutil.which, (compiler.c, *machine.runner[:1])))
+        runs = all(map(shutil.which, (compiler.c, *machine.emulators)))
         if runs and not _has_sanitizers(compiler, machine.runner):
             told.append(f"the sanitizers of {compiler.c}: install the package {compiler.sanitizers}")
     return told

@@ -214,7 +214,7 @@ class Testing(unittest.TestCase):
         with mock.patch.object(compilers, "captured", noting), mock.patch.object(suite, "captured", noting):
             self.assertEqual(suite.check_suite(built, Path("made")), "1 cases agree")
         self.assertEqual(called[0][0], "aarch64-linux-gnu-gcc")
-        front = "qemu-aarch64 -E ASAN_OPTIONS=detect_leaks=0 -L /usr/aarch64-linux-gnu made/harness-given "
+        front = "env ASAN_OPTIONS=detect_leaks=0 qemu-aarch64 -L /usr/aarch64-linux-gnu made/harness-given "
         texts, scripts = (word for word in called[1] if "harness" in word)
         self.assertEqual((texts, scripts), (f"{front}{{script}} {{fonts}} {{until}}", f"{front}--bytes {{script}} {{fonts}}"))
 
