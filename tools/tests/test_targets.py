@@ -20,7 +20,7 @@ from vga_library import building, command, gated, made, toolchain
 from vga_library.building import HEAP, HEAP_OPTIONS
 from vga_library.targets import AARCH64, TARGETS, X86_64
 from vga_release import gathering
-from vga_report.processes import PACKAGES, Done, captured
+from vga_report.processes import PACKAGES, Done
 from vga_report.streams import write_file
 from vga_report.trouble import TROUBLE
 from vga_report.version import version
@@ -110,8 +110,6 @@ class Fakes(unittest.TestCase):
 
 
 class Making(Fakes):
-    KIT = str(Path("made") / "lib")
-
     def test_what_is_run_and_what_is_laid(self) -> None:
         place = self.folder / "kit-for-arm"
         status, told, said = self.run_tool("make", str(place), "--target", "aarch64")
