@@ -63,9 +63,12 @@ class Shell(Fakes):
         (self.folder / "bin" / "vga").symlink_to("../fake")
 
     def environment(self, **more: str) -> dict[str, str]:
-        """No setting of the user is read."""
-        path = f"{self.folder / 'bin'}:{os.environ['PATH']}"
-        return {"HOME": str(self.folder), "PATH": path, "LANG": "C.UTF-8", "TERM": "dumb", **more}
+        """No setting of the user is read, and nothing is left elsewhere."""
+        path, folder = f"{self.folder / 'bin'}:{os.environ['PATH']}", str(self.folder)
+        return {
+            "HOME": folder, "XDG_RUNTIME_DIR": folder, "PATH": path, "LANG": "C.UTF-8",
+            "TERM": "dumb", **more,
+        }
 
 
 @unittest.skipUnless(shutil.which("fish"), "fish isn't installed")
