@@ -10,7 +10,7 @@ import { pathToFileURL } from "node:url";
 import { gunzipSync, gzipSync } from "node:zlib";
 import { KEYS } from "../keys.js";
 import { Browser } from "./driving.mjs";
-import { IDLE, LONG, figuresOf, figuresText, fragmentOf, isIdle, jumpTimes } from "./jumps.mjs";
+import { IDLE, LONG, figuresOf, figuresText, fragmentOf, isIdle, jumpsIn } from "./jumps.mjs";
 import { FONTS, PAGE, TOP, pageData, withMemory } from "./loading.mjs";
 
 const ADDRESS = pathToFileURL(resolve(PAGE)).href, SHOTS = process.argv[2];
@@ -553,13 +553,13 @@ await check("where no worker is to be had, short runs are held by the page itsel
   }
 });
 
-/** Tells times of jumps; on an idle machine each is held to 50 milliseconds. */
+/** Tells times of jumps; on an idle machine the page's own work for each is held to 50 milliseconds. */
 async function holdJumps(name, hashes, count) {
-  const isHeld = await isIdle(), times = [];
-  for (const hash of hashes) times.push(...(await jumpTimes(browser, PAGE, hash, count)).flat());
-  const figures = figuresOf(times), told = `${times.length} jumps in ${name}: ${figuresText(figures)}`;
+  const isHeld = await isIdle(), jumps = [];
+  for (const hash of hashes) jumps.push(...(await jumpsIn(browser, PAGE, hash, count)).flat());
+  const told = `${jumps.length} jumps in ${name}: ${figuresText(jumps)}`;
   seen.push(isHeld ? told : `${told}, on a machine that had other work`);
-  assert.ok(figures.most < (isHeld ? 50 : 1000), told);
+  assert.ok(figuresOf(jumps, "own").most < (isHeld ? 50 : 1000), told);
 }
 
 await check("any step of three million is shown within 50 milliseconds", async () => {

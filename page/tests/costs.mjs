@@ -8,7 +8,7 @@ import { tmpdir } from "node:os";
 import { pathToFileURL } from "node:url";
 import { Browser, hasProgram } from "./driving.mjs";
 import { Firefox, firefoxName } from "./firefox.mjs";
-import { LONG, figuresOf, figuresText, fragmentOf, isIdle, jumpTimes } from "./jumps.mjs";
+import { LONG, figuresText, fragmentOf, isIdle, jumpsIn } from "./jumps.mjs";
 import { FONTS, PAGE, TOP, examples, moduleBytes } from "./loading.mjs";
 import { measured } from "./measuring.mjs";
 
@@ -97,14 +97,14 @@ function tableOf(columns) {
 /** What it costs to go to steps, of the long script and of the examples. */
 async function jumpLines(browser) {
   await browser.look({ width: 1280, height: 860 });
-  const long = (await jumpTimes(browser, PAGE, await fragmentOf(LONG), JUMPS)).flat(), others = [];
+  const long = (await jumpsIn(browser, PAGE, await fragmentOf(LONG), JUMPS)).flat(), others = [];
   const ran = await browser.value("document.getElementById('state').textContent");
   for (const { name } of examples()) {
     const hash = `#example=${name.replace(".vga", "")}`;
-    others.push(...(await jumpTimes(browser, PAGE, hash, JUMPS_OF_EXAMPLE)).flat());
+    others.push(...(await jumpsIn(browser, PAGE, hash, JUMPS_OF_EXAMPLE)).flat());
   }
-  return [`${ran}; then ${long.length} times to a step of it: ${figuresText(figuresOf(long))}`,
-    `${others.length} times to a step of an example: ${figuresText(figuresOf(others))}`];
+  return [`${ran}; then ${long.length} times to a step of it: ${figuresText(long)}`,
+    `${others.length} times to a step of an example: ${figuresText(others)}`];
 }
 
 async function inBrowsers(folder, columns) {

@@ -56,6 +56,8 @@ export class Browser {
     if (method === "Runtime.consoleAPICalled") this.said.push(
       params.args.map(one => one.value ?? one.description).join(" "));
     if (method === "Log.entryAdded") this.said.push(params.entry.text);
+    if (method === "Tracing.dataCollected") this.tracing.events.push(...params.value);
+    if (method === "Tracing.tracingComplete") this.tracing.ended();
     if (method === "Browser.downloadWillBegin") this.downloads.push(
       { guid: params.guid, name: params.suggestedFilename });
     if (method === "Browser.downloadProgress" && params.state === "completed") {
@@ -78,6 +80,20 @@ export class Browser {
     if (exceptionDetails) throw new Error(
       `${expression}: ${exceptionDetails.exception?.description ?? exceptionDetails.text}`);
     return result.value;
+  }
+
+  /** What the browser's tracing tells of some categories while something is done: its events. */
+  async traced(includedCategories, does) {
+    const events = [], done = new Promise(ended => { this.tracing = { events, ended }; });
+    await this.send("Tracing.start", { transferMode: "ReportEvents",
+      traceConfig: { includedCategories, excludedCategories: ["*"] } });
+    try {
+      await does();
+    } finally {
+      await this.send("Tracing.end");
+      await done;
+    }
+    return events;
   }
 
   /** Waits until an expression in the page is true, or a condition here. */
