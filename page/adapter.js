@@ -204,13 +204,15 @@ export class Card {
 
   /**
    * To the end of the frame: { widths, rgb }, of each of 1,024 lines how many dots it has, and their colours.
+   * They are written into `spare` where it is as long.
    */
-  frameLines() {
+  frameLines(spare = null) {
     const adapter = this.adapter, widths = adapter.room("widths", 4 * HIGHEST);
     const rgb = adapter.room("rgb", 3 * WIDEST * HIGHEST);
     const status = adapter.calls.zak_frame_lines(this.at, widths.at, rgb.at, rgb.length, adapter.told.at);
     if (status) throw new Trouble(`The frame is not drawn: the module answers ${status}.`);
-    return { widths: new Uint32Array(adapter.copied(widths, 4 * HIGHEST).buffer),
-      rgb: adapter.copied(rgb, adapter.number(0)) };
+    const length = adapter.number(0), dots = spare?.length === length ? spare : new Uint8Array(length);
+    dots.set(adapter.bytes.subarray(rgb.place, rgb.place + length));
+    return { widths: new Uint32Array(adapter.copied(widths, 4 * HIGHEST).buffer), rgb: dots };
   }
 }

@@ -43,8 +43,8 @@ function mapStart(map) {
 }
 
 function drawCell(words, width, left, top, lines, { character, attribute },
-  { state, colours, hasBlink, maps }) {
-  const glyph = mapStart(maps[attribute >> 3 & 1]) + 32 * character, glyphs = state.plane(2);
+  { glyphs, colours, hasBlink, maps }) {
+  const glyph = mapStart(maps[attribute >> 3 & 1]) + 32 * character;
   const [own, ground] = [colours[attribute & 15], colours[attribute >> 4 & (hasBlink ? 7 : 15)]];
   const [ink, paper] = own === ground ? ALIKE : [own, ground];
   for (let y = 0; y < lines; y++) {
@@ -60,7 +60,7 @@ function cellColours(state) {
     const [red, green, blue] = state.colour(dacEntry(registers, four)).map(widened);
     return 0xff000000 | blue << 16 | green << 8 | red;
   };
-  return { state, colours: Array.from({ length: 16 }, (_, four) => word(four)),
+  return { glyphs: state.plane(2), colours: Array.from({ length: 16 }, (_, four) => word(four)),
     hasBlink: Boolean(registers.attr[16] & 8),
     maps: [select & 3 | select >> 2 & 4, select >> 2 & 3 | select >> 3 & 4] };
 }
@@ -85,7 +85,8 @@ export class CellPanel {
     this.rows = rows;
     this.shape(Math.max(1, GLYPH_WIDTH * (rows[0]?.cells.length ?? 0)), Math.max(1, high));
     const drawing = cellColours(after), old = this.isOther(drawing) ? [] : this.keys;
-    this.keys = rows.map(row => keysOf(row, after, before === after ? null : before));
+    const last = before === after ? null : { codes: before.plane(0), attributes: before.plane(1) };
+    this.keys = rows.map(row => keysOf(row, last));
     rows.forEach((row, i) => this.drawRow(row, drawing, this.keys[i], old[i]));
     this.describe(after.registers);
     return this.root;
@@ -101,9 +102,9 @@ export class CellPanel {
 
   /** Whether all cells are to be painted: rows, colours or glyphs are not those of what is painted. */
   isOther(drawing) {
-    const { colours, hasBlink, maps, state } = drawing, { width, height } = this.canvas;
+    const { colours, hasBlink, maps } = drawing, { width, height } = this.canvas;
     const look = [width, height, ...this.rows.map(row => row.lines), ...colours, hasBlink, ...maps].join();
-    const glyphs = wordsOfBytes(state.plane(2));
+    const glyphs = wordsOfBytes(drawing.glyphs);
     const isSame = look === this.look && sameWords(glyphs, this.glyphs);
     Object.assign(this, { look, glyphs });
     return !isSame;
@@ -150,10 +151,10 @@ export class CellPanel {
 }
 
 /** What a row's cells show, but for colours and glyphs: a number each. */
-function keysOf({ cells }, after, before) {
+function keysOf({ cells }, before) {
   return cells.map(({ character, attribute, address, isCursor }) => {
-    const isChanged = before !== null && [0, 1].some(plane =>
-      before.plane(plane)[address] !== after.plane(plane)[address]);
+    const isChanged = before !== null &&
+      (before.codes[address] !== character || before.attributes[address] !== attribute);
     return character | attribute << 8 | (isCursor ? CURSOR : 0) | (isChanged ? CHANGED : 0);
   });
 }

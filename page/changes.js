@@ -36,8 +36,12 @@ export function changedPlanes(before, after) {
 
 /** The entries of the DAC in which two states differ. */
 export function differingColours(before, after) {
-  return Array.from({ length: 256 }, (_, index) => index)
-    .filter(index => before.colour(index).some((part, i) => part !== after.colour(index)[i]));
+  const found = [], old = before.dac, now = after.dac;
+  for (let index = 0; index < 256; index++) {
+    const isSame = old[index] === now[index] && old[index + 256] === now[index + 256];
+    if (!isSame || old[index + 512] !== now[index + 512]) found.push(index);
+  }
+  return found;
 }
 
 function changedRegisters(before, after) {

@@ -3,6 +3,7 @@ import { classesOf, cssColour, element, setAll, setText } from "./dom.js";
 import { dacEntry } from "./state.js";
 import { differingColours } from "./changes.js";
 import { hex } from "./bytes.js";
+import { isWritten } from "./rows.js";
 
 /** A swatch of the palette or the DAC, which is written anew where what it shows differs. */
 class Swatch {
@@ -54,8 +55,11 @@ export class ColourPanel {
       swatch.show(after.colour(entry), title, isChanged, false);
       setText(this.entries[four], hex(entry, 2));
     });
-    this.dac.forEach((swatch, entry) => swatch.show(after.colour(entry), `DAC entry ${hex(entry, 2)}`,
-      changed.has(entry), entry === registers.dacIndex));
+    this.dac.forEach((swatch, entry) => {
+      const [red, green, blue] = after.colour(entry), isPicked = entry === registers.dacIndex;
+      if (isWritten(swatch, red, green, blue, changed.has(entry), isPicked)) return;
+      swatch.show([red, green, blue], `DAC entry ${hex(entry, 2)}`, changed.has(entry), isPicked);
+    });
     return this.root;
   }
 }

@@ -1,6 +1,6 @@
 // The text, with line numbers, breakpoints and marks at its left, and the answers of its steps at its right.
 import { Scroller } from "./scroller.js";
-import { Rows } from "./rows.js";
+import { Rows, isWritten } from "./rows.js";
 import { byId, classesOf, element, rowsInSight, setAll, setText } from "./dom.js";
 import { grouped } from "./bytes.js";
 import { isPlainAnswer, isRefusal, shortAnswer } from "./expecting.js";
@@ -135,35 +135,46 @@ export class Editor {
 
   /** A line of a text that is shown alone. */
   fillLongLine(made, line) {
+    const isHere = line === (this.bad?.line ?? this.mark);
+    if (isWritten(made, this.starts, line, isHere)) return;
     setText(made, this.lineText(line).slice(0, WIDEST_LINE));
-    setAll(made, { className: classesOf("longrow", line === (this.bad?.line ?? this.mark) && "here") });
+    setAll(made, { className: classesOf("longrow", isHere && "here") });
   }
 
   fillNumber(made, line) {
     const { bad } = this, isPoint = this.points.has(line);
     const className = classesOf("number", isPoint && "point", this.mark === line && !bad && "here",
       this.next === line && !bad && "next", bad?.line === line && "bad");
+    if (isWritten(made, line, className)) return;
     setAll(made, { className, ariaPressed: String(isPoint),
       title: isPoint ? `Line ${line}: remove the breakpoint` : `Line ${line}: set a breakpoint` });
     setText(made, String(line));
-    if (made.line !== line) made.dataset.line = made.line = line;
+    made.dataset.line = line;
   }
 
   fillAnswer(made, line) {
-    const { text, title, className } = this.answer(line) ?? { text: "", title: "", className: "answer" };
+    const step = this.stepOfLine(line), isLater = step >= this.steps;
+    if (isWritten(made, this.session, step, isLater)) return;
+    const { text, title, className } = step < 0 ? { text: "", title: "", className: "answer" }
+      : this.answer(step, isLater);
     setText(made, text);
     setAll(made, { title, className });
   }
 
-  /** The last answer of a line's step so far, or its first one, pale. */
-  answer(line) {
+  /** The last step of a line so far, or its first one, which is to come; -1 where it has no answer. */
+  stepOfLine(line) {
     const { session } = this;
-    if (!session || this.bad || this.isStale) return null;
+    if (!session || this.bad || this.isStale) return -1;
     const { outline, answers } = session, entry = outline.entryAtLine(line);
-    if (entry < 0 || outline.lineOf(entry) !== line) return null;
+    if (entry < 0 || outline.lineOf(entry) !== line) return -1;
     const taken = outline.lastStepOfEntry(entry, this.steps);
     const step = taken < 0 ? outline.stepOfEntry(entry) : taken;
-    if (step < 0 || step >= answers.length) return null;
+    return step < answers.length ? step : -1;
+  }
+
+  /** The answer of a step beside its line, pale where the step is still to come. */
+  answer(step, isLater) {
+    const { session } = this, { outline, answers } = session, entry = outline.entryOf(step);
     const answer = answers.get(step), expected = outline.expectedOf(entry);
     const words = outline.wordsOf(entry), [first, ...more] = shortAnswer(answer, words).split("\n");
     const isWrong = expected !== null && session.isWrong(step);
@@ -171,7 +182,7 @@ export class Editor {
     return {
       text: sign + first + (more.length ? " …" : ""),
       title: `step ${step + 1}: ${answer}` + (isWrong ? `\nexpected: ${expected}` : ""),
-      className: classesOf("answer", taken < 0 && "later", isRefusal(answer) && "refused",
+      className: classesOf("answer", isLater && "later", isRefusal(answer) && "refused",
         isPlainAnswer(answer, words) && "plain", sign && (isWrong ? "wrong" : "right")),
     };
   }

@@ -1,5 +1,5 @@
 // The steps of a run one below the other, those of a block each time: number, line, words and answer.
-import { Rows } from "./rows.js";
+import { Rows, isWritten } from "./rows.js";
 import { byId, classesOf, element, rowsInSight, setAll, setText } from "./dom.js";
 import { Scroller } from "./scroller.js";
 import { isRefusal } from "./expecting.js";
@@ -47,16 +47,18 @@ export class Listing {
   }
 
   fill(made, step) {
-    const { session } = this, { outline } = session, entry = outline.entryOf(step);
-    const answer = session.answers.get(step), isHere = step + 1 === this.steps;
+    const { session } = this, { outline } = session, isHere = step + 1 === this.steps;
+    const isLater = step + 1 > this.steps;
+    if (isWritten(made, session, step, isHere, isLater)) return;
+    const entry = outline.entryOf(step), answer = session.answers.get(step);
     const lines = answer.split("\n"), words = outline.wordsOf(entry), expected = outline.expectedOf(entry);
     const verdict = expected === null ? "" : session.isWrong(step) ? "wrong" : "right";
     const texts = [String(step + 1), String(outline.lineOf(entry)), words.slice(0, 200),
       lines[0].slice(0, 200) + (lines.length > 1 ? " …" : "")];
     texts.forEach((text, i) => setText(made.children[i], text));
     setAll(made, { title: `${words.slice(0, 200)}\n${answer.slice(0, 600)}`, ariaSelected: String(isHere),
-      className: classesOf("row", isHere && "here", step + 1 > this.steps && "later",
+      className: classesOf("row", isHere && "here", isLater && "later",
         isRefusal(answer) && "refused", verdict) });
-    if (made.step !== step) made.dataset.step = (made.step = step) + 1;
+    made.dataset.step = step + 1;
   }
 }

@@ -4,9 +4,17 @@ import { counted, grouped, hex, wordsOfBytes } from "./bytes.js";
 import { changedPlanes } from "./changes.js";
 import { rowBytes, shownBytes } from "./state.js";
 
-const PLANE_LENGTH = 65536, HEX_ROWS = 16, HEX_COLUMNS = 16, USUAL_PITCH = 80;
+const PLANE_LENGTH = 65536, WIDEST_PITCH = 2040, HEX_ROWS = 16, HEX_COLUMNS = 16, USUAL_PITCH = 80;
 const COLOURS = { on: 0xffffffff, off: 0xff000000, shownOff: 0xff4a2a14, hiddenOn: 0xff8a8a8a,
   changedOn: 0xff44c3f6, changedOff: 0xff104a6a };
+/** Of each byte, the words of its eight dots, the highest bit first, where its ones and zeros look so. */
+const wordsOfDots = (one, zero) =>
+  Uint32Array.from({ length: 8 * 256 }, (_, at) => (at >> 3 >> 7 - (at & 7) & 1 ? one : zero));
+const SHOWN_DOTS = wordsOfDots(COLOURS.on, COLOURS.shownOff),
+  HIDDEN_DOTS = wordsOfDots(COLOURS.hiddenOn, COLOURS.off),
+  CHANGED_DOTS = wordsOfDots(COLOURS.changedOn, COLOURS.changedOff);
+/** So many rows of dots that stand as they are part what is put on a canvas at once. */
+const APART_ROWS = 8;
 const ZOOMS = [["fit", "four planes, to fit"], ["1", "one plane, × 1"], ["2", "one plane, × 2"],
   ["4", "one plane, × 4"]];
 
@@ -23,40 +31,78 @@ class PlaneBitmap {
     });
     this.brush = this.canvas.getContext("2d", { alpha: false });
     const nothing = new Uint8Array(PLANE_LENGTH);
-    Object.assign(this, { painted: [nothing, nothing, nothing], isNew: true });
+    Object.assign(this, { bytes: nothing, shown: nothing, isNew: true, used: 0 });
+    // The dots of byte after byte stand the same way at each pitch; a last row may go on behind them.
+    this.words = new Uint32Array(8 * (PLANE_LENGTH + WIDEST_PITCH));
+    // Marks of the bytes that have changed, and those which stand on the canvas: they take turns.
+    this.marks = [new Marks(), new Marks()];
   }
 
-  /** Paints bytes; `shown` and `changed` have a 1 for each byte that is so. */
-  paint(bytes, shown, changed, pitch) {
-    if (pitch !== this.pitch) this.shape(pitch);
-    const parts = [bytes, shown, changed], [now, grounds, marks] = parts.map(wordsOfBytes);
-    const [oldNow, oldGrounds, oldMarks] = this.painted.map(wordsOfBytes);
-    let first = PLANE_LENGTH, last = -1;
+  /** Paints bytes; `shown` has a 1 for each byte that is so, and `found` the numbers of those changed. */
+  paint(bytes, shown, found, pitch) {
+    const [old, marks] = this.marks = this.marks.toReversed();
+    marks.set(found);
+    const isBlack = pitch !== this.pitch;
+    if (isBlack) this.shape(pitch);
+    this.put(this.paintWords(bytes, shown, marks.bytes, old.bytes, isBlack));
+    Object.assign(this, { bytes, shown, isNew: false });
+  }
+
+  /**
+   * Paints the words, four bytes each, that differ from what is painted. The rows that have some; of a black
+   * canvas those that are not black.
+   */
+  paintWords(bytes, shown, marks, oldMarks, isBlack) {
+    const [now, old] = [bytes, this.bytes].map(wordsOfBytes), { isNew, pitch } = this;
+    const [grounds, oldGrounds, marked, oldMarked] = [shown, this.shown, marks, oldMarks].map(wordsOfBytes);
+    const isShownSame = shown === this.shown, rows = [];
     for (let word = 0; word < now.length; word++) {
-      const isSame = now[word] === oldNow[word] && grounds[word] === oldGrounds[word];
-      if (isSame && marks[word] === oldMarks[word] && !this.isNew) continue;
-      for (let at = 4 * word; at < 4 * word + 4; at++) this.paintByte(at, bytes[at], shown[at], changed[at]);
-      if (last < 0) first = 4 * word;
-      last = 4 * word + 3;
+      const isSame = now[word] === old[word] && marked[word] === oldMarked[word] && !isNew &&
+        (isShownSame || grounds[word] === oldGrounds[word]);
+      if (!isSame) this.paintWord(4 * word, bytes, shown, marks);
+      if (isBlack ? !(now[word] | grounds[word] | marked[word]) : isSame) continue;
+      const row = Math.floor(4 * word / pitch), last = Math.floor((4 * word + 3) / pitch);
+      if (rows.at(-1)?.last >= row - APART_ROWS) rows.at(-1).last = last;
+      else rows.push({ row, last });
     }
-    Object.assign(this, { painted: parts, isNew: false });
-    if (last < 0) return;
-    const top = Math.floor(first / pitch), height = Math.floor(last / pitch) + 1 - top;
-    this.brush.putImageData(this.image, 0, 0, 0, top, 8 * pitch, height);
+    return rows;
+  }
+
+  paintWord(from, bytes, shown, marks) {
+    const { words, bytes: old } = this;
+    for (let at = from; at < from + 4; at++) {
+      const byte = bytes[at], dots = marks[at] ? CHANGED_DOTS : shown[at] ? SHOWN_DOTS : HIDDEN_DOTS;
+      this.used += (byte ? 1 : 0) - (old[at] ? 1 : 0);
+      for (let bit = 0; bit < 8; bit++) words[8 * at + bit] = dots[8 * byte + bit];
+    }
+  }
+
+  /** Puts rows of dots on the canvas. */
+  put(rows) {
+    for (const { row, last } of rows) {
+      this.brush.putImageData(this.image, 0, 0, 0, row, this.image.width, last + 1 - row);
+    }
   }
 
   shape(pitch) {
-    Object.assign(this.canvas, { width: 8 * pitch, height: Math.ceil(PLANE_LENGTH / pitch) });
+    const width = 8 * pitch, height = Math.ceil(PLANE_LENGTH / pitch);
+    Object.assign(this.canvas, { width, height });
     this.pitch = pitch;
-    this.image = new ImageData(this.canvas.width, this.canvas.height);
-    this.words = new Uint32Array(this.image.data.buffer);
-    this.isNew = true;
+    this.image = new ImageData(new Uint8ClampedArray(this.words.buffer, 0, 4 * width * height), width, height);
+  }
+}
+
+/** Of each byte of a plane, whether it has a mark. */
+class Marks {
+  constructor() {
+    Object.assign(this, { bytes: new Uint8Array(PLANE_LENGTH), found: [] });
   }
 
-  paintByte(at, byte, isShown, isChanged) {
-    const on = isChanged ? COLOURS.changedOn : isShown ? COLOURS.on : COLOURS.hiddenOn;
-    const off = isChanged ? COLOURS.changedOff : isShown ? COLOURS.shownOff : COLOURS.off;
-    for (let bit = 0; bit < 8; bit++) this.words[8 * at + bit] = byte >> 7 - bit & 1 ? on : off;
+  /** Marks these bytes, and no others. */
+  set(found) {
+    for (const at of this.found) this.bytes[at] = 0;
+    for (const at of found) this.bytes[at] = 1;
+    this.found = found;
   }
 }
 
@@ -69,12 +115,9 @@ class PlaneFigure {
   }
 
   show(bytes, shown, found, pitch) {
-    const changed = new Uint8Array(PLANE_LENGTH);
-    for (const at of found) changed[at] = 1;
-    this.bitmap.paint(bytes, shown, changed, pitch);
-    let used = 0;
-    for (let at = 0; at < PLANE_LENGTH; at++) if (bytes[at]) used++;
-    const said = `plane ${this.plane}: ${counted(used, "byte")} not 0, ${grouped(found.length)} changed`;
+    this.bitmap.paint(bytes, shown, found, pitch);
+    const used = counted(this.bitmap.used, "byte");
+    const said = `plane ${this.plane}: ${used} not 0, ${grouped(found.length)} changed`;
     setText(this.said, said);
     setAll(this.said, { title: said });
   }
@@ -86,9 +129,10 @@ class HexTable {
     this.caption = element("caption");
     this.rows = Array.from({ length: HEX_ROWS }, () => {
       const head = element("th", { scope: "row" });
-      return { head, cells: Array.from({ length: HEX_COLUMNS }, () => element("td")) };
+      return { head, cells: Array.from({ length: HEX_COLUMNS }, () => ({ key: -1, made: element("td") })) };
     });
-    const rows = this.rows.map(({ head, cells }) => element("tr", {}, head, ...cells));
+    const rows = this.rows.map(({ head, cells }) => element("tr", {}, head,
+      ...cells.map(cell => cell.made)));
     this.made = element("table", { className: "hex" }, this.caption, element("tbody", {}, ...rows));
   }
 
@@ -98,10 +142,13 @@ class HexTable {
       const from = offset + HEX_COLUMNS * row;
       setText(head, hex(from, 4));
       cells.forEach((cell, i) => {
-        const byte = bytes[from + i], old = before[from + i], isChanged = byte !== old;
-        setText(cell, hex(byte, 2));
-        setAll(cell, { className: classesOf(!byte && "zero", shown[from + i] && "shown",
-          isChanged && "changed"), title: isChanged ? `${hex(old, 2)} before the last step` : "" });
+        const byte = bytes[from + i], old = before[from + i], isShown = shown[from + i];
+        const key = byte | old << 8 | isShown << 16, { made } = cell, isChanged = byte !== old;
+        if (cell.key === key) return;
+        cell.key = key;
+        setText(made, hex(byte, 2));
+        setAll(made, { className: classesOf(!byte && "zero", isShown && "shown", isChanged && "changed"),
+          title: isChanged ? `${hex(old, 2)} before the last step` : "" });
       });
     });
   }
@@ -127,7 +174,9 @@ export class MemoryPanel {
     const { registers } = seen.after, own = rowBytes(registers);
     this.seen = seen;
     this.pitch = own || USUAL_PITCH;
-    this.shown = shownBytes(registers);
+    // Where they don't change, they stay the same list: then bitmaps need not look through them.
+    const key = registers.crtc.join();
+    if (key !== this.shownBy) Object.assign(this, { shownBy: key, shown: shownBytes(registers) });
     this.changed = changedPlanes(seen.before, seen.after);
     const pitch = own ? `${own} bytes a row, as the offset register says`
       : `${USUAL_PITCH} bytes a row, since the offset register is 0`;

@@ -2,6 +2,7 @@
 import { GROUPS, fieldValue, indexPort, valuesOf } from "./registers.js";
 import { classesOf, element, pageLink, setAll, setText } from "./dom.js";
 import { hex } from "./bytes.js";
+import { isWritten } from "./rows.js";
 
 /** A field, whose value is to come; one that has no effect is grey. */
 function fieldOf(field) {
@@ -19,24 +20,32 @@ function storedBits(register) {
     }));
 }
 
-/** The eight bits of a register from bit 7 on; those that it doesn't keep, or without effect, are grey. */
+/**
+ * The eight bits of a register from bit 7 on; those that it doesn't keep, or without effect, are grey. Bits
+ * one after the other that look alike are one element, so that the browser has less to draw.
+ */
 function bitRow(register) {
-  const stored = storedBits(register), made = element("span", { className: "bits", ariaHidden: "true" });
-  const bits = [7, 6, 5, 4, 3, 2, 1, 0].map(bit => {
+  const stored = storedBits(register), runs = [];
+  for (let bit = 7; bit >= 0; bit--) {
     const isGrey = !(register.kept >> bit & 1) || stored.includes(bit);
-    const one = element("i", { className: isGrey ? "stored" : "" });
-    made.append(one, bit === 4 ? " " : "");
-    return one;
-  });
-  return { made, bits };
+    if (runs.at(-1)?.isGrey === isGrey) runs.at(-1).bits.push(bit);
+    else runs.push({ isGrey, bits: [bit], made: element("i", { className: isGrey ? "stored" : "" }) });
+  }
+  const made = element("span", { className: "bits", ariaHidden: "true" }, ...runs.map(run => run.made));
+  return { made, runs };
+}
+
+/** Some bits of a register in digits, with a dot for those that it doesn't keep, and a blank behind bit 4. */
+function digitsOf(bits, { kept }, value) {
+  return bits.map(bit => (kept >> bit & 1 ? String(value >> bit & 1) : "·") + (bit === 4 ? " " : "")).join("");
 }
 
 /** The row of a register. Its values are written into it, and only those that are others than before. */
 class RegisterRow {
   constructor(base, group, i) {
-    const register = group.registers[i], { made, bits } = bitRow(register);
+    const register = group.registers[i], { made, runs } = bitRow(register);
     const isOne = register.fields.length === 1 && !register.fields[0].isStored;
-    Object.assign(this, { register, bits, key: "", value: element("td", { className: "value" }) });
+    Object.assign(this, { register, runs, value: element("td", { className: "value" }) });
     this.fields = isOne ? [] : register.fields.map(fieldOf);
     const link = pageLink(base, "REGISTERS.md", group.anchor, register.name);
     this.made = element("tr", {},
@@ -46,11 +55,10 @@ class RegisterRow {
   }
 
   fill(now, before, isPicked) {
-    const key = `${now} ${before} ${isPicked}`, isChanged = now !== before, { register } = this;
-    if (this.key === key) return;
-    this.key = key;
+    const isChanged = now !== before, { register } = this;
+    if (isWritten(this, now, before, isPicked)) return;
     setText(this.value, hex(now, 2));
-    this.bits.forEach((one, i) => setText(one, register.kept >> 7 - i & 1 ? String(now >> 7 - i & 1) : "·"));
+    for (const { bits, made } of this.runs) setText(made, digitsOf(bits, register, now));
     for (const { field, made, value } of this.fields) {
       const part = fieldValue(field, now);
       setText(value, hex(part, 1));
@@ -91,6 +99,7 @@ export class PlainTable {
   fill(told) {
     told.forEach(([name, now, old], i) => {
       const row = this.rows[i] ??= this.row(name), isChanged = now !== old;
+      if (isWritten(row, now, old)) return;
       setText(row.lastChild, now);
       setAll(row, { className: isChanged ? "changed" : "",
         title: isChanged ? `${old} before the last step` : "" });

@@ -2,6 +2,16 @@
 // them is written, and the browser lays out little.
 import { element } from "./dom.js";
 
+/**
+ * Whether a row tells of these values already; from now on it does. So what they come to is worked out, and
+ * the page is touched, where one of them differs.
+ */
+export function isWritten(row, ...values) {
+  const old = row.written;
+  row.written = values;
+  return old !== undefined && values.every((value, i) => value === old[i]);
+}
+
 /** The rows in a box, each so many pixels high. `make` makes a row with nothing in it. */
 export class Rows {
   constructor(box, height, make) {

@@ -82,9 +82,12 @@ export class Screen {
     }).observe(this.stage);
   }
 
+  /** Shows what is seen. Answers the dots of the picture before, which nothing needs any longer; or null. */
   show(seen) {
+    const old = this.painted?.dots?.rgb ?? null;
     this.seen = seen;
     this.draw();
+    return old === seen.picture.rgb ? null : old;
   }
 
   draw() {

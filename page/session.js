@@ -52,6 +52,8 @@ export class Session {
     Object.assign(this, { answers: new Answers(), expected: 0, differing: [], wrong: 0, refused: 0 });
     Object.assign(this, { pictures: 0, sums: [], reported: 0, mostHeld: MOST_HELD });
     this.held = { steps: 0, reported: 0 };
+    // Dots of a picture that is not seen any longer: the next one is written into them.
+    this.spare = null;
     this.keep();
   }
 
@@ -201,7 +203,8 @@ export class Session {
   pictureSoFar(state) {
     const at = this.at;
     this.at = -1;
-    const lines = this.card.frameLines();
+    const lines = this.card.frameLines(this.spare);
+    this.spare = null;
     this.card.restore([state.bytes]);
     this.at = at;
     return { isWhole: false, ...lines, drawn: state.drawn, isBegun: state.isBegun };

@@ -37,6 +37,11 @@ export class State {
     return this.part(AT.host + 20 + PLANE * number, PLANE);
   }
 
+  /** The DAC: the reds of its 256 entries, then the greens, then the blues, 0 to 63 each. */
+  get dac() {
+    return this.part(AT.dac, 768);
+  }
+
   /** Red, green and blue of an entry of the DAC, 0 to 63 each. */
   colour(index) {
     return [0, 256, 512].map(part => this.bytes[AT.dac + part + index]);
@@ -63,8 +68,9 @@ export class State {
 
   /** Of each of 1,024 lines, how many dots the frame under way has so far. */
   get drawn() {
-    return Uint16Array.from({ length: HIGHEST },
-      (_, line) => this.view.getUint16(AT.lengths + 2 * line, true));
+    const drawn = new Uint16Array(HIGHEST), { view } = this;
+    for (let line = 0; line < HIGHEST; line++) drawn[line] = view.getUint16(AT.lengths + 2 * line, true);
+    return drawn;
   }
 
   /** Whether a dot of the frame under way is drawn. */

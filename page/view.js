@@ -13,7 +13,7 @@ import { Trouble } from "./trouble.js";
 import { apngOfRun, pngOfSeen, reportOf, saveFile } from "./saving.js";
 import { bytesOfBase64, counted, grouped } from "./bytes.js";
 import { BiosPanel } from "./biospanel.js";
-import { byId, element, pageLink } from "./dom.js";
+import { byId, element, pageLink, setText } from "./dom.js";
 import { CellPanel } from "./cellpanel.js";
 import { changesOf } from "./changes.js";
 import { ColourPanel } from "./colourpanel.js";
@@ -38,6 +38,7 @@ export class View {
       points: [] });
     Object.assign(this, { session: null, seen: null, steps: 0, coming: null, search: null });
     Object.assign(this, { isPlaying: false, isHalted: false });
+    this.last = { place: new Text(), step: element("code"), told: element("code") };
     this.editor = new Editor({ changed: () => this.typed(),
       pointed: line => this.pointPanel.toggleLine(line) });
     this.listing = new Listing(steps => this.go(steps));
@@ -508,7 +509,7 @@ export class View {
 
   play(isOn) {
     this.isPlaying = isOn;
-    byId("play").textContent = isOn ? "pause" : "play";
+    setText(byId("play"), isOn ? "pause" : "play");
     if (!isOn || !this.session) return;
     if (this.steps >= this.session.length) this.come(0);
     this.playOn();
@@ -535,7 +536,7 @@ export class View {
     byId("slider").value = seen.steps;
     this.editor.show(this.session, seen.steps);
     this.listing.show(this.session, seen.steps);
-    this.screen.show(seen);
+    this.session.spare = this.screen.show(seen);
     this.showStep();
     this.open(this.tab);
   }
@@ -545,18 +546,21 @@ export class View {
     byId("refusal").hidden = true;
     if (!steps) {
       byId("laststep").replaceChildren(`Power-on: no step of ${grouped(session.length)} is taken yet.`);
-      byId("changes").textContent = "";
+      setText(byId("changes"), "");
       return;
     }
     const entry = outline.entryOf(steps - 1), words = outline.wordsOf(entry);
-    const answer = session.answers.get(steps - 1),
-      code = text => element("code", {}, text.slice(0, MOST_WORDS));
-    const place =
+    const answer = session.answers.get(steps - 1), { place, step, told } = this.last;
+    place.data =
       `After step ${grouped(steps)} of ${grouped(session.length)}, line ${grouped(outline.lineOf(entry))}: `;
-    byId("laststep").replaceChildren(place, code(words), " answers ", code(answer));
+    setText(step, words.slice(0, MOST_WORDS));
+    setText(told, answer.slice(0, MOST_WORDS));
+    if (place.parentNode !== byId("laststep")) {
+      byId("laststep").replaceChildren(place, step, " answers ", told);
+    }
     if (isRefusal(answer)) this.showRefusal(words, answer);
     const changes = changesOf(seen.before, seen.after);
-    byId("changes").textContent = changes.length ? `Changed: ${changes.join("; ")}.` : "Nothing changed.";
+    setText(byId("changes"), changes.length ? `Changed: ${changes.join("; ")}.` : "Nothing changed.");
   }
 
   showRefusal(words, answer) {
@@ -585,7 +589,7 @@ export class View {
   }
 
   buttons() {
-    byId("run").textContent = this.isBusy && !this.isPlaying ? "stop ■" : "run ▶▶";
+    setText(byId("run"), this.isBusy && !this.isPlaying ? "stop ■" : "run ▶▶");
     const isAtEnd = this.session.isDone && this.steps >= this.session.length;
     for (const name of ["first", "back", "framebefore", "runback"]) byId(name).disabled = this.steps === 0;
     for (const name of ["next", "frameafter", "last"]) byId(name).disabled = isAtEnd;
