@@ -4,7 +4,8 @@ export class Scroller {
     Object.assign(this, { box, top: 0, left: 0, height: 0, isAsked: false });
     box.addEventListener("scroll", () => {
       const { top, left } = this;
-      this.top = box.scrollTop;
+      // The event of a frame before must not undo what was asked for since then.
+      if (!this.isAsked) this.top = box.scrollTop;
       this.left = box.scrollLeft;
       if (Math.abs(top - this.top) >= 1 || left !== this.left) heard();
     });

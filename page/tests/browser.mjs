@@ -553,6 +553,54 @@ await check("where no worker is to be had, short runs are held by the page itsel
   }
 });
 
+/**
+ * In the page: all that tells of a step, each part by its name: the panel, the picture, the bitmaps, and the
+ * rows in sight of the script and of the steps.
+ */
+const TOLD = `(() => {
+  const parts = {}, all = selector => [...document.querySelectorAll(selector)];
+  for (const id of ["step", "panel"]) {
+    parts[id] = document.getElementById(id).innerHTML.replace(/ (?:class|title)=""/g, "");
+  }
+  all("canvas:not(#glass)").forEach((canvas, i) => { parts["canvas " + i] = canvas.toDataURL(); });
+  for (const row of all(".row")) parts["step " + row.dataset.step] = row.className + row.title + row.innerText;
+  const numbers = all(".number"), answers = all(".answer");
+  numbers.forEach((one, i) => {
+    parts["line " + one.dataset.line] = [one.className, one.title, answers[i].className, answers[i].title,
+      answers[i].innerText].join();
+  });
+  return parts;
+})()`;
+
+/** What TOLD tells of a step, once the browser has drawn it and stands at its rows. */
+async function toldOf(step) {
+  await stepIs(step);
+  await browser.until("document.querySelector('.row.here') && document.querySelector('.number.here')");
+  await browser.value("new Promise(done => requestAnimationFrame(() => requestAnimationFrame(done)))");
+  return browser.value(TOLD);
+}
+
+await check("after steps to and fro, all is shown as by a page that was opened there", async () => {
+  await browser.look(WIDE);
+  // Modes set by ports change the pitch of the planes, and what is text and what graphics.
+  for (const [name, way] of [["text-screen", [30, 200, 130, 5, 199, 150]], ["planar-screen", [1, 150, 0, 90]],
+    ["raster-bands", [100, 2, 101]], ["fifty-rows", [0, 1, 3, 2, 7]]]) {
+    for (const [i, tab] of ["registers", "memory", "cells", "colours", "BIOS data"].entries()) {
+      await open(`#example=${name}`);
+      await browser.click(`#tab${i + 1}`);
+      for (const at of way) {
+        await set("slider", String(at), "input");
+        await stepIs(at);
+      }
+      const last = way.at(-1), found = await toldOf(last);
+      await open(`#example=${name}&step=${last}&tab=${encodeURIComponent(tab)}`);
+      const fresh = await toldOf(last), shared = Object.keys(found).filter(part => part in fresh);
+      assert.ok(shared.includes(`step ${last}`), `${name}, ${tab}: ${shared}`);
+      for (const part of shared) assert.equal(found[part], fresh[part], `${name}, ${tab}, ${part}`);
+    }
+  }
+});
+
 /** Tells times of jumps; on an idle machine the page's own work for each is held to 50 milliseconds. */
 async function holdJumps(name, hashes, count) {
   const isHeld = await isIdle(), jumps = [];

@@ -24,7 +24,7 @@ export const IDLE = "document.getElementById('compared')?.ariaBusy === 'false' &
 
 /** What is asked of the browser's tracing: the tasks of its threads, and the marks of a jump. */
 const TRACED = ["disabled-by-default-devtools.timeline", "blink.user_timing"];
-const MARKS = ["jump begins", "step is shown", "frame begins", "frame ends"];
+export const MARKS = ["jump begins", "step is shown", "frame begins", "frame ends"];
 
 /** In the page: goes to each of some steps, and marks when. */
 const JUMP = `async (steps, [begins, shows, draws, ends]) => {
@@ -63,7 +63,7 @@ function idleTime(tasks, from, to) {
 }
 
 /** The jumps of a trace: { whole, own, processor } of each, in milliseconds. */
-function jumpsOf(events) {
+export function jumpsOf(events) {
   const inOrder = events.toSorted((one, other) => one.ts - other.ts);
   const marks = inOrder.filter(({ name }) => MARKS.includes(name)), [{ pid, tid }] = marks, jumps = [];
   const tasks = inOrder.filter(one => one.name === "RunTask" && one.ph === "X" && one.pid === pid &&
