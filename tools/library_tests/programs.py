@@ -68,24 +68,24 @@ def check_transfers(built: Built, folder: Path) -> str:
 def check_advances(built: Built, folder: Path) -> str:
     """Dots that are added up are those that are drawn one call after the other."""
     made = folder / "advances"
-    build(COMPILERS[0].c, built, [SOURCES / "advances.c"], made, *SANITIZED)
-    count = int(run([made, fonts_file(), str(ADVANCES)]))
+    build(built.compilers[0].c, built, [SOURCES / "advances.c"], made, *SANITIZED)
+    count = int(run([*built.runner, made, fonts_file(), str(ADVANCES)]))
     return f"{count} advances, each the same with a look behind it"
 
 
 def check_pictures(built: Built, folder: Path) -> str:
     """Pictures in words are those in bytes, in each form, over pseudo-random registers."""
     made = folder / "pictures"
-    build(COMPILERS[0].c, built, [SOURCES / "pictures.c"], made, *SANITIZED)
-    count = int(run([made, fonts_file(), str(PICTURES)]))
+    build(built.compilers[0].c, built, [SOURCES / "pictures.c"], made, *SANITIZED)
+    count = int(run([*built.runner, made, fonts_file(), str(PICTURES)]))
     return f"{count} pictures in words, each that of the bytes"
 
 
 def check_blocks(built: Built, folder: Path) -> str:
     """What zak_block tells is what interrupt 10 takes, over pseudo-random calls."""
     made = folder / "blocks"
-    build(COMPILERS[0].c, built, [SOURCES / "blocks.c"], made, *SANITIZED)
-    count = int(run([made, fonts_file(), str(BLOCKS)]))
+    build(built.compilers[0].c, built, [SOURCES / "blocks.c"], made, *SANITIZED)
+    count = int(run([*built.runner, made, fonts_file(), str(BLOCKS)]))
     return f"{count} calls of interrupt 10, each with its block or another"
 
 
