@@ -45,7 +45,8 @@ tab() {
 }
 zle -N tab
 bindkey '^I' tab
-print ready > $ANSWER
+print ready > $ANSWER.new
+command mv $ANSWER.new $ANSWER
 """
 
 

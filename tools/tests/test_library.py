@@ -66,16 +66,16 @@ class Places(unittest.TestCase):
         text = package_text("/usr", "lib/x", Version(1, 2))
         self.assertIn("prefix=/usr\nlibdir=${prefix}/lib/x\n", text)
         self.assertIn("fonts=${prefix}/share/zaklimot/zaklimot.fnt\n", text)
-        self.assertIn("Version: 1.3\n", text)
+        self.assertIn("Version: 1.2\n", text)
         self.assertIn("prefix=${pcfiledir}/../..\n", package_text(MOVING, "lib", Version(1, 2)))
         self.assertIn("prefix=${pcfiledir}/../../..\n", package_text(MOVING, "lib/x", Version(1, 2)))
 
     def test_what_cmake_reads(self) -> None:
         text = cmake_text("lib/x", Version(1, 2))
         self.assertIn('"${CMAKE_CURRENT_LIST_DIR}/../../../.." ABSOLUTE', text)
-        self.assertIn('"${_zaklimot_prefix}/lib/x/libzaklimot.so.1.3"\n    IMPORTED_SONAME "libzaklimot.so.1"', text)
+        self.assertIn('"${_zaklimot_prefix}/lib/x/libzaklimot.so.1.2"\n    IMPORTED_SONAME "libzaklimot.so.1"', text)
         told = cmake_version_text(Version(1, 2))
-        self.assertIn('set(PACKAGE_VERSION "1.3")', told)
+        self.assertIn('set(PACKAGE_VERSION "1.2")', told)
         for whole in (text, told):
             self.assertNotIn("@", whole)
 
